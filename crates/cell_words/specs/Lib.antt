@@ -1,0 +1,5 @@
+pub mod Colour
+pub mod Control
+pub mod Field
+pub mod Modes
+pub mod Presence

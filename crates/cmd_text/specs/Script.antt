@@ -1,0 +1,35 @@
+-- A script: the list of commands that a file's bytes are, or its first faulty line.
+--
+-- Each line ends with a line feed, which the last may lack. Lines are numbered from 1, those
+-- without a command too.
+use Rattle.std.specs.Prelude.{ℕ, ◌+◌, List, [], ◌∷◌, ◌==◌, Option, Some, None, Result, Ok, Err}
+use Rattle.std.specs.List.{slice_split}
+use Rattle.doc_model.specs.declared.command.Command.{Command}
+use Rattle.cmd_text.specs.Line.{reading_of}
+use Rattle.cmd_text.specs.declared.fault.ScriptFault.{ScriptFault}
+use Rattle.cmd_text.specs.declared.fault.ScriptKind.{ScriptKind}
+
+-- a line's command comes before those of the lines after it
+abbrev pub before : Option Command → Result (List Command) ScriptFault → Result (List Command) ScriptFault
+before None later = later
+before (Some command) (Ok commands) = Ok (command ∷ commands)
+before (Some command) (Err fault) = Err fault
+
+-- the reading of one line, and then that of those after it
+abbrev pub with_line : ℕ → Result (Option Command) ScriptKind → Result (List Command) ScriptFault → Result (List Command) ScriptFault
+with_line number (Ok command) later = before command later
+with_line number (Err kind) later = Err (record { line = number; kind = kind })
+
+-- the commands of the lines, of which the first has this number
+abbrev pub commands_from : ℕ → List (List ℕ) → Result (List Command) ScriptFault
+commands_from number [] = Ok []
+commands_from number (line ∷ lines) =
+    with_line number (reading_of line) (commands_from (number + 1) lines)
+
+-- the parts between the line feeds
+abbrev pub lines_of : List ℕ → List (List ℕ)
+lines_of bytes = slice_split (λ byte. byte == 10) bytes
+
+-- the script
+abbrev pub script_of : List ℕ → Result (List Command) ScriptFault
+script_of bytes = commands_from 1 (lines_of bytes)

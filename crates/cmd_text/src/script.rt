@@ -1,0 +1,39 @@
+//! A whole script.
+ghost use Rattle.cmd_text.specs.Answers.{GivesAt, Reads};
+ghost use Rattle.cmd_text.specs.Line.{reading_of};
+ghost use Rattle.cmd_text.specs.Script.{script_of};
+ghost use Rattle.std.specs.Prelude.{length, ◌-◌, ◌<◌, ◌^◌};
+
+use crate::fault::{LineError, ScriptError, ScriptFault};
+use crate::line::read_line;
+use doc_model::Command;
+use std::alloc::Global;
+
+/// The commands of a script, or its first faulty line. The length has its bound so that the number
+/// of every line fits.
+pub fn read_script(alloc: Global, bytes: &[u8]) -> Result<Vec<Command>, ScriptError>
+    requires { length bytes.now < 2 ^ 32 - 1 }
+    ensures script { Reads result (script_of bytes.now) }
+{
+    let mut commands = Vec::new(alloc);
+    let mut number = 0;
+    for line in bytes.split(|byte| *byte == b'\n') {
+        number += 1;
+        match read_numbered(alloc, number, line) {
+            Ok(None) => {}
+            Ok(Some(command)) => commands.push(command)?,
+            Err(error) => return Err(error),
+        }
+    }
+    Ok(commands)
+}
+
+fn read_numbered(alloc: Global, number: u32, line: &[u8]) -> Result<Option<Command>, ScriptError>
+    ensures { GivesAt number result (reading_of line.now) }
+{
+    match read_line(alloc, line) {
+        Ok(command) => Ok(command),
+        Err(LineError::Fault(kind)) => Err(ScriptError::Fault(ScriptFault { line: number, kind })),
+        Err(LineError::NoMemory) => Err(ScriptError::NoMemory),
+    }
+}

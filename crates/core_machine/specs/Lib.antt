@@ -1,0 +1,15 @@
+pub mod Answers
+pub mod Collector
+pub mod Handshakes
+pub mod InRange
+pub mod Mutation
+pub mod Next
+pub mod Operations
+pub mod Own
+pub mod Parts
+pub mod Places
+pub mod Run
+pub mod State
+pub mod Sweep
+pub mod Tracing
+pub mod Words

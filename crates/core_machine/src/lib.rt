@@ -1,0 +1,37 @@
+//! The core machine of the collector: its state, its 27 kinds of event, and a struct that takes
+//! them.
+//!
+//! The definitions in specs/ are the subject itself: what the state is made of, when an event can
+//! happen, what it finds and what it leaves. They bound nothing, and each layer above cites them.
+//! `Machine` is the state in memory. Its contracts say that a call is exactly one event of those
+//! definitions, and that a call which answers `NotNow` had no such event and changed nothing.
+//!
+//! What holds of every run, as that no cell in use is free, is not said here. `Machine` asks of its
+//! caller the ranges that its indexing and counting rest on, `InRange`. They hold at the opening,
+//! and every event keeps them.
+//!
+//! Reading order: `events`; specs/State with its parts Own and Collector; the event table in
+//! specs/Operations, Mutation, Handshakes, Tracing, Sweep and Next; then `opening` and `machine`.
+#![tactic(auto)]
+
+mod collector_events;
+mod collector_part;
+mod collector_tests;
+mod events;
+mod machine;
+mod mutator_events;
+mod mutator_part;
+mod mutator_parts;
+mod mutator_tests;
+mod opening;
+mod places;
+mod progress;
+#[cfg(test)]
+mod tests;
+mod words;
+
+pub use events::{Answer, Event, Taken};
+pub use machine::{Machine, NotNow};
+pub use places::Held;
+pub use progress::{Scanning, Sweeping};
+pub use std::alloc::AllocError as NoMemory;

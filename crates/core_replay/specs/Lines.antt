@@ -1,0 +1,48 @@
+-- One line of a schedule.
+--
+-- A carriage return at the end of a line is no part of it. An empty line, or one that begins with
+-- `#`, does not count. The first line that counts gives the sizes of the core, each later one a
+-- step.
+use Rattle.std.specs.Prelude.{ℕ, IsTrue, Bool, false, not, ◌&&◌, List, [], ◌∷◌, nat_le, ◌==◌, if◌then◌else◌, Option, Some, None, Result, Ok, Err}
+use Rattle.std.specs.List.{list_all}
+use Rattle.std.specs.Str.Lines.{strip_carriage_return}
+use Rattle.core_replay.specs.Numbers.{and_then}
+use Rattle.core_replay.specs.Start.{start_of}
+use Rattle.core_replay.specs.Steps.{step_of}
+use Rattle.core_replay.specs.declared.fault.ScheduleKind.{ScheduleKind}
+use Rattle.core_replay.specs.declared.fault.ScheduleKind.TheVariants.{BadByte}
+use Rattle.core_replay.specs.declared.line.Reading.{Reading}
+use Rattle.core_replay.specs.declared.line.Reading.TheVariants.{Nothing, Start, Next}
+use Rattle.core_replay.specs.Written.{are_sizes}
+use Rattle.core_replay.specs.declared.start.Sizes.{Sizes}
+
+-- the space to the tilde
+abbrev pub is_plain_byte : ℕ → Bool
+is_plain_byte byte = nat_le 32 byte && nat_le byte 126
+
+-- the line is neither empty nor a comment
+abbrev pub counts : List ℕ → Bool
+counts [] = false
+counts (byte ∷ bytes) = not (byte == 35)
+
+-- a line that counts, before the core has its sizes and after
+abbrev pub counted_reading_of : Option Sizes → List ℕ → Result Reading ScheduleKind
+counted_reading_of None line = and_then (start_of line) (λ sizes. Ok (Start sizes))
+counted_reading_of (Some sizes) line = and_then (step_of line) (λ step. Ok (Next step))
+
+-- a line without its end
+abbrev pub bare_reading_of : Option Sizes → List ℕ → Result Reading ScheduleKind
+bare_reading_of sizes line =
+    if not (counts line) then Ok Nothing
+    else if not (list_all is_plain_byte line) then Err BadByte
+    else counted_reading_of sizes line
+
+-- the reading of a line
+abbrev pub reading_of : Option Sizes → List ℕ → Result Reading ScheduleKind
+reading_of sizes bytes = bare_reading_of sizes (strip_carriage_return bytes)
+
+-- sizes that a line gives are such as a core can have
+abbrev pub HasAllowedSizes : Reading → Type 0
+HasAllowedSizes Nothing = Unit {0}
+HasAllowedSizes (Start sizes) = IsTrue (are_sizes sizes)
+HasAllowedSizes (Next step) = Unit {0}

@@ -1,0 +1,81 @@
+-- One mutator's own part changes, and nothing else does.
+--
+-- Its new held list has to be live, may have no raw cell that the old one had not, and no cell that
+-- is cut off from a tracing collector.
+use Rattle.std.proofs.Common.{◌≡◌, ℕ, Bool, true, false, [], None}
+use Rattle.std.specs.Prelude.{slice_set}
+use Rattle.std.specs.List.{All}
+use Rattle.cell_words.specs.declared.controls.Stage.TheVariants as stage
+use Rattle.cell_words.specs.declared.presences.Status.TheVariants.{Async, Sync2}
+use Rattle.core_machine.specs.State.{State, field_in, presence_in, own_in, presence_of, own_of}
+use Rattle.core_machine.specs.Words.{is_raw_kind}
+use Rattle.core_machine.specs.Own.{Own}
+use Rattle.core_machine.specs.Places.{holds}
+use Rattle.dlg_core.specs.Consistent.{IsConsistent, MarkStands, NoRawBlack, IsCutOff, IsNotDue}
+use Rattle.dlg_core.specs.Facts.{IsStaleMode, marks_count, live}
+use Rattle.dlg_core.proofs.Each.{own_each}
+
+-- the state with another own part of mutator i
+abbrev pub with_own : State → ℕ → Own → State
+with_own s i own = record s { owns = slice_set s.owns i own }
+
+-- what the new own part owes
+pub record OwnFits (s : State) (i : ℕ) (own : Own) : Type 0 where
+  pub mode : IsStaleMode (presence_of s i).status own.mode s.control
+  pub out : (presence_of s i).inside ≡ false → (own.held ≡ []) × (own.mode ≡ None)
+  pub marks : marks_count s.control.stage (presence_of s i).status ≡ true
+      → All (MarkStands s.colours) own.held
+  pub held_live : All (λ place. live s.colours s.control s.collector.sweep place.cell ≡ true) own.held
+  pub raw : (c : ℕ) → is_raw_kind (field_in s.rows c 5) ≡ true → holds own.held c ≡ true
+      → holds (own_of s i).held c ≡ true
+  pub raw_not_black : (presence_of s i).status ≡ Sync2
+      → All (NoRawBlack s.colours s.rows) own.held
+  pub due : s.control.stage ≡ stage.Trace → (presence_of s i).status ≡ Async → (set : ℕ → Bool)
+      → IsCutOff s.colours s.rows s.collector.scan set
+      → IsNotDue s.presences s.owns s.colours s.rows s.collector.scan set
+      → All (λ place. set place.cell ≡ false) own.held
+
+pub own_kept : (s : State) (i : ℕ) (own : Own) → IsConsistent s → OwnFits s i own → IsConsistent (with_own s i own)
+own_kept s i own k fits =
+    let before : (c : ℕ) → is_raw_kind (field_in s.rows c 5) ≡ true → (j : ℕ)
+    → holds (own_in (slice_set s.owns i own) j).held c ≡ true → holds (own_in s.owns j).held c ≡ true
+    = (λ c raw j. own_each (λ n o. holds o.held c ≡ true → holds (own_in s.owns n).held c ≡ true) s.owns i own
+    (fits.raw c raw) (λ n h. h) j) in
+    record {
+      statuses = k.statuses;
+      answered = k.answered;
+      modes = own_each (λ j o. IsStaleMode (presence_in s.presences j).status o.mode s.control) s.owns i own
+          fits.mode k.modes;
+      out = own_each (λ j o. (presence_in s.presences j).inside ≡ false → (o.held ≡ []) × (o.mode ≡ None)) s.owns i own
+          fits.out k.out;
+      marks = own_each (λ j o. marks_count s.control.stage (presence_in s.presences j).status ≡ true
+          → All (MarkStands s.colours) o.held) s.owns i own
+          fits.marks k.marks;
+      anchor_box = k.anchor_box;
+      kinds = k.kinds;
+      blue_null = k.blue_null;
+      anchor_live = k.anchor_live;
+      held_live = own_each (λ j o. All (λ place. live s.colours s.control s.collector.sweep place.cell ≡ true) o.held) s.owns i own
+          fits.held_live k.held_live;
+      child_live = k.child_live;
+      names_live = k.names_live;
+      raw_once = (λ a b c raw ha hb. k.raw_once a b c raw (before c raw a ha) (before c raw b hb));
+      raw_not_black = own_each (λ j o. (presence_in s.presences j).status ≡ Sync2
+          → All (NoRawBlack s.colours s.rows) o.held)
+          s.owns i own fits.raw_not_black k.raw_not_black;
+      cleared = k.cleared;
+      anchor_marked = k.anchor_marked;
+      traced = (λ now set cut. let old = k.traced now set cut in record {
+        black = old.black;
+        scanned = old.scanned;
+        held = own_each (λ j o. (presence_in s.presences j).status ≡ Async
+            → All (λ place. set place.cell ≡ false) o.held) s.owns i own
+            (λ async. fits.due now async set cut old) old.held;
+      });
+      clean_pass = k.clean_pass;
+      pass_waits = k.pass_waits;
+      scans = k.scans;
+      unswept = k.unswept;
+      wipes = k.wipes;
+      found_black = k.found_black;
+    }

@@ -1,0 +1,54 @@
+-- A mutator comes in, goes out or is over: its presence changes, and its status does not.
+use Rattle.std.proofs.Common.{◌≡◌, ℕ, true, false, [], None, refl, sym, subst, ◌∙◌}
+use Rattle.std.specs.Prelude.{slice_set}
+use Rattle.cell_words.specs.declared.presences.Presence.{Presence}
+use Rattle.core_machine.specs.State.{State, own_in, presence_of, own_of}
+use Rattle.dlg_core.specs.Consistent.{IsConsistent}
+use Rattle.dlg_core.specs.Facts.{status_fits, IsStaleMode, marks_count}
+use Rattle.dlg_core.proofs.Each.{presence_each}
+
+-- the state with another presence of mutator i
+abbrev pub with_presence : State → ℕ → Presence → State
+with_presence s i p = record s { presences = slice_set s.presences i p }
+
+-- with the same status for mutator i each status is the same
+pub same_statuses : (s : State) (i : ℕ) (p : Presence) → p.status ≡ (presence_of s i).status → (j : ℕ)
+    → (presence_of (with_presence s i p) j).status ≡ (presence_of s j).status
+same_statuses s i p same j =
+    presence_each (λ n q. q.status ≡ (presence_of s n).status) s.presences i p same (λ n. refl) j
+
+pub presence_kept : (s : State) (i : ℕ) (p : Presence) → IsConsistent s → p.status ≡ (presence_of s i).status
+    → (p.inside ≡ false → ((own_of s i).held ≡ []) × ((own_of s i).mode ≡ None))
+    → IsConsistent (with_presence s i p)
+presence_kept s i p k same out =
+    let to = same_statuses s i p same in
+    record {
+      statuses = (λ j lt. subst (λ own. status_fits s.control.stage own ≡ true) (sym (to j)) (k.statuses j lt));
+      answered = (λ j lt now has. to j ∙ k.answered j lt now has);
+      modes = (λ j. subst (λ own. IsStaleMode own (own_in s.owns j).mode s.control) (sym (to j)) (k.modes j));
+      out = presence_each (λ j q. q.inside ≡ false → ((own_in s.owns j).held ≡ []) × ((own_in s.owns j).mode ≡ None))
+          s.presences i p out k.out;
+      marks = (λ j m. k.marks j (subst (λ own. marks_count s.control.stage own ≡ true) (to j) m));
+      anchor_box = k.anchor_box;
+      kinds = k.kinds;
+      blue_null = k.blue_null;
+      anchor_live = k.anchor_live;
+      held_live = k.held_live;
+      child_live = k.child_live;
+      names_live = k.names_live;
+      raw_once = k.raw_once;
+      raw_not_black = (λ j sync2. k.raw_not_black j (sym (to j) ∙ sync2));
+      cleared = k.cleared;
+      anchor_marked = k.anchor_marked;
+      traced = (λ now set cut. let old = k.traced now set cut in record {
+        black = old.black;
+        scanned = old.scanned;
+        held = (λ j async. old.held j (sym (to j) ∙ async));
+      });
+      clean_pass = k.clean_pass;
+      pass_waits = k.pass_waits;
+      scans = k.scans;
+      unswept = k.unswept;
+      wipes = k.wipes;
+      found_black = k.found_black;
+    }

@@ -1,0 +1,306 @@
+-- Write and Fill: a payload field of a held cell gets another value.
+--
+-- Write  while the collector traces, an async mutator has marked the old value and holds the new one;
+--        one in sync2 has marked both. So the edge that goes ends in no white cell, and the new value
+--        was due before or is not white.
+-- Fill   no edge goes, since the field held no cell. To an async mutator the value was due before, as
+--        it holds it. One in sync2 fills a cell that is neither black nor under scan, so nothing is due.
+use Rattle.std.proofs.Common.{◌≡◌, ◌≢◌, ◌==◌, ◌&&◌, ◌⊎◌, if◌then◌else◌, inl, inr, ℕ, Bool, true, false, not, nat_le, List, [], ◌∷◌, length, Option, Some, None, is_some, ◌<◌, ◌≤◌, refl, sym, subst, ◌∙◌, ap, arith}
+use Rattle.std.specs.List.{All}
+use Rattle.std.proofs.lemmas.Bool.{and_parts, or_cases, ltb-true, leb-true, eqb-true}
+use Rattle.std.proofs.lemmas.List.Elements.{All-head, All-tail, All-map}
+use Rattle.cell_words.specs.declared.colours.Colour.{Colour}
+use Rattle.cell_words.specs.declared.colours.Colour.TheVariants as colour
+use Rattle.cell_words.specs.declared.controls.Control.{Control}
+use Rattle.cell_words.specs.declared.controls.Stage.{Stage}
+use Rattle.cell_words.specs.declared.controls.Stage.TheVariants as stage
+use Rattle.cell_words.specs.declared.fields.Field.{Field}
+use Rattle.cell_words.specs.declared.fields.Field.TheVariants as field
+use Rattle.cell_words.specs.declared.presences.Status.{Status}
+use Rattle.cell_words.specs.declared.presences.Status.TheVariants as status
+use Rattle.cell_words.specs.Modes.{async_barrier_of, requested_of}
+use Rattle.core_machine.specs.declared.events.Event.TheVariants as event
+use Rattle.core_machine.specs.declared.places.Held.{Held}
+use Rattle.core_machine.specs.Mutation.{names_own}
+use Rattle.core_machine.specs.Operations.{is_in, is_place, has_mode, own_barrier}
+use Rattle.core_machine.specs.State.{State, colour_in, colour_of, field_of, presence_of, own_of, held_of, target_of, is_box, is_raw, is_raw_value}
+use Rattle.core_machine.specs.Words.{written, same_field, barrier_in, is_raw_kind, is_handshake, is_cell}
+use Rattle.core_machine.specs.InRange.{IsShaped}
+use Rattle.core_machine.specs.Next.{can, after}
+use Rattle.core_machine.specs.Own.{spent}
+use Rattle.core_machine.specs.Places.{holds_marked, is_marked_value, marks_stand, names_rightly, unmark}
+use Rattle.dlg_core.specs.Consistent.{IsConsistent, IsNotDue, MarkStands, NoRawBlack}
+use Rattle.dlg_core.specs.Facts.{live, status_fits, async_fits, marks_count, IsStaleMode}
+use Rattle.dlg_core.proofs.Changes.Field.{FieldFits, field_kept, with_field}
+use Rattle.dlg_core.proofs.Changes.Own.{own_kept, OwnFits}
+use Rattle.dlg_core.proofs.Each.{all_held}
+use Rattle.dlg_core.proofs.Keeps.Holding.{inside_below, at_place, none_marked, holds_unmark}
+use Rattle.dlg_core.proofs.Keeps.Mark.{one_of_all}
+use Rattle.dlg_core.proofs.Keeps.Presence.{not_white_outside}
+use Rattle.dlg_core.proofs.Truths.{not_true}
+
+-- The own part that an operation leaves.
+
+pub spent_fits : (s : State) (i : ℕ) → IsConsistent s → is_in s i ≡ true → OwnFits s i (spent (own_of s i))
+spent_fits s i k inside = record {
+  mode = tt;
+  out = (λ o. absurd cc);
+  marks = (λ m. none_marked s.colours (held_of s i));
+  held_live = All-map (λ place. live s.colours s.control s.collector.sweep place.cell ≡ true) unmark (held_of s i) (k.held_live i);
+  raw = (λ c raw h. sym (holds_unmark (held_of s i) c) ∙ h);
+  raw_not_black = (λ sync2. All-map (NoRawBlack s.colours s.rows) unmark (held_of s i) (k.raw_not_black i sync2));
+  due = (λ now async set cut old. All-map (λ place. set place.cell ≡ false) unmark (held_of s i) (old.held i async));
+}
+
+-- Statuses while the collector traces.
+
+pub traced_status : (own : Status) → status_fits stage.Trace own ≡ true → (own ≡ status.Async) ⊎ (own ≡ status.Sync2)
+traced_status status.Async h = inl refl
+traced_status status.Sync1 h = absurd cc
+traced_status status.Sync2 h = inr refl
+
+pub status_in_trace : (s : State) (i : ℕ) → IsShaped s → IsConsistent s → is_in s i ≡ true → s.control.stage ≡ stage.Trace
+    → ((presence_of s i).status ≡ status.Async) ⊎ ((presence_of s i).status ≡ status.Sync2)
+status_in_trace s i range k inside now =
+    traced_status (presence_of s i).status
+    (subst (λ x. status_fits x (presence_of s i).status ≡ true) now (k.statuses i (inside_below s i range inside)))
+
+-- Marks.
+
+pub marked_stands : (colours : List Colour) (held : List Held) (c : ℕ) → All (MarkStands colours) held
+    → holds_marked held c ≡ true → colour_in colours c ≢ colour.White
+marked_stands colours [] c all h = absurd cc
+marked_stands colours (p ∷ ps) c all h = elim (or_cases ((p.cell == c) && p.marked) (holds_marked ps c) h) [
+  | inl here ↦ λ white. let r = and_parts (p.cell == c) p.marked here in
+      All-head (MarkStands colours) p ps all r.1
+      (subst (λ d. colour_in colours d ≡ colour.White) (sym (eqb-true p.cell c r.0)) white)
+  | inr there ↦ marked_stands colours ps c (All-tail (MarkStands colours) p ps all) there
+]
+
+-- while the collector traces, a marked value is not white
+pub value_not_white : (s : State) (i w : ℕ) → IsConsistent s → s.control.stage ≡ stage.Trace
+    → is_marked_value (held_of s i) (field.Cell w) ≡ true → colour_of s w ≢ colour.White
+value_not_white s i w k now h =
+    marked_stands s.colours (held_of s i) w
+    (k.marks i (subst (λ x. marks_count x (presence_of s i).status ≡ true) (sym now) refl)) h
+
+-- an async mutator's mode is of the tracing that goes on
+pub async_mode : (looked : Stage) → async_fits looked stage.Trace ≡ true → looked ≡ stage.Trace
+async_mode stage.Idle h = absurd cc
+async_mode stage.Sync1 h = absurd cc
+async_mode stage.Clear h = absurd cc
+async_mode stage.Sync2 h = absurd cc
+async_mode stage.Trace h = refl
+async_mode stage.Sweep h = absurd cc
+
+-- the marks that a write found: the old value's, and in sync2 the new value's too
+pub record WriteMarks (own : Status) (held : List Held) (old new : Field) : Type 0 where
+  pub old_marked : is_marked_value held old ≡ true
+  pub new_marked : own ≡ status.Sync2 → is_marked_value held new ≡ true
+
+pub marks_found : (own : Status) (mode : Option Control) (now : Control) (held : List Held) (old new : Field)
+    → now.stage ≡ stage.Trace → (own ≡ status.Async) ⊎ (own ≡ status.Sync2) → is_some mode ≡ true
+    → IsStaleMode own mode now → marks_stand (barrier_in own mode) held old new ≡ true → WriteMarks own held old new
+marks_found own None now held old new trace fits has stale h = absurd cc
+marks_found status.Async (Some m) now held old new trace fits has stale h =
+    let same : m.stage ≡ stage.Trace = async_mode m.stage (subst (λ x. async_fits m.stage x ≡ true) trace stale.fits) in
+    record {
+      old_marked = subst (λ x. marks_stand (async_barrier_of x) held old new ≡ true) same h;
+      new_marked = (λ e. absurd cc);
+    }
+marks_found status.Sync1 (Some m) now held old new trace fits has stale h =
+    elim fits [ inl e ↦ absurd cc | inr e ↦ absurd cc ]
+marks_found status.Sync2 (Some m) now held old new trace fits has stale h =
+    let r = and_parts (is_marked_value held old) (is_marked_value held new) h in
+    record { old_marked = r.0; new_marked = (λ e. r.1) }
+
+-- Write.
+
+pub same_field_is : (x y : Field) → same_field x y ≡ true → x ≡ y
+same_field_is field.Null field.Null h = refl
+same_field_is field.Null (field.Num n) h = absurd cc
+same_field_is field.Null (field.Cell c) h = absurd cc
+same_field_is (field.Num n) field.Null h = absurd cc
+same_field_is (field.Num n) (field.Num m) h = ap (λ i. field.Num i) (eqb-true n m h)
+same_field_is (field.Num n) (field.Cell c) h = absurd cc
+same_field_is (field.Cell c) field.Null h = absurd cc
+same_field_is (field.Cell c) (field.Num n) h = absurd cc
+same_field_is (field.Cell c) (field.Cell d) h = ap (λ i. field.Cell i) (eqb-true c d h)
+
+-- what a mutator names rightly and is not raw is live and sealed
+pub named_live : (s : State) (i w : ℕ) (x : Field) → IsConsistent s → names_rightly (held_of s i) x ≡ true
+    → not (is_raw_value s x) ≡ true → x ≡ field.Cell w
+    → (live s.colours s.control s.collector.sweep w ≡ true) × (is_raw_kind (field_of s w 5) ≡ false)
+named_live s i w field.Null k rightly whole e = absurd cc
+named_live s i w (field.Num n) k rightly whole e = absurd cc
+named_live s i w (field.Cell c) k rightly whole e =
+    let same : c ≡ w = cc in (
+      subst (λ d. live s.colours s.control s.collector.sweep d ≡ true) same
+          (all_held (λ d. live s.colours s.control s.collector.sweep d ≡ true) (held_of s i) c (k.held_live i) rightly),
+      subst (λ d. is_raw_kind (field_of s d 5) ≡ false) same (not_true (is_raw s c) whole),
+    )
+
+-- a held value is in no set from which an async mutator's cells are left out
+pub held_outside : (s : State) (i w : ℕ) (set : ℕ → Bool) (x : Field)
+    → IsNotDue s.presences s.owns s.colours s.rows s.collector.scan set → (presence_of s i).status ≡ status.Async
+    → names_rightly (held_of s i) x ≡ true → x ≡ field.Cell w → set w ≡ false
+held_outside s i w set x old async rightly e =
+    all_held (λ c. set c ≡ false) (held_of s i) w (old.held i async)
+    (subst (λ y. names_rightly (held_of s i) y ≡ true) e rightly)
+
+-- the value that stands there already
+pub same_field_fits : (s : State) (b f : ℕ) → IsConsistent s → f < 5
+    → live s.colours s.control s.collector.sweep b ≡ true → FieldFits s b f (field_of s b f)
+same_field_fits s b f k payload alive = record {
+  payload = payload;
+  alive = alive;
+  names = (λ w e. k.names_live b w f alive e);
+  gone = (λ now w e. inl e);
+  due = (λ now set cut old w e why. elim why [
+    | inl black ↦ old.black b w f black e
+    | inr scan ↦ old.scanned scan.0 w f scan.1 scan.3 (subst (λ c. field_of s c f ≡ field.Cell w) scan.2 e)
+  ]);
+}
+
+-- what the test of a write found
+pub record WriteGuard (s : State) (i place f : ℕ) (old new : Field) : Type 0 where
+  pub inside : is_in s i ≡ true
+  pub mode : has_mode s i ≡ true
+  pub lt : place < length (held_of s i)
+  pub payload : f < 5
+  pub old_rightly : names_rightly (held_of s i) old ≡ true
+  pub new_rightly : names_rightly (held_of s i) new ≡ true
+  pub new_whole : not (is_raw_value s new) ≡ true
+  pub marks : marks_stand (own_barrier s i) (held_of s i) old new ≡ true
+
+pub write_guard : (s : State) (i place f : ℕ) (old new : Field) → can s (event.Write i place f old new) ≡ true
+    → WriteGuard s i place f old new
+write_guard s i place f old new h =
+    let a = and_parts (is_in s i && has_mode s i && is_place s i place && nat_le f 4 && is_box s (target_of s i place)
+    && names_own s i old && names_own s i new && not (is_raw_value s new)) (marks_stand (own_barrier s i) (held_of s i) old new) h in
+    let b = and_parts (is_in s i && has_mode s i && is_place s i place && nat_le f 4 && is_box s (target_of s i place)
+    && names_own s i old && names_own s i new) (not (is_raw_value s new)) a.0 in
+    let c = and_parts (is_in s i && has_mode s i && is_place s i place && nat_le f 4 && is_box s (target_of s i place)
+    && names_own s i old) (names_own s i new) b.0 in
+    let d = and_parts (is_in s i && has_mode s i && is_place s i place && nat_le f 4 && is_box s (target_of s i place))
+    (names_own s i old) c.0 in
+    let e = and_parts (is_in s i && has_mode s i && is_place s i place && nat_le f 4) (is_box s (target_of s i place)) d.0 in
+    let g = and_parts (is_in s i && has_mode s i && is_place s i place) (nat_le f 4) e.0 in
+    let j = and_parts (is_in s i && has_mode s i) (is_place s i place) g.0 in
+    let l = and_parts (is_in s i) (has_mode s i) j.0 in
+    let four : f ≤ 4 = leb-true f 4 g.1 in
+    record {
+      inside = l.0;
+      mode = l.1;
+      lt = ltb-true place (length (held_of s i)) j.1;
+      payload = omega arith;
+      old_rightly = d.1;
+      new_rightly = c.1;
+      new_whole = b.1;
+      marks = a.1;
+    }
+
+-- the value that a write leaves
+pub written_fits : (s : State) (i place f : ℕ) (old new : Field) → IsShaped s → IsConsistent s
+    → WriteGuard s i place f old new
+    → FieldFits s (target_of s i place) f (written (field_of s (target_of s i place) f) old new)
+written_fits s i place f old new range k guard =
+    let b = target_of s i place in
+    let found = field_of s b f in
+    let alive : live s.colours s.control s.collector.sweep b ≡ true
+    = at_place (λ d. live s.colours s.control s.collector.sweep d ≡ true) (held_of s i) place guard.lt (k.held_live i) in
+    let marks : s.control.stage ≡ stage.Trace → WriteMarks (presence_of s i).status (held_of s i) old new
+    = (λ now. marks_found (presence_of s i).status (own_of s i).mode s.control (held_of s i) old new now
+    (status_in_trace s i range k guard.inside now) guard.mode (k.modes i) guard.marks) in
+    elim (same_field found old) as (λ same. same_field found old ≡ same → FieldFits s b f (if same then new else found)) [
+      | false ↦ λ e. same_field_fits s b f k guard.payload alive
+      | true ↦ λ e.
+          let was : found ≡ old = same_field_is found old e in
+          record {
+            payload = guard.payload;
+            alive = alive;
+            names = (λ w is. named_live s i w new k guard.new_rightly guard.new_whole is);
+            gone = (λ now w is. inr (value_not_white s i w k now
+                (subst (λ y. is_marked_value (held_of s i) y ≡ true) (sym was ∙ is) (marks now).old_marked)));
+            due = (λ now set cut old_due w is why. elim (status_in_trace s i range k guard.inside now) [
+              | inl async ↦ held_outside s i w set new old_due async guard.new_rightly is
+              | inr sync2 ↦ not_white_outside s set w cut (value_not_white s i w k now
+                  (subst (λ y. is_marked_value (held_of s i) y ≡ true) is ((marks now).new_marked sync2)))
+            ]);
+          }
+    ] refl
+
+pub write_keeps : (s : State) (i place f : ℕ) (old new : Field) → IsShaped s → IsConsistent s
+    → can s (event.Write i place f old new) ≡ true → IsConsistent (after s (event.Write i place f old new))
+write_keeps s i place f old new range k h =
+    let guard = write_guard s i place f old new h in
+    let b = target_of s i place in
+    let x = written (field_of s b f) old new in
+    let wrote = field_kept s b f x range k (written_fits s i place f old new range k guard) in
+    own_kept (with_field s b f x) i (spent (own_of s i)) wrote (spent_fits (with_field s b f x) i wrote guard.inside)
+
+-- Fill.
+
+pub record FillGuard (s : State) (i place f : ℕ) (value : Field) : Type 0 where
+  pub inside : is_in s i ≡ true
+  pub lt : place < length (held_of s i)
+  pub raw : is_raw s (target_of s i place) ≡ true
+  pub payload : f < 5
+  pub rightly : names_rightly (held_of s i) value ≡ true
+  pub whole : not (is_raw_value s value) ≡ true
+  pub no_cell : is_cell (field_of s (target_of s i place) f) ≡ false
+
+pub fill_guard : (s : State) (i place f : ℕ) (value : Field) → can s (event.Fill i place f value) ≡ true
+    → FillGuard s i place f value
+fill_guard s i place f value h =
+    let a = and_parts (is_in s i && is_place s i place && is_raw s (target_of s i place) && nat_le f 4
+    && names_own s i value && not (is_raw_value s value)) (not (is_cell (field_of s (target_of s i place) f))) h in
+    let b = and_parts (is_in s i && is_place s i place && is_raw s (target_of s i place) && nat_le f 4
+    && names_own s i value) (not (is_raw_value s value)) a.0 in
+    let c = and_parts (is_in s i && is_place s i place && is_raw s (target_of s i place) && nat_le f 4) (names_own s i value) b.0 in
+    let d = and_parts (is_in s i && is_place s i place && is_raw s (target_of s i place)) (nat_le f 4) c.0 in
+    let e = and_parts (is_in s i && is_place s i place) (is_raw s (target_of s i place)) d.0 in
+    let g = and_parts (is_in s i) (is_place s i place) e.0 in
+    let four : f ≤ 4 = leb-true f 4 d.1 in
+    record {
+      inside = g.0;
+      lt = ltb-true place (length (held_of s i)) g.1;
+      raw = e.1;
+      payload = omega arith;
+      rightly = c.1;
+      whole = b.1;
+      no_cell = not_true (is_cell (field_of s (target_of s i place) f)) a.1;
+    }
+
+-- what is no cell names none
+pub no_cell_named : (x : Field) (w : ℕ) → is_cell x ≡ false → x ≢ field.Cell w
+no_cell_named field.Null w h e = absurd cc
+no_cell_named (field.Num n) w h e = absurd cc
+no_cell_named (field.Cell c) w h e = absurd cc
+
+pub fill_keeps : (s : State) (i place f : ℕ) (value : Field) → IsShaped s → IsConsistent s
+    → can s (event.Fill i place f value) ≡ true → IsConsistent (after s (event.Fill i place f value))
+fill_keeps s i place f value range k h =
+    let guard = fill_guard s i place f value h in
+    let b = target_of s i place in
+    let alive : live s.colours s.control s.collector.sweep b ≡ true
+    = at_place (λ d. live s.colours s.control s.collector.sweep d ≡ true) (held_of s i) place guard.lt (k.held_live i) in
+    field_kept s b f value range k record {
+      payload = guard.payload;
+      alive = alive;
+      names = (λ w is. named_live s i w value k guard.rightly guard.whole is);
+      gone = (λ now w is. absurd (no_cell_named (field_of s b f) w guard.no_cell is));
+      due = (λ now set cut old w is why. elim (status_in_trace s i range k guard.inside now) [
+        | inl async ↦ held_outside s i w set value old async guard.rightly is
+        | inr sync2 ↦ absurd (elim why [
+          | inl black ↦ at_place (λ d. is_raw s d ≡ true → colour_of s d ≢ colour.Black) (held_of s i) place guard.lt
+              (k.raw_not_black i sync2) guard.raw black
+          | inr scan ↦
+              let answers = (k.scans scan.0 scan.1).answers in
+              let async : (presence_of s i).status ≡ status.Async
+              = k.answered i (inside_below s i range guard.inside) (subst (λ x. is_handshake x ≡ true) (sym now) refl)
+              (one_of_all s.collector.answered i answers)
+              ∙ ap requested_of now in cc
+        ])
+      ]);
+    }

@@ -1,0 +1,12 @@
+pub mod Changes
+pub mod Computes
+pub mod Each
+pub mod Joins
+pub mod Keeps
+pub mod Longer
+pub mod Safety
+pub mod Searching
+pub mod Starts
+pub mod Step
+pub mod Throughout
+pub mod Truths

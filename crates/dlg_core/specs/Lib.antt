@@ -1,0 +1,10 @@
+pub mod Consistent
+pub mod Facts
+pub mod FirstRows
+pub mod Kept
+pub mod Paths
+pub mod Plain
+pub mod Reachable
+pub mod Runs
+pub mod Safe
+pub mod Search

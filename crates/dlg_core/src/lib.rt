@@ -1,0 +1,24 @@
+//! The core of the collector: the core machine with what holds in every state of every run.
+//!
+//! `Core` is the machine of core_machine behind a type that keeps the invariant, so its calls ask no
+//! condition of the state. `apply` takes one event, `run` a list of them, and each state that they
+//! pass is safe: no cell that is in use is free. `theorems` has what holds of the definitions alone,
+//! for any number of cells and any rooms, as the layers above need it.
+//!
+//! How the words of a heap are shared among threads is left to the layers above.
+//!
+//! Reading order: specs/Reachable, specs/Safe, specs/Consistent; `machine`, `plain`, `reachability`;
+//! proofs/Safety, proofs/Step, and then proofs/Keeps, an event a file.
+#![tactic(auto)]
+
+mod machine;
+mod plain;
+mod reachability;
+mod search;
+#[cfg(test)]
+mod tests;
+pub mod theorems;
+
+pub use core_machine::{Answer, Event, Held, NotNow, Scanning, Sweeping, Taken};
+pub use machine::{Core, NotNowAt};
+pub use std::alloc::AllocError as NoMemory;

@@ -1,0 +1,10 @@
+pub mod Answers
+pub mod ClientLog
+pub mod Edits
+pub mod Store
+pub mod StoreView
+pub mod Tree
+pub mod TreeCode
+pub mod TreeFalls
+pub mod TreeView
+pub mod Words

@@ -1,0 +1,74 @@
+-- A store: the trees of all its versions, the oldest first, and what each client has in it.
+-- Version 0 is the empty tree, and the list of versions is never shortened.
+use Rattle.std.specs.Prelude.{ℕ, ◌+◌, ◌-◌, ◌≤◌, List, [], ◌∷◌, ◌++◌, Option, Some, None, length, slice_index_or, slice_set, replicate}
+use Rattle.std.specs.Coded.{Coded, code_by, coded×, coded_ℕ, coded_list}
+use Rattle.std.proofs.Common.{refl}
+use Rattle.doc_model.specs.declared.command.Command.{Command}
+use Rattle.doc_model.specs.declared.command.Entry.{Entry}
+use Rattle.doc_model.specs.declared.store.Answer.{Answer}
+use Rattle.doc_model.specs.declared.store.Seat.{Seat}
+use Rattle.doc_model.specs.Tree.{DocTree, empty}
+use Rattle.doc_model.specs.TreeCode.{tree_code}
+use Rattle.doc_model.specs.Answers.{Limits, opening_seat, answer_at, back_of, left}
+
+-- the seat of client c is at c - 1
+pub record Store : Type 0 where
+  pub limits : Limits
+  pub trees : List DocTree
+  pub seats : List Seat
+
+abbrev pub opening : ℕ → Limits → Store
+opening clients limits = record { limits = limits; trees = empty ∷ []; seats = replicate clients opening_seat }
+
+-- the number of the latest version
+abbrev pub shown : Store → ℕ
+shown s = length s.trees - 1
+
+abbrev pub tree_at : List DocTree → ℕ → DocTree
+tree_at trees u = slice_index_or trees u empty
+
+abbrev pub IsClient : Store → ℕ → Type 0
+IsClient s client = (1 ≤ client) × (client ≤ length s.seats)
+
+abbrev pub seat_of : Store → ℕ → Seat
+seat_of s client = slice_index_or s.seats (client - 1) opening_seat
+
+-- what a store with these versions answers, the latest of which is v
+abbrev pub answer : Limits → List DocTree → ℕ → Seat → Command → Answer
+answer l trees v m c = answer_at l v (tree_at trees v) (tree_at trees (v - back_of c)) m c
+
+abbrev pub answer_in : Store → ℕ → Command → Answer
+answer_in s client c = answer s.limits s.trees (shown s) (seat_of s client) c
+
+abbrev pub with_version : List DocTree → Option DocTree → List DocTree
+with_version trees None = trees
+with_version trees (Some t) = trees ++ t ∷ []
+
+-- where a version is made, there may be one more
+abbrev pub HasRoom : Store → Option DocTree → Type 0
+HasRoom s None = Unit {0}
+HasRoom s (Some t) = length s.trees ≤ s.limits.versions
+
+-- the store after an answer to the client
+abbrev pub after : Store → ℕ → Answer → Store
+after s client a =
+    record { limits = s.limits; trees = with_version s.trees a.made; seats = slice_set s.seats (client - 1) (left (seat_of s client) a) }
+
+-- the answer as an entry of the client's log
+abbrev pub entry_of : Store → ℕ → Command → Answer → Entry
+entry_of s client c a =
+    record { client = client; number = (seat_of s client).answered + 1; command = c; reply = a.reply; place = a.place }
+
+-- a client's commands, one after another: the entries
+abbrev pub entries_of : Store → ℕ → List Command → List Entry
+entries_of s client [] = []
+entries_of s client (c ∷ cs) =
+    let a = answer_in s client c in entry_of s client c a ∷ entries_of (after s client a) client cs
+
+abbrev pub seat_code : Coded Seat
+seat_code =
+    code_by (DocTree × (ℕ × ℕ)) (coded× tree_code (coded× coded_ℕ coded_ℕ)) (λ m. (m.draft, (m.last, m.answered))) (λ p. record { draft = p.0; last = p.1.0; answered = p.1.1 }) (λ _. refl)
+
+abbrev pub store_code : Coded Store
+store_code =
+    code_by ((ℕ × ℕ) × (List DocTree × List Seat)) (coded× (coded× coded_ℕ coded_ℕ) (coded× (coded_list tree_code) (coded_list seat_code))) (λ s. ((s.limits.keep, s.limits.versions), (s.trees, s.seats))) (λ p. record { limits = record { keep = p.0.0; versions = p.0.1 }; trees = p.1.0; seats = p.1.1 }) (λ _. refl)

@@ -1,0 +1,6 @@
+pub mod Request
+pub mod Fault
+pub mod Output
+pub mod Session
+pub mod Reading
+pub mod Ending

@@ -1,0 +1,14 @@
+-- The text that a run writes of a client's log.
+-- Source: this project's own.
+use Rattle.std.specs.Prelude.{ℕ, List, ◌++◌, flat_map}
+use Rattle.doc_model.specs.ClientLog.{ClientLog}
+use Rattle.doc_model.specs.declared.command.Entry.{Entry}
+use Rattle.cmd_text.specs.ReplyText.{heading_of, reply_text_of}
+
+-- the line of each reply, in order
+abbrev pub replies_of : List Entry → List ℕ
+replies_of entries = flat_map (λ entry. reply_text_of entry.reply) entries
+
+-- the client's heading, and its replies below it
+abbrev pub output_of : ClientLog → List ℕ
+output_of log = heading_of log.client ++ replies_of log.entries

@@ -1,0 +1,78 @@
+//! The program `docheap`: a versioned store of documents answers the commands of a script.
+//!
+//! `run` is the whole program as one proved call over a shelf, which files come from, and a sink,
+//! which the output goes to. `main` hands it the real ones, says the fault and ends with its
+//! status. What a file holds, and what became of standard output, no contract says: that is the
+//! trusted edge.
+//!
+//! Reading order: `request`, `words`, `fault`, `session`, `output`, `run`.
+#![tactic(auto)]
+
+mod answers;
+mod fault;
+mod outcome;
+mod output;
+mod request;
+mod run;
+mod session;
+#[cfg(test)]
+mod tests;
+mod words;
+
+pub use fault::{Fault, fault_text, status};
+pub use outcome::Outcome;
+use outside::{FileShelf, StdSink};
+pub use request::Request;
+pub use run::run;
+use std::env;
+use std::io::{ErrorKind, Write};
+use std::process::ExitCode;
+pub use words::Words;
+
+fn main(rt: HostRuntime) -> ExitCode {
+    let fault = run_on_devices(&rt);
+    if let Some(fault) = &fault {
+        say(&rt, fault);
+    }
+    ExitCode::from(status(fault))
+}
+
+// Runs the program's own words over the real files and standard output.
+fn run_on_devices(rt: &HostRuntime) -> Option<Fault> {
+    let words = match own_words(rt) {
+        Ok(words) => words,
+        Err(fault) => return Some(fault),
+    };
+    let mut shelf = FileShelf::new(rt);
+    let mut sink = StdSink::new(rt.alloc(), rt);
+    let outcome = run(rt.alloc(), &words, &mut shelf, &mut sink);
+    match (sink.finish(), outcome.fault) {
+        (Err(_), None) => Some(Fault::WriteFault),
+        (_, fault) => fault,
+    }
+}
+
+// The words behind the program's name. One that is no text is a faulty command line.
+fn own_words(rt: &HostRuntime) -> Result<Words, Fault> {
+    let all = match env::args(rt) {
+        Ok(all) => all,
+        Err(error) if error.kind() == ErrorKind::OutOfMemory => return Err(Fault::Memory),
+        Err(_) => return Err(Fault::Usage),
+    };
+    let mut words = Words::new(rt.alloc());
+    for word in all.skip(1) {
+        if words.push(word.as_str()).is_err() {
+            return Err(Fault::Memory);
+        }
+    }
+    Ok(words)
+}
+
+// Prints the text of a fault, or nothing where no memory is left for it.
+fn say(rt: &HostRuntime, fault: &Fault) {
+    if let Ok(mut line) = fault_text(rt.alloc(), fault) {
+        if line.push(b'\n').is_ok() {
+            let _ = rt.stderr().write_all(&line);
+        }
+    }
+}

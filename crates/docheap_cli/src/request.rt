@@ -1,0 +1,6 @@
+/// What a command line asks for.
+#[derive(Clone, Copy)]
+pub enum Request<'a> {
+    /// The commands of the script in this file are answered.
+    Run { name: &'a str },
+}

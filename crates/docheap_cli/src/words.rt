@@ -1,0 +1,53 @@
+ghost use Rattle.std.specs.Prelude.{◌≡◌, [], ◌∷◌, ◌++◌, OnOk, OnErr};
+ghost use Rattle.docheap_cli.specs.Request.{request_of, asked_by};
+
+use crate::request::Request;
+use doc_model::NoMemory;
+use std::alloc::Global;
+use std::marker::Model;
+
+/// The words of a command line that stand after the program's name.
+#[derive(Drop)]
+pub struct Words {
+    words: Vec<String>,
+}
+
+impl Model for Words {
+    ghost use Rattle.std.specs.Prelude.{ℕ, List, map, string_bytes};
+
+    ghost Value = { List (List ℕ) };
+
+    ghost view = { λ s. map string_bytes s.words.items };
+}
+
+impl Words {
+    /// No words.
+    pub fn new(alloc: Global) -> Words
+        ensures { result ≡ [] }
+    {
+        let words = Vec::new(alloc);
+        Words { words }
+    }
+
+    /// Adds a word at the end.
+    pub fn push(&mut self, word: &str) -> Result<(), NoMemory>
+        ensures ok { OnOk result (self.new ≡ self.old ++ word.now ∷ []) }
+        ensures err { OnErr result (self.new ≡ self.old) }
+    {
+        let word = String::from_str(*self.words.allocator(), word)?;
+        self.words.push(word)?;
+        Ok(())
+    }
+
+    /// What the words ask for, or nothing where they are none of the program's command lines.
+    pub fn request(&self) -> Option<Request<'_>>
+        ensures { asked_by result ≡ request_of self.now }
+    {
+        match self.words.as_slice() {
+            [word, name] if word.as_str() == "run" => Some(Request::Run {
+                name: name.as_str(),
+            }),
+            _ => None,
+        }
+    }
+}

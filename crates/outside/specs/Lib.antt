@@ -1,0 +1,5 @@
+pub mod Causes
+pub mod Pieces
+pub mod Named
+pub mod Memory
+pub mod Devices

@@ -1,0 +1,75 @@
+ghost use Rattle.std.specs.Prelude.{◌≡◌, ℕ, ◌+◌, ◌<◌, ◌≤◌, [], None, Some, IfErr, IsOk, unwrap_or, IsSome};
+ghost use Rattle.outside.specs.Causes.{next_count};
+ghost use Rattle.outside.specs.Named.{files_of, content_named};
+
+use crate::fault::OutFault;
+use crate::named_files::{Place, index_of, read_at};
+use crate::reading::Shelf;
+use std::marker::Model;
+
+/// A shelf in memory that never fails: a name that is absent is an empty file.
+#[derive(Drop)]
+pub struct SureShelf {
+    files: Vec<(String, Vec<u8>)>,
+    place: Option<Place>,
+    opens: u64,
+}
+
+impl Model for SureShelf {
+    ghost use Rattle.outside.specs.Memory.{SureState};
+    ghost use Rattle.outside.specs.Named.{files_of, left_of};
+
+    ghost Value = { SureState };
+
+    ghost view = { λ s. record {
+      files = files_of s.files.items;
+      opens = s.opens;
+      left = left_of (files_of s.files.items) s.place;
+    } };
+}
+
+impl SureShelf {
+    /// A shelf of these names and contents.
+    pub fn new(files: Vec<(String, Vec<u8>)>) -> SureShelf
+        ensures files { result.files ≡ files_of files.items }
+        ensures unused { result.opens ≡ 0 }
+        ensures closed { result.left ≡ None }
+    {
+        SureShelf {
+            files,
+            place: None,
+            opens: 0,
+        }
+    }
+}
+
+impl Shelf for SureShelf {
+    ghost holds = { λ s name. Some (unwrap_or (content_named s.files name) []) };
+
+    ghost left = { λ s. s.left };
+
+    ghost is_open = { λ s. IsSome s.left };
+
+    ghost opens = { λ s. s.opens };
+
+    ghost faults = { λ _. 0 };
+
+    fn open(&mut self, name: &str) -> Result<(), OutFault> {
+        self.opens = self.opens.saturating_add(1);
+        let index = match index_of(&self.files, name) {
+            Some(index) => index,
+            None => self.files.len(),
+        };
+        self.place = Some(Place { index, position: 0 });
+        Ok(())
+    }
+
+    fn read(&mut self, buffer: &mut [u8]) -> Result<usize, OutFault> {
+        let Some(place) = self.place else {
+            unreachable!();
+        };
+        let (count, behind) = read_at(&self.files, place, buffer);
+        self.place = Some(behind);
+        Ok(count)
+    }
+}

@@ -1,0 +1,123 @@
+use crate::{
+    FileShelf, MemShelf, MemSink, OutFault, READ_LIMIT, Shelf, Sink, StdSink, SureShelf, SureSink,
+    read_file, write_all, write_lines,
+};
+use std::alloc::{AllocError, Global};
+use std::test::Fail;
+
+type Files = Vec<(String, Vec<u8>)>;
+
+// Two files: `a` with four bytes, and `b`, which is empty.
+fn two_files(alloc: Global) -> Result<Files, AllocError> {
+    let four = b"four".to_vec(alloc)?;
+    let a = String::from_str(alloc, "a")?;
+    let b = String::from_str(alloc, "b")?;
+    Ok(vec![in alloc; (a, four), (b, Vec::new(alloc))]?)
+}
+
+fn two_lines(alloc: Global) -> Result<Vec<Vec<u8>>, AllocError> {
+    Ok(vec![in alloc; b"client 1\n".to_vec(alloc)?, b"ok 1\n".to_vec(alloc)?]?)
+}
+
+#[test]
+fn a_file_is_read_to_its_end(rt: HostRuntime) -> Result<(), Fail> {
+    let mut shelf = MemShelf::new(two_files(rt.alloc())?, Vec::new(rt.alloc()));
+    let four = read_file(rt.alloc(), &mut shelf, "a")?;
+    assert_eq!(rt; four.as_slice(), b"four".as_slice());
+    let none = read_file(rt.alloc(), &mut shelf, "b")?;
+    assert_eq!(rt; none.as_slice(), b"".as_slice());
+    let mut sure = SureShelf::new(two_files(rt.alloc())?);
+    let four = read_file(rt.alloc(), &mut sure, "a")?;
+    assert_eq!(rt; four.as_slice(), b"four".as_slice());
+    let none = read_file(rt.alloc(), &mut sure, "absent")?;
+    assert_eq!(rt; none.as_slice(), b"".as_slice());
+    Ok(())
+}
+
+// The calls are: open, a read of four bytes, a read that finds the end.
+#[test]
+fn a_failed_call_of_a_shelf_is_the_last(rt: HostRuntime) -> Result<(), Fail> {
+    for (name, failing, calls) in [("a", 1, 1), ("a", 2, 2), ("a", 3, 3), ("absent", 9, 1)] {
+        let mut shelf = MemShelf::new(two_files(rt.alloc())?, vec![in rt.alloc(); failing]?);
+        let read = read_file(rt.alloc(), &mut shelf, name);
+        assert!(rt;
+            matches!(&read, Err(OutFault::Failed)),
+            "call {failing} of {name}"
+        );
+        assert_eq!(rt; shelf.calls(), calls, "call {failing} of {name}");
+    }
+    Ok(())
+}
+
+#[test]
+fn one_byte_more_than_the_largest_file_is_read(rt: HostRuntime) -> Result<(), Fail> {
+    let long = vec![in rt.alloc(); b'#'; 1_048_580]?;
+    let name = String::from_str(rt.alloc(), "long")?;
+    let mut shelf = SureShelf::new(vec![in rt.alloc(); (name, long)]?);
+    let bytes = read_file(rt.alloc(), &mut shelf, "long")?;
+    assert_eq!(rt; bytes.len(), 1_048_577);
+    let mut rest = [0; 64];
+    assert_eq!(rt; shelf.read(&mut rest)?, 3);
+    Ok(())
+}
+
+// With three bytes a call, the lines of nine and five bytes take three calls and two.
+#[test]
+fn a_line_is_one_piece_and_its_rest_is_offered_again(rt: HostRuntime) -> Result<(), Fail> {
+    let lines = two_lines(rt.alloc())?;
+    for (most, calls) in [(100, 2), (3, 5)] {
+        let mut sink = MemSink::new(most, Vec::new(rt.alloc()));
+        write_lines(&mut sink, &lines)?;
+        assert_eq!(rt;
+            sink.written(),
+            b"client 1\nok 1\n".as_slice(),
+            "{most} a call"
+        );
+        assert_eq!(rt; sink.calls(), calls, "{most} a call");
+    }
+    let mut sure = SureSink::new(rt.alloc());
+    write_lines(&mut sure, &lines)?;
+    assert_eq!(rt; sure.written(), b"client 1\nok 1\n".as_slice());
+    Ok(())
+}
+
+#[test]
+fn a_failed_call_of_a_sink_is_the_last(rt: HostRuntime) -> Result<(), Fail> {
+    let lines = two_lines(rt.alloc())?;
+    for (most, written) in [(100, "client 1\n"), (3, "cli")] {
+        let mut sink = MemSink::new(most, vec![in rt.alloc(); 2]?);
+        assert_eq!(rt;
+            write_lines(&mut sink, &lines),
+            Err(OutFault::Failed),
+            "{most} a call"
+        );
+        assert_eq!(rt; sink.written(), written.as_bytes(), "{most} a call");
+        assert_eq!(rt; sink.calls(), 2, "{most} a call");
+    }
+    Ok(())
+}
+
+// An empty device, one without an end, a folder, and a path that is not there.
+#[test]
+fn real_files_are_read(rt: HostRuntime) -> Result<(), Fail> {
+    let mut shelf = FileShelf::new(&rt);
+    assert_eq!(rt; read_file(rt.alloc(), &mut shelf, "/dev/null")?.len(), 0);
+    assert_eq!(rt;
+        read_file(rt.alloc(), &mut shelf, "/dev/zero")?.len(),
+        READ_LIMIT
+    );
+    for name in ["/", "/no such file"] {
+        let read = read_file(rt.alloc(), &mut shelf, name);
+        assert!(rt; matches!(&read, Err(OutFault::Failed)), "{name}");
+    }
+    Ok(())
+}
+
+#[test]
+fn standard_output_is_written(rt: HostRuntime) -> Result<(), Fail> {
+    let mut sink = StdSink::new(rt.alloc(), &rt);
+    write_all(&mut sink, b"to standard output\n")?;
+    assert_eq!(rt; sink.write(b"").ok(), Some(0));
+    assert_eq!(rt; sink.finish(), Ok(()));
+    Ok(())
+}

@@ -1,0 +1,65 @@
+//! Writing bytes and lines, in as many calls as the sink asks for.
+//!
+//! A sink may take a part of a piece: the rest is offered again. Each call takes at least a byte,
+//! and after a call that failed no further one is made.
+ghost use Rattle.std.specs.Prelude.{◌≡◌, ℕ, ◌+◌, ◌<◌, ◌≤◌, List, length, Option, OnOk, OnErr, IsErrOf, Result};
+ghost use Rattle.std.specs.Io.KnownBytes.{WriteAppends, Appends};
+ghost use Rattle.outside.specs.Causes.{Rose};
+ghost use Rattle.outside.specs.Pieces.{TakesSome, AppendsPart, joined};
+
+use crate::fault::OutFault;
+
+/// A place that takes bytes, one after another.
+pub trait Sink {
+    /// What was written so far, where the sink tells it.
+    ghost written: { Self → Option (List ℕ) };
+
+    /// How many calls failed: it never falls.
+    ghost faults: { Self → ℕ };
+
+    /// How many calls were made, where the sink counts them.
+    ghost calls: { Self → ℕ } = { λ _. 0 };
+
+    /// Offers a piece, and says how many bytes of its front were taken.
+    fn write(&mut self, piece: &[u8]) -> Result<usize, OutFault>
+        ensures taken { TakesSome result piece.now }
+        ensures bytes { WriteAppends (written self.old) (written self.new) result piece.now }
+        ensures calls { calls self.new ≤ calls self.old + 1 }
+        ensures faults { faults self.old ≤ faults self.new }
+        ensures cause { IsErrOf result OutFault.Failed → Rose (faults self.old) (faults self.new) };
+}
+
+/// Writes all of the bytes, offered as one piece and its rest again where a part was taken.
+#[tactic(auto, using(crate::proofs::Taken::appended_more))]
+pub fn write_all<S: Sink>(sink: &mut S, bytes: &[u8]) -> Result<(), OutFault>
+    ensures ok { OnOk result (Appends (S.written sink.old) (S.written sink.new) bytes.now) }
+    ensures err { OnErr result (AppendsPart (S.written sink.old) (S.written sink.new) bytes.now) }
+    ensures calls { S.calls sink.new ≤ S.calls sink.old + length bytes.now }
+    ensures faults { S.faults sink.old ≤ S.faults sink.new }
+    ensures cause { IsErrOf result OutFault.Failed →
+        Rose (S.faults sink.old) (S.faults sink.new) }
+{
+    let mut done = 0;
+    while done < bytes.len() {
+        done += sink.write(bytes.split_at(done).1)?;
+    }
+    Ok(())
+}
+
+/// Writes the lines in order, each offered as one piece.
+#[tactic(auto, using(crate::proofs::Taken::within_lines))]
+pub fn write_lines<S: Sink>(sink: &mut S, lines: &[Vec<u8>]) -> Result<(), OutFault>
+    ensures ok { OnOk result (Appends (S.written sink.old) (S.written sink.new)
+        (joined lines.now)) }
+    ensures err { OnErr result (AppendsPart (S.written sink.old) (S.written sink.new)
+        (joined lines.now)) }
+    ensures calls { S.calls sink.new ≤ S.calls sink.old + length (joined lines.now) }
+    ensures faults { S.faults sink.old ≤ S.faults sink.new }
+    ensures cause { IsErrOf result OutFault.Failed →
+        Rose (S.faults sink.old) (S.faults sink.new) }
+{
+    for line in lines {
+        write_all(sink, line)?;
+    }
+    Ok(())
+}
