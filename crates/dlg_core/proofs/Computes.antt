@@ -26,9 +26,8 @@ found_in_row c (x ∷ xs) (suc f) h = or_later (names_cell c x) _ (found_in_row 
 
 -- a field that names a cell is that cell
 names_it : (c : ℕ) (x : Field) → names_cell c x ≡ true → x ≡ field.Cell c
-names_it c field.Null h = absurd cc
-names_it c (field.Num n) h = absurd cc
 names_it c (field.Cell d) h = let same : d ≡ c = eqb-true d c h in subst (λ e. field.Cell d ≡ field.Cell e) same refl
+names_it c _ h = absurd cc
 
 -- .. and what is found there stands at some place of it
 stands_in_row : (c : ℕ) (row : List Field) → list_any (names_cell c) row ≡ true
@@ -71,18 +70,15 @@ held_where test (p ∷ ps) h = elim (or_cases (test p.cell) _ h) [
 root_at : (test : ℕ → Bool) (ps : List Presence) (os : List Own) (i c : ℕ)
     → (presence_in ps i).inside ≡ true → holds (own_in os i).held c ≡ true → test c ≡ true
     → some_root test ps os ≡ true
-root_at test [] os i c inside h t = absurd cc
-root_at test (p ∷ ps) [] i c inside h t = absurd cc
 root_at test (p ∷ ps) (o ∷ os) zero c inside h t =
     or_left _ _ (both p.inside _ inside (holds_of_held test c o.held h t))
 root_at test (p ∷ ps) (o ∷ os) (suc i) c inside h t =
     or_right _ (some_root test ps os) (root_at test ps os i c inside h t)
+root_at test _ _ _ c inside h t = absurd cc
 
 -- .. and some root of which it holds is a cell that a mutator which is in holds
 root_where : (test : ℕ → Bool) (ps : List Presence) (os : List Own) → some_root test ps os ≡ true
     → (i : ℕ) × (c : ℕ) × ((presence_in ps i).inside ≡ true) × (holds (own_in os i).held c ≡ true) × (test c ≡ true)
-root_where test [] os h = absurd cc
-root_where test (p ∷ ps) [] h = absurd cc
 root_where test (p ∷ ps) (o ∷ os) h =
     elim (or_split (cond p.inside (list_any (λ place. test place.cell) o.held) false) (some_root test ps os) h) [
       | inl here ↦
@@ -91,6 +87,7 @@ root_where test (p ∷ ps) (o ∷ os) h =
           (zero, w.0, r.0, w.1, w.2)
       | inr there ↦ let r = root_where test ps os there in (suc r.0, r.1, r.2, r.3, r.4)
     ]
+root_where test _ _ h = absurd cc
 
 -- The equivalence.
 

@@ -1,4 +1,6 @@
 pub mod Changes
+pub mod Claimed
+pub mod Collects
 pub mod Computes
 pub mod Each
 pub mod Joins
@@ -8,5 +10,6 @@ pub mod Safety
 pub mod Searching
 pub mod Starts
 pub mod Step
+pub mod Sums
 pub mod Throughout
 pub mod Truths

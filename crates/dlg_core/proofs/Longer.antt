@@ -1,16 +1,12 @@
--- A run that goes on by one event.
-use Rattle.std.proofs.Common.{◌≡◌, ℕ, Bool, true, false, ◌+◌, ◌<◌, List, [], ◌∷◌, ◌++◌, length, take, get_or, Some, refl, sym, subst, ◌∙◌}
+-- A run that goes on by one event, and one that is cut in two.
+use Rattle.std.proofs.Common.{◌≡◌, ℕ, true, ◌+◌, ◌<◌, List, [], ◌∷◌, ◌++◌, length, take, get_or, Some, refl, sym, subst, ◌∙◌}
 use Rattle.std.proofs.lemmas.List.{take_more}
 use Rattle.core_machine.specs.declared.events.Event.{Event}
 use Rattle.core_machine.specs.State.{State}
-use Rattle.core_machine.specs.Next.{can, after, next, when}
+use Rattle.core_machine.specs.Next.{can, after, next}
 use Rattle.core_machine.specs.Run.{Runs, last}
+use Rattle.core_machine.proofs.Ranges.Events.{when_some}
 use Rattle.dlg_core.specs.Runs.{taken_from, LeadsTo}
-
--- a successor is what the event leaves, where it can happen
-pub when_some : (b : Bool) (u t : State) → when b u ≡ Some t → (b ≡ true) × (u ≡ t)
-when_some true u t h = (refl, cc)
-when_some false u t h = absurd cc
 
 runs_more : (s : State) (es : List Event) (e : Event) → Runs s (taken_from s es)
     → can (last s (taken_from s es)) e ≡ true → Runs s (taken_from s (es ++ e ∷ []))
@@ -37,3 +33,11 @@ pub leads_next : (s : State) (es : List Event) (i : ℕ) (d : Event) (t u : Stat
     → LeadsTo s (take i es) t → next t (get_or es i d) ≡ Some u → LeadsTo s (take (i + 1) es) u
 leads_next s es i d t u lt run step =
     subst (λ xs. LeadsTo s xs u) (sym (take_more es i d lt)) (leads_more s (take i es) (get_or es i d) t u run step)
+
+-- a run of two lists is a run of the one, and then of the other
+pub leads_apart : (s : State) (first rest : List Event) (t : State) → LeadsTo s (first ++ rest) t
+    → (m : State) × LeadsTo s first m × LeadsTo m rest t
+leads_apart s [] rest t leads = (s, record { runs = tt; ends = refl }, leads)
+leads_apart s (e ∷ first) rest t leads =
+    let r = leads_apart (after s e) first rest t record { runs = leads.runs.2; ends = leads.ends } in
+    (r.0, record { runs = (leads.runs.0, leads.runs.1, r.1.runs); ends = r.1.ends }, r.2)

@@ -1,6 +1,6 @@
 -- The opening state is consistent: the first cells are white and sealed and name each other alone, all
 -- others are blue and null, and nobody is in.
-use Rattle.std.proofs.Common.{◌≡◌, ◌&&◌, inl, inr, ℕ, zero, suc, Bool, true, false, nat_lt, List, [], ◌∷◌, ◌++◌, length, replicate, get_or, ◌-◌, ◌<◌, ◌≤◌, arith, refl, sym, subst, ◌∙◌, ap}
+use Rattle.std.proofs.Common.{◌≡◌, inl, inr, ℕ, zero, suc, Bool, true, false, List, [], ◌∷◌, ◌++◌, length, replicate, get_or, ◌-◌, ◌<◌, ◌≤◌, arith, refl, sym, subst, ◌∙◌, ap}
 use Rattle.std.specs.List.{All, list_all}
 use Rattle.std.proofs.lemmas.Bool.{and_parts, ltb-true, cases_lt}
 use Rattle.std.proofs.lemmas.List.{length-replicate}
@@ -45,8 +45,8 @@ in_replicate (suc n) (suc i) x d lt = in_replicate n i x d (omega arith)
 pub one_of_list : {X : Type 0} (test : X → Bool) (xs : List X) (i : ℕ) (d : X) → list_all test xs ≡ true → i < length xs
     → test (get_or xs i d) ≡ true
 one_of_list test [] i d h lt = absurd (omega arith)
-one_of_list test (x ∷ xs) zero d h lt = (and_parts (test x) (list_all test xs) h).0
-one_of_list test (x ∷ xs) (suc i) d h lt = one_of_list test xs i d (and_parts (test x) (list_all test xs) h).1 (omega arith)
+one_of_list test (x ∷ xs) zero d h lt = (and_parts _ _ h).0
+one_of_list test (x ∷ xs) (suc i) d h lt = one_of_list test xs i d (and_parts _ _ h).1 (omega arith)
 
 -- Fields of the first rows.
 
@@ -55,19 +55,17 @@ pub first_cell : (count : ℕ) (row : List Field) (f d : ℕ) → list_all (is_f
     → get_or row f field.Null ≡ field.Cell d → d < count
 first_cell count [] f d h e = absurd cc
 first_cell count (x ∷ xs) zero d h e =
-    let r = and_parts (is_first_value count x) (list_all (is_first_value count) xs) h in
+    let r = and_parts _ _ h in
     ltb-true d count (subst (λ y. is_first_value count y ≡ true) e r.0)
-first_cell count (x ∷ xs) (suc f) d h e = first_cell count xs f d (and_parts (is_first_value count x) (list_all (is_first_value count) xs) h).1 e
+first_cell count (x ∷ xs) (suc f) d h e = first_cell count xs f d (and_parts _ _ h).1 e
 
 pub sealed_not_raw : (x : Field) → is_sealed_kind x ≡ true → is_raw_kind x ≡ false
-sealed_not_raw field.Null h = absurd cc
 sealed_not_raw (field.Num n) h = refl
-sealed_not_raw (field.Cell c) h = absurd cc
+sealed_not_raw _ h = absurd cc
 
 pub sealed_is_kind : (x : Field) → is_sealed_kind x ≡ true → is_kind_field x ≡ true
-sealed_is_kind field.Null h = absurd cc
 sealed_is_kind (field.Num n) h = h
-sealed_is_kind (field.Cell c) h = absurd cc
+sealed_is_kind _ h = absurd cc
 
 -- The opening.
 
@@ -90,8 +88,8 @@ pub opening_consistent : (cells : ℕ) (rooms : List ℕ) (first : List (List Fi
 opening_consistent cells rooms first few h =
     let s = opening cells rooms first in
     let k = length first in
-    let a = and_parts (nat_lt 0 k && is_box_kind (field_in first 0 5)) (list_all (is_first_row k) first) h in
-    let b = and_parts (nat_lt 0 k) (is_box_kind (field_in first 0 5)) a.0 in
+    let a = and_parts _ _ h in
+    let b = and_parts _ _ a.0 in
     let some : 0 < k = ltb-true 0 k b.0 in
     let long : length (replicate k colour.White) ≡ k = length-replicate k colour.White in
     let white : (c : ℕ) → c < k → colour_of s c ≡ colour.White
@@ -108,7 +106,7 @@ opening_consistent cells rooms first few h =
     = (λ c f ge. null_behind first (cells - k) c f ge) in
     let kind : (c : ℕ) → c < k → is_sealed_kind (field_of s c 5) ≡ true
     = (λ c lt. ap is_sealed_kind (here c 5 lt)
-    ∙ (and_parts (list_all (is_first_value k) (row_in first c)) (is_sealed_kind (field_in first c 5)) (one_of_list (is_first_row k) first c [] a.1 lt)).1) in
+    ∙ (and_parts _ _ (one_of_list (is_first_row k) first c [] a.1 lt)).1) in
     let own : (i : ℕ) → own_of s i ≡ no_own = (λ i. same_everywhere (length rooms) i no_own) in
     let alive : (c : ℕ) → c < k → live s.colours s.control s.collector.sweep c ≡ true
     = (λ c lt. live_outside s.colours s.control s.collector.sweep c refl ∙ ap (λ x. is_live x false) (white c lt)) in
@@ -133,7 +131,7 @@ opening_consistent cells rooms first few h =
       child_live = (λ c e. absurd cc);
       names_live = (λ c d f l n. elim (cases_lt c k) [
         | inl lt ↦
-            let within = and_parts (list_all (is_first_value k) (row_in first c)) (is_sealed_kind (field_in first c 5)) (one_of_list (is_first_row k) first c [] a.1 lt) in
+            let within = and_parts _ _ (one_of_list (is_first_row k) first c [] a.1 lt) in
             let below = first_cell k (row_in first c) f d within.0 (sym (here c f lt) ∙ n) in
             (alive d below, sealed_not_raw (field_of s d 5) (kind d below))
         | inr ge ↦ absurd (let e = null c f ge in cc)

@@ -1,3 +1,4 @@
+pub mod Collects
 pub mod Consistent
 pub mod Facts
 pub mod FirstRows
@@ -8,3 +9,4 @@ pub mod Reachable
 pub mod Runs
 pub mod Safe
 pub mod Search
+pub mod Sums

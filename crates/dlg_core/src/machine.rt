@@ -3,6 +3,7 @@ ghost use Rattle.cell_words.specs.declared.fields.Field.{Field};
 ghost use Rattle.core_machine.specs.Answers.{Answers};
 ghost use Rattle.core_machine.specs.Next.{next};
 ghost use Rattle.core_machine.specs.State.{colour_of, field_of, free_count_of, freed_of, greatest_cells, held_of, opening, presence_of, target_of};
+ghost use Rattle.dlg_core.specs.Collects.{Collects};
 ghost use Rattle.dlg_core.specs.FirstRows.{are_first_rows};
 ghost use Rattle.dlg_core.specs.Runs.{LeadsTo, StopsAt};
 ghost use Rattle.dlg_core.specs.Safe.{IsSafe, StaysSafe};
@@ -75,6 +76,7 @@ impl Core {
         ensures done { OnOk result (LeadsTo self.old events.now self.new) }
         ensures stopped { IfErr result (λ stop. StopsAt self.old events.now stop.index self.new) }
         ensures safe { StaysSafe self.old events.now }
+        ensures collects { Collects self.old events.now }
     {
         let _ = &self.machine;
         for (index, event) in events.iter().enumerate() {

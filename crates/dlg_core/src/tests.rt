@@ -1,5 +1,5 @@
-use crate::{Core, Event, NotNowAt};
-use cell_words::{Colour, Field, Kind, Presence, Row, Stage, Status};
+use crate::{Core, Event, NotNow, NotNowAt};
+use cell_words::{Colour, Field, Kind, Row, Stage};
 use std::test::Fail;
 
 // The anchor alone: a box with null payload.
@@ -13,52 +13,41 @@ const ANCHOR: Row = [
 ];
 
 #[test]
-fn a_held_cell_is_reachable_until_its_mutator_goes_out(rt: HostRuntime) -> Result<(), Fail> {
-    let mut core = Core::open(rt.alloc(), 3, 1, 8, &[ANCHOR])?;
+fn at_the_opening_the_first_rows_are_in_use_and_nobody_is_in(rt: HostRuntime) -> Result<(), Fail> {
+    let core = Core::open(rt.alloc(), 3, 1, 8, &[ANCHOR])?;
     assert_eq!(rt; core.cells(), 3);
+    assert_eq!(rt; core.colour(0), Colour::White);
+    assert_eq!(rt; core.field(0, 5), Field::Num(2));
+    assert_eq!(rt; core.freed(0), 0);
     assert_eq!(rt; core.mutators(), 1);
-    for event in [
-        Event::Begin(0),
-        Event::Look(0),
-        Event::Claim(0, 1),
-        Event::Seal(0, 1, Kind::Record),
-    ] {
-        assert_eq!(rt; core.apply(event), Ok(()));
-    }
-    assert_eq!(rt; core.cells(), 3);
-    assert_eq!(rt; core.is_reachable(rt.alloc(), 1)?, true);
-    assert_eq!(rt; core.is_reachable(rt.alloc(), 0)?, true);
-    assert_eq!(rt; core.is_reachable(rt.alloc(), 2)?, false);
-    assert_eq!(rt; core.apply(Event::End(0)), Ok(()));
-    assert_eq!(rt; core.cells(), 3);
-    assert_eq!(rt; core.is_reachable(rt.alloc(), 1)?, false);
-    assert_eq!(rt; core.colour(1), Colour::White);
-    assert_eq!(rt; core.field(1, 5), Field::Num(1));
-    assert_eq!(rt; core.free_count(), 1);
-    assert_eq!(rt; core.freed(1), 0);
+    assert!(rt; !core.presence(0).inside);
+    assert_eq!(rt; core.held_len(0), 0);
     Ok(())
 }
 
 #[test]
-fn a_field_leads_from_a_held_cell(rt: HostRuntime) -> Result<(), Fail> {
+fn a_held_cell_is_reachable_until_its_mutator_goes_out(rt: HostRuntime) -> Result<(), Fail> {
     let mut core = Core::open(rt.alloc(), 3, 1, 8, &[ANCHOR])?;
     let events = [
         Event::Begin(0),
         Event::Look(0),
         Event::Claim(0, 1),
         Event::Seal(0, 1, Kind::Record),
-        Event::Look(0),
-        Event::Claim(0, 2),
-        Event::Fill(0, 2, 4, Field::Cell(1)),
-        Event::Keep(0, 1, 2, 1),
     ];
     assert_eq!(rt; core.run(&events), Ok(()));
     assert_eq!(rt; core.cells(), 3);
     assert_eq!(rt; core.is_reachable(rt.alloc(), 1)?, true);
-    assert_eq!(rt; core.apply(Event::Keep(0, 1, 0, 0)), Ok(()));
+    assert_eq!(rt; core.apply(Event::End(0)), Ok(()));
     assert_eq!(rt; core.cells(), 3);
     assert_eq!(rt; core.is_reachable(rt.alloc(), 1)?, false);
-    assert_eq!(rt; core.is_reachable(rt.alloc(), 2)?, false);
+    Ok(())
+}
+
+#[test]
+fn a_cycle_begins_with_a_post(rt: HostRuntime) -> Result<(), Fail> {
+    let core = Core::open(rt.alloc(), 3, 1, 8, &[ANCHOR])?;
+    assert_eq!(rt; core.free_count(), 2);
+    assert_eq!(rt; core.next_plain(), Some(Event::Post(Stage::Sync1)));
     Ok(())
 }
 
@@ -79,38 +68,6 @@ fn tracing_may_not_begin_before_all_have_answered(rt: HostRuntime) -> Result<(),
     ];
     assert_eq!(rt; core.run(&events), Err(NotNowAt { index: 9 }));
     assert_eq!(rt; core.control().stage, Stage::Sync2);
-    let presence = Presence {
-        status: Status::Sync1,
-        inside: true,
-        over: false,
-    };
-    assert_eq!(rt; core.mutators(), 1);
-    assert_eq!(rt; core.presence(0), presence);
-    assert_eq!(rt; core.held_len(0), 1);
-    Ok(())
-}
-
-#[test]
-fn the_plain_collector_frees_what_nobody_names(rt: HostRuntime) -> Result<(), Fail> {
-    let mut core = Core::open(rt.alloc(), 3, 1, 8, &[ANCHOR])?;
-    let events = [
-        Event::Begin(0),
-        Event::Look(0),
-        Event::Claim(0, 1),
-        Event::Seal(0, 1, Kind::Record),
-        Event::End(0),
-    ];
-    assert_eq!(rt; core.run(&events), Ok(()));
-    // One cycle. (With the poll before each answer for the mutator that is out it has 43 events.)
-    for _ in 0..40 {
-        let event = core.next_plain().ok_or("the plain collector waits")?;
-        assert_eq!(rt; core.apply(event), Ok(()));
-    }
-    assert_eq!(rt; core.control().stage, Stage::Idle);
-    assert_eq!(rt; core.control().cycles, 1);
-    assert_eq!(rt; core.cells(), 3);
-    assert_eq!(rt; core.colour(1), Colour::Blue);
-    assert_eq!(rt; core.freed(1), 1);
-    assert_eq!(rt; core.next_plain(), Some(Event::Post(Stage::Sync1)));
+    assert_eq!(rt; core.apply(Event::Begin(0)), Err(NotNow));
     Ok(())
 }

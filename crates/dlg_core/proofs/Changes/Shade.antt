@@ -40,24 +40,19 @@ shaded_not_white colour.Black e = absurd cc
 
 pub shaded_blue : (x : Colour) → shaded x ≡ colour.Blue → x ≡ colour.Blue
 shaded_blue colour.Blue e = refl
-shaded_blue colour.White e = absurd cc
-shaded_blue colour.Gray e = absurd cc
-shaded_blue colour.Black e = absurd cc
+shaded_blue _ e = absurd cc
 
 pub shaded_black : (x : Colour) → shaded x ≡ colour.Black → x ≡ colour.Black
-shaded_black colour.Blue e = absurd cc
-shaded_black colour.White e = absurd cc
-shaded_black colour.Gray e = absurd cc
 shaded_black colour.Black e = refl
+shaded_black _ e = absurd cc
 
 pub gray_shaded : (x : Colour) → x ≡ colour.Gray → shaded x ≡ colour.Gray
 gray_shaded x e = ap shaded e
 
 pub shaded_gray : (x : Colour) → shaded x ≡ colour.Gray → (x ≡ colour.White) ⊎ (x ≡ colour.Gray)
-shaded_gray colour.Blue e = absurd cc
 shaded_gray colour.White e = inl refl
 shaded_gray colour.Gray e = inr refl
-shaded_gray colour.Black e = absurd cc
+shaded_gray _ e = absurd cc
 
 pub shaded_live : (x : Colour) (ahead : Bool) → is_live x ahead ≡ true → is_live (shaded x) ahead ≡ true
 shaded_live colour.Blue ahead h = h

@@ -3,7 +3,7 @@
 -- Of the stages that it can have looked at only the last one requests the next status, and the present
 -- stage is not before it. So the present stage is that one: the new status is the requested one.
 -- In Sync2 no cell is black. In Trace every held cell is on a marked place, so it is not white.
-use Rattle.std.proofs.Common.{◌≡◌, ◌≢◌, ◌&&◌, ◌||◌, ℕ, true, not, List, [], ◌∷◌, map, length, Option, Some, None, ◌<◌, refl, sym, subst, ap}
+use Rattle.std.proofs.Common.{◌≡◌, ◌≢◌, ◌||◌, ℕ, true, not, List, [], ◌∷◌, map, length, Option, Some, None, ◌<◌, refl, sym, subst, ap}
 use Rattle.std.specs.Prelude.{slice_set}
 use Rattle.std.specs.List.{All}
 use Rattle.std.proofs.lemmas.Bool.{and_parts}
@@ -19,7 +19,7 @@ use Rattle.cell_words.specs.declared.presences.Status.TheVariants as status
 use Rattle.cell_words.specs.Modes.{requested_of, next_status_of}
 use Rattle.core_machine.specs.declared.events.Event.TheVariants as event
 use Rattle.core_machine.specs.declared.places.Held.{Held}
-use Rattle.core_machine.specs.Operations.{is_in, next_own_status}
+use Rattle.core_machine.specs.Operations.{next_own_status}
 use Rattle.core_machine.specs.State.{State, colour_in, colour_of, presence_of, own_in, own_of, held_of}
 use Rattle.core_machine.specs.Words.{requests, same_status, is_handshake}
 use Rattle.core_machine.specs.InRange.{IsShaped}
@@ -49,55 +49,19 @@ clear_not_async stage.Sweep e = absurd cc
 
 pub after_async : (looked now : Stage) → same_status (requested_of looked) status.Sync1 ≡ true → async_fits looked now ≡ true
     → now ≡ stage.Sync1
-after_async stage.Idle now h fits = absurd cc
-after_async stage.Sync1 stage.Idle h fits = absurd cc
 after_async stage.Sync1 stage.Sync1 h fits = refl
-after_async stage.Sync1 stage.Clear h fits = absurd cc
-after_async stage.Sync1 stage.Sync2 h fits = absurd cc
-after_async stage.Sync1 stage.Trace h fits = absurd cc
-after_async stage.Sync1 stage.Sweep h fits = absurd cc
 after_async stage.Clear now h fits = absurd (clear_not_async now fits)
-after_async stage.Sync2 now h fits = absurd cc
-after_async stage.Trace now h fits = absurd cc
-after_async stage.Sweep now h fits = absurd cc
+after_async _ _ h fits = absurd cc
 
 pub after_sync1 : (looked now : Stage) → same_status (requested_of looked) status.Sync2 ≡ true → sync1_fits looked now ≡ true
     → now ≡ stage.Sync2
-after_sync1 stage.Idle now h fits = absurd cc
-after_sync1 stage.Sync1 now h fits = absurd cc
-after_sync1 stage.Clear now h fits = absurd cc
-after_sync1 stage.Sync2 stage.Idle h fits = absurd cc
-after_sync1 stage.Sync2 stage.Sync1 h fits = absurd cc
-after_sync1 stage.Sync2 stage.Clear h fits = absurd cc
 after_sync1 stage.Sync2 stage.Sync2 h fits = refl
-after_sync1 stage.Sync2 stage.Trace h fits = absurd cc
-after_sync1 stage.Sync2 stage.Sweep h fits = absurd cc
-after_sync1 stage.Trace now h fits = absurd cc
-after_sync1 stage.Sweep now h fits = absurd cc
+after_sync1 _ _ h fits = absurd cc
 
 pub after_sync2 : (looked now : Stage) → same_status (requested_of looked) status.Async ≡ true → sync2_fits looked now ≡ true
     → now ≡ stage.Trace
-after_sync2 stage.Idle stage.Idle h fits = absurd cc
-after_sync2 stage.Idle stage.Sync1 h fits = absurd cc
-after_sync2 stage.Idle stage.Clear h fits = absurd cc
-after_sync2 stage.Idle stage.Sync2 h fits = absurd cc
-after_sync2 stage.Idle stage.Trace h fits = absurd cc
-after_sync2 stage.Idle stage.Sweep h fits = absurd cc
-after_sync2 stage.Sync1 now h fits = absurd cc
-after_sync2 stage.Clear now h fits = absurd cc
-after_sync2 stage.Sync2 now h fits = absurd cc
-after_sync2 stage.Trace stage.Idle h fits = absurd cc
-after_sync2 stage.Trace stage.Sync1 h fits = absurd cc
-after_sync2 stage.Trace stage.Clear h fits = absurd cc
-after_sync2 stage.Trace stage.Sync2 h fits = absurd cc
 after_sync2 stage.Trace stage.Trace h fits = refl
-after_sync2 stage.Trace stage.Sweep h fits = absurd cc
-after_sync2 stage.Sweep stage.Idle h fits = absurd cc
-after_sync2 stage.Sweep stage.Sync1 h fits = absurd cc
-after_sync2 stage.Sweep stage.Clear h fits = absurd cc
-after_sync2 stage.Sweep stage.Sync2 h fits = absurd cc
-after_sync2 stage.Sweep stage.Trace h fits = absurd cc
-after_sync2 stage.Sweep stage.Sweep h fits = absurd cc
+after_sync2 _ _ h fits = absurd cc
 
 pub answer_when : (own : Status) (mode : Option Control) (now : Control) → requests mode (next_status_of own) ≡ true
     → IsStaleMode own mode now → IsAnswer own now.stage
@@ -113,7 +77,7 @@ pub all_dark : (colours : List Colour) (held : List Held) → all_marked held �
     → All (λ p. colour_in colours p.cell ≢ colour.White) (map unmark held)
 all_dark colours [] h marks = All-nil (λ p. colour_in colours p.cell ≢ colour.White)
 all_dark colours (p ∷ ps) h marks =
-    let r = and_parts p.marked (all_marked ps) h in
+    let r = and_parts _ _ h in
     All-cons (λ q. colour_in colours q.cell ≢ colour.White) (unmark p) (map unmark ps)
     (All-head (MarkStands colours) p ps marks r.0)
     (all_dark colours ps r.1 (All-tail (MarkStands colours) p ps marks))
@@ -178,9 +142,8 @@ third_marked s i (third own now) trace h =
 pub answer_keeps : (s : State) (i : ℕ) → IsShaped s → IsConsistent s → can s (event.Answer i) ≡ true
     → IsConsistent (after s (event.Answer i))
 answer_keeps s i range k h =
-    let a = and_parts (is_in s i && requests (own_of s i).mode (next_own_status s i))
-    (not (same_status (next_own_status s i) status.Async) || all_marked (held_of s i)) h in
-    let b = and_parts (is_in s i) (requests (own_of s i).mode (next_own_status s i)) a.0 in
+    let a = and_parts _ _ h in
+    let b = and_parts _ _ a.0 in
     let own = spent (own_of s i) in
     let u = with_own s i own in
     let below : i < length s.owns = subst (λ n. i < n) (sym range.mutators_fit.owns_fit) (inside_below s i range b.0) in

@@ -8,12 +8,12 @@
 -- raw_not_black  so it is in sync2.
 -- traced         a set that is cut off after was cut off before without the cell, and the cell is not
 --                due: to an async mutator it is born black, and nobody else is told of it.
-use Rattle.std.proofs.Common.{◌≡◌, ◌≢◌, ◌==◌, ◌&&◌, ◌||◌, ◌⊎◌, if◌then◌else◌, inl, inr, ℕ, zero, suc, Bool, true, false, not, nat_lt, List, [], ◌∷◌, ◌++◌, length, get_or, Some, None, is_some, ◌+◌, ◌<◌, ◌≤◌, refl, sym, subst, ◌∙◌, ap, arith, eq-eqb}
+use Rattle.std.proofs.Common.{◌≡◌, ◌≢◌, ◌==◌, ◌&&◌, ◌⊎◌, if◌then◌else◌, inl, inr, ℕ, Bool, true, false, not, nat_lt, [], ◌∷◌, ◌++◌, length, Some, None, is_some, ◌+◌, ◌<◌, ◌≤◌, refl, sym, subst, ◌∙◌, ap, arith, eq-eqb}
 use Rattle.std.specs.Prelude.{slice_set}
 use Rattle.std.proofs.Math.ListN.{set}
 use Rattle.std.specs.List.{All}
-use Rattle.std.proofs.lemmas.Bool.{and_parts, and_cases, or_cases, ltb-true, eqb-true}
-use Rattle.std.proofs.lemmas.List.{get_or-set_same}
+use Rattle.std.proofs.lemmas.Bool.{and_parts, and_cases, or_cases, ltb-true, eqb-true, not-false, not-true}
+use Rattle.std.proofs.lemmas.List.{get_or-set_same, set-get_or}
 use Rattle.std.proofs.lemmas.List.Elements.{All-push, All-weaker}
 use Rattle.cell_words.specs.declared.colours.Colour.{Colour}
 use Rattle.cell_words.specs.declared.colours.Colour.TheVariants as colour
@@ -26,10 +26,10 @@ use Rattle.cell_words.specs.declared.presences.Status.TheVariants as status
 use Rattle.cell_words.specs.Modes.{claim_colour_of, async_claim_colour_of}
 use Rattle.core_machine.specs.declared.events.Event.TheVariants as event
 use Rattle.core_machine.specs.declared.progress.Sweeping.{Sweeping}
-use Rattle.core_machine.specs.Operations.{is_in, has_mode, has_room}
+use Rattle.core_machine.specs.Operations.{is_in}
 use Rattle.core_machine.specs.State.{State, colour_of, field_of, presence_in, presence_of, own_in, own_of, held_of}
 use Rattle.core_machine.specs.Sweep.{is_done}
-use Rattle.core_machine.specs.Words.{same_stage, claimed, born_colour}
+use Rattle.core_machine.specs.Words.{claimed, born_colour}
 use Rattle.core_machine.specs.InRange.{IsShaped}
 use Rattle.core_machine.specs.Next.{can, after}
 use Rattle.core_machine.specs.Own.{Own, no_own, having_claimed}
@@ -39,7 +39,7 @@ use Rattle.dlg_core.specs.Facts.{is_live, live, unswept, status_fits, async_fits
 use Rattle.dlg_core.proofs.Each.{colour_each, own_each, all_held, all_from_held, all_both}
 use Rattle.dlg_core.proofs.Keeps.Holding.{inside_below, holds_more}
 use Rattle.dlg_core.proofs.Keeps.Write.{async_mode}
-use Rattle.dlg_core.proofs.Truths.{not_true, not_false, same_stage_is}
+use Rattle.dlg_core.proofs.Truths.{same_stage_is}
 
 -- the part with a new cell more
 abbrev pub with_claim : Own → ℕ → Own
@@ -75,13 +75,13 @@ without set c d = set d && not (d == c)
 
 pub in_without : (set : ℕ → Bool) (c d : ℕ) → without set c d ≡ true → (set d ≡ true) × (d ≢ c)
 in_without set c d h =
-    let r = and_parts (set d) (not (d == c)) h in
-    (r.0, λ e. absurd (let other = not_true (d == c) r.1 in let same : (d == c) ≡ true = eq-eqb d c e in cc))
+    let r = and_parts _ _ h in
+    (r.0, λ e. absurd (let other = not-true (d == c) r.1 in let same : (d == c) ≡ true = eq-eqb d c e in cc))
 
 pub out_of_without : (set : ℕ → Bool) (c d : ℕ) → without set c d ≡ false → d ≢ c → set d ≡ false
 out_of_without set c d h ne = elim (and_cases (set d) (not (d == c)) h) [
   | inl out ↦ out
-  | inr same ↦ absurd (ne (eqb-true d c (not_false (d == c) same)))
+  | inr same ↦ absurd (ne (eqb-true d c (not-false (d == c) same)))
 ]
 
 pub out_before : (set : ℕ → Bool) (c d : ℕ) → set d ≡ false → without set c d ≡ false
@@ -253,21 +253,17 @@ white_or_black status.Sync2 m c = inl refl
 pub unswept_where : (now : Control) (sweep : Sweeping) (c : ℕ) → unswept now sweep c ≡ true
     → (now.stage ≡ stage.Sweep) × (now.position ≤ c)
 unswept_where now sweep c h =
-    let r = and_parts (same_stage now.stage stage.Sweep) (nat_lt now.position c || ((c == now.position) && not (is_done sweep))) h in (
+    let r = and_parts _ _ h in (
       same_stage_is now.stage stage.Sweep r.0,
       elim (or_cases (nat_lt now.position c) ((c == now.position) && not (is_done sweep)) r.1) [
         | inl lt ↦ let below = ltb-true now.position c lt in omega arith
-        | inr here ↦ let same = eqb-true c now.position (and_parts (c == now.position) (not (is_done sweep)) here).0 in omega arith
+        | inr here ↦ let same = eqb-true c now.position (and_parts _ _ here).0 in omega arith
       ],
     )
 
 -- to an async mutator an unswept cell is born black
 pub unswept_born : (looked : Stage) (position here c : ℕ) → async_fits looked stage.Sweep ≡ true
     → (looked ≡ stage.Sweep → position ≤ here) → here ≤ c → async_claim_colour_of looked position c ≡ colour.Black
-unswept_born stage.Idle position here c fits stale ahead = absurd cc
-unswept_born stage.Sync1 position here c fits stale ahead = absurd cc
-unswept_born stage.Clear position here c fits stale ahead = absurd cc
-unswept_born stage.Sync2 position here c fits stale ahead = absurd cc
 unswept_born stage.Trace position here c fits stale ahead = refl
 unswept_born stage.Sweep position here c fits stale ahead =
     let le = stale refl in
@@ -275,6 +271,7 @@ unswept_born stage.Sweep position here c fits stale ahead =
       | true ↦ λ lt. absurd (let below = ltb-true c position lt in omega arith)
       | false ↦ λ h. refl
     ] refl
+unswept_born _ position here c fits stale ahead = absurd cc
 
 pub ahead_black : (own : Status) (m now : Control) (c : ℕ) → IsStale own m now → status_fits now.stage own ≡ true
     → now.stage ≡ stage.Sweep → now.position ≤ c → claim_colour_of own m c ≡ colour.Black
@@ -301,14 +298,11 @@ born_alive own m now sweep c stale fits =
 -- where cells are cleared nobody is async
 pub cleared_not_async : (now : Stage) (cursor c : ℕ) (own : Status) → is_cleared now cursor c ≡ true
     → status_fits now own ≡ true → own ≢ status.Async
-cleared_not_async stage.Idle cursor c own h fits e = absurd cc
-cleared_not_async stage.Sync1 cursor c own h fits e = absurd cc
 cleared_not_async stage.Clear cursor c own h fits e =
     absurd (let g : status_fits stage.Clear status.Async ≡ true = subst (λ x. status_fits stage.Clear x ≡ true) e fits in cc)
 cleared_not_async stage.Sync2 cursor c own h fits e =
     absurd (let g : status_fits stage.Sync2 status.Async ≡ true = subst (λ x. status_fits stage.Sync2 x ≡ true) e fits in cc)
-cleared_not_async stage.Trace cursor c own h fits e = absurd cc
-cleared_not_async stage.Sweep cursor c own h fits e = absurd cc
+cleared_not_async _ cursor c own h fits e = absurd cc
 
 pub not_async_white : (own : Status) (m : Control) (c : ℕ) → own ≢ status.Async → claim_colour_of own m c ≡ colour.White
 not_async_white status.Async m c other = absurd (other refl)
@@ -320,8 +314,7 @@ pub traced_black : (own : Status) (m now : Control) (c : ℕ) → IsStale own m 
 traced_black status.Async m now c stale trace e =
     let same : m.stage ≡ stage.Trace = async_mode m.stage (subst (λ x. async_fits m.stage x ≡ true) trace stale.fits) in
     subst (λ x. async_claim_colour_of x m.position c ≡ colour.Black) (sym same) refl
-traced_black status.Sync1 m now c stale trace e = absurd cc
-traced_black status.Sync2 m now c stale trace e = absurd cc
+traced_black _ m now c stale trace e = absurd cc
 
 pub born_fits : (s : State) (i c : ℕ) (m : Control) → IsShaped s → IsConsistent s → is_in s i ≡ true
     → (own_of s i).mode ≡ Some m → BornFits s i c (claim_colour_of (presence_of s i).status m c)
@@ -342,17 +335,12 @@ born_fits s i c m range k inside has =
 -- The event.
 
 -- a claim of a cell that is not blue changes nothing
-pub set_same : {X : Type 0} (xs : List X) (i : ℕ) (d : X) → set xs i (get_or xs i d) ≡ xs
-set_same [] i d = refl
-set_same (x ∷ xs) zero d = refl
-set_same (x ∷ xs) (suc i) d = ap (λ ys. x ∷ ys) (set_same xs i d)
-
 pub claimed_same : (s : State) (i c : ℕ) (x : Colour) → IsConsistent s → colour_of s c ≡ x
     → IsConsistent (record s { colours = slice_set s.colours c x; owns = slice_set s.owns i (own_of s i) })
 claimed_same s i c x k e =
     let colours_same : slice_set s.colours c x ≡ s.colours
-    = subst (λ y. set s.colours c y ≡ s.colours) e (set_same s.colours c colour.Blue) in
-    let owns_same : slice_set s.owns i (own_of s i) ≡ s.owns = set_same s.owns i no_own in
+    = subst (λ y. set s.colours c y ≡ s.colours) e (set-get_or s.colours c colour.Blue) in
+    let owns_same : slice_set s.owns i (own_of s i) ≡ s.owns = set-get_or s.owns i no_own in
     subst (λ os. IsConsistent (record s { colours = slice_set s.colours c x; owns = os })) (sym owns_same)
     (subst (λ cs. IsConsistent (record s { colours = cs })) (sym colours_same) k)
 
@@ -370,9 +358,9 @@ claim_at s i c m colour.Black range k inside lt has e = claimed_same s i c colou
 pub claim_keeps : (s : State) (i c : ℕ) → IsShaped s → IsConsistent s → can s (event.Claim i c) ≡ true
     → IsConsistent (after s (event.Claim i c))
 claim_keeps s i c range k h =
-    let a = and_parts (is_in s i && has_mode s i && nat_lt c s.cells) (has_room s i) h in
-    let b = and_parts (is_in s i && has_mode s i) (nat_lt c s.cells) a.0 in
-    let d = and_parts (is_in s i) (has_mode s i) b.0 in
+    let a = and_parts _ _ h in
+    let b = and_parts _ _ a.0 in
+    let d = and_parts _ _ b.0 in
     let below = ltb-true c s.cells b.1 in
     let lt : c < length s.colours = subst (λ n. c < n) (sym range.cells_fit.colours_fit) below in
     elim (own_of s i).mode as (λ o. (own_of s i).mode ≡ o → is_some o ≡ true → IsConsistent (record s {

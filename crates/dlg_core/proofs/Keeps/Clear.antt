@@ -3,7 +3,7 @@
 -- ClearCell  a black cell becomes white. Every mutator is in sync1, so no mark counts, and outside the
 --            sweep white cells are as live as black ones.
 -- Anchor     the anchor is shaded, and is not white from now on.
-use Rattle.std.proofs.Common.{◌≡◌, ◌≢◌, ◌⊎◌, inl, inr, ℕ, true, false, nat_lt, ◌+◌, ◌<◌, arith, refl, sym, subst, ◌∙◌}
+use Rattle.std.proofs.Common.{◌≡◌, ◌≢◌, ◌⊎◌, inl, inr, ℕ, true, false, ◌+◌, ◌<◌, arith, refl, sym, subst, ◌∙◌}
 use Rattle.std.proofs.lemmas.Bool.{and_parts, ltb-true, lt-ltb, cases_lt}
 use Rattle.std.proofs.lemmas.List.Elements.{All-weaker}
 use Rattle.cell_words.specs.declared.colours.Colour.{Colour}
@@ -13,8 +13,7 @@ use Rattle.cell_words.specs.declared.presences.Status.{Status}
 use Rattle.cell_words.specs.declared.presences.Status.TheVariants as status
 use Rattle.core_machine.specs.declared.events.Event.TheVariants as event
 use Rattle.core_machine.specs.declared.progress.Sweeping.TheVariants as sweeping
-use Rattle.core_machine.specs.Handshakes.{at_stage}
-use Rattle.core_machine.specs.State.{State, colour_of, field_of, presence_of, own_in, all_answered}
+use Rattle.core_machine.specs.State.{State, colour_of, field_of, presence_of, own_in}
 use Rattle.core_machine.specs.Words.{cleared, same_stage}
 use Rattle.cell_words.specs.declared.fields.Field.TheVariants as field
 use Rattle.core_machine.specs.InRange.{IsShaped}
@@ -22,7 +21,8 @@ use Rattle.core_machine.specs.Next.{can, after}
 use Rattle.dlg_core.specs.Consistent.{IsConsistent, NoRawBlack}
 use Rattle.dlg_core.specs.Facts.{is_live, live, status_fits, marks_count, is_cleared, anchor_counts}
 use Rattle.dlg_core.proofs.Changes.Live.{live_facts, live_moves, not_sweeping, live_outside, other_stage, status_known}
-use Rattle.dlg_core.proofs.Changes.Shade.{shade_kept, sweeps}
+use Rattle.dlg_core.proofs.Changes.Pass.{pass_kept}
+use Rattle.dlg_core.proofs.Changes.Shade.{with_shade, shade_kept, sweeps}
 use Rattle.dlg_core.proofs.Each.{colour_each, colour_else}
 use Rattle.dlg_core.proofs.Keeps.Mark.{shaded_there}
 use Rattle.dlg_core.proofs.Truths.{same_stage_is}
@@ -37,9 +37,7 @@ cleared_not_black colour.Black e = absurd cc
 
 pub cleared_blue : (x : Colour) → cleared x ≡ colour.Blue → x ≡ colour.Blue
 cleared_blue colour.Blue e = refl
-cleared_blue colour.White e = absurd cc
-cleared_blue colour.Gray e = absurd cc
-cleared_blue colour.Black e = absurd cc
+cleared_blue _ e = absurd cc
 
 pub cleared_live : (x : Colour) → is_live (cleared x) false ≡ is_live x false
 cleared_live colour.Blue = refl
@@ -64,7 +62,7 @@ pub clear_keeps : (s : State) → IsShaped s → IsConsistent s → can s event.
     → IsConsistent (after s event.ClearCell)
 clear_keeps s range k h =
     let now : s.control.stage ≡ stage.Clear
-    = same_stage_is s.control.stage stage.Clear (and_parts (at_stage s stage.Clear) (nat_lt s.collector.cursor s.cells) h).0 in
+    = same_stage_is s.control.stage stage.Clear (and_parts _ _ h).0 in
     let t = after s event.ClearCell in
     let c = s.collector.cursor in
     let x = colour_of s c in
@@ -103,7 +101,7 @@ clear_keeps s range k h =
       raw_not_black = (λ i sync2. All-weaker (NoRawBlack s.colours s.rows) (NoRawBlack t.colours s.rows)
           (λ p g raw black. g raw (black_was p.cell black)) (own_in s.owns i).held (k.raw_not_black i sync2));
       cleared = (λ d g. colour_else (λ e y. is_cleared s.control.stage (c + 1) e ≡ true → y ≢ colour.Black) s.colours c (cleared x)
-          (subst (λ n. c < n) (sym range.cells_fit.colours_fit) (ltb-true c s.cells (and_parts (at_stage s stage.Clear) (nat_lt s.collector.cursor s.cells) h).1))
+          (subst (λ n. c < n) (sym range.cells_fit.colours_fit) (ltb-true c s.cells (and_parts _ _ h).1))
           (λ _. cleared_not_black x)
           (λ e other below black. elim (below_or_here e c (ltb-true e (c + 1) (subst (λ y. is_cleared y (c + 1) e ≡ true) now below))) [
             | inl lt ↦ k.cleared e (subst (λ y. is_cleared y c e ≡ true) (sym now) (lt-ltb e c lt)) black
@@ -123,30 +121,16 @@ clear_keeps s range k h =
 pub anchor_keeps : (s : State) → IsShaped s → IsConsistent s → can s event.Anchor ≡ true → IsConsistent (after s event.Anchor)
 anchor_keeps s range k h =
     let now : s.control.stage ≡ stage.Sync2
-    = same_stage_is s.control.stage stage.Sync2 (and_parts (at_stage s stage.Sync2) (all_answered s) h).0 in
+    = same_stage_is s.control.stage stage.Sync2 (and_parts _ _ h).0 in
+    let t = with_shade s 0 in
     let shady = shade_kept s 0 range k k.anchor_live (λ e. absurd cc) in
-    record {
-      statuses = shady.statuses;
-      answered = shady.answered;
-      modes = shady.modes;
-      out = shady.out;
-      marks = shady.marks;
-      anchor_box = shady.anchor_box;
-      kinds = shady.kinds;
-      blue_null = shady.blue_null;
-      anchor_live = shady.anchor_live;
-      held_live = shady.held_live;
+    pass_kept t t.collector.answered true t.collector.cursor t.collector.clean t.collector.scan shady record {
+      answers = shady.answered;
       child_live = shady.child_live;
-      names_live = shady.names_live;
-      raw_once = shady.raw_once;
-      raw_not_black = shady.raw_not_black;
       cleared = shady.cleared;
       anchor_marked = (λ g. shaded_there s 0);
       traced = shady.traced;
       clean_pass = shady.clean_pass;
       pass_waits = shady.pass_waits;
       scans = shady.scans;
-      unswept = shady.unswept;
-      wipes = shady.wipes;
-      found_black = shady.found_black;
     }

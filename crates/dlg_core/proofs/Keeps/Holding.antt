@@ -5,9 +5,9 @@
 --        no news to a tracing collector: by the colour of the cell that was read a black cell names
 --        it, or a scanned field does, or it is a white cell that is due itself.
 -- Keep   places are copied with their marks, and none is new.
-use Rattle.std.proofs.Common.{◌≡◌, ℕ, Bool, true, false, ◌&&◌, ◌||◌, ◌==◌, ◌+◌, ◌<◌, ◌⊎◌, inl, inr, List, [], ◌∷◌, ◌++◌, map, take, drop, length, Option, Some, None, nat_lt, nat_le, eq-eqb, refl, sym, subst, ap, arith, ◌∙◌}
+use Rattle.std.proofs.Common.{◌≡◌, ℕ, Bool, true, false, ◌||◌, ◌==◌, ◌<◌, ◌⊎◌, inl, inr, List, [], ◌∷◌, ◌++◌, map, take, drop, length, Option, Some, None, eq-eqb, refl, sym, subst, ap, arith, ◌∙◌}
 use Rattle.std.specs.List.{All}
-use Rattle.std.proofs.lemmas.Bool.{and_parts, or_cases, cases_lt, ltb-true, eqb-true}
+use Rattle.std.proofs.lemmas.Bool.{and_parts, or_cases, cases_lt, ltb-true, eqb-true, not-false}
 use Rattle.std.proofs.lemmas.List.{get_or_past}
 use Rattle.std.proofs.lemmas.List.Elements.{All-nil, All-cons, All-map, All-weaker, All-push, All-take, All-drop, All-append, All-get_or}
 use Rattle.cell_words.specs.declared.colours.Colour.{Colour}
@@ -19,8 +19,8 @@ use Rattle.cell_words.specs.declared.presences.Status.TheVariants as status
 use Rattle.core_machine.specs.declared.events.Event.TheVariants as event
 use Rattle.core_machine.specs.declared.places.Held.{Held}
 use Rattle.core_machine.specs.declared.progress.Scanning.{Scanning}
-use Rattle.core_machine.specs.Operations.{is_in, is_place, has_room}
-use Rattle.core_machine.specs.State.{State, presence_of, own_of, held_of, room_of, presence_in, no_presence, colour_of, field_of, target_of}
+use Rattle.core_machine.specs.Operations.{is_in}
+use Rattle.core_machine.specs.State.{State, presence_of, own_of, held_of, presence_in, no_presence, colour_of, field_of, target_of}
 use Rattle.core_machine.specs.Words.{is_raw_kind}
 use Rattle.cell_words.specs.declared.fields.Field.{Field}
 use Rattle.cell_words.specs.declared.fields.Field.TheVariants as field
@@ -33,7 +33,7 @@ use Rattle.dlg_core.specs.Facts.{status_fits, mode_fits, live, is_open, scanned_
 use Rattle.dlg_core.proofs.Changes.Own.{own_kept, OwnFits}
 use Rattle.dlg_core.proofs.Each.{all_held}
 use Rattle.dlg_core.proofs.Safety.{live_not_blue}
-use Rattle.dlg_core.proofs.Truths.{or_here, or_later, not_false}
+use Rattle.dlg_core.proofs.Truths.{or_here, or_later}
 
 -- a mutator that is in is one that there is
 pub inside_below : (s : State) (i : ℕ) → IsShaped s → is_in s i ≡ true → i < s.mutators
@@ -57,23 +57,15 @@ none_marked colours (p ∷ ps) = All-cons (MarkStands colours) (unmark p) (map u
 -- a status that fits a stage fits a look at it
 pub look_fits : (now : Stage) (own : Status) → status_fits now own ≡ true → mode_fits own now now ≡ true
 look_fits stage.Idle status.Async h = refl
-look_fits stage.Idle status.Sync1 h = absurd cc
-look_fits stage.Idle status.Sync2 h = absurd cc
 look_fits stage.Sync1 status.Async h = refl
 look_fits stage.Sync1 status.Sync1 h = refl
-look_fits stage.Sync1 status.Sync2 h = absurd cc
-look_fits stage.Clear status.Async h = absurd cc
 look_fits stage.Clear status.Sync1 h = refl
-look_fits stage.Clear status.Sync2 h = absurd cc
-look_fits stage.Sync2 status.Async h = absurd cc
 look_fits stage.Sync2 status.Sync1 h = refl
 look_fits stage.Sync2 status.Sync2 h = refl
 look_fits stage.Trace status.Async h = refl
-look_fits stage.Trace status.Sync1 h = absurd cc
 look_fits stage.Trace status.Sync2 h = refl
 look_fits stage.Sweep status.Async h = refl
-look_fits stage.Sweep status.Sync1 h = absurd cc
-look_fits stage.Sweep status.Sync2 h = absurd cc
+look_fits _ _ h = absurd cc
 
 pub look_keeps : (s : State) (i : ℕ) → IsShaped s → IsConsistent s → can s (event.Look i) ≡ true → IsConsistent (after s (event.Look i))
 look_keeps s i range k inside =
@@ -124,7 +116,7 @@ pub shut_is_scanned : (scan : Option Scanning) (c f : ℕ) → is_open scan c f 
     → (x : Scanning) × (scan ≡ Some x) × (c ≡ x.cell) × (f < scanned_count x)
 shut_is_scanned None c f h = absurd cc
 shut_is_scanned (Some x) c f h =
-    let r = and_parts (c == x.cell) (nat_lt f (scanned_count x)) (not_false _ h) in
+    let r = and_parts _ _ (not-false _ h) in
     (x, refl, eqb-true c x.cell r.0, ltb-true f (scanned_count x) r.1)
 
 -- what a field of a cell names is not cut off, where the cell is live and is itself not cut off
@@ -190,9 +182,9 @@ read_fits s i place f (field.Cell w) k inside lt e =
 pub read_keeps : (s : State) (i place f : ℕ) → IsConsistent s
     → can s (event.Read i place f) ≡ true → IsConsistent (after s (event.Read i place f))
 read_keeps s i place f k h =
-    let room = and_parts (is_in s i && is_place s i place && nat_le f 4) (has_room s i) h in
-    let four = and_parts (is_in s i && is_place s i place) (nat_le f 4) room.0 in
-    let parts = and_parts (is_in s i) (is_place s i place) four.0 in
+    let room = and_parts _ _ h in
+    let four = and_parts _ _ room.0 in
+    let parts = and_parts _ _ four.0 in
     let lt = ltb-true place (length (held_of s i)) parts.1 in
     own_kept s i (having_read (own_of s i) (field_of s (target_of s i place) f)) k
     (read_fits s i place f (field_of s (target_of s i place) f) k parts.0 lt refl)
@@ -219,11 +211,10 @@ holds_kept held count from copies c h =
 
 pub keep_inside : (s : State) (i count from copies : ℕ) → can s (event.Keep i count from copies) ≡ true → is_in s i ≡ true
 keep_inside s i count from copies h =
-    let a = and_parts (is_in s i && nat_le 1 count && nat_le count (length (held_of s i)) && nat_le (from + copies) (length (held_of s i)))
-    (nat_le (count + copies) (room_of s i)) h in
-    let b = and_parts (is_in s i && nat_le 1 count && nat_le count (length (held_of s i))) (nat_le (from + copies) (length (held_of s i))) a.0 in
-    let c = and_parts (is_in s i && nat_le 1 count) (nat_le count (length (held_of s i))) b.0 in
-    (and_parts (is_in s i) (nat_le 1 count) c.0).0
+    let a = and_parts _ _ h in
+    let b = and_parts _ _ a.0 in
+    let c = and_parts _ _ b.0 in
+    (and_parts _ _ c.0).0
 
 pub keep_keeps : (s : State) (i count from copies : ℕ) → IsConsistent s
     → can s (event.Keep i count from copies) ≡ true → IsConsistent (after s (event.Keep i count from copies))

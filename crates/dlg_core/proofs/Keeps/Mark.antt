@@ -3,7 +3,7 @@
 -- What thinks is the clean pass. A cell that becomes gray behind the cursor of a clean pass is no harm
 -- where a gray cell is ahead. Were there no gray cell at all, then no child either, so the set of all
 -- white cells would be cut off; but this white cell is due, since an async mutator holds it.
-use Rattle.std.proofs.Common.{◌≡◌, ◌≢◌, ◌==◌, ◌&&◌, ◌||◌, if◌then◌else◌, inl, inr, ℕ, zero, suc, Bool, true, false, List, [], ◌∷◌, map, length, get_or, Some, None, ◌<◌, ◌≤◌, refl, sym, subst, ◌∙◌, ap, arith, eq-eqb}
+use Rattle.std.proofs.Common.{◌≡◌, ◌≢◌, ◌==◌, ◌||◌, if◌then◌else◌, inl, inr, ℕ, zero, suc, Bool, true, false, List, [], ◌∷◌, map, length, get_or, Some, None, ◌<◌, ◌≤◌, refl, sym, subst, ◌∙◌, ap, arith, eq-eqb}
 use Rattle.std.specs.List.{All, list_any}
 use Rattle.std.proofs.lemmas.Bool.{and_parts, or_cases, ltb-true, eqb-true, cases_lt}
 use Rattle.std.proofs.lemmas.List.{get_or-set_same, get_or_past, set_past}
@@ -14,9 +14,9 @@ use Rattle.cell_words.specs.declared.presences.Status.TheVariants as status
 use Rattle.cell_words.specs.Modes.{requested_of}
 use Rattle.core_machine.specs.declared.events.Event.TheVariants as event
 use Rattle.core_machine.specs.declared.places.Held.{Held}
-use Rattle.core_machine.specs.Operations.{is_in, is_place, own_barrier}
+use Rattle.core_machine.specs.Operations.{is_in}
 use Rattle.core_machine.specs.State.{State, colour_in, colour_of, presence_of, own_of, held_of, target_of}
-use Rattle.core_machine.specs.Words.{shaded, is_gray, is_handshake, marks_some}
+use Rattle.core_machine.specs.Words.{shaded, is_gray, is_handshake}
 use Rattle.core_machine.specs.InRange.{IsShaped}
 use Rattle.core_machine.specs.Next.{can, after}
 use Rattle.core_machine.specs.Own.{marking}
@@ -78,10 +78,8 @@ shaded_there s c = elim (cases_lt c (length s.colours)) [
 -- The clean pass.
 
 pub is_gray_is : (x : Colour) → is_gray x ≡ true → x ≡ colour.Gray
-is_gray_is colour.Blue h = absurd cc
-is_gray_is colour.White h = absurd cc
 is_gray_is colour.Gray h = refl
-is_gray_is colour.Black h = absurd cc
+is_gray_is _ h = absurd cc
 
 -- a list with a gray cell has it at some place, and one without has none
 pub gray_at : (colours : List Colour) → list_any is_gray colours ≡ true → (d : ℕ) × (colour_in colours d ≡ colour.Gray)
@@ -103,8 +101,8 @@ gray_nowhere (x ∷ xs) h (suc d) e = gray_nowhere xs (neither (is_gray x) (list
 -- who is among those that have all answered has answered
 pub one_of_all : (answered : List Bool) (i : ℕ) → all_in answered ≡ true → get_or answered i true ≡ true
 one_of_all [] i h = refl
-one_of_all (a ∷ rest) zero h = (and_parts a (all_in rest) h).0
-one_of_all (a ∷ rest) (suc i) h = one_of_all rest i (and_parts a (all_in rest) h).1
+one_of_all (a ∷ rest) zero h = (and_parts _ _ h).0
+one_of_all (a ∷ rest) (suc i) h = one_of_all rest i (and_parts _ _ h).1
 
 pub is_white : Colour → Bool
 is_white colour.Blue = false
@@ -114,10 +112,8 @@ is_white colour.Black = false
 
 pub is_white_is : (x : Colour) → is_white x ≡ true → x ≡ colour.White
 unfolding is_white
-is_white_is colour.Blue h = absurd cc
 is_white_is colour.White h = refl
-is_white_is colour.Gray h = absurd cc
-is_white_is colour.Black h = absurd cc
+is_white_is _ h = absurd cc
 
 pub white_is_white : (x : Colour) → x ≡ colour.White → is_white x ≡ true
 unfolding is_white
@@ -188,7 +184,7 @@ holds_place (p ∷ ps) (suc place) lt = or_later (p.cell == cell_at ps place) _ 
 pub mark_keeps : (s : State) (i place : ℕ) → IsShaped s → IsConsistent s → can s (event.Mark i place) ≡ true
     → IsConsistent (after s (event.Mark i place))
 mark_keeps s i place range k h =
-    let parts = and_parts (is_in s i) (is_place s i place) (and_parts (is_in s i && is_place s i place) (marks_some (own_barrier s i)) h).0 in
+    let parts = and_parts _ _ (and_parts _ _ h).0 in
     let lt = ltb-true place (length (held_of s i)) parts.1 in
     let c = target_of s i place in
     let held = held_of s i in

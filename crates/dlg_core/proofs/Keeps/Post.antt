@@ -8,7 +8,7 @@
 -- Sweep         the pass was clean and has come to the end, so no cell is gray, and the white cells are
 --               cut off. None of them is due: what is held and what black cells name is black.
 -- Idle          the sweep has come to the end, so no cell is unswept.
-use Rattle.std.proofs.Common.{◌≡◌, ◌≢◌, ◌==◌, ◌&&◌, ◌||◌, inl, inr, ℕ, zero, suc, Bool, true, false, nat_lt, List, [], ◌∷◌, Option, Some, None, is_none, length, get_or, ◌+◌, ◌<◌, ◌≤◌, arith, refl, sym, subst, ◌∙◌, ap, eq-eqb}
+use Rattle.std.proofs.Common.{◌≡◌, ◌≢◌, ◌==◌, ◌&&◌, ◌||◌, inl, inr, ℕ, zero, suc, Bool, true, false, nat_lt, List, [], ◌∷◌, Option, Some, None, length, get_or, ◌+◌, ◌<◌, ◌≤◌, arith, refl, sym, subst, ◌∙◌, ap, eq-eqb}
 use Rattle.std.specs.List.{All}
 use Rattle.std.proofs.lemmas.Bool.{and_parts, and_from, ltb-true, lt-ltb, eqb-true, cases_lt}
 use Rattle.std.proofs.lemmas.List.{get_or_past}
@@ -26,8 +26,7 @@ use Rattle.core_machine.specs.declared.progress.Scanning.{Scanning}
 use Rattle.core_machine.specs.declared.progress.Sweeping.{Sweeping}
 use Rattle.core_machine.specs.declared.progress.Sweeping.TheVariants as sweeping
 use Rattle.core_machine.specs.Collector.{Collector, nobody_answered}
-use Rattle.core_machine.specs.Handshakes.{at_stage, at_end}
-use Rattle.core_machine.specs.State.{State, colour_of, presence_of, own_of, held_of, all_answered}
+use Rattle.core_machine.specs.State.{State, colour_of, presence_of, own_of, held_of}
 use Rattle.core_machine.specs.Words.{is_handshake, same_stage}
 use Rattle.core_machine.specs.InRange.{IsShaped, StageFits, SweepFits}
 use Rattle.core_machine.specs.Next.{can, after}
@@ -46,51 +45,31 @@ use Rattle.core_machine.specs.Places.{holds}
 
 pub idle_to_sync1 : (looked : Stage) → async_fits looked stage.Idle ≡ true → async_fits looked stage.Sync1 ≡ true
 idle_to_sync1 stage.Idle h = refl
-idle_to_sync1 stage.Sync1 h = absurd cc
-idle_to_sync1 stage.Clear h = absurd cc
-idle_to_sync1 stage.Sync2 h = absurd cc
 idle_to_sync1 stage.Trace h = refl
 idle_to_sync1 stage.Sweep h = refl
+idle_to_sync1 _ h = absurd cc
 
 pub sync1_to_clear : (looked : Stage) → sync1_fits looked stage.Sync1 ≡ true → sync1_fits looked stage.Clear ≡ true
-sync1_to_clear stage.Idle h = absurd cc
 sync1_to_clear stage.Sync1 h = refl
-sync1_to_clear stage.Clear h = absurd cc
-sync1_to_clear stage.Sync2 h = absurd cc
-sync1_to_clear stage.Trace h = absurd cc
-sync1_to_clear stage.Sweep h = absurd cc
+sync1_to_clear _ h = absurd cc
 
 pub clear_to_sync2 : (looked : Stage) → sync1_fits looked stage.Clear ≡ true → sync1_fits looked stage.Sync2 ≡ true
-clear_to_sync2 stage.Idle h = absurd cc
 clear_to_sync2 stage.Sync1 h = refl
 clear_to_sync2 stage.Clear h = refl
-clear_to_sync2 stage.Sync2 h = absurd cc
-clear_to_sync2 stage.Trace h = absurd cc
-clear_to_sync2 stage.Sweep h = absurd cc
+clear_to_sync2 _ h = absurd cc
 
 pub sync2_to_trace : (looked : Stage) → sync2_fits looked stage.Sync2 ≡ true → sync2_fits looked stage.Trace ≡ true
-sync2_to_trace stage.Idle h = absurd cc
-sync2_to_trace stage.Sync1 h = absurd cc
-sync2_to_trace stage.Clear h = absurd cc
 sync2_to_trace stage.Sync2 h = refl
-sync2_to_trace stage.Trace h = absurd cc
-sync2_to_trace stage.Sweep h = absurd cc
+sync2_to_trace _ h = absurd cc
 
 pub trace_to_sweep : (looked : Stage) → async_fits looked stage.Trace ≡ true → async_fits looked stage.Sweep ≡ true
-trace_to_sweep stage.Idle h = absurd cc
-trace_to_sweep stage.Sync1 h = absurd cc
-trace_to_sweep stage.Clear h = absurd cc
-trace_to_sweep stage.Sync2 h = absurd cc
 trace_to_sweep stage.Trace h = refl
-trace_to_sweep stage.Sweep h = absurd cc
+trace_to_sweep _ h = absurd cc
 
 pub sweep_to_idle : (looked : Stage) → async_fits looked stage.Sweep ≡ true → async_fits looked stage.Idle ≡ true
-sweep_to_idle stage.Idle h = absurd cc
-sweep_to_idle stage.Sync1 h = absurd cc
-sweep_to_idle stage.Clear h = absurd cc
-sweep_to_idle stage.Sync2 h = absurd cc
 sweep_to_idle stage.Trace h = refl
 sweep_to_idle stage.Sweep h = refl
+sweep_to_idle _ h = absurd cc
 
 -- Everybody has the status that the stage requests.
 
@@ -104,17 +83,9 @@ settled_by_answers s k now all i lt = k.answered i lt now (one_of_all s.collecto
 -- .. since there is nothing to answer
 pub settled_at : (now : Stage) (own : Status) → is_handshake now ≡ false → status_fits now own ≡ true → own ≡ requested_of now
 settled_at stage.Idle status.Async h fits = refl
-settled_at stage.Idle status.Sync1 h fits = absurd cc
-settled_at stage.Idle status.Sync2 h fits = absurd cc
-settled_at stage.Sync1 own h fits = absurd cc
-settled_at stage.Clear status.Async h fits = absurd cc
 settled_at stage.Clear status.Sync1 h fits = refl
-settled_at stage.Clear status.Sync2 h fits = absurd cc
-settled_at stage.Sync2 own h fits = absurd cc
-settled_at stage.Trace own h fits = absurd cc
 settled_at stage.Sweep status.Async h fits = refl
-settled_at stage.Sweep status.Sync1 h fits = absurd cc
-settled_at stage.Sweep status.Sync2 h fits = absurd cc
+settled_at _ _ h fits = absurd cc
 
 pub settled_quiet : (s : State) → IsConsistent s → is_handshake s.control.stage ≡ false → IsSettled s
 settled_quiet s k h i lt = settled_at s.control.stage (presence_of s i).status h (k.statuses i lt)
@@ -242,7 +213,7 @@ no_scan s k other x e = other (k.scans x e).traces
 pub post_sync1 : (s : State) → IsShaped s → IsConsistent s → can s (event.Post stage.Sync1) ≡ true
     → IsConsistent (after s (event.Post stage.Sync1))
 post_sync1 s range k h =
-    let now = same_stage_is s.control.stage stage.Idle (and_parts (at_stage s stage.Idle) (nat_lt s.control.cycles 4000000000) h).0 in
+    let now = same_stage_is s.control.stage stage.Idle (and_parts _ _ h).0 in
     let outside = other_stage s.control.stage stage.Idle now refl in
     let settled = settled_quiet s k (ap is_handshake now) in
     let asks : requested_of s.control.stage ≡ status.Async = ap requested_of now in
@@ -274,7 +245,7 @@ post_sync1 s range k h =
 pub post_clear : (s : State) → IsShaped s → IsConsistent s → can s (event.Post stage.Clear) ≡ true
     → IsConsistent (after s (event.Post stage.Clear))
 post_clear s range k h =
-    let g = and_parts (at_stage s stage.Sync1) (all_answered s) h in
+    let g = and_parts _ _ h in
     let now = same_stage_is s.control.stage stage.Sync1 g.0 in
     let outside = other_stage s.control.stage stage.Sync1 now refl in
     let settled = settled_by_answers s k (ap is_handshake now) g.1 in
@@ -307,7 +278,7 @@ post_clear s range k h =
 pub post_sync2 : (s : State) → IsShaped s → IsConsistent s → can s (event.Post stage.Sync2) ≡ true
     → IsConsistent (after s (event.Post stage.Sync2))
 post_sync2 s range k h =
-    let g = and_parts (at_stage s stage.Clear) (at_end s) h in
+    let g = and_parts _ _ h in
     let now = same_stage_is s.control.stage stage.Clear g.0 in
     let ended : s.collector.cursor ≡ s.cells = eqb-true s.collector.cursor s.cells g.1 in
     let outside = other_stage s.control.stage stage.Clear now refl in
@@ -347,8 +318,8 @@ post_sync2 s range k h =
 pub post_trace : (s : State) → IsShaped s → IsConsistent s → can s (event.Post stage.Trace) ≡ true
     → IsConsistent (after s (event.Post stage.Trace))
 post_trace s range k h =
-    let g = and_parts (at_stage s stage.Sync2 && all_answered s) s.collector.anchor_marked h in
-    let g2 = and_parts (at_stage s stage.Sync2) (all_answered s) g.0 in
+    let g = and_parts _ _ h in
+    let g2 = and_parts _ _ g.0 in
     let now = same_stage_is s.control.stage stage.Sync2 g2.0 in
     let outside = other_stage s.control.stage stage.Sync2 now refl in
     let settled = settled_by_answers s k (ap is_handshake now) g2.1 in
@@ -397,10 +368,9 @@ only_black colour.Black ahead l w g = refl
 
 -- what is not gray and stays live through the whole sweep is black
 pub black_alone : (x : Colour) → is_live x true ≡ true → x ≢ colour.Gray → x ≡ colour.Black
-black_alone colour.Blue l g = absurd cc
-black_alone colour.White l g = absurd cc
 black_alone colour.Gray l g = absurd (g refl)
 black_alone colour.Black l g = refl
+black_alone _ l g = absurd cc
 
 -- at its start the sweep has every cell ahead
 pub all_ahead : (control : Control) (c : ℕ) → control.stage ≡ stage.Sweep → control.position ≡ 0
@@ -414,25 +384,34 @@ all_ahead control c now start =
           (and_from (c == control.position) true (eq-eqb c control.position (omega arith)) refl)
     ])
 
-pub post_sweep : (s : State) → IsShaped s → IsConsistent s → can s (event.Post stage.Sweep) ≡ true
-    → IsConsistent (after s (event.Post stage.Sweep))
-post_sweep s range k h =
-    let g = and_parts (at_stage s stage.Trace && all_answered s && is_none s.collector.scan && at_end s) s.collector.clean h in
-    let g2 = and_parts (at_stage s stage.Trace && all_answered s && is_none s.collector.scan) (at_end s) g.0 in
-    let g3 = and_parts (at_stage s stage.Trace && all_answered s) (is_none s.collector.scan) g2.0 in
-    let g4 = and_parts (at_stage s stage.Trace) (all_answered s) g3.0 in
-    let now = same_stage_is s.control.stage stage.Trace g4.0 in
-    let rests = no_scan_is s.collector.scan g3.1 in
+-- a clean pass that has come to the end leaves no cell gray
+pub no_gray_at_end : (s : State) → IsShaped s → IsConsistent s → can s (event.Post stage.Sweep) ≡ true
+    → (c : ℕ) → colour_of s c ≢ colour.Gray
+no_gray_at_end s range k h c gray =
+    let g = and_parts _ _ h in
+    let g2 = and_parts _ _ g.0 in
+    let g3 = and_parts _ _ g2.0 in
+    let now = same_stage_is s.control.stage stage.Trace (and_parts _ _ g3.0).0 in
     let ended : s.collector.cursor ≡ s.cells = eqb-true s.collector.cursor s.cells g2.1 in
-    let settled = settled_by_answers s k (ap is_handshake now) g4.1 in
-    let asks : requested_of s.control.stage ≡ status.Async = ap requested_of now in
-    let later : Control = record s.control { stage = stage.Sweep; position = 0 } in
-    let no_gray : (c : ℕ) → colour_of s c ≢ colour.Gray = (λ c gray. absurd (
     let r = k.clean_pass now g.1 c gray in
     let le = r.1 in
     let fit = range.cells_fit.colours_fit in
     let blue : colour_of s r.0 ≡ colour.Blue = get_or_past s.colours r.0 colour.Blue (omega arith) in
-    let is_gray_there = r.2 in cc)) in
+    let is_gray_there = r.2 in cc
+
+pub post_sweep : (s : State) → IsShaped s → IsConsistent s → can s (event.Post stage.Sweep) ≡ true
+    → IsConsistent (after s (event.Post stage.Sweep))
+post_sweep s range k h =
+    let g = and_parts _ _ h in
+    let g2 = and_parts _ _ g.0 in
+    let g3 = and_parts _ _ g2.0 in
+    let g4 = and_parts _ _ g3.0 in
+    let now = same_stage_is s.control.stage stage.Trace g4.0 in
+    let rests = no_scan_is s.collector.scan g3.1 in
+    let settled = settled_by_answers s k (ap is_handshake now) g4.1 in
+    let asks : requested_of s.control.stage ≡ status.Async = ap requested_of now in
+    let later : Control = record s.control { stage = stage.Sweep; position = 0 } in
+    let no_gray : (c : ℕ) → colour_of s c ≢ colour.Gray = no_gray_at_end s range k h in
     let white : ℕ → Bool = (λ c. is_white (colour_of s c)) in
     let due = k.traced now white (white_cut_off s k no_gray) in
     let not_white : (c : ℕ) → white c ≡ false → colour_of s c ≢ colour.White
@@ -500,7 +479,7 @@ none_ahead control sweep c lt =
 pub post_idle : (s : State) → IsShaped s → IsConsistent s → can s (event.Post stage.Idle) ≡ true
     → IsConsistent (after s (event.Post stage.Idle))
 post_idle s range k h =
-    let g = and_parts (at_stage s stage.Sweep) (s.control.position == s.cells) h in
+    let g = and_parts _ _ h in
     let now = same_stage_is s.control.stage stage.Sweep g.0 in
     let ended : s.control.position ≡ s.cells = eqb-true s.control.position s.cells g.1 in
     let settled = settled_quiet s k (ap is_handshake now) in

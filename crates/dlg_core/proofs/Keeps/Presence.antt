@@ -6,7 +6,7 @@
 -- Over   only who is out ends for good.
 use Rattle.std.proofs.Common.{◌≡◌, ◌≢◌, ◌==◌, inl, inr, ℕ, Bool, true, false, not, List, [], ◌<◌, length, None, refl, sym, subst, ◌∙◌, ap}
 use Rattle.std.specs.Prelude.{slice_set}
-use Rattle.std.proofs.lemmas.Bool.{and_parts, or_cases, eqb-true, cases_lt}
+use Rattle.std.proofs.lemmas.Bool.{and_parts, or_cases, eqb-true, cases_lt, not-true}
 use Rattle.std.proofs.lemmas.List.{get_or-set_same, get_or_past, set_past}
 use Rattle.std.proofs.lemmas.List.Elements.{All-nil, All-cons}
 use Rattle.cell_words.specs.declared.colours.Colour.TheVariants as colour
@@ -26,7 +26,6 @@ use Rattle.dlg_core.specs.Consistent.{IsConsistent, IsCutOff, MarkStands, NoRawB
 use Rattle.dlg_core.specs.Facts.{live, anchor_counts}
 use Rattle.dlg_core.proofs.Changes.Own.{own_kept, with_own}
 use Rattle.dlg_core.proofs.Changes.Presence.{presence_kept, with_presence, same_statuses}
-use Rattle.dlg_core.proofs.Truths.{not_true}
 
 -- a box is not raw
 pub box_not_raw : (x : Field) → is_box_kind x ≡ true → is_raw_kind x ≡ false
@@ -116,5 +115,5 @@ end_keeps s i k inside =
 pub over_keeps : (s : State) (i : ℕ) → IsConsistent s → can s (event.Over i) ≡ true
     → IsConsistent (after s (event.Over i))
 over_keeps s i k h =
-    let outside = not_true (presence_of s i).inside (and_parts (not (presence_of s i).inside) (not (presence_of s i).over) h).0 in
+    let outside = not-true (presence_of s i).inside (and_parts _ _ h).0 in
     presence_kept s i (record (presence_of s i) { over = true }) k refl (λ o. k.out i outside)

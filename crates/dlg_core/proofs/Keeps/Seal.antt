@@ -2,7 +2,7 @@
 --
 -- The cell is live, so neither blue nor being wiped. No edge comes or goes, since null is no cell and
 -- neither is a kind. A raw cell less is no harm to anybody.
-use Rattle.std.proofs.Common.{◌≡◌, ◌≢◌, ◌&&◌, ℕ, true, false, length, ◌<◌, refl, sym, subst}
+use Rattle.std.proofs.Common.{◌≡◌, ◌≢◌, ℕ, true, false, length, ◌<◌, refl, sym, subst}
 use Rattle.std.proofs.lemmas.Bool.{and_parts, ltb-true}
 use Rattle.std.proofs.lemmas.List.Elements.{All-weaker}
 use Rattle.cell_words.specs.declared.colours.Colour.TheVariants.{Blue}
@@ -11,7 +11,6 @@ use Rattle.cell_words.specs.declared.fields.Field.TheVariants as field
 use Rattle.cell_words.specs.declared.fields.Kind.{Kind}
 use Rattle.cell_words.specs.declared.fields.Kind.TheVariants as kind
 use Rattle.core_machine.specs.declared.events.Event.TheVariants as event
-use Rattle.core_machine.specs.Operations.{is_in, is_place}
 use Rattle.core_machine.specs.State.{State, colour_of, field_of, own_in, held_of, target_of, is_raw}
 use Rattle.core_machine.specs.Words.{is_raw_kind, is_box_kind, kind_field}
 use Rattle.core_machine.specs.InRange.{IsShaped}
@@ -116,8 +115,8 @@ sealed_kept s c x range k alive raw =
 pub seal_keeps : (s : State) (i place : ℕ) (x : Kind) → IsShaped s → IsConsistent s → can s (event.Seal i place x) ≡ true
     → IsConsistent (after s (event.Seal i place x))
 seal_keeps s i place x range k h =
-    let a = and_parts (is_in s i && is_place s i place) (is_raw s (target_of s i place)) h in
-    let b = and_parts (is_in s i) (is_place s i place) a.0 in
+    let a = and_parts _ _ h in
+    let b = and_parts _ _ a.0 in
     sealed_kept s (target_of s i place) x range k
     (at_place (λ d. live s.colours s.control s.collector.sweep d ≡ true) (held_of s i) place
     (ltb-true place (length (held_of s i)) b.1) (k.held_live i)) a.1

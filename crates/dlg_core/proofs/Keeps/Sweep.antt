@@ -5,9 +5,9 @@
 -- Free       it has null fields by now, and was not live before it is blue.
 -- Whiten     a black cell that is unswept was live, and a white one that is swept is.
 -- Advance    the next cell is unswept as it was.
-use Rattle.std.proofs.Common.{◌≡◌, ◌≢◌, ◌==◌, ◌&&◌, ◌||◌, inl, inr, ℕ, Bool, true, false, not, nat_lt, List, [], length, get_or, slice_index, ◌+◌, ◌<◌, ◌≤◌, arith, refl, sym, subst, ◌∙◌, ap, eq-eqb}
+use Rattle.std.proofs.Common.{◌≡◌, ◌≢◌, ◌==◌, ◌&&◌, ◌||◌, inl, inr, ℕ, Bool, true, false, not, nat_lt, List, [], length, get_or, slice_index, ◌+◌, ◌<◌, arith, refl, sym, subst, ◌∙◌, ap, eq-eqb}
 use Rattle.std.specs.Prelude.{slice_set}
-use Rattle.std.proofs.lemmas.Bool.{and_parts, and_from, ltb-true, lt-ltb, eqb-true, cases_lt}
+use Rattle.std.proofs.lemmas.Bool.{and_parts, and_from, ltb-true, lt-ltb, le-ltb, ne_eqb, eqb-true, cases_lt, cases_eq}
 use Rattle.std.proofs.lemmas.List.{get_or-set_same}
 use Rattle.cell_words.specs.declared.colours.Colour.{Colour}
 use Rattle.cell_words.specs.declared.colours.Colour.TheVariants as colour
@@ -18,7 +18,6 @@ use Rattle.core_machine.specs.declared.events.Event.TheVariants as event
 use Rattle.core_machine.specs.declared.progress.Sweeping.{Sweeping}
 use Rattle.core_machine.specs.declared.progress.Sweeping.TheVariants as sweeping
 use Rattle.core_machine.specs.Collector.{sweep_of, wiped}
-use Rattle.core_machine.specs.Handshakes.{at_stage}
 use Rattle.core_machine.specs.State.{State, colour_in, colour_of, field_in, field_of, row_in, own_in, set_field}
 use Rattle.core_machine.specs.Sweep.{is_done, is_fresh, may_wipe, may_free, is_black_found, wiped_count}
 use Rattle.core_machine.specs.Words.{is_gray, is_raw_kind, is_box_kind, same_stage}
@@ -58,35 +57,25 @@ word_step s sweep k now same less wipes found = record {
 
 pub fresh_is : (sweep : Sweeping) → is_fresh sweep ≡ true → sweep ≡ sweeping.Fresh
 fresh_is sweeping.Fresh h = refl
-fresh_is (sweeping.Wiping k) h = absurd cc
-fresh_is sweeping.BlackFound h = absurd cc
-fresh_is sweeping.Done h = absurd cc
+fresh_is _ h = absurd cc
 
 -- a blue cell is as little live whether it is done or not
 pub blue_done : (s : State) (c : ℕ) → colour_of s s.control.position ≡ colour.Blue
     → live s.colours s.control sweeping.Done c ≡ live s.colours s.control s.collector.sweep c
-blue_done s c blue =
-    elim (c == s.control.position) as (λ b. (c == s.control.position) ≡ b
-    → live s.colours s.control sweeping.Done c ≡ live s.colours s.control s.collector.sweep c) [
-      | true ↦ λ e.
-          let here : colour_of s c ≡ colour.Blue
-          = subst (λ n. colour_of s n ≡ colour.Blue) (sym (eqb-true c s.control.position e)) blue in
-          ap (λ x. is_live x (unswept s.control sweeping.Done c)) here
-          ∙ sym (ap (λ x. is_live x (unswept s.control s.collector.sweep c)) here)
-      | false ↦ λ e. ap (is_live (colour_of s c)) (unswept_elsewhere s.control sweeping.Done s.collector.sweep c
-          (λ same. absurd (let t : (c == s.control.position) ≡ true = subst (λ n. (c == n) ≡ true) same (eq-eqb c c refl) in cc)))
-    ] refl
+blue_done s c blue = elim (cases_eq c s.control.position) [
+  | inl here ↦
+      let same : colour_of s c ≡ colour.Blue = ap (colour_of s) here ∙ blue in
+      ap (λ x. is_live x (unswept s.control sweeping.Done c)) same
+      ∙ sym (ap (λ x. is_live x (unswept s.control s.collector.sweep c)) same)
+  | inr other ↦ ap (is_live (colour_of s c)) (unswept_elsewhere s.control sweeping.Done s.collector.sweep c other)
+]
 
 -- what is unswept with the cell done was unswept before
 pub done_less : (s : State) (c : ℕ) → unswept s.control sweeping.Done c ≡ true → unswept s.control s.collector.sweep c ≡ true
-done_less s c h =
-    elim (c == s.control.position) as (λ b. (c == s.control.position) ≡ b → unswept s.control s.collector.sweep c ≡ true) [
-      | true ↦ λ e. absurd (
-          let gone : unswept s.control sweeping.Done c ≡ false
-          = subst (λ n. unswept s.control sweeping.Done n ≡ false) (sym (eqb-true c s.control.position e)) (done_swept s.control) in cc)
-      | false ↦ λ e. sym (unswept_elsewhere s.control sweeping.Done s.collector.sweep c
-          (λ same. absurd (let t : (c == s.control.position) ≡ true = subst (λ n. (c == n) ≡ true) same (eq-eqb c c refl) in cc))) ∙ h
-    ] refl
+done_less s c h = elim (cases_eq c s.control.position) [
+  | inl here ↦ absurd (let gone = ap (unswept s.control sweeping.Done) here ∙ done_swept s.control in cc)
+  | inr other ↦ sym (unswept_elsewhere s.control sweeping.Done s.collector.sweep c other) ∙ h
+]
 
 pub sweep_looked_at : (s : State) (x : Colour) → IsShaped s → IsConsistent s → s.control.stage ≡ stage.Sweep
     → is_done s.collector.sweep ≡ false → colour_of s s.control.position ≡ x → not (is_gray x) ≡ true
@@ -111,10 +100,9 @@ sweep_looked_at s colour.Black range k now undone is h =
 
 pub sweep_look_keeps : (s : State) → IsShaped s → IsConsistent s → can s event.SweepLook ≡ true → IsConsistent (after s event.SweepLook)
 sweep_look_keeps s range k h =
-    let a = and_parts (at_stage s stage.Sweep && nat_lt s.control.position s.cells && is_fresh s.collector.sweep)
-    (not (is_gray (colour_of s s.control.position))) h in
-    let b = and_parts (at_stage s stage.Sweep && nat_lt s.control.position s.cells) (is_fresh s.collector.sweep) a.0 in
-    let d = and_parts (at_stage s stage.Sweep) (nat_lt s.control.position s.cells) b.0 in
+    let a = and_parts _ _ h in
+    let b = and_parts _ _ a.0 in
+    let d = and_parts _ _ b.0 in
     sweep_looked_at s (colour_of s s.control.position) range k (same_stage_is s.control.stage stage.Sweep d.0)
     (ap is_done (fresh_is s.collector.sweep b.1)) refl a.1
 
@@ -166,10 +154,8 @@ position_below s sweep range is busy =
 -- Free.
 
 pub free_is : (sweep : Sweeping) → may_free sweep ≡ true → sweep ≡ sweeping.Wiping 6
-free_is sweeping.Fresh h = absurd cc
 free_is (sweeping.Wiping k) h = ap (λ n. sweeping.Wiping n) (eqb-true k 6 h)
-free_is sweeping.BlackFound h = absurd cc
-free_is sweeping.Done h = absurd cc
+free_is _ h = absurd cc
 
 pub free_keeps : (s : State) → IsShaped s → IsConsistent s → can s event.Free ≡ true → IsConsistent (after s event.Free)
 free_keeps s range k h =
@@ -204,10 +190,8 @@ free_keeps s range k h =
 -- Whiten.
 
 pub black_found_is : (sweep : Sweeping) → is_black_found sweep ≡ true → sweep ≡ sweeping.BlackFound
-black_found_is sweeping.Fresh h = absurd cc
-black_found_is (sweeping.Wiping k) h = absurd cc
 black_found_is sweeping.BlackFound h = refl
-black_found_is sweeping.Done h = absurd cc
+black_found_is _ h = absurd cc
 
 pub whiten_keeps : (s : State) → IsShaped s → IsConsistent s → can s event.Whiten ≡ true → IsConsistent (after s event.Whiten)
 whiten_keeps s range k h =
@@ -237,22 +221,8 @@ whiten_keeps s range k h =
 -- Advance.
 
 pub done_is : (sweep : Sweeping) → is_done sweep ≡ true → sweep ≡ sweeping.Done
-done_is sweeping.Fresh h = absurd cc
-done_is (sweeping.Wiping k) h = absurd cc
-done_is sweeping.BlackFound h = absurd cc
 done_is sweeping.Done h = refl
-
-pub not_lt : (a b : ℕ) → b ≤ a → nat_lt a b ≡ false
-not_lt a b le = elim (nat_lt a b) as (λ x. nat_lt a b ≡ x → nat_lt a b ≡ false) [
-  | true ↦ λ h. absurd (let lt = ltb-true a b h in omega arith)
-  | false ↦ λ h. h
-] refl
-
-pub not_eq : (a b : ℕ) → a ≢ b → (a == b) ≡ false
-not_eq a b ne = elim (a == b) as (λ x. (a == b) ≡ x → (a == b) ≡ false) [
-  | true ↦ λ h. absurd (ne (eqb-true a b h))
-  | false ↦ λ h. h
-] refl
+done_is _ h = absurd cc
 
 pub not_both : (a b : Bool) → a ≡ false → b ≡ false → (a || (b && true)) ≡ false
 not_both a b p q = ap (λ x. x || (b && true)) p ∙ ap (λ x. x && true) q
@@ -271,8 +241,8 @@ ahead_same p c = elim (cases_lt p c) [
         | inr here ↦ or_later (nat_lt (p + 1) c) _ (and_from (c == p + 1) true (eq-eqb c (p + 1) (omega arith)) refl)
       ])
       ∙ sym there
-  | inr ge ↦ not_both (nat_lt (p + 1) c) (c == p + 1) (not_lt (p + 1) c (omega arith)) (not_eq c (p + 1) (λ e. omega arith))
-      ∙ sym (not_and (nat_lt p c) (c == p) (not_lt p c ge))
+  | inr ge ↦ not_both (nat_lt (p + 1) c) (c == p + 1) (le-ltb (p + 1) c (omega arith)) (ne_eqb c (p + 1) (λ e. omega arith))
+      ∙ sym (not_and (nat_lt p c) (c == p) (le-ltb p c ge))
 ]
 
 pub advance_unswept : (s : State) (c : ℕ) → s.collector.sweep ≡ sweeping.Done
@@ -283,8 +253,8 @@ advance_unswept s c is =
 
 pub advance_keeps : (s : State) → IsShaped s → IsConsistent s → can s event.Advance ≡ true → IsConsistent (after s event.Advance)
 advance_keeps s range k h =
-    let a = and_parts (at_stage s stage.Sweep && nat_lt s.control.position s.cells) (is_done s.collector.sweep) h in
-    let now = same_stage_is s.control.stage stage.Sweep (and_parts (at_stage s stage.Sweep) (nat_lt s.control.position s.cells) a.0).0 in
+    let a = and_parts _ _ h in
+    let now = same_stage_is s.control.stage stage.Sweep (and_parts _ _ a.0).0 in
     let is = done_is s.collector.sweep a.1 in
     sweep_kept s s.colours s.rows (s.control.position + 1) sweeping.Fresh s.collector.times_freed s.collector.number_freed range k record {
       now = now;
@@ -303,10 +273,8 @@ advance_keeps s range k h =
 -- Wipe.
 
 pub wipe_is : (sweep : Sweeping) → may_wipe sweep ≡ true → (n : ℕ) × (sweep ≡ sweeping.Wiping n) × (n < 6)
-wipe_is sweeping.Fresh h = absurd cc
 wipe_is (sweeping.Wiping n) h = (n, refl, ltb-true n 6 h)
-wipe_is sweeping.BlackFound h = absurd cc
-wipe_is sweeping.Done h = absurd cc
+wipe_is _ h = absurd cc
 
 -- another cell's fields stay
 pub field_elsewhere : (rows : List (List Field)) (p f : ℕ) (x : Field) (c : ℕ) → c ≢ p → (g : ℕ)

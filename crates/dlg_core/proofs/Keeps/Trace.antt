@@ -15,52 +15,34 @@ use Rattle.cell_words.specs.declared.fields.Field.TheVariants as field
 use Rattle.core_machine.specs.declared.events.Event.TheVariants as event
 use Rattle.core_machine.specs.declared.progress.Scanning.{Scanning}
 use Rattle.core_machine.specs.Collector.{Collector, restarted, seen, passed, scanning_from, scanned, scan_shaded, on_scan}
-use Rattle.core_machine.specs.Handshakes.{at_stage}
-use Rattle.core_machine.specs.State.{State, colour_of, field_of, all_answered}
+use Rattle.core_machine.specs.State.{State, colour_of, field_of}
 use Rattle.core_machine.specs.Tracing.{may_scan, may_shade, scan_or_none, child_or_anchor}
 use Rattle.core_machine.specs.InRange.{IsShaped}
 use Rattle.core_machine.specs.Next.{can, after}
 use Rattle.dlg_core.specs.Consistent.{IsConsistent, CleanPass, IsCutOff, IsScan}
 use Rattle.dlg_core.specs.Facts.{is_live, live, unswept, is_open, scanned_count, scanned_count_at, child_in, all_in, is_cleared}
+use Rattle.dlg_core.proofs.Changes.Pass.{pass_kept}
 use Rattle.dlg_core.proofs.Changes.Shade.{with_shade, shade_kept}
 use Rattle.dlg_core.proofs.Keeps.Mark.{shaded_there}
 use Rattle.dlg_core.proofs.Truths.{same_stage_is}
 
 -- See.
 
--- the state with another cursor and another word on the pass
-abbrev pub with_pass : State → ℕ → Bool → State
-with_pass s cursor clean = record s { collector = record s.collector { cursor = cursor; clean = clean } }
-
 -- the pass goes on, while no cell is under scan
-pub pass_kept : (s : State) (cursor : ℕ) (clean : Bool) → IsConsistent s → s.control.stage ≡ stage.Trace
-    → all_in s.collector.answered ≡ true → s.collector.scan ≡ None
-    → CleanPass s.control.stage clean cursor s.colours → IsConsistent (with_pass s cursor clean)
-pass_kept s cursor clean k now all rests pass = record {
-  statuses = k.statuses;
-  answered = k.answered;
-  modes = k.modes;
-  out = k.out;
-  marks = k.marks;
-  anchor_box = k.anchor_box;
-  kinds = k.kinds;
-  blue_null = k.blue_null;
-  anchor_live = k.anchor_live;
-  held_live = k.held_live;
-  child_live = k.child_live;
-  names_live = k.names_live;
-  raw_once = k.raw_once;
-  raw_not_black = k.raw_not_black;
-  cleared = (λ c h. absurd (let never : is_cleared stage.Trace cursor c ≡ true = subst (λ x. is_cleared x cursor c ≡ true) now h in cc));
-  anchor_marked = k.anchor_marked;
-  traced = k.traced;
-  clean_pass = pass;
-  pass_waits = (λ _ waits. absurd cc);
-  scans = (λ x e. absurd cc);
-  unswept = k.unswept;
-  wipes = k.wipes;
-  found_black = k.found_black;
-}
+pub pass_goes_on : (s : State) (cursor : ℕ) (clean : Bool) → IsConsistent s → s.control.stage ≡ stage.Trace
+    → all_in s.collector.answered ≡ true → s.collector.scan ≡ None → CleanPass s.control.stage clean cursor s.colours
+    → IsConsistent (record s { collector = record s.collector { cursor = cursor; clean = clean } })
+pass_goes_on s cursor clean k now all rests pass =
+    pass_kept s s.collector.answered s.collector.anchor_marked cursor clean s.collector.scan k record {
+      answers = k.answered;
+      child_live = k.child_live;
+      cleared = (λ c h. absurd (let never : is_cleared stage.Trace cursor c ≡ true = subst (λ x. is_cleared x cursor c ≡ true) now h in cc));
+      anchor_marked = k.anchor_marked;
+      traced = k.traced;
+      clean_pass = pass;
+      pass_waits = (λ _ waits. absurd cc);
+      scans = (λ x e. absurd cc);
+    }
 
 -- all fields are open at the start of a scan
 pub open_at_start : (cell c f : ℕ) → is_open (Some (scanning_from cell)) c f ≡ true
@@ -74,46 +56,32 @@ open_at_start cell c f =
 pub scan_begins : (s : State) (c : ℕ) → IsConsistent s → s.control.stage ≡ stage.Trace
     → all_in s.collector.answered ≡ true → s.collector.scan ≡ None → colour_of s c ≡ colour.Gray
     → IsConsistent (record s { collector = record s.collector { clean = false; scan = Some (scanning_from c) } })
-scan_begins s c k now all rests gray = record {
-  statuses = k.statuses;
-  answered = k.answered;
-  modes = k.modes;
-  out = k.out;
-  marks = k.marks;
-  anchor_box = k.anchor_box;
-  kinds = k.kinds;
-  blue_null = k.blue_null;
-  anchor_live = k.anchor_live;
-  held_live = k.held_live;
-  child_live = (λ d e. absurd cc);
-  names_live = k.names_live;
-  raw_once = k.raw_once;
-  raw_not_black = k.raw_not_black;
-  cleared = k.cleared;
-  anchor_marked = k.anchor_marked;
-  traced = (λ trace set cut.
-      let before : IsCutOff s.colours s.rows s.collector.scan set = record {
-        white = cut.white;
-        child = (λ d e. absurd (let none : child_in s.collector.scan ≡ None = ap child_in rests in cc));
-        gray = (λ d e f g unread n. cut.gray d e f g (open_at_start c d f) n);
-        outside = cut.outside;
-      } in
-      let old = k.traced trace set before in record {
-        black = old.black;
-        scanned = (λ x d f e lt n. absurd (
-            let same : scanning_from c ≡ x = cc in
-            let none : f < 0 = subst (λ y. f < scanned_count y) (sym same) lt in omega arith));
-        held = old.held;
-      });
-  clean_pass = (λ _ clean. absurd cc);
-  pass_waits = k.pass_waits;
-  scans = (λ x e. let same : scanning_from c ≡ x = cc in
-      subst (λ y. IsScan s.control.stage s.collector.answered false s.colours y) same
-      record { traces = now; answers = all; gray = gray; unclean = refl });
-  unswept = k.unswept;
-  wipes = k.wipes;
-  found_black = k.found_black;
-}
+scan_begins s c k now all rests gray =
+    pass_kept s s.collector.answered s.collector.anchor_marked s.collector.cursor false (Some (scanning_from c)) k record {
+      answers = k.answered;
+      child_live = (λ d e. absurd cc);
+      cleared = k.cleared;
+      anchor_marked = k.anchor_marked;
+      traced = (λ trace set cut.
+          let before : IsCutOff s.colours s.rows s.collector.scan set = record {
+            white = cut.white;
+            child = (λ d e. absurd (let none : child_in s.collector.scan ≡ None = ap child_in rests in cc));
+            gray = (λ d e f g unread n. cut.gray d e f g (open_at_start c d f) n);
+            outside = cut.outside;
+          } in
+          let old = k.traced trace set before in record {
+            black = old.black;
+            scanned = (λ x d f e lt n. absurd (
+                let same : scanning_from c ≡ x = cc in
+                let none : f < 0 = subst (λ y. f < scanned_count y) (sym same) lt in omega arith));
+            held = old.held;
+          });
+      clean_pass = (λ _ clean. absurd cc);
+      pass_waits = k.pass_waits;
+      scans = (λ x e. let same : scanning_from c ≡ x = cc in
+          subst (λ y. IsScan s.control.stage s.collector.answered false s.colours y) same
+          record { traces = now; answers = all; gray = gray; unclean = refl });
+    }
 
 -- a pass that starts over is as clean as can be
 pub restart_kept : (s : State) → IsConsistent s → s.control.stage ≡ stage.Trace → all_in s.collector.answered ≡ true
@@ -122,7 +90,7 @@ restart_kept s k now all rests =
     elim ((s.collector.cursor == s.cells) && not s.collector.clean) as (λ b. IsConsistent (record s {
       collector = if b then record s.collector { cursor = 0; clean = true } else s.collector;
     })) [
-      | true ↦ pass_kept s 0 true k now all rests (λ _ _ c gray. (c, omega arith, gray))
+      | true ↦ pass_goes_on s 0 true k now all rests (λ _ _ c gray. (c, omega arith, gray))
       | false ↦ k
     ]
 
@@ -133,7 +101,7 @@ pass_on s c k now all rests plain =
     elim (c == s.collector.cursor) as (λ b. (c == s.collector.cursor) ≡ b → IsConsistent (record s {
       collector = if b then record s.collector { cursor = s.collector.cursor + 1 } else s.collector;
     })) [
-      | true ↦ λ e. pass_kept s (s.collector.cursor + 1) s.collector.clean k now all rests (λ trace clean d gray.
+      | true ↦ λ e. pass_goes_on s (s.collector.cursor + 1) s.collector.clean k now all rests (λ trace clean d gray.
           let r = k.clean_pass trace clean d gray in
           let same : c ≡ s.collector.cursor = eqb-true c s.collector.cursor e in
           let apart : r.0 ≢ s.collector.cursor = (λ here. plain (subst (λ n. colour_of s n ≡ colour.Gray) (here ∙ sym same) r.2)) in
@@ -165,9 +133,9 @@ no_scan_is (Some x) h = absurd cc
 
 pub see_keeps : (s : State) (c : ℕ) → IsConsistent s → can s (event.See c) ≡ true → IsConsistent (after s (event.See c))
 see_keeps s c k h =
-    let a = and_parts (at_stage s stage.Trace && all_answered s && is_none s.collector.scan) (nat_lt c s.cells) h in
-    let b = and_parts (at_stage s stage.Trace && all_answered s) (is_none s.collector.scan) a.0 in
-    let d = and_parts (at_stage s stage.Trace) (all_answered s) b.0 in
+    let a = and_parts _ _ h in
+    let b = and_parts _ _ a.0 in
+    let d = and_parts _ _ b.0 in
     let now = same_stage_is s.control.stage stage.Trace d.0 in
     let rests = no_scan_is s.collector.scan b.1 in
     let same = restarted_same s.collector s.cells in
@@ -215,73 +183,59 @@ open_away x y c f same other =
 
 pub further_kept : (s : State) (x y : Scanning) → IsConsistent s → s.collector.scan ≡ Some x → FurtherFits s x y
     → IsConsistent (with_scan s (Some y))
-further_kept s x y k is fits = record {
-  statuses = k.statuses;
-  answered = k.answered;
-  modes = k.modes;
-  out = k.out;
-  marks = k.marks;
-  anchor_box = k.anchor_box;
-  kinds = k.kinds;
-  blue_null = k.blue_null;
-  anchor_live = k.anchor_live;
-  held_live = k.held_live;
-  child_live = fits.child_live;
-  names_live = k.names_live;
-  raw_once = k.raw_once;
-  raw_not_black = k.raw_not_black;
-  cleared = k.cleared;
-  anchor_marked = k.anchor_marked;
-  traced = (λ trace set cut.
-      let before : IsCutOff s.colours s.rows s.collector.scan set = subst (λ z. IsCutOff s.colours s.rows z set) (sym is) record {
-        white = cut.white;
-        child = fits.child set cut;
-        gray = (λ c d f gray unread n. elim (c == x.cell) as (λ b. (c == x.cell) ≡ b → set d ≡ false) [
-          | true ↦ λ e.
-              let here : c ≡ x.cell = eqb-true c x.cell e in
-              let n2 : field_of s x.cell f ≡ field.Cell d = subst (λ m. field_of s m f ≡ field.Cell d) here n in
-              let le = open_not_scanned x f (subst (λ m. is_open (Some x) m f ≡ true) here unread) in
-              elim (fits.between set cut f d n2) [
-                | inl known ↦ elim known [
-                  | inl lt ↦ absurd (omega arith)
-                  | inr on ↦ cut.gray c d f gray (open_from y c f on) n
-                ]
-                | inr out ↦ out
-              ]
-          | false ↦ λ e. cut.gray c d f gray (open_away x y c f fits.same_cell e) n
-        ] refl);
-        outside = cut.outside;
-      } in
-      let old = k.traced trace set before in record {
-        black = old.black;
-        scanned = (λ z d f e lt n.
-            let same : y ≡ z = cc in
-            let lt2 : f < scanned_count y = subst (λ v. f < scanned_count v) (sym same) lt in
-            let n2 : field_of s x.cell f ≡ field.Cell d
-            = subst (λ m. field_of s m f ≡ field.Cell d) (ap (λ v. v.cell) (sym same) ∙ fits.same_cell) n in
-            elim (fits.between set cut f d n2) [
-              | inl known ↦ elim known [
-                | inl below ↦ old.scanned x d f is below n2
-                | inr on ↦ absurd (omega arith)
-              ]
-              | inr out ↦ out
-            ]);
-        held = old.held;
-      });
-  clean_pass = k.clean_pass;
-  pass_waits = k.pass_waits;
-  scans = (λ z e.
-      let same : y ≡ z = cc in
-      let r = k.scans x is in record {
-        traces = r.traces;
-        answers = r.answers;
-        gray = subst (λ m. colour_of s m ≡ colour.Gray) (sym fits.same_cell ∙ ap (λ v. v.cell) same) r.gray;
-        unclean = r.unclean;
-      });
-  unswept = k.unswept;
-  wipes = k.wipes;
-  found_black = k.found_black;
-}
+further_kept s x y k is fits =
+    pass_kept s s.collector.answered s.collector.anchor_marked s.collector.cursor s.collector.clean (Some y) k record {
+      answers = k.answered;
+      child_live = fits.child_live;
+      cleared = k.cleared;
+      anchor_marked = k.anchor_marked;
+      traced = (λ trace set cut.
+          let before : IsCutOff s.colours s.rows s.collector.scan set = subst (λ z. IsCutOff s.colours s.rows z set) (sym is) record {
+            white = cut.white;
+            child = fits.child set cut;
+            gray = (λ c d f gray unread n. elim (c == x.cell) as (λ b. (c == x.cell) ≡ b → set d ≡ false) [
+              | true ↦ λ e.
+                  let here : c ≡ x.cell = eqb-true c x.cell e in
+                  let n2 : field_of s x.cell f ≡ field.Cell d = subst (λ m. field_of s m f ≡ field.Cell d) here n in
+                  let le = open_not_scanned x f (subst (λ m. is_open (Some x) m f ≡ true) here unread) in
+                  elim (fits.between set cut f d n2) [
+                    | inl known ↦ elim known [
+                      | inl lt ↦ absurd (omega arith)
+                      | inr on ↦ cut.gray c d f gray (open_from y c f on) n
+                    ]
+                    | inr out ↦ out
+                  ]
+              | false ↦ λ e. cut.gray c d f gray (open_away x y c f fits.same_cell e) n
+            ] refl);
+            outside = cut.outside;
+          } in
+          let old = k.traced trace set before in record {
+            black = old.black;
+            scanned = (λ z d f e lt n.
+                let same : y ≡ z = cc in
+                let lt2 : f < scanned_count y = subst (λ v. f < scanned_count v) (sym same) lt in
+                let n2 : field_of s x.cell f ≡ field.Cell d
+                = subst (λ m. field_of s m f ≡ field.Cell d) (ap (λ v. v.cell) (sym same) ∙ fits.same_cell) n in
+                elim (fits.between set cut f d n2) [
+                  | inl known ↦ elim known [
+                    | inl below ↦ old.scanned x d f is below n2
+                    | inr on ↦ absurd (omega arith)
+                  ]
+                  | inr out ↦ out
+                ]);
+            held = old.held;
+          });
+      clean_pass = k.clean_pass;
+      pass_waits = k.pass_waits;
+      scans = (λ z e.
+          let same : y ≡ z = cc in
+          let r = k.scans x is in record {
+            traces = r.traces;
+            answers = r.answers;
+            gray = subst (λ m. colour_of s m ≡ colour.Gray) (sym fits.same_cell ∙ ap (λ v. v.cell) same) r.gray;
+            unclean = r.unclean;
+          });
+    }
 
 -- .. where it holds no cell
 pub passed_fits : (s : State) (x : Scanning) → IsConsistent s → x.child ≡ None
@@ -336,7 +290,7 @@ pub scan_at : (s : State) (scan : Option Scanning) → IsConsistent s → s.coll
     → IsConsistent (with_scan s (on_scan (λ x. scanned x (field_of s (scan_or_none scan).cell (scan_or_none scan).next)) scan))
 scan_at s None k is h = absurd cc
 scan_at s (Some x) k is h =
-    let r = and_parts (nat_lt x.next 5) (is_none x.child) h in
+    let r = and_parts _ _ h in
     further_kept s x (scanned x (field_of s x.cell x.next)) k is
     (scanned_fits s x (field_of s x.cell x.next) k is (no_child_is x.child r.1) refl)
 

@@ -4,32 +4,32 @@
 -- Poll       who has the requested status is noted as having answered.
 -- AnswerOut  a mutator that is out takes the requested status. It holds nothing and has no mode, so
 --            nothing is owed for it.
-use Rattle.std.proofs.Common.{◌≡◌, ◌≢◌, ◌&&◌, ℕ, zero, suc, Bool, true, false, not, List, [], ◌∷◌, Option, Some, None, ◌<◌, ◌≤◌, arith, refl, sym, subst, ◌∙◌, ap, if◌then◌else◌}
+use Rattle.std.proofs.Common.{◌≡◌, ◌≢◌, ℕ, zero, suc, Bool, true, false, List, [], ◌∷◌, Option, Some, None, ◌<◌, ◌≤◌, arith, refl, sym, subst, ◌∙◌, ap, if◌then◌else◌}
 use Rattle.std.specs.Prelude.{slice_set}
 use Rattle.std.proofs.Math.ListN.{set}
 use Rattle.std.specs.List.{All}
-use Rattle.std.proofs.lemmas.Bool.{and_parts, and_from}
-use Rattle.std.proofs.lemmas.List.{get_or-set_same}
+use Rattle.std.proofs.lemmas.Bool.{and_parts, and_from, not-true}
+use Rattle.std.proofs.lemmas.List.{get_or-set_same, set-get_or}
 use Rattle.std.proofs.lemmas.List.Elements.{All-nil}
 use Rattle.cell_words.specs.declared.colours.Colour.TheVariants.{White}
 use Rattle.cell_words.specs.declared.controls.Control.{Control}
 use Rattle.cell_words.specs.declared.controls.Stage.{Stage}
 use Rattle.cell_words.specs.declared.controls.Stage.TheVariants as stage
 use Rattle.cell_words.specs.declared.presences.Status.{Status}
-use Rattle.cell_words.specs.Modes.{requested_of, next_status_of}
+use Rattle.cell_words.specs.Modes.{requested_of}
 use Rattle.core_machine.specs.declared.events.Event.TheVariants as event
 use Rattle.core_machine.specs.Collector.{answered_by}
 use Rattle.core_machine.specs.Handshakes.{wanted_of}
 use Rattle.core_machine.specs.State.{State, colour_of, presence_of, own_in, no_presence}
-use Rattle.core_machine.specs.Words.{same_status, same_flag, is_handshake, may_answer_out}
+use Rattle.core_machine.specs.Words.{same_status, is_handshake, may_answer_out}
 use Rattle.core_machine.specs.InRange.{IsShaped}
 use Rattle.core_machine.specs.Next.{can, after}
 use Rattle.dlg_core.specs.Consistent.{IsConsistent, MarkStands, NoRawBlack}
 use Rattle.dlg_core.specs.Facts.{status_fits, mode_fits, IsStaleMode, all_in}
+use Rattle.dlg_core.proofs.Changes.Pass.{pass_kept}
 use Rattle.dlg_core.proofs.Changes.Status.{status_kept, with_status, StatusFits}
 use Rattle.dlg_core.proofs.Each.{set_each}
-use Rattle.dlg_core.proofs.Keeps.Claim.{set_same}
-use Rattle.dlg_core.proofs.Truths.{same_status_is, not_true}
+use Rattle.dlg_core.proofs.Truths.{same_status_is}
 
 -- Duty.
 
@@ -78,47 +78,33 @@ duty_keeps s on k = record {
 -- who has all answers has them with one answer more
 pub all_with : (answered : List Bool) (i : ℕ) → all_in answered ≡ true → all_in (slice_set answered i true) ≡ true
 all_with [] i h = refl
-all_with (a ∷ rest) zero h = (and_parts a (all_in rest) h).1
-all_with (a ∷ rest) (suc i) h = let r = and_parts a (all_in rest) h in and_from a _ r.0 (all_with rest i r.1)
+all_with (a ∷ rest) zero h = (and_parts _ _ h).1
+all_with (a ∷ rest) (suc i) h = let r = and_parts _ _ h in and_from a _ r.0 (all_with rest i r.1)
 
 -- mutator i is noted as having answered
 pub noted_kept : (s : State) (i : ℕ) → IsConsistent s
     → (i < s.mutators → is_handshake s.control.stage ≡ true → (presence_of s i).status ≡ requested_of s.control.stage)
     → IsConsistent (record s { collector = answered_by s.collector i true })
-noted_kept s i k fits = record {
-  statuses = k.statuses;
-  answered = (λ j lt now has. set_each (λ n a. n < s.mutators → a ≡ true → (presence_of s n).status ≡ requested_of s.control.stage)
-      s.collector.answered i true true (λ _ below done. fits below now) (λ n below done. k.answered n below now done) j lt has);
-  modes = k.modes;
-  out = k.out;
-  marks = k.marks;
-  anchor_box = k.anchor_box;
-  kinds = k.kinds;
-  blue_null = k.blue_null;
-  anchor_live = k.anchor_live;
-  held_live = k.held_live;
-  child_live = k.child_live;
-  names_live = k.names_live;
-  raw_once = k.raw_once;
-  raw_not_black = k.raw_not_black;
-  cleared = k.cleared;
-  anchor_marked = k.anchor_marked;
-  traced = k.traced;
-  clean_pass = k.clean_pass;
-  pass_waits = (λ now waits. elim (all_in s.collector.answered) as (λ b. all_in s.collector.answered ≡ b → s.collector.cursor ≡ 0) [
-    | true ↦ λ all. absurd (let more = all_with s.collector.answered i all in cc)
-    | false ↦ λ few. k.pass_waits now few
-  ] refl);
-  scans = (λ x e. let r = k.scans x e in record {
-    traces = r.traces;
-    answers = all_with s.collector.answered i r.answers;
-    gray = r.gray;
-    unclean = r.unclean;
-  });
-  unswept = k.unswept;
-  wipes = k.wipes;
-  found_black = k.found_black;
-}
+noted_kept s i k fits =
+    pass_kept s (slice_set s.collector.answered i true) s.collector.anchor_marked s.collector.cursor s.collector.clean s.collector.scan k record {
+      answers = (λ j lt now has. set_each (λ n a. n < s.mutators → a ≡ true → (presence_of s n).status ≡ requested_of s.control.stage)
+          s.collector.answered i true true (λ _ below done. fits below now) (λ n below done. k.answered n below now done) j lt has);
+      child_live = k.child_live;
+      cleared = k.cleared;
+      anchor_marked = k.anchor_marked;
+      traced = k.traced;
+      clean_pass = k.clean_pass;
+      pass_waits = (λ now waits. elim (all_in s.collector.answered) as (λ b. all_in s.collector.answered ≡ b → s.collector.cursor ≡ 0) [
+        | true ↦ λ all. absurd (let more = all_with s.collector.answered i all in cc)
+        | false ↦ λ few. k.pass_waits now few
+      ] refl);
+      scans = (λ x e. let r = k.scans x e in record {
+        traces = r.traces;
+        answers = all_with s.collector.answered i r.answers;
+        gray = r.gray;
+        unclean = r.unclean;
+      });
+    }
 
 pub poll_keeps : (s : State) (i : ℕ) → IsConsistent s → IsConsistent (after s (event.Poll i))
 poll_keeps s i k =
@@ -171,11 +157,11 @@ answer_out_keeps s i over range k h =
       presences = slice_set s.presences i (if b then record found { status = wanted } else found);
       collector = answered_by s.collector i b;
     })) [
-      | false ↦ λ e. subst (λ ps. IsConsistent (record s { presences = ps })) (sym (set_same s.presences i no_presence)) k
+      | false ↦ λ e. subst (λ ps. IsConsistent (record s { presences = ps })) (sym (set-get_or s.presences i no_presence)) k
       | true ↦ λ e.
-          let a = and_parts (not found.inside && same_flag found.over over) (same_status (next_status_of found.status) wanted) e in
-          let b = and_parts (not found.inside) (same_flag found.over over) a.0 in
+          let a = and_parts _ _ e in
+          let b = and_parts _ _ a.0 in
           let t = with_status s i wanted in
-          noted_kept t i (status_kept s i wanted k (out_fits s i k (not_true found.inside b.0)))
+          noted_kept t i (status_kept s i wanted k (out_fits s i k (not-true found.inside b.0)))
           (λ below now. wanted_there s i wanted range below)
     ] refl

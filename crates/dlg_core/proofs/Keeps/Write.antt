@@ -5,9 +5,9 @@
 --        was due before or is not white.
 -- Fill   no edge goes, since the field held no cell. To an async mutator the value was due before, as
 --        it holds it. One in sync2 fills a cell that is neither black nor under scan, so nothing is due.
-use Rattle.std.proofs.Common.{◌≡◌, ◌≢◌, ◌==◌, ◌&&◌, ◌⊎◌, if◌then◌else◌, inl, inr, ℕ, Bool, true, false, not, nat_le, List, [], ◌∷◌, length, Option, Some, None, is_some, ◌<◌, ◌≤◌, refl, sym, subst, ◌∙◌, ap, arith}
+use Rattle.std.proofs.Common.{◌≡◌, ◌≢◌, ◌==◌, ◌&&◌, ◌⊎◌, if◌then◌else◌, inl, inr, ℕ, Bool, true, false, not, List, [], ◌∷◌, length, Option, Some, None, is_some, ◌<◌, ◌≤◌, refl, sym, subst, ◌∙◌, ap, arith}
 use Rattle.std.specs.List.{All}
-use Rattle.std.proofs.lemmas.Bool.{and_parts, or_cases, ltb-true, leb-true, eqb-true}
+use Rattle.std.proofs.lemmas.Bool.{and_parts, or_cases, ltb-true, leb-true, eqb-true, not-true}
 use Rattle.std.proofs.lemmas.List.Elements.{All-head, All-tail, All-map}
 use Rattle.cell_words.specs.declared.colours.Colour.{Colour}
 use Rattle.cell_words.specs.declared.colours.Colour.TheVariants as colour
@@ -21,9 +21,8 @@ use Rattle.cell_words.specs.declared.presences.Status.TheVariants as status
 use Rattle.cell_words.specs.Modes.{async_barrier_of, requested_of}
 use Rattle.core_machine.specs.declared.events.Event.TheVariants as event
 use Rattle.core_machine.specs.declared.places.Held.{Held}
-use Rattle.core_machine.specs.Mutation.{names_own}
-use Rattle.core_machine.specs.Operations.{is_in, is_place, has_mode, own_barrier}
-use Rattle.core_machine.specs.State.{State, colour_in, colour_of, field_of, presence_of, own_of, held_of, target_of, is_box, is_raw, is_raw_value}
+use Rattle.core_machine.specs.Operations.{is_in, has_mode, own_barrier}
+use Rattle.core_machine.specs.State.{State, colour_in, colour_of, field_of, presence_of, own_of, held_of, target_of, is_raw, is_raw_value}
 use Rattle.core_machine.specs.Words.{written, same_field, barrier_in, is_raw_kind, is_handshake, is_cell}
 use Rattle.core_machine.specs.InRange.{IsShaped}
 use Rattle.core_machine.specs.Next.{can, after}
@@ -37,7 +36,6 @@ use Rattle.dlg_core.proofs.Each.{all_held}
 use Rattle.dlg_core.proofs.Keeps.Holding.{inside_below, at_place, none_marked, holds_unmark}
 use Rattle.dlg_core.proofs.Keeps.Mark.{one_of_all}
 use Rattle.dlg_core.proofs.Keeps.Presence.{not_white_outside}
-use Rattle.dlg_core.proofs.Truths.{not_true}
 
 -- The own part that an operation leaves.
 
@@ -71,7 +69,7 @@ pub marked_stands : (colours : List Colour) (held : List Held) (c : ℕ) → All
     → holds_marked held c ≡ true → colour_in colours c ≢ colour.White
 marked_stands colours [] c all h = absurd cc
 marked_stands colours (p ∷ ps) c all h = elim (or_cases ((p.cell == c) && p.marked) (holds_marked ps c) h) [
-  | inl here ↦ λ white. let r = and_parts (p.cell == c) p.marked here in
+  | inl here ↦ λ white. let r = and_parts _ _ here in
       All-head (MarkStands colours) p ps all r.1
       (subst (λ d. colour_in colours d ≡ colour.White) (sym (eqb-true p.cell c r.0)) white)
   | inr there ↦ marked_stands colours ps c (All-tail (MarkStands colours) p ps all) there
@@ -86,12 +84,8 @@ value_not_white s i w k now h =
 
 -- an async mutator's mode is of the tracing that goes on
 pub async_mode : (looked : Stage) → async_fits looked stage.Trace ≡ true → looked ≡ stage.Trace
-async_mode stage.Idle h = absurd cc
-async_mode stage.Sync1 h = absurd cc
-async_mode stage.Clear h = absurd cc
-async_mode stage.Sync2 h = absurd cc
 async_mode stage.Trace h = refl
-async_mode stage.Sweep h = absurd cc
+async_mode _ h = absurd cc
 
 -- the marks that a write found: the old value's, and in sync2 the new value's too
 pub record WriteMarks (own : Status) (held : List Held) (old new : Field) : Type 0 where
@@ -111,34 +105,28 @@ marks_found status.Async (Some m) now held old new trace fits has stale h =
 marks_found status.Sync1 (Some m) now held old new trace fits has stale h =
     elim fits [ inl e ↦ absurd cc | inr e ↦ absurd cc ]
 marks_found status.Sync2 (Some m) now held old new trace fits has stale h =
-    let r = and_parts (is_marked_value held old) (is_marked_value held new) h in
+    let r = and_parts _ _ h in
     record { old_marked = r.0; new_marked = (λ e. r.1) }
 
 -- Write.
 
 pub same_field_is : (x y : Field) → same_field x y ≡ true → x ≡ y
 same_field_is field.Null field.Null h = refl
-same_field_is field.Null (field.Num n) h = absurd cc
-same_field_is field.Null (field.Cell c) h = absurd cc
-same_field_is (field.Num n) field.Null h = absurd cc
 same_field_is (field.Num n) (field.Num m) h = ap (λ i. field.Num i) (eqb-true n m h)
-same_field_is (field.Num n) (field.Cell c) h = absurd cc
-same_field_is (field.Cell c) field.Null h = absurd cc
-same_field_is (field.Cell c) (field.Num n) h = absurd cc
 same_field_is (field.Cell c) (field.Cell d) h = ap (λ i. field.Cell i) (eqb-true c d h)
+same_field_is _ _ h = absurd cc
 
 -- what a mutator names rightly and is not raw is live and sealed
 pub named_live : (s : State) (i w : ℕ) (x : Field) → IsConsistent s → names_rightly (held_of s i) x ≡ true
     → not (is_raw_value s x) ≡ true → x ≡ field.Cell w
     → (live s.colours s.control s.collector.sweep w ≡ true) × (is_raw_kind (field_of s w 5) ≡ false)
-named_live s i w field.Null k rightly whole e = absurd cc
-named_live s i w (field.Num n) k rightly whole e = absurd cc
 named_live s i w (field.Cell c) k rightly whole e =
     let same : c ≡ w = cc in (
       subst (λ d. live s.colours s.control s.collector.sweep d ≡ true) same
           (all_held (λ d. live s.colours s.control s.collector.sweep d ≡ true) (held_of s i) c (k.held_live i) rightly),
-      subst (λ d. is_raw_kind (field_of s d 5) ≡ false) same (not_true (is_raw s c) whole),
+      subst (λ d. is_raw_kind (field_of s d 5) ≡ false) same (not-true (is_raw s c) whole),
     )
+named_live s i w _ k rightly whole e = absurd cc
 
 -- a held value is in no set from which an async mutator's cells are left out
 pub held_outside : (s : State) (i w : ℕ) (set : ℕ → Bool) (x : Field)
@@ -176,18 +164,14 @@ pub record WriteGuard (s : State) (i place f : ℕ) (old new : Field) : Type 0 w
 pub write_guard : (s : State) (i place f : ℕ) (old new : Field) → can s (event.Write i place f old new) ≡ true
     → WriteGuard s i place f old new
 write_guard s i place f old new h =
-    let a = and_parts (is_in s i && has_mode s i && is_place s i place && nat_le f 4 && is_box s (target_of s i place)
-    && names_own s i old && names_own s i new && not (is_raw_value s new)) (marks_stand (own_barrier s i) (held_of s i) old new) h in
-    let b = and_parts (is_in s i && has_mode s i && is_place s i place && nat_le f 4 && is_box s (target_of s i place)
-    && names_own s i old && names_own s i new) (not (is_raw_value s new)) a.0 in
-    let c = and_parts (is_in s i && has_mode s i && is_place s i place && nat_le f 4 && is_box s (target_of s i place)
-    && names_own s i old) (names_own s i new) b.0 in
-    let d = and_parts (is_in s i && has_mode s i && is_place s i place && nat_le f 4 && is_box s (target_of s i place))
-    (names_own s i old) c.0 in
-    let e = and_parts (is_in s i && has_mode s i && is_place s i place && nat_le f 4) (is_box s (target_of s i place)) d.0 in
-    let g = and_parts (is_in s i && has_mode s i && is_place s i place) (nat_le f 4) e.0 in
-    let j = and_parts (is_in s i && has_mode s i) (is_place s i place) g.0 in
-    let l = and_parts (is_in s i) (has_mode s i) j.0 in
+    let a = and_parts _ _ h in
+    let b = and_parts _ _ a.0 in
+    let c = and_parts _ _ b.0 in
+    let d = and_parts _ _ c.0 in
+    let e = and_parts _ _ d.0 in
+    let g = and_parts _ _ e.0 in
+    let j = and_parts _ _ g.0 in
+    let l = and_parts _ _ j.0 in
     let four : f ≤ 4 = leb-true f 4 g.1 in
     record {
       inside = l.0;
@@ -253,14 +237,12 @@ pub record FillGuard (s : State) (i place f : ℕ) (value : Field) : Type 0 wher
 pub fill_guard : (s : State) (i place f : ℕ) (value : Field) → can s (event.Fill i place f value) ≡ true
     → FillGuard s i place f value
 fill_guard s i place f value h =
-    let a = and_parts (is_in s i && is_place s i place && is_raw s (target_of s i place) && nat_le f 4
-    && names_own s i value && not (is_raw_value s value)) (not (is_cell (field_of s (target_of s i place) f))) h in
-    let b = and_parts (is_in s i && is_place s i place && is_raw s (target_of s i place) && nat_le f 4
-    && names_own s i value) (not (is_raw_value s value)) a.0 in
-    let c = and_parts (is_in s i && is_place s i place && is_raw s (target_of s i place) && nat_le f 4) (names_own s i value) b.0 in
-    let d = and_parts (is_in s i && is_place s i place && is_raw s (target_of s i place)) (nat_le f 4) c.0 in
-    let e = and_parts (is_in s i && is_place s i place) (is_raw s (target_of s i place)) d.0 in
-    let g = and_parts (is_in s i) (is_place s i place) e.0 in
+    let a = and_parts _ _ h in
+    let b = and_parts _ _ a.0 in
+    let c = and_parts _ _ b.0 in
+    let d = and_parts _ _ c.0 in
+    let e = and_parts _ _ d.0 in
+    let g = and_parts _ _ e.0 in
     let four : f ≤ 4 = leb-true f 4 d.1 in
     record {
       inside = g.0;
@@ -269,7 +251,7 @@ fill_guard s i place f value h =
       payload = omega arith;
       rightly = c.1;
       whole = b.1;
-      no_cell = not_true (is_cell (field_of s (target_of s i place) f)) a.1;
+      no_cell = not-true (is_cell (field_of s (target_of s i place) f)) a.1;
     }
 
 -- what is no cell names none

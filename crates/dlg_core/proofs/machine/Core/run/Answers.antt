@@ -1,5 +1,6 @@
 use Rattle.std.proofs.Common.{subst}
 use Rattle.dlg_core.specs.Kept.{IsKept}
+use Rattle.dlg_core.proofs.Collects.Cycles.{kept_collects}
 use Rattle.dlg_core.proofs.Longer.{leads_next}
 use Rattle.dlg_core.proofs.Throughout.{kept_safe}
 use Rattle.dlg_core.proofs.machine.Core.run.Goals as goal
@@ -14,3 +15,9 @@ loop-index-preserved c =
 
 pub returns-clause-safe : goal.returns-clause-safe
 returns-clause-safe c = kept_safe c.args.self.now c.args.events.now (subst IsKept c.self.view_is c.self.invariant)
+
+pub returns-in-Err-clause-collects : goal.returns-in-Err-clause-collects
+returns-in-Err-clause-collects c = kept_collects c.args.self.now c.args.events.now (subst IsKept c.self.view_is c.self.invariant)
+
+pub returns-clause-collects : goal.returns-clause-collects
+returns-clause-collects c = kept_collects c.args.self.now c.args.events.now (subst IsKept c.self.view_is c.self.invariant)
