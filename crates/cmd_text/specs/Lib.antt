@@ -1,5 +1,5 @@
 pub mod Answers
-pub mod Cut
 pub mod Line
 pub mod ReplyText
 pub mod Script
+pub mod Verb

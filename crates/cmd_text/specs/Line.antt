@@ -1,17 +1,19 @@
 -- One line of a script: the command that it holds, if it holds one, or what is at fault in it.
 --
--- A carriage return at the end of a line is no part of it. An empty line, or one that begins with
--- `#`, holds no command. In every other line the faults are looked for from the left to the right,
--- after those of single bytes, and the first one counts.
-use Rattle.std.specs.Prelude.{ℕ, Bool, false, not, List, [], ◌∷◌, length, drop, codes, bytes_eq, nat_le, ◌==◌, if◌then◌else◌, Option, Some, None, Result, Ok, Err, ok_or}
+-- A line that does not count holds no command. In every other line the faults are looked for from
+-- the left to the right, after those of single bytes, and the first one counts.
+use Rattle.std.specs.Prelude.{ℕ, not, List, [], ◌∷◌, length, drop, nat_le, if◌then◌else◌, Option, Some, None, Result, Ok, Err, ok_or}
 use Rattle.std.specs.List.{list_all}
 use Rattle.std.specs.Str.Lines.{strip_carriage_return}
-use Rattle.doc_model.specs.Words.{is_text_byte, path_of}
+use Rattle.line_words.specs.Cut.{word_of, rest_of, next_word_of, next_rest_of}
+use Rattle.line_words.specs.Line.{counts, is_plain_byte}
+use Rattle.line_words.specs.Numbers.{digits_of}
+use Rattle.doc_tree.specs.Words.{path_of}
 use Rattle.doc_model.specs.declared.command.Command.{Command}
-use Rattle.doc_model.specs.declared.command.Command.TheVariants.{Put, Get}
-use Rattle.cmd_text.specs.Cut.{word_of, rest_of, next_word_of, next_rest_of}
+use Rattle.doc_model.specs.declared.command.Command.TheVariants as commands
+use Rattle.cmd_text.specs.Verb.{verb_of}
 use Rattle.cmd_text.specs.declared.fault.ScriptKind.{ScriptKind}
-use Rattle.cmd_text.specs.declared.fault.ScriptKind.TheVariants.{BadByte, NoCommand, BadPath, LongText, Extra}
+use Rattle.cmd_text.specs.declared.fault.ScriptKind.TheVariants.{BadByte, NoCommand, BadNumber, BadPath, LongText, Extra}
 use Rattle.cmd_text.specs.declared.verb.Verb.{Verb}
 use Rattle.cmd_text.specs.declared.verb.Verb.TheVariants as verbs
 
@@ -20,35 +22,61 @@ abbrev pub and_then : {A B : Type 0} → Result A ScriptKind → (A → Result B
 and_then (Ok part) later = later part
 and_then (Err kind) later = Err kind
 
--- the command that a first word asks for
-abbrev pub verb_of : List ℕ → Option Verb
-verb_of word =
-    if bytes_eq word (codes "put") then Some verbs.Put
-    else if bytes_eq word (codes "get") then Some verbs.Get
-    else None
+-- what was read, where the line ends here
+abbrev pub at_end : {A : Type 0} → List ℕ → A → Result A ScriptKind
+at_end [] part = Ok part
+at_end (byte ∷ bytes) part = Err Extra
 
 -- the path that is the next word
 abbrev pub path_in : List ℕ → Result (List (List ℕ)) ScriptKind
 path_in rest = ok_or (path_of (next_word_of rest)) BadPath
 
+-- a path, and nothing after it
+abbrev pub last_path_in : List ℕ → Result (List (List ℕ)) ScriptKind
+last_path_in rest = and_then (path_in rest) (λ path. at_end (next_rest_of rest) path)
+
 -- all that follows the space, which has at most 4,096 bytes
 abbrev pub text_in : List ℕ → Result (List ℕ) ScriptKind
 text_in rest = if nat_le (length (drop 1 rest)) 4096 then Ok (drop 1 rest) else Err LongText
 
--- the command, where the line ends here
-abbrev pub at_end : List ℕ → Command → Result Command ScriptKind
-at_end [] command = Ok command
-at_end (byte ∷ bytes) command = Err Extra
+-- the number that is the next word, of 1 to 7 digits
+abbrev pub number_in : List ℕ → Result ℕ ScriptKind
+number_in rest = ok_or (digits_of 7 (next_word_of rest)) BadNumber
+
+-- a path, and a text up to the end
+abbrev pub path_and_text_in : List ℕ → Result (List (List ℕ) × List ℕ) ScriptKind
+path_and_text_in rest =
+    and_then (path_in rest) (λ path.
+    and_then (text_in (next_rest_of rest)) (λ text.
+    Ok (path, text)))
+
+-- two paths, and nothing after them
+abbrev pub two_paths_in : List ℕ → Result (List (List ℕ) × List (List ℕ)) ScriptKind
+two_paths_in rest =
+    and_then (path_in rest) (λ from.
+    and_then (last_path_in (next_rest_of rest)) (λ to.
+    Ok (from, to)))
+
+-- a number and a path, and nothing after them
+abbrev pub number_and_path_in : List ℕ → Result (ℕ × List (List ℕ)) ScriptKind
+number_and_path_in rest =
+    and_then (number_in rest) (λ number.
+    and_then (last_path_in (next_rest_of rest)) (λ path.
+    Ok (number, path)))
 
 -- what each command has behind its first word
 abbrev pub arguments_in : Verb → List ℕ → Result Command ScriptKind
-arguments_in verbs.Put rest =
-    and_then (path_in rest) (λ path.
-    and_then (text_in (next_rest_of rest)) (λ text.
-    Ok (Put path text)))
-arguments_in verbs.Get rest =
-    and_then (path_in rest) (λ path.
-    at_end (next_rest_of rest) (Get path))
+arguments_in verbs.Put rest = and_then (path_and_text_in rest) (λ p. Ok (commands.Put p.0 p.1))
+arguments_in verbs.Del rest = and_then (last_path_in rest) (λ path. Ok (commands.Del path))
+arguments_in verbs.Copy rest = and_then (two_paths_in rest) (λ p. Ok (commands.Copy p.0 p.1))
+arguments_in verbs.Get rest = and_then (last_path_in rest) (λ path. Ok (commands.Get path))
+arguments_in verbs.List rest = and_then (last_path_in rest) (λ path. Ok (commands.List path))
+arguments_in verbs.Size rest = and_then (last_path_in rest) (λ path. Ok (commands.Size path))
+arguments_in verbs.Old rest = and_then (number_and_path_in rest) (λ p. Ok (commands.Old p.0 p.1))
+arguments_in verbs.DraftPut rest = and_then (path_and_text_in rest) (λ p. Ok (commands.DraftPut p.0 p.1))
+arguments_in verbs.DraftGet rest = and_then (last_path_in rest) (λ path. Ok (commands.DraftGet path))
+arguments_in verbs.Take rest = and_then (last_path_in rest) (λ path. Ok (commands.Take path))
+arguments_in verbs.Publish rest = and_then (last_path_in rest) (λ path. Ok (commands.Publish path))
 
 -- the command of a line that holds one
 abbrev pub command_of : List ℕ → Result Command ScriptKind
@@ -56,16 +84,11 @@ command_of line =
     and_then (ok_or (verb_of (word_of line)) NoCommand) (λ verb.
     arguments_in verb (rest_of line))
 
--- the line is neither empty nor a comment
-abbrev pub holds_command : List ℕ → Bool
-holds_command [] = false
-holds_command (byte ∷ bytes) = not (byte == 35)
-
 -- the reading of a line without its end
 abbrev pub bare_reading_of : List ℕ → Result (Option Command) ScriptKind
 bare_reading_of line =
-    if not (holds_command line) then Ok None
-    else if not (list_all is_text_byte line) then Err BadByte
+    if not (counts line) then Ok None
+    else if not (list_all is_plain_byte line) then Err BadByte
     else and_then (command_of line) (λ command. Ok (Some command))
 
 -- the reading of a line

@@ -5,10 +5,9 @@
 //! there. The line calls give the exact bytes that the program writes, line feed included.
 //! What a command does, and where bytes come from and go to, is left to others.
 //!
-//! Reading order: `fault`, `cut`, `verb`, `line`, `script`, `reply`.
+//! Reading order: `fault`, `verb`, `line`, `script`, `reply`.
 #![tactic(auto)]
 
-mod cut;
 mod fault;
 mod line;
 mod reply;

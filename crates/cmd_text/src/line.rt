@@ -1,17 +1,16 @@
 //! One line of a script.
 ghost use Rattle.cmd_text.specs.Answers.{Gives};
-ghost use Rattle.cmd_text.specs.Cut.{next_rest_of};
-ghost use Rattle.cmd_text.specs.Line.{arguments_in, at_end, command_of, holds_command, reading_of, path_in, bare_reading_of, text_in};
-ghost use Rattle.cmd_text.specs.declared.verb.Verb.TheVariants as verbs;
-ghost use Rattle.doc_model.specs.Words.{is_text_byte};
+ghost use Rattle.cmd_text.specs.Line.{arguments_in, command_of, last_path_in, number_in, path_and_text_in, path_in, reading_of, text_in};
+ghost use Rattle.line_words.specs.Line.{is_plain_byte};
 ghost use Rattle.std.specs.List.{list_all};
-ghost use Rattle.std.specs.Prelude.{IfOk, IsTrue, drop, ◌≡◌};
-ghost use Rattle.std.specs.Str.Lines.{strip_carriage_return};
+ghost use Rattle.std.specs.Prelude.{IsTrue};
 
-use crate::cut::{after_space, first_word, next_word};
 use crate::fault::{LineError, ScriptKind};
 use crate::verb::Verb;
 use doc_model::{Command, Path, Text};
+use line_words::{
+    after_space, counts, first_word, is_plain, next_rest, next_word, read_digits, without_return,
+};
 use std::alloc::Global;
 
 /// The command that a line holds, if it holds one. The line comes without its line feed.
@@ -19,7 +18,7 @@ pub(crate) fn read_line(alloc: Global, line: &[u8]) -> Result<Option<Command>, L
     ensures { Gives result (reading_of line.now) }
 {
     let line = without_return(line);
-    if !holds_command(line) {
+    if !counts(line) {
         return Ok(None);
     }
     if !is_plain(line) {
@@ -29,34 +28,70 @@ pub(crate) fn read_line(alloc: Global, line: &[u8]) -> Result<Option<Command>, L
 }
 
 fn read_command(alloc: Global, line: &[u8]) -> Result<Command, LineError>
-    requires { IsTrue (list_all is_text_byte line.now) }
+    requires { IsTrue (list_all is_plain_byte line.now) }
     ensures { Gives result (command_of line.now) }
 {
     let (word, rest) = first_word(line);
     match Verb::read(word) {
         None => Err(LineError::Fault(ScriptKind::NoCommand)),
-        Some(Verb::Put) => read_put(alloc, rest),
-        Some(Verb::Get) => read_get(alloc, rest),
+        Some(verb) => read_arguments(alloc, verb, rest),
     }
 }
 
-fn read_put(alloc: Global, rest: &[u8]) -> Result<Command, LineError>
-    requires { IsTrue (list_all is_text_byte rest.now) }
-    ensures { Gives result (arguments_in verbs.Put rest.now) }
+fn read_arguments(alloc: Global, verb: Verb, rest: &[u8]) -> Result<Command, LineError>
+    requires { IsTrue (list_all is_plain_byte rest.now) }
+    ensures { Gives result (arguments_in verb rest.now) }
 {
-    let path = read_path(alloc, rest)?;
-    let text = read_text(alloc, next_word(rest).1)?;
-    Ok(Command::Put { path, text })
+    match verb {
+        Verb::Put => {
+            let (path, text) = read_path_and_text(alloc, rest)?;
+            Ok(Command::Put { path, text })
+        }
+        Verb::DraftPut => {
+            let (path, text) = read_path_and_text(alloc, rest)?;
+            Ok(Command::DraftPut { path, text })
+        }
+        Verb::Copy => {
+            let from = read_path(alloc, rest)?;
+            let to = read_last_path(alloc, next_rest(rest))?;
+            Ok(Command::Copy { from, to })
+        }
+        Verb::Old => {
+            let back = read_number(rest)?;
+            let path = read_last_path(alloc, next_rest(rest))?;
+            Ok(Command::Old { back, path })
+        }
+        Verb::Del => Ok(Command::Del {
+            path: read_last_path(alloc, rest)?,
+        }),
+        Verb::Get => Ok(Command::Get {
+            path: read_last_path(alloc, rest)?,
+        }),
+        Verb::List => Ok(Command::List {
+            path: read_last_path(alloc, rest)?,
+        }),
+        Verb::Size => Ok(Command::Size {
+            path: read_last_path(alloc, rest)?,
+        }),
+        Verb::DraftGet => Ok(Command::DraftGet {
+            path: read_last_path(alloc, rest)?,
+        }),
+        Verb::Take => Ok(Command::Take {
+            path: read_last_path(alloc, rest)?,
+        }),
+        Verb::Publish => Ok(Command::Publish {
+            path: read_last_path(alloc, rest)?,
+        }),
+    }
 }
 
-fn read_get(alloc: Global, rest: &[u8]) -> Result<Command, LineError>
-    ensures { Gives result (arguments_in verbs.Get rest.now) }
+fn read_path_and_text(alloc: Global, rest: &[u8]) -> Result<(Path, Text), LineError>
+    requires { IsTrue (list_all is_plain_byte rest.now) }
+    ensures { Gives result (path_and_text_in rest.now) }
 {
     let path = read_path(alloc, rest)?;
-    if !next_word(rest).1.is_empty() {
-        return Err(LineError::Fault(ScriptKind::Extra));
-    }
-    Ok(Command::Get { path })
+    let text = read_text(alloc, next_rest(rest))?;
+    Ok((path, text))
 }
 
 fn read_path(alloc: Global, rest: &[u8]) -> Result<Path, LineError>
@@ -68,8 +103,19 @@ fn read_path(alloc: Global, rest: &[u8]) -> Result<Path, LineError>
     }
 }
 
+// A path with which the line ends.
+fn read_last_path(alloc: Global, rest: &[u8]) -> Result<Path, LineError>
+    ensures { Gives result (last_path_in rest.now) }
+{
+    let path = read_path(alloc, rest)?;
+    if !next_rest(rest).is_empty() {
+        return Err(LineError::Fault(ScriptKind::Extra));
+    }
+    Ok(path)
+}
+
 fn read_text(alloc: Global, rest: &[u8]) -> Result<Text, LineError>
-    requires { IsTrue (list_all is_text_byte rest.now) }
+    requires { IsTrue (list_all is_plain_byte rest.now) }
     ensures { Gives result (text_in rest.now) }
 {
     match Text::read(alloc, after_space(rest))? {
@@ -78,23 +124,11 @@ fn read_text(alloc: Global, rest: &[u8]) -> Result<Text, LineError>
     }
 }
 
-fn without_return(line: &[u8]) -> &[u8]
-    ensures { result.now ≡ strip_carriage_return line.now }
+fn read_number(rest: &[u8]) -> Result<u32, LineError>
+    ensures { Gives result (number_in rest.now) }
 {
-    match line {
-        [before @ .., b'\r'] => before,
-        _ => line,
+    match read_digits(next_word(rest).0, 7) {
+        Some(number) => Ok(number as u32),
+        None => Err(LineError::Fault(ScriptKind::BadNumber)),
     }
-}
-
-fn holds_command(line: &[u8]) -> bool
-    ensures { result ≡ holds_command line.now }
-{
-    !matches!(line, [] | [b'#', ..])
-}
-
-fn is_plain(line: &[u8]) -> bool
-    ensures { result ≡ list_all is_text_byte line.now }
-{
-    line.iter().all(|byte| matches!(*byte, b' '..=b'~'))
 }

@@ -1,36 +1,15 @@
 //! Scripts and lines whose readings were worked out by hand.
 use crate::*;
-use doc_model::{Command, Name, Names, NoMemory, Path, Reply, Text};
+use doc_model::{Command, Name, Names, Path, Reply, Text};
 use std::alloc::Global;
 use std::test::Fail;
 
-/// The commands as lines, each part in brackets.
-fn shown(alloc: Global, commands: &[Command]) -> Result<String, NoMemory> {
-    let mut all = String::new(alloc);
-    for command in commands {
-        let line = match command {
-            Command::Put { path, text } => {
-                let path = joined(alloc, path)?;
-                let text = text.as_str();
-                format!(in alloc; "put [{path}] [{text}]\n")?
-            }
-            Command::Get { path } => {
-                let path = joined(alloc, path)?;
-                format!(in alloc; "get [{path}]\n")?
-            }
-        };
-        all.push_str(line.as_str())?;
-    }
-    Ok(all)
+fn path(alloc: Global, word: &str) -> Result<Path, Fail> {
+    Ok(Path::read(alloc, word.as_bytes())?.ok_or("a path")?)
 }
 
-fn joined(alloc: Global, path: &Path) -> Result<String, NoMemory> {
-    let mut all = String::new(alloc);
-    for name in path.names() {
-        all.push_str("/")?;
-        all.push_str(name.as_str())?;
-    }
-    Ok(all)
+fn text(alloc: Global, word: &str) -> Result<Text, Fail> {
+    Ok(Text::read(alloc, word.as_bytes())?.ok_or("a text")?)
 }
 
 /// The first fault of a script, if it has one.
@@ -47,40 +26,42 @@ fn fault_of(alloc: Global, bytes: &[u8]) -> Option<(u32, ScriptKind)> {
 #[test]
 fn line_ends_of_both_kinds_are_read(rt: HostRuntime) -> Result<(), Fail> {
     let alloc = rt.alloc();
-    let script = b"# note\r\n\r\nput a  x\r\nput b\nget a\nget b";
-    let commands = read_script(alloc, script)?;
-    let lines = shown(alloc, &commands)?;
-    assert_eq!(rt;
-        lines.as_str(),
-        "put [/a] [ x]\nput [/b] []\nget [/a]\nget [/b]\n"
-    );
+    let commands = read_script(alloc, b"# note\r\n\r\nput a  x\r\nput b\nget b")?;
+    assert_eq!(rt; commands.len(), 3);
+    let first = Command::Put {
+        path: path(alloc, "a")?,
+        text: text(alloc, " x")?,
+    };
+    let last = Command::Get {
+        path: path(alloc, "b")?,
+    };
+    assert_eq!(rt; commands[0], first);
+    assert_eq!(rt; commands[2], last);
     Ok(())
 }
 
 #[test]
-fn a_path_has_at_most_eight_names(rt: HostRuntime) -> Result<(), Fail> {
+fn words_of_a_command_come_in_their_order(rt: HostRuntime) -> Result<(), Fail> {
     let alloc = rt.alloc();
-    let nine = fault_of(alloc, b"put a/b/c/d/e/f/g/h/i x");
-    assert_eq!(rt; nine, Some((1, ScriptKind::BadPath)));
-    let commands = read_script(alloc, b"put a/b/c/d/e/f/g/h x")?;
-    let lines = shown(alloc, &commands)?;
-    assert_eq!(rt; lines.as_str(), "put [/a/b/c/d/e/f/g/h] [x]\n");
+    let commands = read_script(alloc, b"copy a/b c\nold 0000012 d")?;
+    assert_eq!(rt; commands.len(), 2);
+    let copy = Command::Copy {
+        from: path(alloc, "a/b")?,
+        to: path(alloc, "c")?,
+    };
+    let old = Command::Old {
+        back: 12,
+        path: path(alloc, "d")?,
+    };
+    assert_eq!(rt; commands[0], copy);
+    assert_eq!(rt; commands[1], old);
     Ok(())
 }
 
 #[test]
 fn lines_without_a_command_are_counted(rt: HostRuntime) {
     let alloc = rt.alloc();
-    for script in [
-        "",
-        "\n",
-        "\r\n",
-        "#",
-        "# \u{e4}\t\n",
-        "#\r\r\n",
-        "get a\r",
-        "put a ",
-    ] {
+    for script in ["", "\n", "\r\n", "# \u{e4}\t\n", "#\r\r\n", "put a "] {
         assert_eq!(rt; fault_of(alloc, script.as_bytes()), None, "at {script:?}");
     }
     assert_eq!(rt;
@@ -99,23 +80,41 @@ fn the_first_fault_of_a_line_counts(rt: HostRuntime) {
     let rows = [
         ("get a\x7f", ScriptKind::BadByte),
         ("gut a\t", ScriptKind::BadByte),
+        ("put a\t", ScriptKind::BadByte),
+        ("put a \u{e4}", ScriptKind::BadByte),
+        ("old 1\x1f a b", ScriptKind::BadByte),
         ("get a\r\r\n", ScriptKind::BadByte),
         ("\r# a", ScriptKind::BadByte),
         ("Get a", ScriptKind::NoCommand),
         (" get a", ScriptKind::NoCommand),
         ("geta /", ScriptKind::NoCommand),
         ("ge", ScriptKind::NoCommand),
-        ("get", ScriptKind::BadPath),
-        ("get ", ScriptKind::BadPath),
-        ("get  a", ScriptKind::BadPath),
-        ("get a/", ScriptKind::BadPath),
-        ("get /a", ScriptKind::BadPath),
-        ("get a//b", ScriptKind::BadPath),
-        ("get a.b c", ScriptKind::BadPath),
+        ("publis a", ScriptKind::NoCommand),
+        ("publishe a", ScriptKind::NoCommand),
+        ("old", ScriptKind::BadNumber),
+        ("old ", ScriptKind::BadNumber),
+        ("old a", ScriptKind::BadNumber),
+        ("old  1 a", ScriptKind::BadNumber),
+        ("old +1 a", ScriptKind::BadNumber),
+        ("old 1a /", ScriptKind::BadNumber),
+        ("old 12345678 a", ScriptKind::BadNumber),
+        ("old 1", ScriptKind::BadPath),
+        ("old 1 ", ScriptKind::BadPath),
+        ("old 1 a//b c", ScriptKind::BadPath),
+        ("old 1 a ", ScriptKind::Extra),
+        ("old 1 a b", ScriptKind::Extra),
+        ("copy", ScriptKind::BadPath),
+        ("copy a", ScriptKind::BadPath),
+        ("copy a ", ScriptKind::BadPath),
+        ("copy /a b c", ScriptKind::BadPath),
+        ("copy a b/ c", ScriptKind::BadPath),
+        ("copy a b ", ScriptKind::Extra),
+        ("copy a b c", ScriptKind::Extra),
         ("put", ScriptKind::BadPath),
         ("put  a", ScriptKind::BadPath),
-        ("get a ", ScriptKind::Extra),
-        ("get a b", ScriptKind::Extra),
+        ("dput", ScriptKind::BadPath),
+        ("dput a. b", ScriptKind::BadPath),
+        ("get a/b/c/d/e/f/g/h/i", ScriptKind::BadPath),
     ];
     for (line, kind) in rows {
         assert_eq!(rt;
@@ -127,9 +126,29 @@ fn the_first_fault_of_a_line_counts(rt: HostRuntime) {
 }
 
 #[test]
+fn a_command_on_one_path_has_one(rt: HostRuntime) -> Result<(), Fail> {
+    let alloc = rt.alloc();
+    for verb in ["del", "get", "list", "size", "dget", "take", "publish"] {
+        for (rest, fault) in [
+            (" a/b/c/d/e/f/g/h", None),
+            ("", Some((1, ScriptKind::BadPath))),
+            (" ", Some((1, ScriptKind::BadPath))),
+            ("  a", Some((1, ScriptKind::BadPath))),
+            (" a//b c", Some((1, ScriptKind::BadPath))),
+            (" a ", Some((1, ScriptKind::Extra))),
+            (" a b", Some((1, ScriptKind::Extra))),
+        ] {
+            let line = format!(in alloc; "{verb}{rest}")?;
+            assert_eq!(rt; fault_of(alloc, line.as_bytes()), fault, "at {line:?}");
+        }
+    }
+    Ok(())
+}
+
+#[test]
 fn a_text_has_at_most_4096_bytes(rt: HostRuntime) -> Result<(), Fail> {
     let alloc = rt.alloc();
-    let mut script = Vec::from_slice(alloc, b"put a ")?;
+    let mut script = Vec::from_slice(alloc, b"dput a ")?;
     for _ in 0..4096 {
         script.push(b'x')?;
     }
@@ -149,8 +168,8 @@ fn every_reply_has_its_line(rt: HostRuntime) -> Result<(), Fail> {
         }
     }
     let shown = 5;
-    let hello = Text::read(alloc, b"hello you")?.ok_or("no text")?;
-    let empty = Text::read(alloc, b"")?.ok_or("no text")?;
+    let hello = text(alloc, "hello you")?;
+    let empty = text(alloc, "")?;
     let rows = [
         (Reply::Committed { shown }, "ok 5\n"),
         (Reply::Drafted { shown }, "drafted 5\n"),

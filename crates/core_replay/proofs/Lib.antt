@@ -1,3 +1,8 @@
-pub mod Cuts
-pub mod Digits
+pub mod Ending
+pub mod Falls
+pub mod Kept
+pub mod Less
 pub mod Lines
+pub mod OneText
+pub mod SomeText
+pub mod Turning

@@ -1,8 +1,8 @@
 -- What the loop over the lines of a schedule keeps: the steps read so far, and behind them those of
 -- the lines that are left, are those of the whole schedule.
-use Rattle.std.proofs.Common.{append-nil, ◌≡◌, ℕ, ◌+◌, ◌<◌, List, [], ◌∷◌, ◌++◌, length, drop, get_or, subst, Option, Some, None, Result, Ok, Err, refl, sym, ap, ◌∙◌, arith, append_assoc, add-one}
+use Rattle.std.proofs.Common.{append-nil, ◌≡◌, ℕ, ◌+◌, ◌<◌, ◌≤◌, List, [], ◌∷◌, ◌++◌, length, drop, get_or, subst, Option, Some, None, Result, Ok, Err, refl, sym, ap, ◌∙◌, arith, append_assoc, add-one}
 use Rattle.std.proofs.Math.Seq.{drop-cons}
-use Rattle.std.proofs.lemmas.List.{drop_all}
+use Rattle.std.proofs.lemmas.List.{drop_all, length_push}
 use Rattle.core_replay.specs.Lines.{reading_of}
 use Rattle.core_replay.specs.Schedule.{with_step, with_line, ended, schedule_from}
 use Rattle.core_replay.specs.Written.{Written}
@@ -103,3 +103,10 @@ ends_unstarted n lines sizes front whole all unknown so_far =
 -- what holds of the sizes that an option has holds of those that it has
 pub of_same : (P : Sizes → Type 0) (found sizes : Sizes) → Some found ≡ Some sizes → P found → P sizes
 of_same P found sizes same holds = let is : found ≡ sizes = cc in subst P is holds
+
+-- no more steps than lines
+pub few_still : {m n : ℕ} → m ≤ n → m ≤ n + 1
+few_still few = omega arith
+
+pub few_more : (steps : List Numbered) (step : Numbered) (n : ℕ) → length steps ≤ n → length (steps ++ step ∷ []) ≤ n + 1
+few_more steps step n few = omega (arith, length_push steps step)

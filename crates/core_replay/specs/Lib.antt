@@ -1,8 +1,13 @@
 pub mod Answers
-pub mod Cut
 pub mod Lines
 pub mod Numbers
+pub mod Outcomes
+pub mod Replay
+pub mod ReplayText
 pub mod Schedule
+pub mod Standing
 pub mod Start
 pub mod Steps
+pub mod Turns
+pub mod Work
 pub mod Written

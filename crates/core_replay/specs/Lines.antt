@@ -1,11 +1,10 @@
 -- One line of a schedule.
 --
--- A carriage return at the end of a line is no part of it. An empty line, or one that begins with
--- `#`, does not count. The first line that counts gives the sizes of the core, each later one a
--- step.
-use Rattle.std.specs.Prelude.{ℕ, IsTrue, Bool, false, not, ◌&&◌, List, [], ◌∷◌, nat_le, ◌==◌, if◌then◌else◌, Option, Some, None, Result, Ok, Err}
+-- The first line that counts gives the sizes of the core, each later one a step.
+use Rattle.std.specs.Prelude.{ℕ, IsTrue, not, List, if◌then◌else◌, Option, Some, None, Result, Ok, Err}
 use Rattle.std.specs.List.{list_all}
 use Rattle.std.specs.Str.Lines.{strip_carriage_return}
+use Rattle.line_words.specs.Line.{counts, is_plain_byte}
 use Rattle.core_replay.specs.Numbers.{and_then}
 use Rattle.core_replay.specs.Start.{start_of}
 use Rattle.core_replay.specs.Steps.{step_of}
@@ -15,15 +14,6 @@ use Rattle.core_replay.specs.declared.line.Reading.{Reading}
 use Rattle.core_replay.specs.declared.line.Reading.TheVariants.{Nothing, Start, Next}
 use Rattle.core_replay.specs.Written.{are_sizes}
 use Rattle.core_replay.specs.declared.start.Sizes.{Sizes}
-
--- the space to the tilde
-abbrev pub is_plain_byte : ℕ → Bool
-is_plain_byte byte = nat_le 32 byte && nat_le byte 126
-
--- the line is neither empty nor a comment
-abbrev pub counts : List ℕ → Bool
-counts [] = false
-counts (byte ∷ bytes) = not (byte == 35)
 
 -- a line that counts, before the core has its sizes and after
 abbrev pub counted_reading_of : Option Sizes → List ℕ → Result Reading ScheduleKind

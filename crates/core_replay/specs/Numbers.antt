@@ -2,13 +2,11 @@
 --
 -- A number is 1 to 19 decimal digits, which may begin with zeros. A value of a field is `-` for
 -- null, `=` before a number below 2^62, or `@` before the number of a cell.
-use Rattle.std.specs.Prelude.{ℕ, ◌-◌, ◌^◌, Bool, ◌&&◌, List, [], ◌∷◌, length, nat_le, ◌==◌, if◌then◌else◌, Result, Ok, Err}
-use Rattle.std.specs.Char.{is_ascii_digit}
-use Rattle.std.specs.List.{list_all}
-use Rattle.std.specs.Str.Parse.{digits_value}
+use Rattle.std.specs.Prelude.{ℕ, ◌-◌, ◌^◌, ◌&&◌, List, [], ◌∷◌, length, nat_le, ◌==◌, if◌then◌else◌, Option, Some, None, Result, Ok, Err}
 use Rattle.cell_words.specs.declared.fields.Field.{Field}
 use Rattle.cell_words.specs.declared.fields.Field.TheVariants as fields
-use Rattle.core_replay.specs.Cut.{next_word_of}
+use Rattle.line_words.specs.Cut.{next_word_of}
+use Rattle.line_words.specs.Numbers.{digits_of}
 use Rattle.core_replay.specs.declared.fault.ScheduleKind.{ScheduleKind}
 use Rattle.core_replay.specs.declared.fault.ScheduleKind.TheVariants.{BadNumber}
 
@@ -17,15 +15,14 @@ abbrev pub and_then : {A B : Type 0} → Result A ScheduleKind → (A → Result
 and_then (Ok part) later = later part
 and_then (Err kind) later = Err kind
 
--- 1 to 19 digits
-abbrev pub is_number : List ℕ → Bool
-is_number word = nat_le 1 (length word) && nat_le (length word) 19 && list_all is_ascii_digit word
+-- the number, where it is at most this one
+abbrev pub at_most : ℕ → Option ℕ → Result ℕ ScheduleKind
+at_most most None = Err BadNumber
+at_most most (Some number) = if nat_le number most then Ok number else Err BadNumber
 
--- the number that a word is, at most this one
+-- the number that a word of 1 to 19 digits is, at most this one
 abbrev pub number_to : ℕ → List ℕ → Result ℕ ScheduleKind
-number_to most word =
-    if is_number word && nat_le (digits_value 10 word) most then Ok (digits_value 10 word)
-    else Err BadNumber
+number_to most word = at_most most (digits_of 19 word)
 
 -- the greatest number of a mutator, cell, place, field or count that can be written
 abbrev pub greatest_index : ℕ

@@ -1,6 +1,6 @@
 -- The first line of a schedule that counts: the sizes of the core.
 use Rattle.std.specs.Prelude.{ℕ, List, [], ◌∷◌, codes, bytes_eq, nat_le, if◌then◌else◌, Result, Ok, Err}
-use Rattle.core_replay.specs.Cut.{word_of, rest_of, next_word_of, next_rest_of}
+use Rattle.line_words.specs.Cut.{word_of, rest_of, next_word_of, next_rest_of}
 use Rattle.core_replay.specs.Numbers.{and_then, number_to}
 use Rattle.core_replay.specs.declared.fault.ScheduleKind.{ScheduleKind}
 use Rattle.core_replay.specs.declared.fault.ScheduleKind.TheVariants.{NoStart, BadNumber, Extra}

@@ -6,12 +6,12 @@ ghost use Rattle.core_replay.specs.Start.{at_end};
 ghost use Rattle.core_replay.specs.Steps.{claim_in, copies_in, duty_in, event_in, fill_in, keep_in, mark_in, out_in, over_in, place_in, post_in, read_in, seal_in, single_in, single_step_of, step_of, write_in};
 ghost use Rattle.std.specs.Prelude.{ok_or, ◌<◌, ◌^◌, ◌≡◌};
 
-use crate::cut::{first_word, next_rest, next_word};
 use crate::fault::ScheduleKind;
 use crate::numbers::{read_index, read_value};
 use crate::step::Step;
 use crate::verb::{Single, Verb, bare_step, duty_named, kind_named, stage_named};
 use core_machine::Event;
+use line_words::{first_word, next_rest, next_word};
 
 /// The step of a line.
 pub(crate) fn read_step(line: &[u8]) -> Result<Step, ScheduleKind>

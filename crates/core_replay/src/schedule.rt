@@ -19,13 +19,13 @@ pub struct Schedule {
 
 impl Model for Schedule {
     ghost use Rattle.core_replay.specs.Written.{Written, are_sizes};
-    ghost use Rattle.std.specs.Prelude.{IsTrue};
+    ghost use Rattle.std.specs.Prelude.{IsTrue, length, ◌<◌, ◌^◌};
 
     ghost Value = { Written };
 
     ghost view = { λ s. record { sizes = s.sizes; steps = s.steps.items } };
 
-    ghost invariant = { λ s. IsTrue (are_sizes s.sizes) };
+    ghost invariant = { λ s. IsTrue (are_sizes s.sizes) × (length s.steps.items < 2 ^ 32) };
 }
 
 impl Schedule {
@@ -40,6 +40,7 @@ impl Schedule {
     /// What is asked for, line by line.
     pub fn steps(&self) -> &[Numbered]
         ensures steps { result.now ≡ self.now.steps }
+        ensures few { length result.now < 2 ^ 32 }
     {
         &self.steps
     }

@@ -3,10 +3,10 @@ ghost use Rattle.core_replay.specs.Start.{size_in, sizes_in, start_of};
 ghost use Rattle.core_replay.specs.Written.{are_sizes};
 ghost use Rattle.std.specs.Prelude.{IfOk, IsTrue, ◌<◌, ◌≡◌, ◌≤◌};
 
-use crate::cut::{first_word, next_rest, next_word};
 use crate::event::at_end;
 use crate::fault::ScheduleKind;
 use crate::numbers::read_number;
+use line_words::{first_word, next_rest, next_word};
 
 /// The sizes of a core: its cells, its mutators, and the room of every mutator.
 #[derive(Clone, Copy, Debug, PartialEq, Eq)]

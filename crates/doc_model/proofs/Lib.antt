@@ -1,4 +1,13 @@
-pub mod Pieces
-pub mod Places
-pub mod Plain
+pub mod Agreeing
+pub mod Clients
+pub mod Composes
+pub mod Counted
+pub mod Counts
+pub mod Fold
+pub mod Growth
+pub mod Logs
+pub mod Order
+pub mod Replies
 pub mod Rising
+pub mod Sorting
+pub mod Steps

@@ -1,77 +1,85 @@
--- The order of names, and that the names of children go on rising.
-use Rattle.std.proofs.Common.{◌≡◌, ℕ, ◌+◌, ◌<◌, ◌≤◌, List, Some, None, refl, ap, ◌∙◌, arith}
-use Rattle.std.specs.declared.cmp.Ordering.TheVariants.{Less, Equal, Greater}
-use Rattle.std.specs.Ordering.{ordering_reverse}
-use Rattle.std.proofs.lemmas.Cmp.{nat_list_cmp_total}
-use Rattle.doc_model.specs.Tree.{DocTree, Kids, no_kids, kid, kid_count, name_cmp, by_order, child, put_child, IsAbove, IsRising}
+-- A list of numbers that does not fall, and that has as many numbers up to any u as there are from the
+-- first one on, is the row of these.
+use Rattle.std.proofs.Common.{◌≡◌, ℕ, zero, suc, ◌+◌, ◌-◌, ◌<◌, ◌≤◌, Bool, true, false, nat_le, List, [], ◌∷◌, length, get_or, sum_by, IsPermutation, refl, sym, ◌∙◌, ⊎_elim, arith}
+use Rattle.std.proofs.lemmas.Bool.{cases_lt}
+use Rattle.std.proofs.lemmas.Bool.Decides.{nat_tests}
+use Rattle.std.proofs.lemmas.List.Sums.{sum_by-cons}
+use Rattle.std.proofs.lemmas.List.Sorted.{sum_by-IsPermutation}
+use Rattle.doc_model.specs.Agreement.{rising}
 
-pub turned : (m n : List ℕ) → name_cmp m n ≡ ordering_reverse (name_cmp n m)
-turned m n = nat_list_cmp_total.antisymm m n
+abbrev pub one_if : Bool → ℕ
+one_if true = 1
+one_if false = 0
 
-pub less_turned : (m n : List ℕ) → name_cmp m n ≡ Less → name_cmp n m ≡ Greater
-less_turned m n h = turned n m ∙ ap ordering_reverse h
+-- how many of the numbers are at most u
+abbrev pub low : ℕ → List ℕ → ℕ
+low u [] = 0
+low u (n ∷ ns) = one_if (nat_le n u) + low u ns
 
-pub greater_turned : (m n : List ℕ) → name_cmp m n ≡ Greater → name_cmp n m ≡ Less
-greater_turned m n h = turned n m ∙ ap ordering_reverse h
+abbrev pub AtLeast : ℕ → List ℕ → Type 0
+AtLeast n [] = Unit {0}
+AtLeast n (m ∷ ms) = (n ≤ m) × AtLeast n ms
 
-pub equal_turned : (m n : List ℕ) → name_cmp m n ≡ Equal → name_cmp n m ≡ Equal
-equal_turned m n h = turned n m ∙ ap ordering_reverse h
+abbrev pub NeverFalls : List ℕ → Type 0
+NeverFalls [] = Unit {0}
+NeverFalls (n ∷ ns) = AtLeast n ns × NeverFalls ns
 
--- what comes before a name comes before its equals
-pub less_equal : (l m n : List ℕ) → name_cmp l m ≡ Less → name_cmp n m ≡ Equal → name_cmp l n ≡ Less
-less_equal l m n h e =
-    greater_turned n l (nat_list_cmp_total.congr n m l e ∙ less_turned l m h)
+one_below : (n u : ℕ) → n ≤ u → one_if (nat_le n u) ≡ 1
+one_below n u h = grind (arith, nat_tests)
 
-pub above_later : (m n : List ℕ) (kids : Kids) → name_cmp m n ≡ Less → IsAbove n kids → IsAbove m kids
-above_later m n no_kids h above = tt
-above_later m n (kid k text inside rest) h above =
-    (nat_list_cmp_total.trans m n k h above.0, above_later m n rest h above.1)
+none_above : (n u : ℕ) → u < n → one_if (nat_le n u) ≡ 0
+none_above n u h = grind (arith, nat_tests)
 
-pub above_equal : (m n : List ℕ) (kids : Kids) → name_cmp n m ≡ Equal → IsAbove m kids → IsAbove n kids
-above_equal m n no_kids e above = tt
-above_equal m n (kid k text inside rest) e above =
-    (nat_list_cmp_total.congr n m k e ∙ above.0, above_equal m n rest e above.1)
+low_none : (u n : ℕ) (ns : List ℕ) → u < n → AtLeast n ns → low u ns ≡ 0
+low_none u n [] lt above = refl
+low_none u n (m ∷ ns) lt above =
+    let later : u < m = omega (arith, above.0) in
+    omega (arith, none_above m u later, low_none u n ns lt above.1)
 
-pub above_put : (m n : List ℕ) (d : DocTree) (kids : Kids) → name_cmp m n ≡ Less → IsAbove m kids → IsAbove m (put_child n d kids)
-above_put m n d no_kids h above = (h, tt)
-above_put m n d (kid k text inside rest) h above =
-    elim (name_cmp n k) as (λ o. IsAbove m (by_order o (kid n d.text d.kids (kid k text inside rest)) (kid n d.text d.kids rest) (kid k text inside (put_child n d rest)))) [
-      | Less ↦ (h, above)
-      | Equal ↦ (h, above.1)
-      | Greater ↦ (above.0, above_put m n d rest h above.1)
-    ]
+-- the first number of the list
+not_below : (i n : ℕ) (ns : List ℕ) → low i (n ∷ ns) ≡ 0 → i < n
+not_below i n ns none =
+    ⊎_elim (λ lt. lt) (λ le. absurd (omega (arith, one_below n i le))) (cases_lt i n)
 
-pub rising_put : (n : List ℕ) (d : DocTree) (kids : Kids) → IsRising kids → IsRising (put_child n d kids)
-rising_put n d no_kids rising = (tt, tt)
-rising_put n d (kid k text inside rest) rising =
-    elim (name_cmp n k) as (λ o. name_cmp n k ≡ o → IsRising (by_order o (kid n d.text d.kids (kid k text inside rest)) (kid n d.text d.kids rest) (kid k text inside (put_child n d rest)))) [
-      | Less ↦ λ h. ((h, above_later n k rest h rising.0), rising)
-      | Equal ↦ λ h. (above_equal k n rest h rising.0, rising.1)
-      | Greater ↦ λ h. (above_put k n d rest (greater_turned n k h) rising.0, rising_put n d rest rising.1)
-    ] refl
+not_above : (i n : ℕ) (ns : List ℕ) → AtLeast n ns → low i (n ∷ ns) ≡ 1 → n ≤ i
+not_above i n ns above one =
+    ⊎_elim (λ lt. let all : AtLeast n (n ∷ ns) = (omega arith, above) in absurd (omega (arith, low_none i n (n ∷ ns) lt all))) (λ le. le) (cases_lt i n)
 
--- a child that is put adds at most one, and none where one of its name stood
-pub count_put : (n : List ℕ) (d : DocTree) (kids : Kids) → kid_count (put_child n d kids) ≤ kid_count kids + 1
-count_put n d no_kids = omega arith
-count_put n d (kid k text inside rest) =
-    elim (name_cmp n k) as (λ o. kid_count (by_order o (kid n d.text d.kids (kid k text inside rest)) (kid n d.text d.kids rest) (kid k text inside (put_child n d rest))) ≤ (kid_count rest + 1) + 1) [
-      | Less ↦ omega arith
-      | Equal ↦ omega arith
-      | Greater ↦ omega (arith, count_put n d rest)
-    ]
+pub is_rising : (i k : ℕ) (ns : List ℕ) → length ns ≡ k → NeverFalls ns → ((u : ℕ) → i ≤ u → u ≤ i + k → low u ns ≡ u - i) → ns ≡ rising i k
+is_rising i zero [] len up count = refl
+is_rising i zero (n ∷ ns) len up count = absurd (omega arith)
+is_rising i (suc k) [] len up count = absurd (omega arith)
+is_rising i (suc k) (n ∷ ns) len up count =
+    let above : i < n = not_below i n ns (count i (omega arith) (omega arith) ∙ omega arith) in
+    let below : n ≤ i + 1 = not_above (i + 1) n ns up.0 (count (i + 1) (omega arith) (omega arith) ∙ omega arith) in
+    let first : n ≡ i + 1 = omega arith in
+    let rest : ns ≡ rising (i + 1) k =
+    is_rising (i + 1) k ns (omega arith) up.1 (λ u lo hi. omega (arith, count u (omega arith) (omega arith), one_below n u (omega arith))) in
+    cc
 
-pub count_put_over : (n : List ℕ) (d was : DocTree) (kids : Kids) → child n kids ≡ Some was → kid_count (put_child n d kids) ≡ kid_count kids
-count_put_over n d was no_kids h = cc
-count_put_over n d was (kid k text inside rest) h =
-    elim (name_cmp n k) as (λ o. by_order o None (Some (record { text = text; kids = inside })) (child n rest) ≡ Some was → kid_count (by_order o (kid n d.text d.kids (kid k text inside rest)) (kid n d.text d.kids rest) (kid k text inside (put_child n d rest))) ≡ kid_count rest + 1) [
-      | Less ↦ λ h. cc
-      | Equal ↦ λ h. refl
-      | Greater ↦ λ h. ap (λ c. c + 1) (count_put_over n d was rest h)
-    ] h
+above_rising : (n i k : ℕ) → n ≤ i + 1 → AtLeast n (rising i k)
+above_rising n i zero h = tt
+above_rising n i (suc k) h = (h, above_rising n (i + 1) k (omega arith))
 
-pub room_put : (n : List ℕ) (d : DocTree) (kids : Kids) → (child n kids ≡ None → kid_count kids < 256) → kid_count kids ≤ 256 → kid_count (put_child n d kids) ≤ 256
-room_put n d kids room few =
-    elim (child n kids) as (λ o. child n kids ≡ o → (o ≡ None → kid_count kids < 256) → kid_count (put_child n d kids) ≤ 256) [
-      | None ↦ λ e free. omega (arith, free refl, count_put n d kids)
-      | Some was ↦ λ e free. omega (arith, few, count_put_over n d was kids e)
-    ] refl room
+pub low-rising : (i k u : ℕ) → i ≤ u → u ≤ i + k → low u (rising i k) ≡ u - i
+low-rising i zero u lo hi = omega arith
+low-rising i (suc k) u lo hi =
+    ⊎_elim (λ lt. omega (arith, one_below (i + 1) u (omega arith), low-rising (i + 1) k u (omega arith) (omega arith))) (λ le. omega (arith, low_none u (i + 1) (rising i (suc k)) (omega arith) (above_rising (i + 1) i (suc k) (omega arith)))) (cases_lt i u)
+
+pub length-rising : (i k : ℕ) → length (rising i k) ≡ k
+length-rising i zero = refl
+length-rising i (suc k) = omega (arith, length-rising (i + 1) k)
+
+pub get_or-rising : (i k j d : ℕ) → j < k → get_or (rising i k) j d ≡ i + j + 1
+get_or-rising i zero j d lt = absurd (omega arith)
+get_or-rising i (suc k) zero d lt = omega arith
+get_or-rising i (suc k) (suc j) d lt = omega (arith, get_or-rising (i + 1) k j d (omega arith))
+
+low-sum_by : (u : ℕ) (ns : List ℕ) → low u ns ≡ sum_by (λ n. one_if (nat_le n u)) ns
+low-sum_by u [] = refl
+low-sum_by u (n ∷ ns) =
+    omega (arith, low-sum_by u ns, sum_by-cons (λ (m : ℕ). one_if (nat_le m u)) n ns)
+
+pub low-permutation : (u : ℕ) (ms ns : List ℕ) → IsPermutation ms ns → low u ns ≡ low u ms
+low-permutation u ms ns same =
+    low-sum_by u ns ∙ sum_by-IsPermutation (λ (n : ℕ). one_if (nat_le n u)) ms ns same ∙ sym (low-sum_by u ms)

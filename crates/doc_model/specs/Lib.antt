@@ -1,10 +1,8 @@
+pub mod Agreement
 pub mod Answers
 pub mod ClientLog
-pub mod Edits
+pub mod Growth
+pub mod History
+pub mod Merge
 pub mod Store
 pub mod StoreView
-pub mod Tree
-pub mod TreeCode
-pub mod TreeFalls
-pub mod TreeView
-pub mod Words

@@ -5,11 +5,11 @@ use Rattle.std.specs.Coded.{Coded, code_by, coded×, coded_ℕ, coded_list}
 use Rattle.std.proofs.Common.{refl}
 use Rattle.doc_model.specs.declared.command.Command.{Command}
 use Rattle.doc_model.specs.declared.command.Entry.{Entry}
-use Rattle.doc_model.specs.declared.store.Answer.{Answer}
-use Rattle.doc_model.specs.declared.store.Seat.{Seat}
-use Rattle.doc_model.specs.Tree.{DocTree, empty}
-use Rattle.doc_model.specs.TreeCode.{tree_code}
-use Rattle.doc_model.specs.Answers.{Limits, opening_seat, answer_at, back_of, left}
+use Rattle.doc_model.specs.declared.answer.Answer.{Answer}
+use Rattle.doc_model.specs.declared.answer.Seat.{Seat}
+use Rattle.doc_tree.specs.Tree.{DocTree, empty}
+use Rattle.doc_tree.specs.TreeCode.{tree_code}
+use Rattle.doc_model.specs.Answers.{Limits, opening_seat, answer_at, answer_for_at, back_of, left}
 
 -- the seat of client c is at c - 1
 pub record Store : Type 0 where
@@ -37,17 +37,19 @@ seat_of s client = slice_index_or s.seats (client - 1) opening_seat
 abbrev pub answer : Limits → List DocTree → ℕ → Seat → Command → Answer
 answer l trees v m c = answer_at l v (tree_at trees v) (tree_at trees (v - back_of c)) m c
 
+-- the same for an entry, whose reply may be that of a full heap
+abbrev pub answer_for : Limits → List DocTree → ℕ → Seat → Entry → Answer
+answer_for l trees v m e = answer_for_at l v (tree_at trees v) (tree_at trees (v - back_of e.command)) m e
+
 abbrev pub answer_in : Store → ℕ → Command → Answer
 answer_in s client c = answer s.limits s.trees (shown s) (seat_of s client) c
+
+abbrev pub answer_for_in : Store → Entry → Answer
+answer_for_in s e = answer_for s.limits s.trees (shown s) (seat_of s e.client) e
 
 abbrev pub with_version : List DocTree → Option DocTree → List DocTree
 with_version trees None = trees
 with_version trees (Some t) = trees ++ t ∷ []
-
--- where a version is made, there may be one more
-abbrev pub HasRoom : Store → Option DocTree → Type 0
-HasRoom s None = Unit {0}
-HasRoom s (Some t) = length s.trees ≤ s.limits.versions
 
 -- the store after an answer to the client
 abbrev pub after : Store → ℕ → Answer → Store

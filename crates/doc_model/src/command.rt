@@ -1,15 +1,35 @@
 //! What a client asks, what it is answered, and the entry of both in its log.
 ghost use Rattle.std.specs.Prelude.{◌≡◌, IfOk};
+ghost use Rattle.doc_model.specs.Answers.{is_full, is_ok};
 
 use crate::NoMemory;
-use crate::path::{Names, Path};
-use crate::text::Text;
+use doc_tree::{Names, Path, Text};
 
-/// One command of a client.
+/// One command of a client. A store with drafts answers each by the definition `answer_at`.
 #[derive(Debug, Drop, PartialEq, Eq)]
 pub enum Command {
+    /// Gives the node the text, in a new version.
     Put { path: Path, text: Text },
+    /// A new version without the node.
+    Del { path: Path },
+    /// A new version with the tree of one path also at another.
+    Copy { from: Path, to: Path },
+    /// The node's text.
     Get { path: Path },
+    /// The names of the node's children.
+    List { path: Path },
+    /// How many nodes the node's tree has.
+    Size { path: Path },
+    /// The node's text so many versions before the latest.
+    Old { back: u32, path: Path },
+    /// Gives the node of the client's draft the text.
+    DraftPut { path: Path, text: Text },
+    /// The text in the client's draft.
+    DraftGet { path: Path },
+    /// The tree at the path becomes the client's draft.
+    Take { path: Path },
+    /// A new version with the client's draft at the path.
+    Publish { path: Path },
 }
 
 /// The answer to a command. `shown` is the number of the version that it speaks of.
@@ -50,12 +70,44 @@ impl Command {
                 path: path.copy()?,
                 text: text.copy()?,
             }),
+            Command::Del { path } => Ok(Command::Del { path: path.copy()? }),
+            Command::Copy { from, to } => Ok(Command::Copy {
+                from: from.copy()?,
+                to: to.copy()?,
+            }),
             Command::Get { path } => Ok(Command::Get { path: path.copy()? }),
+            Command::List { path } => Ok(Command::List { path: path.copy()? }),
+            Command::Size { path } => Ok(Command::Size { path: path.copy()? }),
+            Command::Old { back, path } => Ok(Command::Old {
+                back: *back,
+                path: path.copy()?,
+            }),
+            Command::DraftPut { path, text } => Ok(Command::DraftPut {
+                path: path.copy()?,
+                text: text.copy()?,
+            }),
+            Command::DraftGet { path } => Ok(Command::DraftGet { path: path.copy()? }),
+            Command::Take { path } => Ok(Command::Take { path: path.copy()? }),
+            Command::Publish { path } => Ok(Command::Publish { path: path.copy()? }),
         }
     }
 }
 
 impl Reply {
+    /// Whether the command made a version.
+    pub fn is_ok(&self) -> bool
+        ensures { result ≡ is_ok self.now }
+    {
+        matches!(self, Reply::Committed { .. })
+    }
+
+    /// Whether the heap was full.
+    pub fn is_full(&self) -> bool
+        ensures { result ≡ is_full self.now }
+    {
+        matches!(self, Reply::Full { .. })
+    }
+
     /// An equal reply.
     pub fn copy(&self) -> Result<Reply, NoMemory>
         ensures { IfOk result (λ reply. reply ≡ self.now) }

@@ -1,29 +1,27 @@
-//! Trees of documents, the commands on them, and the plain store that answers the commands.
+//! The commands on trees of documents, the plain store that answers them, and histories of it.
 //!
-//! Every type is seen by contracts as the mathematics of it: a name or a text is its bytes, a path
-//! the list of its names, a tree the record `DocTree`, a store the record `Store` with every
-//! version that it ever had. The layer above may rely on the answers of `PlainStore` being those of
-//! the definitions in specs/, and on no tree being copied where a part of it can be shared.
-//! How commands and replies are written as text is left to others.
+//! Every type is seen by contracts as the mathematics of it: a store is the record `Store` with
+//! every version that it ever had. The layer above may rely on the answers of `PlainStore` being
+//! those of the definitions in specs/, on `merge` and `is_legal` being the relations there, and on
+//! the law `merged_is_legal`: logs that agree on one list of versions make one legal history.
+//! Names, texts, paths and trees are those of doc_tree. How commands and replies are written as
+//! text is left to others, and so is how clients come to agree.
 //!
-//! Reading order: `text`, `path`, `tree`, `command`, `log`, `store`.
+//! Reading order: `command`, `log`, `answer`, `store`, `history`, `theorems`.
 #![tactic(auto)]
 
+mod answer;
 mod command;
-mod edit;
+mod history;
 mod log;
-mod path;
 mod store;
 #[cfg(test)]
 mod tests;
-mod text;
-mod tree;
+mod theorems;
 
 pub use crate::command::{Command, Entry, Reply};
-pub use crate::edit::EditFault;
+pub use crate::history::{is_legal, merge};
 pub use crate::log::Log;
-pub use crate::path::{Names, Path};
 pub use crate::store::PlainStore;
-pub use crate::text::{Name, Text};
-pub use crate::tree::Tree;
-pub use std::alloc::AllocError as NoMemory;
+pub use crate::theorems::merged_is_legal;
+pub use doc_tree::{EditFault, Name, Names, NoMemory, Path, Text, Tree};

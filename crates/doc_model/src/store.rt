@@ -2,16 +2,22 @@
 //!
 //! It keeps the trees that a command can still ask for and no others. That there were more is known
 //! to contracts alone: `trees` has a place for each version, and a place takes no room.
-ghost use Rattle.std.specs.Prelude.{◌≡◌, ◌≢◌, ◌<◌, ◌≤◌, [], ◌∷◌, ◌++◌, IfOk, OnOk, OnErr, length, replicate};
-ghost use Rattle.std.specs.Option.{option_copied};
-ghost use Rattle.doc_model.specs.Answers.{committed, opening_seat, refusal, text_shown, told};
-ghost use Rattle.doc_model.specs.Edits.{Gives};
-ghost use Rattle.doc_model.specs.Store.{HasRoom, IsClient, after, answer_in, entry_of, opening, seat_of, shown, tree_at};
+ghost use Rattle.std.specs.Prelude.{◌≡◌, ◌<◌, ◌≤◌, ◌-◌, ◌+◌, ◌∷◌, ◌++◌, [], ◌↔◌, IfOk, IsTrue, All, OnOk, OnErr, length};
+ghost use Rattle.std.specs.Result.{ForOk};
+ghost use Rattle.doc_tree.specs.Tree.{count, node};
+ghost use Rattle.doc_tree.specs.Edits.{Gives};
+ghost use Rattle.doc_model.specs.Answers.{committed, old_shown};
+ghost use Rattle.doc_model.specs.History.{Says};
+ghost use Rattle.doc_model.specs.Store.{IsClient, after, answer_for_in, answer_in, entry_of, opening, seat_of, shown, tree_at};
+ghost use Rattle.doc_model.specs.StoreView.{IsNext};
 
 use crate::NoMemory;
+use crate::answer::{
+    Answer, Seat, attached, count_shown, drafted, full_place, names_shown, opening_seats, refused,
+    taken, text_shown, told,
+};
 use crate::command::{Command, Entry, Reply};
-use crate::edit::EditFault;
-use crate::tree::Tree;
+use doc_tree::{EditFault, Path, Tree};
 use std::alloc::Global;
 use std::collections::VecDeque;
 use std::marker::Model;
@@ -45,24 +51,6 @@ impl Model for PlainStore {
     } };
 
     ghost invariant = { λ s. IsKept s.keep s.versions (map (λ t. t.value) s.trees.items) s.recent.items };
-}
-
-/// What a client has in the store beside the versions.
-#[derive(Drop)]
-pub(crate) struct Seat {
-    draft: Tree,
-    // The place of its last entry.
-    last: u64,
-    answered: u32,
-}
-
-/// What a command is answered, before the store takes it in. No tree stands for no change.
-#[derive(Drop)]
-pub(crate) struct Answer {
-    reply: Reply,
-    place: u64,
-    made: Option<Tree>,
-    draft: Option<Tree>,
 }
 
 impl PlainStore {
@@ -111,27 +99,83 @@ impl PlainStore {
     {
         let answer = self.reply_to(alloc, client, command)?;
         let command = command.copy()?;
-        self.enter(client, command, answer)
+        let place = answer.place;
+        let number = self.seat(client).answered + 1;
+        let reply = self.enter(client, answer)?;
+        Ok(Entry {
+            client,
+            number,
+            command,
+            reply,
+            place,
+        })
+    }
+
+    // Takes the entry in, if its reply and place are those that it has to have.
+    pub(crate) fn accept(&mut self, alloc: Global, entry: &Entry) -> Result<bool, NoMemory>
+        requires { All (λ m. m.answered < 100_000) self.old.seats }
+        ensures says { IfOk result (λ legal. IsTrue legal
+            ↔ (IsClient self.old entry.now.client × Says (answer_for_in self.old entry.now) entry.now)) }
+        ensures next { IfOk result (λ legal. IsTrue legal
+            → self.new ≡ after self.old entry.now.client (answer_for_in self.old entry.now)) }
+    {
+        if entry.client < 1 || entry.client as usize > self.seats.len() {
+            return Ok(false);
+        }
+        let answer = self.wanted(alloc, entry)?;
+        if !answer.says(entry) {
+            return Ok(false);
+        }
+        self.enter(entry.client, answer)?;
+        Ok(true)
+    }
+
+    // The answer that the entry has to have.
+    fn wanted(&self, alloc: Global, entry: &Entry) -> Result<Answer, NoMemory>
+        requires { IsClient self.now entry.now.client }
+        ensures answer { IfOk result (λ a. a ≡ answer_for_in self.now entry.now) }
+        ensures next { IfOk result (λ a. IsNext self.now a.made) }
+    {
+        if entry.reply.is_full() {
+            let seat = self.seat(entry.client);
+            if let Some(shown) = full_place(self.shown(), seat, &entry.command) {
+                return Ok(told(Reply::Full { shown }, shown));
+            }
+        }
+        self.reply_to(alloc, entry.client, &entry.command)
     }
 
     fn reply_to(&self, alloc: Global, client: u32, command: &Command) -> Result<Answer, NoMemory>
         requires { IsClient self.now client }
         ensures answer { IfOk result (λ a. a ≡ answer_in self.now client command.now) }
-        ensures room { IfOk result (λ a. HasRoom self.now a.made) }
+        ensures next { IfOk result (λ a. IsNext self.now a.made) }
     {
-        let _ = client;
+        let shown = self.shown();
         let now = self.latest();
+        let seat = self.seat(client);
         match command {
             Command::Put { path, text } => self.committed(now.set_text(alloc, path, text)),
-            Command::Get { path } => text_shown(self.shown(), self.shown(), now.node(path)),
+            Command::Del { path } => self.committed(now.delete(alloc, path)),
+            Command::Copy { from, to } => self.committed(attached(alloc, to, now, now.node(from))),
+            Command::Get { path } => text_shown(shown, shown, now.node(path)),
+            Command::List { path } => names_shown(alloc, shown, now.node(path)),
+            Command::Size { path } => Ok(count_shown(shown, now.node(path))),
+            Command::Old { back, path } => self.old_shown(*back, path),
+            Command::DraftPut { path, text } => {
+                drafted(seat.last, seat.draft.set_text(alloc, path, text))
+            }
+            Command::DraftGet { path } => text_shown(seat.last, seat.last, seat.draft.node(path)),
+            Command::Take { path } => taken(shown, now.node(path)),
+            Command::Publish { path } => self.committed(now.attach(alloc, path, &seat.draft)),
         }
     }
 
     // The edited tree as the next version.
     fn committed(&self, edited: Result<Tree, EditFault>) -> Result<Answer, NoMemory>
+        requires { ForOk edited (λ t. count t ≤ 1_000_000_000) }
         ensures answer { (wanted : _) → Gives edited wanted
             → IfOk result (λ a. a ≡ committed self.now.limits (shown self.now) wanted) }
-        ensures room { IfOk result (λ a. HasRoom self.now a.made) }
+        ensures next { IfOk result (λ a. IsNext self.now a.made) }
     {
         let shown = self.shown();
         let tree = match edited {
@@ -149,6 +193,24 @@ impl PlainStore {
         })
     }
 
+    // The text in the version so many before the latest, while it can be asked for.
+    fn old_shown(&self, back: u32, path: &Path) -> Result<Answer, NoMemory>
+        ensures answer { IfOk result (λ a. a
+            ≡ old_shown self.now.limits (shown self.now) back
+            (node path.now (tree_at self.now.trees (shown self.now - back)))) }
+        ensures next { IfOk result (λ a. IsNext self.now a.made) }
+    {
+        let shown = self.shown();
+        if u64::from(back) > shown {
+            return Ok(told(Reply::Before { shown }, shown));
+        }
+        let wanted = shown - u64::from(back);
+        if back >= self.keep {
+            return Ok(told(Reply::Gone { shown, wanted }, shown));
+        }
+        text_shown(wanted, shown, self.version_back(back).node(path))
+    }
+
     // The number of the latest version.
     fn shown(&self) -> u64
         ensures shown { result ≡ shown self.now }
@@ -158,17 +220,35 @@ impl PlainStore {
     }
 
     fn latest(&self) -> &Tree
-        ensures { result.now ≡ tree_at self.now.trees (shown self.now) }
+        ensures tree { result.now ≡ tree_at self.now.trees (shown self.now) }
+        ensures counted { count result.now ≤ 1_000_000_000 }
     {
         &self.recent[self.recent.len() - 1]
     }
 
-    // Takes the answer in, and makes the entry of it.
-    fn enter(&mut self, client: u32, command: Command, answer: Answer) -> Result<Entry, NoMemory>
+    // The tree of the version so many before the latest.
+    fn version_back(&self, back: u32) -> &Tree
+        requires there { back ≤ shown self.now }
+        requires kept { back < self.now.limits.keep }
+        ensures tree { result.now ≡ tree_at self.now.trees (shown self.now - back) }
+        ensures counted { count result.now ≤ 1_000_000_000 }
+    {
+        &self.recent[self.recent.len() - 1 - back as usize]
+    }
+
+    fn seat(&self, client: u32) -> &Seat
+        requires { IsClient self.now client }
+        ensures { result.now ≡ seat_of self.now client }
+    {
+        &self.seats[client as usize - 1]
+    }
+
+    // Takes the answer in, and gives its reply back.
+    fn enter(&mut self, client: u32, answer: Answer) -> Result<Reply, NoMemory>
         requires client { IsClient self.old client }
         requires more { (seat_of self.old client).answered < 100_000 }
-        requires room { HasRoom self.old answer.made }
-        ensures entry { IfOk result (λ entry. entry ≡ entry_of self.old client command answer) }
+        requires next { IsNext self.old answer.made }
+        ensures reply { IfOk result (λ reply. reply ≡ answer.reply) }
         ensures next { OnOk result (self.new ≡ after self.old client answer) }
         ensures err { OnErr result (self.new ≡ self.old) }
     {
@@ -187,17 +267,12 @@ impl PlainStore {
         }
         seat.last = place;
         seat.answered += 1;
-        Ok(Entry {
-            client,
-            number: seat.answered,
-            command,
-            reply,
-            place,
-        })
+        Ok(reply)
     }
 
     fn add_version(&mut self, tree: Tree) -> Result<(), NoMemory>
-        requires { length self.old.trees ≤ self.old.limits.versions }
+        requires room { length self.old.trees ≤ self.old.limits.versions }
+        requires counted { count tree ≤ 1_000_000_000 }
         ensures ok { OnOk result (self.new ≡ record self.old { trees = self.old.trees ++ tree ∷ [] }) }
         ensures err { OnErr result (self.new ≡ self.old) }
     {
@@ -210,61 +285,5 @@ impl PlainStore {
             self.recent.pop_front();
         }
         Ok(())
-    }
-}
-
-fn opening_seats(alloc: Global, clients: u32) -> Result<Vec<Seat>, NoMemory>
-    ensures { IfOk result (λ seats. seats.items ≡ replicate clients opening_seat) }
-{
-    let mut seats = Vec::with_capacity(alloc, clients as usize)?;
-    for _i in 0..clients {
-        seats.push(Seat {
-            draft: Tree::empty(alloc)?,
-            last: 0,
-            answered: 0,
-        })?;
-    }
-    Ok(seats)
-}
-
-fn told(reply: Reply, place: u64) -> Answer
-    ensures { result ≡ told reply place }
-{
-    Answer {
-        reply,
-        place,
-        made: None,
-        draft: None,
-    }
-}
-
-fn refused(fault: EditFault, shown: u64) -> Result<Answer, NoMemory>
-    ensures answer { IfOk result (λ a. a ≡ told (refusal fault shown) shown) }
-    ensures memory { OnOk result (fault ≢ EditFault.NoMemory) }
-{
-    let reply = match fault {
-        EditFault::Absent => Reply::Absent { shown },
-        EditFault::Many => Reply::Many { shown },
-        EditFault::Deep => Reply::Deep { shown },
-        EditFault::Big => Reply::Big { shown },
-        EditFault::NoMemory => return Err(NoMemory),
-    };
-    Ok(told(reply, shown))
-}
-
-// The text of a node of the version that is shown.
-fn text_shown(shown: u64, place: u64, node: Option<&Tree>) -> Result<Answer, NoMemory>
-    ensures answer { IfOk result (λ a. a ≡ text_shown shown place (option_copied node.entry)) }
-    ensures none { IfOk result (λ a. a.made ≡ None) }
-{
-    match node {
-        None => Ok(told(Reply::Absent { shown }, place)),
-        Some(tree) => Ok(told(
-            Reply::Val {
-                shown,
-                text: tree.text().copy()?,
-            },
-            place,
-        )),
     }
 }

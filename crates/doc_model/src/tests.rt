@@ -1,11 +1,7 @@
-//! What no clause says: each call on its happy path, and the limits with numbers from outside.
-use crate::{Command, EditFault, Entry, Log, Name, Names, Path, PlainStore, Reply, Text, Tree};
+//! What no clause says: each call on its happy path, and histories that are wrong in one place.
+use crate::{Command, Entry, Log, Path, PlainStore, Reply, Text, is_legal, merge};
 use std::alloc::Global;
 use std::test::Fail;
-
-fn name(alloc: Global, word: &str) -> Result<Name, Fail> {
-    Ok(Name::read(alloc, word.as_bytes())?.ok_or("a name")?)
-}
 
 fn text(alloc: Global, word: &str) -> Result<Text, Fail> {
     Ok(Text::read(alloc, word.as_bytes())?.ok_or("a text")?)
@@ -28,6 +24,13 @@ fn get(alloc: Global, from: &str) -> Result<Command, Fail> {
     })
 }
 
+fn val(alloc: Global, shown: u64, word: &str) -> Result<Reply, Fail> {
+    Ok(Reply::Val {
+        shown,
+        text: text(alloc, word)?,
+    })
+}
+
 #[test]
 fn a_text_that_was_put_is_got_back(rt: HostRuntime) -> Result<(), Fail> {
     let alloc = rt.alloc();
@@ -35,13 +38,7 @@ fn a_text_that_was_put_is_got_back(rt: HostRuntime) -> Result<(), Fail> {
     let first = store.answer(alloc, 1, &put(alloc, "a", "hello")?)?;
     let second = store.answer(alloc, 1, &get(alloc, "a")?)?;
     assert_eq!(rt; first.reply, Reply::Committed { shown: 1 });
-    assert_eq!(rt;
-        second.reply,
-        Reply::Val {
-            shown: 1,
-            text: text(alloc, "hello")?
-        }
-    );
+    assert_eq!(rt; second.reply, val(alloc, 1, "hello")?);
     assert_eq!(rt; (second.client, second.number, second.place), (1, 2, 1));
     Ok(())
 }
@@ -59,124 +56,128 @@ fn the_last_version_is_the_limit(rt: HostRuntime) -> Result<(), Fail> {
     Ok(())
 }
 
-#[test]
-fn names_texts_and_paths_are_read_at_their_limits(rt: HostRuntime) -> Result<(), Fail> {
-    let alloc = rt.alloc();
-    let long = vec![in alloc; b'a'; 4097]?;
-    assert!(rt; Name::read(alloc, &long[..64])?.is_some());
-    assert!(rt; Name::read(alloc, &long[..65])?.is_none());
-    assert!(rt; Text::read(alloc, &long[..4096])?.is_some());
-    assert!(rt; Text::read(alloc, &long)?.is_none());
-    for (word, is_name, is_text, is_path) in [
-        ("", false, true, false),
-        ("aZ09-_", true, true, true),
-        (" ~", false, true, false),
-        ("\t", false, false, false),
-        ("a/b", false, true, true),
-        ("a//b", false, true, false),
-        ("/a", false, true, false),
-        ("a/", false, true, false),
-        ("a/b/c/d/e/f/g/h", false, true, true),
-        ("a/b/c/d/e/f/g/h/i", false, true, false),
-    ] {
-        let bytes = word.as_bytes();
-        assert_eq!(rt; Name::read(alloc, bytes)?.is_some(), is_name, "name {word}");
-        assert_eq!(rt; Text::read(alloc, bytes)?.is_some(), is_text, "text {word}");
-        assert_eq!(rt; Path::read(alloc, bytes)?.is_some(), is_path, "path {word}");
+fn entry(client: u32, number: u32, command: Command, reply: Reply, place: u64) -> Entry {
+    Entry {
+        client,
+        number,
+        command,
+        reply,
+        place,
     }
-    Ok(())
 }
 
-#[test]
-fn a_path_holds_its_names(rt: HostRuntime) -> Result<(), Fail> {
-    let alloc = rt.alloc();
-    let path = path(alloc, "site/index")?.copy()?;
-    assert_eq!(rt; path.names().len(), 2);
-    assert_eq!(rt; path.names()[0].as_str(), "site");
-    assert_eq!(rt; path.names()[1].bytes(), b"index".as_slice());
-    let mut names = Names::new(alloc);
-    names.push(name(alloc, "b")?.copy()?)?;
-    assert_eq!(rt; names.copy()?.names().len(), 1);
-    assert_eq!(rt;
-        text(alloc, "Hello, reader.")?.copy()?.as_str(),
-        "Hello, reader."
-    );
-    Ok(())
-}
-
-fn site(alloc: Global) -> Result<Tree, Fail> {
-    let mut tree = Tree::empty(alloc)?;
-    for to in ["site/index/title", "site/about", "a", "site/index"] {
-        tree = tree
-            .set_text(alloc, &path(alloc, to)?, &text(alloc, to)?)
-            .ok()
-            .ok_or("set")?;
-    }
-    Ok(tree)
-}
-
-#[test]
-fn a_tree_counts_its_nodes(rt: HostRuntime) -> Result<(), Fail> {
-    let alloc = rt.alloc();
-    let tree = site(alloc)?;
-    assert_eq!(rt; (tree.count(), tree.height()), (6, 3));
-    let to = path(alloc, "site/index")?;
-    let index = tree.node(&to).ok_or("index")?;
-    assert_eq!(rt;
-        (index.count(), index.height(), index.text().as_str()),
-        (2, 1, "site/index")
-    );
-    let to = path(alloc, "site/b")?;
-    assert!(rt; tree.node(&to).is_none());
-    Ok(())
-}
-
-#[test]
-fn names_come_in_the_order_of_their_bytes(rt: HostRuntime) -> Result<(), Fail> {
-    let alloc = rt.alloc();
-    let tree = site(alloc)?;
-    let names = tree.names(alloc)?;
-    let names = names.names();
-    assert_eq!(rt; names.len(), 2);
-    assert_eq!(rt; (names[0].as_str(), names[1].as_str()), ("a", "site"));
-    Ok(())
-}
-
-fn with_text(alloc: Global, tree: &Tree, to: &str) -> Result<Result<Tree, EditFault>, Fail> {
-    let to = path(alloc, to)?;
-    let word = Text::empty(alloc);
-    Ok(tree.set_text(alloc, &to, &word))
-}
-
-#[test]
-fn a_node_has_256_children_and_no_more(rt: HostRuntime) -> Result<(), Fail> {
-    let alloc = rt.alloc();
-    let mut tree = Tree::empty(alloc)?;
-    for i in 0u32..256 {
-        let to = format!(in alloc; "d/{i:03}")?;
-        tree = with_text(alloc, &tree, &to)?.ok().ok_or("there is room")?;
-    }
-    assert!(rt; matches!(with_text(alloc, &tree, "d/256")?, Err(EditFault::Many)));
-    assert!(rt; with_text(alloc, &tree, "d/000")?.is_ok());
-    Ok(())
+// The log of a client that was answered one command, at place 1.
+fn log_of(alloc: Global, client: u32, text: Option<&str>) -> Result<Log, Fail> {
+    let mut log = Log::new(alloc, client);
+    log.reserve(1)?;
+    log.push(match text {
+        Some(word) => {
+            let reply = Reply::Committed { shown: 1 };
+            entry(client, 1, put(alloc, "a", word)?, reply, 1)
+        }
+        None => entry(client, 1, get(alloc, "b")?, Reply::Absent { shown: 1 }, 1),
+    });
+    Ok(log)
 }
 
 #[test]
 fn a_log_takes_what_there_is_room_for(rt: HostRuntime) -> Result<(), Fail> {
-    let alloc = rt.alloc();
-    let entry = Entry {
-        client: 3,
-        number: 1,
-        command: put(alloc, "a/b", "x")?,
-        reply: Reply::Absent { shown: 0 },
-        place: 0,
-    };
-    let mut log = Log::new(alloc, 3);
+    let mut log = log_of(rt.alloc(), 3, None)?;
     log.reserve(2)?;
     assert!(rt; log.spare() >= 2);
-    log.push(entry.copy()?);
     assert_eq!(rt; log.client(), 3);
     assert_eq!(rt; log.entries().len(), 1);
-    assert!(rt; log.entries()[0] == entry);
+    Ok(())
+}
+
+#[test]
+fn the_entry_that_made_a_version_comes_first(rt: HostRuntime) -> Result<(), Fail> {
+    let alloc = rt.alloc();
+    let mut logs = Vec::new(alloc);
+    logs.push(log_of(alloc, 1, None)?)?;
+    logs.push(log_of(alloc, 2, Some("x"))?)?;
+    let merged = merge(alloc, &logs)?;
+    assert_eq!(rt; merged.len(), 2);
+    assert_eq!(rt; (merged[0].client, merged[1].client), (2, 1));
+    Ok(())
+}
+
+// Adds an entry of client 1, copied on the way.
+fn add(
+    all: &mut Vec<Entry>,
+    number: u32,
+    command: Command,
+    reply: Reply,
+    place: u64,
+) -> Result<(), Fail> {
+    let entry = entry(1, number, command, reply, place);
+    all.push(entry.copy()?)?;
+    Ok(())
+}
+
+// Whether the entry may follow a put of client 1.
+fn may_follow(alloc: Global, last: &Entry) -> Result<bool, Fail> {
+    let mut all = Vec::new(alloc);
+    add(
+        &mut all,
+        1,
+        put(alloc, "a", "x")?,
+        Reply::Committed { shown: 1 },
+        1,
+    )?;
+    all.push(last.copy()?)?;
+    Ok(all.len() == 2 && is_legal(alloc, &all, 2, 8, 100)?)
+}
+
+fn may_be_got(alloc: Global, client: u32, reply: Reply, place: u64) -> Result<bool, Fail> {
+    may_follow(alloc, &entry(client, 1, get(alloc, "a")?, reply, place))
+}
+
+fn may_be_full(alloc: Global, shown: u64, place: u64) -> Result<bool, Fail> {
+    let command = put(alloc, "a", "y")?;
+    may_follow(alloc, &entry(2, 1, command, Reply::Full { shown }, place))
+}
+
+#[test]
+fn a_history_that_is_wrong_in_one_place_is_not_legal(rt: HostRuntime) -> Result<(), Fail> {
+    let alloc = rt.alloc();
+    assert!(rt; may_be_got(alloc, 2, val(alloc, 1, "x")?, 1)?);
+    assert!(rt; !may_be_got(alloc, 2, val(alloc, 1, "x")?, 0)?, "a place");
+    assert!(rt;
+        !may_be_got(alloc, 2, Reply::Absent { shown: 1 }, 1)?,
+        "a reply"
+    );
+    assert!(rt;
+        !may_be_got(alloc, 2, Reply::Full { shown: 1 }, 1)?,
+        "a get needs no cells"
+    );
+    assert!(rt; !may_be_got(alloc, 3, val(alloc, 1, "x")?, 1)?, "no client");
+    assert!(rt; !may_be_got(alloc, 0, val(alloc, 1, "x")?, 1)?, "no client");
+    Ok(())
+}
+
+#[test]
+fn a_full_heap_may_refuse_at_the_right_place(rt: HostRuntime) -> Result<(), Fail> {
+    let alloc = rt.alloc();
+    assert!(rt; may_be_full(alloc, 1, 1)?);
+    assert!(rt; !may_be_full(alloc, 0, 1)?);
+    assert!(rt; !may_be_full(alloc, 0, 0)?);
+    Ok(())
+}
+
+#[test]
+fn one_client_in_the_wrong_order_is_not_legal(rt: HostRuntime) -> Result<(), Fail> {
+    let alloc = rt.alloc();
+    let mut all = Vec::new(alloc);
+    add(&mut all, 2, get(alloc, "a")?, val(alloc, 1, "x")?, 1)?;
+    add(
+        &mut all,
+        1,
+        put(alloc, "a", "x")?,
+        Reply::Committed { shown: 1 },
+        1,
+    )?;
+    assert_eq!(rt; all.len(), 2);
+    assert!(rt; !is_legal(alloc, &all, 1, 8, 100)?);
     Ok(())
 }

@@ -3,14 +3,17 @@
 use Rattle.std.specs.Prelude.{ℕ, List, ◌++◌, Option, None, Some, codes, decimal, ◌==◌, if◌then◌else◌}
 use Rattle.cmd_text.specs.declared.fault.ScriptKind.{ScriptKind}
 use Rattle.cmd_text.specs.declared.fault.ScriptKind.TheVariants.{BadByte, NoCommand, BadNumber, BadPath, LongText, Extra}
+use Rattle.core_replay.specs.declared.fault.ScheduleKind.{ScheduleKind}
+use Rattle.core_replay.specs.declared.fault.ScheduleKind.TheVariants as schedule
 use Rattle.docheap_cli.specs.declared.fault.Fault.{Fault}
-use Rattle.docheap_cli.specs.declared.fault.Fault.TheVariants.{Usage, Script, ReadFault, WriteFault, Memory, TooLarge}
+use Rattle.docheap_cli.specs.declared.fault.Fault.TheVariants.{Usage, Script, Schedule, ReadFault, WriteFault, Memory, TooLarge}
 
 -- the status of a run
 abbrev pub status_of : Option Fault → ℕ
 status_of None = 0
 status_of (Some Usage) = 1
 status_of (Some (Script file line kind)) = 2
+status_of (Some (Schedule line kind)) = 2
 status_of (Some (ReadFault file)) = 3
 status_of (Some WriteFault) = 4
 status_of (Some Memory) = 5
@@ -25,6 +28,14 @@ kind_text_of BadPath = codes "BadPath"
 kind_text_of LongText = codes "LongText"
 kind_text_of Extra = codes "Extra"
 
+-- .. of a schedule
+abbrev pub schedule_kind_text_of : ScheduleKind → List ℕ
+schedule_kind_text_of schedule.BadByte = codes "BadByte"
+schedule_kind_text_of schedule.NoStart = codes "NoStart"
+schedule_kind_text_of schedule.NoEvent = codes "NoEvent"
+schedule_kind_text_of schedule.BadNumber = codes "BadNumber"
+schedule_kind_text_of schedule.Extra = codes "Extra"
+
 -- what is said of a file
 abbrev pub file_text_of : ℕ → List ℕ → List ℕ
 file_text_of file what = codes "docheap: file " ++ (decimal file ++ (codes ": " ++ what))
@@ -37,6 +48,7 @@ line_text_of line kind = codes "line " ++ (decimal line ++ (codes ": " ++ kind))
 abbrev pub fault_text_of : Fault → List ℕ
 fault_text_of Usage = codes "docheap: usage"
 fault_text_of (Script file line kind) = file_text_of file (line_text_of line (kind_text_of kind))
+fault_text_of (Schedule line kind) = file_text_of 1 (line_text_of line (schedule_kind_text_of kind))
 fault_text_of (ReadFault file) = file_text_of file (codes "read fault")
 fault_text_of WriteFault = codes "docheap: write fault"
 fault_text_of Memory = codes "docheap: out of memory"

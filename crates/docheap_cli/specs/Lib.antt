@@ -3,4 +3,5 @@ pub mod Fault
 pub mod Output
 pub mod Session
 pub mod Reading
+pub mod Replayed
 pub mod Ending

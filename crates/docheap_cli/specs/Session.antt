@@ -36,10 +36,13 @@ abbrev pub after_reading : Result (List Command) ScriptFault → Result (List En
 after_reading (Ok commands) = answers_of commands
 after_reading (Err fault) = Err (Script 1 fault.line fault.kind)
 
--- what the bytes of a file give
+-- what a file gives that is not too long
+abbrev pub within_size : {A : Type 0} → (List ℕ → Result A Fault) → List ℕ → Result A Fault
+within_size reading bytes = if nat_lt largest_file (length bytes) then Err (TooLarge 1) else reading bytes
+
+-- what the bytes of a script give
 abbrev pub session_of : List ℕ → Result (List Entry) Fault
-session_of bytes =
-    if nat_lt largest_file (length bytes) then Err (TooLarge 1) else after_reading (script_of bytes)
+session_of bytes = within_size (λ script. after_reading (script_of script)) bytes
 
 -- the session of some bytes, which are all that the file holds where that is told
 abbrev pub IsSession : Option (List ℕ) → Result (List Entry) Fault → Type 0

@@ -1,7 +1,8 @@
 ghost use Rattle.std.specs.Prelude.{◌≡◌, IfOk, string_bytes};
-ghost use Rattle.docheap_cli.specs.Fault.{fault_text_of, file_text_of, kind_text_of, line_text_of, status_of};
+ghost use Rattle.docheap_cli.specs.Fault.{fault_text_of, file_text_of, kind_text_of, line_text_of, schedule_kind_text_of, status_of};
 
 use cmd_text::ScriptKind;
+use core_replay::ScheduleKind;
 use doc_model::NoMemory;
 use std::alloc::Global;
 use thiserror::Error;
@@ -18,6 +19,12 @@ pub enum Fault {
         file: u32,
         line: u32,
         kind: ScriptKind,
+    },
+    /// A file is no schedule. It is the only one.
+    #[error("file 1: line {line}: {kind:?}")]
+    Schedule {
+        line: u32,
+        kind: ScheduleKind,
     },
     /// A file could not be opened or read.
     #[error("file {file}: read fault")]
@@ -53,6 +60,10 @@ fn said(alloc: Global, fault: &Fault) -> Result<String, NoMemory>
             let what = said_of_line(alloc, *line, kind_text(*kind))?;
             said_of_file(alloc, *file, what.as_str())
         }
+        Fault::Schedule { line, kind } => {
+            let what = said_of_line(alloc, *line, schedule_kind_text(*kind))?;
+            said_of_file(alloc, 1, what.as_str())
+        }
         Fault::ReadFault { file } => said_of_file(alloc, *file, "read fault"),
         Fault::WriteFault => String::from_str(alloc, "docheap: write fault"),
         Fault::Memory => String::from_str(alloc, "docheap: out of memory"),
@@ -86,6 +97,18 @@ fn kind_text(kind: ScriptKind) -> &'static str
     }
 }
 
+fn schedule_kind_text(kind: ScheduleKind) -> &'static str
+    ensures { result.now ≡ schedule_kind_text_of kind }
+{
+    match kind {
+        ScheduleKind::BadByte => "BadByte",
+        ScheduleKind::NoStart => "NoStart",
+        ScheduleKind::NoEvent => "NoEvent",
+        ScheduleKind::BadNumber => "BadNumber",
+        ScheduleKind::Extra => "Extra",
+    }
+}
+
 /// The status that the program ends with.
 pub fn status(fault: Option<Fault>) -> u8
     ensures { result ≡ status_of fault }
@@ -93,7 +116,7 @@ pub fn status(fault: Option<Fault>) -> u8
     match fault {
         None => 0,
         Some(Fault::Usage) => 1,
-        Some(Fault::Script { .. }) => 2,
+        Some(Fault::Script { .. } | Fault::Schedule { .. }) => 2,
         Some(Fault::ReadFault { .. }) => 3,
         Some(Fault::WriteFault) => 4,
         Some(Fault::Memory) => 5,

@@ -1,17 +1,19 @@
-//! The program `docheap`: a versioned store of documents answers the commands of a script.
+//! The program `docheap`: a versioned store of documents answers the commands of a script, or a
+//! schedule of the collector is replayed.
 //!
 //! `run` is the whole program as one proved call over a shelf, which files come from, and a sink,
 //! which the output goes to. `main` hands it the real ones, says the fault and ends with its
 //! status. What a file holds, and what became of standard output, no contract says: that is the
 //! trusted edge.
 //!
-//! Reading order: `request`, `words`, `fault`, `session`, `output`, `run`.
+//! Reading order: `request`, `words`, `fault`, `session`, `output`, `replayed`, `run`.
 #![tactic(auto)]
 
 mod answers;
 mod fault;
 mod outcome;
 mod output;
+mod replayed;
 mod request;
 mod run;
 mod session;

@@ -4,7 +4,8 @@ ghost use Rattle.docheap_cli.specs.Fault.{status_of};
 use crate::fault::{Fault, status};
 use doc_model::Log;
 
-/// How a run ended: its status, the fault that the status stands for, and the log of the client.
+/// How a run ended: its status, the fault that the status stands for, and the log of the client,
+/// where a script was answered.
 #[derive(Drop)]
 pub struct Outcome {
     pub status: u8,

@@ -3,4 +3,6 @@
 pub enum Request<'a> {
     /// The commands of the script in this file are answered.
     Run { name: &'a str },
+    /// The schedule in this file is replayed.
+    Replay { name: &'a str },
 }

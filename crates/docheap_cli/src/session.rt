@@ -15,10 +15,10 @@ use outside::{OutFault, READ_LIMIT, Shelf, read_file};
 use std::alloc::Global;
 
 // The only file of a run.
-const FILE: u32 = 1;
+pub(crate) const FILE: u32 = 1;
 
 // How many bytes a file has at most.
-const LARGEST_FILE: usize = 1_048_576;
+pub(crate) const LARGEST_FILE: usize = 1_048_576;
 
 // How many commands all scripts have at most.
 const MOST_COMMANDS: usize = 100_000;

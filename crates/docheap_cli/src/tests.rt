@@ -22,9 +22,14 @@ fn files(alloc: Global, bytes: &[u8]) -> Result<Vec<(String, Vec<u8>)>, AllocErr
 
 // What `run f` makes of a file with these bytes, and what it writes.
 fn outcome_of(alloc: Global, bytes: &[u8]) -> Result<(Outcome, SureSink), NoMemory> {
+    outcome_by(alloc, "run", bytes)
+}
+
+// .. another subcommand.
+fn outcome_by(alloc: Global, word: &str, bytes: &[u8]) -> Result<(Outcome, SureSink), NoMemory> {
     let mut shelf = SureShelf::new(files(alloc, bytes)?);
     let mut sink = SureSink::new(alloc);
-    let outcome = run(alloc, &words(alloc, &["run", "f"])?, &mut shelf, &mut sink);
+    let outcome = run(alloc, &words(alloc, &[word, "f"])?, &mut shelf, &mut sink);
     Ok((outcome, sink))
 }
 
@@ -65,6 +70,29 @@ fn a_faulty_script_is_refused_at_its_first_faulty_line(rt: HostRuntime) -> Resul
     ];
     for (script, text) in table {
         let (outcome, sink) = outcome_of(rt.alloc(), script)?;
+        assert_eq!(rt; outcome.status, 2, "{text}");
+        let fault = outcome.fault.ok_or("a fault")?;
+        assert_eq!(rt; fault_text(rt.alloc(), &fault)?.as_slice(), text.as_bytes());
+        assert_eq!(rt; sink.written(), b"".as_slice(), "{text}");
+    }
+    Ok(())
+}
+
+#[test]
+fn a_schedule_is_replayed_or_refused(rt: HostRuntime) -> Result<(), Fail> {
+    let bytes = b"core 2 1 1\nshow 0\npost clear\nplain\n";
+    let (outcome, sink) = outcome_by(rt.alloc(), "replay", bytes)?;
+    assert_eq!(rt; outcome.status, 0);
+    assert!(rt; outcome.log.is_none());
+    let text = "cell 0 white - - - - - =2 freed 0\nnot now 3\ndone 0\nfree 1\n";
+    assert_eq!(rt; sink.written(), text.as_bytes());
+    let table: [(&[u8], &str); 3] = [
+        (b"core 3 1 8\njump", "docheap: file 1: line 2: NoEvent"),
+        (b"begin 0", "docheap: file 1: line 1: NoStart"),
+        (b"core 0 1 1", "docheap: file 1: line 1: BadNumber"),
+    ];
+    for (schedule, text) in table {
+        let (outcome, sink) = outcome_by(rt.alloc(), "replay", schedule)?;
         assert_eq!(rt; outcome.status, 2, "{text}");
         let fault = outcome.fault.ok_or("a fault")?;
         assert_eq!(rt; fault_text(rt.alloc(), &fault)?.as_slice(), text.as_bytes());

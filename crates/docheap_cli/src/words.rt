@@ -47,6 +47,9 @@ impl Words {
             [word, name] if word.as_str() == "run" => Some(Request::Run {
                 name: name.as_str(),
             }),
+            [word, name] if word.as_str() == "replay" => Some(Request::Replay {
+                name: name.as_str(),
+            }),
             _ => None,
         }
     }

@@ -6,7 +6,7 @@ use Rattle.std.proofs.lemmas.List.{length_push}
 use Rattle.core_replay.specs.Lines.{HasAllowedSizes}
 use Rattle.core_replay.specs.Written.{are_sizes}
 use Rattle.core_replay.specs.declared.start.Sizes.{Sizes}
-use Rattle.core_replay.proofs.Lines.{goes_past, starts, goes_on, stops, ends_started, ends_unstarted, of_same}
+use Rattle.core_replay.proofs.Lines.{few_more, few_still, goes_past, starts, goes_on, stops, ends_started, ends_unstarted, of_same}
 use Rattle.core_replay.proofs.schedule.read_schedule.Goals as goal
 
 pub loop-line-preserved-in-Ok-Nothing : goal.loop-line-preserved-in-Ok-Nothing
@@ -20,6 +20,7 @@ loop-line-preserved-in-Ok-Nothing c =
     record {
       count = ap (λ n. n + 1) c.loop-line.invariant.count ∙ sym longer;
       so_far = rw longer past;
+      few = few_still c.loop-line.invariant.few;
       allowed = c.loop-line.invariant.allowed;
     }
 
@@ -36,6 +37,7 @@ loop-line-preserved-in-Ok-Start c =
     record {
       count = ap (λ n. n + 1) c.loop-line.invariant.count ∙ sym longer;
       so_far = rw longer started;
+      few = few_still c.loop-line.invariant.few;
       allowed = λ sizes same. of_same (λ (s : Sizes). IsTrue (are_sizes s)) found sizes same fits;
     }
 
@@ -52,6 +54,7 @@ loop-line-preserved c =
     record {
       count = ap (λ n. n + 1) c.loop-line.invariant.count ∙ sym longer;
       so_far = rw (longer, pushed) on;
+      few = rw pushed (few_more _ _ _ c.loop-line.invariant.few);
       allowed = c.loop-line.invariant.allowed;
     }
 

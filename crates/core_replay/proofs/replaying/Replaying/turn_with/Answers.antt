@@ -1,0 +1,34 @@
+use Rattle.std.proofs.Common.{Some, ap, subst, sym, ◌∙◌}
+use Rattle.core_replay.specs.Standing.{IsReplayed, Standing}
+use Rattle.core_replay.specs.Turns.{Ends, Stopped, turned}
+use Rattle.core_replay.proofs.Turning.{turn_falls, turn_refused, turn_taken, turn_unlooked}
+use Rattle.core_replay.proofs.replaying.Replaying.turn_with.Goals as goal
+
+pub returns-in-Err-clause-turn : goal.returns-in-Err-clause-turn
+returns-in-Err-clause-turn c =
+    turn_unlooked c.args.self.now c.args.event c.requires.plain c.in-Err.ensures.look.0
+    ∙ ap (λ p. Ends (Stopped p)) (sym c.in-Err.ensures.look.1)
+
+pub returns-in-Err-take-clause-turn : goal.returns-in-Err-take-clause-turn
+returns-in-Err-take-clause-turn c =
+    turn_refused c.args.self.now c.look.new.self c.args.event c.requires.plain c.in_default.ensures.look
+    c.in-Err-take.ensures.event.0
+    ∙ ap (λ p. Ends (Stopped p)) (sym c.in-Err-take.ensures.event.1)
+
+pub returns-then-posts-clause-turn : goal.returns-then-posts-clause-turn
+returns-then-posts-clause-turn c =
+    turn_taken c.args.self.now c.look.new.self c.take.new.self c.args.event c.requires.plain c.in_default.ensures.look
+    c.in_default-take.ensures.event
+    ∙ ap (λ b. turned b c.look.new.self (Some c.take.new.self)) (sym c.posts.ensures ∙ c.if-posts.true)
+
+pub returns-else-posts-clause-turn : goal.returns-else-posts-clause-turn
+returns-else-posts-clause-turn c =
+    turn_taken c.args.self.now c.look.new.self c.take.new.self c.args.event c.requires.plain c.in_default.ensures.look
+    c.in_default-take.ensures.event
+    ∙ ap (λ b. turned b c.look.new.self (Some c.take.new.self)) (sym c.posts.ensures ∙ c.if-posts.false)
+
+pub returns-else-posts-clause-falls : goal.returns-else-posts-clause-falls
+returns-else-posts-clause-falls c =
+    let replayed = subst (λ (p : Standing). IsReplayed p.core) c.self.view_is c.self.invariant in
+    λ goes_on. turn_falls c.args.self.now c.look.new.self c.take.new.self c.args.event replayed c.requires.plain
+    c.in_default.ensures.look c.in_default-take.ensures.event (sym c.posts.ensures ∙ c.if-posts.false)

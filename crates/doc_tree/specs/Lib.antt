@@ -1,0 +1,9 @@
+pub mod Chunks
+pub mod Edits
+pub mod Ends
+pub mod Rows
+pub mod Tree
+pub mod TreeCode
+pub mod TreeFalls
+pub mod TreeView
+pub mod Words
