@@ -48,7 +48,7 @@ fn session(alloc: Global, bytes: &[u8]) -> Result<Log, Fault>
         return Err(Fault::TooLarge { file: FILE });
     }
     match read_script(alloc, bytes) {
-        Ok(commands) => answers(alloc, &commands),
+        Ok(commands) => answers(alloc, commands),
         Err(ScriptError::Fault(fault)) => Err(fault_in(fault)),
         Err(ScriptError::NoMemory) => Err(Fault::Memory),
     }
@@ -66,8 +66,8 @@ fn fault_in(fault: ScriptFault) -> Fault
 }
 
 // The log of these commands.
-fn answers(alloc: Global, commands: &[Command]) -> Result<Log, Fault>
-    ensures session { Decides result (answers_of commands.now) }
+fn answers(alloc: Global, commands: Vec<Command>) -> Result<Log, Fault>
+    ensures session { Decides result (answers_of commands.items) }
 {
     if commands.len() > MOST_COMMANDS {
         return Err(Fault::TooLarge { file: 0 });

@@ -1,4 +1,5 @@
-use Rattle.std.proofs.Common.{◌≡◌, ◌+◌, ◌≤◌, ◌++◌, drop, length}
+use Rattle.std.proofs.Common.{◌≡◌, ◌+◌, ◌≤◌, ◌++◌, length}
+use Rattle.std.specs.Vec.Iter.{into_iter_items, into_iter_len}
 use Rattle.doc_model.specs.Store.{entries_of, seat_of}
 use Rattle.docheap_cli.specs.Session.{opening_store}
 use Rattle.docheap_cli.proofs.answers.answer_all.Given as goal
@@ -8,8 +9,9 @@ abbrev pub invariant-loop-command : goal.invariant-loop-command
 invariant-loop-command l =
     record {
       client : l.log.client ≡ 1;
-      room : length l.commands ≤ l.log.spare + l.command-index;
-      entries : l.log.entries ++ entries_of l.store 1 (drop l.command-index l.commands) ≡ entries_of opening_store 1 l.commands;
+      left : into_iter_len l.command-iterator ≡ length (into_iter_items l.command-iterator);
+      room : length (into_iter_items l.command-iterator) ≤ l.log.spare;
+      entries : l.log.entries ++ entries_of l.store 1 (into_iter_items l.command-iterator) ≡ entries_of opening_store 1 l.fn.commands.items;
       one : length l.store.seats ≡ 1;
-      answered : (seat_of l.store 1).answered ≡ l.command-index;
+      answered : (seat_of l.store 1).answered + length (into_iter_items l.command-iterator) ≤ 100_000;
     }
