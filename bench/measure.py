@@ -1,16 +1,21 @@
 #!/usr/bin/env python3
 """Measures a built docheap on generated scripts, beside other programs that take the same words.
 
-measure.py PROGRAM [OTHER ..] [--mix puts] [--lines 10000,100000] [--rounds 3]
+measure.py PROGRAM [OTHER ..] [--mix puts] [--lines 10000,100000] [--rounds 15]
 
 Each PROGRAM is run as `PROGRAM run FILE`. The script is drawn from a fixed seed. The mix `puts` is
 half puts over 10,000 paths (50 folders of 200 names) and half gets of them. The mix `all` has
 five kinds of command over 32 names of one folder: four puts to one each of get, dput, del and copy.
-The mix `copies`, which fits a file up to 96,000 lines, makes copies of copies, so that the tree counts nearly a thousand million nodes, and
-takes them away again. For each program and length it prints
-the least and the middle processor time of the rounds in seconds (user and system), and the largest
-resident memory in megabytes; then the ratios that the limits speak of. The programs take turns.
-Outputs that differ end the run with status 1.
+The mix `copies`, which fits a file up to 96,000 lines, makes copies of copies, so that the tree
+counts nearly a thousand million nodes, and takes them away again.
+
+Some machines change their speed from second to second, so least times of two programs, or of two
+lengths, compare one speed with another. Here everything that is compared takes turns: in each round
+each program runs the longest script once, and three times before it and three times after it each
+shorter one, whose middle time counts. Printed are the middle times of the rounds in seconds (user
+and system) and the largest resident memory in megabytes; then the ratios that the limits speak of,
+each taken within a round: the middle one, and in brackets what is left without the least and the
+greatest fifth. Outputs that differ end the run with status 1.
 """
 import argparse
 import hashlib
@@ -72,39 +77,57 @@ def run_once(program, name):
     return digest, usage.ru_utime + usage.ru_stime, usage.ru_maxrss / 1024
 
 
+def middle(ratios):
+    """The middle ratio, and the range without the least and the greatest fifth."""
+    rising = sorted(ratios)
+    cut = len(rising) // 5
+    return f"{statistics.median(rising):.2f} ({rising[cut]:.2f} to {rising[-1 - cut]:.2f})"
+
+
+def one_round(program, names, seen):
+    """The processor seconds of a program on each script, by the script's length."""
+    longest = max(names)
+    runs = {length: [] for length in names}
+    for length in [*sorted(names)[:-1]] * 3 + [longest] + [*sorted(names)[:-1]] * 3:
+        digest, seconds, memory = run_once(program, names[length])
+        if seen["digest"].setdefault(length, digest) != digest:
+            sys.exit(f"the outputs on {length} lines differ")
+        seen["memory"][program, length] = max(memory, seen["memory"].get((program, length), 0))
+        runs[length].append(seconds)
+    return {length: statistics.median(times) for length, times in runs.items()}
+
+
 def main():
     words = argparse.ArgumentParser(description=__doc__, formatter_class=argparse.RawDescriptionHelpFormatter)
     words.add_argument("programs", nargs="+")
     words.add_argument("--mix", choices=sorted(MIXES), default="puts")
     words.add_argument("--lines", default="10000,100000")
-    words.add_argument("--rounds", type=int, default=3)
+    words.add_argument("--rounds", type=int, default=15)
     args = words.parse_args()
-    lengths = [int(word) for word in args.lines.split(",")]
-    best = {}
+    lengths = sorted({int(word) for word in args.lines.split(",")})
+    seen = {"digest": {}, "memory": {}}
+    rounds = []
     with tempfile.TemporaryDirectory() as folder:
-        for length in lengths:
-            name = os.path.join(folder, f"script{length}")
+        names = {length: os.path.join(folder, f"script{length}") for length in lengths}
+        for length, name in names.items():
             with open(name, "wb") as file:
                 file.write(script(args.mix, length))
-            rows = {program: [] for program in args.programs}
-            for _ in range(args.rounds):
-                for program in args.programs:
-                    rows[program].append(run_once(program, name))
-            if len({row[0] for runs in rows.values() for row in runs}) != 1:
-                sys.exit(f"the outputs on {length} lines differ")
-            for program, runs in rows.items():
-                times = [row[1] for row in runs]
-                best[program, length] = min(times)
-                print(f"{length:>7} lines  {os.path.basename(program):<14} least {min(times):.3f} s  "
-                      f"middle {statistics.median(times):.3f} s  memory {max(row[2] for row in runs):.0f} MB")
+        for _ in range(args.rounds):
+            rounds.append({program: one_round(program, names, seen) for program in args.programs})
+    for length in lengths:
+        for program in args.programs:
+            print(f"{length:>7} lines  {os.path.basename(program):<14} "
+                  f"{statistics.median(turn[program][length] for turn in rounds):.4f} s  "
+                  f"{seen['memory'][program, length]:.0f} MB")
     first = args.programs[0]
     for length in lengths:
         for other in args.programs[1:]:
             print(f"{length:>7} lines  {os.path.basename(first)} to {os.path.basename(other)}: "
-                  f"{best[first, length] / best[other, length]:.2f}")
+                  f"{middle([turn[first][length] / turn[other][length] for turn in rounds])}")
     if len(lengths) > 1:
-        print(f"{os.path.basename(first)}: {lengths[-1] // lengths[0]} times the lines take "
-              f"{best[first, lengths[-1]] / best[first, lengths[0]]:.1f} times the processor time")
+        for program in args.programs:
+            print(f"{os.path.basename(program)}: {lengths[-1] // lengths[0]} times the lines take "
+                  f"{middle([turn[program][lengths[-1]] / turn[program][lengths[0]] for turn in rounds])} times the processor time")
 
 
 if __name__ == "__main__":

@@ -97,8 +97,25 @@ impl PlainStore {
             ≡ after self.old client (answer_in self.old client command.now)) }
         ensures err { OnErr result (self.new ≡ self.old) }
     {
-        let answer = self.reply_to(alloc, client, command)?;
-        let command = command.copy()?;
+        self.answer_owned(alloc, client, command.copy()?)
+    }
+
+    /// The same for a command that goes into the entry as it is, without a copy.
+    pub fn answer_owned(
+        &mut self,
+        alloc: Global,
+        client: u32,
+        command: Command,
+    ) -> Result<Entry, NoMemory>
+        requires client { IsClient self.old client }
+        requires more { (seat_of self.old client).answered < 100_000 }
+        ensures entry { IfOk result (λ entry. entry
+            ≡ entry_of self.old client command (answer_in self.old client command)) }
+        ensures next { OnOk result (self.new
+            ≡ after self.old client (answer_in self.old client command)) }
+        ensures err { OnErr result (self.new ≡ self.old) }
+    {
+        let answer = self.reply_to(alloc, client, &command)?;
         let place = answer.place;
         let number = self.seat(client).answered + 1;
         let reply = self.enter(client, answer)?;

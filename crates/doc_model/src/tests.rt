@@ -36,7 +36,7 @@ fn a_text_that_was_put_is_got_back(rt: HostRuntime) -> Result<(), Fail> {
     let alloc = rt.alloc();
     let mut store = PlainStore::new(alloc, 1, 8, 1_000_000)?;
     let first = store.answer(alloc, 1, &put(alloc, "a", "hello")?)?;
-    let second = store.answer(alloc, 1, &get(alloc, "a")?)?;
+    let second = store.answer_owned(alloc, 1, get(alloc, "a")?)?;
     assert_eq!(rt; first.reply, Reply::Committed { shown: 1 });
     assert_eq!(rt; second.reply, val(alloc, 1, "hello")?);
     assert_eq!(rt; (second.client, second.number, second.place), (1, 2, 1));

@@ -178,6 +178,26 @@ same_chunks (c ∷ cs) [] sound same = absurd same
 same_chunks (c ∷ cs) (o ∷ others) sound same =
     (rw same.0 sound.0, same_chunks cs others sound.1 same.1)
 
+-- a row in the place of a chunk's, among owners of the same chunks
+same_with_row : (cs others : Cut) (at : ℕ) (new : Kids) → AllZip (λ c other. other.value ≡ c.value) cs others → with_row others at new ≡ with_row cs at new
+same_with_row [] [] at new same = refl
+same_with_row [] (o ∷ others) at new same = absurd same
+same_with_row (c ∷ cs) [] at new same = absurd same
+same_with_row (c ∷ cs) (o ∷ others) zero new same = rw (same_kids cs others same.1) refl
+same_with_row (c ∷ cs) (o ∷ others) (suc at) new same =
+    rw (same.0, same_with_row cs others at new same.1) refl
+
+-- the children with one more, made among owners of the same chunks
+pub put_at : (n : List ℕ) (d : DocTree) (cs others : Cut) (at : ℕ) (c : Rc Chunk Global) → AllZip (λ c other. other.value ≡ c.value) cs others → IsIn n cs at → c ≡ get_or cs at c → with_row others at (put_child n d (row_of c.value.row.items)) ≡ put_child n d (kids_of cs)
+put_at n d cs others at c same here is =
+    same_with_row cs others at (put_child n d (row_of c.value.row.items)) same ∙ in_put n d cs at c here is
+
+pub same_room : (cs others : Cut) (at : ℕ) → AllZip (λ c other. other.value ≡ c.value) cs others → at < length cs → at < length others
+same_room [] others at same h = absurd (omega (arith, h))
+same_room (c ∷ cs) [] at same h = absurd same
+same_room (c ∷ cs) (o ∷ others) zero same h = omega arith
+same_room (c ∷ cs) (o ∷ others) (suc at) same h = omega (arith, same_room cs others at same.1 (omega (arith, h)))
+
 pub chunks_set : (cs : Cut) (at : ℕ) (c : Rc Chunk Global) → AreChunks cs → IsChunk c.value → AreChunks (set cs at c)
 chunks_set [] at new sound is = tt
 chunks_set (c ∷ cs) zero new sound is = (is, sound.1)

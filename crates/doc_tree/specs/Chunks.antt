@@ -1,10 +1,11 @@
 -- What a list of chunks shows, and in which of them a name belongs.
-use Rattle.std.specs.Prelude.{◌≡◌, ◌<◌, ℕ, zero, suc, List, [], ◌∷◌, length}
+use Rattle.std.specs.Prelude.{◌≡◌, ◌<◌, ℕ, zero, suc, List, [], ◌∷◌, length, get_or, MatchResult}
 use Rattle.std.specs.declared.rc.Rc.{Rc}
 use Rattle.std.specs.declared.alloc.Global.{Global}
 use Rattle.doc_tree.specs.declared.chunk.Chunk.{Chunk}
+use Rattle.doc_tree.specs.declared.kids.Place.{Place}
 use Rattle.doc_tree.specs.Tree.{Kids, no_kids, nodes_below, height_below, IsAbove}
-use Rattle.doc_tree.specs.Rows.{as_u64, as_u32, row_of, join, IsBelow}
+use Rattle.doc_tree.specs.Rows.{as_u64, as_u32, row_of, join, IsBelow, IsHere, IsGap}
 
 abbrev pub kids_of : List (Rc Chunk Global) → Kids
 kids_of [] = no_kids
@@ -31,3 +32,9 @@ abbrev pub IsIn : List ℕ → List (Rc Chunk Global) → ℕ → Type 0
 IsIn n [] at = ⊥
 IsIn n (c ∷ cs) zero = IsAbove n (kids_of cs)
 IsIn n (c ∷ cs) (suc at) = IsBelow n (row_of c.value.row.items) × IsIn n cs at
+
+-- a place among chunks is that of a name: its chunk is the one where the name belongs, and in the row of
+-- that one the child of that name stands there, or would go there
+pub record IsPlace (n : List ℕ) (cs : List (Rc Chunk Global)) (p : Place) : Type 0 where
+  pub chunk : 0 < length cs → IsIn n cs p.chunk
+  pub kid : (c : Rc Chunk Global) → p.chunk < length cs → c ≡ get_or cs p.chunk c → MatchResult p.kid (IsHere n (row_of c.value.row.items)) (IsGap n (row_of c.value.row.items))

@@ -20,8 +20,8 @@ use std::rc::Rc;
 #[cycle(tree)]
 #[derive(Drop)]
 pub(crate) struct Kid {
-    pub(crate) name: Name,
     pub(crate) tree: Tree,
+    pub(crate) name: Name,
 }
 
 /// Kids one after another, and what they count up to.
@@ -55,26 +55,37 @@ impl Chunk {
     }
 }
 
-/// The tree of the kid of that name.
+/// Where the kid of that name stands in the row, or where it would go, and its tree if there is one.
 #[tactic(auto, using(crate::proofs::Places::here_room, crate::proofs::Places::here_child, crate::proofs::Places::gap_child))]
-pub(crate) fn child_in_row<'a>(row: &'a [Rc<Kid>], name: &Name) -> Option<&'a Tree>
+pub(crate) fn find_in_row<'a>(
+    row: &'a [Rc<Kid>],
+    name: &Name,
+) -> (Result<usize, usize>, Option<&'a Tree>)
     requires { IsRising (row_of row.now) }
-    ensures { option_copied result ≡ child name.now (row_of row.now) }
+    ensures place { MatchResult result.0 (IsHere name.now (row_of row.now))
+        (IsGap name.now (row_of row.now)) }
+    ensures tree { option_copied result.1 ≡ child name.now (row_of row.now) }
 {
     match find(row, name) {
-        Ok(at) => Some(&row[at].tree),
-        Err(_) => None,
+        Ok(at) => (Ok(at), Some(&row[at].tree)),
+        Err(at) => (Err(at), None),
     }
 }
 
+/// The kids with one more at its place, in the place of that of its name if there is one.
 #[tactic(auto, using(crate::proofs::Places::here_room, crate::proofs::Places::gap_room, crate::proofs::Places::set_here, crate::proofs::Places::insert_gap))]
-pub(crate) fn with_kid_in_row(row: &Vec<Rc<Kid>>, kid: Rc<Kid>) -> Result<Vec<Rc<Kid>>, NoMemory>
-    requires { IsRising (row_of row.now.items) }
+pub(crate) fn with_kid_in_row(
+    row: &Vec<Rc<Kid>>,
+    place: Result<usize, usize>,
+    kid: Rc<Kid>,
+) -> Result<Vec<Rc<Kid>>, NoMemory>
+    requires { MatchResult place (IsHere kid.value.name (row_of row.now.items))
+        (IsGap kid.value.name (row_of row.now.items)) }
     ensures { IfOk result (λ all. row_of all.items
         ≡ put_child kid.value.name kid.value.tree (row_of row.now.items)) }
 {
     let mut all = shared_row(row)?;
-    match find(&all, &kid.name) {
+    match place {
         Ok(at) => all[at] = kid,
         Err(at) => all.insert(at, kid)?,
     }
@@ -124,7 +135,7 @@ fn sizes_of_row(row: &[Rc<Kid>]) -> (u64, u32)
     (nodes, levels)
 }
 
-// Where the child of that name stands in the row, or where it would go.
+// Where the kid of that name stands in the row, or where it would go.
 fn find(row: &[Rc<Kid>], name: &Name) -> Result<usize, usize>
     requires { IsRising (row_of row.now) }
     ensures { MatchResult result (IsHere name.now (row_of row.now)) (IsGap name.now (row_of row.now)) }

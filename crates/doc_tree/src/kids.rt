@@ -2,15 +2,16 @@
 //!
 //! An edit copies the list of chunks and the one chunk that it changes, and shares all others.
 ghost use Rattle.std.specs.Prelude.{◌≡◌, ◌<◌, ◌≤◌, ◌+◌, IfOk, OnOk, length};
+ghost use Rattle.std.specs.List.{AllZip};
 ghost use Rattle.std.specs.Option.{option_copied};
 ghost use Rattle.doc_tree.specs.Tree.{child, height_below, kid_count, names_of, nodes_below, put_child, IsRising};
 ghost use Rattle.doc_tree.specs.Edits.{delete_child};
 ghost use Rattle.doc_tree.specs.Rows.{as_u32, as_u64, row_of};
-ghost use Rattle.doc_tree.specs.Chunks.{kids_of, with_row, AreChunks, IsIn};
+ghost use Rattle.doc_tree.specs.Chunks.{kids_of, with_row, AreChunks, IsIn, IsPlace};
 
 use crate::NoMemory;
 use crate::chunk::{
-    Chunk, Kid, child_in_row, make_chunk, push_names, with_kid_in_row, without_kid_in_row,
+    Chunk, Kid, find_in_row, make_chunk, push_names, with_kid_in_row, without_kid_in_row,
 };
 use crate::path::Names;
 use crate::text::Name;
@@ -21,43 +22,57 @@ use std::rc::Rc;
 // A chunk has at most this many kids: one more, and it is cut in halves.
 const MOST_KIDS: usize = 16;
 
-/// The tree of the child of that name.
-#[tactic(auto, using(crate::proofs::Chunks::in_room, crate::proofs::Chunks::in_rising, crate::proofs::Chunks::in_child))]
-pub(crate) fn child<'a>(chunks: &'a [Rc<Chunk>], name: &Name) -> Option<&'a Tree>
-    requires chunks { AreChunks chunks.now }
-    requires rising { IsRising (kids_of chunks.now) }
-    ensures { option_copied result ≡ child name.now (kids_of chunks.now) }
-{
-    if chunks.is_empty() {
-        return None;
-    }
-    let at = chunk_of(chunks, name);
-    child_in_row(&chunks[at].row, name)
+/// Where a child stands, or where it would go: a chunk, and a place in its row.
+#[derive(Drop)]
+pub(crate) struct Place {
+    chunk: usize,
+    kid: Result<usize, usize>,
 }
 
-/// The children with one more, in the place of that of its name if there is one.
-#[tactic(auto, using(crate::proofs::Chunks::in_room, crate::proofs::Chunks::in_rising, crate::proofs::Chunks::in_put))]
+/// The place of the child of that name, and its tree if there is one.
+#[tactic(auto, using(crate::proofs::Chunks::in_room, crate::proofs::Chunks::in_rising, crate::proofs::Chunks::in_child))]
+pub(crate) fn find_child<'a>(chunks: &'a [Rc<Chunk>], name: &Name) -> (Place, Option<&'a Tree>)
+    requires chunks { AreChunks chunks.now }
+    requires rising { IsRising (kids_of chunks.now) }
+    ensures place { IsPlace name.now chunks.now result.0 }
+    ensures child { option_copied result.1 ≡ child name.now (kids_of chunks.now) }
+{
+    if chunks.is_empty() {
+        let place = Place {
+            chunk: 0,
+            kid: Err(0),
+        };
+        return (place, None);
+    }
+    let chunk = chunk_of(chunks, name);
+    let (kid, tree) = find_in_row(&chunks[chunk].row, name);
+    (Place { chunk, kid }, tree)
+}
+
+/// The children with one more at its place, instead of that of its name if there is one.
+#[tactic(auto, using(crate::proofs::Chunks::in_room, crate::proofs::Chunks::put_at))]
 pub(crate) fn with_kid(
     alloc: Global,
     chunks: &Vec<Rc<Chunk>>,
+    place: Place,
     kid: Rc<Kid>,
 ) -> Result<Vec<Rc<Chunk>>, NoMemory>
     requires chunks { AreChunks chunks.now.items }
-    requires rising { IsRising (kids_of chunks.now.items) }
+    requires place { IsPlace kid.value.name chunks.now.items place }
     ensures chunks { IfOk result (λ all. AreChunks all.items) }
     ensures kids { IfOk result (λ all. kids_of all.items
         ≡ put_child kid.value.name kid.value.tree (kids_of chunks.now.items)) }
 {
     let mut all = shared(chunks)?;
-    if all.is_empty() {
+    if chunks.is_empty() {
         let mut row = Vec::new(alloc);
         row.push(kid)?;
         all.push(make_chunk(alloc, row)?)?;
         return Ok(all);
     }
-    let at = chunk_of(&all, &kid.name);
-    let row = with_kid_in_row(&all[at].row, kid)?;
-    put_row(alloc, &mut all, at, row)?;
+    let Place { chunk, kid: at } = place;
+    let row = with_kid_in_row(&chunks[chunk].row, at, kid)?;
+    put_row(alloc, &mut all, chunk, row)?;
     Ok(all)
 }
 
@@ -116,6 +131,7 @@ pub(crate) fn shared(chunks: &Vec<Rc<Chunk>>) -> Result<Vec<Rc<Chunk>>, NoMemory
     requires { AreChunks chunks.now.items }
     ensures chunks { IfOk result (λ all. AreChunks all.items) }
     ensures kids { IfOk result (λ all. kids_of all.items ≡ kids_of chunks.now.items) }
+    ensures same { IfOk result (λ all. AllZip (λ c other. other.value ≡ c.value) chunks.now.items all.items) }
 {
     chunks.clone()
 }

@@ -6,6 +6,7 @@ ghost use Rattle.doc_tree.specs.Tree.{name_cmp};
 ghost use Rattle.doc_tree.specs.Words.{name_of, text_of, is_name, is_text, is_name_byte, is_text_byte};
 
 use crate::NoMemory;
+use smallvec::SmallVec;
 use std::alloc::Global;
 use std::cmp::Ordering;
 use std::fmt;
@@ -14,42 +15,44 @@ use std::marker::Model;
 /// The name of a child among its siblings: 1 to 64 letters, digits, `-` and `_`.
 #[derive(Drop)]
 pub struct Name {
-    // The letters are the first `len` of these bytes: a name is copied without new memory, and is
-    // compared where it lies.
-    len: u8,
-    bytes: [u8; 64],
+    letters: SmallVec<u8, 16>,
 }
 
 impl Model for Name {
-    ghost use Rattle.std.specs.Prelude.{List, ℕ, IsTrue, ◌≤◌, take};
+    ghost use Rattle.std.specs.Prelude.{List, ℕ, IsTrue};
     ghost use Rattle.doc_tree.specs.Words.{is_name};
 
     ghost Value = { List ℕ };
 
-    ghost view = { λ n. take n.len n.bytes };
+    ghost view = { λ n. n.letters.items };
 
-    ghost invariant = { λ n. (n.len ≤ 64) × IsTrue (is_name (take n.len n.bytes)) };
+    ghost invariant = { λ n. IsTrue (is_name n.letters.items) };
 }
 
 /// What a node of a tree says: 0 to 4,096 characters from the space to the tilde.
-#[derive(Debug, Drop)]
+#[derive(Drop)]
 pub struct Text {
-    letters: String,
+    letters: SmallVec<u8, 16>,
 }
 
 impl Model for Text {
     ghost use Rattle.std.specs.Prelude.{List, ℕ, IsTrue};
-    ghost use Rattle.std.specs.String.{string_bytes};
     ghost use Rattle.doc_tree.specs.Words.{is_text};
 
     ghost Value = { List ℕ };
 
-    ghost view = { λ t. string_bytes t.letters };
+    ghost view = { λ t. t.letters.items };
 
-    ghost invariant = { λ t. IsTrue (is_text (string_bytes t.letters)) };
+    ghost invariant = { λ t. IsTrue (is_text t.letters.items) };
 }
 
 impl fmt::Debug for Name {
+    fn fmt<W: fmt::Write>(&self, f: &mut fmt::Formatter<W>) -> fmt::Result {
+        fmt::Debug::fmt(self.as_str(), f)
+    }
+}
+
+impl fmt::Debug for Text {
     fn fmt<W: fmt::Write>(&self, f: &mut fmt::Formatter<W>) -> fmt::Result {
         fmt::Debug::fmt(self.as_str(), f)
     }
@@ -84,11 +87,12 @@ impl Name {
     pub fn read(alloc: Global, bytes: &[u8]) -> Result<Option<Name>, NoMemory>
         ensures { IfOk result (λ name. name ≡ name_of bytes.now) }
     {
-        let _ = alloc;
         if !is_name(bytes) {
             return Ok(None);
         }
-        Ok(Some(made(bytes)))
+        Ok(Some(Name {
+            letters: SmallVec::from_slice(alloc, bytes)?,
+        }))
     }
 
     /// An equal name.
@@ -96,8 +100,7 @@ impl Name {
         ensures { IfOk result (λ name. name ≡ self.now) }
     {
         Ok(Name {
-            len: self.len,
-            bytes: self.bytes,
+            letters: copied(&self.letters)?,
         })
     }
 
@@ -105,7 +108,7 @@ impl Name {
         ensures bytes { result.now ≡ self.now }
         ensures name { IsTrue (is_name self.now) }
     {
-        &self.bytes[..self.len as usize]
+        self.letters.as_slice()
     }
 
     #[tactic(auto, using(crate::proofs::Plain::name_is_ascii))]
@@ -135,7 +138,7 @@ impl PartialEq for Text {
     ghost laws = { partial_equiv_from_equiv nat_list_eq_equiv };
 
     fn eq(&self, other: &Text) -> bool {
-        self.letters == other.letters
+        self.bytes() == other.bytes()
     }
 }
 
@@ -154,7 +157,7 @@ impl Text {
         ensures { result ≡ [] }
     {
         Text {
-            letters: String::new(alloc),
+            letters: SmallVec::new(alloc),
         }
     }
 
@@ -167,7 +170,7 @@ impl Text {
             return Ok(None);
         }
         Ok(Some(Text {
-            letters: String::from_str(alloc, ascii(bytes))?,
+            letters: SmallVec::from_slice(alloc, bytes)?,
         }))
     }
 
@@ -176,7 +179,7 @@ impl Text {
         ensures { IfOk result (λ text. text ≡ self.now) }
     {
         Ok(Text {
-            letters: self.letters.clone()?,
+            letters: copied(&self.letters)?,
         })
     }
 
@@ -184,27 +187,22 @@ impl Text {
         ensures bytes { result.now ≡ self.now }
         ensures text { IsTrue (is_text self.now) }
     {
-        self.letters.as_bytes()
+        self.letters.as_slice()
     }
 
     pub fn as_str(&self) -> &str
         ensures bytes { result.now ≡ self.now }
         ensures text { IsTrue (is_text self.now) }
     {
-        self.letters.as_str()
+        ascii(self.bytes())
     }
 }
 
-fn made(bytes: &[u8]) -> Name
-    requires { IsTrue (is_name bytes.now) }
-    ensures { result ≡ bytes.now }
+// The same letters once more.
+fn copied(letters: &SmallVec<u8, 16>) -> Result<SmallVec<u8, 16>, NoMemory>
+    ensures { IfOk result (λ copy. copy.items ≡ letters.now.items) }
 {
-    let mut all = [0; Name::MOST];
-    all[..bytes.len()].copy_from_slice(bytes);
-    Name {
-        len: bytes.len() as u8,
-        bytes: all,
-    }
+    SmallVec::from_slice(*letters.allocator(), letters.as_slice())
 }
 
 fn is_name(bytes: &[u8]) -> bool

@@ -2,16 +2,16 @@
 //! from the root to the place of the edit alone, and points to the old ones everywhere else.
 ghost use Rattle.std.specs.Prelude.{◌≡◌, ◌<◌, ◌≤◌, ◌+◌, ◌↔◌, IfOk, IsTrue, MatchResult, None};
 ghost use Rattle.std.specs.Option.{option_copied};
-ghost use Rattle.doc_tree.specs.Tree.{empty, node, child, count, height, names_of, kid_count, IsRising};
-ghost use Rattle.doc_tree.specs.Edits.{Gives, attach, delete, edit_along, set_text, with_child, with_text, within_limits, without_child};
+ghost use Rattle.doc_tree.specs.Tree.{empty, node, child, count, height, names_of, kid_count, put_child, IsRising};
+ghost use Rattle.doc_tree.specs.Edits.{Gives, attach, delete, edit_along, set_text, with_text, within_limits, without_child};
 ghost use Rattle.doc_tree.specs.Ends.{tree_at_end};
 ghost use Rattle.doc_tree.specs.Rows.{as_u64, as_u32};
-ghost use Rattle.doc_tree.specs.Chunks.{kids_of, AreChunks};
+ghost use Rattle.doc_tree.specs.Chunks.{kids_of, AreChunks, IsPlace};
 
 use crate::NoMemory;
 use crate::chunk::{Chunk, Kid};
 use crate::edit::EditFault;
-use crate::kids::{child, count, names_of, shared, sizes, with_kid, without_kid};
+use crate::kids::{Place, count, find_child, names_of, shared, sizes, with_kid, without_kid};
 use crate::path::{Names, Path};
 use crate::text::{Name, Text};
 use std::alloc::Global;
@@ -146,12 +146,13 @@ impl Tree {
         let [name, rest @ ..] = names else {
             return Ok(self.at_end(end)?);
         };
-        let edited = match self.child(name) {
+        let (place, child) = find_child(&self.kids, name);
+        let edited = match child {
             Some(tree) => tree.edit_along(alloc, rest, end)?,
             None if self.is_full() => return Err(EditFault::Many),
             None => Tree::empty(alloc)?.edit_along(alloc, rest, end)?,
         };
-        Ok(self.with_child(alloc, name, edited)?)
+        Ok(put_kid(alloc, &self.text, &self.kids, place, name, edited)?)
     }
 
     fn at_end(&self, end: &End) -> Result<Tree, NoMemory>
@@ -176,14 +177,15 @@ impl Tree {
         let [name, rest @ ..] = names else {
             return Err(EditFault::Absent);
         };
-        let Some(tree) = self.child(name) else {
+        let (place, child) = find_child(&self.kids, name);
+        let Some(tree) = child else {
             return Err(EditFault::Absent);
         };
         if rest.is_empty() {
             return Ok(self.without_child(alloc, name)?);
         }
         let edited = tree.delete_along(alloc, rest)?;
-        Ok(self.with_child(alloc, name, edited)?)
+        Ok(put_kid(alloc, &self.text, &self.kids, place, name, edited)?)
     }
 
     // The limits on a whole tree, of which each edit asks once.
@@ -226,23 +228,7 @@ impl Tree {
     fn child(&self, name: &Name) -> Option<&Tree>
         ensures { option_copied result ≡ child name.now self.now.kids }
     {
-        child(&self.kids, name)
-    }
-
-    #[tactic(auto, using(crate::proofs::Rising::rising_put, crate::proofs::Rising::room_put))]
-    fn with_child(&self, alloc: Global, name: &Name, tree: Tree) -> Result<Tree, NoMemory>
-        requires { child name.now self.now.kids ≡ None → kid_count self.now.kids < 256 }
-        ensures { IfOk result (λ whole. whole ≡ with_child name.now tree self.now) }
-    {
-        let kid = Rc::new(
-            alloc,
-            Kid {
-                name: name.copy()?,
-                tree,
-            },
-        )?;
-        let kids = with_kid(alloc, &self.kids, kid)?;
-        Ok(made(self.text.clone()?, kids))
+        find_child(&self.kids, name).1
     }
 
     #[tactic(auto, using(crate::proofs::Rising::rising_delete, crate::proofs::Rising::count_delete))]
@@ -252,6 +238,36 @@ impl Tree {
         let kids = without_kid(alloc, &self.kids, name)?;
         Ok(made(self.text.clone()?, kids))
     }
+}
+
+// The tree of this text and these children, with one more at its place.
+#[tactic(auto, using(crate::proofs::Rising::rising_put, crate::proofs::Rising::room_put))]
+fn put_kid(
+    alloc: Global,
+    text: &Rc<Text>,
+    kids: &Vec<Rc<Chunk>>,
+    place: Place,
+    name: &Name,
+    tree: Tree,
+) -> Result<Tree, NoMemory>
+    requires chunks { AreChunks kids.now.items }
+    requires rising { IsRising (kids_of kids.now.items) }
+    requires few { kid_count (kids_of kids.now.items) ≤ 256 }
+    requires room { child name.now (kids_of kids.now.items) ≡ None
+        → kid_count (kids_of kids.now.items) < 256 }
+    requires place { IsPlace name.now kids.now.items place }
+    ensures { IfOk result (λ whole. whole
+        ≡ record { text = text.now.value; kids = put_child name.now tree (kids_of kids.now.items) }) }
+{
+    let kid = Rc::new(
+        alloc,
+        Kid {
+            tree,
+            name: name.copy()?,
+        },
+    )?;
+    let kids = with_kid(alloc, kids, place, kid)?;
+    Ok(made(text.clone()?, kids))
 }
 
 fn made(text: Rc<Text>, kids: Vec<Rc<Chunk>>) -> Tree

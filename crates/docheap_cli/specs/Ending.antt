@@ -55,10 +55,10 @@ IsLarge (Some (Run name)) bytes = IsTooLarge bytes
 IsLarge (Some (Replay name)) bytes = largest_file < length bytes
 
 -- the file of the request is refused with this fault, which is told of it
-abbrev pub IsRefused : (List ℕ → Option (List ℕ)) → Option Asked → Fault → Type 0
-IsRefused holds None fault = ⊥
-IsRefused holds (Some (Run name)) fault = IsSession (holds name) (Err fault)
-IsRefused holds (Some (Replay name)) fault = IsReading (holds name) (Err fault)
+abbrev pub IsFileFault : (List ℕ → Option (List ℕ)) → Option Asked → Fault → Type 0
+IsFileFault holds None fault = ⊥
+IsFileFault holds (Some (Run name)) fault = IsSession (holds name) (Err fault)
+IsFileFault holds (Some (Replay name)) fault = IsReading (holds name) (Err fault)
 
 -- nothing was written, or a part of the output of the file's session
 abbrev pub WritesPart : Option (List ℕ) → Option (List ℕ) → Option (List ℕ) → Type 0

@@ -25,7 +25,7 @@ pub fn answer_all(alloc: Global, commands: Vec<Command>) -> Result<Log, NoMemory
     let mut log = Log::new(alloc, CLIENT);
     log.reserve(commands.len())?;
     for command in commands {
-        log.push(store.answer(alloc, CLIENT, &command)?);
+        log.push(store.answer_owned(alloc, CLIENT, command)?);
     }
     Ok(log)
 }

@@ -13,11 +13,11 @@ ghost use Rattle.docheap_cli.specs.Request.{IfReplay, IfRun, IsReplayAnd, IsRun,
 ghost use Rattle.docheap_cli.specs.Output.{output_of};
 ghost use Rattle.docheap_cli.specs.Replayed.{IsFaultySchedule, IsReading};
 ghost use Rattle.docheap_cli.specs.Session.{IsSession, IsLog, IsFaultyScript};
-ghost use Rattle.docheap_cli.specs.Ending.{file_of, opens_after, IsLarge, IsLastOpened, IsRefused, IsUnhindered, IsRefusal, IsWanted, Explains, ExplainsReplay, Writes, WritesFront, WritesPartOf, WritesReplay, WritesText};
+ghost use Rattle.docheap_cli.specs.Ending.{file_of, opens_after, IsLarge, IsLastOpened, IsFileFault, IsUnhindered, IsRefusal, IsWanted, Explains, ExplainsReplay, Writes, WritesFront, WritesPartOf, WritesReplay, WritesText};
 
 use crate::fault::Fault;
 use crate::outcome::Outcome;
-use crate::output::output_lines;
+use crate::output::output_text;
 use crate::replayed::replay_in_file;
 use crate::request::Request;
 use crate::session::session_in_file;
@@ -66,7 +66,7 @@ pub fn run<H: Shelf, S: Sink>(alloc: Global, words: &Words, shelf: &mut H, sink:
         (result.status ≡ 6)
         ↔ (IsUnhindered result.status × IsLarge (request_of words.now) bytes)) }
     ensures large_file { (file : ℕ) → result.fault ≡ Some (Fault.TooLarge file) →
-        IsRefused (H.holds shelf.old) (request_of words.now) (Fault.TooLarge file) }
+        IsFileFault (H.holds shelf.old) (request_of words.now) (Fault.TooLarge file) }
 
     // A device failed, or memory was wanting.
     ensures read { result.status ≡ 3 → Rose (H.faults shelf.old) (H.faults shelf.new) }
@@ -108,10 +108,10 @@ fn run_script<H: Shelf, S: Sink>(alloc: Global, name: &str, shelf: &mut H, sink:
         Ok(log) => log,
         Err(fault) => return Outcome::refused(fault),
     };
-    let Ok(lines) = output_lines(alloc, &log) else {
+    let Ok(text) = output_text(alloc, &log) else {
         return Outcome::refused(Fault::Memory);
     };
-    match write_lines(sink, &lines) {
+    match write_lines(sink, &text) {
         Ok(()) => Outcome::new(None, Some(log)),
         Err(OutFault::Failed) => Outcome::new(Some(Fault::WriteFault), Some(log)),
         Err(OutFault::NoMemory) => Outcome::refused(Fault::Memory),

@@ -3,8 +3,7 @@
 -- The bytes that a name holds, that are left of an open file or that a sink has taken are `None`
 -- where the object does not tell them: then nothing is claimed of them.
 -- Source: this project's own.
-use Rattle.std.specs.Prelude.{◌≡◌, ℕ, ◌<◌, ◌≤◌, List, ◌++◌, length, take, Option, None, Some, Result, IfOk, flat_map, Vec, ⊤}
-use Rattle.std.specs.declared.alloc.Global.{Global}
+use Rattle.std.specs.Prelude.{◌≡◌, ℕ, ◌+◌, ◌<◌, ◌≤◌, ◌==◌, Bool, List, [], ◌++◌, length, take, drop, position, Option, None, Some, Result, IfOk, ⊤}
 use Rattle.std.specs.Io.KnownBytes.{Appends, Consumes}
 
 -- a call took at most the whole piece, and at least a byte of a piece that is not empty
@@ -25,6 +24,14 @@ AddsRead left after old new count =
 abbrev pub AppendsPart : Option (List ℕ) → Option (List ℕ) → List ℕ → Type 0
 AppendsPart old new bytes = (n : ℕ) × (n < length bytes) × Appends old new (take n bytes)
 
--- the bytes of lines, one after another
-abbrev pub joined : List (Vec ℕ Global) → List ℕ
-joined lines = flat_map (λ line. line.items) lines
+abbrev pub is_line_feed : ℕ → Bool
+is_line_feed byte = byte == 10
+
+-- a text cut behind the byte at this place
+abbrev pub cut_behind : Option ℕ → List ℕ → List ℕ × List ℕ
+cut_behind (Some at) text = (take (at + 1) text, drop (at + 1) text)
+cut_behind None text = (text, [])
+
+-- the first line of a text, with its line feed, and what stands after it
+abbrev pub first_line : List ℕ → List ℕ × List ℕ
+first_line text = cut_behind (position is_line_feed text) text

@@ -15,9 +15,7 @@ fn two_files(alloc: Global) -> Result<Files, AllocError> {
     Ok(vec![in alloc; (a, four), (b, Vec::new(alloc))]?)
 }
 
-fn two_lines(alloc: Global) -> Result<Vec<Vec<u8>>, AllocError> {
-    Ok(vec![in alloc; b"client 1\n".to_vec(alloc)?, b"ok 1\n".to_vec(alloc)?]?)
-}
+const TWO_LINES: &[u8] = b"client 1\nok 1\n";
 
 #[test]
 fn a_file_is_read_to_its_end(rt: HostRuntime) -> Result<(), Fail> {
@@ -64,30 +62,24 @@ fn one_byte_more_than_the_largest_file_is_read(rt: HostRuntime) -> Result<(), Fa
 // With three bytes a call, the lines of nine and five bytes take three calls and two.
 #[test]
 fn a_line_is_one_piece_and_its_rest_is_offered_again(rt: HostRuntime) -> Result<(), Fail> {
-    let lines = two_lines(rt.alloc())?;
     for (most, calls) in [(100, 2), (3, 5)] {
         let mut sink = MemSink::new(most, Vec::new(rt.alloc()));
-        write_lines(&mut sink, &lines)?;
-        assert_eq!(rt;
-            sink.written(),
-            b"client 1\nok 1\n".as_slice(),
-            "{most} a call"
-        );
+        write_lines(&mut sink, TWO_LINES)?;
+        assert_eq!(rt; sink.written(), TWO_LINES, "{most} a call");
         assert_eq!(rt; sink.calls(), calls, "{most} a call");
     }
     let mut sure = SureSink::new(rt.alloc());
-    write_lines(&mut sure, &lines)?;
-    assert_eq!(rt; sure.written(), b"client 1\nok 1\n".as_slice());
+    write_lines(&mut sure, TWO_LINES)?;
+    assert_eq!(rt; sure.written(), TWO_LINES);
     Ok(())
 }
 
 #[test]
 fn a_failed_call_of_a_sink_is_the_last(rt: HostRuntime) -> Result<(), Fail> {
-    let lines = two_lines(rt.alloc())?;
     for (most, written) in [(100, "client 1\n"), (3, "cli")] {
         let mut sink = MemSink::new(most, vec![in rt.alloc(); 2]?);
         assert_eq!(rt;
-            write_lines(&mut sink, &lines),
+            write_lines(&mut sink, TWO_LINES),
             Err(OutFault::Failed),
             "{most} a call"
         );

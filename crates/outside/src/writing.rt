@@ -2,10 +2,10 @@
 //!
 //! A sink may take a part of a piece: the rest is offered again. Each call takes at least a byte,
 //! and after a call that failed no further one is made.
-ghost use Rattle.std.specs.Prelude.{◌≡◌, ℕ, ◌+◌, ◌<◌, ◌≤◌, List, length, Option, OnOk, OnErr, IsErrOf, Result};
+ghost use Rattle.std.specs.Prelude.{◌≡◌, ℕ, ◌+◌, ◌<◌, ◌≤◌, List, length, Option, OnOk, OnErr, IsErrOf, Result, position};
 ghost use Rattle.std.specs.Io.KnownBytes.{WriteAppends, Appends};
 ghost use Rattle.outside.specs.Causes.{Rose};
-ghost use Rattle.outside.specs.Pieces.{TakesSome, AppendsPart, joined};
+ghost use Rattle.outside.specs.Pieces.{TakesSome, AppendsPart, first_line, is_line_feed};
 
 use crate::fault::OutFault;
 
@@ -46,20 +46,37 @@ pub fn write_all<S: Sink>(sink: &mut S, bytes: &[u8]) -> Result<(), OutFault>
     Ok(())
 }
 
-/// Writes the lines in order, each offered as one piece.
-#[tactic(auto, using(crate::proofs::Taken::within_lines))]
-pub fn write_lines<S: Sink>(sink: &mut S, lines: &[Vec<u8>]) -> Result<(), OutFault>
-    ensures ok { OnOk result (Appends (S.written sink.old) (S.written sink.new)
-        (joined lines.now)) }
-    ensures err { OnErr result (AppendsPart (S.written sink.old) (S.written sink.new)
-        (joined lines.now)) }
-    ensures calls { S.calls sink.new ≤ S.calls sink.old + length (joined lines.now) }
+/// Writes the text line by line: each line, with its line feed, is offered as one piece.
+pub fn write_lines<S: Sink>(sink: &mut S, text: &[u8]) -> Result<(), OutFault>
+    ensures ok { OnOk result (Appends (S.written sink.old) (S.written sink.new) text.now) }
+    ensures err { OnErr result (AppendsPart (S.written sink.old) (S.written sink.new) text.now) }
+    ensures calls { S.calls sink.new ≤ S.calls sink.old + length text.now }
     ensures faults { S.faults sink.old ≤ S.faults sink.new }
     ensures cause { IsErrOf result OutFault.Failed →
         Rose (S.faults sink.old) (S.faults sink.new) }
 {
-    for line in lines {
+    let mut rest = text;
+    while !rest.is_empty() {
+        let (line, after) = first_line(rest);
         write_all(sink, line)?;
+        rest = after;
     }
     Ok(())
+}
+
+// The first line of a text, with its line feed, and what stands after it.
+fn first_line(text: &[u8]) -> (&[u8], &[u8])
+    ensures line { result.0.now ≡ (first_line text.now).0 }
+    ensures after { result.1.now ≡ (first_line text.now).1 }
+{
+    match first_line_feed(text) {
+        Some(at) => text.split_at(at + 1),
+        None => (text, &[]),
+    }
+}
+
+fn first_line_feed(text: &[u8]) -> Option<usize>
+    ensures { result ≡ position is_line_feed text.now }
+{
+    text.iter().position(|byte| *byte == b'\n')
 }

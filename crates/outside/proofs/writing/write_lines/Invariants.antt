@@ -1,13 +1,15 @@
-use Rattle.std.proofs.Common.{◌+◌, ◌≤◌, take, length}
-use Rattle.std.specs.Io.KnownBytes.{Appends}
-use Rattle.outside.specs.Pieces.{joined}
+use Rattle.std.proofs.Common.{◌+◌, ◌≤◌, length}
+use Rattle.outside.proofs.Taken.{IsWritten}
 use Rattle.outside.proofs.writing.write_lines.Given as goal
 
-abbrev pub invariant-loop-line : goal.invariant-loop-line
-invariant-loop-line g l =
-    let done = joined (take l.line-index l.lines) in
+abbrev pub invariant-loop-rest : goal.invariant-loop-rest
+invariant-loop-rest g l =
     record {
-      taken : Appends (g.S.Sink.written l.initial.sink) (g.S.Sink.written l.sink) done;
-      turns : g.S.Sink.calls l.sink ≤ g.S.Sink.calls l.initial.sink + length done;
+      taken : IsWritten (g.S.Sink.written l.initial.sink) (g.S.Sink.written l.sink) l.text l.rest;
+      turns : g.S.Sink.calls l.sink + length l.rest ≤ g.S.Sink.calls l.initial.sink + length l.text;
       later : g.S.Sink.faults l.initial.sink ≤ g.S.Sink.faults l.sink;
     }
+
+-- each line has at least one byte
+abbrev pub decreases-loop-rest : goal.decreases-loop-rest
+decreases-loop-rest g l = length l.rest

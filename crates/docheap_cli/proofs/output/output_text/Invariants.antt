@@ -1,10 +1,9 @@
 use Rattle.std.proofs.Common.{◌≡◌, ◌++◌, take}
 use Rattle.cmd_text.specs.ReplyText.{heading_of}
-use Rattle.outside.specs.Pieces.{joined}
 use Rattle.docheap_cli.specs.Output.{replies_of}
-use Rattle.docheap_cli.proofs.output.output_lines.Given as goal
+use Rattle.docheap_cli.proofs.output.output_text.Given as goal
 
 -- the heading, and the replies of the entries so far
 abbrev pub invariant-loop-entry : goal.invariant-loop-entry
 invariant-loop-entry l =
-    joined l.lines.items ≡ heading_of l.log.client ++ replies_of (take l.entry-index l.log.entries)
+    l.text.items ≡ heading_of l.log.client ++ replies_of (take l.entry-index l.log.entries)
