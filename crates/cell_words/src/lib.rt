@@ -25,6 +25,3 @@ pub use controls::{
 pub use fields::{Field, Kind, Row, pack_field, unpack_field};
 pub use presences::{Presence, Status, pack_presence, unpack_presence};
 pub use write_barrier::Barrier;
-
-#[cfg(test)]
-mod tests;

@@ -17,6 +17,3 @@ mod verb;
 pub use crate::fault::{ScriptError, ScriptFault, ScriptKind};
 pub use crate::reply::{heading_line, reply_line};
 pub use crate::script::read_script;
-
-#[cfg(test)]
-mod tests;

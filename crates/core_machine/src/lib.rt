@@ -26,8 +26,6 @@ mod mutator_tests;
 mod opening;
 mod places;
 mod progress;
-#[cfg(test)]
-mod tests;
 mod words;
 
 pub use events::{Answer, Event, Taken};

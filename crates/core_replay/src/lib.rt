@@ -28,6 +28,3 @@ pub use crate::schedule::{Schedule, read_schedule};
 pub use crate::schedule_replay::replay;
 pub use crate::start::Sizes;
 pub use crate::step::Step;
-
-#[cfg(test)]
-mod tests;

@@ -17,8 +17,6 @@ mod machine;
 mod plain;
 mod reachability;
 mod search;
-#[cfg(test)]
-mod tests;
 pub mod theorems;
 
 pub use core_machine::{Answer, Event, Held, NotNow, Scanning, Sweeping, Taken};

@@ -15,8 +15,6 @@ mod command;
 mod history;
 mod log;
 mod store;
-#[cfg(test)]
-mod tests;
 mod theorems;
 
 pub use crate::command::{Command, Entry, Reply};

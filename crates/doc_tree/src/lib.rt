@@ -12,8 +12,6 @@ mod chunk;
 mod edit;
 mod kids;
 mod path;
-#[cfg(test)]
-mod tests;
 mod text;
 mod tree;
 

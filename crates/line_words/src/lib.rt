@@ -14,6 +14,3 @@ mod numbers;
 pub use crate::cut::{after_space, first_word, next_rest, next_word};
 pub use crate::line::{counts, is_plain, without_return};
 pub use crate::numbers::read_digits;
-
-#[cfg(test)]
-mod tests;

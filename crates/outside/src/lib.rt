@@ -18,8 +18,6 @@ mod reading;
 mod std_sink;
 mod sure_shelf;
 mod sure_sink;
-#[cfg(test)]
-mod tests;
 mod writing;
 
 pub use fault::OutFault;

@@ -1,5 +1,5 @@
 //! What no clause says: each call on its happy path.
-use crate::*;
+use line_words::*;
 
 #[test]
 fn a_line_falls_into_its_words(rt: HostRuntime) {

@@ -1,16 +1,9 @@
 //! Scripts and lines whose readings were worked out by hand.
-use crate::*;
+use crate::made::{path, text};
+use cmd_text::*;
 use doc_model::{Command, Name, Names, Path, Reply, Text};
 use std::alloc::Global;
 use std::test::Fail;
-
-fn path(alloc: Global, word: &str) -> Result<Path, Fail> {
-    Ok(Path::read(alloc, word.as_bytes())?.ok_or("a path")?)
-}
-
-fn text(alloc: Global, word: &str) -> Result<Text, Fail> {
-    Ok(Text::read(alloc, word.as_bytes())?.ok_or("a text")?)
-}
 
 /// The first fault of a script, if it has one.
 fn fault_of(alloc: Global, bytes: &[u8]) -> Option<(u32, ScriptKind)> {

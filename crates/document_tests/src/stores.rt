@@ -1,15 +1,8 @@
 //! What no clause says: each call on its happy path, and histories that are wrong in one place.
-use crate::{Command, Entry, Log, Path, PlainStore, Reply, Text, is_legal, merge};
+use crate::made::{path, text};
+use doc_model::{Command, Entry, Log, Path, PlainStore, Reply, Text, is_legal, merge};
 use std::alloc::Global;
 use std::test::Fail;
-
-fn text(alloc: Global, word: &str) -> Result<Text, Fail> {
-    Ok(Text::read(alloc, word.as_bytes())?.ok_or("a text")?)
-}
-
-fn path(alloc: Global, word: &str) -> Result<Path, Fail> {
-    Ok(Path::read(alloc, word.as_bytes())?.ok_or("a path")?)
-}
 
 fn put(alloc: Global, to: &str, word: &str) -> Result<Command, Fail> {
     Ok(Command::Put {

@@ -1,19 +1,8 @@
 //! What no clause says: each call on its happy path, and the limits with numbers from outside.
-use crate::{EditFault, Name, Names, Path, Text, Tree};
+use crate::made::{name, path, text};
+use doc_tree::{EditFault, Name, Names, Path, Text, Tree};
 use std::alloc::Global;
 use std::test::Fail;
-
-fn name(alloc: Global, word: &str) -> Result<Name, Fail> {
-    Ok(Name::read(alloc, word.as_bytes())?.ok_or("a name")?)
-}
-
-fn text(alloc: Global, word: &str) -> Result<Text, Fail> {
-    Ok(Text::read(alloc, word.as_bytes())?.ok_or("a text")?)
-}
-
-fn path(alloc: Global, word: &str) -> Result<Path, Fail> {
-    Ok(Path::read(alloc, word.as_bytes())?.ok_or("a path")?)
-}
 
 #[test]
 fn names_texts_and_paths_are_read_at_their_limits(rt: HostRuntime) -> Result<(), Fail> {

@@ -1,4 +1,4 @@
-use crate::{
+use outside::{
     FileShelf, MemShelf, MemSink, OutFault, READ_LIMIT, Shelf, Sink, StdSink, SureShelf, SureSink,
     read_file, write_all, write_lines,
 };

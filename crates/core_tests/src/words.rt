@@ -1,6 +1,6 @@
 //! Words that were worked out by hand, each call with what it answers.
-use crate::modes::{barrier, claim_colour, next_status, requested};
-use crate::*;
+use cell_words::modes::{barrier, claim_colour, next_status, requested};
+use cell_words::*;
 
 #[test]
 fn a_text_cell_has_these_words(rt: HostRuntime) {
@@ -100,8 +100,8 @@ fn only_the_sweep_has_a_position(rt: HostRuntime) {
 
 #[test]
 fn choices_by_stage(rt: HostRuntime) {
-    use crate::Barrier::{Both, Nothing, Old};
-    use crate::Colour::{Black, White};
+    use cell_words::Barrier::{Both, Nothing, Old};
+    use cell_words::Colour::{Black, White};
     let rows = [
         (Stage::Idle, Status::Async, [White, White], Nothing),
         (Stage::Sync1, Status::Sync1, [White, White], Nothing),

@@ -1,5 +1,5 @@
-use crate::{Core, Event, NotNow, NotNowAt};
 use cell_words::{Colour, Field, Kind, Row, Stage};
+use dlg_core::{Core, Event, NotNow, NotNowAt};
 use std::test::Fail;
 
 // The anchor alone: a box with null payload.
@@ -35,6 +35,9 @@ fn a_held_cell_is_reachable_until_its_mutator_goes_out(rt: HostRuntime) -> Resul
         Event::Seal(0, 1, Kind::Record),
     ];
     assert_eq!(rt; core.run(&events), Ok(()));
+    assert_eq!(rt; core.mutators(), 1);
+    assert_eq!(rt; core.held_len(0), 2);
+    assert_eq!(rt; core.held(0, 1), 1);
     assert_eq!(rt; core.cells(), 3);
     assert_eq!(rt; core.is_reachable(rt.alloc(), 1)?, true);
     assert_eq!(rt; core.apply(Event::End(0)), Ok(()));

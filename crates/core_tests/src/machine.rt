@@ -2,8 +2,8 @@
 ghost use Rattle.core_machine.specs.InRange.{InRange};
 ghost use Rattle.std.specs.Prelude.{◌≡◌};
 
-use crate::{Event, Machine};
 use cell_words::{Colour, Field, Kind, Row, Stage, Status};
+use core_machine::{Event, Machine};
 
 /// The anchor: a box with null payload.
 const ANCHOR: Row = [

@@ -1,7 +1,7 @@
 //! Schedules whose readings were worked out by hand.
-use crate::*;
 use cell_words::{Field, Kind, Stage};
 use core_machine::Event;
+use core_replay::*;
 use std::alloc::Global;
 use std::test::Fail;
 

@@ -1,6 +1,6 @@
 use Rattle.std.proofs.Common.{◌≡◌, ◌≤◌}
 use Rattle.core_machine.specs.InRange.{InRange}
-use Rattle.core_machine.proofs.tests.happening.Given as goal
+use Rattle.core_tests.proofs.machine.happening.Given as goal
 
 abbrev pub invariant-loop-event : goal.invariant-loop-event
 invariant-loop-event l =
