@@ -5,5 +5,5 @@ use Rattle.doc_tree.specs.Tree.{DocTree}
 use Rattle.doc_tree.specs.Edits.{with_text}
 
 abbrev pub tree_at_end : End → DocTree → DocTree
-tree_at_end (ends.Text text) t = with_text text.value t
-tree_at_end (ends.Tree tree) t = tree
+tree_at_end (ends.Text text) t = with_text text.now t
+tree_at_end (ends.Tree tree) t = tree.now

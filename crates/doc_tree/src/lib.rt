@@ -5,12 +5,13 @@
 //! that of the definitions in specs/, with each refusal exactly where it is due. That an edit shares
 //! every subtree off its path is no clause: bench/ shows it. Versions and commands are left to others.
 //!
-//! Reading order: `text`, `path`, `edit`, `chunk`, `kids`, `tree`.
+//! Reading order: `letters`, `text`, `path`, `edit`, `chunk`, `kids`, `tree`.
 #![tactic(auto)]
 
 mod chunk;
 mod edit;
 mod kids;
+mod letters;
 mod path;
 mod text;
 mod tree;

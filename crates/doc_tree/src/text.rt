@@ -6,7 +6,7 @@ ghost use Rattle.doc_tree.specs.Tree.{name_cmp};
 ghost use Rattle.doc_tree.specs.Words.{name_of, text_of, is_name, is_text, is_name_byte, is_text_byte};
 
 use crate::NoMemory;
-use smallvec::SmallVec;
+use crate::letters::Letters;
 use std::alloc::Global;
 use std::cmp::Ordering;
 use std::fmt;
@@ -15,7 +15,7 @@ use std::marker::Model;
 /// The name of a child among its siblings: 1 to 64 letters, digits, `-` and `_`.
 #[derive(Drop)]
 pub struct Name {
-    letters: SmallVec<u8, 16>,
+    letters: Letters,
 }
 
 impl Model for Name {
@@ -24,15 +24,15 @@ impl Model for Name {
 
     ghost Value = { List ℕ };
 
-    ghost view = { λ n. n.letters.items };
+    ghost view = { λ n. n.letters };
 
-    ghost invariant = { λ n. IsTrue (is_name n.letters.items) };
+    ghost invariant = { λ n. IsTrue (is_name n.letters) };
 }
 
 /// What a node of a tree says: 0 to 4,096 characters from the space to the tilde.
 #[derive(Drop)]
 pub struct Text {
-    letters: SmallVec<u8, 16>,
+    letters: Letters,
 }
 
 impl Model for Text {
@@ -41,9 +41,9 @@ impl Model for Text {
 
     ghost Value = { List ℕ };
 
-    ghost view = { λ t. t.letters.items };
+    ghost view = { λ t. t.letters };
 
-    ghost invariant = { λ t. IsTrue (is_text t.letters.items) };
+    ghost invariant = { λ t. IsTrue (is_text t.letters) };
 }
 
 impl fmt::Debug for Name {
@@ -91,7 +91,7 @@ impl Name {
             return Ok(None);
         }
         Ok(Some(Name {
-            letters: SmallVec::from_slice(alloc, bytes)?,
+            letters: Letters::new(alloc, bytes)?,
         }))
     }
 
@@ -100,7 +100,7 @@ impl Name {
         ensures { IfOk result (λ name. name ≡ self.now) }
     {
         Ok(Name {
-            letters: copied(&self.letters)?,
+            letters: self.letters.copy()?,
         })
     }
 
@@ -108,7 +108,7 @@ impl Name {
         ensures bytes { result.now ≡ self.now }
         ensures name { IsTrue (is_name self.now) }
     {
-        self.letters.as_slice()
+        self.letters.bytes()
     }
 
     #[tactic(auto, using(crate::proofs::Plain::name_is_ascii))]
@@ -153,11 +153,11 @@ impl Text {
     pub const MOST: usize = 4096;
 
     /// The text of no characters.
-    pub fn empty(alloc: Global) -> Text
+    pub fn empty() -> Text
         ensures { result ≡ [] }
     {
         Text {
-            letters: SmallVec::new(alloc),
+            letters: Letters::empty(),
         }
     }
 
@@ -170,7 +170,7 @@ impl Text {
             return Ok(None);
         }
         Ok(Some(Text {
-            letters: SmallVec::from_slice(alloc, bytes)?,
+            letters: Letters::new(alloc, bytes)?,
         }))
     }
 
@@ -179,7 +179,7 @@ impl Text {
         ensures { IfOk result (λ text. text ≡ self.now) }
     {
         Ok(Text {
-            letters: copied(&self.letters)?,
+            letters: self.letters.copy()?,
         })
     }
 
@@ -187,7 +187,7 @@ impl Text {
         ensures bytes { result.now ≡ self.now }
         ensures text { IsTrue (is_text self.now) }
     {
-        self.letters.as_slice()
+        self.letters.bytes()
     }
 
     pub fn as_str(&self) -> &str
@@ -196,13 +196,6 @@ impl Text {
     {
         ascii(self.bytes())
     }
-}
-
-// The same letters once more.
-fn copied(letters: &SmallVec<u8, 16>) -> Result<SmallVec<u8, 16>, NoMemory>
-    ensures { IfOk result (λ copy. copy.items ≡ letters.now.items) }
-{
-    SmallVec::from_slice(*letters.allocator(), letters.as_slice())
 }
 
 fn is_name(bytes: &[u8]) -> bool

@@ -25,15 +25,15 @@ pub struct Tree {
     // The two numbers come first, since an edit reads those of a whole chunk of children.
     nodes: u64,
     levels: u32,
-    text: Rc<Text>,
+    text: Text,
     kids: Vec<Rc<Chunk>>,
 }
 
 // What an edit puts at the end of its path: a text for the node there, or a tree in its place.
-#[derive(Drop)]
-enum End {
-    Text(Rc<Text>),
-    Tree(Tree),
+#[derive(Clone, Copy)]
+enum End<'a> {
+    Text(&'a Text),
+    Tree(&'a Tree),
 }
 
 impl Model for Tree {
@@ -47,7 +47,7 @@ impl Model for Tree {
     ghost use Rattle.doc_tree.specs.Chunks.{kids_of};
     ghost use Rattle.doc_tree.specs.TreeView.{IsSound};
 
-    ghost view = { λ t. record { text = t.text.value; kids = kids_of t.kids.items } };
+    ghost view = { λ t. record { text = t.text; kids = kids_of t.kids.items } };
 
     ghost invariant = { λ t. IsSound t.kids.items t.nodes t.levels };
 
@@ -73,9 +73,8 @@ impl Tree {
     pub fn empty(alloc: Global) -> Result<Tree, NoMemory>
         ensures { IfOk result (λ tree. tree ≡ empty) }
     {
-        let text = Rc::new(alloc, Text::empty(alloc))?;
         Ok(Tree {
-            text,
+            text: Text::empty(),
             kids: Vec::new(alloc),
             nodes: 1,
             levels: 0,
@@ -127,8 +126,8 @@ impl Tree {
     pub fn set_text(&self, alloc: Global, path: &Path, text: &Text) -> Result<Tree, EditFault>
         ensures { Gives result (set_text path.now text.now self.now) }
     {
-        let end = End::Text(Rc::new(alloc, text.copy()?)?);
-        self.edit_along(alloc, path.names(), &end)?.within_limits()
+        self.edit_along(alloc, path.names(), End::Text(text))?
+            .within_limits()
     }
 
     /// Puts a whole tree at the path, in place of what stands there. Missing nodes before it are made
@@ -136,12 +135,12 @@ impl Tree {
     pub fn attach(&self, alloc: Global, path: &Path, sub: &Tree) -> Result<Tree, EditFault>
         ensures { Gives result (attach path.now sub.now self.now) }
     {
-        let end = End::Tree(sub.copy()?);
-        self.edit_along(alloc, path.names(), &end)?.within_limits()
+        self.edit_along(alloc, path.names(), End::Tree(sub))?
+            .within_limits()
     }
 
-    fn edit_along(&self, alloc: Global, names: &[Name], end: &End) -> Result<Tree, EditFault>
-        ensures { Gives result (edit_along (tree_at_end end.now) names.now self.now) }
+    fn edit_along(&self, alloc: Global, names: &[Name], end: End<'_>) -> Result<Tree, EditFault>
+        ensures { Gives result (edit_along (tree_at_end end.entry) names.now self.now) }
     {
         let [name, rest @ ..] = names else {
             return Ok(self.at_end(end)?);
@@ -155,8 +154,8 @@ impl Tree {
         Ok(put_kid(alloc, &self.text, &self.kids, place, name, edited)?)
     }
 
-    fn at_end(&self, end: &End) -> Result<Tree, NoMemory>
-        ensures { IfOk result (λ tree. tree ≡ tree_at_end end.now self.now) }
+    fn at_end(&self, end: End<'_>) -> Result<Tree, NoMemory>
+        ensures { IfOk result (λ tree. tree ≡ tree_at_end end.entry self.now) }
     {
         match end {
             End::Text(text) => self.with_text(text),
@@ -208,11 +207,11 @@ impl Tree {
         self.with_text(&self.text)
     }
 
-    fn with_text(&self, text: &Rc<Text>) -> Result<Tree, NoMemory>
-        ensures { IfOk result (λ tree. tree ≡ with_text text.now.value self.now) }
+    fn with_text(&self, text: &Text) -> Result<Tree, NoMemory>
+        ensures { IfOk result (λ tree. tree ≡ with_text text.now self.now) }
     {
         Ok(Tree {
-            text: text.clone()?,
+            text: text.copy()?,
             kids: shared(&self.kids)?,
             nodes: self.nodes,
             levels: self.levels,
@@ -236,7 +235,7 @@ impl Tree {
         ensures { IfOk result (λ whole. whole ≡ without_child name.now self.now) }
     {
         let kids = without_kid(alloc, &self.kids, name)?;
-        Ok(made(self.text.clone()?, kids))
+        Ok(made(self.text.copy()?, kids))
     }
 }
 
@@ -244,7 +243,7 @@ impl Tree {
 #[tactic(auto, using(crate::proofs::Rising::rising_put, crate::proofs::Rising::room_put))]
 fn put_kid(
     alloc: Global,
-    text: &Rc<Text>,
+    text: &Text,
     kids: &Vec<Rc<Chunk>>,
     place: Place,
     name: &Name,
@@ -257,7 +256,7 @@ fn put_kid(
         → kid_count (kids_of kids.now.items) < 256 }
     requires place { IsPlace name.now kids.now.items place }
     ensures { IfOk result (λ whole. whole
-        ≡ record { text = text.now.value; kids = put_child name.now tree (kids_of kids.now.items) }) }
+        ≡ record { text = text.now; kids = put_child name.now tree (kids_of kids.now.items) }) }
 {
     let kid = Rc::new(
         alloc,
@@ -267,14 +266,14 @@ fn put_kid(
         },
     )?;
     let kids = with_kid(alloc, kids, place, kid)?;
-    Ok(made(text.clone()?, kids))
+    Ok(made(text.copy()?, kids))
 }
 
-fn made(text: Rc<Text>, kids: Vec<Rc<Chunk>>) -> Tree
+fn made(text: Text, kids: Vec<Rc<Chunk>>) -> Tree
     requires chunks { AreChunks kids.items }
     requires rising { IsRising (kids_of kids.items) }
     requires few { kid_count (kids_of kids.items) ≤ 256 }
-    ensures { result ≡ record { text = text.value; kids = kids_of kids.items } }
+    ensures { result ≡ record { text = text; kids = kids_of kids.items } }
 {
     let (nodes, levels) = sizes(&kids);
     Tree {

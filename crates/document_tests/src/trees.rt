@@ -159,7 +159,7 @@ fn names_come_in_the_order_of_their_bytes(rt: HostRuntime) -> Result<(), Fail> {
 
 fn with_text(alloc: Global, tree: &Tree, to: &str) -> Result<Result<Tree, EditFault>, Fail> {
     let to = path(alloc, to)?;
-    let word = Text::empty(alloc);
+    let word = Text::empty();
     Ok(tree.set_text(alloc, &to, &word))
 }
 

@@ -1,0 +1,13 @@
+-- What letters show: the first of the bytes in the value, or all of those in shared memory.
+use Rattle.std.specs.Prelude.{ℕ, ◌≤◌, List, take}
+use Rattle.doc_tree.specs.declared.letters.Stored.{Stored}
+use Rattle.doc_tree.specs.declared.letters.Stored.TheVariants.{Short, Long}
+
+abbrev pub bytes_in : Stored → List ℕ
+bytes_in (Short len bytes) = take len bytes
+bytes_in (Long bytes) = bytes.value.items
+
+-- no more bytes count than there are
+abbrev pub IsWithin : Stored → Type 0
+IsWithin (Short len bytes) = len ≤ 22
+IsWithin (Long bytes) = Unit {0}
