@@ -3,7 +3,7 @@ use Rattle.std.proofs.Common.{◌≡◌, Bool, true, List, [], ◌∷◌, ◌++�
 use Rattle.core_machine.specs.declared.events.Event.{Event}
 use Rattle.core_machine.specs.declared.events.Taken.{Taken}
 use Rattle.core_machine.specs.InRange.{InRange, IsShaped}
-use Rattle.core_machine.specs.Next.{can, answer_to, after, when, next}
+use Rattle.core_machine.specs.Next.{can, found_by, after, when, next}
 use Rattle.core_machine.specs.Run.{Runs, last}
 use Rattle.core_machine.specs.State.{State}
 use Rattle.core_machine.proofs.Ranges.Events.{after_keeps, after_shaped}
@@ -14,7 +14,7 @@ some_when s e is = ap (λ (b : Bool). when b (after s e)) is
 
 -- one event more
 pub runs_snoc : (s : State) (ts : List Taken) (t : Taken) → Runs s ts → can (last s ts) t.event ≡ true
-    → t.answer ≡ answer_to (last s ts) t.event → Runs s (ts ++ t ∷ [])
+    → t.found ≡ found_by (last s ts) t.event → Runs s (ts ++ t ∷ [])
 runs_snoc s [] t runs happens found = (happens, found, tt)
 runs_snoc s (u ∷ us) t runs happens found =
     (runs.0, runs.1, runs_snoc (after s u.event) us t runs.2 happens found)

@@ -1,6 +1,6 @@
 -- The collector's own part: what no word of the heap shows. And how each of its events changes it.
 --
--- The change is a function of the part, the event and its answer, and of two things that the
+-- The change is a function of the part, the event and what it found, and of two things that the
 -- collector knows besides: the number of cells, and the control, which it alone stores. Events of
 -- mutators leave it.
 -- Source: this project's.
@@ -13,8 +13,8 @@ use Rattle.cell_words.specs.declared.controls.Stage.TheVariants as stage
 use Rattle.cell_words.specs.declared.fields.Field.{Field}
 use Rattle.cell_words.specs.declared.fields.Field.TheVariants as field
 use Rattle.cell_words.specs.Modes.{requested_of}
-use Rattle.core_machine.specs.declared.events.Answer.{Answer}
-use Rattle.core_machine.specs.declared.events.Answer.TheVariants as answer
+use Rattle.core_machine.specs.declared.events.Found.{Found}
+use Rattle.core_machine.specs.declared.events.Found.TheVariants as finds
 use Rattle.core_machine.specs.declared.events.Event.{Event}
 use Rattle.core_machine.specs.declared.events.Event.TheVariants as event
 use Rattle.core_machine.specs.declared.progress.Scanning.{Scanning}
@@ -111,32 +111,32 @@ freed c cell = record c {
   number_freed = c.number_freed + 1;
 }
 
--- Changes by an answer. An answer of a kind that the event cannot have changes nothing.
+-- Changes by what an event found. What it cannot find changes nothing.
 
-abbrev pub polled_by : Collector → Control → ℕ → Answer → Collector
-polled_by c control i (answer.Presence found) =
+abbrev pub polled_by : Collector → Control → ℕ → Found → Collector
+polled_by c control i (finds.Presence found) =
     answered_by c i (same_status found.status (requested_of control.stage))
 polled_by c control i _ = c
 
-abbrev pub answered_out_by : Collector → Control → ℕ → Bool → Answer → Collector
-answered_out_by c control i over (answer.Presence found) =
+abbrev pub answered_out_by : Collector → Control → ℕ → Bool → Found → Collector
+answered_out_by c control i over (finds.Presence found) =
     answered_by c i (may_answer_out (requested_of control.stage) over found)
 answered_out_by c control i over _ = c
 
-abbrev pub seen_by : Collector → ℕ → ℕ → Answer → Collector
-seen_by c cells cell (answer.Colour found) = seen (restarted c cells) cell found
+abbrev pub seen_by : Collector → ℕ → ℕ → Found → Collector
+seen_by c cells cell (finds.Colour found) = seen (restarted c cells) cell found
 seen_by c cells cell _ = c
 
-abbrev pub scanned_by : Collector → Answer → Collector
-scanned_by c (answer.Field found) = record c { scan = on_scan (λ s. scanned s found) c.scan }
+abbrev pub scanned_by : Collector → Found → Collector
+scanned_by c (finds.Field found) = record c { scan = on_scan (λ s. scanned s found) c.scan }
 scanned_by c _ = c
 
-abbrev pub sweep_looked_by : Collector → Answer → Collector
-sweep_looked_by c (answer.Colour found) = record c { sweep = sweep_of found }
+abbrev pub sweep_looked_by : Collector → Found → Collector
+sweep_looked_by c (finds.Colour found) = record c { sweep = sweep_of found }
 sweep_looked_by c _ = c
 
 -- what an event of the collector leaves of its own part, in a heap of so many cells
-abbrev pub collector_after : ℕ → Control → Collector → Event → Answer → Collector
+abbrev pub collector_after : ℕ → Control → Collector → Event → Found → Collector
 collector_after cells control c (event.Post target) found = posted c target
 collector_after cells control c (event.Poll i) found = polled_by c control i found
 collector_after cells control c (event.AnswerOut i over) found = answered_out_by c control i over found

@@ -7,8 +7,8 @@ use Rattle.cell_words.specs.Modes.{requested_of}
 use Rattle.cell_words.specs.declared.controls.Stage.{Stage}
 use Rattle.cell_words.specs.declared.controls.Stage.TheVariants as stage
 use Rattle.cell_words.specs.declared.presences.Status.{Status}
-use Rattle.core_machine.specs.declared.events.Answer.{Answer}
-use Rattle.core_machine.specs.declared.events.Answer.TheVariants as answer
+use Rattle.core_machine.specs.declared.events.Found.{Found}
+use Rattle.core_machine.specs.declared.events.Found.TheVariants as finds
 use Rattle.core_machine.specs.declared.events.Event.{Event}
 use Rattle.core_machine.specs.declared.events.Event.TheVariants as event
 use Rattle.core_machine.specs.Collector.{collector_after, control_after}
@@ -32,7 +32,7 @@ abbrev pub wanted_of : State → Status
 wanted_of s = requested_of s.control.stage
 
 -- what the collector's own part and the control are after an event of it
-abbrev pub tell_collector : State → Event → Answer → State
+abbrev pub tell_collector : State → Event → Found → State
 tell_collector s e found =
     record s { collector = collector_after s.cells s.control s.collector e found }
 
@@ -51,7 +51,7 @@ post_can s stage.Sweep =
     at_stage s stage.Trace && all_answered s && is_none s.collector.scan && at_end s && s.collector.clean
 
 abbrev pub post_after : State → Stage → State
-post_after s target = tell_control (tell_collector s (event.Post target) answer.Stored) (event.Post target)
+post_after s target = tell_control (tell_collector s (event.Post target) finds.Stored) (event.Post target)
 
 -- Duty.
 
@@ -66,8 +66,8 @@ duty_after s on = tell_control s (event.Duty on)
 abbrev pub poll_can : State → ℕ → Bool
 poll_can s i = is_handshake s.control.stage && is_mutator s i
 
-abbrev pub poll_found : State → ℕ → Answer
-poll_found s i = answer.Presence (presence_of s i)
+abbrev pub poll_found : State → ℕ → Found
+poll_found s i = finds.Presence (presence_of s i)
 
 abbrev pub poll_after : State → ℕ → State
 poll_after s i = tell_collector s (event.Poll i) (poll_found s i)
@@ -77,8 +77,8 @@ poll_after s i = tell_collector s (event.Poll i) (poll_found s i)
 abbrev pub answer_out_can : State → ℕ → Bool
 answer_out_can s i = is_handshake s.control.stage && is_mutator s i && not (has_answered s i)
 
-abbrev pub answer_out_found : State → ℕ → Answer
-answer_out_found s i = answer.Presence (presence_of s i)
+abbrev pub answer_out_found : State → ℕ → Found
+answer_out_found s i = finds.Presence (presence_of s i)
 
 abbrev pub answer_out_after : State → ℕ → Bool → State
 answer_out_after s i over =

@@ -1,4 +1,3 @@
-pub mod Answers
 pub mod Collector
 pub mod Handshakes
 pub mod InRange
@@ -11,5 +10,6 @@ pub mod Places
 pub mod Run
 pub mod State
 pub mod Sweep
+pub mod Takes
 pub mod Tracing
 pub mod Words

@@ -6,8 +6,8 @@
 use Rattle.std.specs.Prelude.{ℕ, Bool, not, ◌&&◌, nat_lt, nat_le, slice_set}
 use Rattle.cell_words.specs.declared.fields.Field.{Field}
 use Rattle.cell_words.specs.declared.fields.Kind.{Kind}
-use Rattle.core_machine.specs.declared.events.Answer.{Answer}
-use Rattle.core_machine.specs.declared.events.Answer.TheVariants as answer
+use Rattle.core_machine.specs.declared.events.Found.{Found}
+use Rattle.core_machine.specs.declared.events.Found.TheVariants as finds
 use Rattle.core_machine.specs.declared.events.Event.TheVariants as event
 use Rattle.core_machine.specs.Places.{names_rightly, marks_stand}
 use Rattle.core_machine.specs.State.{State, colour_of, field_of, presence_of, own_of, held_of, target_of, is_raw, is_box, is_raw_value, set_field}
@@ -19,8 +19,8 @@ use Rattle.core_machine.specs.Operations.{is_in, is_place, has_room, has_mode, o
 abbrev pub mark_can : State → ℕ → ℕ → Bool
 mark_can s i place = is_in s i && is_place s i place && marks_some (own_barrier s i)
 
-abbrev pub mark_found : State → ℕ → ℕ → Answer
-mark_found s i place = answer.Colour (colour_of s (target_of s i place))
+abbrev pub mark_found : State → ℕ → ℕ → Found
+mark_found s i place = finds.Colour (colour_of s (target_of s i place))
 
 abbrev pub mark_after : State → ℕ → ℕ → State
 mark_after s i place =
@@ -40,8 +40,8 @@ write_can s i place f old new =
     && names_own s i old && names_own s i new && not (is_raw_value s new)
     && marks_stand (own_barrier s i) (held_of s i) old new
 
-abbrev pub write_found : State → ℕ → ℕ → ℕ → Answer
-write_found s i place f = answer.Field (field_of s (target_of s i place) f)
+abbrev pub write_found : State → ℕ → ℕ → ℕ → Found
+write_found s i place f = finds.Field (field_of s (target_of s i place) f)
 
 abbrev pub write_after : State → ℕ → ℕ → ℕ → Field → Field → State
 write_after s i place f old new =
@@ -55,8 +55,8 @@ write_after s i place f old new =
 abbrev pub claim_can : State → ℕ → ℕ → Bool
 claim_can s i c = is_in s i && has_mode s i && nat_lt c s.cells && has_room s i
 
-abbrev pub claim_found : State → ℕ → Answer
-claim_found s c = answer.Colour (colour_of s c)
+abbrev pub claim_found : State → ℕ → Found
+claim_found s c = finds.Colour (colour_of s c)
 
 abbrev pub claim_after : State → ℕ → ℕ → State
 claim_after s i c =

@@ -3,8 +3,8 @@
 --
 -- A state and an event have at most one successor, since `next` is a function.
 use Rattle.std.specs.Prelude.{ℕ, Bool, true, false, Option, Some, None}
-use Rattle.core_machine.specs.declared.events.Answer.{Answer}
-use Rattle.core_machine.specs.declared.events.Answer.TheVariants as answer
+use Rattle.core_machine.specs.declared.events.Found.{Found}
+use Rattle.core_machine.specs.declared.events.Found.TheVariants as finds
 use Rattle.core_machine.specs.declared.events.Event.{Event}
 use Rattle.core_machine.specs.declared.events.Event.TheVariants as event
 use Rattle.core_machine.specs.State.{State}
@@ -75,34 +75,34 @@ can s event.Whiten = whiten_can s
 can s event.Advance = advance_can s
 
 -- what the event finds
-abbrev pub answer_to : State → Event → Answer
-answer_to s (event.Begin i) = begin_found s i
-answer_to s (event.Look i) = look_found s i
-answer_to s (event.Read i place f) = read_found s i place f
-answer_to s (event.Mark i place) = mark_found s i place
-answer_to s (event.Write i place f old new) = write_found s i place f
-answer_to s (event.Claim i c) = claim_found s c
-answer_to s (event.Fill i place f value) = answer.Stored
-answer_to s (event.Seal i place kind) = answer.Stored
-answer_to s (event.Answer i) = answer.Stored
-answer_to s (event.Keep i count from copies) = keep_found s i
-answer_to s (event.End i) = end_found s i
-answer_to s (event.Over i) = over_found s i
-answer_to s (event.Post target) = answer.Stored
-answer_to s (event.Duty on) = answer.Stored
-answer_to s (event.Poll i) = poll_found s i
-answer_to s (event.AnswerOut i over) = answer_out_found s i
-answer_to s event.ClearCell = clear_found s
-answer_to s event.Anchor = anchor_found s
-answer_to s (event.See c) = see_found s c
-answer_to s event.Scan = scan_found s
-answer_to s event.Shade = shade_found s
-answer_to s event.Blacken = answer.Stored
-answer_to s event.SweepLook = sweep_look_found s
-answer_to s event.Wipe = answer.Stored
-answer_to s event.Free = answer.Stored
-answer_to s event.Whiten = answer.Stored
-answer_to s event.Advance = answer.Stored
+abbrev pub found_by : State → Event → Found
+found_by s (event.Begin i) = begin_found s i
+found_by s (event.Look i) = look_found s i
+found_by s (event.Read i place f) = read_found s i place f
+found_by s (event.Mark i place) = mark_found s i place
+found_by s (event.Write i place f old new) = write_found s i place f
+found_by s (event.Claim i c) = claim_found s c
+found_by s (event.Fill i place f value) = finds.Stored
+found_by s (event.Seal i place kind) = finds.Stored
+found_by s (event.Answer i) = finds.Stored
+found_by s (event.Keep i count from copies) = keep_found s i
+found_by s (event.End i) = end_found s i
+found_by s (event.Over i) = over_found s i
+found_by s (event.Post target) = finds.Stored
+found_by s (event.Duty on) = finds.Stored
+found_by s (event.Poll i) = poll_found s i
+found_by s (event.AnswerOut i over) = answer_out_found s i
+found_by s event.ClearCell = clear_found s
+found_by s event.Anchor = anchor_found s
+found_by s (event.See c) = see_found s c
+found_by s event.Scan = scan_found s
+found_by s event.Shade = shade_found s
+found_by s event.Blacken = finds.Stored
+found_by s event.SweepLook = sweep_look_found s
+found_by s event.Wipe = finds.Stored
+found_by s event.Free = finds.Stored
+found_by s event.Whiten = finds.Stored
+found_by s event.Advance = finds.Stored
 
 -- what the event leaves
 abbrev pub after : State → Event → State

@@ -1,4 +1,4 @@
--- The events of a mutator i that change no word of a cell: Begin, Look, Read, Answer, Keep, End and
+-- The events of a mutator i that change no word of a cell: Begin, Look, Read, Found, Keep, End and
 -- Over. When each can happen, what it finds and what it leaves, which is told of every state, also
 -- where it cannot happen.
 --
@@ -11,8 +11,8 @@ use Rattle.cell_words.specs.declared.presences.Status.TheVariants as status
 use Rattle.cell_words.specs.declared.write_barrier.Barrier.{Barrier}
 use Rattle.cell_words.specs.declared.presences.Status.{Status}
 use Rattle.cell_words.specs.Modes.{next_status_of}
-use Rattle.core_machine.specs.declared.events.Answer.{Answer}
-use Rattle.core_machine.specs.declared.events.Answer.TheVariants as answer
+use Rattle.core_machine.specs.declared.events.Found.{Found}
+use Rattle.core_machine.specs.declared.events.Found.TheVariants as finds
 use Rattle.core_machine.specs.declared.events.Event.{Event}
 use Rattle.core_machine.specs.declared.events.Event.TheVariants as event
 use Rattle.core_machine.specs.Own.{own_after, presence_after}
@@ -44,10 +44,10 @@ abbrev pub own_barrier : State → ℕ → Barrier
 own_barrier s i = barrier_in (presence_of s i).status (own_of s i).mode
 
 -- the part of its own that an event of mutator i leaves, and its presence
-abbrev pub tell_own : State → ℕ → Event → Answer → State
+abbrev pub tell_own : State → ℕ → Event → Found → State
 tell_own s i e found = record s { owns = slice_set s.owns i (own_after (own_of s i) e found) }
 
-abbrev pub tell_presence : State → ℕ → Event → Answer → State
+abbrev pub tell_presence : State → ℕ → Event → Found → State
 tell_presence s i e found =
     record s { presences = slice_set s.presences i (presence_after (presence_of s i) e found) }
 
@@ -56,8 +56,8 @@ tell_presence s i e found =
 abbrev pub begin_can : State → ℕ → Bool
 begin_can s i = may_begin s i
 
-abbrev pub begin_found : State → ℕ → Answer
-begin_found s i = answer.Presence (presence_of s i)
+abbrev pub begin_found : State → ℕ → Found
+begin_found s i = finds.Presence (presence_of s i)
 
 abbrev pub begin_after : State → ℕ → State
 begin_after s i = tell_presence (tell_own s i (event.Begin i) (begin_found s i)) i (event.Begin i) (begin_found s i)
@@ -67,8 +67,8 @@ begin_after s i = tell_presence (tell_own s i (event.Begin i) (begin_found s i))
 abbrev pub look_can : State → ℕ → Bool
 look_can s i = is_in s i
 
-abbrev pub look_found : State → ℕ → Answer
-look_found s i = answer.Control s.control
+abbrev pub look_found : State → ℕ → Found
+look_found s i = finds.Control s.control
 
 abbrev pub look_after : State → ℕ → State
 look_after s i = tell_own s i (event.Look i) (look_found s i)
@@ -78,8 +78,8 @@ look_after s i = tell_own s i (event.Look i) (look_found s i)
 abbrev pub read_can : State → ℕ → ℕ → ℕ → Bool
 read_can s i place f = is_in s i && is_place s i place && nat_le f 4 && has_room s i
 
-abbrev pub read_found : State → ℕ → ℕ → ℕ → Answer
-read_found s i place f = answer.Field (field_of s (target_of s i place) f)
+abbrev pub read_found : State → ℕ → ℕ → ℕ → Found
+read_found s i place f = finds.Field (field_of s (target_of s i place) f)
 
 abbrev pub read_after : State → ℕ → ℕ → ℕ → State
 read_after s i place f = tell_own s i (event.Read i place f) (read_found s i place f)
@@ -97,7 +97,7 @@ abbrev pub answer_can : State → ℕ → Bool
 answer_can s i = is_in s i && requests (own_of s i).mode (next_own_status s i) && third_answer_can s i
 
 abbrev pub answer_after : State → ℕ → State
-answer_after s i = tell_presence (tell_own s i (event.Answer i) answer.Stored) i (event.Answer i) answer.Stored
+answer_after s i = tell_presence (tell_own s i (event.Answer i) finds.Stored) i (event.Answer i) finds.Stored
 
 -- Keep.
 
@@ -106,8 +106,8 @@ keep_can s i count from copies =
     is_in s i && nat_le 1 count && nat_le count (length (held_of s i))
     && nat_le (from + copies) (length (held_of s i)) && nat_le (count + copies) (room_of s i)
 
-abbrev pub keep_found : State → ℕ → Answer
-keep_found s i = answer.Presence (presence_of s i)
+abbrev pub keep_found : State → ℕ → Found
+keep_found s i = finds.Presence (presence_of s i)
 
 abbrev pub keep_after : State → ℕ → ℕ → ℕ → ℕ → State
 keep_after s i count from copies = tell_own s i (event.Keep i count from copies) (keep_found s i)
@@ -117,8 +117,8 @@ keep_after s i count from copies = tell_own s i (event.Keep i count from copies)
 abbrev pub end_can : State → ℕ → Bool
 end_can s i = is_in s i
 
-abbrev pub end_found : State → ℕ → Answer
-end_found s i = answer.Presence (presence_of s i)
+abbrev pub end_found : State → ℕ → Found
+end_found s i = finds.Presence (presence_of s i)
 
 abbrev pub end_after : State → ℕ → State
 end_after s i = tell_presence (tell_own s i (event.End i) (end_found s i)) i (event.End i) (end_found s i)
@@ -128,8 +128,8 @@ end_after s i = tell_presence (tell_own s i (event.End i) (end_found s i)) i (ev
 abbrev pub over_can : State → ℕ → Bool
 over_can s i = may_begin s i
 
-abbrev pub over_found : State → ℕ → Answer
-over_found s i = answer.Presence (presence_of s i)
+abbrev pub over_found : State → ℕ → Found
+over_found s i = finds.Presence (presence_of s i)
 
 abbrev pub over_after : State → ℕ → State
 over_after s i = tell_presence s i (event.Over i) (over_found s i)

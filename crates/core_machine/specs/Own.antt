@@ -1,6 +1,6 @@
 -- A mutator's own part: what no word of the heap shows. And how each of its events changes it.
 --
--- The change is a function of the part, the event and its answer alone, so whoever knows these
+-- The change is a function of the part, the event and what it found alone, so whoever knows these
 -- knows the part after the event. Events of the collector leave it.
 -- Source: this project's.
 use Rattle.std.specs.Prelude.{ℕ, ◌+◌, true, false, List, [], ◌∷◌, ◌++◌, map, Option, Some, None}
@@ -11,8 +11,8 @@ use Rattle.cell_words.specs.declared.fields.Field.{Field}
 use Rattle.cell_words.specs.declared.fields.Field.TheVariants as field
 use Rattle.cell_words.specs.declared.presences.Presence.{Presence}
 use Rattle.cell_words.specs.Modes.{next_status_of}
-use Rattle.core_machine.specs.declared.events.Answer.{Answer}
-use Rattle.core_machine.specs.declared.events.Answer.TheVariants as answer
+use Rattle.core_machine.specs.declared.events.Found.{Found}
+use Rattle.core_machine.specs.declared.events.Found.TheVariants as finds
 use Rattle.core_machine.specs.declared.events.Event.{Event}
 use Rattle.core_machine.specs.declared.events.Event.TheVariants as event
 use Rattle.core_machine.specs.declared.places.Held.{Held}
@@ -70,22 +70,22 @@ keeping own count from copies = record own { held = kept own.held count from cop
 abbrev pub ended : Own → Own
 ended own = record own { held = []; mode = None }
 
--- Changes by an answer. An answer of a kind that the event cannot have changes nothing.
+-- Changes by what an event found. What it cannot find changes nothing.
 
-abbrev pub looked_by : Own → Answer → Own
-looked_by own (answer.Control control) = looked own control
+abbrev pub looked_by : Own → Found → Own
+looked_by own (finds.Control control) = looked own control
 looked_by own _ = own
 
-abbrev pub having_read_by : Own → Answer → Own
-having_read_by own (answer.Field found) = having_read own found
+abbrev pub having_read_by : Own → Found → Own
+having_read_by own (finds.Field found) = having_read own found
 having_read_by own _ = own
 
-abbrev pub having_claimed_by : Own → ℕ → Answer → Own
-having_claimed_by own cell (answer.Colour found) = having_claimed own cell found
+abbrev pub having_claimed_by : Own → ℕ → Found → Own
+having_claimed_by own cell (finds.Colour found) = having_claimed own cell found
 having_claimed_by own cell _ = own
 
 -- what an event of the mutator leaves of its own part
-abbrev pub own_after : Own → Event → Answer → Own
+abbrev pub own_after : Own → Event → Found → Own
 own_after own (event.Begin i) found = begun own
 own_after own (event.Look i) found = looked_by own found
 own_after own (event.Read i place f) found = having_read_by own found
@@ -100,11 +100,11 @@ own_after own _ found = own
 -- What an event of the mutator leaves of its presence.
 
 -- it takes the status that it finds, since the collector may have answered while it was out
-abbrev pub present_by : Presence → Answer → Presence
-present_by presence (answer.Presence found) = record presence { status = found.status; inside = true }
+abbrev pub present_by : Presence → Found → Presence
+present_by presence (finds.Presence found) = record presence { status = found.status; inside = true }
 present_by presence _ = presence
 
-abbrev pub presence_after : Presence → Event → Answer → Presence
+abbrev pub presence_after : Presence → Event → Found → Presence
 presence_after presence (event.Begin i) found = present_by presence found
 presence_after presence (event.Answer i) found = record presence { status = next_status_of presence.status }
 presence_after presence (event.End i) found = record presence { inside = false }

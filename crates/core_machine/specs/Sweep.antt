@@ -5,8 +5,8 @@ use Rattle.std.specs.Prelude.{ℕ, Bool, true, false, not, ◌&&◌, ◌==◌, n
 use Rattle.cell_words.specs.declared.colours.Colour.TheVariants as colour
 use Rattle.cell_words.specs.declared.controls.Stage.TheVariants as stage
 use Rattle.cell_words.specs.declared.fields.Field.TheVariants as field
-use Rattle.core_machine.specs.declared.events.Answer.{Answer}
-use Rattle.core_machine.specs.declared.events.Answer.TheVariants as answer
+use Rattle.core_machine.specs.declared.events.Found.{Found}
+use Rattle.core_machine.specs.declared.events.Found.TheVariants as finds
 use Rattle.core_machine.specs.declared.events.Event.TheVariants as event
 use Rattle.core_machine.specs.declared.progress.Sweeping.{Sweeping}
 use Rattle.core_machine.specs.declared.progress.Sweeping.TheVariants as sweeping
@@ -34,8 +34,8 @@ sweep_look_can s =
     at_stage s stage.Sweep && nat_lt s.control.position s.cells && is_fresh s.collector.sweep
     && not (is_gray (colour_of s s.control.position))
 
-abbrev pub sweep_look_found : State → Answer
-sweep_look_found s = answer.Colour (colour_of s s.control.position)
+abbrev pub sweep_look_found : State → Found
+sweep_look_found s = finds.Colour (colour_of s s.control.position)
 
 abbrev pub sweep_look_after : State → State
 sweep_look_after s = tell_collector s event.SweepLook (sweep_look_found s)
@@ -55,7 +55,7 @@ abbrev pub wipe_after : State → State
 wipe_after s =
     tell_collector (record s {
       rows = set_field s.rows s.control.position (wiped_count s.collector.sweep) field.Null;
-    }) event.Wipe answer.Stored
+    }) event.Wipe finds.Stored
 
 -- Free.
 
@@ -72,7 +72,7 @@ free_can s = may_free s.collector.sweep
 abbrev pub free_after : State → State
 free_after s =
     tell_collector (record s { colours = slice_set s.colours s.control.position colour.Blue })
-    event.Free answer.Stored
+    event.Free finds.Stored
 
 -- Whiten.
 
@@ -88,7 +88,7 @@ whiten_can s = is_black_found s.collector.sweep
 abbrev pub whiten_after : State → State
 whiten_after s =
     tell_collector (record s { colours = slice_set s.colours s.control.position colour.White })
-    event.Whiten answer.Stored
+    event.Whiten finds.Stored
 
 -- Advance.
 
@@ -102,4 +102,4 @@ abbrev pub advance_can : State → Bool
 advance_can s = at_stage s stage.Sweep && nat_lt s.control.position s.cells && is_done s.collector.sweep
 
 abbrev pub advance_after : State → State
-advance_after s = tell_control (tell_collector s event.Advance answer.Stored) event.Advance
+advance_after s = tell_control (tell_collector s event.Advance finds.Stored) event.Advance

@@ -6,8 +6,8 @@
 use Rattle.std.specs.Prelude.{ℕ, Bool, false, not, ◌&&◌, ◌==◌, nat_lt, slice_set, Option, Some, None, is_none}
 use Rattle.cell_words.specs.declared.colours.Colour.TheVariants as colour
 use Rattle.cell_words.specs.declared.controls.Stage.TheVariants as stage
-use Rattle.core_machine.specs.declared.events.Answer.{Answer}
-use Rattle.core_machine.specs.declared.events.Answer.TheVariants as answer
+use Rattle.core_machine.specs.declared.events.Found.{Found}
+use Rattle.core_machine.specs.declared.events.Found.TheVariants as finds
 use Rattle.core_machine.specs.declared.events.Event.TheVariants as event
 use Rattle.core_machine.specs.declared.progress.Scanning.{Scanning}
 use Rattle.core_machine.specs.State.{State, colour_of, field_of, all_answered}
@@ -37,8 +37,8 @@ child_of s = child_or_anchor (scan_of s).child
 abbrev pub clear_can : State → Bool
 clear_can s = at_stage s stage.Clear && nat_lt s.collector.cursor s.cells
 
-abbrev pub clear_found : State → Answer
-clear_found s = answer.Colour (colour_of s s.collector.cursor)
+abbrev pub clear_found : State → Found
+clear_found s = finds.Colour (colour_of s s.collector.cursor)
 
 abbrev pub clear_after : State → State
 clear_after s =
@@ -51,8 +51,8 @@ clear_after s =
 abbrev pub anchor_can : State → Bool
 anchor_can s = at_stage s stage.Sync2 && all_answered s
 
-abbrev pub anchor_found : State → Answer
-anchor_found s = answer.Colour (colour_of s 0)
+abbrev pub anchor_found : State → Found
+anchor_found s = finds.Colour (colour_of s 0)
 
 abbrev pub anchor_after : State → State
 anchor_after s =
@@ -64,8 +64,8 @@ anchor_after s =
 abbrev pub see_can : State → ℕ → Bool
 see_can s c = at_stage s stage.Trace && all_answered s && is_none s.collector.scan && nat_lt c s.cells
 
-abbrev pub see_found : State → ℕ → Answer
-see_found s c = answer.Colour (colour_of s c)
+abbrev pub see_found : State → ℕ → Found
+see_found s c = finds.Colour (colour_of s c)
 
 abbrev pub see_after : State → ℕ → State
 see_after s c = tell_collector s (event.See c) (see_found s c)
@@ -80,8 +80,8 @@ may_scan (Some scan) = nat_lt scan.next 5 && is_none scan.child
 abbrev pub scan_can : State → Bool
 scan_can s = may_scan s.collector.scan
 
-abbrev pub scan_found : State → Answer
-scan_found s = answer.Field (field_of s (scan_of s).cell (scan_of s).next)
+abbrev pub scan_found : State → Found
+scan_found s = finds.Field (field_of s (scan_of s).cell (scan_of s).next)
 
 abbrev pub scan_after : State → State
 scan_after s = tell_collector s event.Scan (scan_found s)
@@ -96,8 +96,8 @@ may_shade (Some scan) = not (is_none scan.child)
 abbrev pub shade_can : State → Bool
 shade_can s = may_shade s.collector.scan
 
-abbrev pub shade_found : State → Answer
-shade_found s = answer.Colour (colour_of s (child_of s))
+abbrev pub shade_found : State → Found
+shade_found s = finds.Colour (colour_of s (child_of s))
 
 abbrev pub shade_after : State → State
 shade_after s =
@@ -118,4 +118,4 @@ blacken_can s = may_blacken s.collector.scan
 abbrev pub blacken_after : State → State
 blacken_after s =
     tell_collector (record s { colours = slice_set s.colours (scan_of s).cell colour.Black })
-    event.Blacken answer.Stored
+    event.Blacken finds.Stored

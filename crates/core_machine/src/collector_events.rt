@@ -1,5 +1,5 @@
 //! The fifteen kinds of event of the collector.
-ghost use Rattle.core_machine.specs.Answers.{Answers};
+ghost use Rattle.core_machine.specs.Takes.{Takes};
 ghost use Rattle.core_machine.specs.Collector.{posted_control};
 ghost use Rattle.core_machine.specs.Handshakes.{wanted_of};
 ghost use Rattle.core_machine.specs.declared.events.Event.TheVariants as event;
@@ -7,7 +7,7 @@ ghost use Rattle.core_machine.specs.InRange.{InRange};
 ghost use Rattle.core_machine.specs.Next.{next};
 ghost use Rattle.std.specs.Prelude.{◌+◌, ◌<◌, ◌≡◌, ◌^◌};
 
-use crate::collector_tests::{is_black_found, may_blacken, may_free, may_scan, may_wipe};
+use crate::collector_conditions::{is_black_found, may_blacken, may_free, may_scan, may_wipe};
 use crate::machine::{Machine, NotNow};
 use crate::progress::{Sweeping, scan_shaded, scanned, sweep_of};
 use crate::words::{answered_out, cleared, may_answer_out, same_status, shaded};
@@ -23,7 +23,7 @@ impl Machine {
 
     pub(crate) fn post(&mut self, target: Stage) -> Result<(), NotNow>
         requires { InRange self.old }
-        ensures event { Answers result self.old (next self.old (event.Post target)) self.new }
+        ensures event { Takes result self.old (next self.old (event.Post target)) self.new }
     {
         if !self.post_can(target) {
             return Err(NotNow);
@@ -35,7 +35,7 @@ impl Machine {
 
     pub(crate) fn duty(&mut self, on: bool) -> Result<(), NotNow>
         requires { InRange self.old }
-        ensures event { Answers result self.old (next self.old (event.Duty on)) self.new }
+        ensures event { Takes result self.old (next self.old (event.Duty on)) self.new }
     {
         if !self.at_stage(Stage::Idle) {
             return Err(NotNow);
@@ -46,7 +46,7 @@ impl Machine {
 
     pub(crate) fn poll(&mut self, i: u32) -> Result<(), NotNow>
         requires { InRange self.old }
-        ensures event { Answers result self.old (next self.old (event.Poll i)) self.new }
+        ensures event { Takes result self.old (next self.old (event.Poll i)) self.new }
     {
         if !self.poll_can(i) {
             return Err(NotNow);
@@ -58,7 +58,7 @@ impl Machine {
 
     pub(crate) fn answer_out(&mut self, i: u32, over: bool) -> Result<(), NotNow>
         requires { InRange self.old }
-        ensures event { Answers result self.old (next self.old (event.AnswerOut i over)) self.new }
+        ensures event { Takes result self.old (next self.old (event.AnswerOut i over)) self.new }
     {
         if !self.answer_out_can(i) {
             return Err(NotNow);
@@ -73,7 +73,7 @@ impl Machine {
 
     pub(crate) fn clear(&mut self) -> Result<(), NotNow>
         requires { InRange self.old }
-        ensures event { Answers result self.old (next self.old event.ClearCell) self.new }
+        ensures event { Takes result self.old (next self.old event.ClearCell) self.new }
     {
         if !self.clear_can() {
             return Err(NotNow);
@@ -87,7 +87,7 @@ impl Machine {
 
     pub(crate) fn mark_anchor(&mut self) -> Result<(), NotNow>
         requires { InRange self.old }
-        ensures event { Answers result self.old (next self.old event.Anchor) self.new }
+        ensures event { Takes result self.old (next self.old event.Anchor) self.new }
     {
         if !self.anchor_can() {
             return Err(NotNow);
@@ -100,7 +100,7 @@ impl Machine {
 
     pub(crate) fn see(&mut self, cell: u32) -> Result<(), NotNow>
         requires { InRange self.old }
-        ensures event { Answers result self.old (next self.old (event.See cell)) self.new }
+        ensures event { Takes result self.old (next self.old (event.See cell)) self.new }
     {
         if !self.see_can(cell) {
             return Err(NotNow);
@@ -112,7 +112,7 @@ impl Machine {
 
     pub(crate) fn scan_field(&mut self) -> Result<(), NotNow>
         requires { InRange self.old }
-        ensures event { Answers result self.old (next self.old event.Scan) self.new }
+        ensures event { Takes result self.old (next self.old event.Scan) self.new }
     {
         let Some(scan) = self.scan() else {
             return Err(NotNow);
@@ -127,7 +127,7 @@ impl Machine {
 
     pub(crate) fn shade(&mut self) -> Result<(), NotNow>
         requires { InRange self.old }
-        ensures event { Answers result self.old (next self.old event.Shade) self.new }
+        ensures event { Takes result self.old (next self.old event.Shade) self.new }
     {
         let Some(scan) = self.scan() else {
             return Err(NotNow);
@@ -143,7 +143,7 @@ impl Machine {
 
     pub(crate) fn blacken(&mut self) -> Result<(), NotNow>
         requires { InRange self.old }
-        ensures event { Answers result self.old (next self.old event.Blacken) self.new }
+        ensures event { Takes result self.old (next self.old event.Blacken) self.new }
     {
         let Some(scan) = self.scan() else {
             return Err(NotNow);
@@ -158,7 +158,7 @@ impl Machine {
 
     pub(crate) fn sweep_look(&mut self) -> Result<(), NotNow>
         requires { InRange self.old }
-        ensures event { Answers result self.old (next self.old event.SweepLook) self.new }
+        ensures event { Takes result self.old (next self.old event.SweepLook) self.new }
     {
         if !self.sweep_look_can() {
             return Err(NotNow);
@@ -170,7 +170,7 @@ impl Machine {
 
     pub(crate) fn wipe(&mut self) -> Result<(), NotNow>
         requires { InRange self.old }
-        ensures event { Answers result self.old (next self.old event.Wipe) self.new }
+        ensures event { Takes result self.old (next self.old event.Wipe) self.new }
     {
         let Sweeping::Wiping(wiped) = self.sweep() else {
             return Err(NotNow);
@@ -185,7 +185,7 @@ impl Machine {
 
     pub(crate) fn free(&mut self) -> Result<(), NotNow>
         requires { InRange self.old }
-        ensures event { Answers result self.old (next self.old event.Free) self.new }
+        ensures event { Takes result self.old (next self.old event.Free) self.new }
     {
         if !may_free(self.sweep()) {
             return Err(NotNow);
@@ -198,7 +198,7 @@ impl Machine {
 
     pub(crate) fn whiten(&mut self) -> Result<(), NotNow>
         requires { InRange self.old }
-        ensures event { Answers result self.old (next self.old event.Whiten) self.new }
+        ensures event { Takes result self.old (next self.old event.Whiten) self.new }
     {
         if !is_black_found(self.sweep()) {
             return Err(NotNow);
@@ -210,7 +210,7 @@ impl Machine {
 
     pub(crate) fn advance(&mut self) -> Result<(), NotNow>
         requires { InRange self.old }
-        ensures event { Answers result self.old (next self.old event.Advance) self.new }
+        ensures event { Takes result self.old (next self.old event.Advance) self.new }
     {
         if !self.advance_can() {
             return Err(NotNow);

@@ -62,9 +62,9 @@ pub enum Event {
     Advance,
 }
 
-/// What an event's operation found in its word.
+/// What an event finds in its word.
 #[derive(Clone, Copy, Debug, PartialEq, Eq)]
-pub enum Answer {
+pub enum Found {
     /// A store finds nothing.
     Stored,
     Control(Control),
@@ -73,9 +73,9 @@ pub enum Answer {
     Field(Field),
 }
 
-/// An event of a run, with its answer.
+/// An event of a run, with what it found.
 #[derive(Clone, Copy, Debug, PartialEq, Eq)]
 pub struct Taken {
     pub event: Event,
-    pub answer: Answer,
+    pub found: Found,
 }

@@ -11,24 +11,25 @@
 //! and every event keeps them.
 //!
 //! Reading order: `events`; specs/State with its parts Own and Collector; the event table in
-//! specs/Operations, Mutation, Handshakes, Tracing, Sweep and Next; then `opening` and `machine`.
+//! specs/Operations, Mutation, Handshakes, Tracing, Sweep and Next; then `opening`, `taking` and `machine`.
 #![tactic(auto)]
 
+mod collector_conditions;
 mod collector_events;
 mod collector_part;
-mod collector_tests;
 mod events;
 mod machine;
+mod mutator_conditions;
 mod mutator_events;
 mod mutator_part;
 mod mutator_parts;
-mod mutator_tests;
 mod opening;
 mod places;
 mod progress;
+mod taking;
 mod words;
 
-pub use events::{Answer, Event, Taken};
+pub use events::{Event, Found, Taken};
 pub use machine::{Machine, NotNow};
 pub use places::Held;
 pub use progress::{Scanning, Sweeping};

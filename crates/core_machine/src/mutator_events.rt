@@ -1,6 +1,6 @@
 //! The twelve kinds of event of a mutator.
 ghost use Rattle.core_machine.specs.declared.events.Event.TheVariants as event;
-ghost use Rattle.core_machine.specs.Answers.{Answers};
+ghost use Rattle.core_machine.specs.Takes.{Takes};
 ghost use Rattle.core_machine.specs.InRange.{InRange};
 ghost use Rattle.core_machine.specs.Next.{next};
 
@@ -12,7 +12,7 @@ use cell_words::{Field, Kind, Presence};
 impl Machine {
     pub(crate) fn begin(&mut self, i: u32) -> Result<(), NotNow>
         requires { InRange self.old }
-        ensures event { Answers result self.old (next self.old (event.Begin i)) self.new }
+        ensures event { Takes result self.old (next self.old (event.Begin i)) self.new }
     {
         if !self.may_begin(i) {
             return Err(NotNow);
@@ -28,7 +28,7 @@ impl Machine {
 
     pub(crate) fn look(&mut self, i: u32) -> Result<(), NotNow>
         requires { InRange self.old }
-        ensures event { Answers result self.old (next self.old (event.Look i)) self.new }
+        ensures event { Takes result self.old (next self.old (event.Look i)) self.new }
     {
         if !self.is_in(i) {
             return Err(NotNow);
@@ -39,7 +39,7 @@ impl Machine {
 
     pub(crate) fn read(&mut self, i: u32, place: usize, f: usize) -> Result<(), NotNow>
         requires { InRange self.old }
-        ensures event { Answers result self.old (next self.old (event.Read i place f)) self.new }
+        ensures event { Takes result self.old (next self.old (event.Read i place f)) self.new }
     {
         if !self.read_can(i, place, f) {
             return Err(NotNow);
@@ -51,7 +51,7 @@ impl Machine {
 
     pub(crate) fn mark(&mut self, i: u32, place: usize) -> Result<(), NotNow>
         requires { InRange self.old }
-        ensures event { Answers result self.old (next self.old (event.Mark i place)) self.new }
+        ensures event { Takes result self.old (next self.old (event.Mark i place)) self.new }
     {
         if !self.mark_can(i, place) {
             return Err(NotNow);
@@ -72,7 +72,7 @@ impl Machine {
         new: Field,
     ) -> Result<(), NotNow>
         requires { InRange self.old }
-        ensures event { Answers result self.old
+        ensures event { Takes result self.old
             (next self.old (event.Write i place f old new)) self.new }
     {
         if !self.write_can(i, place, f, old, new) {
@@ -87,7 +87,7 @@ impl Machine {
 
     pub(crate) fn claim(&mut self, i: u32, cell: u32) -> Result<(), NotNow>
         requires { InRange self.old }
-        ensures event { Answers result self.old (next self.old (event.Claim i cell)) self.new }
+        ensures event { Takes result self.old (next self.old (event.Claim i cell)) self.new }
     {
         if !self.claim_can(i, cell) {
             return Err(NotNow);
@@ -107,7 +107,7 @@ impl Machine {
         value: Field,
     ) -> Result<(), NotNow>
         requires { InRange self.old }
-        ensures event { Answers result self.old
+        ensures event { Takes result self.old
             (next self.old (event.Fill i place f value)) self.new }
     {
         if !self.fill_can(i, place, f, value) {
@@ -119,7 +119,7 @@ impl Machine {
 
     pub(crate) fn seal(&mut self, i: u32, place: usize, kind: Kind) -> Result<(), NotNow>
         requires { InRange self.old }
-        ensures event { Answers result self.old (next self.old (event.Seal i place kind)) self.new }
+        ensures event { Takes result self.old (next self.old (event.Seal i place kind)) self.new }
     {
         if !self.seal_can(i, place) {
             return Err(NotNow);
@@ -130,7 +130,7 @@ impl Machine {
 
     pub(crate) fn answer(&mut self, i: u32) -> Result<(), NotNow>
         requires { InRange self.old }
-        ensures event { Answers result self.old (next self.old (event.Answer i)) self.new }
+        ensures event { Takes result self.old (next self.old (event.Answer i)) self.new }
     {
         if !self.answer_can(i) {
             return Err(NotNow);
@@ -152,7 +152,7 @@ impl Machine {
         copies: usize,
     ) -> Result<(), NotNow>
         requires { InRange self.old }
-        ensures event { Answers result self.old
+        ensures event { Takes result self.old
             (next self.old (event.Keep i count from copies)) self.new }
     {
         if !self.keep_can(i, count, from, copies) {
@@ -164,7 +164,7 @@ impl Machine {
 
     pub(crate) fn end(&mut self, i: u32) -> Result<(), NotNow>
         requires { InRange self.old }
-        ensures event { Answers result self.old (next self.old (event.End i)) self.new }
+        ensures event { Takes result self.old (next self.old (event.End i)) self.new }
     {
         if !self.is_in(i) {
             return Err(NotNow);
@@ -180,7 +180,7 @@ impl Machine {
 
     pub(crate) fn over(&mut self, i: u32) -> Result<(), NotNow>
         requires { InRange self.old }
-        ensures event { Answers result self.old (next self.old (event.Over i)) self.new }
+        ensures event { Takes result self.old (next self.old (event.Over i)) self.new }
     {
         if !self.may_begin(i) {
             return Err(NotNow);

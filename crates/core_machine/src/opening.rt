@@ -1,15 +1,12 @@
-//! The machine at its opening, and the one call that takes an event.
+//! The machine at its opening.
 ghost use Rattle.cell_words.specs.declared.colours.Colour.TheVariants as colour;
-ghost use Rattle.core_machine.specs.Answers.{Answers};
 ghost use Rattle.core_machine.specs.InRange.{InRange, rows_name_below};
-ghost use Rattle.core_machine.specs.Next.{next};
 ghost use Rattle.core_machine.specs.State.{greatest_cells, null_row, opening};
 ghost use Rattle.std.specs.Prelude.{IfOk, IsTrue, length, replicate, ◌++◌, ◌-◌, ◌<◌, ◌≡◌, ◌≤◌};
 
 use crate::NoMemory;
 use crate::collector_part::CollectorPart;
-use crate::events::Event;
-use crate::machine::{Machine, NotNow};
+use crate::machine::Machine;
 use crate::mutator_parts::MutatorParts;
 use cell_words::{Colour, Control, Field, Presence, Row, Stage, Status};
 use std::alloc::Global;
@@ -74,52 +71,6 @@ impl Machine {
             control,
             collector,
         })
-    }
-
-    /// Takes the event, if it can happen. It takes no memory.
-    pub fn apply(&mut self, event: Event) -> Result<(), NotNow>
-        requires { InRange self.old }
-        ensures event { Answers result self.old (next self.old event) self.new }
-        ensures range { InRange self.new }
-        ensures cells { self.new.cells ≡ self.old.cells }
-        ensures mutators { self.new.mutators ≡ self.old.mutators }
-    {
-        self.take(event)
-    }
-
-    fn take(&mut self, event: Event) -> Result<(), NotNow>
-        requires { InRange self.old }
-        ensures event { Answers result self.old (next self.old event) self.new }
-    {
-        match event {
-            Event::Begin(i) => self.begin(i),
-            Event::Look(i) => self.look(i),
-            Event::Read(i, place, f) => self.read(i, place, f),
-            Event::Mark(i, place) => self.mark(i, place),
-            Event::Write(i, place, f, old, new) => self.write(i, place, f, old, new),
-            Event::Claim(i, cell) => self.claim(i, cell),
-            Event::Fill(i, place, f, value) => self.fill(i, place, f, value),
-            Event::Seal(i, place, kind) => self.seal(i, place, kind),
-            Event::Answer(i) => self.answer(i),
-            Event::Keep(i, count, from, copies) => self.keep(i, count, from, copies),
-            Event::End(i) => self.end(i),
-            Event::Over(i) => self.over(i),
-            Event::Post(target) => self.post(target),
-            Event::Duty(on) => self.duty(on),
-            Event::Poll(i) => self.poll(i),
-            Event::AnswerOut(i, over) => self.answer_out(i, over),
-            Event::ClearCell => self.clear(),
-            Event::Anchor => self.mark_anchor(),
-            Event::See(cell) => self.see(cell),
-            Event::Scan => self.scan_field(),
-            Event::Shade => self.shade(),
-            Event::Blacken => self.blacken(),
-            Event::SweepLook => self.sweep_look(),
-            Event::Wipe => self.wipe(),
-            Event::Free => self.free(),
-            Event::Whiten => self.whiten(),
-            Event::Advance => self.advance(),
-        }
     }
 }
 

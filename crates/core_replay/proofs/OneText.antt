@@ -4,7 +4,7 @@ use Rattle.core_replay.specs.Replay.{IsReplayText, Leads, Writes, WritesOn}
 use Rattle.core_replay.specs.ReplayText.{ending_of}
 use Rattle.core_replay.specs.Standing.{Standing, opened}
 use Rattle.core_replay.specs.Turns.{Outcome, Went, Stopped, PlainLeads, ends, goes_on}
-use Rattle.core_replay.specs.Written.{Written}
+use Rattle.core_replay.specs.ScheduleValue.{ScheduleValue}
 use Rattle.core_replay.specs.declared.line.Numbered.{Numbered}
 use Rattle.core_replay.specs.declared.step.Step.{Step}
 use Rattle.core_replay.specs.declared.step.Step.TheVariants.{Take, Plain, Show}
@@ -41,7 +41,7 @@ one_writing p (step ∷ later) one other last end is also =
     one_on step.line is.0 (λ q rest behind. Writes q later rest behind) one other last end
     (λ q rest more. one_writing q later rest more last end) is.2 moved
 
-pub one_text : (schedule : Written) (one other : List ℕ) → IsReplayText schedule one → IsReplayText schedule other → one ≡ other
+pub one_text : (schedule : ScheduleValue) (one other : List ℕ) → IsReplayText schedule one → IsReplayText schedule other → one ≡ other
 one_text schedule one other is also =
     let same = one_writing (opened schedule.sizes) schedule.steps is.1 also.1 is.0 also.0 is.2 also.2 in
     is.3 ∙ ap (λ lines. lines ++ ending_of is.0) same.0 ∙ ap (λ last. also.1 ++ ending_of last) same.1 ∙ sym also.3

@@ -12,12 +12,12 @@ use Rattle.core_replay.specs.ReplayText.{cell_line_of, ending_of, not_now_line}
 use Rattle.core_replay.specs.Standing.{IsReplayed, Standing, anchor_row, counted, opened, taken_by}
 use Rattle.core_replay.specs.Turns.{Outcome, Went, Stopped, Turn, Ends, GoesOn, PlainLeads, ends, goes_on, is_post, look_before, looked, turn_of, turned}
 use Rattle.core_replay.specs.Work.{HasFallen, work}
-use Rattle.core_replay.specs.Written.{Written, are_sizes}
+use Rattle.core_replay.specs.ScheduleValue.{ScheduleValue, are_sizes}
 use Rattle.core_replay.specs.declared.line.Numbered.{Numbered}
 use Rattle.core_replay.specs.declared.start.Sizes.{Sizes}
 use Rattle.core_replay.specs.declared.step.Step.{Step}
 use Rattle.core_replay.specs.declared.step.Step.TheVariants.{Take, Plain, Show}
-use Rattle.core_replay.proofs.Kept.{answers_replayed}
+use Rattle.core_replay.proofs.Kept.{takes_replayed}
 use Rattle.core_replay.proofs.Turning.{turn_falls, turn_refused, turn_taken, turn_unlooked, turn_without}
 use Rattle.dlg_core.proofs.Starts.{opening_consistent}
 use Rattle.dlg_core.proofs.Throughout.{first_rows_named}
@@ -33,7 +33,7 @@ counted_some taken (Some s) q is =
 
 taken_kept : (p q : Standing) (e : Event) → IsReplayed p.core → taken_by p e ≡ Some q → IsReplayed q.core
 taken_kept p q e kept is =
-    answers_replayed {U = ℕ} {E = ℕ} (Ok 0) p.core q.core e kept (counted_some p.taken (next p.core e) q is)
+    takes_replayed {U = ℕ} {E = ℕ} (Ok 0) p.core q.core e kept (counted_some p.taken (next p.core e) q is)
 
 looked_kept : (p q : Standing) (look : Option Event) → IsReplayed p.core → looked p look ≡ Some q → IsReplayed q.core
 looked_kept p q None kept is = let same : p ≡ q = cc in subst (λ (x : Standing). IsReplayed x.core) same kept
@@ -151,7 +151,7 @@ opened_kept sizes allowed =
       few_mutators = few_of_rooms sizes (leb-true sizes.mutators 64 c.1);
     }
 
-pub some_text : (schedule : Written) → IsTrue (are_sizes schedule.sizes) → (text : List ℕ) × IsReplayText schedule text
+pub some_text : (schedule : ScheduleValue) → IsTrue (are_sizes schedule.sizes) → (text : List ℕ) × IsReplayText schedule text
 some_text schedule allowed =
     let writes = some_writing (opened schedule.sizes) schedule.steps (opened_kept schedule.sizes allowed) in
     (writes.0 ++ ending_of writes.1, (writes.1, writes.0, writes.2, refl))

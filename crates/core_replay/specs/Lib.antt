@@ -1,13 +1,13 @@
-pub mod Answers
 pub mod Lines
 pub mod Numbers
 pub mod Outcomes
+pub mod Reads
 pub mod Replay
 pub mod ReplayText
 pub mod Schedule
+pub mod ScheduleValue
 pub mod Standing
 pub mod Start
 pub mod Steps
 pub mod Turns
 pub mod Work
-pub mod Written

@@ -12,7 +12,7 @@ use Rattle.core_replay.specs.declared.fault.ScheduleKind.{ScheduleKind}
 use Rattle.core_replay.specs.declared.fault.ScheduleKind.TheVariants.{BadByte}
 use Rattle.core_replay.specs.declared.line.Reading.{Reading}
 use Rattle.core_replay.specs.declared.line.Reading.TheVariants.{Nothing, Start, Next}
-use Rattle.core_replay.specs.Written.{are_sizes}
+use Rattle.core_replay.specs.ScheduleValue.{are_sizes}
 use Rattle.core_replay.specs.declared.start.Sizes.{Sizes}
 
 -- a line that counts, before the core has its sizes and after

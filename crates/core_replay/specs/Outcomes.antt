@@ -1,15 +1,10 @@
--- How the answers of a replay's calls stand to the definitions.
+-- How the results of a replay's calls stand to the definitions.
 use Rattle.std.specs.Prelude.{◌≡◌, Bool, true, false, [], Option, Some, None, Result, Ok, Err, String, string_bytes}
 use Rattle.std.specs.declared.alloc.Global.{Global}
 use Rattle.core_replay.specs.Standing.{Standing}
 use Rattle.core_replay.specs.Turns.{Outcome, Went, Stopped, Turn, Ends, GoesOn}
 use Rattle.core_replay.specs.declared.replaying.Turned.{Turned}
 use Rattle.core_replay.specs.declared.replaying.Turned.TheVariants as turned
-
--- Ok says that the event could happen, and what it left; Err that it could not, and nothing changed
-abbrev pub Takes : {U E : Type 0} → Result U E → Standing → Option Standing → Standing → Type 0
-Takes (Ok done) old next new = next ≡ Some new
-Takes (Err refusal) old next new = (next ≡ None) × (new ≡ old)
 
 -- the turn that ended so, and left this
 abbrev pub turn_with_last : Turned → Standing → Turn

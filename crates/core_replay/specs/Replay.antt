@@ -7,7 +7,7 @@ use Rattle.std.specs.Prelude.{ℕ, ◌≡◌, List, [], ◌∷◌, ◌++◌, nat
 use Rattle.core_replay.specs.ReplayText.{cell_line_of, ending_of, not_now_line}
 use Rattle.core_replay.specs.Standing.{Standing, opened, taken_by}
 use Rattle.core_replay.specs.Turns.{Outcome, Went, Stopped, PlainLeads}
-use Rattle.core_replay.specs.Written.{Written}
+use Rattle.core_replay.specs.ScheduleValue.{ScheduleValue}
 use Rattle.core_replay.specs.declared.line.Numbered.{Numbered}
 use Rattle.core_replay.specs.declared.step.Step.{Step}
 use Rattle.core_replay.specs.declared.step.Step.TheVariants.{Take, Plain, Show}
@@ -40,7 +40,7 @@ Writes p (step ∷ later) text last =
     × WritesOn step.line outcome (λ q rest. Writes q later rest last) text last
 
 -- the text: what the steps write, and the two last lines
-abbrev pub IsReplayText : Written → List ℕ → Type 0
+abbrev pub IsReplayText : ScheduleValue → List ℕ → Type 0
 IsReplayText schedule text =
     (last : Standing) × (lines : List ℕ) × Writes (opened schedule.sizes) schedule.steps lines last
     × (text ≡ lines ++ ending_of last)

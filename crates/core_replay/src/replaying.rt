@@ -2,13 +2,14 @@
 //!
 //! The turns of a line `plain` end because each leaves the collector less to do before it posts:
 //! specs/Work has the number that falls.
-ghost use Rattle.core_replay.specs.Outcomes.{Takes, outcome_by, told_by, turn_with_last};
+ghost use Rattle.core_machine.specs.Takes.{Takes};
+ghost use Rattle.core_replay.specs.Outcomes.{outcome_by, told_by, turn_with_last};
 ghost use Rattle.core_replay.specs.Replay.{shown};
 ghost use Rattle.core_replay.specs.ReplayText.{ending_of};
 ghost use Rattle.core_replay.specs.Standing.{opened, taken_by};
 ghost use Rattle.core_replay.specs.Turns.{PlainLeads, is_post, look_before, looked, turn_of};
 ghost use Rattle.core_replay.specs.Work.{HasFallen};
-ghost use Rattle.core_replay.specs.Written.{are_sizes};
+ghost use Rattle.core_replay.specs.ScheduleValue.{are_sizes};
 ghost use Rattle.dlg_core.specs.Plain.{next_plain_of};
 ghost use Rattle.std.specs.Prelude.{IfOk, IsTrue, Some, string_bytes, ◌+◌, ◌<◌, ◌^◌, ◌≡◌, ◌≤◌};
 

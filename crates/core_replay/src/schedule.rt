@@ -1,7 +1,7 @@
 //! A whole schedule.
-ghost use Rattle.core_replay.specs.Answers.{Reads};
+ghost use Rattle.core_replay.specs.Reads.{Reads};
 ghost use Rattle.core_replay.specs.Schedule.{schedule_of};
-ghost use Rattle.core_replay.specs.Written.{are_sizes};
+ghost use Rattle.core_replay.specs.ScheduleValue.{are_sizes};
 ghost use Rattle.std.specs.Prelude.{IsTrue, length, ◌-◌, ◌<◌, ◌^◌, ◌≡◌};
 
 use crate::fault::{ScheduleError, ScheduleFault, ScheduleKind};
@@ -18,10 +18,10 @@ pub struct Schedule {
 }
 
 impl Model for Schedule {
-    ghost use Rattle.core_replay.specs.Written.{Written, are_sizes};
+    ghost use Rattle.core_replay.specs.ScheduleValue.{ScheduleValue, are_sizes};
     ghost use Rattle.std.specs.Prelude.{IsTrue, length, ◌<◌, ◌^◌};
 
-    ghost Value = { Written };
+    ghost Value = { ScheduleValue };
 
     ghost view = { λ s. record { sizes = s.sizes; steps = s.steps.items } };
 

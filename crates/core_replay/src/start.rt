@@ -1,6 +1,6 @@
 //! The first line of a schedule: the sizes of the core that it runs.
 ghost use Rattle.core_replay.specs.Start.{size_in, sizes_in, start_of};
-ghost use Rattle.core_replay.specs.Written.{are_sizes};
+ghost use Rattle.core_replay.specs.ScheduleValue.{are_sizes};
 ghost use Rattle.std.specs.Prelude.{IfOk, IsTrue, ◌<◌, ◌≡◌, ◌≤◌};
 
 use crate::event::at_end;

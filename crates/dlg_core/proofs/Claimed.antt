@@ -7,7 +7,7 @@ use Rattle.std.proofs.lemmas.List.{length-replicate, get_or-set_other}
 use Rattle.cell_words.specs.declared.colours.Colour.{Colour}
 use Rattle.cell_words.specs.declared.colours.Colour.TheVariants as colour
 use Rattle.cell_words.specs.declared.fields.Field.{Field}
-use Rattle.core_machine.specs.declared.events.Answer.TheVariants as answer
+use Rattle.core_machine.specs.declared.events.Found.TheVariants as finds
 use Rattle.core_machine.specs.declared.events.Event.{Event}
 use Rattle.core_machine.specs.declared.events.Event.TheVariants as event
 use Rattle.core_machine.specs.declared.events.Taken.{Taken}
@@ -16,7 +16,7 @@ use Rattle.core_machine.specs.State.{State, opening, colour_in, colour_of}
 use Rattle.core_machine.specs.Tracing.{may_blacken, scan_or_none, child_of}
 use Rattle.core_machine.specs.Words.{shaded, cleared}
 use Rattle.core_machine.specs.InRange.{IsShaped}
-use Rattle.core_machine.specs.Next.{can, answer_to, after}
+use Rattle.core_machine.specs.Next.{can, found_by, after}
 use Rattle.core_machine.specs.Run.{Runs, last}
 use Rattle.core_machine.proofs.Ranges.Events.{after_shaped}
 use Rattle.dlg_core.specs.Consistent.{IsConsistent}
@@ -88,7 +88,7 @@ used_along s (t ∷ ts) c range consistent runs used =
             record {
               claimer = claim.0;
               claims = claim.1;
-              found = runs.1 ∙ ap (answer_to s) claim.1 ∙ ap (λ x. answer.Colour x) e;
+              found = runs.1 ∙ ap (found_by s) claim.1 ∙ ap (λ x. finds.Colour x) e;
             },
           )
           | inr other ↦ absurd (still (blue_after s t.event c consistent runs.0 other e))

@@ -5,7 +5,7 @@ use Rattle.std.proofs.lemmas.Bool.{and_parts, and_from, ltb-true, lt-ltb}
 use Rattle.cell_words.specs.declared.fields.Field.{Field}
 use Rattle.cell_words.specs.declared.fields.Field.TheVariants as field
 use Rattle.core_machine.specs.declared.events.Event.{Event}
-use Rattle.core_machine.specs.Answers.{Answers}
+use Rattle.core_machine.specs.Takes.{Takes}
 use Rattle.core_machine.specs.InRange.{InRange, IsShaped, names_below, rows_name_below}
 use Rattle.core_machine.specs.Next.{can, after, next}
 use Rattle.core_machine.specs.State.{State, opening}
@@ -41,12 +41,12 @@ pub stays_safe : (s : State) (events : List Event) → IsShaped s → IsConsiste
 stays_safe s events shape k n t leads = consistent_safe t (consistent_along s (take n events) t leads shape k)
 
 -- whatever a call of one event answers, the invariant stays
-pub answers_consistent : {U E : Type 0} (result : Result U E) (old new : State) (e : Event) → InRange old → IsConsistent old
-    → Answers result old (next old e) new → IsConsistent new
-answers_consistent (Ok done) old new e range k is =
+pub takes_consistent : {U E : Type 0} (result : Result U E) (old new : State) (e : Event) → InRange old → IsConsistent old
+    → Takes result old (next old e) new → IsConsistent new
+takes_consistent (Ok done) old new e range k is =
     let happens = when_some (can old e) (after old e) new is in
     subst IsConsistent happens.1 (consistent_after old e range.shape k happens.0)
-answers_consistent (Err refusal) old new e range k is = subst IsConsistent (sym is.1) k
+takes_consistent (Err refusal) old new e range k is = subst IsConsistent (sym is.1) k
 
 pub value_named : (count cells : ℕ) (x : Field) → count ≤ cells → is_first_value count x ≡ true → names_below cells x ≡ true
 value_named count cells field.Null le h = refl

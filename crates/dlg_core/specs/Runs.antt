@@ -4,13 +4,13 @@ use Rattle.std.specs.List.{slice_get}
 use Rattle.core_machine.specs.declared.events.Event.{Event}
 use Rattle.core_machine.specs.declared.events.Taken.{Taken}
 use Rattle.core_machine.specs.State.{State}
-use Rattle.core_machine.specs.Next.{answer_to, after, next}
+use Rattle.core_machine.specs.Next.{found_by, after, next}
 use Rattle.core_machine.specs.Run.{Runs, last}
 
--- each event with the answer that it finds
+-- each event with what it finds
 abbrev pub taken_from : State → List Event → List Taken
 taken_from s [] = []
-taken_from s (e ∷ es) = record { event = e; answer = answer_to s e } ∷ taken_from (after s e) es
+taken_from s (e ∷ es) = record { event = e; found = found_by s e } ∷ taken_from (after s e) es
 
 -- the events are a run from the state, and lead to the other
 pub record LeadsTo (s : State) (events : List Event) (t : State) : Type 0 where

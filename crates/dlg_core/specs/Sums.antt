@@ -5,7 +5,7 @@ use Rattle.std.specs.Prelude.{ℕ, ◌≡◌, ◌≢◌, ◌⊎◌, ◌+◌, ◌
 use Rattle.std.specs.List.{Any, sum, sum_by, count_by}
 use Rattle.cell_words.specs.declared.colours.Colour.{Colour}
 use Rattle.cell_words.specs.declared.colours.Colour.TheVariants.{Blue}
-use Rattle.core_machine.specs.declared.events.Answer.TheVariants as answer
+use Rattle.core_machine.specs.declared.events.Found.TheVariants as finds
 use Rattle.core_machine.specs.declared.events.Event.{Event}
 use Rattle.core_machine.specs.declared.events.Event.TheVariants.{Claim}
 use Rattle.core_machine.specs.declared.events.Taken.{Taken}
@@ -51,7 +51,7 @@ StaysBalanced first s events = (k : ℕ) (t : State) → LeadsTo s (take k event
 pub record GetsCell (c : ℕ) (taken : Taken) : Type 0 where
   pub claimer : ℕ
   pub claims : taken.event ≡ Claim claimer c
-  pub found : taken.answer ≡ answer.Colour Blue
+  pub found : taken.found ≡ finds.Colour Blue
 
 -- so was one of the events
 abbrev pub IsClaimed : List Taken → ℕ → Type 0

@@ -19,6 +19,6 @@ mod reachability;
 mod search;
 pub mod theorems;
 
-pub use core_machine::{Answer, Event, Held, NotNow, Scanning, Sweeping, Taken};
+pub use core_machine::{Event, Found, Held, NotNow, Scanning, Sweeping, Taken};
 pub use machine::{Core, NotNowAt};
 pub use std::alloc::AllocError as NoMemory;

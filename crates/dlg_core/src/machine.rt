@@ -1,6 +1,6 @@
 //! The type that keeps the invariant.
 ghost use Rattle.cell_words.specs.declared.fields.Field.{Field};
-ghost use Rattle.core_machine.specs.Answers.{Answers};
+ghost use Rattle.core_machine.specs.Takes.{Takes};
 ghost use Rattle.core_machine.specs.Next.{next};
 ghost use Rattle.core_machine.specs.State.{colour_of, field_of, free_count_of, freed_of, greatest_cells, held_of, opening, presence_of, target_of};
 ghost use Rattle.dlg_core.specs.Collects.{Collects};
@@ -65,7 +65,7 @@ impl Core {
 
     /// Takes the event, if it can happen. It takes no memory.
     pub fn apply(&mut self, event: Event) -> Result<(), NotNow>
-        ensures event { Answers result self.old (next self.old event) self.new }
+        ensures event { Takes result self.old (next self.old event) self.new }
         ensures safe { IsSafe self.new }
     {
         self.machine.apply(event)

@@ -7,7 +7,7 @@ ghost use Rattle.std.specs.Prelude.{IfOk, IsTrue, OnOk, length, true, ◌<◌, �
 
 use crate::NoMemory;
 use crate::machine::Core;
-use crate::search::Found;
+use crate::search::Searching;
 use cell_words::Field;
 use std::alloc::Global;
 
@@ -27,11 +27,11 @@ impl Core {
     }
 
     // All roots wait.
-    fn found_roots(&self, alloc: Global) -> Result<Found, NoMemory>
+    fn found_roots(&self, alloc: Global) -> Result<Searching, NoMemory>
         ensures search { IfOk result (IsSearch self.now) }
     {
         let machine = &self.machine;
-        let mut found = Found::new(alloc, machine.cells())?;
+        let mut found = Searching::new(alloc, machine.cells())?;
         found.add(0)?;
         for m in 0..machine.mutators() {
             self.add_held(&mut found, m)?;
@@ -40,7 +40,7 @@ impl Core {
     }
 
     // What a mutator holds that is in waits.
-    fn add_held(&self, found: &mut Found, m: u32) -> Result<(), NoMemory>
+    fn add_held(&self, found: &mut Searching, m: u32) -> Result<(), NoMemory>
         requires { length found.old.marks ≡ self.now.cells }
         ensures grows { OnOk result (GrowsTo self.now found.old found.new) }
         ensures held { OnOk result (FoundHeld self.now m found.new) }
@@ -56,7 +56,7 @@ impl Core {
     }
 
     // What a reachable cell names waits.
-    fn add_named(&self, found: &mut Found, cell: u32) -> Result<(), NoMemory>
+    fn add_named(&self, found: &mut Searching, cell: u32) -> Result<(), NoMemory>
         requires size { length found.old.marks ≡ self.now.cells }
         requires cell { cell < self.now.cells }
         requires reachable { Reachable self.now cell }

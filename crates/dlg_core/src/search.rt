@@ -7,12 +7,12 @@ use std::alloc::Global;
 use std::marker::Model;
 
 #[derive(Drop)]
-pub(crate) struct Found {
+pub(crate) struct Searching {
     marks: Vec<bool>,
     waiting: Vec<u32>,
 }
 
-impl Model for Found {
+impl Model for Searching {
     ghost use Rattle.dlg_core.specs.Search.{Search};
 
     ghost Value = { Search };
@@ -20,14 +20,14 @@ impl Model for Found {
     ghost view = { λ f. record { marks = f.marks.items; waiting = f.waiting.items } };
 }
 
-impl Found {
+impl Searching {
     /// Nothing is found yet.
-    pub(crate) fn new(alloc: Global, cells: u32) -> Result<Found, NoMemory>
+    pub(crate) fn new(alloc: Global, cells: u32) -> Result<Searching, NoMemory>
         ensures nothing { IfOk result (λ f. f ≡ record { marks = replicate cells false; waiting = [] }) }
     {
         let marks = vec![in alloc; false; cells as usize]?;
         let waiting = Vec::new(alloc);
-        Ok(Found { marks, waiting })
+        Ok(Searching { marks, waiting })
     }
 
     /// A cell is found. It waits, if it was not found before.

@@ -3,7 +3,7 @@ use Rattle.std.proofs.Common.{◌≡◌, ◌≤◌, Bool, true, false, Some, Res
 use Rattle.core_machine.specs.declared.events.Event.{Event}
 use Rattle.core_machine.specs.declared.events.Event.TheVariants as event
 use Rattle.core_machine.specs.InRange.{IsShaped, InRange}
-use Rattle.core_machine.specs.Answers.{Answers}
+use Rattle.core_machine.specs.Takes.{Takes}
 use Rattle.core_machine.specs.Next.{can, after, when, next}
 use Rattle.core_machine.specs.State.{State, greatest_cells}
 use Rattle.core_machine.proofs.Ranges.Collecting as collecting
@@ -81,17 +81,17 @@ when_some true t u is = (refl, cc)
 when_some false t u is = cc
 
 -- whatever a call of one event answers, the ranges stay
-pub answers_keep : {U E : Type 0} (result : Result U E) (old new : State) (e : Event) → InRange old
-    → Answers result old (next old e) new → InRange new
-answers_keep (Ok done) old new e r is =
+pub takes_in_range : {U E : Type 0} (result : Result U E) (old new : State) (e : Event) → InRange old
+    → Takes result old (next old e) new → InRange new
+takes_in_range (Ok done) old new e r is =
     let happens = when_some (can old e) (after old e) new is in
     subst InRange happens.1 (after_keeps old e r happens.0)
-answers_keep (Err refusal) old new e r is = subst InRange (sym is.1) r
+takes_in_range (Err refusal) old new e r is = subst InRange (sym is.1) r
 
-pub answers_sizes : {U E : Type 0} (result : Result U E) (old new : State) (e : Event)
-    → Answers result old (next old e) new → (new.cells ≡ old.cells) × (new.mutators ≡ old.mutators)
-answers_sizes (Ok done) old new e is =
+pub takes_sizes : {U E : Type 0} (result : Result U E) (old new : State) (e : Event)
+    → Takes result old (next old e) new → (new.cells ≡ old.cells) × (new.mutators ≡ old.mutators)
+takes_sizes (Ok done) old new e is =
     let happens = when_some (can old e) (after old e) new is in
     subst (λ (t : State). (t.cells ≡ old.cells) × (t.mutators ≡ old.mutators)) happens.1 (after_sizes old e)
-answers_sizes (Err refusal) old new e is =
+takes_sizes (Err refusal) old new e is =
     (ap (λ (t : State). t.cells) is.1, ap (λ (t : State). t.mutators) is.1)

@@ -4,7 +4,7 @@ use Rattle.std.proofs.lemmas.Iterator.Consumers.{YieldsList-turn, YieldsList-end
 use Rattle.std.proofs.lemmas.Iterator.Splits.{YieldsList-from_slice_split}
 use Rattle.std.proofs.lemmas.List.{length_push}
 use Rattle.core_replay.specs.Lines.{HasAllowedSizes}
-use Rattle.core_replay.specs.Written.{are_sizes}
+use Rattle.core_replay.specs.ScheduleValue.{are_sizes}
 use Rattle.core_replay.specs.declared.start.Sizes.{Sizes}
 use Rattle.core_replay.proofs.Lines.{few_more, few_still, goes_past, starts, goes_on, stops, ends_started, ends_unstarted, of_same}
 use Rattle.core_replay.proofs.schedule.read_schedule.Goals as goal

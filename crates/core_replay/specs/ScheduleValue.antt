@@ -4,7 +4,7 @@ use Rattle.core_replay.specs.declared.line.Numbered.{Numbered}
 use Rattle.core_replay.specs.declared.start.Sizes.{Sizes}
 
 -- the sizes of the core, and what is asked for, line by line
-pub record Written : Type 0 where
+pub record ScheduleValue : Type 0 where
   pub sizes : Sizes
   pub steps : List Numbered
 
