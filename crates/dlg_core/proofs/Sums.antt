@@ -7,7 +7,7 @@ use Rattle.std.proofs.Common.{◌≡◌, inl, inr, ℕ, true, false, cond, not, 
 use Rattle.std.specs.Prelude.{slice_set, slice_index, take}
 use Rattle.std.proofs.Math.ListN.{set}
 use Rattle.std.specs.List.{sum}
-use Rattle.std.proofs.lemmas.Bool.{and_parts, ltb-true, cases_lt}
+use Rattle.std.proofs.lemmas.Bool.{cases_lt}
 use Rattle.std.proofs.lemmas.List.{set_past}
 use Rattle.std.proofs.lemmas.List.Folds.{sum_by-replicate}
 use Rattle.std.proofs.lemmas.List.Sums.{sum_by-set, sum_by-append}
@@ -29,6 +29,7 @@ use Rattle.core_machine.specs.Words.{shaded, cleared, claimed, is_blue, same_sta
 use Rattle.core_machine.specs.Handshakes.{wanted_of}
 use Rattle.core_machine.specs.InRange.{IsShaped}
 use Rattle.core_machine.specs.Next.{can, after}
+use Rattle.core_machine.proofs.Conditions.{claim_needs}
 use Rattle.core_machine.proofs.Ranges.Mutators.{born-blue}
 use Rattle.dlg_core.specs.Consistent.{IsConsistent}
 use Rattle.dlg_core.specs.FirstRows.{are_first_rows, AreRows}
@@ -130,12 +131,10 @@ claim_balances first s i c born colour.Black own cell e fresh k =
 pub claim_balanced : (first : ℕ) (s : State) (i c : ℕ) → IsShaped s → can s (event.Claim i c) ≡ true → IsBalanced first s
     → IsBalanced first (after s (event.Claim i c))
 claim_balanced first s i c range h k =
-    let a = and_parts _ _ h in
-    let b = and_parts _ _ a.0 in
-    let d = and_parts _ _ b.0 in
+    let needs = claim_needs s i c h in
     claim_balances first s i c (born_colour (presence_of s i).status (own_of s i).mode c) (colour_of s c)
-    (subst (λ n. i < n) (sym range.mutators_fit.owns_fit) (inside_below s i range d.0))
-    (subst (λ n. c < n) (sym range.cells_fit.colours_fit) (ltb-true c s.cells b.1))
+    (subst (λ n. i < n) (sym range.mutators_fit.owns_fit) (inside_below s i range needs.inside))
+    (subst (λ n. c < n) (sym range.cells_fit.colours_fit) needs.cell)
     refl (born-blue (presence_of s i).status (own_of s i).mode c) k
 
 -- the cell was white, and one cell in use goes

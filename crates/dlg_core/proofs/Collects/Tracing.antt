@@ -5,7 +5,6 @@
 -- Scan           the cell under scan is gray, so it is outside, and what it names is.
 -- Shade, Blacken the child and the cell under scan are outside.
 use Rattle.std.proofs.Common.{◌≡◌, ◌≢◌, ℕ, true, not, Option, Some, None, is_none, ◌+◌, refl, ◌∙◌, ap}
-use Rattle.std.proofs.lemmas.Bool.{and_parts}
 use Rattle.cell_words.specs.declared.colours.Colour.{Colour}
 use Rattle.cell_words.specs.declared.colours.Colour.TheVariants as colour
 use Rattle.cell_words.specs.declared.controls.Stage.TheVariants as stage
@@ -18,6 +17,7 @@ use Rattle.core_machine.specs.State.{State, colour_of, field_of}
 use Rattle.core_machine.specs.Tracing.{may_scan, may_shade, may_blacken, scan_or_none, child_or_anchor}
 use Rattle.core_machine.specs.Words.{shaded, cleared}
 use Rattle.core_machine.specs.Next.{can, after}
+use Rattle.core_machine.proofs.Conditions.{clear_needs}
 use Rattle.dlg_core.specs.Consistent.{IsConsistent}
 use Rattle.dlg_core.specs.Facts.{child_in}
 use Rattle.dlg_core.proofs.Changes.Noted.{look_each}
@@ -26,7 +26,6 @@ use Rattle.dlg_core.proofs.Collects.Changes.{colour_apart, colour_way, scan_way}
 use Rattle.dlg_core.proofs.Collects.Followed.{Follows, IsLeftIn, IsFollowed}
 use Rattle.dlg_core.proofs.Keeps.Clear.{cleared_blue}
 use Rattle.dlg_core.proofs.Keeps.Trace.{with_scan}
-use Rattle.dlg_core.proofs.Truths.{same_stage_is}
 
 -- A colour changes outside of the sweep: no cell of the set becomes blue, and in the next cycle none
 -- gets another colour than white.
@@ -52,7 +51,7 @@ scan_followed_to old s further fits k = record {
 pub clear_followed : (old s : State) → can s event.ClearCell ≡ true → IsFollowed old s → IsFollowed old (after s event.ClearCell)
 clear_followed old s h k =
     let c = s.collector.cursor in
-    let now = same_stage_is s.control.stage stage.Clear (and_parts _ _ h).0 in
+    let now = (clear_needs s h).now in
     colour_followed old s c (cleared (colour_of s c)) (λ e. cc)
     (λ left blue. k.apart.not_blue c left (cleared_blue (colour_of s c) blue))
     (λ next left. ap cleared (k.way.white next c left)) k

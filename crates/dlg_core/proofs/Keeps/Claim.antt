@@ -34,6 +34,7 @@ use Rattle.core_machine.specs.InRange.{IsShaped}
 use Rattle.core_machine.specs.Next.{can, after}
 use Rattle.core_machine.specs.Own.{Own, no_own, having_claimed}
 use Rattle.core_machine.specs.Places.{holds, found_at}
+use Rattle.core_machine.proofs.Conditions.{claim_needs}
 use Rattle.dlg_core.specs.Consistent.{IsConsistent, IsCutOff, IsNotDue, MarkStands, NoRawBlack}
 use Rattle.dlg_core.specs.Facts.{is_live, live, unswept, status_fits, async_fits, IsStaleMode, IsStale, is_cleared, marks_count}
 use Rattle.dlg_core.proofs.Each.{colour_each, own_each, all_held, all_from_held, all_both}
@@ -358,15 +359,12 @@ claim_at s i c m colour.Black range k inside lt has e = claimed_same s i c colou
 pub claim_keeps : (s : State) (i c : ℕ) → IsShaped s → IsConsistent s → can s (event.Claim i c) ≡ true
     → IsConsistent (after s (event.Claim i c))
 claim_keeps s i c range k h =
-    let a = and_parts _ _ h in
-    let b = and_parts _ _ a.0 in
-    let d = and_parts _ _ b.0 in
-    let below = ltb-true c s.cells b.1 in
-    let lt : c < length s.colours = subst (λ n. c < n) (sym range.cells_fit.colours_fit) below in
+    let needs = claim_needs s i c h in
+    let lt : c < length s.colours = subst (λ n. c < n) (sym range.cells_fit.colours_fit) needs.cell in
     elim (own_of s i).mode as (λ o. (own_of s i).mode ≡ o → is_some o ≡ true → IsConsistent (record s {
       colours = slice_set s.colours c (claimed (colour_of s c) (born_colour (presence_of s i).status o c));
       owns = slice_set s.owns i (having_claimed (own_of s i) c (colour_of s c));
     })) [
       | None ↦ λ e none. absurd cc
-      | Some m ↦ λ e some. claim_at s i c m (colour_of s c) range k d.0 lt e refl
-    ] refl d.1
+      | Some m ↦ λ e some. claim_at s i c m (colour_of s c) range k needs.inside lt e refl
+    ] refl needs.mode

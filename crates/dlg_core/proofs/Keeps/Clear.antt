@@ -4,7 +4,7 @@
 --            sweep white cells are as live as black ones.
 -- Anchor     the anchor is shaded, and is not white from now on.
 use Rattle.std.proofs.Common.{◌≡◌, ◌≢◌, ◌⊎◌, inl, inr, ℕ, true, false, ◌+◌, ◌<◌, arith, refl, sym, subst, ◌∙◌}
-use Rattle.std.proofs.lemmas.Bool.{and_parts, ltb-true, lt-ltb, cases_lt}
+use Rattle.std.proofs.lemmas.Bool.{ltb-true, lt-ltb, cases_lt}
 use Rattle.std.proofs.lemmas.List.Elements.{All-weaker}
 use Rattle.cell_words.specs.declared.colours.Colour.{Colour}
 use Rattle.cell_words.specs.declared.colours.Colour.TheVariants as colour
@@ -18,6 +18,7 @@ use Rattle.core_machine.specs.Words.{cleared, same_stage}
 use Rattle.cell_words.specs.declared.fields.Field.TheVariants as field
 use Rattle.core_machine.specs.InRange.{IsShaped}
 use Rattle.core_machine.specs.Next.{can, after}
+use Rattle.core_machine.proofs.Conditions.{clear_needs, anchor_needs}
 use Rattle.dlg_core.specs.Consistent.{IsConsistent, NoRawBlack}
 use Rattle.dlg_core.specs.Facts.{is_live, live, status_fits, marks_count, is_cleared, anchor_counts}
 use Rattle.dlg_core.proofs.Changes.Live.{live_facts, live_moves, not_sweeping, live_outside, other_stage, status_known}
@@ -25,7 +26,6 @@ use Rattle.dlg_core.proofs.Changes.Pass.{pass_kept}
 use Rattle.dlg_core.proofs.Changes.Shade.{with_shade, shade_kept, sweeps}
 use Rattle.dlg_core.proofs.Each.{colour_each, colour_else}
 use Rattle.dlg_core.proofs.Keeps.Mark.{shaded_there}
-use Rattle.dlg_core.proofs.Truths.{same_stage_is}
 
 -- What clearing leaves of a colour.
 
@@ -61,8 +61,8 @@ below_or_here c n lt = elim (cases_lt c n) [
 pub clear_keeps : (s : State) → IsShaped s → IsConsistent s → can s event.ClearCell ≡ true
     → IsConsistent (after s event.ClearCell)
 clear_keeps s range k h =
-    let now : s.control.stage ≡ stage.Clear
-    = same_stage_is s.control.stage stage.Clear (and_parts _ _ h).0 in
+    let needs = clear_needs s h in
+    let now = needs.now in
     let t = after s event.ClearCell in
     let c = s.collector.cursor in
     let x = colour_of s c in
@@ -101,7 +101,7 @@ clear_keeps s range k h =
       raw_not_black = (λ i sync2. All-weaker (NoRawBlack s.colours s.rows) (NoRawBlack t.colours s.rows)
           (λ p g raw black. g raw (black_was p.cell black)) (own_in s.owns i).held (k.raw_not_black i sync2));
       cleared = (λ d g. colour_else (λ e y. is_cleared s.control.stage (c + 1) e ≡ true → y ≢ colour.Black) s.colours c (cleared x)
-          (subst (λ n. c < n) (sym range.cells_fit.colours_fit) (ltb-true c s.cells (and_parts _ _ h).1))
+          (subst (λ n. c < n) (sym range.cells_fit.colours_fit) needs.cell)
           (λ _. cleared_not_black x)
           (λ e other below black. elim (below_or_here e c (ltb-true e (c + 1) (subst (λ y. is_cleared y (c + 1) e ≡ true) now below))) [
             | inl lt ↦ k.cleared e (subst (λ y. is_cleared y c e ≡ true) (sym now) (lt-ltb e c lt)) black
@@ -120,8 +120,7 @@ clear_keeps s range k h =
 
 pub anchor_keeps : (s : State) → IsShaped s → IsConsistent s → can s event.Anchor ≡ true → IsConsistent (after s event.Anchor)
 anchor_keeps s range k h =
-    let now : s.control.stage ≡ stage.Sync2
-    = same_stage_is s.control.stage stage.Sync2 (and_parts _ _ h).0 in
+    let now = (anchor_needs s h).now in
     let t = with_shade s 0 in
     let shady = shade_kept s 0 range k k.anchor_live (λ e. absurd cc) in
     pass_kept t t.collector.answered true t.collector.cursor t.collector.clean t.collector.scan shady record {

@@ -28,6 +28,7 @@ use Rattle.core_machine.specs.InRange.{IsShaped}
 use Rattle.core_machine.specs.Next.{can, after}
 use Rattle.core_machine.specs.Own.{looked, holding, having_read, keeping}
 use Rattle.core_machine.specs.Places.{holds, unmark, found_at, kept, cell_at, no_place}
+use Rattle.core_machine.proofs.Conditions.{read_needs, keep_needs}
 use Rattle.dlg_core.specs.Consistent.{IsConsistent, MarkStands, NoRawBlack, IsCutOff, IsNotDue}
 use Rattle.dlg_core.specs.Facts.{status_fits, mode_fits, live, is_open, scanned_count}
 use Rattle.dlg_core.proofs.Changes.Own.{own_kept, OwnFits}
@@ -182,12 +183,9 @@ read_fits s i place f (field.Cell w) k inside lt e =
 pub read_keeps : (s : State) (i place f : ℕ) → IsConsistent s
     → can s (event.Read i place f) ≡ true → IsConsistent (after s (event.Read i place f))
 read_keeps s i place f k h =
-    let room = and_parts _ _ h in
-    let four = and_parts _ _ room.0 in
-    let parts = and_parts _ _ four.0 in
-    let lt = ltb-true place (length (held_of s i)) parts.1 in
+    let needs = read_needs s i place f h in
     own_kept s i (having_read (own_of s i) (field_of s (target_of s i place) f)) k
-    (read_fits s i place f (field_of s (target_of s i place) f) k parts.0 lt refl)
+    (read_fits s i place f (field_of s (target_of s i place) f) k needs.inside needs.there refl)
 
 -- Keep.
 
@@ -209,19 +207,12 @@ holds_kept held count from copies c h =
     all_held (λ d. holds held d ≡ true) (kept held count from copies) c
     (all_kept (λ p. holds held p.cell ≡ true) held count from copies (all_itself held)) h
 
-pub keep_inside : (s : State) (i count from copies : ℕ) → can s (event.Keep i count from copies) ≡ true → is_in s i ≡ true
-keep_inside s i count from copies h =
-    let a = and_parts _ _ h in
-    let b = and_parts _ _ a.0 in
-    let c = and_parts _ _ b.0 in
-    (and_parts _ _ c.0).0
-
 pub keep_keeps : (s : State) (i count from copies : ℕ) → IsConsistent s
     → can s (event.Keep i count from copies) ≡ true → IsConsistent (after s (event.Keep i count from copies))
 keep_keeps s i count from copies k h =
     own_kept s i (keeping (own_of s i) count from copies) k record {
       mode = k.modes i;
-      out = (λ o. absurd (let inside = keep_inside s i count from copies h in cc));
+      out = (λ o. absurd (let inside = (keep_needs s i count from copies h).inside in cc));
       marks = (λ m. all_kept (MarkStands s.colours) (held_of s i) count from copies (k.marks i m));
       held_live = all_kept (λ place. live s.colours s.control s.collector.sweep place.cell ≡ true) (held_of s i) count from copies (k.held_live i);
       raw = (λ c raw held. holds_kept (held_of s i) count from copies c held);

@@ -5,7 +5,7 @@
 -- white cells would be cut off; but this white cell is due, since an async mutator holds it.
 use Rattle.std.proofs.Common.{◌≡◌, ◌≢◌, ◌==◌, ◌||◌, if◌then◌else◌, inl, inr, ℕ, zero, suc, Bool, true, false, List, [], ◌∷◌, map, length, get_or, Some, None, ◌<◌, ◌≤◌, refl, sym, subst, ◌∙◌, ap, arith, eq-eqb}
 use Rattle.std.specs.List.{All, list_any}
-use Rattle.std.proofs.lemmas.Bool.{and_parts, or_cases, ltb-true, eqb-true, cases_lt}
+use Rattle.std.proofs.lemmas.Bool.{and_parts, or_cases, eqb-true, cases_lt}
 use Rattle.std.proofs.lemmas.List.{get_or-set_same, get_or_past, set_past}
 use Rattle.std.proofs.lemmas.List.Elements.{All-nil, All-cons, All-head, All-tail}
 use Rattle.cell_words.specs.declared.colours.Colour.{Colour}
@@ -21,6 +21,7 @@ use Rattle.core_machine.specs.InRange.{IsShaped}
 use Rattle.core_machine.specs.Next.{can, after}
 use Rattle.core_machine.specs.Own.{marking}
 use Rattle.core_machine.specs.Places.{holds, mark_of, cell_at}
+use Rattle.core_machine.proofs.Conditions.{mark_needs}
 use Rattle.dlg_core.specs.Consistent.{IsConsistent, CleanPass, IsCutOff, MarkStands, NoRawBlack}
 use Rattle.dlg_core.specs.Facts.{live, all_in, child_in}
 use Rattle.dlg_core.proofs.Changes.Own.{own_kept}
@@ -184,15 +185,15 @@ holds_place (p ∷ ps) (suc place) lt = or_later (p.cell == cell_at ps place) _ 
 pub mark_keeps : (s : State) (i place : ℕ) → IsShaped s → IsConsistent s → can s (event.Mark i place) ≡ true
     → IsConsistent (after s (event.Mark i place))
 mark_keeps s i place range k h =
-    let parts = and_parts _ _ (and_parts _ _ h).0 in
-    let lt = ltb-true place (length (held_of s i)) parts.1 in
+    let needs = mark_needs s i place h in
+    let lt = needs.there in
     let c = target_of s i place in
     let held = held_of s i in
     let there = holds_place held place lt in
     let alive : live s.colours s.control s.collector.sweep c ≡ true
     = at_place (λ d. live s.colours s.control s.collector.sweep d ≡ true) held place lt (k.held_live i) in
     let t = with_shade s c in
-    let shady = shade_kept s c range k alive (clean_marked s i c range k parts.0 there) in
+    let shady = shade_kept s c range k alive (clean_marked s i c range k needs.inside there) in
     own_kept t i (marking (own_of s i) c) shady record {
       mode = k.modes i;
       out = (λ o. absurd cc);

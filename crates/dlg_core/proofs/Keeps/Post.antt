@@ -10,7 +10,7 @@
 -- Idle          the sweep has come to the end, so no cell is unswept.
 use Rattle.std.proofs.Common.{◌≡◌, ◌≢◌, ◌==◌, ◌&&◌, ◌||◌, inl, inr, ℕ, zero, suc, Bool, true, false, nat_lt, List, [], ◌∷◌, Option, Some, None, length, get_or, ◌+◌, ◌<◌, ◌≤◌, arith, refl, sym, subst, ◌∙◌, ap, eq-eqb}
 use Rattle.std.specs.List.{All}
-use Rattle.std.proofs.lemmas.Bool.{and_parts, and_from, ltb-true, lt-ltb, eqb-true, cases_lt}
+use Rattle.std.proofs.lemmas.Bool.{and_from, ltb-true, lt-ltb, cases_lt}
 use Rattle.std.proofs.lemmas.List.{get_or_past}
 use Rattle.std.proofs.lemmas.List.Elements.{All-nil}
 use Rattle.cell_words.specs.declared.colours.Colour.{Colour}
@@ -36,10 +36,11 @@ use Rattle.dlg_core.specs.Facts.{status_fits, mode_fits, async_fits, sync1_fits,
 use Rattle.dlg_core.proofs.Changes.Live.{LiveFacts, live_facts, live_moves, live_outside, not_sweeping, other_stage}
 use Rattle.dlg_core.proofs.Keeps.Mark.{one_of_all, is_white, white_is_white, white_cut_off}
 use Rattle.dlg_core.proofs.Keeps.Trace.{no_scan_is}
-use Rattle.dlg_core.proofs.Truths.{same_stage_is, or_here, or_later}
+use Rattle.dlg_core.proofs.Truths.{or_here, or_later}
 use Rattle.dlg_core.proofs.Each.{all_held, all_from_held}
 use Rattle.dlg_core.proofs.Keeps.Claim.{unswept_where}
 use Rattle.core_machine.specs.Places.{holds}
+use Rattle.core_machine.proofs.Conditions.{post_idle_needs, post_sync1_needs, post_clear_needs, post_sync2_needs, post_trace_needs, post_sweep_needs}
 
 -- Modes that fit one stage fit the next.
 
@@ -213,7 +214,7 @@ no_scan s k other x e = other (k.scans x e).traces
 pub post_sync1 : (s : State) → IsShaped s → IsConsistent s → can s (event.Post stage.Sync1) ≡ true
     → IsConsistent (after s (event.Post stage.Sync1))
 post_sync1 s range k h =
-    let now = same_stage_is s.control.stage stage.Idle (and_parts _ _ h).0 in
+    let now = (post_sync1_needs s h).now in
     let outside = other_stage s.control.stage stage.Idle now refl in
     let settled = settled_quiet s k (ap is_handshake now) in
     let asks : requested_of s.control.stage ≡ status.Async = ap requested_of now in
@@ -245,10 +246,10 @@ post_sync1 s range k h =
 pub post_clear : (s : State) → IsShaped s → IsConsistent s → can s (event.Post stage.Clear) ≡ true
     → IsConsistent (after s (event.Post stage.Clear))
 post_clear s range k h =
-    let g = and_parts _ _ h in
-    let now = same_stage_is s.control.stage stage.Sync1 g.0 in
+    let needs = post_clear_needs s h in
+    let now = needs.now in
     let outside = other_stage s.control.stage stage.Sync1 now refl in
-    let settled = settled_by_answers s k (ap is_handshake now) g.1 in
+    let settled = settled_by_answers s k (ap is_handshake now) needs.answered in
     let asks : requested_of s.control.stage ≡ status.Sync1 = ap requested_of now in
     let later : Control = record s.control { stage = stage.Clear } in
     let fresh = fresh_outside s.cells s.control.position s.collector.sweep s.control.stage range.control_fits.stage_fits outside in
@@ -278,9 +279,9 @@ post_clear s range k h =
 pub post_sync2 : (s : State) → IsShaped s → IsConsistent s → can s (event.Post stage.Sync2) ≡ true
     → IsConsistent (after s (event.Post stage.Sync2))
 post_sync2 s range k h =
-    let g = and_parts _ _ h in
-    let now = same_stage_is s.control.stage stage.Clear g.0 in
-    let ended : s.collector.cursor ≡ s.cells = eqb-true s.collector.cursor s.cells g.1 in
+    let needs = post_sync2_needs s h in
+    let now = needs.now in
+    let ended = needs.end in
     let outside = other_stage s.control.stage stage.Clear now refl in
     let settled = settled_quiet s k (ap is_handshake now) in
     let asks : requested_of s.control.stage ≡ status.Sync1 = ap requested_of now in
@@ -318,11 +319,10 @@ post_sync2 s range k h =
 pub post_trace : (s : State) → IsShaped s → IsConsistent s → can s (event.Post stage.Trace) ≡ true
     → IsConsistent (after s (event.Post stage.Trace))
 post_trace s range k h =
-    let g = and_parts _ _ h in
-    let g2 = and_parts _ _ g.0 in
-    let now = same_stage_is s.control.stage stage.Sync2 g2.0 in
+    let needs = post_trace_needs s h in
+    let now = needs.now in
     let outside = other_stage s.control.stage stage.Sync2 now refl in
-    let settled = settled_by_answers s k (ap is_handshake now) g2.1 in
+    let settled = settled_by_answers s k (ap is_handshake now) needs.answered in
     let asks : requested_of s.control.stage ≡ status.Sync2 = ap requested_of now in
     let later : Control = record s.control { stage = stage.Trace } in
     let fresh = fresh_outside s.cells s.control.position s.collector.sweep s.control.stage range.control_fits.stage_fits outside in
@@ -340,7 +340,7 @@ post_trace s range k h =
       ]);
       lives = lives_on s later s.collector.sweep k outside refl;
       cleared = (λ c e. absurd cc);
-      anchor_marked = (λ _. k.anchor_marked (ap (λ x. anchor_counts x s.collector.anchor_marked) now ∙ g.1));
+      anchor_marked = (λ _. k.anchor_marked (ap (λ x. anchor_counts x s.collector.anchor_marked) now ∙ needs.anchor));
       traced = (λ _ set cut. record {
         black = (λ c d f black n. absurd (k.cleared c (ap (λ x. is_cleared x s.collector.cursor c) now) black));
         scanned = (λ x d f e lt n. absurd (no_scan s k other x e));
@@ -388,12 +388,10 @@ all_ahead control c now start =
 pub no_gray_at_end : (s : State) → IsShaped s → IsConsistent s → can s (event.Post stage.Sweep) ≡ true
     → (c : ℕ) → colour_of s c ≢ colour.Gray
 no_gray_at_end s range k h c gray =
-    let g = and_parts _ _ h in
-    let g2 = and_parts _ _ g.0 in
-    let g3 = and_parts _ _ g2.0 in
-    let now = same_stage_is s.control.stage stage.Trace (and_parts _ _ g3.0).0 in
-    let ended : s.collector.cursor ≡ s.cells = eqb-true s.collector.cursor s.cells g2.1 in
-    let r = k.clean_pass now g.1 c gray in
+    let needs = post_sweep_needs s h in
+    let now = needs.now in
+    let ended = needs.end in
+    let r = k.clean_pass now needs.clean c gray in
     let le = r.1 in
     let fit = range.cells_fit.colours_fit in
     let blue : colour_of s r.0 ≡ colour.Blue = get_or_past s.colours r.0 colour.Blue (omega arith) in
@@ -402,13 +400,10 @@ no_gray_at_end s range k h c gray =
 pub post_sweep : (s : State) → IsShaped s → IsConsistent s → can s (event.Post stage.Sweep) ≡ true
     → IsConsistent (after s (event.Post stage.Sweep))
 post_sweep s range k h =
-    let g = and_parts _ _ h in
-    let g2 = and_parts _ _ g.0 in
-    let g3 = and_parts _ _ g2.0 in
-    let g4 = and_parts _ _ g3.0 in
-    let now = same_stage_is s.control.stage stage.Trace g4.0 in
-    let rests = no_scan_is s.collector.scan g3.1 in
-    let settled = settled_by_answers s k (ap is_handshake now) g4.1 in
+    let needs = post_sweep_needs s h in
+    let now = needs.now in
+    let rests = no_scan_is s.collector.scan needs.no_scan in
+    let settled = settled_by_answers s k (ap is_handshake now) needs.answered in
     let asks : requested_of s.control.stage ≡ status.Async = ap requested_of now in
     let later : Control = record s.control { stage = stage.Sweep; position = 0 } in
     let no_gray : (c : ℕ) → colour_of s c ≢ colour.Gray = no_gray_at_end s range k h in
@@ -479,9 +474,9 @@ none_ahead control sweep c lt =
 pub post_idle : (s : State) → IsShaped s → IsConsistent s → can s (event.Post stage.Idle) ≡ true
     → IsConsistent (after s (event.Post stage.Idle))
 post_idle s range k h =
-    let g = and_parts _ _ h in
-    let now = same_stage_is s.control.stage stage.Sweep g.0 in
-    let ended : s.control.position ≡ s.cells = eqb-true s.control.position s.cells g.1 in
+    let needs = post_idle_needs s h in
+    let now = needs.now in
+    let ended = needs.end in
     let settled = settled_quiet s k (ap is_handshake now) in
     let asks : requested_of s.control.stage ≡ status.Async = ap requested_of now in
     let later : Control = record s.control { stage = stage.Idle; position = 0; cycles = s.control.cycles + 1 } in

@@ -6,7 +6,7 @@
 -- Over   only who is out ends for good.
 use Rattle.std.proofs.Common.{◌≡◌, ◌≢◌, ◌==◌, inl, inr, ℕ, Bool, true, false, not, List, [], ◌<◌, length, None, refl, sym, subst, ◌∙◌, ap}
 use Rattle.std.specs.Prelude.{slice_set}
-use Rattle.std.proofs.lemmas.Bool.{and_parts, or_cases, eqb-true, cases_lt, not-true}
+use Rattle.std.proofs.lemmas.Bool.{and_parts, or_cases, eqb-true, cases_lt}
 use Rattle.std.proofs.lemmas.List.{get_or-set_same, get_or_past, set_past}
 use Rattle.std.proofs.lemmas.List.Elements.{All-nil, All-cons}
 use Rattle.cell_words.specs.declared.colours.Colour.TheVariants as colour
@@ -22,6 +22,7 @@ use Rattle.core_machine.specs.Words.{is_raw_kind, is_box_kind}
 use Rattle.core_machine.specs.Next.{can, after}
 use Rattle.core_machine.specs.Own.{Own, no_own, begun, ended}
 use Rattle.core_machine.specs.Places.{found_at}
+use Rattle.core_machine.proofs.Conditions.{come_in_needs}
 use Rattle.dlg_core.specs.Consistent.{IsConsistent, IsCutOff, MarkStands, NoRawBlack}
 use Rattle.dlg_core.specs.Facts.{live, anchor_counts}
 use Rattle.dlg_core.proofs.Changes.Own.{own_kept, with_own}
@@ -115,5 +116,4 @@ end_keeps s i k inside =
 pub over_keeps : (s : State) (i : ℕ) → IsConsistent s → can s (event.Over i) ≡ true
     → IsConsistent (after s (event.Over i))
 over_keeps s i k h =
-    let outside = not-true (presence_of s i).inside (and_parts _ _ h).0 in
-    presence_kept s i (record (presence_of s i) { over = true }) k refl (λ o. k.out i outside)
+    presence_kept s i (record (presence_of s i) { over = true }) k refl (λ o. k.out i (come_in_needs s i h).out)

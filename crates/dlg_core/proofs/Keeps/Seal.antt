@@ -2,8 +2,7 @@
 --
 -- The cell is live, so neither blue nor being wiped. No edge comes or goes, since null is no cell and
 -- neither is a kind. A raw cell less is no harm to anybody.
-use Rattle.std.proofs.Common.{◌≡◌, ◌≢◌, ℕ, true, false, length, ◌<◌, refl, sym, subst}
-use Rattle.std.proofs.lemmas.Bool.{and_parts, ltb-true}
+use Rattle.std.proofs.Common.{◌≡◌, ◌≢◌, ℕ, true, false, ◌<◌, refl, sym, subst}
 use Rattle.std.proofs.lemmas.List.Elements.{All-weaker}
 use Rattle.cell_words.specs.declared.colours.Colour.TheVariants.{Blue}
 use Rattle.cell_words.specs.declared.fields.Field.{Field}
@@ -15,6 +14,7 @@ use Rattle.core_machine.specs.State.{State, colour_of, field_of, own_in, held_of
 use Rattle.core_machine.specs.Words.{is_raw_kind, is_box_kind, kind_field}
 use Rattle.core_machine.specs.InRange.{IsShaped}
 use Rattle.core_machine.specs.Next.{can, after}
+use Rattle.core_machine.proofs.Conditions.{seal_needs}
 use Rattle.dlg_core.specs.Consistent.{IsConsistent, IsCutOff, NoRawBlack}
 use Rattle.dlg_core.specs.Facts.{live, is_kind_field}
 use Rattle.dlg_core.proofs.Changes.Field.{with_field}
@@ -115,8 +115,7 @@ sealed_kept s c x range k alive raw =
 pub seal_keeps : (s : State) (i place : ℕ) (x : Kind) → IsShaped s → IsConsistent s → can s (event.Seal i place x) ≡ true
     → IsConsistent (after s (event.Seal i place x))
 seal_keeps s i place x range k h =
-    let a = and_parts _ _ h in
-    let b = and_parts _ _ a.0 in
+    let needs = seal_needs s i place h in
     sealed_kept s (target_of s i place) x range k
     (at_place (λ d. live s.colours s.control s.collector.sweep d ≡ true) (held_of s i) place
-    (ltb-true place (length (held_of s i)) b.1) (k.held_live i)) a.1
+    needs.there (k.held_live i)) needs.raw

@@ -7,7 +7,7 @@
 -- Advance    the next cell is unswept as it was.
 use Rattle.std.proofs.Common.{◌≡◌, ◌≢◌, ◌==◌, ◌&&◌, ◌||◌, inl, inr, ℕ, Bool, true, false, not, nat_lt, List, [], length, get_or, slice_index, ◌+◌, ◌<◌, arith, refl, sym, subst, ◌∙◌, ap, eq-eqb}
 use Rattle.std.specs.Prelude.{slice_set}
-use Rattle.std.proofs.lemmas.Bool.{and_parts, and_from, ltb-true, lt-ltb, le-ltb, ne_eqb, eqb-true, cases_lt, cases_eq}
+use Rattle.std.proofs.lemmas.Bool.{and_from, ltb-true, lt-ltb, le-ltb, ne_eqb, eqb-true, cases_lt, cases_eq, not_from_false}
 use Rattle.std.proofs.lemmas.List.{get_or-set_same}
 use Rattle.cell_words.specs.declared.colours.Colour.{Colour}
 use Rattle.cell_words.specs.declared.colours.Colour.TheVariants as colour
@@ -23,13 +23,14 @@ use Rattle.core_machine.specs.Sweep.{is_done, is_fresh, may_wipe, may_free, is_b
 use Rattle.core_machine.specs.Words.{is_gray, is_raw_kind, is_box_kind, same_stage}
 use Rattle.core_machine.specs.InRange.{IsShaped, StageFits, SweepFits}
 use Rattle.core_machine.specs.Next.{can, after}
+use Rattle.core_machine.proofs.Conditions.{sweep_look_needs, advance_needs}
 use Rattle.dlg_core.specs.Consistent.{IsConsistent, IsWiping}
 use Rattle.dlg_core.specs.Facts.{is_live, live, unswept, is_kind_field}
 use Rattle.dlg_core.proofs.Changes.Shade.{sweeps, here_unswept, wiped_not_live}
 use Rattle.dlg_core.proofs.Changes.Sweep.{SweepStep, sweep_kept, swept_on, at_position, same_unswept, unswept_elsewhere, done_swept}
 use Rattle.dlg_core.proofs.Each.{colour_each, colour_else, field_each, all_held}
 use Rattle.dlg_core.proofs.Keeps.Blacken.{null_beyond}
-use Rattle.dlg_core.proofs.Truths.{same_stage_is, or_here, or_later}
+use Rattle.dlg_core.proofs.Truths.{or_here, or_later}
 
 -- Nothing but the word on the cell changes, and the cell stays unswept or is blue.
 
@@ -100,11 +101,9 @@ sweep_looked_at s colour.Black range k now undone is h =
 
 pub sweep_look_keeps : (s : State) → IsShaped s → IsConsistent s → can s event.SweepLook ≡ true → IsConsistent (after s event.SweepLook)
 sweep_look_keeps s range k h =
-    let a = and_parts _ _ h in
-    let b = and_parts _ _ a.0 in
-    let d = and_parts _ _ b.0 in
-    sweep_looked_at s (colour_of s s.control.position) range k (same_stage_is s.control.stage stage.Sweep d.0)
-    (ap is_done (fresh_is s.collector.sweep b.1)) refl a.1
+    let needs = sweep_look_needs s h in
+    sweep_looked_at s (colour_of s s.control.position) range k needs.now (ap is_done needs.fresh) refl
+    (not_from_false _ needs.not_gray)
 
 -- Work on one cell.
 
@@ -253,9 +252,9 @@ advance_unswept s c is =
 
 pub advance_keeps : (s : State) → IsShaped s → IsConsistent s → can s event.Advance ≡ true → IsConsistent (after s event.Advance)
 advance_keeps s range k h =
-    let a = and_parts _ _ h in
-    let now = same_stage_is s.control.stage stage.Sweep (and_parts _ _ a.0).0 in
-    let is = done_is s.collector.sweep a.1 in
+    let needs = advance_needs s h in
+    let now = needs.now in
+    let is = needs.done in
     sweep_kept s s.colours s.rows (s.control.position + 1) sweeping.Fresh s.collector.times_freed s.collector.number_freed range k record {
       now = now;
       on = omega arith;

@@ -19,12 +19,12 @@ use Rattle.core_machine.specs.State.{State, colour_of, field_of}
 use Rattle.core_machine.specs.Tracing.{may_scan, may_shade, scan_or_none, child_or_anchor}
 use Rattle.core_machine.specs.InRange.{IsShaped}
 use Rattle.core_machine.specs.Next.{can, after}
+use Rattle.core_machine.proofs.Conditions.{see_needs}
 use Rattle.dlg_core.specs.Consistent.{IsConsistent, CleanPass, IsCutOff, IsScan}
 use Rattle.dlg_core.specs.Facts.{is_live, live, unswept, is_open, scanned_count, scanned_count_at, child_in, all_in, is_cleared}
 use Rattle.dlg_core.proofs.Changes.Pass.{pass_kept}
 use Rattle.dlg_core.proofs.Changes.Shade.{with_shade, shade_kept}
 use Rattle.dlg_core.proofs.Keeps.Mark.{shaded_there}
-use Rattle.dlg_core.proofs.Truths.{same_stage_is}
 
 -- See.
 
@@ -133,14 +133,12 @@ no_scan_is (Some x) h = absurd cc
 
 pub see_keeps : (s : State) (c : ℕ) → IsConsistent s → can s (event.See c) ≡ true → IsConsistent (after s (event.See c))
 see_keeps s c k h =
-    let a = and_parts _ _ h in
-    let b = and_parts _ _ a.0 in
-    let d = and_parts _ _ b.0 in
-    let now = same_stage_is s.control.stage stage.Trace d.0 in
-    let rests = no_scan_is s.collector.scan b.1 in
+    let needs = see_needs s c h in
+    let now = needs.now in
+    let rests = no_scan_is s.collector.scan needs.no_scan in
     let same = restarted_same s.collector s.cells in
     let t = record s { collector = restarted s.collector s.cells } in
-    seen_kept t c (colour_of s c) (restart_kept s k now d.1 rests) now (ap all_in same.0 ∙ d.1) (same.1 ∙ rests) refl
+    seen_kept t c (colour_of s c) (restart_kept s k now needs.answered rests) now (ap all_in same.0 ∙ needs.answered) (same.1 ∙ rests) refl
 
 -- Scan and Shade.
 
