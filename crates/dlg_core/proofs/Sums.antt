@@ -147,7 +147,7 @@ free_balanced first s range consistent h k =
     let there : p < length s.collector.times_freed
     = (let a = range.cells_fit.colours_fit in let b = range.cells_fit.freed_fit in omega arith) in
     let used = used_set s.colours p colour.Blue lt in
-    let old : weight (colour_of s p) ≡ 1 = ap weight (consistent.wipes 6 is).white in
+    let old : weight (colour_of s p) ≡ 1 = ap weight (consistent.sweep.wipes 6 is).white in
     let counted : sum (set s.collector.times_freed p (slice_index s.collector.times_freed p + 1)) + slice_index s.collector.times_freed p
     ≡ sum s.collector.times_freed + (slice_index s.collector.times_freed p + 1)
     = sum_by-set (λ x. x) s.collector.times_freed p (slice_index s.collector.times_freed p + 1) 0 there in
@@ -159,7 +159,7 @@ pub blacken_balanced : (first : ℕ) (s : State) (x : Scanning) → IsConsistent
     → Balances first (slice_set s.colours x.cell colour.Black) s.owns s.collector.times_freed s.collector.number_freed
 blacken_balanced first s x consistent is k =
     colour_balances first s.colours s.owns s.collector.times_freed s.collector.number_freed x.cell colour.Black
-    (sym (ap is_used (consistent.scans x is).gray)) k
+    (sym (ap is_used (consistent.tracing.scans x is).gray)) k
 
 pub blacken_balanced_at : (first : ℕ) (s : State) (scan : Option Scanning) → IsConsistent s → s.collector.scan ≡ scan
     → may_blacken scan ≡ true → IsBalanced first s
@@ -218,7 +218,7 @@ balanced_after first s e range consistent h k =
       | event.Wipe ↦ λ h. k
       | event.Free ↦ λ h. free_balanced first s range consistent h k
       | event.Whiten ↦ λ h. tinted s.control.position colour.White
-          (sym (ap is_used (consistent.found_black (black_found_is s.collector.sweep h))))
+          (sym (ap is_used (consistent.sweep.found_black (black_found_is s.collector.sweep h))))
       | event.Advance ↦ λ h. k
     ] h
 

@@ -27,7 +27,7 @@ wiping_not_live s k range consistent is =
     let now = busy_now s (sweeping.Wiping k) range is (λ e. cc) in
     let ahead : unswept s.control s.collector.sweep s.control.position ≡ true =
     here_unswept s.control s.collector.sweep now (λ done. let no = sym is ∙ done in cc) in
-    ap (λ x. is_live x (unswept s.control s.collector.sweep s.control.position)) (consistent.wipes k is).white
+    ap (λ x. is_live x (unswept s.control s.collector.sweep s.control.position)) (consistent.sweep.wipes k is).white
     ∙ ap not ahead
 
 -- .. so it is not reachable

@@ -32,7 +32,7 @@ pub record LiveFacts (test : ℕ → Bool) (rows : List (List Field)) (owns : Li
 
 pub live_facts : (s : State) → IsConsistent s
     → LiveFacts (live s.colours s.control s.collector.sweep) s.rows s.owns s.collector.scan
-live_facts s k = record { anchor = k.anchor_live; held = k.held_live; child = k.child_live; names = k.names_live }
+live_facts s k = record { anchor = k.cells.anchor_live; held = k.cells.held_live; child = k.cells.child_live; names = k.cells.names_live }
 
 -- tests that say the same
 pub live_moves : (one other : ℕ → Bool) (rows : List (List Field)) (owns : List Own) (scan : Option Scanning)
@@ -62,7 +62,7 @@ other_stage now x e h = subst (λ y. same_stage y stage.Sweep ≡ false) (sym e)
 pub status_known : (s : State) (i : ℕ) → IsShaped s → IsConsistent s
     → (status_fits s.control.stage (presence_of s i).status ≡ true) ⊎ ((presence_of s i).status ≡ status.Async)
 status_known s i range k = elim (cases_lt i s.mutators) [
-  | inl lt ↦ inl (k.statuses i lt)
+  | inl lt ↦ inl (k.mutators.statuses i lt)
   | inr past ↦ inr (ap (λ p. p.status) (get_or_past s.presences i no_presence
       (subst (λ n. n ≤ i) (sym range.mutators_fit.presences_fit) past)))
 ]

@@ -65,38 +65,46 @@ pub sweep_kept : (s : State) (colours : List Colour) (rows : List (List Field)) 
 sweep_kept s colours rows p sweep times number range k step =
     let now = step.now in
     let lives = live_moves (live s.colours s.control s.collector.sweep) (live colours (at_position s.control p) sweep) rows s.owns s.collector.scan
-    step.same_live record { anchor = k.anchor_live; held = k.held_live; child = k.child_live; names = step.names } in
+    step.same_live record { anchor = k.cells.anchor_live; held = k.cells.held_live; child = k.cells.child_live; names = step.names } in
     let async : (i : ℕ) → (presence_of s i).status ≡ status.Async = (λ i. async_in_sweep s i range k now) in
     let not_trace : s.control.stage ≡ stage.Trace → ⊥ = (λ e. cc) in
     record {
-      statuses = k.statuses;
-      answered = k.answered;
-      modes = (λ i. stale_on (presence_of s i).status (own_in s.owns i).mode s.control (at_position s.control p) refl
-          (λ _. step.on) (k.modes i));
-      out = k.out;
-      marks = (λ i m. absurd (
-          let never : marks_count s.control.stage (presence_of s i).status ≡ false
-          = ap (λ x. marks_count x (presence_of s i).status) now ∙ ap (marks_count stage.Sweep) (async i) in cc));
-      anchor_box = step.anchor_box;
-      kinds = step.kinds;
-      blue_null = step.blue_null;
-      anchor_live = lives.anchor;
-      held_live = lives.held;
-      child_live = lives.child;
-      names_live = lives.names;
-      raw_once = step.raw_once;
-      raw_not_black = (λ i sync2. absurd (let a = async i in cc));
-      cleared = (λ c h. absurd (let never : is_cleared stage.Sweep s.collector.cursor c ≡ true
-          = subst (λ x. is_cleared x s.collector.cursor c ≡ true) now h in cc));
-      anchor_marked = (λ h. absurd (let never : anchor_counts stage.Sweep s.collector.anchor_marked ≡ true
-          = subst (λ x. anchor_counts x s.collector.anchor_marked ≡ true) now h in cc));
-      traced = (λ e. absurd (not_trace e));
-      clean_pass = (λ e. absurd (not_trace e));
-      pass_waits = (λ e. absurd (not_trace e));
-      scans = (λ x e. absurd (not_trace (k.scans x e).traces));
-      unswept = step.unswept;
-      wipes = step.wipes;
-      found_black = step.found_black;
+      mutators = record {
+        statuses = k.mutators.statuses;
+        answered = k.mutators.answered;
+        modes = (λ i. stale_on (presence_of s i).status (own_in s.owns i).mode s.control (at_position s.control p) refl
+            (λ _. step.on) (k.mutators.modes i));
+        out = k.mutators.out;
+        marks = (λ i m. absurd (
+            let never : marks_count s.control.stage (presence_of s i).status ≡ false
+            = ap (λ x. marks_count x (presence_of s i).status) now ∙ ap (marks_count stage.Sweep) (async i) in cc));
+      };
+      cells = record {
+        anchor_box = step.anchor_box;
+        kinds = step.kinds;
+        blue_null = step.blue_null;
+        anchor_live = lives.anchor;
+        held_live = lives.held;
+        child_live = lives.child;
+        names_live = lives.names;
+        raw_once = step.raw_once;
+        raw_not_black = (λ i sync2. absurd (let a = async i in cc));
+      };
+      tracing = record {
+        cleared = (λ c h. absurd (let never : is_cleared stage.Sweep s.collector.cursor c ≡ true
+            = subst (λ x. is_cleared x s.collector.cursor c ≡ true) now h in cc));
+        anchor_marked = (λ h. absurd (let never : anchor_counts stage.Sweep s.collector.anchor_marked ≡ true
+            = subst (λ x. anchor_counts x s.collector.anchor_marked ≡ true) now h in cc));
+        traced = (λ e. absurd (not_trace e));
+        clean_pass = (λ e. absurd (not_trace e));
+        pass_waits = (λ e. absurd (not_trace e));
+        scans = (λ x e. absurd (not_trace (k.tracing.scans x e).traces));
+      };
+      sweep = record {
+        unswept = step.unswept;
+        wipes = step.wipes;
+        found_black = step.found_black;
+      };
     }
 
 -- Which cells are unswept.

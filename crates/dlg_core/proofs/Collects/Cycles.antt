@@ -80,7 +80,7 @@ pub inside_of : (s : State) (i c : ℕ) → IsConsistent s → holds (held_of s 
 inside_of s i c k h =
     elim (presence_of s i).inside as (λ b. (presence_of s i).inside ≡ b → (presence_of s i).inside ≡ true) [
       | true ↦ λ e. e
-      | false ↦ λ e. absurd (let none : holds (held_of s i) c ≡ false = ap (λ ps. holds ps c) (k.out i e).0 in cc)
+      | false ↦ λ e. absurd (let none : holds (held_of s i) c ≡ false = ap (λ ps. holds ps c) (k.mutators.out i e).0 in cc)
     ] refl
 
 -- The start: what is not garbage is reachable or blue, and names no garbage.
@@ -98,7 +98,7 @@ followed_from s range k other = record {
               let none : field_of s c f ≡ field.Null
               = ap (λ row. get_or row f field.Null) (get_or_past s.rows c [] (let fit = range.cells_fit.rows_fit in omega arith)) in cc)
         ];
-        not_free = (λ blue. let none = k.blue_null c f blue in cc);
+        not_free = (λ blue. let none = k.cells.blue_null c f blue in cc);
         unreachable = (λ r. left.garbage.unreachable (named f r n));
       };
       unfreed = refl;

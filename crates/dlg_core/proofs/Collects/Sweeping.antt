@@ -118,7 +118,7 @@ free_followed old s range consistent h k =
     let p = s.control.position in
     let times = s.collector.times_freed in
     let is = free_is s.collector.sweep h in
-    let wipes = consistent.wipes 6 is in
+    let wipes = consistent.sweep.wipes 6 is in
     let there : p < length times
     = (let lt = position_below s (sweeping.Wiping 6) range is (λ e. cc) in
     let a = range.cells_fit.colours_fit in let b = range.cells_fit.freed_fit in omega arith) in
@@ -158,7 +158,7 @@ pub whiten_followed : (old s : State) → IsShaped s → IsConsistent s → can 
 whiten_followed old s range consistent h k =
     let p = s.control.position in
     let is = black_found_is s.collector.sweep h in
-    let black = consistent.found_black is in
+    let black = consistent.sweep.found_black is in
     let lt = position_below s sweeping.BlackFound range is (λ e. cc) in
     let colours = slice_set s.colours p colour.White in
     let whitened : colour_in colours p ≡ colour.White = get_or-set_same s.colours p colour.White colour.Blue lt in

@@ -72,7 +72,7 @@ scan_followed_at old s x (field.Cell w) consistent is e k =
     let same : w ≡ c = cc in
     let outer = k.apart.named x.cell c x.next (e ∙ ap (λ d. field.Cell d) same) left in
     let white = k.way.white next x.cell outer in
-    let gray = (consistent.scans x is).gray in cc) k
+    let gray = (consistent.tracing.scans x is).gray in cc) k
 
 pub scan_followed : (old s : State) → IsConsistent s → can s event.Scan ≡ true → IsFollowed old s
     → IsFollowed old (after s event.Scan)
@@ -89,7 +89,7 @@ pub shade_followed_at : (old s : State) (x : Scanning) (child : Option ℕ) → 
 shade_followed_at old s x None consistent is e h k = absurd cc
 shade_followed_at old s x (Some w) consistent is e h k =
     let t = with_colour s w (shaded (colour_of s w)) in
-    let now = (consistent.scans x is).traces in
+    let now = (consistent.tracing.scans x is).traces in
     scan_followed_to old t (Some (scan_shaded x)) (λ next c child. absurd cc)
     (colour_followed old s w (shaded (colour_of s w)) (λ sweeps. cc)
     (λ left blue. k.apart.not_blue w left (shaded_blue (colour_of s w) blue))
@@ -108,7 +108,7 @@ shade_followed old s consistent h k =
 pub blacken_followed_at : (old s : State) (x : Scanning) → IsConsistent s → s.collector.scan ≡ Some x → IsFollowed old s
     → IsFollowed old (with_scan (with_colour s x.cell colour.Black) None)
 blacken_followed_at old s x consistent is k =
-    let facts = consistent.scans x is in
+    let facts = consistent.tracing.scans x is in
     let now = facts.traces in
     let gray = facts.gray in
     scan_followed_to old (with_colour s x.cell colour.Black) None (λ next c child. absurd cc)

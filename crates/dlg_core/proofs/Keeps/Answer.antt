@@ -124,7 +124,7 @@ answer_fits s i held k none is (second own now) dark =
     answer_of s i held status.Sync2 k none is new
     (subst (λ x. status_fits x status.Sync2 ≡ true) (sym now) refl)
     (λ h. sym (ap requested_of now))
-    (λ e c. k.cleared c (subst (λ x. is_cleared x s.collector.cursor c ≡ true) (sym now) refl))
+    (λ e c. k.tracing.cleared c (subst (λ x. is_cleared x s.collector.cursor c ≡ true) (sym now) refl))
     (λ trace e. absurd cc)
 answer_fits s i held k none is (third own now) dark =
     let new : next_own_status s i ≡ status.Async = ap next_status_of own in
@@ -148,8 +148,8 @@ answer_keeps s i range k h =
     let u = with_own s i own in
     let below : i < length s.owns = subst (λ n. i < n) (sym range.mutators_fit.owns_fit) (inside_below s i range needs.inside) in
     let there : own_of u i ≡ own = own_there s.owns i own below in
-    let answers = answer_when (presence_of s i).status (own_of s i).mode s.control needs.requested (k.modes i) in
+    let answers = answer_when (presence_of s i).status (own_of s i).mode s.control needs.requested (k.mutators.modes i) in
     status_kept u i (next_own_status s i) (own_kept s i own k (spent_fits s i k needs.inside))
     (answer_fits u i (held_of s i) (own_kept s i own k (spent_fits s i k needs.inside)) (ap (λ o. o.mode) there) (ap (λ o. o.held) there) answers
     (λ trace. all_dark s.colours (held_of s i) (third_marked s i answers trace needs.third)
-    (k.marks i (subst (λ x. marks_count x (presence_of s i).status ≡ true) (sym trace) refl))))
+    (k.mutators.marks i (subst (λ x. marks_count x (presence_of s i).status ≡ true) (sym trace) refl))))

@@ -72,14 +72,14 @@ pub look_keeps : (s : State) (i : ℕ) → IsShaped s → IsConsistent s → can
 look_keeps s i range k inside =
     own_kept s i (looked (own_of s i) s.control) k record {
       mode = record {
-        fits = look_fits s.control.stage (presence_of s i).status (k.statuses i (inside_below s i range inside));
+        fits = look_fits s.control.stage (presence_of s i).status (k.mutators.statuses i (inside_below s i range inside));
         position = (λ _ _. omega arith);
       };
       out = (λ o. absurd cc);
       marks = (λ m. none_marked s.colours (held_of s i));
-      held_live = All-map (λ place. live s.colours s.control s.collector.sweep place.cell ≡ true) unmark (held_of s i) (k.held_live i);
+      held_live = All-map (λ place. live s.colours s.control s.collector.sweep place.cell ≡ true) unmark (held_of s i) (k.cells.held_live i);
       raw = (λ c raw h. sym (holds_unmark (held_of s i) c) ∙ h);
-      raw_not_black = (λ sync2. All-map (NoRawBlack s.colours s.rows) unmark (held_of s i) (k.raw_not_black i sync2));
+      raw_not_black = (λ sync2. All-map (NoRawBlack s.colours s.rows) unmark (held_of s i) (k.cells.raw_not_black i sync2));
       due = (λ now async set cut old. All-map (λ place. set place.cell ≡ false) unmark (held_of s i) (old.held i async));
     }
 
@@ -88,12 +88,12 @@ look_keeps s i range k inside =
 -- the part as it is
 pub same_fits : (s : State) (i : ℕ) → IsConsistent s → OwnFits s i (own_of s i)
 same_fits s i k = record {
-  mode = k.modes i;
-  out = k.out i;
-  marks = k.marks i;
-  held_live = k.held_live i;
+  mode = k.mutators.modes i;
+  out = k.mutators.out i;
+  marks = k.mutators.marks i;
+  held_live = k.cells.held_live i;
   raw = (λ c raw h. h);
-  raw_not_black = k.raw_not_black i;
+  raw_not_black = k.cells.raw_not_black i;
   due = (λ now async set cut old. old.held i async);
 }
 
@@ -146,16 +146,16 @@ pub holding_fits : (s : State) (i w : ℕ) → IsConsistent s → is_in s i ≡ 
     → IsNotDue s.presences s.owns s.colours s.rows s.collector.scan set → set w ≡ false)
     → OwnFits s i (holding (own_of s i) w)
 holding_fits s i w k inside alive whole due = record {
-  mode = k.modes i;
+  mode = k.mutators.modes i;
   out = (λ o. absurd cc);
-  marks = (λ m. All-push (MarkStands s.colours) (held_of s i) (found_at w) (k.marks i m) (λ h. absurd cc));
-  held_live = All-push (λ place. live s.colours s.control s.collector.sweep place.cell ≡ true) (held_of s i) (found_at w) (k.held_live i) alive;
+  marks = (λ m. All-push (MarkStands s.colours) (held_of s i) (found_at w) (k.mutators.marks i m) (λ h. absurd cc));
+  held_live = All-push (λ place. live s.colours s.control s.collector.sweep place.cell ≡ true) (held_of s i) (found_at w) (k.cells.held_live i) alive;
   raw = (λ c raw h. elim (holds_more (held_of s i) w c h) [
     | inl held ↦ held
     | inr same ↦ let sealed : is_raw_kind (field_of s c 5) ≡ false
         = subst (λ n. is_raw_kind (field_of s n 5) ≡ false) same whole in absurd cc
   ]);
-  raw_not_black = (λ sync2. All-push (NoRawBlack s.colours s.rows) (held_of s i) (found_at w) (k.raw_not_black i sync2) (λ h. absurd cc));
+  raw_not_black = (λ sync2. All-push (NoRawBlack s.colours s.rows) (held_of s i) (found_at w) (k.cells.raw_not_black i sync2) (λ h. absurd cc));
   due = (λ now async set cut old. All-push (λ place. set place.cell ≡ false) (held_of s i) (found_at w) (old.held i async)
       (due now async set cut old));
 }
@@ -174,8 +174,8 @@ read_fits s i place f (field.Num n) k inside lt e = same_fits s i k
 read_fits s i place f (field.Cell w) k inside lt e =
     let b = target_of s i place in
     let alive : live s.colours s.control s.collector.sweep b ≡ true
-    = at_place (λ c. live s.colours s.control s.collector.sweep c ≡ true) (held_of s i) place lt (k.held_live i) in
-    let named = k.names_live b w f alive e in
+    = at_place (λ c. live s.colours s.control s.collector.sweep c ≡ true) (held_of s i) place lt (k.cells.held_live i) in
+    let named = k.cells.names_live b w f alive e in
     holding_fits s i w k inside named.0 named.1 (λ now async set cut old.
     named_not_cut s set b w f cut old alive
     (at_place (λ c. set c ≡ false) (held_of s i) place lt (old.held i async)) e)
@@ -211,11 +211,11 @@ pub keep_keeps : (s : State) (i count from copies : ℕ) → IsConsistent s
     → can s (event.Keep i count from copies) ≡ true → IsConsistent (after s (event.Keep i count from copies))
 keep_keeps s i count from copies k h =
     own_kept s i (keeping (own_of s i) count from copies) k record {
-      mode = k.modes i;
+      mode = k.mutators.modes i;
       out = (λ o. absurd (let inside = (keep_needs s i count from copies h).inside in cc));
-      marks = (λ m. all_kept (MarkStands s.colours) (held_of s i) count from copies (k.marks i m));
-      held_live = all_kept (λ place. live s.colours s.control s.collector.sweep place.cell ≡ true) (held_of s i) count from copies (k.held_live i);
+      marks = (λ m. all_kept (MarkStands s.colours) (held_of s i) count from copies (k.mutators.marks i m));
+      held_live = all_kept (λ place. live s.colours s.control s.collector.sweep place.cell ≡ true) (held_of s i) count from copies (k.cells.held_live i);
       raw = (λ c raw held. holds_kept (held_of s i) count from copies c held);
-      raw_not_black = (λ sync2. all_kept (NoRawBlack s.colours s.rows) (held_of s i) count from copies (k.raw_not_black i sync2));
+      raw_not_black = (λ sync2. all_kept (NoRawBlack s.colours s.rows) (held_of s i) count from copies (k.cells.raw_not_black i sync2));
       due = (λ now async set cut old. all_kept (λ place. set place.cell ≡ false) (held_of s i) count from copies (old.held i async));
     }

@@ -126,7 +126,7 @@ pub child_needs_gray : (s : State) → IsConsistent s → ((d : ℕ) → colour_
 child_needs_gray s k none d h =
     elim s.collector.scan as (λ x. s.collector.scan ≡ x → child_in x ≡ Some d → ⊥) [
       | None ↦ λ is e. absurd cc
-      | Some y ↦ λ is e. none y.cell (k.scans y is).gray
+      | Some y ↦ λ is e. none y.cell (k.tracing.scans y is).gray
     ] refl h
 
 -- with no gray cell the white cells are cut off
@@ -151,7 +151,7 @@ clean_marked s i c range k inside held now clean d gray =
     elim (list_any is_gray s.colours) as (λ b. list_any is_gray s.colours ≡ b → (e : ℕ) × (s.collector.cursor ≤ e) × (colour_of t e ≡ colour.Gray)) [
       | true ↦ λ some.
           let one = gray_at s.colours some in
-          let ahead = k.clean_pass now clean one.0 one.1 in
+          let ahead = k.tracing.clean_pass now clean one.0 one.1 in
           (ahead.0, ahead.1, gray_is ahead.0 ahead.2)
       | false ↦ λ none.
           let nowhere = gray_nowhere s.colours none in
@@ -163,13 +163,13 @@ clean_marked s i c range k inside held now clean d gray =
           ])
           (λ e g. absurd (nowhere e g)) d gray in
           elim (all_in s.collector.answered) as (λ b. all_in s.collector.answered ≡ b → (e : ℕ) × (s.collector.cursor ≤ e) × (colour_of t e ≡ colour.Gray)) [
-            | false ↦ λ waits. let start = k.pass_waits now waits in (d, omega arith, gray)
+            | false ↦ λ waits. let start = k.tracing.pass_waits now waits in (d, omega arith, gray)
             | true ↦ λ all.
                 let async : (presence_of s i).status ≡ status.Async
-                = k.answered i (inside_below s i range inside) (subst (λ x. is_handshake x ≡ true) (sym now) refl)
+                = k.mutators.answered i (inside_below s i range inside) (subst (λ x. is_handshake x ≡ true) (sym now) refl)
                 (one_of_all s.collector.answered i all)
                 ∙ ap requested_of now in
-                let lost = (k.traced now (λ e. is_white (colour_of s e)) (white_cut_off s k nowhere)).held i async in
+                let lost = (k.tracing.traced now (λ e. is_white (colour_of s e)) (white_cut_off s k nowhere)).held i async in
                 let out : is_white (colour_of s c) ≡ false
                 = all_held (λ e. is_white (colour_of s e) ≡ false) (held_of s i) c lost held in
                 absurd (let h = white_is_white (colour_of s c) fresh.1 in cc)
@@ -191,15 +191,15 @@ mark_keeps s i place range k h =
     let held = held_of s i in
     let there = holds_place held place lt in
     let alive : live s.colours s.control s.collector.sweep c ≡ true
-    = at_place (λ d. live s.colours s.control s.collector.sweep d ≡ true) held place lt (k.held_live i) in
+    = at_place (λ d. live s.colours s.control s.collector.sweep d ≡ true) held place lt (k.cells.held_live i) in
     let t = with_shade s c in
     let shady = shade_kept s c range k alive (clean_marked s i c range k needs.inside there) in
     own_kept t i (marking (own_of s i) c) shady record {
-      mode = k.modes i;
+      mode = k.mutators.modes i;
       out = (λ o. absurd cc);
-      marks = (λ m. stands_marking t.colours held c (shaded_there s c) (shady.marks i m));
-      held_live = all_marking (λ d. live t.colours s.control s.collector.sweep d ≡ true) held c (shady.held_live i);
+      marks = (λ m. stands_marking t.colours held c (shaded_there s c) (shady.mutators.marks i m));
+      held_live = all_marking (λ d. live t.colours s.control s.collector.sweep d ≡ true) held c (shady.cells.held_live i);
       raw = (λ d raw has. sym (holds_marking held c d) ∙ has);
-      raw_not_black = (λ sync2. all_marking (λ d. NoRawBlack t.colours s.rows record { cell = d; marked = false }) held c (shady.raw_not_black i sync2));
+      raw_not_black = (λ sync2. all_marking (λ d. NoRawBlack t.colours s.rows record { cell = d; marked = false }) held c (shady.cells.raw_not_black i sync2));
       due = (λ now async set cut old. all_marking (λ d. set d ≡ false) held c (old.held i async));
     }

@@ -63,12 +63,12 @@ begin_keeps s i k h =
     let t = with_presence s i p in
     let here : presence_of t i ≡ p = get_or-set_same s.presences i p no_presence (begins_below s i h) in
     let same = same_statuses s i p refl i in
-    let sealed : is_raw_kind (field_of s 0 5) ≡ false = box_not_raw (field_of s 0 5) k.anchor_box in
+    let sealed : is_raw_kind (field_of s 0 5) ≡ false = box_not_raw (field_of s 0 5) k.cells.anchor_box in
     own_kept t i (begun (own_of s i)) (presence_kept s i p k refl (λ o. absurd cc)) record {
       mode = tt;
       out = (λ o. absurd (let inside : (presence_of t i).inside ≡ true = ap (λ q. q.inside) here in cc));
       marks = (λ m. All-cons (MarkStands s.colours) (found_at 0) [] (λ h2. absurd cc) (All-nil (MarkStands s.colours)));
-      held_live = All-cons (λ place. live s.colours s.control s.collector.sweep place.cell ≡ true) (found_at 0) [] k.anchor_live
+      held_live = All-cons (λ place. live s.colours s.control s.collector.sweep place.cell ≡ true) (found_at 0) [] k.cells.anchor_live
           (All-nil (λ place. live s.colours s.control s.collector.sweep place.cell ≡ true));
       raw = (λ c raw held. absurd (elim (or_cases (0 == c) false held) [
         | inl is ↦ let e : 0 ≡ c = eqb-true 0 c is in
@@ -77,7 +77,7 @@ begin_keeps s i k h =
       ]));
       raw_not_black = (λ sync2. All-cons (NoRawBlack s.colours s.rows) (found_at 0) [] (λ raw. absurd cc) (All-nil (NoRawBlack s.colours s.rows)));
       due = (λ now async set cut old. All-cons (λ place. set place.cell ≡ false) (found_at 0) []
-          (not_white_outside s set 0 cut (k.anchor_marked (marked_in_trace s.control.stage s.collector.anchor_marked now)))
+          (not_white_outside s set 0 cut (k.tracing.anchor_marked (marked_in_trace s.control.stage s.collector.anchor_marked now)))
           (All-nil (λ place. set place.cell ≡ false)));
     }
 
@@ -116,4 +116,4 @@ end_keeps s i k inside =
 pub over_keeps : (s : State) (i : ℕ) → IsConsistent s → can s (event.Over i) ≡ true
     → IsConsistent (after s (event.Over i))
 over_keeps s i k h =
-    presence_kept s i (record (presence_of s i) { over = true }) k refl (λ o. k.out i (come_in_needs s i h).out)
+    presence_kept s i (record (presence_of s i) { over = true }) k refl (λ o. k.mutators.out i (come_in_needs s i h).out)

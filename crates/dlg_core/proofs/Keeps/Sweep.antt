@@ -43,13 +43,13 @@ pub word_step : (s : State) (sweep : Sweeping) → IsConsistent s → s.control.
 word_step s sweep k now same less wipes found = record {
   now = now;
   on = omega arith;
-  anchor_box = k.anchor_box;
-  kinds = k.kinds;
-  blue_null = k.blue_null;
+  anchor_box = k.cells.anchor_box;
+  kinds = k.cells.kinds;
+  blue_null = k.cells.blue_null;
   same_live = same;
-  names = k.names_live;
-  raw_once = k.raw_once;
-  unswept = (λ c h. k.unswept c (less c h));
+  names = k.cells.names_live;
+  raw_once = k.cells.raw_once;
+  unswept = (λ c h. k.sweep.unswept c (less c h));
   wipes = wipes;
   found_black = found;
 }
@@ -130,7 +130,7 @@ pub done_not_gray : (s : State) (x : Colour) → IsConsistent s → s.control.po
 done_not_gray s x k lt c h =
     colour_else (λ d y. unswept s.control sweeping.Done d ≡ true → y ≢ colour.Gray) s.colours s.control.position x lt
     (λ far. absurd (let gone = done_swept s.control in cc))
-    (λ d other far. k.unswept d (done_less s d far)) c h
+    (λ d other far. k.sweep.unswept d (done_less s d far)) c h
 
 pub busy_below : (cells p : ℕ) (sweep : Sweeping) → SweepFits cells p sweep → sweep ≢ sweeping.Fresh → p < cells
 busy_below cells p sweeping.Fresh fits busy = absurd (busy refl)
@@ -164,23 +164,23 @@ free_keeps s range k h =
     let undone : sweeping.Wiping 6 ≢ sweeping.Done = (λ e. cc) in
     let now = busy_now s (sweeping.Wiping 6) range is busy in
     let lt = position_below s (sweeping.Wiping 6) range is busy in
-    let wipes = k.wipes 6 is in
+    let wipes = k.sweep.wipes 6 is in
     let colours = slice_set s.colours p colour.Blue in
     sweep_kept s colours s.rows p sweeping.Done
     (slice_set s.collector.times_freed p (slice_index s.collector.times_freed p + 1)) (s.collector.number_freed + 1) range k record {
       now = now;
       on = omega arith;
-      anchor_box = k.anchor_box;
-      kinds = k.kinds;
+      anchor_box = k.cells.anchor_box;
+      kinds = k.cells.kinds;
       blue_null = (λ c f b. colour_each (λ d y. y ≡ colour.Blue → field_of s d f ≡ field.Null) s.colours p colour.Blue
           (λ _. elim (cases_lt f 6) [
             | inl six ↦ wipes.null f six
             | inr past ↦ null_beyond s p f range past
           ])
-          (λ d blue. k.blue_null d f blue) c b);
+          (λ d blue. k.cells.blue_null d f blue) c b);
       same_live = done_live s colour.Blue (sweeping.Wiping 6) lt now is undone (ap (λ x. is_live x true) (sym wipes.white));
-      names = k.names_live;
-      raw_once = k.raw_once;
+      names = k.cells.names_live;
+      raw_once = k.cells.raw_once;
       unswept = done_not_gray s colour.Blue k lt;
       wipes = (λ n e. absurd cc);
       found_black = (λ e. absurd cc);
@@ -200,18 +200,18 @@ whiten_keeps s range k h =
     let undone : sweeping.BlackFound ≢ sweeping.Done = (λ e. cc) in
     let now = busy_now s sweeping.BlackFound range is busy in
     let lt = position_below s sweeping.BlackFound range is busy in
-    let black = k.found_black is in
+    let black = k.sweep.found_black is in
     let colours = slice_set s.colours p colour.White in
     sweep_kept s colours s.rows p sweeping.Done s.collector.times_freed s.collector.number_freed range k record {
       now = now;
       on = omega arith;
-      anchor_box = k.anchor_box;
-      kinds = k.kinds;
+      anchor_box = k.cells.anchor_box;
+      kinds = k.cells.kinds;
       blue_null = (λ c f b. colour_each (λ d y. y ≡ colour.Blue → field_of s d f ≡ field.Null) s.colours p colour.White
-          (λ e. absurd cc) (λ d blue. k.blue_null d f blue) c b);
+          (λ e. absurd cc) (λ d blue. k.cells.blue_null d f blue) c b);
       same_live = done_live s colour.White sweeping.BlackFound lt now is undone (ap (λ x. is_live x true) (sym black));
-      names = k.names_live;
-      raw_once = k.raw_once;
+      names = k.cells.names_live;
+      raw_once = k.cells.raw_once;
       unswept = done_not_gray s colour.White k lt;
       wipes = (λ n e. absurd cc);
       found_black = (λ e. absurd cc);
@@ -258,13 +258,13 @@ advance_keeps s range k h =
     sweep_kept s s.colours s.rows (s.control.position + 1) sweeping.Fresh s.collector.times_freed s.collector.number_freed range k record {
       now = now;
       on = omega arith;
-      anchor_box = k.anchor_box;
-      kinds = k.kinds;
-      blue_null = k.blue_null;
+      anchor_box = k.cells.anchor_box;
+      kinds = k.cells.kinds;
+      blue_null = k.cells.blue_null;
       same_live = (λ c. ap (is_live (colour_of s c)) (advance_unswept s c is));
-      names = k.names_live;
-      raw_once = k.raw_once;
-      unswept = (λ c far. k.unswept c (sym (advance_unswept s c is) ∙ far));
+      names = k.cells.names_live;
+      raw_once = k.cells.raw_once;
+      unswept = (λ c far. k.sweep.unswept c (sym (advance_unswept s c is) ∙ far));
       wipes = (λ n e. absurd cc);
       found_black = (λ e. absurd cc);
     }
@@ -289,7 +289,7 @@ wipe_at s n range k is six =
     let rows = set_field s.rows p n field.Null in
     let busy : sweeping.Wiping n ≢ sweeping.Fresh = (λ e. cc) in
     let now = busy_now s (sweeping.Wiping n) range is busy in
-    let wipes = k.wipes n is in
+    let wipes = k.sweep.wipes n is in
     let dead = wiped_not_live s range n is wipes.white in
     let apart : (d : ℕ) → live s.colours s.control s.collector.sweep d ≡ true → d ≢ p
     = (λ d alive e. absurd (let l : live s.colours s.control s.collector.sweep p ≡ true
@@ -308,19 +308,19 @@ wipe_at s n range k is six =
     sweep_kept s s.colours rows p (sweeping.Wiping (n + 1)) s.collector.times_freed s.collector.number_freed range k record {
       now = now;
       on = omega arith;
-      anchor_box = ap is_box_kind (field_elsewhere s.rows p n field.Null 0 (apart 0 k.anchor_live) 5) ∙ k.anchor_box;
+      anchor_box = ap is_box_kind (field_elsewhere s.rows p n field.Null 0 (apart 0 k.cells.anchor_live) 5) ∙ k.cells.anchor_box;
       kinds = (λ c. field_each (λ d g y. g ≡ 5 → is_kind_field y ≡ true) s.rows p n field.Null (λ _. refl)
-          (λ d g e. subst (λ m. is_kind_field (field_of s d m) ≡ true) (sym e) (k.kinds d)) c 5 refl);
+          (λ d g e. subst (λ m. is_kind_field (field_of s d m) ≡ true) (sym e) (k.cells.kinds d)) c 5 refl);
       blue_null = (λ c f blue. field_each (λ d g y. colour_of s d ≡ colour.Blue → y ≡ field.Null) s.rows p n field.Null (λ _. refl)
-          (λ d g b. k.blue_null d g b) c f blue);
+          (λ d g b. k.cells.blue_null d g b) c f blue);
       same_live = (λ c. ap (is_live (colour_of s c)) (same c));
       names = (λ c d f alive e.
-          let r = k.names_live c d f alive (sym (field_elsewhere s.rows p n field.Null c (apart c alive) f) ∙ e) in
+          let r = k.cells.names_live c d f alive (sym (field_elsewhere s.rows p n field.Null c (apart c alive) f) ∙ e) in
           (r.0, ap is_raw_kind (field_elsewhere s.rows p n field.Null d (apart d r.0) 5) ∙ r.1));
       raw_once = (λ i j c raw hi hj.
-          let other : c ≢ p = apart c (all_held (λ d. live s.colours s.control s.collector.sweep d ≡ true) (own_in s.owns i).held c (k.held_live i) hi) in
-          k.raw_once i j c (sym (ap is_raw_kind (field_elsewhere s.rows p n field.Null c other 5)) ∙ raw) hi hj);
-      unswept = (λ c far. k.unswept c (sym (same c) ∙ far));
+          let other : c ≢ p = apart c (all_held (λ d. live s.colours s.control s.collector.sweep d ≡ true) (own_in s.owns i).held c (k.cells.held_live i) hi) in
+          k.cells.raw_once i j c (sym (ap is_raw_kind (field_elsewhere s.rows p n field.Null c other 5)) ∙ raw) hi hj);
+      unswept = (λ c far. k.sweep.unswept c (sym (same c) ∙ far));
       wipes = (λ m e.
           let next : n + 1 ≡ m = cc in
           record {

@@ -46,9 +46,9 @@ spent_fits s i k inside = record {
   mode = tt;
   out = (λ o. absurd cc);
   marks = (λ m. none_marked s.colours (held_of s i));
-  held_live = All-map (λ place. live s.colours s.control s.collector.sweep place.cell ≡ true) unmark (held_of s i) (k.held_live i);
+  held_live = All-map (λ place. live s.colours s.control s.collector.sweep place.cell ≡ true) unmark (held_of s i) (k.cells.held_live i);
   raw = (λ c raw h. sym (holds_unmark (held_of s i) c) ∙ h);
-  raw_not_black = (λ sync2. All-map (NoRawBlack s.colours s.rows) unmark (held_of s i) (k.raw_not_black i sync2));
+  raw_not_black = (λ sync2. All-map (NoRawBlack s.colours s.rows) unmark (held_of s i) (k.cells.raw_not_black i sync2));
   due = (λ now async set cut old. All-map (λ place. set place.cell ≡ false) unmark (held_of s i) (old.held i async));
 }
 
@@ -63,7 +63,7 @@ pub status_in_trace : (s : State) (i : ℕ) → IsShaped s → IsConsistent s �
     → ((presence_of s i).status ≡ status.Async) ⊎ ((presence_of s i).status ≡ status.Sync2)
 status_in_trace s i range k inside now =
     traced_status (presence_of s i).status
-    (subst (λ x. status_fits x (presence_of s i).status ≡ true) now (k.statuses i (inside_below s i range inside)))
+    (subst (λ x. status_fits x (presence_of s i).status ≡ true) now (k.mutators.statuses i (inside_below s i range inside)))
 
 -- Marks.
 
@@ -82,7 +82,7 @@ pub value_not_white : (s : State) (i w : ℕ) → IsConsistent s → s.control.s
     → is_marked_value (held_of s i) (field.Cell w) ≡ true → colour_of s w ≢ colour.White
 value_not_white s i w k now h =
     marked_stands s.colours (held_of s i) w
-    (k.marks i (subst (λ x. marks_count x (presence_of s i).status ≡ true) (sym now) refl)) h
+    (k.mutators.marks i (subst (λ x. marks_count x (presence_of s i).status ≡ true) (sym now) refl)) h
 
 -- an async mutator's mode is of the tracing that goes on
 pub async_mode : (looked : Stage) → async_fits looked stage.Trace ≡ true → looked ≡ stage.Trace
@@ -125,7 +125,7 @@ pub named_live : (s : State) (i w : ℕ) (x : Field) → IsConsistent s → name
 named_live s i w (field.Cell c) k rightly whole e =
     let same : c ≡ w = cc in (
       subst (λ d. live s.colours s.control s.collector.sweep d ≡ true) same
-          (all_held (λ d. live s.colours s.control s.collector.sweep d ≡ true) (held_of s i) c (k.held_live i) rightly),
+          (all_held (λ d. live s.colours s.control s.collector.sweep d ≡ true) (held_of s i) c (k.cells.held_live i) rightly),
       subst (λ d. is_raw_kind (field_of s d 5) ≡ false) same whole,
     )
 named_live s i w _ k rightly whole e = absurd cc
@@ -144,7 +144,7 @@ pub same_field_fits : (s : State) (b f : ℕ) → IsConsistent s → f < 5
 same_field_fits s b f k payload alive = record {
   payload = payload;
   alive = alive;
-  names = (λ w e. k.names_live b w f alive e);
+  names = (λ w e. k.cells.names_live b w f alive e);
   gone = (λ now w e. inl e);
   due = (λ now set cut old w e why. elim why [
     | inl black ↦ old.black b w f black e
@@ -161,10 +161,10 @@ written_fits s i place f old new range k needs =
     let b = target_of s i place in
     let found = field_of s b f in
     let alive : live s.colours s.control s.collector.sweep b ≡ true
-    = at_place (λ d. live s.colours s.control s.collector.sweep d ≡ true) (held_of s i) place needs.there (k.held_live i) in
+    = at_place (λ d. live s.colours s.control s.collector.sweep d ≡ true) (held_of s i) place needs.there (k.cells.held_live i) in
     let marks : s.control.stage ≡ stage.Trace → WriteMarks (presence_of s i).status (held_of s i) old new
     = (λ now. marks_found (presence_of s i).status (own_of s i).mode s.control (held_of s i) old new now
-    (status_in_trace s i range k needs.inside now) needs.mode (k.modes i) needs.marks) in
+    (status_in_trace s i range k needs.inside now) needs.mode (k.mutators.modes i) needs.marks) in
     elim (same_field found old) as (λ same. same_field found old ≡ same → FieldFits s b f (if same then new else found)) [
       | false ↦ λ e. same_field_fits s b f k (omega (arith, needs.payload)) alive
       | true ↦ λ e.
@@ -206,7 +206,7 @@ fill_keeps s i place f value range k h =
     let needs = fill_needs s i place f value h in
     let b = target_of s i place in
     let alive : live s.colours s.control s.collector.sweep b ≡ true
-    = at_place (λ d. live s.colours s.control s.collector.sweep d ≡ true) (held_of s i) place needs.there (k.held_live i) in
+    = at_place (λ d. live s.colours s.control s.collector.sweep d ≡ true) (held_of s i) place needs.there (k.cells.held_live i) in
     field_kept s b f value range k record {
       payload = omega (arith, needs.payload);
       alive = alive;
@@ -216,11 +216,11 @@ fill_keeps s i place f value range k h =
         | inl async ↦ held_outside s i w set value old async needs.names is
         | inr sync2 ↦ absurd (elim why [
           | inl black ↦ at_place (λ d. is_raw s d ≡ true → colour_of s d ≢ colour.Black) (held_of s i) place needs.there
-              (k.raw_not_black i sync2) needs.raw black
+              (k.cells.raw_not_black i sync2) needs.raw black
           | inr scan ↦
-              let answers = (k.scans scan.0 scan.1).answers in
+              let answers = (k.tracing.scans scan.0 scan.1).answers in
               let async : (presence_of s i).status ≡ status.Async
-              = k.answered i (inside_below s i range needs.inside) (subst (λ x. is_handshake x ≡ true) (sym now) refl)
+              = k.mutators.answered i (inside_below s i range needs.inside) (subst (λ x. is_handshake x ≡ true) (sym now) refl)
               (one_of_all s.collector.answered i answers)
               ∙ ap requested_of now in cc
         ])
