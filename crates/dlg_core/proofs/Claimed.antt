@@ -24,10 +24,10 @@ use Rattle.dlg_core.specs.FirstRows.{are_first_rows, AreRows}
 use Rattle.dlg_core.specs.Runs.{taken_from}
 use Rattle.dlg_core.specs.Sums.{IsClaimed, StaysClaimed}
 use Rattle.dlg_core.proofs.Each.{colour_each}
-use Rattle.dlg_core.proofs.Keeps.Sweep.{black_found_is}
 use Rattle.dlg_core.proofs.Starts.{opening_consistent, same_everywhere, back_of}
 use Rattle.dlg_core.proofs.Step.{consistent_after}
 use Rattle.dlg_core.proofs.Throughout.{rows_shaped}
+use Rattle.dlg_core.proofs.Truths.{black_found_is}
 
 -- a colour changes, and a blue one does not
 blue_set : (colours : List Colour) (p : ℕ) (x : Colour) (c : ℕ) → (colour_in colours p ≡ colour.Blue → x ≡ colour.Blue)

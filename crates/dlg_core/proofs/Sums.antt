@@ -35,10 +35,11 @@ use Rattle.dlg_core.specs.Consistent.{IsConsistent}
 use Rattle.dlg_core.specs.FirstRows.{are_first_rows, AreRows}
 use Rattle.dlg_core.specs.Sums.{is_used, used_in, claims_in, Balances, IsBalanced, StaysBalanced}
 use Rattle.dlg_core.proofs.Changes.Noted.{answered_each, look_each}
-use Rattle.dlg_core.proofs.Keeps.Holding.{inside_below}
-use Rattle.dlg_core.proofs.Keeps.Sweep.{position_below, free_is, black_found_is}
 use Rattle.dlg_core.proofs.Starts.{opening_consistent}
 use Rattle.dlg_core.proofs.Throughout.{along_run, rows_shaped}
+use Rattle.core_machine.proofs.OneOperation.{inside_there}
+use Rattle.dlg_core.proofs.Truths.{free_is, black_found_is}
+use Rattle.dlg_core.proofs.Changes.Sweep.{position_below}
 
 -- What a change does to the sums.
 
@@ -133,7 +134,7 @@ pub claim_balanced : (first : ℕ) (s : State) (i c : ℕ) → IsShaped s → ca
 claim_balanced first s i c range h k =
     let needs = claim_needs s i c h in
     claim_balances first s i c (born_colour (presence_of s i).status (own_of s i).mode c) (colour_of s c)
-    (subst (λ n. i < n) (sym range.mutators_fit.owns_fit) (inside_below s i range needs.inside))
+    (subst (λ n. i < n) (sym range.mutators_fit.owns_fit) (inside_there s range i needs.inside))
     (subst (λ n. c < n) (sym range.cells_fit.colours_fit) needs.cell)
     refl (born-blue (presence_of s i).status (own_of s i).mode c) k
 

@@ -16,9 +16,10 @@ use Rattle.core_machine.proofs.Frames.{set_field_other}
 use Rattle.dlg_core.specs.Consistent.{IsConsistent}
 use Rattle.dlg_core.specs.Facts.{is_live, live, unswept}
 use Rattle.dlg_core.specs.Reachable.{Reachable}
-use Rattle.dlg_core.proofs.Keeps.Sweep.{busy_now, wipe_is}
 use Rattle.dlg_core.proofs.Changes.Shade.{here_unswept}
 use Rattle.dlg_core.proofs.Safety.{reachable_live}
+use Rattle.dlg_core.proofs.Truths.{wipe_is}
+use Rattle.dlg_core.proofs.Changes.Sweep.{busy_now}
 
 -- the cell that is being wiped is not live
 pub wiping_not_live : (s : State) (k : ℕ) → IsShaped s → IsConsistent s → s.collector.sweep ≡ sweeping.Wiping k

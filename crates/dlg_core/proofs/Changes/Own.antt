@@ -2,18 +2,21 @@
 --
 -- Its new held list has to be live, may have no raw cell that the old one had not, and no cell that
 -- is cut off from a tracing collector.
-use Rattle.std.proofs.Common.{◌≡◌, ℕ, Bool, true, false, [], None}
+use Rattle.std.proofs.Common.{◌≡◌, ℕ, Bool, true, false, [], None, sym, ◌∙◌}
 use Rattle.std.specs.Prelude.{slice_set}
 use Rattle.std.specs.List.{All}
 use Rattle.cell_words.specs.declared.controls.Stage.TheVariants as stage
 use Rattle.cell_words.specs.declared.presences.Status.TheVariants.{Async, Sync2}
-use Rattle.core_machine.specs.State.{State, field_in, presence_in, own_in, presence_of, own_of}
+use Rattle.core_machine.specs.State.{State, field_in, presence_in, own_in, presence_of, own_of, held_of}
 use Rattle.core_machine.specs.Words.{is_raw_kind}
-use Rattle.core_machine.specs.Own.{Own}
-use Rattle.core_machine.specs.Places.{holds}
+use Rattle.core_machine.specs.Own.{Own, spent}
+use Rattle.core_machine.specs.Places.{holds, unmark}
 use Rattle.dlg_core.specs.Consistent.{IsConsistent, MarkStands, NoRawBlack, IsCutOff, IsNotDue}
 use Rattle.dlg_core.specs.Facts.{IsStaleMode, marks_count, live}
 use Rattle.dlg_core.proofs.Each.{own_each}
+use Rattle.std.proofs.lemmas.List.Elements.{All-map}
+use Rattle.core_machine.specs.Operations.{is_in}
+use Rattle.dlg_core.proofs.HeldLists.{none_marked, holds_unmark}
 
 -- the state with another own part of mutator i
 abbrev pub with_own : State → ℕ → Own → State
@@ -83,3 +86,14 @@ own_kept s i own k fits =
       };
       sweep = k.sweep;
     }
+
+pub spent_fits : (s : State) (i : ℕ) → IsConsistent s → is_in s i ≡ true → OwnFits s i (spent (own_of s i))
+spent_fits s i k inside = record {
+  mode = tt;
+  out = (λ o. absurd cc);
+  marks = (λ m. none_marked s.colours (held_of s i));
+  held_live = All-map (λ place. live s.colours s.control s.collector.sweep place.cell ≡ true) unmark (held_of s i) (k.cells.held_live i);
+  raw = (λ c raw h. sym (holds_unmark (held_of s i) c) ∙ h);
+  raw_not_black = (λ sync2. All-map (NoRawBlack s.colours s.rows) unmark (held_of s i) (k.cells.raw_not_black i sync2));
+  due = (λ now async set cut old. All-map (λ place. set place.cell ≡ false) unmark (held_of s i) (old.held i async));
+}

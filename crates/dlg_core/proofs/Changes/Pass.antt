@@ -1,9 +1,11 @@
 -- The collector's own part changes, but for its sweep: who has answered, the mark on the anchor, how far
 -- it has come, and its scan.
-use Rattle.std.proofs.Common.{ℕ, Bool, List, Option}
+use Rattle.std.proofs.Common.{ℕ, Bool, List, Option, inl, inr, true, false, not, nat_lt, Some, refl, ap, eq-eqb, ◌≡◌, ◌≤◌, ◌==◌}
 use Rattle.core_machine.specs.declared.progress.Scanning.{Scanning}
 use Rattle.core_machine.specs.State.{State}
-use Rattle.dlg_core.specs.Consistent.{IsConsistent, Answered, ChildIsLive, ClearedIsNotBlack, AnchorIsMarked, Traced, CleanPass, PassWaits, Scans, TracingConsistent}
+use Rattle.dlg_core.specs.Consistent.{IsConsistent, Answered, ChildIsLive, TracingConsistent}
+use Rattle.std.proofs.lemmas.Bool.{and_from, lt-ltb, cases_lt}
+use Rattle.dlg_core.specs.Facts.{is_open, scanned_count}
 
 abbrev pub with_pass : State → List Bool → Bool → ℕ → Bool → Option Scanning → State
 with_pass s answered marked cursor clean scan = record s {
@@ -40,3 +42,16 @@ pass_kept s answered marked cursor clean scan k fits = record {
   tracing = fits.tracing;
   sweep = k.sweep;
 }
+
+-- the state with another scan
+abbrev pub with_scan : State → Option Scanning → State
+with_scan s scan = record s { collector = record s.collector { scan = scan } }
+
+-- an open field of the cell under scan is not scanned
+pub open_not_scanned : (x : Scanning) (f : ℕ) → is_open (Some x) x.cell f ≡ true → scanned_count x ≤ f
+open_not_scanned x f h = elim (cases_lt f (scanned_count x)) [
+  | inl lt ↦ absurd (
+      let shut : is_open (Some x) x.cell f ≡ false
+      = ap not (and_from (x.cell == x.cell) (nat_lt f (scanned_count x)) (eq-eqb x.cell x.cell refl) (lt-ltb f (scanned_count x) lt)) in cc)
+  | inr le ↦ le
+]

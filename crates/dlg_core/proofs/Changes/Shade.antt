@@ -2,9 +2,9 @@
 --
 -- Live cells stay as they are, since a live white cell is none that the sweep will free. A set that is
 -- cut off after it was cut off before: the cell is not in it and names nothing in it.
-use Rattle.std.proofs.Common.{◌≡◌, ◌≢◌, ◌==◌, ◌&&◌, ◌⊎◌, inl, inr, ℕ, Bool, true, false, not, nat_lt, Option, Some, None, refl, sym, subst, ap, eq-eqb}
+use Rattle.std.proofs.Common.{◌≡◌, ◌≢◌, ◌==◌, ◌&&◌, ◌⊎◌, inl, inr, ℕ, Bool, true, false, not, nat_lt, Option, Some, None, refl, sym, subst, ap, eq-eqb, length, ◌∙◌}
 use Rattle.std.specs.Prelude.{slice_set}
-use Rattle.std.proofs.lemmas.Bool.{eqb-true, and_from}
+use Rattle.std.proofs.lemmas.Bool.{eqb-true, and_from, cases_lt}
 use Rattle.std.proofs.lemmas.List.Elements.{All-weaker}
 use Rattle.cell_words.specs.declared.colours.Colour.{Colour}
 use Rattle.cell_words.specs.declared.colours.Colour.TheVariants as colour
@@ -14,14 +14,15 @@ use Rattle.cell_words.specs.declared.controls.Stage.TheVariants as stage
 use Rattle.core_machine.specs.declared.progress.Scanning.{Scanning}
 use Rattle.core_machine.specs.declared.progress.Sweeping.{Sweeping}
 use Rattle.core_machine.specs.declared.progress.Sweeping.TheVariants as sweeping
-use Rattle.core_machine.specs.State.{State, colour_of, own_in}
+use Rattle.core_machine.specs.State.{State, colour_of, own_in, colour_in}
 use Rattle.core_machine.specs.Sweep.{is_done}
-use Rattle.core_machine.specs.Words.{shaded, same_stage}
+use Rattle.core_machine.specs.Words.{shaded, same_stage, cleared}
 use Rattle.core_machine.specs.InRange.{IsShaped, StageFits}
 use Rattle.dlg_core.specs.Consistent.{IsConsistent, CleanPass, IsCutOff, MarkStands, NoRawBlack}
 use Rattle.dlg_core.specs.Facts.{is_live, live, unswept, is_open, scanned_count}
 use Rattle.dlg_core.proofs.Each.{colour_each}
 use Rattle.dlg_core.proofs.Truths.{or_later}
+use Rattle.std.proofs.lemmas.List.{get_or-set_same, get_or_past, set_past}
 
 -- the state with another colour of a cell
 abbrev pub with_colour : State → ℕ → Colour → State
@@ -208,3 +209,18 @@ shade_kept s c range k alive clean =
         found_black = (λ is. black_is s.control.position (k.sweep.found_black is));
       };
     }
+
+-- the cell that was shaded is not white
+pub shaded_there : (s : State) (c : ℕ) → colour_of (with_shade s c) c ≢ colour.White
+shaded_there s c = elim (cases_lt c (length s.colours)) [
+  | inl lt ↦ λ white. shaded_not_white (colour_of s c)
+      (sym (get_or-set_same s.colours c (shaded (colour_of s c)) colour.Blue lt) ∙ white)
+  | inr past ↦ λ white.
+      let same = set_past s.colours c (shaded (colour_of s c)) past in
+      let blue : colour_of (with_shade s c) c ≡ colour.Blue
+      = ap (λ xs. colour_in xs c) same ∙ get_or_past s.colours c colour.Blue past in absurd cc
+]
+
+pub cleared_blue : (x : Colour) → cleared x ≡ colour.Blue → x ≡ colour.Blue
+cleared_blue colour.Blue e = refl
+cleared_blue _ e = absurd cc

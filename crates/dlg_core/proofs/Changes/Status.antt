@@ -1,5 +1,5 @@
 -- A mutator without a mode gets another status: it answers, or the collector answers for it.
-use Rattle.std.proofs.Common.{◌≡◌, ◌≢◌, ℕ, true, false, [], None, ◌<◌, sym, subst, slice_index_or}
+use Rattle.std.proofs.Common.{◌≡◌, ◌≢◌, ℕ, true, false, [], None, ◌<◌, sym, subst, slice_index_or, Option, Some, arith, ◌≤◌, ◌∙◌}
 use Rattle.std.specs.List.{All}
 use Rattle.std.proofs.lemmas.List.Elements.{All-weaker}
 use Rattle.cell_words.specs.declared.colours.Colour.TheVariants.{White}
@@ -11,10 +11,11 @@ use Rattle.cell_words.specs.Modes.{requested_of}
 use Rattle.core_machine.specs.State.{State, colour_of, own_in, presence_of, own_of, held_of}
 use Rattle.core_machine.specs.Words.{is_handshake}
 use Rattle.dlg_core.specs.Consistent.{IsConsistent, MarkStands, NoRawBlack}
-use Rattle.dlg_core.specs.Facts.{status_fits, IsStaleMode, marks_count}
+use Rattle.dlg_core.specs.Facts.{status_fits, IsStaleMode, marks_count, mode_fits}
 use Rattle.dlg_core.proofs.Changes.Presence.{with_presence}
 use Rattle.dlg_core.proofs.Each.{presence_each}
-use Rattle.dlg_core.proofs.Keeps.Presence.{not_white_outside}
+use Rattle.dlg_core.proofs.CutOff.{not_white_outside}
+use Rattle.cell_words.specs.declared.controls.Control.{Control}
 
 -- the state with another status of mutator i
 abbrev pub with_status : State → ℕ → Status → State
@@ -76,3 +77,15 @@ status_kept s i new k fits =
       };
       sweep = k.sweep;
     }
+
+-- a mode is as stale to a control with the same stage and a position that is not less
+pub stale_on : (own : Status) (mode : Option Control) (now later : Control) → later.stage ≡ now.stage
+    → (now.stage ≡ stage.Sweep → now.position ≤ later.position) → IsStaleMode own mode now → IsStaleMode own mode later
+stale_on own None now later same far k = tt
+stale_on own (Some m) now later same far k = record {
+  fits = subst (λ x. mode_fits own m.stage x ≡ true) (sym same) k.fits;
+  position = (λ looked sweeps.
+      let s = sym same ∙ sweeps in
+      let a = k.position looked s in
+      let b = far s in omega arith);
+}

@@ -13,7 +13,7 @@ use Rattle.dlg_core.proofs.Collects.Mutating.{own_followed, beside_followed, beg
 use Rattle.dlg_core.proofs.Collects.Posting.{post_followed, duty_followed, poll_followed, answer_out_followed}
 use Rattle.dlg_core.proofs.Collects.Sweeping.{look_followed, wipe_followed, free_followed, whiten_followed, advance_followed}
 use Rattle.dlg_core.proofs.Collects.Tracing.{clear_followed, see_followed, scan_followed, shade_followed, blacken_followed}
-use Rattle.dlg_core.proofs.Keeps.Holding.{holds_unmark}
+use Rattle.dlg_core.proofs.HeldLists.{holds_unmark}
 
 pub followed_after : (old s : State) (e : Event) → IsShaped s → IsConsistent s → can s e ≡ true → IsFollowed old s
     → IsFollowed old (after s e)

@@ -26,8 +26,7 @@ use Rattle.dlg_core.proofs.Changes.Own.{with_own}
 use Rattle.dlg_core.proofs.Changes.Shade.{with_colour}
 use Rattle.dlg_core.proofs.Collects.Changes.{own_apart, field_apart, colour_apart, colour_beside}
 use Rattle.dlg_core.proofs.Collects.Followed.{IsLeftIn, IsFollowed}
-use Rattle.dlg_core.proofs.Keeps.Holding.{holds_unmark, holds_more, holds_kept}
-use Rattle.dlg_core.proofs.Keeps.Mark.{holds_marking, holds_place}
+use Rattle.dlg_core.proofs.HeldLists.{holds_unmark, holds_more, holds_place, holds_kept, holds_marking}
 
 -- What a change of one part leaves.
 

@@ -40,9 +40,10 @@ use Rattle.dlg_core.proofs.Changes.Shade.{wiped_not_live}
 use Rattle.dlg_core.proofs.Collects.Cycles.{cycle_begins, two_cycles_more, garbage_freed}
 use Rattle.dlg_core.proofs.Longer.{leads_apart}
 use Rattle.dlg_core.proofs.Computes.{into, reach-sound, reach-complete}
-use Rattle.dlg_core.proofs.Each.{colour_each, presence_each}
-use Rattle.dlg_core.proofs.Keeps.Sweep.{position_below, free_is, black_found_is, wipe_is, field_elsewhere}
+use Rattle.dlg_core.proofs.Each.{colour_each, presence_each, field_elsewhere}
 use Rattle.dlg_core.proofs.Step.{consistent_after}
+use Rattle.dlg_core.proofs.Truths.{free_is, black_found_is, wipe_is}
+use Rattle.dlg_core.proofs.Changes.Sweep.{position_below}
 
 -- what holds since an old state, while the collector alone goes on
 pub record Rests (old : State) (presences : List Presence) (rows : List (List Field)) (colours : List Colour) (times_freed : List ℕ) : Type 0 where

@@ -26,13 +26,13 @@ use Rattle.core_machine.proofs.Conditions.{sweep_look_needs, advance_needs}
 use Rattle.dlg_core.specs.Consistent.{IsConsistent}
 use Rattle.dlg_core.specs.Facts.{unswept}
 use Rattle.dlg_core.proofs.Changes.Field.{with_field}
-use Rattle.dlg_core.proofs.Changes.Sweep.{at_position, same_unswept, unswept_elsewhere}
+use Rattle.dlg_core.proofs.Changes.Sweep.{at_position, same_unswept, unswept_elsewhere, position_below}
 use Rattle.dlg_core.proofs.Collects.Changes.{colour_apart, colour_way, colour_beside, sweep_way, fewer_way}
 use Rattle.dlg_core.proofs.Collects.Followed.{Follows, IsLeft, IsLeftIn, IsFollowed}
 use Rattle.dlg_core.proofs.Collects.Mutating.{field_followed}
-use Rattle.dlg_core.proofs.Each.{set_each}
-use Rattle.dlg_core.proofs.Keeps.Blacken.{null_beyond}
-use Rattle.dlg_core.proofs.Keeps.Sweep.{position_below, free_is, black_found_is, advance_unswept, wipe_is}
+use Rattle.dlg_core.proofs.Each.{set_each, null_beyond}
+use Rattle.dlg_core.proofs.Keeps.Sweep.{advance_unswept}
+use Rattle.dlg_core.proofs.Truths.{free_is, black_found_is, wipe_is}
 
 -- The word on the cell at the position changes, and what is still to be swept is.
 pub word_followed : (old s : State) (later : Control) (further : Sweeping) → later.cycles ≡ s.control.cycles

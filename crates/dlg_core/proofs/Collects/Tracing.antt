@@ -21,11 +21,10 @@ use Rattle.core_machine.proofs.Conditions.{clear_needs}
 use Rattle.dlg_core.specs.Consistent.{IsConsistent}
 use Rattle.dlg_core.specs.Facts.{child_in}
 use Rattle.dlg_core.proofs.Changes.Noted.{look_each}
-use Rattle.dlg_core.proofs.Changes.Shade.{with_colour, shaded_blue}
+use Rattle.dlg_core.proofs.Changes.Shade.{with_colour, shaded_blue, cleared_blue}
 use Rattle.dlg_core.proofs.Collects.Changes.{colour_apart, colour_way, scan_way}
 use Rattle.dlg_core.proofs.Collects.Followed.{Follows, IsLeftIn, IsFollowed}
-use Rattle.dlg_core.proofs.Keeps.Clear.{cleared_blue}
-use Rattle.dlg_core.proofs.Keeps.Trace.{with_scan}
+use Rattle.dlg_core.proofs.Changes.Pass.{with_scan}
 
 -- A colour changes outside of the sweep: no cell of the set becomes blue, and in the next cycle none
 -- gets another colour than white.

@@ -29,10 +29,10 @@ use Rattle.core_machine.specs.Places.{all_marked, unmark}
 use Rattle.core_machine.proofs.Conditions.{answer_needs}
 use Rattle.dlg_core.specs.Consistent.{IsConsistent, MarkStands, NoRawBlack}
 use Rattle.dlg_core.specs.Facts.{status_fits, async_fits, sync1_fits, sync2_fits, IsStaleMode, marks_count, is_cleared}
-use Rattle.dlg_core.proofs.Changes.Own.{own_kept, with_own}
+use Rattle.dlg_core.proofs.Changes.Own.{own_kept, with_own, spent_fits}
 use Rattle.dlg_core.proofs.Changes.Status.{status_kept, StatusFits}
-use Rattle.dlg_core.proofs.Keeps.Holding.{inside_below, none_marked}
-use Rattle.dlg_core.proofs.Keeps.Write.{spent_fits}
+use Rattle.core_machine.proofs.OneOperation.{inside_there}
+use Rattle.dlg_core.proofs.HeldLists.{none_marked}
 
 -- the three answers of a cycle, each at its stage
 pub data IsAnswer : Status → Stage → Type 0 where
@@ -146,7 +146,7 @@ answer_keeps s i range k h =
     let needs = answer_needs s i h in
     let own = spent (own_of s i) in
     let u = with_own s i own in
-    let below : i < length s.owns = subst (λ n. i < n) (sym range.mutators_fit.owns_fit) (inside_below s i range needs.inside) in
+    let below : i < length s.owns = subst (λ n. i < n) (sym range.mutators_fit.owns_fit) (inside_there s range i needs.inside) in
     let there : own_of u i ≡ own = own_there s.owns i own below in
     let answers = answer_when (presence_of s i).status (own_of s i).mode s.control needs.requested (k.mutators.modes i) in
     status_kept u i (next_own_status s i) (own_kept s i own k (spent_fits s i k needs.inside))

@@ -2,7 +2,7 @@
 --
 -- Gray and black cells are live alike. Every payload field of the cell was scanned, so what it names was
 -- due before. All have answered, so nobody is in sync2 and no mark is lost.
-use Rattle.std.proofs.Common.{◌≡◌, ◌≢◌, ◌==◌, inl, inr, ℕ, Bool, true, false, [], Option, Some, None, get_or, ◌<◌, ◌≤◌, arith, refl, sym, subst, ◌∙◌, ap, eq-eqb}
+use Rattle.std.proofs.Common.{◌≡◌, ◌≢◌, ◌==◌, inl, inr, ℕ, Bool, true, false, Option, Some, None, ◌<◌, ◌≤◌, arith, refl, sym, subst, ◌∙◌, ap, eq-eqb}
 use Rattle.std.proofs.lemmas.Bool.{eqb-true, cases_lt}
 use Rattle.std.proofs.lemmas.List.{get_or_past}
 use Rattle.std.proofs.lemmas.List.Elements.{All-weaker}
@@ -16,7 +16,7 @@ use Rattle.cell_words.specs.Modes.{requested_of}
 use Rattle.core_machine.specs.declared.events.Event.TheVariants as event
 use Rattle.core_machine.specs.declared.progress.Scanning.{Scanning}
 use Rattle.core_machine.specs.declared.progress.Sweeping.TheVariants as sweeping
-use Rattle.core_machine.specs.State.{State, colour_of, field_of, row_in, own_in, presence_of, no_presence}
+use Rattle.core_machine.specs.State.{State, colour_of, field_of, own_in, presence_of, no_presence}
 use Rattle.core_machine.specs.Tracing.{may_blacken, scan_or_none}
 use Rattle.core_machine.specs.Words.{is_handshake}
 use Rattle.core_machine.specs.InRange.{IsShaped, ScanFits, ChildFits}
@@ -25,26 +25,14 @@ use Rattle.dlg_core.specs.Consistent.{IsConsistent, IsCutOff, MarkStands}
 use Rattle.dlg_core.specs.Facts.{is_live, live, unswept, is_open, scanned_count, scanned_count_at, is_cleared, child_in, is_kind_field, all_in}
 use Rattle.dlg_core.proofs.Changes.Live.{live_facts, live_moves}
 use Rattle.dlg_core.proofs.Changes.Shade.{with_colour, sweeps}
-use Rattle.dlg_core.proofs.Each.{colour_each}
-use Rattle.dlg_core.proofs.Keeps.Mark.{one_of_all}
-use Rattle.dlg_core.proofs.Keeps.Trace.{with_scan, open_not_scanned}
+use Rattle.dlg_core.proofs.Each.{colour_each, null_beyond}
+use Rattle.dlg_core.proofs.Truths.{one_of_all}
+use Rattle.dlg_core.proofs.Changes.Pass.{with_scan, open_not_scanned}
 
 pub kind_no_cell : (x : Field) (d : ℕ) → is_kind_field x ≡ true → x ≢ field.Cell d
 kind_no_cell field.Null d h e = absurd cc
 kind_no_cell (field.Num n) d h e = absurd cc
 kind_no_cell (field.Cell c) d h e = absurd cc
-
--- beyond a row fields are null
-pub null_beyond : (s : State) (c f : ℕ) → IsShaped s → 6 ≤ f → field_of s c f ≡ field.Null
-null_beyond s c f range past = elim (cases_lt c s.cells) [
-  | inl lt ↦
-      let six = range.cells_fit.six_fields c lt in
-      get_or_past (row_in s.rows c) f field.Null (omega arith)
-  | inr out ↦
-      let fit = range.cells_fit.rows_fit in
-      let empty : row_in s.rows c ≡ [] = get_or_past s.rows c [] (omega arith) in
-      ap (λ row. get_or row f field.Null) empty
-]
 
 -- only payload fields name cells
 pub payload_names : (s : State) (c d f : ℕ) → IsShaped s → IsConsistent s → field_of s c f ≡ field.Cell d → f < 5

@@ -12,7 +12,7 @@ use Rattle.std.proofs.Common.{◌≡◌, ◌≢◌, ◌==◌, ◌&&◌, ◌⊎�
 use Rattle.std.specs.Prelude.{slice_set}
 use Rattle.std.proofs.Math.ListN.{set}
 use Rattle.std.specs.List.{All}
-use Rattle.std.proofs.lemmas.Bool.{and_parts, and_cases, or_cases, ltb-true, eqb-true, not-false, not-true}
+use Rattle.std.proofs.lemmas.Bool.{and_parts, and_cases, ltb-true, eqb-true, not-false, not-true}
 use Rattle.std.proofs.lemmas.List.{get_or-set_same, set-get_or}
 use Rattle.std.proofs.lemmas.List.Elements.{All-push, All-weaker}
 use Rattle.cell_words.specs.declared.colours.Colour.{Colour}
@@ -28,7 +28,6 @@ use Rattle.core_machine.specs.declared.events.Event.TheVariants as event
 use Rattle.core_machine.specs.declared.progress.Sweeping.{Sweeping}
 use Rattle.core_machine.specs.Operations.{is_in}
 use Rattle.core_machine.specs.State.{State, colour_of, field_of, presence_in, presence_of, own_in, own_of, held_of}
-use Rattle.core_machine.specs.Sweep.{is_done}
 use Rattle.core_machine.specs.Words.{claimed, born_colour}
 use Rattle.core_machine.specs.InRange.{IsShaped}
 use Rattle.core_machine.specs.Next.{can, after}
@@ -38,9 +37,10 @@ use Rattle.core_machine.proofs.Conditions.{claim_needs}
 use Rattle.dlg_core.specs.Consistent.{IsConsistent, IsCutOff, IsNotDue, MarkStands, NoRawBlack}
 use Rattle.dlg_core.specs.Facts.{is_live, live, unswept, status_fits, async_fits, IsStaleMode, IsStale, is_cleared, marks_count}
 use Rattle.dlg_core.proofs.Each.{colour_each, own_each, all_held, all_from_held, all_both}
-use Rattle.dlg_core.proofs.Keeps.Holding.{inside_below, holds_more}
-use Rattle.dlg_core.proofs.Keeps.Write.{async_mode}
-use Rattle.dlg_core.proofs.Truths.{same_stage_is}
+use Rattle.dlg_core.proofs.Truths.{async_mode}
+use Rattle.core_machine.proofs.OneOperation.{inside_there}
+use Rattle.dlg_core.proofs.HeldLists.{holds_more}
+use Rattle.dlg_core.proofs.Changes.Live.{unswept_where}
 
 -- the part with a new cell more
 abbrev pub with_claim : Own → ℕ → Own
@@ -258,18 +258,6 @@ white_or_black status.Async m c = async_born m.stage m.position c
 white_or_black status.Sync1 m c = inl refl
 white_or_black status.Sync2 m c = inl refl
 
--- an unswept cell is at the position or ahead of it, in the sweep
-pub unswept_where : (now : Control) (sweep : Sweeping) (c : ℕ) → unswept now sweep c ≡ true
-    → (now.stage ≡ stage.Sweep) × (now.position ≤ c)
-unswept_where now sweep c h =
-    let r = and_parts _ _ h in (
-      same_stage_is now.stage stage.Sweep r.0,
-      elim (or_cases (nat_lt now.position c) ((c == now.position) && not (is_done sweep)) r.1) [
-        | inl lt ↦ let below = ltb-true now.position c lt in omega arith
-        | inr here ↦ let same = eqb-true c now.position (and_parts _ _ here).0 in omega arith
-      ],
-    )
-
 -- to an async mutator an unswept cell is born black
 pub unswept_born : (looked : Stage) (position here c : ℕ) → async_fits looked stage.Sweep ≡ true
     → (looked ≡ stage.Sweep → position ≤ here) → here ≤ c → async_claim_colour_of looked position c ≡ colour.Black
@@ -330,7 +318,7 @@ pub born_fits : (s : State) (i c : ℕ) (m : Control) → IsShaped s → IsConsi
 born_fits s i c m range k inside has =
     let own = (presence_of s i).status in
     let stale : IsStale own m s.control = subst (λ x. IsStaleMode own x s.control) has (k.mutators.modes i) in
-    let fits = k.mutators.statuses i (inside_below s i range inside) in
+    let fits = k.mutators.statuses i (inside_there s range i inside) in
     let cases = white_or_black own m c in
     record {
       not_blue = (λ e. elim cases [ inl white ↦ absurd cc | inr black ↦ absurd cc ]);

@@ -23,9 +23,8 @@ use Rattle.dlg_core.specs.Consistent.{IsConsistent, NoRawBlack}
 use Rattle.dlg_core.specs.Facts.{is_live, live, status_fits, marks_count, is_cleared, anchor_counts}
 use Rattle.dlg_core.proofs.Changes.Live.{live_facts, live_moves, not_sweeping, live_outside, other_stage, status_known}
 use Rattle.dlg_core.proofs.Changes.Pass.{pass_kept}
-use Rattle.dlg_core.proofs.Changes.Shade.{with_shade, shade_kept, sweeps}
+use Rattle.dlg_core.proofs.Changes.Shade.{with_shade, shade_kept, sweeps, shaded_there, cleared_blue}
 use Rattle.dlg_core.proofs.Each.{colour_each, colour_else}
-use Rattle.dlg_core.proofs.Keeps.Mark.{shaded_there}
 
 -- What clearing leaves of a colour.
 
@@ -34,10 +33,6 @@ cleared_not_black colour.Blue e = absurd cc
 cleared_not_black colour.White e = absurd cc
 cleared_not_black colour.Gray e = absurd cc
 cleared_not_black colour.Black e = absurd cc
-
-pub cleared_blue : (x : Colour) → cleared x ≡ colour.Blue → x ≡ colour.Blue
-cleared_blue colour.Blue e = refl
-cleared_blue _ e = absurd cc
 
 pub cleared_live : (x : Colour) → is_live (cleared x) false ≡ is_live x false
 cleared_live colour.Blue = refl

@@ -31,16 +31,14 @@ use Rattle.core_machine.specs.Words.{is_handshake, same_stage}
 use Rattle.core_machine.specs.InRange.{IsShaped, StageFits, SweepFits}
 use Rattle.core_machine.specs.Next.{can, after}
 use Rattle.core_machine.specs.Own.{no_own}
-use Rattle.dlg_core.specs.Consistent.{IsConsistent, Statuses, Answered, Modes, Marks, ClearedIsNotBlack, AnchorIsMarked, Traced, CleanPass, PassWaits, Scans, UnsweptIsNotGray, Wipes, FoundIsBlack, MarkStands, TracingConsistent, SweepConsistent}
+use Rattle.dlg_core.specs.Consistent.{IsConsistent, Statuses, Answered, Modes, Marks, MarkStands, TracingConsistent, SweepConsistent}
 use Rattle.dlg_core.specs.Facts.{status_fits, mode_fits, async_fits, sync1_fits, sync2_fits, IsStale, IsStaleMode, marks_count, is_live, live, unswept, is_cleared, anchor_counts, all_in, child_in}
-use Rattle.dlg_core.proofs.Changes.Live.{LiveFacts, live_facts, live_moves, live_outside, not_sweeping, other_stage}
-use Rattle.dlg_core.proofs.Keeps.Mark.{one_of_all, is_white, white_is_white, white_cut_off}
-use Rattle.dlg_core.proofs.Keeps.Trace.{no_scan_is}
-use Rattle.dlg_core.proofs.Truths.{or_here, or_later}
+use Rattle.dlg_core.proofs.Changes.Live.{LiveFacts, live_facts, live_moves, live_outside, not_sweeping, other_stage, unswept_where}
+use Rattle.dlg_core.proofs.Truths.{or_here, or_later, one_of_all, no_scan_is}
 use Rattle.dlg_core.proofs.Each.{all_held, all_from_held}
-use Rattle.dlg_core.proofs.Keeps.Claim.{unswept_where}
 use Rattle.core_machine.specs.Places.{holds}
 use Rattle.core_machine.proofs.Conditions.{post_idle_needs, post_sync1_needs, post_clear_needs, post_sync2_needs, post_trace_needs, post_sweep_needs}
+use Rattle.dlg_core.proofs.CutOff.{is_white, white_is_white, white_cut_off}
 
 -- Modes that fit one stage fit the next.
 

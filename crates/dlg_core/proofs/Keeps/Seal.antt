@@ -20,9 +20,9 @@ use Rattle.dlg_core.specs.Facts.{live, is_kind_field}
 use Rattle.dlg_core.proofs.Changes.Field.{with_field}
 use Rattle.dlg_core.proofs.Changes.Shade.{wiped_not_live}
 use Rattle.dlg_core.proofs.Each.{field_each}
-use Rattle.dlg_core.proofs.Keeps.Holding.{at_place}
-use Rattle.dlg_core.proofs.Keeps.Presence.{box_not_raw}
 use Rattle.dlg_core.proofs.Safety.{live_not_blue}
+use Rattle.dlg_core.proofs.HeldLists.{at_place}
+use Rattle.dlg_core.proofs.Truths.{box_not_raw}
 
 pub kind_is_kind : (x : Kind) → is_kind_field (kind_field x) ≡ true
 kind_is_kind kind.Record = refl

@@ -5,32 +5,30 @@
 -- Free       it has null fields by now, and was not live before it is blue.
 -- Whiten     a black cell that is unswept was live, and a white one that is swept is.
 -- Advance    the next cell is unswept as it was.
-use Rattle.std.proofs.Common.{◌≡◌, ◌≢◌, ◌==◌, ◌&&◌, ◌||◌, inl, inr, ℕ, Bool, true, false, not, nat_lt, List, [], length, get_or, slice_index, ◌+◌, ◌<◌, arith, refl, sym, subst, ◌∙◌, ap, eq-eqb}
+use Rattle.std.proofs.Common.{◌≡◌, ◌≢◌, ◌==◌, ◌&&◌, ◌||◌, inl, inr, ℕ, Bool, true, false, not, nat_lt, [], length, get_or, slice_index, ◌+◌, ◌<◌, arith, refl, sym, subst, ◌∙◌, ap, eq-eqb}
 use Rattle.std.specs.Prelude.{slice_set}
-use Rattle.std.proofs.lemmas.Bool.{and_from, ltb-true, lt-ltb, le-ltb, ne_eqb, eqb-true, cases_lt, cases_eq, not_from_false}
+use Rattle.std.proofs.lemmas.Bool.{and_from, lt-ltb, le-ltb, ne_eqb, cases_lt, cases_eq, not_from_false}
 use Rattle.std.proofs.lemmas.List.{get_or-set_same}
 use Rattle.cell_words.specs.declared.colours.Colour.{Colour}
 use Rattle.cell_words.specs.declared.colours.Colour.TheVariants as colour
 use Rattle.cell_words.specs.declared.controls.Stage.TheVariants as stage
-use Rattle.cell_words.specs.declared.fields.Field.{Field}
 use Rattle.cell_words.specs.declared.fields.Field.TheVariants as field
 use Rattle.core_machine.specs.declared.events.Event.TheVariants as event
 use Rattle.core_machine.specs.declared.progress.Sweeping.{Sweeping}
 use Rattle.core_machine.specs.declared.progress.Sweeping.TheVariants as sweeping
 use Rattle.core_machine.specs.Collector.{sweep_of, wiped}
 use Rattle.core_machine.specs.State.{State, colour_in, colour_of, field_in, field_of, row_in, own_in, set_field}
-use Rattle.core_machine.specs.Sweep.{is_done, is_fresh, may_wipe, may_free, is_black_found, wiped_count}
+use Rattle.core_machine.specs.Sweep.{is_done, wiped_count}
 use Rattle.core_machine.specs.Words.{is_gray, is_raw_kind, is_box_kind, same_stage}
-use Rattle.core_machine.specs.InRange.{IsShaped, StageFits, SweepFits}
+use Rattle.core_machine.specs.InRange.{IsShaped}
 use Rattle.core_machine.specs.Next.{can, after}
 use Rattle.core_machine.proofs.Conditions.{sweep_look_needs, advance_needs}
 use Rattle.dlg_core.specs.Consistent.{IsConsistent, IsWiping}
 use Rattle.dlg_core.specs.Facts.{is_live, live, unswept, is_kind_field}
-use Rattle.dlg_core.proofs.Changes.Shade.{sweeps, here_unswept, wiped_not_live}
-use Rattle.dlg_core.proofs.Changes.Sweep.{SweepStep, sweep_kept, swept_on, at_position, same_unswept, unswept_elsewhere, done_swept}
-use Rattle.dlg_core.proofs.Each.{colour_each, colour_else, field_each, all_held}
-use Rattle.dlg_core.proofs.Keeps.Blacken.{null_beyond}
-use Rattle.dlg_core.proofs.Truths.{or_here, or_later}
+use Rattle.dlg_core.proofs.Changes.Shade.{here_unswept, wiped_not_live}
+use Rattle.dlg_core.proofs.Changes.Sweep.{SweepStep, sweep_kept, swept_on, at_position, same_unswept, unswept_elsewhere, done_swept, busy_now, position_below}
+use Rattle.dlg_core.proofs.Each.{colour_each, colour_else, field_each, all_held, null_beyond, field_elsewhere}
+use Rattle.dlg_core.proofs.Truths.{or_here, or_later, free_is, black_found_is, wipe_is}
 
 -- Nothing but the word on the cell changes, and the cell stays unswept or is blue.
 
@@ -55,10 +53,6 @@ word_step s sweep k now same less wipes found = record {
 }
 
 -- SweepLook.
-
-pub fresh_is : (sweep : Sweeping) → is_fresh sweep ≡ true → sweep ≡ sweeping.Fresh
-fresh_is sweeping.Fresh h = refl
-fresh_is _ h = absurd cc
 
 -- a blue cell is as little live whether it is done or not
 pub blue_done : (s : State) (c : ℕ) → colour_of s s.control.position ≡ colour.Blue
@@ -107,11 +101,6 @@ sweep_look_keeps s range k h =
 
 -- Work on one cell.
 
--- the cell is worked on in the sweep
-pub busy_now : (s : State) (sweep : Sweeping) → IsShaped s → s.collector.sweep ≡ sweep → sweep ≢ sweeping.Fresh → s.control.stage ≡ stage.Sweep
-busy_now s sweep range is busy =
-    sweeps s.cells s.control.position s.collector.sweep s.control.stage range.control_fits.stage_fits (λ e. busy (sym is ∙ e))
-
 -- the cell with another colour, done: as live as it was
 pub done_live : (s : State) (x : Colour) (sweep : Sweeping) → s.control.position < length s.colours → s.control.stage ≡ stage.Sweep
     → s.collector.sweep ≡ sweep → sweep ≢ sweeping.Done
@@ -132,29 +121,7 @@ done_not_gray s x k lt c h =
     (λ far. absurd (let gone = done_swept s.control in cc))
     (λ d other far. k.sweep.unswept d (done_less s d far)) c h
 
-pub busy_below : (cells p : ℕ) (sweep : Sweeping) → SweepFits cells p sweep → sweep ≢ sweeping.Fresh → p < cells
-busy_below cells p sweeping.Fresh fits busy = absurd (busy refl)
-busy_below cells p (sweeping.Wiping k) fits busy = fits.0
-busy_below cells p sweeping.BlackFound fits busy = fits
-busy_below cells p sweeping.Done fits busy = fits
-
--- a cell that is worked on is one that there is
-pub position_below : (s : State) (sweep : Sweeping) → IsShaped s → s.collector.sweep ≡ sweep → sweep ≢ sweeping.Fresh
-    → s.control.position < length s.colours
-position_below s sweep range is busy =
-    let now = busy_now s sweep range is busy in
-    let fits : StageFits s.cells s.control.position sweep stage.Sweep
-    = subst (λ x. StageFits s.cells s.control.position sweep x) now
-    (subst (λ w. StageFits s.cells s.control.position w s.control.stage) is range.control_fits.stage_fits) in
-    let fit = range.cells_fit.colours_fit in
-    let below = busy_below s.cells s.control.position sweep fits busy in
-    omega arith
-
 -- Free.
-
-pub free_is : (sweep : Sweeping) → may_free sweep ≡ true → sweep ≡ sweeping.Wiping 6
-free_is (sweeping.Wiping k) h = ap (λ n. sweeping.Wiping n) (eqb-true k 6 h)
-free_is _ h = absurd cc
 
 pub free_keeps : (s : State) → IsShaped s → IsConsistent s → can s event.Free ≡ true → IsConsistent (after s event.Free)
 free_keeps s range k h =
@@ -188,10 +155,6 @@ free_keeps s range k h =
 
 -- Whiten.
 
-pub black_found_is : (sweep : Sweeping) → is_black_found sweep ≡ true → sweep ≡ sweeping.BlackFound
-black_found_is sweeping.BlackFound h = refl
-black_found_is _ h = absurd cc
-
 pub whiten_keeps : (s : State) → IsShaped s → IsConsistent s → can s event.Whiten ≡ true → IsConsistent (after s event.Whiten)
 whiten_keeps s range k h =
     let p = s.control.position in
@@ -218,10 +181,6 @@ whiten_keeps s range k h =
     }
 
 -- Advance.
-
-pub done_is : (sweep : Sweeping) → is_done sweep ≡ true → sweep ≡ sweeping.Done
-done_is sweeping.Done h = refl
-done_is _ h = absurd cc
 
 pub not_both : (a b : Bool) → a ≡ false → b ≡ false → (a || (b && true)) ≡ false
 not_both a b p q = ap (λ x. x || (b && true)) p ∙ ap (λ x. x && true) q
@@ -270,16 +229,6 @@ advance_keeps s range k h =
     }
 
 -- Wipe.
-
-pub wipe_is : (sweep : Sweeping) → may_wipe sweep ≡ true → (n : ℕ) × (sweep ≡ sweeping.Wiping n) × (n < 6)
-wipe_is (sweeping.Wiping n) h = (n, refl, ltb-true n 6 h)
-wipe_is _ h = absurd cc
-
--- another cell's fields stay
-pub field_elsewhere : (rows : List (List Field)) (p f : ℕ) (x : Field) (c : ℕ) → c ≢ p → (g : ℕ)
-    → field_in (set_field rows p f x) c g ≡ field_in rows c g
-field_elsewhere rows p f x c other g =
-    field_each (λ d h y. d ≢ p → y ≡ field_in rows d h) rows p f x (λ ne. absurd (ne refl)) (λ d h ne. refl) c g other
 
 pub wipe_at : (s : State) (n : ℕ) → IsShaped s → IsConsistent s → s.collector.sweep ≡ sweeping.Wiping n → n < 6
     → IsConsistent (swept_on s s.colours (set_field s.rows s.control.position n field.Null) s.control.position (sweeping.Wiping (n + 1))

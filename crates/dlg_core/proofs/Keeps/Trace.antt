@@ -1,12 +1,11 @@
--- See, Scan, Shade and Blacken: tracing.
+-- See, Scan and Shade: tracing.
 --
 -- See      a pass that starts over has the whole heap ahead of it; a cell that is not gray may be passed
 --          by; a gray one is scanned with all its fields open, so nothing is cut off that was not.
 -- Scan     one field more is scanned. It holds no cell, or its cell is the child.
 -- Shade    the child is shaded, and its field counted as scanned before.
--- Blacken  every payload field is scanned, so what the cell names was due before.
-use Rattle.std.proofs.Common.{◌≡◌, ◌≢◌, ◌==◌, ◌&&◌, ◌⊎◌, if◌then◌else◌, inl, inr, ℕ, Bool, true, false, not, nat_lt, Option, Some, None, is_none, ◌+◌, ◌<◌, ◌≤◌, arith, refl, sym, subst, ◌∙◌, ap, eq-eqb}
-use Rattle.std.proofs.lemmas.Bool.{and_parts, and_from, ltb-true, lt-ltb, eqb-true, cases_lt, cases_order}
+use Rattle.std.proofs.Common.{◌≡◌, ◌≢◌, ◌==◌, ◌&&◌, ◌⊎◌, if◌then◌else◌, inl, inr, ℕ, Bool, true, false, not, nat_lt, Option, Some, None, is_none, ◌+◌, ◌<◌, ◌≤◌, arith, refl, sym, subst, ◌∙◌, ap}
+use Rattle.std.proofs.lemmas.Bool.{and_parts, ltb-true, eqb-true, cases_lt, cases_order}
 use Rattle.cell_words.specs.declared.colours.Colour.{Colour}
 use Rattle.cell_words.specs.declared.colours.Colour.TheVariants as colour
 use Rattle.cell_words.specs.declared.controls.Stage.TheVariants as stage
@@ -22,9 +21,9 @@ use Rattle.core_machine.specs.Next.{can, after}
 use Rattle.core_machine.proofs.Conditions.{see_needs}
 use Rattle.dlg_core.specs.Consistent.{IsConsistent, CleanPass, IsCutOff, IsScan}
 use Rattle.dlg_core.specs.Facts.{is_live, live, unswept, is_open, scanned_count, scanned_count_at, child_in, all_in, is_cleared}
-use Rattle.dlg_core.proofs.Changes.Pass.{pass_kept}
-use Rattle.dlg_core.proofs.Changes.Shade.{with_shade, shade_kept}
-use Rattle.dlg_core.proofs.Keeps.Mark.{shaded_there}
+use Rattle.dlg_core.proofs.Changes.Pass.{pass_kept, with_scan, open_not_scanned}
+use Rattle.dlg_core.proofs.Changes.Shade.{with_shade, shade_kept, shaded_there}
+use Rattle.dlg_core.proofs.Truths.{no_scan_is}
 
 -- See.
 
@@ -131,10 +130,6 @@ restarted_same c cells =
       | false ↦ (refl, refl)
     ]
 
-pub no_scan_is : (scan : Option Scanning) → is_none scan ≡ true → scan ≡ None
-no_scan_is None h = refl
-no_scan_is (Some x) h = absurd cc
-
 pub see_keeps : (s : State) (c : ℕ) → IsConsistent s → can s (event.See c) ≡ true → IsConsistent (after s (event.See c))
 see_keeps s c k h =
     let needs = see_needs s c h in
@@ -145,10 +140,6 @@ see_keeps s c k h =
     seen_kept t c (colour_of s c) (restart_kept s k now needs.answered rests) now (ap all_in same.0 ∙ needs.answered) (same.1 ∙ rests) refl
 
 -- Scan and Shade.
-
--- the state with another scan
-abbrev pub with_scan : State → Option Scanning → State
-with_scan s scan = record s { collector = record s.collector { scan = scan } }
 
 -- what a scan that is a step further owes
 pub record FurtherFits (s : State) (x y : Scanning) : Type 0 where
@@ -168,15 +159,6 @@ open_from x c f le =
       | true ↦ λ h. absurd (let lt = ltb-true f (scanned_count x) h in omega arith)
       | false ↦ λ h. elim (c == x.cell) as (λ b. not (b && false) ≡ true) [ true ↦ refl | false ↦ refl ]
     ] refl
-
--- an open field of the cell under scan is not scanned
-pub open_not_scanned : (x : Scanning) (f : ℕ) → is_open (Some x) x.cell f ≡ true → scanned_count x ≤ f
-open_not_scanned x f h = elim (cases_lt f (scanned_count x)) [
-  | inl lt ↦ absurd (
-      let shut : is_open (Some x) x.cell f ≡ false
-      = ap not (and_from (x.cell == x.cell) (nat_lt f (scanned_count x)) (eq-eqb x.cell x.cell refl) (lt-ltb f (scanned_count x) lt)) in cc)
-  | inr le ↦ le
-]
 
 -- a field of another cell is open
 pub open_away : (x y : Scanning) (c f : ℕ) → y.cell ≡ x.cell → (c == x.cell) ≡ false → is_open (Some y) c f ≡ true

@@ -4,7 +4,7 @@
 -- Poll       who has the requested status is noted as having answered.
 -- AnswerOut  a mutator that is out takes the requested status. It holds nothing and has no mode, so
 --            nothing is owed for it.
-use Rattle.std.proofs.Common.{◌≡◌, ◌≢◌, ℕ, zero, suc, Bool, true, false, List, [], ◌∷◌, Option, Some, None, ◌<◌, ◌≤◌, arith, refl, sym, subst, ◌∙◌, ap, if◌then◌else◌}
+use Rattle.std.proofs.Common.{◌≡◌, ◌≢◌, ℕ, zero, suc, Bool, true, false, List, [], ◌∷◌, ◌<◌, arith, refl, sym, subst, ap, if◌then◌else◌}
 use Rattle.std.specs.Prelude.{slice_set}
 use Rattle.std.proofs.Math.ListN.{set}
 use Rattle.std.specs.List.{All}
@@ -12,7 +12,6 @@ use Rattle.std.proofs.lemmas.Bool.{and_parts, and_from, not-true}
 use Rattle.std.proofs.lemmas.List.{get_or-set_same, set-get_or}
 use Rattle.std.proofs.lemmas.List.Elements.{All-nil}
 use Rattle.cell_words.specs.declared.colours.Colour.TheVariants.{White}
-use Rattle.cell_words.specs.declared.controls.Control.{Control}
 use Rattle.cell_words.specs.declared.controls.Stage.{Stage}
 use Rattle.cell_words.specs.declared.controls.Stage.TheVariants as stage
 use Rattle.cell_words.specs.declared.presences.Status.{Status}
@@ -25,25 +24,13 @@ use Rattle.core_machine.specs.Words.{same_status, is_handshake, may_answer_out}
 use Rattle.core_machine.specs.InRange.{IsShaped}
 use Rattle.core_machine.specs.Next.{can, after}
 use Rattle.dlg_core.specs.Consistent.{IsConsistent, MarkStands, NoRawBlack}
-use Rattle.dlg_core.specs.Facts.{status_fits, mode_fits, IsStaleMode, all_in}
+use Rattle.dlg_core.specs.Facts.{status_fits, all_in}
 use Rattle.dlg_core.proofs.Changes.Pass.{pass_kept}
-use Rattle.dlg_core.proofs.Changes.Status.{status_kept, with_status, StatusFits}
+use Rattle.dlg_core.proofs.Changes.Status.{status_kept, with_status, StatusFits, stale_on}
 use Rattle.dlg_core.proofs.Each.{set_each}
 use Rattle.dlg_core.proofs.Truths.{same_status_is}
 
 -- Duty.
-
--- a mode is as stale to a control with the same stage and a position that is not less
-pub stale_on : (own : Status) (mode : Option Control) (now later : Control) → later.stage ≡ now.stage
-    → (now.stage ≡ stage.Sweep → now.position ≤ later.position) → IsStaleMode own mode now → IsStaleMode own mode later
-stale_on own None now later same far k = tt
-stale_on own (Some m) now later same far k = record {
-  fits = subst (λ x. mode_fits own m.stage x ≡ true) (sym same) k.fits;
-  position = (λ looked sweeps.
-      let s = sym same ∙ sweeps in
-      let a = k.position looked s in
-      let b = far s in omega arith);
-}
 
 pub duty_keeps : (s : State) (on : Bool) → IsConsistent s → IsConsistent (after s (event.Duty on))
 duty_keeps s on k = record {

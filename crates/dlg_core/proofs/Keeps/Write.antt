@@ -8,11 +8,10 @@
 use Rattle.std.proofs.Common.{◌≡◌, ◌≢◌, ◌==◌, ◌&&◌, ◌⊎◌, if◌then◌else◌, inl, inr, ℕ, Bool, true, false, List, [], ◌∷◌, Option, Some, None, is_some, ◌<◌, refl, sym, subst, ◌∙◌, ap, arith}
 use Rattle.std.specs.List.{All}
 use Rattle.std.proofs.lemmas.Bool.{and_parts, or_cases, eqb-true}
-use Rattle.std.proofs.lemmas.List.Elements.{All-head, All-tail, All-map}
+use Rattle.std.proofs.lemmas.List.Elements.{All-head, All-tail}
 use Rattle.cell_words.specs.declared.colours.Colour.{Colour}
 use Rattle.cell_words.specs.declared.colours.Colour.TheVariants as colour
 use Rattle.cell_words.specs.declared.controls.Control.{Control}
-use Rattle.cell_words.specs.declared.controls.Stage.{Stage}
 use Rattle.cell_words.specs.declared.controls.Stage.TheVariants as stage
 use Rattle.cell_words.specs.declared.fields.Field.{Field}
 use Rattle.cell_words.specs.declared.fields.Field.TheVariants as field
@@ -27,30 +26,18 @@ use Rattle.core_machine.specs.Words.{written, same_field, barrier_in, is_raw_kin
 use Rattle.core_machine.specs.InRange.{IsShaped}
 use Rattle.core_machine.specs.Next.{can, after}
 use Rattle.core_machine.specs.Own.{spent}
-use Rattle.core_machine.specs.Places.{holds_marked, is_marked_value, marks_stand, names_rightly, unmark}
+use Rattle.core_machine.specs.Places.{holds_marked, is_marked_value, marks_stand, names_rightly}
 use Rattle.core_machine.specs.Conditions.{CanWrite}
 use Rattle.core_machine.proofs.Conditions.{write_needs, fill_needs}
-use Rattle.dlg_core.specs.Consistent.{IsConsistent, IsNotDue, MarkStands, NoRawBlack}
+use Rattle.dlg_core.specs.Consistent.{IsConsistent, IsNotDue, MarkStands}
 use Rattle.dlg_core.specs.Facts.{live, status_fits, async_fits, marks_count, IsStaleMode}
 use Rattle.dlg_core.proofs.Changes.Field.{FieldFits, field_kept, with_field}
-use Rattle.dlg_core.proofs.Changes.Own.{own_kept, OwnFits}
+use Rattle.dlg_core.proofs.Changes.Own.{own_kept, spent_fits}
 use Rattle.dlg_core.proofs.Each.{all_held}
-use Rattle.dlg_core.proofs.Keeps.Holding.{inside_below, at_place, none_marked, holds_unmark}
-use Rattle.dlg_core.proofs.Keeps.Mark.{one_of_all}
-use Rattle.dlg_core.proofs.Keeps.Presence.{not_white_outside}
-
--- The own part that an operation leaves.
-
-pub spent_fits : (s : State) (i : ℕ) → IsConsistent s → is_in s i ≡ true → OwnFits s i (spent (own_of s i))
-spent_fits s i k inside = record {
-  mode = tt;
-  out = (λ o. absurd cc);
-  marks = (λ m. none_marked s.colours (held_of s i));
-  held_live = All-map (λ place. live s.colours s.control s.collector.sweep place.cell ≡ true) unmark (held_of s i) (k.cells.held_live i);
-  raw = (λ c raw h. sym (holds_unmark (held_of s i) c) ∙ h);
-  raw_not_black = (λ sync2. All-map (NoRawBlack s.colours s.rows) unmark (held_of s i) (k.cells.raw_not_black i sync2));
-  due = (λ now async set cut old. All-map (λ place. set place.cell ≡ false) unmark (held_of s i) (old.held i async));
-}
+use Rattle.core_machine.proofs.OneOperation.{inside_there}
+use Rattle.dlg_core.proofs.HeldLists.{at_place}
+use Rattle.dlg_core.proofs.Truths.{one_of_all, async_mode}
+use Rattle.dlg_core.proofs.CutOff.{not_white_outside}
 
 -- Statuses while the collector traces.
 
@@ -63,7 +50,7 @@ pub status_in_trace : (s : State) (i : ℕ) → IsShaped s → IsConsistent s �
     → ((presence_of s i).status ≡ status.Async) ⊎ ((presence_of s i).status ≡ status.Sync2)
 status_in_trace s i range k inside now =
     traced_status (presence_of s i).status
-    (subst (λ x. status_fits x (presence_of s i).status ≡ true) now (k.mutators.statuses i (inside_below s i range inside)))
+    (subst (λ x. status_fits x (presence_of s i).status ≡ true) now (k.mutators.statuses i (inside_there s range i inside)))
 
 -- Marks.
 
@@ -83,11 +70,6 @@ pub value_not_white : (s : State) (i w : ℕ) → IsConsistent s → s.control.s
 value_not_white s i w k now h =
     marked_stands s.colours (held_of s i) w
     (k.mutators.marks i (subst (λ x. marks_count x (presence_of s i).status ≡ true) (sym now) refl)) h
-
--- an async mutator's mode is of the tracing that goes on
-pub async_mode : (looked : Stage) → async_fits looked stage.Trace ≡ true → looked ≡ stage.Trace
-async_mode stage.Trace h = refl
-async_mode _ h = absurd cc
 
 -- the marks that a write found: the old value's, and in sync2 the new value's too
 pub record WriteMarks (own : Status) (held : List Held) (old new : Field) : Type 0 where
@@ -220,7 +202,7 @@ fill_keeps s i place f value range k h =
           | inr scan ↦
               let answers = (k.tracing.scans scan.0 scan.1).answers in
               let async : (presence_of s i).status ≡ status.Async
-              = k.mutators.answered i (inside_below s i range needs.inside) (subst (λ x. is_handshake x ≡ true) (sym now) refl)
+              = k.mutators.answered i (inside_there s range i needs.inside) (subst (λ x. is_handshake x ≡ true) (sym now) refl)
               (one_of_all s.collector.answered i answers)
               ∙ ap requested_of now in cc
         ])
