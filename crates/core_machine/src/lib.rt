@@ -11,7 +11,9 @@
 //! and every event keeps them.
 //!
 //! Reading order: `events`; specs/State with its parts Own and Collector; the event table in
-//! specs/Operations, Mutation, Handshakes, Tracing, Sweep and Next; then `opening`, `taking` and `machine`.
+//! specs/Operations, Mutation, Handshakes, Tracing, Sweep and Next; specs/Conditions, what each
+//! event needs under names; then `opening`, `taking` and `machine`. For the layers that share the
+//! words among threads: specs/Table, WordOperations, Frames and Trail.
 #![tactic(auto)]
 
 mod collector_conditions;

@@ -167,15 +167,3 @@ fn the_first_word_at_fault_counts(rt: HostRuntime) -> Result<(), Fail> {
     }
     Ok(())
 }
-
-#[test]
-fn an_unlinked_cell_is_swept(rt: HostRuntime) -> Result<(), Fail> {
-    let alloc = rt.alloc();
-    let bytes = b"core 3 1 8\nbegin 0\nlook 0\nclaim 0 1\nseal 0 1 record\nend 0\nshow 1\n\
-        plain\nplain\nplain\nplain\nplain\nplain\nshow 1\nshow 3\nshow 0\n";
-    let schedule = read_schedule(alloc, bytes.as_slice())?;
-    let text = "cell 1 white - - - - - =1 freed 0\ncell 1 blue - - - - - - freed 1\n\
-        not now 15\ndone 48\nfree 2\n";
-    assert_eq!(rt; replay(alloc, &schedule)?.as_slice(), text.as_bytes());
-    Ok(())
-}

@@ -1,4 +1,4 @@
-//! Five schedules that were worked out by hand, line by line, with their texts.
+//! Schedules that were worked out by hand, line by line, with their texts.
 use core_replay::*;
 use std::alloc::Global;
 use std::test::Fail;
@@ -47,6 +47,10 @@ fn worked_schedules_have_their_texts(rt: HostRuntime) -> Result<(), Fail> {
             scan\nscan\nscan\nscan\nblacken\nsee 0\nsee 1\nread 0 0 0\nread 0 1 0\nlook 0\n\
             mark 0 2\nsee 2\nscan\nshade\nscan\nscan\nscan\nscan\nblacken\nsee 2\npost sweep\n",
             "not now 43\ndone 49\nfree 0\n",
+        ),
+        (
+            "core 2 1 1\nshow 0\nshow 2\nshow 0\n",
+            "cell 0 white - - - - - =2 freed 0\nnot now 3\ndone 0\nfree 1\n",
         ),
     ];
     for (schedule, text) in rows {
