@@ -19,14 +19,21 @@ use Rattle.core_machine.specs.Words.{same_stage}
 -- Of a mutator. A chain of tests falls apart from its end.
 
 pub come_in_needs : (s : State) (i : ℕ) → may_begin s i ≡ true → CanComeIn s i
-come_in_needs s i h = let p = and_parts _ _ h in record { out = not-true _ p.0; not_over = not-true _ p.1 }
+come_in_needs s i h = let p = and_parts _ _ h in
+    record { out = not-true _ p.0; not_over = not-true _ p.1 }
 
 pub read_needs : (s : State) (i place f : ℕ) → read_can s i place f ≡ true → CanRead s i place f
 read_needs s i place f h =
     let r = and_parts _ _ h in
     let q = and_parts _ _ r.0 in
     let p = and_parts _ _ q.0 in
-    record { inside = p.0; there = ltb-true _ _ p.1; payload = leb-true _ _ q.1; room = ltb-true _ _ r.1 }
+    record {
+      inside = p.0;
+      there = ltb-true _ _ p.1;
+      payload = leb-true _ _ q.1;
+      room = ltb-true _ _
+          r.1;
+    }
 
 pub mark_needs : (s : State) (i place : ℕ) → mark_can s i place ≡ true → CanMark s i place
 mark_needs s i place h =
@@ -34,7 +41,8 @@ mark_needs s i place h =
     let p = and_parts _ _ q.0 in
     record { inside = p.0; there = ltb-true _ _ p.1; barrier = q.1 }
 
-pub write_needs : (s : State) (i place f : ℕ) (old new : Field) → write_can s i place f old new ≡ true
+pub write_needs : (s : State) (i place f : ℕ) (old new : Field) → write_can s i place f old new
+    ≡ true
     → CanWrite s i place f old new
 write_needs s i place f old new h =
     let marks = and_parts _ _ h in
@@ -64,7 +72,8 @@ claim_needs s i c h =
     let p = and_parts _ _ q.0 in
     record { inside = p.0; mode = p.1; cell = ltb-true _ _ q.1; room = ltb-true _ _ r.1 }
 
-pub fill_needs : (s : State) (i place f : ℕ) (value : Field) → fill_can s i place f value ≡ true → CanFill s i place f value
+pub fill_needs : (s : State) (i place f : ℕ) (value : Field) → fill_can s i place f value ≡ true
+    → CanFill s i place f value
 fill_needs s i place f value h =
     let clear = and_parts _ _ h in
     let sealed = and_parts _ _ clear.0 in
@@ -170,7 +179,8 @@ answer_out_needs s i h =
     record { handshake = p.0; mutator = ltb-true _ _ p.1; unanswered = not-true _ q.1 }
 
 pub clear_needs : (s : State) → clear_can s ≡ true → CanClear s
-clear_needs s h = let p = and_parts _ _ h in record { now = same_stage_is _ _ p.0; cell = ltb-true _ _ p.1 }
+clear_needs s h = let p = and_parts _ _ h in
+    record { now = same_stage_is _ _ p.0; cell = ltb-true _ _ p.1 }
 
 pub anchor_needs : (s : State) → anchor_can s ≡ true → CanMarkAnchor s
 anchor_needs s h = let p = and_parts _ _ h in record { now = same_stage_is _ _ p.0; answered = p.1 }
@@ -194,7 +204,8 @@ scan_from s (Some x) is h =
 pub scan_needs : (s : State) → scan_can s ≡ true → (x : Scanning) × CanScan s x
 scan_needs s h = scan_from s s.collector.scan refl h
 
-child_from : (s : State) (x : Scanning) (child : Option ℕ) → s.collector.scan ≡ Some x → x.child ≡ child
+child_from : (s : State) (x : Scanning) (child : Option ℕ) → s.collector.scan ≡ Some x → x.child
+    ≡ child
     → not (is_none child) ≡ true → (c : ℕ) × CanShade s x c
 child_from s x None is at h = absurd cc
 child_from s x (Some c) is at h = (c, record { now = is; found = at })
@@ -207,7 +218,8 @@ shade_from s (Some x) is h = (x, child_from s x x.child is refl h)
 pub shade_needs : (s : State) → shade_can s ≡ true → (x : Scanning) × ((c : ℕ) × CanShade s x c)
 shade_needs s h = shade_from s s.collector.scan refl h
 
-blacken_from : (s : State) (scan : Option Scanning) → s.collector.scan ≡ scan → may_blacken scan ≡ true
+blacken_from : (s : State) (scan : Option Scanning) → s.collector.scan ≡ scan → may_blacken scan
+    ≡ true
     → (x : Scanning) × CanBlacken s x
 blacken_from s None is h = absurd cc
 blacken_from s (Some x) is h = (x, record { now = is; end = eqb-true _ _ h })

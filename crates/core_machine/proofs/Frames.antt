@@ -36,7 +36,8 @@ same_presences s i = sym (set-get_or s.presences i no_presence)
 
 same_rows : (s : State) (c f : ℕ) → s.rows ≡ set_field s.rows c f (field_of s c f)
 same_rows s c f =
-    sym (ap (λ (row : List Field). set s.rows c row) (set-get_or (row_in s.rows c) f field.Null) ∙ set-get_or s.rows c _)
+    sym (ap (λ (row : List Field). set s.rows c row) (set-get_or (row_in s.rows c) f field.Null)
+    ∙ set-get_or s.rows c _)
 
 same_colours : (s : State) (c : ℕ) → s.colours ≡ set s.colours c (colour_of s c)
 same_colours s c = sym (set-get_or s.colours c _)
@@ -47,9 +48,16 @@ knows_answered : (found mine : Presence) (wanted : Status) (over : Bool) → Kno
     → Knows mine (answered_out wanted over found)
 knows_answered found mine wanted over k =
     elim (may_answer_out wanted over found) as
-    (λ b. may_answer_out wanted over found ≡ b → Knows mine (cond b (record found { status = wanted }) found)) [
-      | true ↦ λ may. let out : found.inside ≡ false = not-true _ (and_parts _ _ (and_parts _ _ may).0).0 in
-          record { inside = k.inside; over = k.over; status = λ inside. absurd (let is = k.inside in cc) }
+    (λ b. may_answer_out wanted over found ≡ b
+    → Knows mine (cond b (record found { status = wanted }) found)) [
+      | true ↦ λ may. let out : found.inside
+          ≡ false = not-true _ (and_parts _ _ (and_parts _ _ may).0).0 in
+          record {
+            inside = k.inside;
+            over = k.over;
+            status = λ inside. absurd
+                (let is = k.inside in cc);
+          }
       | false ↦ λ may. k
     ] refl
 
@@ -60,8 +68,10 @@ as_large s (event.Begin i) = record { cells = refl; mutators = refl; rooms = ref
 as_large s _ = record { cells = refl; mutators = refl; rooms = refl }
 
 pub parts_framed : (s : State) (e : Event) → Frame s e (maker e)
-parts_framed s (event.Begin i) = record { owns = refl; presences = refl; control = refl; collector = refl }
-parts_framed s (event.Look i) = record { owns = refl; presences = same_presences s i; control = refl; collector = refl }
+parts_framed s (event.Begin
+    i) = record { owns = refl; presences = refl; control = refl; collector = refl }
+parts_framed s (event.Look i) = record
+    { owns = refl; presences = same_presences s i; control = refl; collector = refl }
 parts_framed s (event.Read i place f) =
     record { owns = refl; presences = same_presences s i; control = refl; collector = refl }
 parts_framed s (event.Mark i place) =
@@ -71,22 +81,42 @@ parts_framed s (event.Write i place f old new) =
 parts_framed s (event.Claim i c) =
     record { owns = refl; presences = same_presences s i; control = refl; collector = refl }
 parts_framed s (event.Fill i place f value) =
-    record { owns = same_owns s i; presences = same_presences s i; control = refl; collector = refl }
+    record {
+      owns = same_owns s i;
+      presences = same_presences s i;
+      control = refl;
+      collector = refl;
+    }
 parts_framed s (event.Seal i place kind) =
-    record { owns = same_owns s i; presences = same_presences s i; control = refl; collector = refl }
-parts_framed s (event.Answer i) = record { owns = refl; presences = refl; control = refl; collector = refl }
+    record {
+      owns = same_owns s i;
+      presences = same_presences s i;
+      control = refl;
+      collector = refl;
+    }
+parts_framed s (event.Answer i) = record
+    { owns = refl; presences = refl; control = refl; collector = refl }
 parts_framed s (event.Keep i count from copies) =
     record { owns = refl; presences = same_presences s i; control = refl; collector = refl }
-parts_framed s (event.End i) = record { owns = refl; presences = refl; control = refl; collector = refl }
-parts_framed s (event.Over i) = record { owns = same_owns s i; presences = refl; control = refl; collector = refl }
+parts_framed s (event.End i) = record
+    { owns = refl; presences = refl; control = refl; collector = refl }
+parts_framed s (event.Over i) = record
+    { owns = same_owns s i; presences = refl; control = refl; collector = refl }
 parts_framed s (event.AnswerOut i over) = record {
   owns = refl;
   presences = λ mine j k. set_cases (Knows mine) s.presences i j _ no_presence
-      (λ is there. knows_answered (presence_of s i) mine (wanted_of s) over (subst (λ (n : ℕ). Knows mine (presence_of s n)) is k)) k;
+      (λ is there. knows_answered (presence_of s i) mine (wanted_of s) over
+      (subst (λ (n : ℕ). Knows mine (presence_of s n)) is k)) k;
   control = refl;
   collector = refl;
 }
-parts_framed s _ = record { owns = refl; presences = λ mine j k. k; control = refl; collector = refl }
+parts_framed s _ = record {
+  owns = refl;
+  presences =
+      λ mine j k. k;
+  control = refl;
+  collector = refl;
+}
 
 pub rows_framed : (s : State) (e : Event) → RowsFrame s (after s e) (word_of s e)
 rows_framed s (event.Read i place f) = (_, same_rows s (target_of s i place) f)
@@ -136,12 +166,15 @@ maker_there s (event.Begin i) r h = beginner_there s r i h
 maker_there s (event.Look i) r h = inside_there s r i h
 maker_there s (event.Read i place f) r h = inside_there s r i (read_needs s i place f h).inside
 maker_there s (event.Mark i place) r h = inside_there s r i (mark_needs s i place h).inside
-maker_there s (event.Write i place f old new) r h = inside_there s r i (write_needs s i place f old new h).inside
+maker_there s (event.Write i place f old new) r h = inside_there s r i
+    (write_needs s i place f old new h).inside
 maker_there s (event.Claim i c) r h = inside_there s r i (claim_needs s i c h).inside
-maker_there s (event.Fill i place f value) r h = inside_there s r i (fill_needs s i place f value h).inside
+maker_there s (event.Fill i place f value) r h = inside_there s r i
+    (fill_needs s i place f value h).inside
 maker_there s (event.Seal i place kind) r h = inside_there s r i (seal_needs s i place h).inside
 maker_there s (event.Answer i) r h = inside_there s r i (answer_needs s i h).inside
-maker_there s (event.Keep i count from copies) r h = inside_there s r i (keep_needs s i count from copies h).inside
+maker_there s (event.Keep i count from copies) r h = inside_there s r i
+    (keep_needs s i count from copies h).inside
 maker_there s (event.End i) r h = inside_there s r i h
 maker_there s (event.Over i) r h = beginner_there s r i h
 maker_there s _ r h = tt
@@ -151,17 +184,22 @@ maker_there s _ r h = tt
 pub own_mine : (s : State) (e : Event) (i : ℕ) → IsShaped s → can s e ≡ true → maker e ≡ Some i
     → own_of (after s e) i ≡ own_after (own_of s i) e (found_by s e)
 own_mine s e i r h made =
-    let lt : i < length s.owns = subst (λ (n : ℕ). i < n) (sym r.mutators_fit.owns_fit) (subst (IsMutator s) made (maker_there s e r h)) in
-    ap (λ (owns : List Own). own_in owns i) (mutator_framed s e i made).owns ∙ get_or-set_same s.owns i _ no_own lt
+    let lt : i < length s.owns = subst (λ (n : ℕ). i < n) (sym r.mutators_fit.owns_fit)
+    (subst (IsMutator s) made (maker_there s e r h)) in
+    ap (λ (owns : List Own). own_in owns i) (mutator_framed s e i made).owns
+    ∙ get_or-set_same s.owns i _ no_own lt
 
-pub own_else : (s : State) (e : Event) (i j : ℕ) → maker e ≡ Some i → j ≢ i → own_of (after s e) j ≡ own_of s j
+pub own_else : (s : State) (e : Event) (i j : ℕ) → maker e ≡ Some i → j ≢ i → own_of (after s e) j
+    ≡ own_of s j
 own_else s e i j made other =
-    ap (λ (owns : List Own). own_in owns j) (mutator_framed s e i made).owns ∙ get_or-set_other s.owns i j _ no_own other
+    ap (λ (owns : List Own). own_in owns j) (mutator_framed s e i made).owns
+    ∙ get_or-set_other s.owns i j _ no_own other
 
 pub presence_mine : (s : State) (e : Event) (i : ℕ) → IsShaped s → can s e ≡ true → maker e ≡ Some i
     → presence_of (after s e) i ≡ presence_after (presence_of s i) e (found_by s e)
 presence_mine s e i r h made =
-    let lt : i < length s.presences = subst (λ (n : ℕ). i < n) (sym r.mutators_fit.presences_fit) (subst (IsMutator s) made (maker_there s e r h)) in
+    let lt : i < length s.presences = subst (λ (n : ℕ). i < n) (sym r.mutators_fit.presences_fit)
+    (subst (IsMutator s) made (maker_there s e r h)) in
     ap (λ (ps : List Presence). presence_in ps i) (mutator_framed s e i made).presences
     ∙ get_or-set_same s.presences i _ no_presence lt
 
@@ -176,7 +214,8 @@ begun_knows : (mine now : Presence) (i : ℕ) (found : Found) → Knows mine now
     → Knows (presence_after mine (event.Begin i) found) (presence_after now (event.Begin i) found)
 begun_knows mine now i finds.Stored k = k
 begun_knows mine now i (finds.Control found) k = k
-begun_knows mine now i (finds.Presence found) k = record { inside = refl; over = k.over; status = λ inside. refl }
+begun_knows mine now i
+    (finds.Presence found) k = record { inside = refl; over = k.over; status = λ inside. refl }
 begun_knows mine now i (finds.Colour found) k = k
 begun_knows mine now i (finds.Field found) k = k
 
@@ -185,48 +224,66 @@ pub knows_after : (mine now : Presence) (e : Event) (found : Found) → Knows mi
     → Knows (presence_after mine e found) (presence_after now e found)
 knows_after mine now (event.Begin i) found k = begun_knows mine now i found k
 knows_after mine now (event.Answer i) found k =
-    record { inside = k.inside; over = k.over; status = λ inside. ap next_status_of (k.status inside) }
-knows_after mine now (event.End i) found k = record { inside = refl; over = k.over; status = λ inside. absurd cc }
-knows_after mine now (event.Over i) found k = record { inside = k.inside; over = refl; status = k.status }
+    record {
+      inside = k.inside;
+      over = k.over;
+      status = λ inside. ap next_status_of
+          (k.status inside);
+    }
+knows_after mine now (event.End i) found k = record {
+  inside = refl;
+  over = k.over;
+  status =
+      λ inside. absurd cc;
+}
+knows_after mine now (event.Over i) found k = record
+    { inside = k.inside; over = refl; status = k.status }
 knows_after mine now _ found k = k
 
 -- .. and after any other
-pub knows_else : (s : State) (e : Event) (j : ℕ) (mine : Presence) → maker e ≢ Some j → Knows mine (presence_of s j)
+pub knows_else : (s : State) (e : Event) (j : ℕ) (mine : Presence) → maker e ≢ Some j
+    → Knows mine (presence_of s j)
     → Knows mine (presence_of (after s e) j)
 knows_else s e j mine other k = by_maker (maker e) refl
   where
     by_maker : (who : Option ℕ) → maker e ≡ who → Knows mine (presence_of (after s e) j)
     by_maker None made = (collector_framed s e made).presences mine j k
     by_maker (Some i) made =
-        subst (Knows mine) (sym (presence_else s e i j made (λ is. other (made ∙ ap Some (sym is))))) k
+        subst (Knows mine) (sym (presence_else s e i j made (λ is. other (made
+        ∙ ap Some (sym is))))) k
 
 -- What an event leaves of rows and colours.
 
 pub set_field_other : (rows : List (List Field)) (c f d g : ℕ) (x : Field) → (d ≡ c → g ≡ f → ⊥)
     → field_in (set_field rows c f x) d g ≡ field_in rows d g
 set_field_other rows c f d g x other =
-    set_cases (λ row. get_or row g field.Null ≡ field_in rows d g) rows c d (set (row_in rows c) f x) _
-    (λ is there. get_or-set_other (row_in rows c) f g x field.Null (other is) ∙ ap (λ (n : ℕ). field_in rows n g) (sym is)) refl
+    set_cases (λ row. get_or row g field.Null
+    ≡ field_in rows d g) rows c d (set (row_in rows c) f x) _
+    (λ is there. get_or-set_other (row_in rows c) f g x field.Null (other is)
+    ∙ ap (λ (n : ℕ). field_in rows n g) (sym is)) refl
 
 -- a field of another word stays
 pub field_else : (s : State) (e : Event) (c f : ℕ) → word_of s e ≢ FieldOf c f
     → field_of (after s e) c f ≡ field_of s c f
 field_else s e c f other = by_word (word_of s e) other (rows_framed s e)
   where
-    by_word : (w : Word) → w ≢ FieldOf c f → RowsFrame s (after s e) w → field_of (after s e) c f ≡ field_of s c f
+    by_word : (w : Word) → w ≢ FieldOf c f → RowsFrame s (after s e) w → field_of (after s e) c f
+        ≡ field_of s c f
     by_word TheControl other is = ap (λ (rows : List (List Field)). field_in rows c f) is
     by_word (StatusOf i) other is = ap (λ (rows : List (List Field)). field_in rows c f) is
     by_word (ColourOf d) other is = ap (λ (rows : List (List Field)). field_in rows c f) is
     by_word (FieldOf d g) other is =
         ap (λ (rows : List (List Field)). field_in rows c f) is.1
-        ∙ set_field_other s.rows d g c f is.0 (λ one two. other (λ i. FieldOf (sym one i) (sym two i)))
+        ∙ set_field_other s.rows d g c f is.0
+        (λ one two. other (λ i. FieldOf (sym one i) (sym two i)))
 
 -- the row of another cell stays
 pub row_else : (s : State) (e : Event) (c : ℕ) → ((f : ℕ) → word_of s e ≢ FieldOf c f)
     → row_in (after s e).rows c ≡ row_in s.rows c
 row_else s e c other = by_word (word_of s e) other (rows_framed s e)
   where
-    by_word : (w : Word) → ((f : ℕ) → w ≢ FieldOf c f) → RowsFrame s (after s e) w → row_in (after s e).rows c ≡ row_in s.rows c
+    by_word : (w : Word) → ((f : ℕ) → w ≢ FieldOf c f) → RowsFrame s (after s e) w
+        → row_in (after s e).rows c ≡ row_in s.rows c
     by_word TheControl other is = ap (λ (rows : List (List Field)). row_in rows c) is
     by_word (StatusOf i) other is = ap (λ (rows : List (List Field)). row_in rows c) is
     by_word (ColourOf d) other is = ap (λ (rows : List (List Field)). row_in rows c) is
@@ -235,10 +292,12 @@ row_else s e c other = by_word (word_of s e) other (rows_framed s e)
         ∙ get_or-set_other s.rows d c _ _ (λ same. other g (ap (λ (n : ℕ). FieldOf n g) (sym same)))
 
 -- another cell's colour stays
-pub colour_else : (s : State) (e : Event) (c : ℕ) → word_of s e ≢ ColourOf c → colour_of (after s e) c ≡ colour_of s c
+pub colour_else : (s : State) (e : Event) (c : ℕ) → word_of s e ≢ ColourOf c
+    → colour_of (after s e) c ≡ colour_of s c
 colour_else s e c other = by_word (word_of s e) other (colours_framed s e)
   where
-    by_word : (w : Word) → w ≢ ColourOf c → ColoursFrame s (after s e) w → colour_of (after s e) c ≡ colour_of s c
+    by_word : (w : Word) → w ≢ ColourOf c → ColoursFrame s (after s e) w → colour_of (after s e) c
+        ≡ colour_of s c
     by_word TheControl other is = ap (λ (colours : List Colour). colour_in colours c) is
     by_word (StatusOf i) other is = ap (λ (colours : List Colour). colour_in colours c) is
     by_word (FieldOf d f) other is = ap (λ (colours : List Colour). colour_in colours c) is

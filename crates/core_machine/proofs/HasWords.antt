@@ -1,5 +1,5 @@
--- Every state of a run has words: each field is a number that fits its word, or a cell, and nobody is in
--- and over at once. So what an event finds has a word, and the control has one.
+-- Every state of a run has words: each field is a number that fits its word, or a cell, and nobody
+-- is in and over at once. So what an event finds has a word, and the control has one.
 use Rattle.std.proofs.Common.{◌≡◌, ℕ, zero, suc, ◌^◌, ◌≤◌, Bool, true, false, not, ◌&&◌, cond, List, [], ◌∷◌, ◌++◌, length, replicate, get_or, set, refl, sym, ap, subst, arith}
 use Rattle.std.proofs.lemmas.Bool.{ltb-true}
 use Rattle.cell_words.specs.Control.{IsValidControl, greatest_position_of}
@@ -36,36 +36,45 @@ use Rattle.core_machine.proofs.Ranges.Start.{default_in}
 -- One field, or one presence, is another.
 
 numbers_set : (rows : List (List Field)) (c f : ℕ) (x : Field) → NumberFits x
-    → ((d g : ℕ) → NumberFits (field_in rows d g)) → (d g : ℕ) → NumberFits (field_in (set_field rows c f x) d g)
+    → ((d g : ℕ) → NumberFits (field_in rows d g)) → (d g : ℕ)
+    → NumberFits (field_in (set_field rows c f x) d g)
 numbers_set rows c f x fits old d g =
-    set_cases (λ (row : List Field). NumberFits (get_or row g field.Null)) rows c d (set (row_in rows c) f x) []
-    (λ is there. set_cases NumberFits (row_in rows c) f g x field.Null (λ same within. fits) (old c g))
+    set_cases (λ (row : List Field). NumberFits (get_or row g field.Null)) rows c d
+    (set (row_in rows c) f x) []
+    (λ is there. set_cases NumberFits (row_in rows c) f g x field.Null (λ same within. fits)
+    (old c g))
     (old d g)
 
 presences_set : (presences : List Presence) (i : ℕ) (p : Presence) → is_valid_presence p ≡ true
     → ((j : ℕ) → is_valid_presence (presence_in presences j) ≡ true)
     → (j : ℕ) → is_valid_presence (presence_in (set presences i p) j) ≡ true
 presences_set presences i p valid old j =
-    set_cases (λ (q : Presence). is_valid_presence q ≡ true) presences i j p no_presence (λ is there. valid) (old j)
+    set_cases (λ (q : Presence). is_valid_presence q
+    ≡ true) presences i j p no_presence (λ is there. valid) (old j)
 
 -- a value that names a cell rightly is a number that fits, if it is one
-rightly_number : (held : List Held) (value : Field) → names_rightly held value ≡ true → NumberFits value
+rightly_number : (held : List Held) (value : Field) → names_rightly held value ≡ true
+    → NumberFits value
 rightly_number held field.Null h = tt
 rightly_number held (field.Num n) h = ltb-true n (2 ^ 62) h
 rightly_number held (field.Cell c) h = tt
 
-written_number : (found old new : Field) → NumberFits found → NumberFits new → NumberFits (written found old new)
+written_number : (found old new : Field) → NumberFits found → NumberFits new
+    → NumberFits (written found old new)
 written_number found old new before behind =
-    elim (same_field found old) as (λ b. NumberFits (cond b new found)) [ true ↦ behind | false ↦ before ]
+    elim (same_field found old) as
+    (λ b. NumberFits (cond b new found)) [ true ↦ behind | false ↦ before ]
 
 kind_number : (kind : Kind) → NumberFits (kind_field kind)
 kind_number kind.Record = omega arith
 kind_number kind.Boxed = omega arith
 
-same_flags_valid : (found : Presence) (wanted : Status) (over : Bool) → is_valid_presence found ≡ true
+same_flags_valid : (found : Presence) (wanted : Status) (over : Bool) → is_valid_presence found
+    ≡ true
     → is_valid_presence (answered_out wanted over found) ≡ true
 same_flags_valid found wanted over valid =
-    elim (may_answer_out wanted over found) as (λ b. is_valid_presence (cond b (record found { status = wanted }) found) ≡ true)
+    elim (may_answer_out wanted over found) as
+    (λ b. is_valid_presence (cond b (record found { status = wanted }) found) ≡ true)
     [ true ↦ valid | false ↦ valid ]
 
 -- Every event.
@@ -82,7 +91,8 @@ words_after s (event.Write i place f old new) h k =
     record {
       numbers_fit = numbers_set s.rows c f _
           (written_number (field_of s c f) old new (k.numbers_fit c f)
-          (rightly_number (held_of s i) new (write_needs s i place f old new h).names_new)) k.numbers_fit;
+          (rightly_number (held_of s i) new
+          (write_needs s i place f old new h).names_new)) k.numbers_fit;
       never_both = k.never_both;
     }
 words_after s (event.Fill i place f value) h k = record {
@@ -115,7 +125,8 @@ words_after s (event.AnswerOut i over) h k = record {
       (same_flags_valid (presence_of s i) (wanted_of s) over (k.never_both i)) k.never_both;
 }
 words_after s event.Wipe h k = record {
-  numbers_fit = numbers_set s.rows s.control.position (wiped_count s.collector.sweep) field.Null tt k.numbers_fit;
+  numbers_fit = numbers_set s.rows s.control.position
+      (wiped_count s.collector.sweep) field.Null tt k.numbers_fit;
   never_both = k.never_both;
 }
 words_after s _ h k = record { numbers_fit = k.numbers_fit; never_both = k.never_both }
@@ -132,7 +143,8 @@ null_numbers zero c f = tt
 null_numbers (suc m) zero f = subst NumberFits (sym (default_in 6 f field.Null)) tt
 null_numbers (suc m) (suc c) f = null_numbers m c f
 
-first_numbers : (m : ℕ) (first : List (List Field)) → ((c f : ℕ) → NumberFits (field_in first c f)) → (c f : ℕ)
+first_numbers : (m : ℕ) (first : List (List Field)) → ((c f : ℕ) → NumberFits (field_in first c f))
+    → (c f : ℕ)
     → NumberFits (field_in (first ++ replicate m null_row) c f)
 first_numbers m [] fits c f = null_numbers m c f
 first_numbers m (row ∷ rows) fits zero f = fits zero f
@@ -154,14 +166,16 @@ opening_has_words cells rooms first fits = record {
 
 -- of a heap that a control word can show
 pub field_valid : (s : State) → InRange s → HasWords s → (c f : ℕ) → IsValidField (field_of s c f)
-field_valid s r k c f = by_value (field_of s c f) (r.shape.names_fit.fields_fit c f) (k.numbers_fit c f)
+field_valid s r k c f = by_value (field_of s c f) (r.shape.names_fit.fields_fit c f)
+    (k.numbers_fit c f)
   where
     by_value : (x : Field) → NamesBelow s.cells x → NumberFits x → IsValidField x
     by_value field.Null names fits = tt
     by_value (field.Num n) names fits = fits
     by_value (field.Cell d) names fits = omega (arith, names, r.few_cells)
 
-swept_low : (cells position : ℕ) (sweep : Sweeping) → SweepFits cells position sweep → position ≤ cells
+swept_low : (cells position : ℕ) (sweep : Sweeping) → SweepFits cells position sweep
+    → position ≤ cells
 swept_low cells position sweeping.Fresh fits = fits
 swept_low cells position (sweeping.Wiping k) fits = omega (arith, fits.0)
 swept_low cells position sweeping.BlackFound fits = omega (arith, fits)
@@ -174,7 +188,8 @@ position_valid cells position sweep stage.Sync1 few fits = omega (arith, fits.0)
 position_valid cells position sweep stage.Clear few fits = omega (arith, fits.0)
 position_valid cells position sweep stage.Sync2 few fits = omega (arith, fits.0)
 position_valid cells position sweep stage.Trace few fits = omega (arith, fits.0)
-position_valid cells position sweep stage.Sweep few fits = omega (arith, few, swept_low cells position sweep fits)
+position_valid cells position sweep stage.Sweep few fits = omega
+    (arith, few, swept_low cells position sweep fits)
 
 cycles_valid : (cycles : ℕ) (at : Stage) → CyclesFit cycles at → cycles ≤ greatest_cycles
 cycles_valid cycles stage.Idle fits = fits

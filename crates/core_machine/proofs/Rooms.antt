@@ -21,7 +21,8 @@ found_roomed : (s : State) (rooms : List ℕ) (e : Event) → found_by (roomed s
 found_roomed s rooms (event.Begin i) = refl
 found_roomed s rooms _ = refl
 
-pub after_roomed : (s : State) (rooms : List ℕ) (e : Event) → after (roomed s rooms) e ≡ roomed (after s e) rooms
+pub after_roomed : (s : State) (rooms : List ℕ) (e : Event) → after (roomed s rooms) e
+    ≡ roomed (after s e) rooms
 after_roomed s rooms (event.Begin i) = refl
 after_roomed s rooms _ = refl
 
@@ -33,9 +34,11 @@ SameRoom one other (Some i) = room_in one i ≡ room_in other i
 same_can : (s : State) (rooms : List ℕ) (e : Event) → SameRoom rooms s.rooms (maker e)
     → can (roomed s rooms) e ≡ can s e
 same_can s rooms (event.Read i place f) same =
-    ap (λ (room : ℕ). is_in s i && is_place s i place && nat_le f 4 && nat_lt (length (held_of s i)) room) same
+    ap (λ (room : ℕ). is_in s i && is_place s i place && nat_le f 4 && nat_lt
+    (length (held_of s i)) room) same
 same_can s rooms (event.Claim i c) same =
-    ap (λ (room : ℕ). is_in s i && has_mode s i && nat_lt c s.cells && nat_lt (length (held_of s i)) room) same
+    ap (λ (room : ℕ). is_in s i && has_mode s i && nat_lt c s.cells && nat_lt
+    (length (held_of s i)) room) same
 same_can s rooms (event.Keep i count from copies) same =
     ap (λ (room : ℕ). is_in s i && nat_le 1 count && nat_le count (length (held_of s i))
     && nat_le (from + copies) (length (held_of s i)) && nat_le (count + copies) room) same
@@ -47,25 +50,31 @@ same_can s rooms (event.Post stage.Trace) same = refl
 same_can s rooms (event.Post stage.Sweep) same = refl
 same_can s rooms _ same = refl
 
-other_room : (rooms : List ℕ) (i room : ℕ) (who : Option ℕ) → who ≢ Some i → SameRoom (set rooms i room) rooms who
+other_room : (rooms : List ℕ) (i room : ℕ) (who : Option ℕ) → who ≢ Some i
+    → SameRoom (set rooms i room) rooms who
 other_room rooms i room None differs = tt
-other_room rooms i room (Some j) differs = get_or-set_other rooms i j room 0 (λ is. differs (ap Some is))
+other_room rooms i room (Some j) differs = get_or-set_other rooms i j room 0
+    (λ is. differs (ap Some is))
 
 pub can_roomed : (s : State) (i room : ℕ) (e : Event) → maker e ≢ Some i
     → can (roomed s (set s.rooms i room)) e ≡ can s e
-can_roomed s i room e differs = same_can s (set s.rooms i room) e (other_room s.rooms i room (maker e) differs)
+can_roomed s i room e differs = same_can s (set s.rooms i room) e
+    (other_room s.rooms i room (maker e) differs)
 
-pub last_roomed : (s : State) (rooms : List ℕ) (ts : List Taken) → last (roomed s rooms) ts ≡ roomed (last s ts) rooms
+pub last_roomed : (s : State) (rooms : List ℕ) (ts : List Taken) → last (roomed s rooms) ts
+    ≡ roomed (last s ts) rooms
 last_roomed s rooms [] = refl
 last_roomed s rooms (t ∷ ts) =
-    ap (λ (u : State). last u ts) (after_roomed s rooms t.event) ∙ last_roomed (after s t.event) rooms ts
+    ap (λ (u : State). last u ts) (after_roomed s rooms t.event)
+    ∙ last_roomed (after s t.event) rooms ts
 
 -- who has no event in a run made neither its first nor a later one
 none_first : (who : Option ℕ) (t : Taken) (ts : List Taken) → trail_of who (t ∷ ts) ≡ []
     → (maker t.event ≢ who) × (trail_of who ts ≡ [])
 none_first who t ts none =
     elim (same_maker who (maker t.event)) as (λ b. same_maker who (maker t.event) ≡ b
-    → cond b (t ∷ trail_of who ts) (trail_of who ts) ≡ [] → (maker t.event ≢ who) × (trail_of who ts ≡ [])) [
+    → cond b (t ∷ trail_of who ts) (trail_of who ts) ≡ [] → (maker t.event ≢ who)
+    × (trail_of who ts ≡ [])) [
       | true ↦ λ is none. absurd cc
       | false ↦ λ is none. (maker_differs who (maker t.event) is, none)
     ] refl none
@@ -82,7 +91,8 @@ runs_roomed s i room (t ∷ ts) none runs =
     let later : Runs (roomed (after s t.event) (set (after s t.event).rooms i room)) ts =
     runs_roomed (after s t.event) i room ts apart.1 runs.2 in
     let there : Runs (roomed (after s t.event) rooms) ts =
-    subst (λ (rs : List ℕ). Runs (roomed (after s t.event) (set rs i room)) ts) (same_rooms s t.event) later in (
+    subst (λ (rs : List ℕ). Runs (roomed (after s t.event) (set rs i room)) ts)
+    (same_rooms s t.event) later in (
       can_roomed s i room t.event apart.0 ∙ runs.0,
       runs.1 ∙ sym (found_roomed s rooms t.event),
       subst (λ (u : State). Runs u ts) (sym (after_roomed s rooms t.event)) there,

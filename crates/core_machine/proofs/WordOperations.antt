@@ -33,7 +33,8 @@ clear_leaves colour.Gray = refl
 clear_leaves colour.Black = refl
 
 pub claim_leaves : (x born : Colour)
-    → cond (eqb (pack_colour_of x) 0) (pack_colour_of born) (pack_colour_of x) ≡ pack_colour_of (claimed x born)
+    → cond (eqb (pack_colour_of x) 0) (pack_colour_of born) (pack_colour_of x)
+    ≡ pack_colour_of (claimed x born)
 claim_leaves colour.Blue born = refl
 claim_leaves colour.White born = refl
 claim_leaves colour.Gray born = refl
@@ -44,7 +45,8 @@ same_number : (a n k : ℕ) → eqb (4 * n + a) (4 * k + a) ≡ eqb n k
 same_number a n k =
     dite (ℕ_discrete n k)
     (λ is. eq-eqb (4 * n + a) (4 * k + a) (omega (arith, is)) ∙ sym (eq-eqb n k is))
-    (λ other. ne_eqb (4 * n + a) (4 * k + a) (λ is. other (omega (arith, is))) ∙ sym (ne_eqb n k other))
+    (λ other. ne_eqb (4 * n + a) (4 * k + a) (λ is. other (omega (arith, is)))
+    ∙ sym (ne_eqb n k other))
 
 -- two fields are the same where their words are
 pub same_packed : (a b : Field) → eqb (pack_field_of a) (pack_field_of b) ≡ same_field a b
@@ -63,7 +65,8 @@ pub write_leaves : (found old new : Field)
     ≡ pack_field_of (written found old new)
 write_leaves found old new =
     ap (λ (b : Bool). cond b (pack_field_of new) (pack_field_of found)) (same_packed found old)
-    ∙ elim (same_field found old) as (λ b. cond b (pack_field_of new) (pack_field_of found) ≡ pack_field_of (cond b new found)) [
+    ∙ elim (same_field found old) as (λ b. cond b (pack_field_of new) (pack_field_of found)
+    ≡ pack_field_of (cond b new found)) [
       | true ↦ refl
       | false ↦ refl
     ]
@@ -106,11 +109,15 @@ abbrev pub AnswerOutLeaves : Status → Status → Bool → Bool → Bool → Ty
 AnswerOutLeaves own wanted inside was_over over =
     cond (eqb (pack_status_of own + flag_of inside 4 + flag_of was_over 8)
     (pack_presence_of (out_with (status_before wanted) over)))
-    (pack_presence_of (out_with wanted over)) (pack_status_of own + flag_of inside 4 + flag_of was_over 8)
-    ≡ pack_presence_of (answered_out wanted over (record { status = own; inside = inside; over = was_over }))
+    (pack_presence_of (out_with wanted over))
+    (pack_status_of own + flag_of inside 4 + flag_of was_over 8)
+    ≡ pack_presence_of (answered_out wanted over
+    (record { status = own; inside = inside; over = was_over }))
 
-all_flags : (P : Bool → Bool → Bool → Type 0) → P true true true → P true true false → P true false true → P true false false
-    → P false true true → P false true false → P false false true → P false false false → (a b c : Bool) → P a b c
+all_flags : (P : Bool → Bool → Bool → Type 0) → P true true true → P true true false
+    → P true false true → P true false false
+    → P false true true → P false true false → P false false true → P false false false
+    → (a b c : Bool) → P a b c
 all_flags P p q r s t u v w true true true = p
 all_flags P p q r s t u v w true true false = q
 all_flags P p q r s t u v w true false true = r
@@ -120,19 +127,30 @@ all_flags P p q r s t u v w false true false = u
 all_flags P p q r s t u v w false false true = v
 all_flags P p q r s t u v w false false false = w
 
-answer_out_bits : (own wanted : Status) (inside was_over over : Bool) → AnswerOutLeaves own wanted inside was_over over
-answer_out_bits status.Async status.Async = all_flags (AnswerOutLeaves status.Async status.Async) refl refl refl refl refl refl refl refl
-answer_out_bits status.Async status.Sync1 = all_flags (AnswerOutLeaves status.Async status.Sync1) refl refl refl refl refl refl refl refl
-answer_out_bits status.Async status.Sync2 = all_flags (AnswerOutLeaves status.Async status.Sync2) refl refl refl refl refl refl refl refl
-answer_out_bits status.Sync1 status.Async = all_flags (AnswerOutLeaves status.Sync1 status.Async) refl refl refl refl refl refl refl refl
-answer_out_bits status.Sync1 status.Sync1 = all_flags (AnswerOutLeaves status.Sync1 status.Sync1) refl refl refl refl refl refl refl refl
-answer_out_bits status.Sync1 status.Sync2 = all_flags (AnswerOutLeaves status.Sync1 status.Sync2) refl refl refl refl refl refl refl refl
-answer_out_bits status.Sync2 status.Async = all_flags (AnswerOutLeaves status.Sync2 status.Async) refl refl refl refl refl refl refl refl
-answer_out_bits status.Sync2 status.Sync1 = all_flags (AnswerOutLeaves status.Sync2 status.Sync1) refl refl refl refl refl refl refl refl
-answer_out_bits status.Sync2 status.Sync2 = all_flags (AnswerOutLeaves status.Sync2 status.Sync2) refl refl refl refl refl refl refl refl
+answer_out_bits : (own wanted : Status) (inside was_over over : Bool)
+    → AnswerOutLeaves own wanted inside was_over over
+answer_out_bits status.Async status.Async = all_flags
+    (AnswerOutLeaves status.Async status.Async) refl refl refl refl refl refl refl refl
+answer_out_bits status.Async status.Sync1 = all_flags
+    (AnswerOutLeaves status.Async status.Sync1) refl refl refl refl refl refl refl refl
+answer_out_bits status.Async status.Sync2 = all_flags
+    (AnswerOutLeaves status.Async status.Sync2) refl refl refl refl refl refl refl refl
+answer_out_bits status.Sync1 status.Async = all_flags
+    (AnswerOutLeaves status.Sync1 status.Async) refl refl refl refl refl refl refl refl
+answer_out_bits status.Sync1 status.Sync1 = all_flags
+    (AnswerOutLeaves status.Sync1 status.Sync1) refl refl refl refl refl refl refl refl
+answer_out_bits status.Sync1 status.Sync2 = all_flags
+    (AnswerOutLeaves status.Sync1 status.Sync2) refl refl refl refl refl refl refl refl
+answer_out_bits status.Sync2 status.Async = all_flags
+    (AnswerOutLeaves status.Sync2 status.Async) refl refl refl refl refl refl refl refl
+answer_out_bits status.Sync2 status.Sync1 = all_flags
+    (AnswerOutLeaves status.Sync2 status.Sync1) refl refl refl refl refl refl refl refl
+answer_out_bits status.Sync2 status.Sync2 = all_flags
+    (AnswerOutLeaves status.Sync2 status.Sync2) refl refl refl refl refl refl refl refl
 
 pub answer_out_leaves : (found : Presence) (wanted : Status) (over : Bool)
     → cond (eqb (pack_presence_of found) (pack_presence_of (out_with (status_before wanted) over)))
     (pack_presence_of (out_with wanted over)) (pack_presence_of found)
     ≡ pack_presence_of (answered_out wanted over found)
-answer_out_leaves found wanted over = answer_out_bits found.status wanted found.inside found.over over
+answer_out_leaves found wanted over = answer_out_bits found.status wanted found.inside found.over
+    over

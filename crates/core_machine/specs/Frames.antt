@@ -2,8 +2,8 @@
 --
 -- No event changes the sizes or the rooms. An event of a mutator changes that one's own part and
 -- presence, and leaves the others', the control and the collector's part. An event of the collector
--- leaves all own parts, and of the presences it changes the status of a mutator that is out. Of the rows
--- and colours an event changes at most the one in its word.
+-- leaves all own parts, and of the presences it changes the status of a mutator that is out. Of the
+-- rows and colours an event changes at most the one in its word.
 -- Source: this project's.
 use Rattle.std.specs.Prelude.{ℕ, ◌≡◌, true, slice_set, Option, Some, None}
 use Rattle.cell_words.specs.declared.colours.Colour.{Colour}
@@ -32,16 +32,19 @@ pub record Knows (mine now : Presence) : Type 0 where
 -- an event of mutator i
 pub record MutatorFrame (s : State) (e : Event) (i : ℕ) : Type 0 where
   pub owns : (after s e).owns ≡ slice_set s.owns i (own_after (own_of s i) e (found_by s e))
-  pub presences : (after s e).presences ≡ slice_set s.presences i (presence_after (presence_of s i) e (found_by s e))
+  pub presences : (after s e).presences
+      ≡ slice_set s.presences i (presence_after (presence_of s i) e (found_by s e))
   pub control : (after s e).control ≡ s.control
   pub collector : (after s e).collector ≡ s.collector
 
 -- an event of the collector
 pub record CollectorFrame (s : State) (e : Event) : Type 0 where
   pub owns : (after s e).owns ≡ s.owns
-  pub presences : (mine : Presence) (j : ℕ) → Knows mine (presence_of s j) → Knows mine (presence_of (after s e) j)
+  pub presences : (mine : Presence) (j : ℕ) → Knows mine (presence_of s j)
+      → Knows mine (presence_of (after s e) j)
   pub control : (after s e).control ≡ control_after s.control e
-  pub collector : (after s e).collector ≡ collector_after s.cells s.control s.collector e (found_by s e)
+  pub collector : (after s e).collector
+      ≡ collector_after s.cells s.control s.collector e (found_by s e)
 
 -- .. by its maker
 abbrev pub Frame : State → Event → Option ℕ → Type 0

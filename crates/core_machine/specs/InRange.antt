@@ -23,7 +23,8 @@ use Rattle.core_machine.specs.State.{State, greatest_cells, greatest_cycles, row
 use Rattle.core_machine.specs.Words.{is_blue}
 
 -- the lists that go by cells
-pub record CellsFit (cells : ℕ) (colours : List Colour) (rows : List (List Field)) (times_freed : List ℕ) : Type 0 where
+pub record CellsFit (cells : ℕ) (colours : List Colour) (rows : List (List Field))
+    (times_freed : List ℕ) : Type 0 where
   pub some_cells : 0 < cells
   pub colours_fit : length colours ≡ cells
   pub rows_fit : length rows ≡ cells
@@ -31,7 +32,8 @@ pub record CellsFit (cells : ℕ) (colours : List Colour) (rows : List (List Fie
   pub six_fields : (c : ℕ) → c < cells → length (row_in rows c) ≡ 6
 
 -- the lists that go by mutators
-pub record MutatorsFit (mutators : ℕ) (rooms : List ℕ) (presences : List Presence) (owns : List Own) (answered : List Bool) : Type 0 where
+pub record MutatorsFit (mutators : ℕ) (rooms : List ℕ) (presences : List Presence) (owns : List Own)
+    (answered : List Bool) : Type 0 where
   pub rooms_fit : length rooms ≡ mutators
   pub presences_fit : length presences ≡ mutators
   pub owns_fit : length owns ≡ mutators
@@ -63,10 +65,12 @@ ChildFits cells next (Some child) = (next < 5) × (child < cells)
 
 abbrev pub ScanFits : ℕ → Option Scanning → Type 0
 ScanFits cells None = Unit {0}
-ScanFits cells (Some scan) = (scan.cell < cells) × (scan.next ≤ 5) × ChildFits cells scan.next scan.child
+ScanFits cells (Some scan) = (scan.cell < cells) × (scan.next ≤ 5)
+    × ChildFits cells scan.next scan.child
 
 -- every cell that is named is one that there is
-pub record NamesFit (cells : ℕ) (rows : List (List Field)) (owns : List Own) (scan : Option Scanning) : Type 0 where
+pub record NamesFit (cells : ℕ) (rows : List (List Field)) (owns : List Own)
+    (scan : Option Scanning) : Type 0 where
   pub fields_fit : RowsFit cells rows
   pub held_fit : (i place : ℕ) → cell_at (own_in owns i).held place < cells
   pub scan_fits : ScanFits cells scan
@@ -109,10 +113,12 @@ pub record ControlFits (cells : ℕ) (control : Control) (sweep : Sweeping) : Ty
 
 -- no counter passes what the cycles allow: each frees a cell at most once, and a cell that is
 -- claimed was blue at the opening or was freed
-pub record CountsFit (cells : ℕ) (colours : List Colour) (owns : List Own) (control : Control) (sweep : Sweeping) (times_freed : List ℕ) (number_freed : ℕ) : Type 0 where
+pub record CountsFit (cells : ℕ) (colours : List Colour) (owns : List Own) (control : Control)
+    (sweep : Sweeping) (times_freed : List ℕ) (number_freed : ℕ) : Type 0 where
   pub each_fits : (c : ℕ) → slice_index times_freed c ≤ number_freed
   pub freed_fits : number_freed ≤ control.cycles * cells + swept_count control.position sweep
-  pub claims_fit : (i : ℕ) → (own_in owns i).claims + count_by is_blue colours ≤ cells + number_freed
+  pub claims_fit : (i : ℕ)
+      → (own_in owns i).claims + count_by is_blue colours ≤ cells + number_freed
 
 -- the shape of a state, of any number of cells
 pub record IsShaped (s : State) : Type 0 where
@@ -120,7 +126,8 @@ pub record IsShaped (s : State) : Type 0 where
   pub mutators_fit : MutatorsFit s.mutators s.rooms s.presences s.owns s.collector.answered
   pub names_fit : NamesFit s.cells s.rows s.owns s.collector.scan
   pub control_fits : ControlFits s.cells s.control s.collector.sweep
-  pub counts_fit : CountsFit s.cells s.colours s.owns s.control s.collector.sweep s.collector.times_freed s.collector.number_freed
+  pub counts_fit : CountsFit s.cells s.colours s.owns s.control s.collector.sweep
+      s.collector.times_freed s.collector.number_freed
 
 -- .. and no more cells than a control word can show
 pub record InRange (s : State) : Type 0 where

@@ -48,4 +48,5 @@ cell_words (k ∷ ks) (r ∷ rs) = pack_colour_of k ∷ (map pack_field_of r ++ 
 
 -- the whole table
 abbrev pub words_of : State → List ℕ
-words_of s = pack_control_of s.control ∷ (map pack_presence_of s.presences ++ cell_words s.colours s.rows)
+words_of s = pack_control_of s.control ∷
+    (map pack_presence_of s.presences ++ cell_words s.colours s.rows)

@@ -1,4 +1,5 @@
 -- How the result of a call that takes one event stands to the successor.
+-- Source: this project's.
 use Rattle.std.specs.Prelude.{◌≡◌, Option, Some, None, Result, Ok, Err}
 
 -- Ok says that the old state has a successor, and the new state is it. Err says that it has none,

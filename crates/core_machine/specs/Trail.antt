@@ -20,11 +20,12 @@ same_maker None (Some j) = false
 same_maker (Some i) None = false
 same_maker (Some i) (Some j) = i == j
 
--- the events of one maker, in their order: of mutator i those by `Some i`, of the collector those by
--- `None`
+-- the events of one maker, in their order: of mutator i those by `Some i`, of the collector those
+-- by `None`
 abbrev pub trail_of : Option ℕ → List Taken → List Taken
 trail_of who [] = []
-trail_of who (t ∷ ts) = if same_maker who (maker t.event) then t ∷ trail_of who ts else trail_of who ts
+trail_of who (t ∷ ts) = if same_maker who
+    (maker t.event) then t ∷ trail_of who ts else trail_of who ts
 
 -- What a trail leaves of a part.
 
@@ -47,12 +48,17 @@ collecting_of s = record { control = s.control; part = s.collector }
 
 abbrev pub collecting_after : ℕ → Collecting → Event → Found → Collecting
 collecting_after cells c e found =
-    record { control = control_after c.control e; part = collector_after cells c.control c.part e found }
+    record {
+      control = control_after c.control e;
+      part = collector_after cells c.control c.part e
+          found;
+    }
 
 -- .. in a heap of so many cells
 abbrev pub collecting_along : ℕ → Collecting → List Taken → Collecting
 collecting_along cells c [] = c
-collecting_along cells c (t ∷ ts) = collecting_along cells (collecting_after cells c t.event t.found) ts
+collecting_along cells c (t ∷ ts) = collecting_along cells
+    (collecting_after cells c t.event t.found) ts
 
 -- the state where the mutators have other rooms
 abbrev pub roomed : State → List ℕ → State

@@ -1,7 +1,7 @@
 -- Which word each event of the table touches, by which operation, and what that leaves in the word.
 --
--- The operations are those of one processor on one word: a load, a store, a compare and exchange, and
--- the two that set bits and keep bits. Each leaves a function of the number that it finds.
+-- The operations are those of one processor on one word: a load, a store, a compare and exchange,
+-- and the two that set bits and keep bits. Each leaves a function of the number that it finds.
 -- Source: this project's.
 use Rattle.std.specs.Prelude.{ℕ, ◌≡◌, ◌==◌, ◌<◌, Bool, true, false, slice_index, slice_set, length, bit_and, bit_or, if◌then◌else◌}
 use Rattle.cell_words.specs.Colour.{pack_colour_of}
@@ -104,7 +104,8 @@ out_with own over = record { status = own; inside = false; over = over }
 
 abbrev pub answer_out_exchange : Status → Bool → Operation
 answer_out_exchange wanted over =
-    Exchange (pack_presence_of (out_with (status_before wanted) over)) (pack_presence_of (out_with wanted over))
+    Exchange (pack_presence_of (out_with (status_before wanted) over))
+    (pack_presence_of (out_with wanted over))
 
 -- with the next status
 abbrev pub answered_presence : Presence → Presence
@@ -124,7 +125,8 @@ operation_of s (event.Answer i) = Store (pack_presence_of (answered_presence (pr
 operation_of s (event.Keep i count from copies) = Load
 operation_of s (event.End i) = KeepBits all_but_inside
 operation_of s (event.Over i) = SetBits over_bit
-operation_of s (event.Post target) = Store (pack_control_of (control_after s.control (event.Post target)))
+operation_of s (event.Post target) = Store
+    (pack_control_of (control_after s.control (event.Post target)))
 operation_of s (event.Duty on) = Store (pack_control_of (control_after s.control (event.Duty on)))
 operation_of s (event.Poll i) = Load
 operation_of s (event.AnswerOut i over) = answer_out_exchange (wanted_of s) over
@@ -158,12 +160,13 @@ IsValidFound (finds.Presence presence) = is_valid_presence presence ≡ true
 IsValidFound (finds.Colour found) = Unit {0}
 IsValidFound (finds.Field found) = IsValidField found
 
--- The event is its operation on its word: the word is one of the table, it becomes what the operation
--- leaves there, all other words stay, and what the event finds is what stood in the word.
+-- The event is its operation on its word: the word is one of the table, it becomes what the
+-- operation leaves there, all other words stay, and what the event finds is what stood in the word.
 pub record IsOneOperation (s : State) (e : Event) : Type 0 where
   pub there : HasWord s (word_of s e)
   pub below : index_of s.mutators (word_of s e) < length (words_of s)
   pub left : words_of (after s e)
       ≡ slice_set (words_of s) (index_of s.mutators (word_of s e))
       (left_by (operation_of s e) (slice_index (words_of s) (index_of s.mutators (word_of s e))))
-  pub found : IsPackedAs (found_by s e) (slice_index (words_of s) (index_of s.mutators (word_of s e)))
+  pub found : IsPackedAs (found_by s e)
+      (slice_index (words_of s) (index_of s.mutators (word_of s e)))

@@ -1,5 +1,5 @@
--- What every run keeps, for runs whose events are told with what they found; and that these are the runs
--- of lists of events.
+-- What every run keeps, for runs whose events are told with what they found; and that these are the
+-- runs of lists of events.
 use Rattle.std.proofs.Common.{◌≡◌, ℕ, zero, suc, true, List, [], ◌∷◌, ◌++◌, length, get_or, IsTrue, refl, sym, ◌∙◌, ap, subst}
 use Rattle.std.specs.List.{list_all}
 use Rattle.std.proofs.lemmas.Bool.{and_parts, ltb-true}
@@ -50,19 +50,26 @@ along_taken P step s (t ∷ ts) runs range k here =
     along_taken P step (after s t.event) ts runs.2 (after_shaped s t.event range runs.0)
     (consistent_after s t.event range k runs.0) (step s t.event range k runs.0 here)
 
-pub runs_consistent : (s : State) (ts : List Taken) → IsShaped s → IsConsistent s → Runs s ts → IsConsistent (last s ts)
-runs_consistent s ts range k runs = along_taken IsConsistent (λ s e range k h c. consistent_after s e range k h) s ts runs range k k
+pub runs_consistent : (s : State) (ts : List Taken) → IsShaped s → IsConsistent s → Runs s ts
+    → IsConsistent (last s ts)
+runs_consistent s ts range k runs = along_taken IsConsistent
+    (λ s e range k h c. consistent_after s e range k h) s ts runs range k k
 
-pub runs_safe : (s : State) (ts : List Taken) → IsShaped s → IsConsistent s → Runs s ts → IsSafe (last s ts)
+pub runs_safe : (s : State) (ts : List Taken) → IsShaped s → IsConsistent s → Runs s ts
+    → IsSafe (last s ts)
 runs_safe s ts range k runs = consistent_safe (last s ts) (runs_consistent s ts range k runs)
 
-pub runs_balanced : (first : ℕ) (s : State) (ts : List Taken) → IsShaped s → IsConsistent s → Runs s ts
+pub runs_balanced : (first : ℕ) (s : State) (ts : List Taken) → IsShaped s → IsConsistent s
+    → Runs s ts
     → IsBalanced first s → IsBalanced first (last s ts)
-runs_balanced first s ts range k runs here = along_taken (IsBalanced first) (balanced_after first) s ts runs range k here
+runs_balanced first s ts range k runs here = along_taken (IsBalanced first)
+    (balanced_after first) s ts runs range k here
 
 -- garbage before two whole cycles is freed behind them
-pub runs_collect : (s : State) (ts : List Taken) (first between next : List Event) (c : ℕ) → IsShaped s → IsConsistent s
-    → Runs s ts → events_of ts ≡ first ++ (between ++ next) → AreTwoCycles first between next → IsGarbage s c
+pub runs_collect : (s : State) (ts : List Taken) (first between next : List Event) (c : ℕ)
+    → IsShaped s → IsConsistent s
+    → Runs s ts → events_of ts ≡ first ++ (between ++ next) → AreTwoCycles first between next
+    → IsGarbage s c
     → IsFreedSince s (last s ts) c
 runs_collect s ts first between next c range k runs is cycles garbage =
     collects s (events_of ts) range k [] first between next [] s (last s ts) c
@@ -83,15 +90,18 @@ row_numbers count [] h f = tt
 row_numbers count (x ∷ xs) h zero = first_number count x (and_parts _ _ h).0
 row_numbers count (x ∷ xs) h (suc f) = row_numbers count xs (and_parts _ _ h).1 f
 
-rows_numbers : (count : ℕ) (rows : List (List Field)) → list_all (is_first_row count) rows ≡ true → (c f : ℕ)
+rows_numbers : (count : ℕ) (rows : List (List Field)) → list_all (is_first_row count) rows ≡ true
+    → (c f : ℕ)
     → NumberFits (field_in rows c f)
 rows_numbers count [] h c f = tt
-rows_numbers count (row ∷ rows) h zero f = row_numbers count row (and_parts _ _ (and_parts _ _ h).0).0 f
+rows_numbers count (row ∷ rows) h zero f = row_numbers count row
+    (and_parts _ _ (and_parts _ _ h).0).0 f
 rows_numbers count (row ∷ rows) h (suc c) f = rows_numbers count rows (and_parts _ _ h).1 c f
 
 -- every state of a run has words
 pub every_run_has_words : (cells : ℕ) (rooms : List ℕ) (first : List (List Field)) (ts : List Taken)
-    → IsTrue (are_first_rows first) → Runs (opening cells rooms first) ts → HasWords (last (opening cells rooms first) ts)
+    → IsTrue (are_first_rows first) → Runs (opening cells rooms first) ts
+    → HasWords (last (opening cells rooms first) ts)
 every_run_has_words cells rooms first ts rows runs =
     runs_have_words (opening cells rooms first) ts runs
     (opening_has_words cells rooms first (rows_numbers (length first) first (and_parts _ _ rows).1))

@@ -41,7 +41,8 @@ white_cut_off s k none = record {
 }
 
 -- a cell that is not white is in no set that is cut off
-pub not_white_outside : (s : State) (set : ℕ → Bool) (c : ℕ) → IsCutOff s.colours s.rows s.collector.scan set
+pub not_white_outside : (s : State) (set : ℕ → Bool) (c : ℕ)
+    → IsCutOff s.colours s.rows s.collector.scan set
     → colour_of s c ≢ colour.White → set c ≡ false
 not_white_outside s set c cut nowhite = elim (set c) as (λ b. set c ≡ b → set c ≡ false) [
   | true ↦ λ in_set. absurd (nowhite (cut.white c in_set))

@@ -1,7 +1,8 @@
 -- The invariant of the core: what holds in every state of every run, beside the ranges that the
 -- machine asks for. Each field is a fact under the name that docs/ALGORITHM.md uses.
 --
--- Each fact takes the parts of the state that it reads, so an event that leaves these leaves the fact.
+-- Each fact takes the parts of the state that it reads, so an event that leaves these leaves the
+-- fact.
 -- Source: this project's, after the facts that Doligez and Gonthier, POPL 1994, argue from.
 use Rattle.std.specs.Prelude.{ℕ, ◌≡◌, ◌≢◌, ◌<◌, ◌≤◌, Bool, true, false, List, [], slice_index_or, Option, Some, None}
 use Rattle.std.specs.List.{All}
@@ -40,7 +41,8 @@ Answered mutators now presences answered =
 
 -- a mode was looked at after the mutator's last answer, and is not ahead of the control
 abbrev pub Modes : Control → List Presence → List Own → Type 0
-Modes now presences owns = (i : ℕ) → IsStaleMode (presence_in presences i).status (own_in owns i).mode now
+Modes now presences owns = (i : ℕ)
+    → IsStaleMode (presence_in presences i).status (own_in owns i).mode now
 
 -- who is out holds nothing and has no mode
 abbrev pub OutHoldsNothing : List Presence → List Own → Type 0
@@ -104,7 +106,8 @@ RawIsNotBlack presences owns colours rows = (i : ℕ) → (presence_in presences
 
 -- no cleared cell is black
 abbrev pub ClearedIsNotBlack : Stage → ℕ → List Colour → Type 0
-ClearedIsNotBlack now cursor colours = (c : ℕ) → is_cleared now cursor c ≡ true → colour_in colours c ≢ Black
+ClearedIsNotBlack now cursor colours = (c : ℕ) → is_cleared now cursor c ≡ true
+    → colour_in colours c ≢ Black
 
 -- the anchor is not white once it was marked, until tracing ends
 abbrev pub AnchorIsMarked : Stage → Bool → List Colour → Type 0
@@ -112,31 +115,38 @@ AnchorIsMarked now marked colours = anchor_counts now marked ≡ true → colour
 
 -- A set of white cells that the collector cannot come to: neither the child nor an open field of a
 -- gray cell is in it, and no white cell outside names a cell of it.
-pub record IsCutOff (colours : List Colour) (rows : List (List Field)) (scan : Option Scanning) (set : ℕ → Bool) : Type 0 where
+pub record IsCutOff (colours : List Colour) (rows : List (List Field)) (scan : Option Scanning)
+    (set : ℕ → Bool) : Type 0 where
   pub white : (c : ℕ) → set c ≡ true → colour_in colours c ≡ White
   pub child : (c : ℕ) → child_in scan ≡ Some c → set c ≡ false
-  pub gray : (c d f : ℕ) → colour_in colours c ≡ Gray → is_open scan c f ≡ true → field_in rows c f ≡ Cell d
+  pub gray : (c d f : ℕ) → colour_in colours c ≡ Gray → is_open scan c f ≡ true → field_in rows c f
+      ≡ Cell d
       → set d ≡ false
-  pub outside : (c d f : ℕ) → colour_in colours c ≡ White → set c ≡ false → field_in rows c f ≡ Cell d
+  pub outside : (c d f : ℕ) → colour_in colours c ≡ White → set c ≡ false → field_in rows c f
+      ≡ Cell d
       → set d ≡ false
 
 -- No cell of the set is one that the collector has to come to: a black cell names none, no scanned
 -- field of the cell under scan is one, and an async mutator holds none.
-pub record IsNotDue (presences : List Presence) (owns : List Own) (colours : List Colour) (rows : List (List Field)) (scan : Option Scanning) (set : ℕ → Bool) : Type 0 where
+pub record IsNotDue (presences : List Presence) (owns : List Own) (colours : List Colour)
+    (rows : List (List Field)) (scan : Option Scanning) (set : ℕ → Bool) : Type 0 where
   pub black : (c d f : ℕ) → colour_in colours c ≡ Black → field_in rows c f ≡ Cell d → set d ≡ false
-  pub scanned : (x : Scanning) (d f : ℕ) → scan ≡ Some x → f < scanned_count x → field_in rows x.cell f ≡ Cell d
+  pub scanned : (x : Scanning) (d f : ℕ) → scan ≡ Some x → f < scanned_count x
+      → field_in rows x.cell f ≡ Cell d
       → set d ≡ false
   pub held : (i : ℕ) → (presence_in presences i).status ≡ Async
       → All (λ place. set place.cell ≡ false) (own_in owns i).held
 
 -- while the collector traces, nothing that it has to come to is cut off from it
-abbrev pub Traced : Stage → List Presence → List Own → List Colour → List (List Field) → Option Scanning → Type 0
+abbrev pub Traced : Stage → List Presence → List Own → List Colour → List (List Field)
+    → Option Scanning → Type 0
 Traced now presences owns colours rows scan = now ≡ stage.Trace → (set : ℕ → Bool)
     → IsCutOff colours rows scan set → IsNotDue presences owns colours rows scan set
 
 -- in a clean pass, where a cell is gray, one is gray that the pass has still to come to
 abbrev pub CleanPass : Stage → Bool → ℕ → List Colour → Type 0
-CleanPass now clean cursor colours = now ≡ stage.Trace → clean ≡ true → (c : ℕ) → colour_in colours c ≡ Gray
+CleanPass now clean cursor colours = now ≡ stage.Trace → clean ≡ true → (c : ℕ)
+    → colour_in colours c ≡ Gray
     → (d : ℕ) × (cursor ≤ d) × (colour_in colours d ≡ Gray)
 
 -- no pass begins before all have answered
@@ -144,21 +154,25 @@ abbrev pub PassWaits : Stage → List Bool → ℕ → Type 0
 PassWaits now answered cursor = now ≡ stage.Trace → all_in answered ≡ false → cursor ≡ 0
 
 -- a scan is of a gray cell, while the collector traces, in a pass that is not clean
-pub record IsScan (now : Stage) (answered : List Bool) (clean : Bool) (colours : List Colour) (x : Scanning) : Type 0 where
+pub record IsScan (now : Stage) (answered : List Bool) (clean : Bool) (colours : List Colour)
+    (x : Scanning) : Type 0 where
   pub traces : now ≡ stage.Trace
   pub answers : all_in answered ≡ true
   pub gray : colour_in colours x.cell ≡ Gray
   pub unclean : clean ≡ false
 
 abbrev pub Scans : Stage → List Bool → Bool → List Colour → Option Scanning → Type 0
-Scans now answered clean colours scan = (x : Scanning) → scan ≡ Some x → IsScan now answered clean colours x
+Scans now answered clean colours scan = (x : Scanning) → scan ≡ Some x
+    → IsScan now answered clean colours x
 
 -- a cell that is still to be swept is not gray
 abbrev pub UnsweptIsNotGray : List Colour → Control → Sweeping → Type 0
-UnsweptIsNotGray colours control sweep = (c : ℕ) → unswept control sweep c ≡ true → colour_in colours c ≢ Gray
+UnsweptIsNotGray colours control sweep = (c : ℕ) → unswept control sweep c ≡ true
+    → colour_in colours c ≢ Gray
 
 -- the cell that is being wiped is white, and so many of its fields are null
-pub record IsWiping (colours : List Colour) (rows : List (List Field)) (position k : ℕ) : Type 0 where
+pub record IsWiping (colours : List Colour) (rows : List (List Field))
+    (position k : ℕ) : Type 0 where
   pub white : colour_in colours position ≡ White
   pub null : (f : ℕ) → f < k → field_in rows position f ≡ Null
 
@@ -169,17 +183,20 @@ Wipes colours rows position sweep = (k : ℕ) → sweep ≡ Wiping k → IsWipin
 abbrev pub FoundIsBlack : List Colour → ℕ → Sweeping → Type 0
 FoundIsBlack colours position sweep = sweep ≡ BlackFound → colour_in colours position ≡ Black
 
--- In groups. Each takes the parts of the state that it reads, so an event that changes none of these
--- keeps the group as it is.
+-- In groups. Each takes the parts of the state that it reads, so an event that changes none of
+-- these keeps the group as it is.
 
-pub record MutatorsConsistent (mutators : ℕ) (control : Control) (presences : List Presence) (owns : List Own) (answers : List Bool) (colours : List Colour) : Type 0 where
+pub record MutatorsConsistent (mutators : ℕ) (control : Control) (presences : List Presence)
+    (owns : List Own) (answers : List Bool) (colours : List Colour) : Type 0 where
   pub statuses : Statuses mutators control.stage presences
   pub answered : Answered mutators control.stage presences answers
   pub modes : Modes control presences owns
   pub out : OutHoldsNothing presences owns
   pub marks : Marks control.stage presences owns colours
 
-pub record CellsConsistent (control : Control) (presences : List Presence) (owns : List Own) (colours : List Colour) (rows : List (List Field)) (sweep : Sweeping) (scan : Option Scanning) : Type 0 where
+pub record CellsConsistent (control : Control) (presences : List Presence) (owns : List Own)
+    (colours : List Colour) (rows : List (List Field)) (sweep : Sweeping)
+    (scan : Option Scanning) : Type 0 where
   pub anchor_box : AnchorIsBox rows
   pub kinds : KindsAreKinds rows
   pub blue_null : BlueIsNull colours rows
@@ -190,7 +207,9 @@ pub record CellsConsistent (control : Control) (presences : List Presence) (owns
   pub raw_once : RawIsHeldOnce rows owns
   pub raw_not_black : RawIsNotBlack presences owns colours rows
 
-pub record TracingConsistent (now : Stage) (presences : List Presence) (owns : List Own) (colours : List Colour) (rows : List (List Field)) (answers : List Bool) (marked : Bool) (cursor : ℕ) (clean : Bool) (scan : Option Scanning) : Type 0 where
+pub record TracingConsistent (now : Stage) (presences : List Presence) (owns : List Own)
+    (colours : List Colour) (rows : List (List Field)) (answers : List Bool) (marked : Bool)
+    (cursor : ℕ) (clean : Bool) (scan : Option Scanning) : Type 0 where
   pub cleared : ClearedIsNotBlack now cursor colours
   pub anchor_marked : AnchorIsMarked now marked colours
   pub traced : Traced now presences owns colours rows scan
@@ -198,13 +217,18 @@ pub record TracingConsistent (now : Stage) (presences : List Presence) (owns : L
   pub pass_waits : PassWaits now answers cursor
   pub scans : Scans now answers clean colours scan
 
-pub record SweepConsistent (control : Control) (colours : List Colour) (rows : List (List Field)) (sweep : Sweeping) : Type 0 where
+pub record SweepConsistent (control : Control) (colours : List Colour) (rows : List (List Field))
+    (sweep : Sweeping) : Type 0 where
   pub unswept : UnsweptIsNotGray colours control sweep
   pub wipes : Wipes colours rows control.position sweep
   pub found_black : FoundIsBlack colours control.position sweep
 
 pub record IsConsistent (s : State) : Type 0 where
-  pub mutators : MutatorsConsistent s.mutators s.control s.presences s.owns s.collector.answered s.colours
-  pub cells : CellsConsistent s.control s.presences s.owns s.colours s.rows s.collector.sweep s.collector.scan
-  pub tracing : TracingConsistent s.control.stage s.presences s.owns s.colours s.rows s.collector.answered s.collector.anchor_marked s.collector.cursor s.collector.clean s.collector.scan
+  pub mutators : MutatorsConsistent s.mutators s.control s.presences s.owns s.collector.answered
+      s.colours
+  pub cells : CellsConsistent s.control s.presences s.owns s.colours s.rows s.collector.sweep
+      s.collector.scan
+  pub tracing : TracingConsistent s.control.stage s.presences s.owns s.colours s.rows
+      s.collector.answered s.collector.anchor_marked s.collector.cursor s.collector.clean
+      s.collector.scan
   pub sweep : SweepConsistent s.control s.colours s.rows s.collector.sweep
