@@ -1,6 +1,7 @@
--- What each event needs, read off its test: `KIND_needs`.
+-- What each event needs, read off its test (`KIND_needs`), and that a mutator's event which has it
+-- can happen (`can_KIND`).
 use Rattle.std.proofs.Common.{◌≡◌, ℕ, true, not, Option, Some, None, is_none, refl}
-use Rattle.std.proofs.lemmas.Bool.{and_parts, ltb-true, leb-true, eqb-true, not-true}
+use Rattle.std.proofs.lemmas.Bool.{and_parts, ltb-true, leb-true, eqb-true, not-true, and_from, lt-ltb, le-leb, not_from_false}
 use Rattle.cell_words.specs.declared.controls.Stage.{Stage}
 use Rattle.cell_words.specs.declared.controls.Stage.TheVariants as stage
 use Rattle.cell_words.specs.declared.fields.Field.{Field}
@@ -11,6 +12,9 @@ use Rattle.core_machine.specs.Conditions.{CanComeIn, CanRead, CanMark, CanWrite,
 use Rattle.core_machine.specs.Handshakes.{post_can, poll_can, answer_out_can}
 use Rattle.core_machine.specs.Mutation.{mark_can, write_can, claim_can, fill_can, seal_can}
 use Rattle.core_machine.specs.Operations.{may_begin, read_can, answer_can, keep_can}
+use Rattle.cell_words.specs.declared.fields.Kind.{Kind}
+use Rattle.core_machine.specs.declared.events.Event.TheVariants as event
+use Rattle.core_machine.specs.Next.{can}
 use Rattle.core_machine.specs.State.{State}
 use Rattle.core_machine.specs.Sweep.{is_fresh, is_done, sweep_look_can, advance_can}
 use Rattle.core_machine.specs.Tracing.{may_scan, may_shade, may_blacken, clear_can, anchor_can, see_can, scan_can, shade_can, blacken_can}
@@ -256,3 +260,52 @@ advance_needs s h =
     let q = and_parts _ _ h in
     let p = and_parts _ _ q.0 in
     record { now = same_stage_is _ _ p.0; cell = ltb-true _ _ p.1; done = done_is _ q.1 }
+
+-- The other way: where an event has what it needs, it can happen.
+
+pub can_begin : (s : State) (i : ℕ) → CanComeIn s i → can s (event.Begin i) ≡ true
+can_begin s i needs = and_from _ _ (not_from_false _ needs.out) (not_from_false _ needs.not_over)
+
+pub can_read : (s : State) (i place f : ℕ) → CanRead s i place f → can s (event.Read i place f) ≡ true
+can_read s i place f needs =
+    and_from _ _ (and_from _ _ (and_from _ _ needs.inside (lt-ltb _ _ needs.there)) (le-leb _ _ needs.payload))
+    (lt-ltb _ _ needs.room)
+
+pub can_mark : (s : State) (i place : ℕ) → CanMark s i place → can s (event.Mark i place) ≡ true
+can_mark s i place needs =
+    and_from _ _ (and_from _ _ needs.inside (lt-ltb _ _ needs.there)) needs.barrier
+
+pub can_write : (s : State) (i place f : ℕ) (old new : Field) → CanWrite s i place f old new
+    → can s (event.Write i place f old new) ≡ true
+can_write s i place f old new needs =
+    let held = and_from _ _ (and_from _ _ needs.inside needs.mode) (lt-ltb _ _ needs.there) in
+    let box = and_from _ _ (and_from _ _ held (le-leb _ _ needs.payload)) needs.box in
+    let names = and_from _ _ (and_from _ _ box needs.names_old) needs.names_new in
+    and_from _ _ (and_from _ _ names (not_from_false _ needs.sealed)) needs.marks
+
+pub can_claim : (s : State) (i c : ℕ) → CanClaim s i c → can s (event.Claim i c) ≡ true
+can_claim s i c needs =
+    and_from _ _ (and_from _ _ (and_from _ _ needs.inside needs.mode) (lt-ltb _ _ needs.cell))
+    (lt-ltb _ _ needs.room)
+
+pub can_fill : (s : State) (i place f : ℕ) (value : Field) → CanFill s i place f value
+    → can s (event.Fill i place f value) ≡ true
+can_fill s i place f value needs =
+    let raw = and_from _ _ (and_from _ _ needs.inside (lt-ltb _ _ needs.there)) needs.raw in
+    let names = and_from _ _ (and_from _ _ raw (le-leb _ _ needs.payload)) needs.names in
+    and_from _ _ (and_from _ _ names (not_from_false _ needs.sealed)) (not_from_false _ needs.clear)
+
+pub can_seal : (s : State) (i place : ℕ) (kind : Kind) → CanSeal s i place → can s (event.Seal i place kind) ≡ true
+can_seal s i place kind needs = and_from _ _ (and_from _ _ needs.inside (lt-ltb _ _ needs.there)) needs.raw
+
+pub can_answer : (s : State) (i : ℕ) → CanAnswer s i → can s (event.Answer i) ≡ true
+can_answer s i needs = and_from _ _ (and_from _ _ needs.inside needs.requested) needs.third
+
+pub can_keep : (s : State) (i count from copies : ℕ) → CanKeep s i count from copies
+    → can s (event.Keep i count from copies) ≡ true
+can_keep s i count from copies needs =
+    let kept = and_from _ _ (and_from _ _ needs.inside (le-leb _ _ needs.some)) (le-leb _ _ needs.kept) in
+    and_from _ _ (and_from _ _ kept (le-leb _ _ needs.copied)) (le-leb _ _ needs.room)
+
+pub can_over : (s : State) (i : ℕ) → CanComeIn s i → can s (event.Over i) ≡ true
+can_over s i needs = and_from _ _ (not_from_false _ needs.out) (not_from_false _ needs.not_over)

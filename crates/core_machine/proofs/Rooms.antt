@@ -17,7 +17,7 @@ use Rattle.core_machine.proofs.Frames.{as_large}
 
 -- Only a mutator's own events look at its room: Read, Claim and Keep.
 
-found_roomed : (s : State) (rooms : List ℕ) (e : Event) → found_by (roomed s rooms) e ≡ found_by s e
+pub found_roomed : (s : State) (rooms : List ℕ) (e : Event) → found_by (roomed s rooms) e ≡ found_by s e
 found_roomed s rooms (event.Begin i) = refl
 found_roomed s rooms _ = refl
 
