@@ -15,7 +15,7 @@ use Rattle.docheap_cli.specs.Session.{after_reading, session_of, within_size, Is
 use Rattle.docheap_cli.specs.Replayed.{after_schedule, steps_of, IsReading, Replays, ReplaysFile}
 use Rattle.cmd_text.specs.Script.{script_of}
 use Rattle.core_replay.specs.Schedule.{schedule_of}
-use Rattle.core_replay.specs.Written.{Written}
+use Rattle.core_replay.specs.ScheduleValue.{ScheduleValue}
 use Rattle.std.specs.declared.alloc.Global.{Global}
 use Rattle.docheap_cli.specs.Reading.{Decides, DecidesFile}
 
@@ -50,7 +50,7 @@ session_of_file : (told : Option (List ℕ)) (front : List ℕ) (outcome : Resul
     → session_of front ≡ outcome → IsSession told outcome
 session_of_file told front outcome read is = of_file (λ script. after_reading (script_of script)) told front outcome read is
 
-reading_of_file : (told : Option (List ℕ)) (front : List ℕ) (outcome : Result Written Fault) → IsFrontOf told 1048577 front
+reading_of_file : (told : Option (List ℕ)) (front : List ℕ) (outcome : Result ScheduleValue Fault) → IsFrontOf told 1048577 front
     → steps_of front ≡ outcome → IsReading told outcome
 reading_of_file told front outcome read is = of_file (λ schedule. after_schedule (schedule_of schedule)) told front outcome read is
 
