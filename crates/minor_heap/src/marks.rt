@@ -94,9 +94,10 @@ fn marked(alloc: Global, marks: &[bool]) -> Result<Vec<MinorRef>, NoMemory>
     let mut found = Vec::new(alloc);
     for number in 0..marks.len() {
         if marks[number] {
-            found.push(MinorRef {
+            let r = MinorRef {
                 number: number as u32,
-            })?;
+            };
+            found.push(r)?;
         }
     }
     Ok(found)
