@@ -117,7 +117,8 @@ pub struct Taken;
 impl Outcome<u32, Counts> for Taken {
     ghost use Rattle.free_cells.specs.Counts.{taken, IsFront};
 
-    ghost then = { λ counts cell after. (cell < counts.cells) × IsFront cell counts.content × (after ≡ taken counts) };
+    ghost then = { λ counts cell after. (cell < counts.cells) × IsFront cell counts.content
+        × (after ≡ taken counts) };
 }
 
 impl Lesson<u32, Counts> for Filled {

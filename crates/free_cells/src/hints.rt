@@ -22,8 +22,10 @@ impl<'a> Hints<'a> {
     pub fn put<R: Wait>(&mut self, rt: &R, cell: u32) -> bool
         requires range { cell < self.old.queue.now.cells }
         ensures queue { self.new.queue ≡ self.old.queue }
-        ensures counts { MatchBool result (view self.new.pass ≡ put cell (view self.old.pass)) (view self.new.pass ≡ put_refused (view self.old.pass)) }
-        ensures full { OnFalse result (IfSome (view self.old.pass).content (λ known. length known ≡ self.old.queue.now.cells)) }
+        ensures counts { MatchBool result (view self.new.pass ≡ put cell (view self.old.pass))
+            (view self.new.pass ≡ put_refused (view self.old.pass)) }
+        ensures full { OnFalse result (IfSome (view self.old.pass).content
+            (λ known. length known ≡ self.old.queue.now.cells)) }
     {
         match self.queue.ring.push_as::<Put, R>(rt, &mut self.pass, cell) {
             Ok(()) => true,
@@ -39,8 +41,10 @@ impl<'a> Hints<'a> {
         ensures queue { self.new.queue ≡ self.old.queue }
         ensures range { IfSome result (λ cell. cell < self.old.queue.now.cells) }
         ensures front { IfSome result (λ cell. IsFront cell (view self.old.pass).content) }
-        ensures counts { MatchOption result (view self.new.pass ≡ none_taken (view self.old.pass)) (λ _. view self.new.pass ≡ taken (view self.old.pass)) }
-        ensures empty { IfNone result (IfSome (view self.old.pass).content (λ known. length known ≡ 0)) }
+        ensures counts { MatchOption result (view self.new.pass ≡ none_taken (view self.old.pass))
+            (λ _. view self.new.pass ≡ taken (view self.old.pass)) }
+        ensures empty { IfNone result (IfSome (view self.old.pass).content
+            (λ known. length known ≡ 0)) }
     {
         match self.queue.ring.pop_as::<Taken, R>(rt, &mut self.pass) {
             Some(cell) => Some(cell),

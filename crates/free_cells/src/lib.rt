@@ -1,9 +1,10 @@
 //! Numbers of cells that may be free, in one queue that all threads share without a lock.
 //!
-//! Whoever frees a cell puts its number, and whoever wants a cell takes one. A number is a hint: the
-//! cell may be in use by then, and a free cell may have no hint. Only a claim gets a cell, so
+//! Whoever frees a cell puts its number, and whoever wants a cell takes one. A number is a hint:
+//! the cell may be in use by then, and a free cell may have no hint. Only a claim gets a cell, so
 //! nothing rests on a hint but that it is in range. Each thread counts its own pushes and pops, and
-//! its calls, so that contracts above can say that a call went to the queue.
+//! its calls, so that contracts above can say that a call went to the queue. As long as one pass is
+//! the only one it knows the numbers too, and then the queue is first in, first out by contract.
 //!
 //! Reading order: `counts`, `queue`, `opening`, `hints`.
 #![tactic(auto)]

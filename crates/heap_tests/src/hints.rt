@@ -31,13 +31,3 @@ fn two_passes_use_one_queue(rt: HostRuntime) -> Result<(), Fail> {
     assert_eq!(rt; putter.take(&rt), None);
     Ok(())
 }
-
-#[test]
-fn a_queue_may_be_opened_empty(rt: HostRuntime) -> Result<(), Fail> {
-    let (queue, pass) = FreeQueue::open(rt.alloc(), &rt, 1, 1)?;
-    let mut hints = queue.hints(pass);
-    assert_eq!(rt; hints.take(&rt), None);
-    assert!(rt; hints.put(&rt, 0));
-    assert_eq!(rt; hints.take(&rt), Some(0));
-    Ok(())
-}

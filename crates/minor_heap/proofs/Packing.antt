@@ -15,7 +15,8 @@ unpacks (field.Shared place) = refl
 
 -- a list of five is its elements
 pub five_fields : (fs : List MinorField) → length fs ≡ 5
-    → slice_index_or fs 0 field.Null ∷ slice_index_or fs 1 field.Null ∷ slice_index_or fs 2 field.Null
+    → slice_index_or fs 0 field.Null ∷ slice_index_or fs 1 field.Null ∷ slice_index_or fs 2
+    field.Null
     ∷ slice_index_or fs 3 field.Null ∷ slice_index_or fs 4 field.Null ∷ [] ≡ fs
 five_fields [] e = absurd (omega (arith, e))
 five_fields (a ∷ []) e = absurd (omega (arith, e))
@@ -25,16 +26,19 @@ five_fields (a ∷ b ∷ c ∷ d ∷ []) e = absurd (omega (arith, e))
 five_fields (a ∷ b ∷ c ∷ d ∷ g ∷ []) e = refl
 five_fields (a ∷ b ∷ c ∷ d ∷ g ∷ h ∷ rest) e = absurd (omega (arith, e))
 
-pub packed : (k : FieldKind) (w : ℕ) (f : MinorField) → k ≡ kind_of f → w ≡ word_of f → field_of k w ≡ f
+pub packed : (k : FieldKind) (w : ℕ) (f : MinorField) → k ≡ kind_of f → w ≡ word_of f → field_of k w
+    ≡ f
 packed k w f kinds words = (λ i. field_of (kinds i) (words i)) ∙ unpacks f
 
 -- the field at a place is that of the kind and the word there
 pub field_there : (ks : List FieldKind) (ws : List ℕ) (i : ℕ) → i < length ks → i < length ws
-    → slice_index_or (fields_of ks ws) i field.Null ≡ field_of (slice_index_or ks i kind.Null) (slice_index_or ws i 0)
+    → slice_index_or (fields_of ks ws) i field.Null
+    ≡ field_of (slice_index_or ks i kind.Null) (slice_index_or ws i 0)
 field_there [] ws i k w = absurd (omega (arith, k))
 field_there (k ∷ ks) [] i a b = absurd (omega (arith, b))
 field_there (k ∷ ks) (w ∷ ws) zero a b = refl
-field_there (k ∷ ks) (w ∷ ws) (suc i) a b = field_there ks ws i (omega (arith, a)) (omega (arith, b))
+field_there (k ∷ ks) (w ∷ ws) (suc i) a b =
+    field_there ks ws i (omega (arith, a)) (omega (arith, b))
 
 pub numbered_there : (ks : List FieldKind) (ws : List ℕ) (i : ℕ) → i < length ks → i < length ws
     → AreNumbered ks ws → IsNumbered (slice_index_or ks i kind.Null) (slice_index_or ws i 0)

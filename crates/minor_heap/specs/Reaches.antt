@@ -8,7 +8,8 @@ use Rattle.minor_heap.specs.declared.fields.MinorRef.{MinorRef}
 use Rattle.minor_heap.specs.Nursery.{field_at}
 
 -- a chain of fields leads from a root to the record
-pub data Reaches (records : List (List MinorField)) (IsRoot : MinorRef → Type 0) : MinorRef → Type 0 where
+pub data Reaches (records : List (List MinorField)) (IsRoot : MinorRef → Type 0) : MinorRef
+    → Type 0 where
   root : {r : MinorRef} → IsRoot r → Reaches records IsRoot r
   named : {r older : MinorRef} (i : ℕ) → i < 5 → Reaches records IsRoot r
       → field_at records r.number i ≡ field.Minor older → Reaches records IsRoot older

@@ -1,4 +1,5 @@
-ghost use Rattle.std.specs.Prelude.{◌≡◌, ◌<◌, ◌+◌, ◌++◌, ◌↔◌, ◌∷◌, [], List, All, IfOk, IfErr, IsErr, OnErr, OnOk, length};
+ghost use Rattle.std.specs.Prelude.{◌≡◌, ◌<◌, ◌+◌, ◌++◌, ◌↔◌, ◌∷◌, [], List, All, length};
+ghost use Rattle.std.specs.Prelude.{IfOk, IsErr, OnErr, OnOk};
 ghost use Rattle.cell_words.specs.Term.{Term, part, IsFive};
 ghost use Rattle.minor_heap.specs.Nursery.{Stands, field_at, FitsRecord};
 ghost use Rattle.minor_heap.specs.Terms.{field_term, record_term, term_of, terms_of};
@@ -50,7 +51,8 @@ impl MinorHeap {
         ensures records { OnOk result (self.new.records ≡ self.old.records ++ fields ∷ []) }
         ensures room { self.new.room ≡ self.old.room }
         ensures term { OnOk result ((shared : List Term) → terms_of shared self.new.records
-            ≡ terms_of shared self.old.records ++ record_term shared (terms_of shared self.old.records) fields ∷ []) }
+            ≡ terms_of shared self.old.records
+            ++ record_term shared (terms_of shared self.old.records) fields ∷ []) }
         ensures full { IsErr result ↔ (length self.old.records ≡ self.old.room) }
         ensures unchanged { OnErr result (self.new ≡ self.old) }
     {

@@ -6,7 +6,7 @@
 //! here takes memory but `with_room` and `reached`. Copying records into the shared heap is left to
 //! others; `mark` and `reached` say which records such a copy needs.
 //!
-//! Reading order: `fields`, `record`, `heap`, `marks`, `theorems`.
+//! Reading order: `fields`, `record`, `heap`, `marks`.
 #![tactic(auto)]
 
 mod fields;

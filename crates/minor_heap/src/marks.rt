@@ -3,7 +3,8 @@
 //! A record names older ones alone, so one pass from the newest record down to the oldest finds all
 //! that the marked ones reach: when a record's turn comes, no later turn can mark it. No stack is
 //! needed.
-ghost use Rattle.std.specs.Prelude.{◌≡◌, ◌<◌, ◌^◌, ◌↔◌, All, IfOk, [], false, length, replicate, slice_index_or};
+ghost use Rattle.std.specs.Prelude.{◌≡◌, ◌<◌, ◌^◌, ◌↔◌, All, IfOk, [], false};
+ghost use Rattle.std.specs.Prelude.{length, replicate, slice_index_or};
 ghost use Rattle.std.specs.List.{Contains};
 ghost use Rattle.minor_heap.specs.declared.fields.MinorRef.{MinorRef};
 ghost use Rattle.minor_heap.specs.Nursery.{FitsRecord, Stands};
@@ -20,7 +21,8 @@ impl MinorHeap {
     pub fn mark(&self, marks: &mut [bool])
         requires length { length marks.old ≡ length self.now.records }
         ensures length { length marks.new ≡ length marks.old }
-        ensures marks { (r : MinorRef) → IsMarked marks.new r ↔ Reaches self.now.records (IsMarked marks.old) r }
+        ensures marks { (r : MinorRef) → IsMarked marks.new r
+            ↔ Reaches self.now.records (IsMarked marks.old) r }
     {
         let _ = &self.records;
         let mut number = self.len();
@@ -36,7 +38,8 @@ impl MinorHeap {
     fn mark_named(&self, r: MinorRef, marks: &mut [bool])
         requires stands { Stands self.now.records r }
         requires length { length marks.old ≡ length self.now.records }
-        ensures marks { marks.new ≡ with_fields 5 (slice_index_or self.now.records r.number []) marks.old }
+        ensures marks { marks.new
+            ≡ with_fields 5 (slice_index_or self.now.records r.number []) marks.old }
     {
         for i in 0..5 {
             mark_field(self.field(r, i), marks);
@@ -59,7 +62,8 @@ impl MinorHeap {
         requires stand { All (λ r. r.number < length self.now.records) from.now }
         requires unmarked { marks.old ≡ replicate (length self.now.records) false }
         ensures length { length marks.new ≡ length marks.old }
-        ensures marks { (r : MinorRef) → IsMarked marks.new r ↔ Reaches self.now.records (Contains from.now) r }
+        ensures marks { (r : MinorRef) → IsMarked marks.new r
+            ↔ Reaches self.now.records (Contains from.now) r }
     {
         mark_all(from, marks);
         self.mark(marks);

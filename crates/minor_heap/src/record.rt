@@ -1,7 +1,7 @@
 //! A record as it lies in memory.
 //!
-//! The kinds and the words of the five fields stand apart, so that a record has 45 bytes. Five
-//! fields as they are would have 80.
+//! The kinds and the words of the five fields stand apart, so that a record takes 48 bytes. Five
+//! fields as they are would take 80.
 ghost use Rattle.std.specs.Prelude.{◌≡◌, ◌<◌, length, slice_index_or};
 ghost use Rattle.minor_heap.specs.declared.fields.MinorField.TheVariants as field;
 ghost use Rattle.minor_heap.specs.Record.{field_of, kind_of, word_of, IsNumbered};

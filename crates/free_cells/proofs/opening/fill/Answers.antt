@@ -11,7 +11,8 @@ use Rattle.free_cells.proofs.opening.fill.Goals as goal
 pub push_as-requires-clause-rule : goal.push_as-requires-clause-rule
 push_as-requires-clause-rule g c =
     let known = ap (λ (v : Counts). v.cells) c.requires.counts in
-    let fits : c.args.cell < (view c.args.pass.now).cells = omega (arith, c.requires.range, known) in
+    let fits : c.args.cell < (view c.args.pass.now).cells =
+    omega (arith, c.requires.range, known) in
     (pushes _ _ _ _ fits, learns _ _)
 
 -- fewer numbers stand there than there is room for
@@ -25,4 +26,5 @@ unreachable-requires g c =
 
 pub returns-clause-counts : goal.returns-clause-counts
 returns-clause-counts g c =
-    c.in-Ok.ensures.rule ∙ ap (pushed c.args.cell) c.requires.counts ∙ fills c.args.cells c.args.first c.args.cell c.requires.first
+    c.in-Ok.ensures.rule ∙ ap (pushed c.args.cell) c.requires.counts
+    ∙ fills c.args.cells c.args.first c.args.cell c.requires.first

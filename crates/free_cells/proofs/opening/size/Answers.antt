@@ -8,4 +8,5 @@ use Rattle.free_cells.proofs.opening.size.Goals as goal
 
 pub another-unused-requires-clause-rule : goal.another-unused-requires-clause-rule
 another-unused-requires-clause-rule g c =
-    subst (λ (v : Counts). Forks IsBelow c.args.pass.now.id v (opened g.S.Opening.cells) unused) (sym c.requires.counts) (sizes _ _)
+    subst (λ (v : Counts). Forks IsBelow c.args.pass.now.id v (opened g.S.Opening.cells) unused)
+    (sym c.requires.counts) (sizes _ _)

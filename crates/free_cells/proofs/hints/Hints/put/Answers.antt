@@ -6,7 +6,9 @@ use Rattle.free_cells.proofs.hints.Hints.put.Goals as goal
 
 pub push_as-requires-clause-rule : goal.push_as-requires-clause-rule
 push_as-requires-clause-rule g c =
-    let fits : c.args.cell < (view c.args.self.now.pass).cells = omega (arith, c.requires.range, c.args.self.now.of_queue.cells) in (puts _ _ _ _ fits, learns _ _)
+    let fits : c.args.cell < (view c.args.self.now.pass).cells =
+    omega (arith, c.requires.range, c.args.self.now.of_queue.cells) in
+    (puts _ _ _ _ fits, learns _ _)
 
 pub another-unused-requires-clause-rule : goal.another-unused-requires-clause-rule
 another-unused-requires-clause-rule g c =

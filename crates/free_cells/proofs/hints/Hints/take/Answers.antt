@@ -6,7 +6,8 @@ use Rattle.free_cells.proofs.hints.Hints.take.Goals as goal
 
 pub pop_as-requires-clause-rule : goal.pop_as-requires-clause-rule
 pop_as-requires-clause-rule g c =
-    let used : 0 < (view c.args.self.now.pass).cells = omega (arith, c.args.self.now.of_queue.cells, c.args.self.now.queue.now.some_cell) in
+    let used : 0 < (view c.args.self.now.pass).cells =
+    omega (arith, c.args.self.now.of_queue.cells, c.args.self.now.queue.now.some_cell) in
     (takes _ _ used, learns _ _)
 
 pub another-unused-requires-clause-rule : goal.another-unused-requires-clause-rule

@@ -12,18 +12,21 @@ use Rattle.minor_heap.proofs.heap.MinorHeap.field.Goals as goal
 ordered : (c : goal.After-field) → IsOrdered 0 c.args.self.now.records
 ordered c = subst (λ (n : Nursery). IsOrdered 0 n.records) c.self.view_is c.self.invariant.ordered
 
-found : (c : goal.After-field) → c.field.result ≡ field_at c.args.self.now.records c.args.r.number c.args.i
+found : (c : goal.After-field) → c.field.result
+    ≡ field_at c.args.self.now.records c.args.r.number c.args.i
 found c =
     let records = c.self.inside.records.items in
     let count = ap (λ (n : Nursery). length n.records) c.self.view_is in
     let stands : c.args.r.number < length records = omega (arith, c.requires.stands, count) in
     let there = get_or_read records c.args.r.number _ stands c.index.ensures [] in
-    c.field.ensures.field ∙ ap (λ (fields : List MinorField). slice_index_or fields c.args.i field.Null) there
+    c.field.ensures.field
+    ∙ ap (λ (fields : List MinorField). slice_index_or fields c.args.i field.Null) there
     ∙ ap (λ (n : Nursery). field_at n.records c.args.r.number c.args.i) c.self.view_is
 
 pub returns-clause-older : goal.returns-clause-older
 returns-clause-older c =
-    subst (λ (f : MinorField). FitsRecord c.args.r.number f) (sym (found c)) (fits_is _ _ _ (ordered c) c.requires.stands)
+    subst (λ (f : MinorField). FitsRecord c.args.r.number f) (sym (found c))
+    (fits_is _ _ _ (ordered c) c.requires.stands)
 
 pub returns-clause-record : goal.returns-clause-record
 returns-clause-record c shared = is_five shared _ c.args.r (ordered c) c.requires.stands

@@ -13,4 +13,6 @@ returns-clause-marks c =
     let blank = c.requires.unmarked in
     let first = c.mark_all.ensures.marks ∙ ap (with_refs c.args.from.now) blank in
     let roots = refs_marked count c.args.from.now c.requires.stand (length-replicate count false) in
-    from_marks _ _ _ _ (subst (λ (m : List Bool). (r : MinorRef) → IsMarked m r ↔ Contains c.args.from.now r) (sym first) roots) c.mark.ensures.marks
+    from_marks _ _ _ _
+    (subst (λ (m : List Bool). (r : MinorRef) → IsMarked m r ↔ Contains c.args.from.now r)
+    (sym first) roots) c.mark.ensures.marks

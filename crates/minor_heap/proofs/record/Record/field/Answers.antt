@@ -8,8 +8,11 @@ use Rattle.minor_heap.proofs.record.Record.field.Goals as goal
 pub returns : goal.returns
 returns c =
     let s = c.self.inside in
-    let in_kinds : c.args.i < length s.kinds = omega (arith, c.requires.range, c.self.invariant.five) in
+    let in_kinds : c.args.i < length s.kinds =
+    omega (arith, c.requires.range, c.self.invariant.five) in
     let in_words : c.args.i < length s.words = omega (arith, c.requires.range, c.self.told) in
     let there = field_there s.kinds s.words c.args.i in_kinds in_words in
-    let read = ap (λ (fields : List MinorField). slice_index_or fields c.args.i field.Null) c.self.view_is in
+    let read =
+    ap (λ (fields : List MinorField). slice_index_or fields c.args.i field.Null) c.self.view_is
+    in
     record { field = c.unpacked.ensures.field ∙ sym there ∙ read }

@@ -12,9 +12,13 @@ returns c =
     let d = packed _ _ _ c.kind-3.ensures.kind c.word-3.ensures.word in
     let e = packed _ _ _ c.kind-4.ensures.kind c.word-4.ensures.word in
     let f = packed _ _ _ c.kind-5.ensures.kind c.word-5.ensures.word in
-    record { fields = (λ i. a i ∷ b i ∷ d i ∷ e i ∷ f i ∷ []) ∙ five_fields c.args.fields.now c.requires.five }
+    record {
+      fields = (λ i. a i ∷ b i ∷ d i ∷ e i ∷ f i ∷ [])
+          ∙ five_fields c.args.fields.now c.requires.five;
+    }
 
-numbered : (k : FieldKind) (f : MinorField) (w : ℕ) → k ≡ kind_of f → IsNumbered (kind_of f) w → IsNumbered k w
+numbered : (k : FieldKind) (f : MinorField) (w : ℕ) → k ≡ kind_of f → IsNumbered (kind_of f) w
+    → IsNumbered k w
 numbered k f w same is = subst (λ (x : FieldKind). IsNumbered x w) (sym same) is
 
 pub invariant_of-result : goal.invariant_of-result
