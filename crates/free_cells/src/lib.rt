@@ -6,9 +6,10 @@
 //! its calls, so that contracts above can say that a call went to the queue. As long as one pass is
 //! the only one it knows the numbers too, and then the queue is first in, first out by contract.
 //!
-//! Reading order: `counts`, `queue`, `opening`, `hints`.
+//! Reading order: `counts`, `queue`, `opening`, `hints`, `calls`.
 #![tactic(auto)]
 
+mod calls;
 mod counts;
 mod hints;
 mod opening;

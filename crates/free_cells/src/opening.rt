@@ -2,6 +2,7 @@
 ghost use Rattle.std.specs.Prelude.{◌≡◌, ◌<◌, ◌≤◌, ◌+◌, ◌-◌, IfOk, IsOk};
 ghost use Rattle.crossbeam_queue.specs.Passes.{IsPassOf, ruled_capacity, view};
 ghost use Rattle.free_cells.specs.Counts.{begun, filled, opened, shared};
+ghost use Rattle.free_cells.specs.Hints.{cells_of, counts_of, queue_of};
 ghost use Rattle.free_cells.specs.Passes.{IsHintPass};
 
 use crate::NoMemory;
@@ -23,7 +24,7 @@ impl FreeQueue {
         requires cells { 0 < cells }
         requires first { first ≤ cells }
         ensures pass { IfOk result (λ made. IsHintPass made.0 made.1) }
-        ensures cells { IfOk result (λ made. made.0.cells ≡ cells) }
+        ensures cells { IfOk result (λ made. cells_of made.0 ≡ cells) }
         ensures filled { IfOk result (λ made. view made.1 ≡ filled cells first (cells - first)) }
     {
         let (ring, mut pass) = Ring::ruled(alloc, cells as usize)?;
@@ -49,8 +50,8 @@ impl FreeQueue {
     /// The queue with a pass, in the hands of one thread.
     pub fn hints(&self, pass: HintPass) -> Hints<'_>
         requires pass { IsHintPass self.now pass }
-        ensures queue { result.queue.now ≡ self.now }
-        ensures counts { view result.pass ≡ view pass }
+        ensures queue { queue_of result ≡ self.now }
+        ensures counts { counts_of result ≡ view pass }
     {
         Hints { queue: self, pass }
     }
