@@ -1,0 +1,4 @@
+pub mod Below
+pub mod Counts
+pub mod Hints
+pub mod Passes

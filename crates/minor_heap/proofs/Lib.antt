@@ -1,0 +1,4 @@
+pub mod Packing
+pub mod Passing
+pub mod Reached
+pub mod Terms

@@ -1,0 +1,5 @@
+pub mod Marking
+pub mod Nursery
+pub mod Reaches
+pub mod Record
+pub mod Terms
