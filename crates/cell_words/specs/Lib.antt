@@ -3,3 +3,4 @@ pub mod Control
 pub mod Field
 pub mod Modes
 pub mod Presence
+pub mod Term

@@ -8,7 +8,7 @@
 //!
 //! When a word may change is not said here: that is the core machine above.
 //!
-//! Reading order: `colours`, `fields`, `presences`, `controls`, `write_barrier`, `modes`.
+//! Reading order: `colours`, `fields`, `presences`, `controls`, `write_barrier`, `modes`, `terms`.
 #![tactic(auto)]
 
 mod colours;
@@ -16,6 +16,7 @@ mod controls;
 mod fields;
 pub mod modes;
 mod presences;
+mod terms;
 mod write_barrier;
 
 pub use colours::{Colour, pack_colour, unpack_colour};
@@ -24,4 +25,5 @@ pub use controls::{
 };
 pub use fields::{Field, Kind, Row, pack_field, unpack_field};
 pub use presences::{Presence, Status, pack_presence, unpack_presence};
+pub use terms::{Term, Terms};
 pub use write_barrier::Barrier;

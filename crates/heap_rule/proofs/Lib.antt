@@ -1,0 +1,6 @@
+pub mod Carried
+pub mod Holding
+pub mod Lists
+pub mod Makers
+pub mod Quiet
+pub mod Unmoved

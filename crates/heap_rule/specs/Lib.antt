@@ -1,0 +1,4 @@
+pub mod Boxes
+pub mod Facts
+pub mod Knowledge
+pub mod Lore
