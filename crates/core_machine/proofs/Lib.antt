@@ -1,3 +1,11 @@
+pub mod Conditions
+pub mod Frames
+pub mod HasWords
+pub mod OneOperation
 pub mod Ranges
+pub mod Rooms
 pub mod Runs
+pub mod Table
 pub mod Told
+pub mod Trails
+pub mod WordOperations

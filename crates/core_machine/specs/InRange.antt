@@ -4,8 +4,9 @@
 -- Each group of facts takes the parts of the state that it reads, so an event that changes none of
 -- these keeps the group as it is.
 -- Source: this project's.
-use Rattle.std.specs.Prelude.{ℕ, ◌≡◌, ◌+◌, ◌*◌, ◌<◌, ◌≤◌, Bool, true, nat_lt, List, length, slice_index, Option, Some, None}
+use Rattle.std.specs.Prelude.{ℕ, ◌≡◌, ◌+◌, ◌*◌, ◌^◌, ◌<◌, ◌≤◌, Bool, true, nat_lt, List, length, slice_index, Option, Some, None}
 use Rattle.std.specs.List.{count_by, list_all}
+use Rattle.cell_words.specs.Presence.{is_valid_presence}
 use Rattle.cell_words.specs.declared.colours.Colour.{Colour}
 use Rattle.cell_words.specs.declared.controls.Control.{Control}
 use Rattle.cell_words.specs.declared.controls.Stage.{Stage}
@@ -18,7 +19,7 @@ use Rattle.core_machine.specs.declared.progress.Sweeping.{Sweeping}
 use Rattle.core_machine.specs.declared.progress.Sweeping.TheVariants as sweeping
 use Rattle.core_machine.specs.Own.{Own}
 use Rattle.core_machine.specs.Places.{cell_at}
-use Rattle.core_machine.specs.State.{State, greatest_cells, greatest_cycles, row_in, field_in, own_in}
+use Rattle.core_machine.specs.State.{State, greatest_cells, greatest_cycles, row_in, field_in, own_in, presence_in}
 use Rattle.core_machine.specs.Words.{is_blue}
 
 -- the lists that go by cells
@@ -125,3 +126,20 @@ pub record IsShaped (s : State) : Type 0 where
 pub record InRange (s : State) : Type 0 where
   pub shape : IsShaped s
   pub few_cells : s.cells ≤ greatest_cells
+
+-- Words. The machine asks for none of this; it holds in every run from first rows that have words
+-- (proofs/HasWords).
+
+-- the field is a number that fits its word, or none
+abbrev pub NumberFits : Field → Type 0
+NumberFits field.Null = Unit {0}
+NumberFits (field.Num n) = n < 2 ^ 62
+NumberFits (field.Cell c) = Unit {0}
+
+pub record HaveWords (rows : List (List Field)) (presences : List Presence) : Type 0 where
+  pub numbers_fit : (c f : ℕ) → NumberFits (field_in rows c f)
+  pub never_both : (i : ℕ) → is_valid_presence (presence_in presences i) ≡ true
+
+-- each field and each presence has a word, in a heap of at most 2^32 cells
+abbrev pub HasWords : State → Type 0
+HasWords s = HaveWords s.rows s.presences

@@ -1,4 +1,6 @@
 pub mod Collector
+pub mod Conditions
+pub mod Frames
 pub mod Handshakes
 pub mod InRange
 pub mod Mutation
@@ -10,6 +12,9 @@ pub mod Places
 pub mod Run
 pub mod State
 pub mod Sweep
+pub mod Table
 pub mod Takes
 pub mod Tracing
+pub mod Trail
+pub mod WordOperations
 pub mod Words

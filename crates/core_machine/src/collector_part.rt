@@ -11,8 +11,9 @@ use cell_words::{Colour, Stage};
 use std::alloc::Global;
 use std::marker::Model;
 
+/// What the collector knows and no word of the heap shows.
 #[derive(Drop)]
-pub(crate) struct CollectorPart {
+pub struct CollectorPart {
     answered: Vec<bool>,
     anchor_marked: bool,
     cursor: u32,

@@ -24,13 +24,16 @@ mod mutator_events;
 mod mutator_part;
 mod mutator_parts;
 mod opening;
+mod own_part;
 mod places;
 mod progress;
 mod taking;
 mod words;
 
+pub use collector_part::CollectorPart;
 pub use events::{Event, Found, Taken};
 pub use machine::{Machine, NotNow};
+pub use own_part::OwnPart;
 pub use places::Held;
 pub use progress::{Scanning, Sweeping};
 pub use std::alloc::AllocError as NoMemory;

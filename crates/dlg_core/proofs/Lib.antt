@@ -1,3 +1,4 @@
+pub mod Along
 pub mod Changes
 pub mod Claimed
 pub mod Collects
@@ -13,3 +14,4 @@ pub mod Step
 pub mod Sums
 pub mod Throughout
 pub mod Truths
+pub mod Untouched

@@ -12,6 +12,11 @@ abbrev pub taken_from : State → List Event → List Taken
 taken_from s [] = []
 taken_from s (e ∷ es) = record { event = e; found = found_by s e } ∷ taken_from (after s e) es
 
+-- the events alone
+abbrev pub events_of : List Taken → List Event
+events_of [] = []
+events_of (t ∷ ts) = t.event ∷ events_of ts
+
 -- the events are a run from the state, and lead to the other
 pub record LeadsTo (s : State) (events : List Event) (t : State) : Type 0 where
   pub runs : Runs s (taken_from s events)

@@ -278,7 +278,7 @@ scan_keeps s r can =
     (r.names_fit.fields_fit x.cell x.next))
 
 -- the child is a cell that there is, and a field is left
-child_fits : (n : ℕ) (scan : Option Scanning) → ScanFits n scan → may_shade scan ≡ true
+pub child_fits : (n : ℕ) (scan : Option Scanning) → ScanFits n scan → may_shade scan ≡ true
     → (child_or_anchor (scan_or_none scan).child < n) × ScanFits n (on_scan scan_shaded scan)
 child_fits n None fits may = cc
 child_fits n (Some x) fits may = child_there n x x.child (fits.0) (fits.2) may
@@ -296,7 +296,7 @@ shade_keeps s r can =
     tracing_kept _ (colour_kept s r child (shaded (colour_of s child)) fits.0 (shaded-blue (colour_of s child)))
     s.collector.anchor_marked s.collector.cursor s.collector.clean _ fits.1
 
-scan_cell_below : (n : ℕ) (scan : Option Scanning) → ScanFits n scan → may_blacken scan ≡ true
+pub scan_cell_below : (n : ℕ) (scan : Option Scanning) → ScanFits n scan → may_blacken scan ≡ true
     → (scan_or_none scan).cell < n
 scan_cell_below n None fits may = cc
 scan_cell_below n (Some x) fits may = fits.0
@@ -314,7 +314,7 @@ not_still : (sweep : Sweeping) → sweep ≡ sweeping.Fresh → is_fresh sweep �
 not_still sweep still busy = let both : true ≡ false = sym (ap is_fresh still) ∙ busy in cc
 
 -- what is being swept is swept in the stage Sweep
-in_sweep : (n : ℕ) (control : Control) (sweep : Sweeping) → ControlFits n control sweep → is_fresh sweep ≡ false
+pub in_sweep : (n : ℕ) (control : Control) (sweep : Sweeping) → ControlFits n control sweep → is_fresh sweep ≡ false
     → (control.stage ≡ stage.Sweep) × SweepFits n control.position sweep
 in_sweep n control sweep fits busy = by_stage control.stage fits.stage_fits
   where
@@ -378,7 +378,7 @@ wiping_fits n position (sweeping.Wiping k) may fits = let lower : k < 6 = ltb-tr
 wiping_fits n position sweeping.BlackFound may fits = cc
 wiping_fits n position sweeping.Done may fits = cc
 
-wiping_busy : (sweep : Sweeping) → may_wipe sweep ≡ true → is_fresh sweep ≡ false
+pub wiping_busy : (sweep : Sweeping) → may_wipe sweep ≡ true → is_fresh sweep ≡ false
 wiping_busy sweeping.Fresh may = cc
 wiping_busy (sweeping.Wiping k) may = refl
 wiping_busy sweeping.BlackFound may = cc
@@ -400,7 +400,7 @@ freeing_fits n position (sweeping.Wiping k) may fits = (fits.0, refl)
 freeing_fits n position sweeping.BlackFound may fits = cc
 freeing_fits n position sweeping.Done may fits = cc
 
-freeing_busy : (sweep : Sweeping) → may_free sweep ≡ true → is_fresh sweep ≡ false
+pub freeing_busy : (sweep : Sweeping) → may_free sweep ≡ true → is_fresh sweep ≡ false
 freeing_busy sweeping.Fresh may = cc
 freeing_busy (sweeping.Wiping k) may = refl
 freeing_busy sweeping.BlackFound may = cc
@@ -443,7 +443,7 @@ black_fits n position (sweeping.Wiping k) found fits = cc
 black_fits n position sweeping.BlackFound found fits = (fits, refl)
 black_fits n position sweeping.Done found fits = cc
 
-black_busy : (sweep : Sweeping) → is_black_found sweep ≡ true → is_fresh sweep ≡ false
+pub black_busy : (sweep : Sweeping) → is_black_found sweep ≡ true → is_fresh sweep ≡ false
 black_busy sweeping.Fresh found = cc
 black_busy (sweeping.Wiping k) found = refl
 black_busy sweeping.BlackFound found = refl

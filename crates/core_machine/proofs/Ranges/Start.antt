@@ -14,7 +14,7 @@ use Rattle.core_machine.specs.State.{State, greatest_cells, row_in, field_in, nu
 use Rattle.core_machine.specs.Words.{is_blue}
 
 -- a list of defaults has the default everywhere
-default_in : {X : Type 0} (m i : ℕ) (d : X) → get_or (replicate m d) i d ≡ d
+pub default_in : {X : Type 0} (m i : ℕ) (d : X) → get_or (replicate m d) i d ≡ d
 default_in zero i d = refl
 default_in (suc m) zero d = refl
 default_in (suc m) (suc i) d = default_in m i d
