@@ -1,6 +1,6 @@
 -- What an event that leaves a cell alone leaves of the facts on it.
 use Rattle.std.proofs.Common.{◌≡◌, ◌<◌, ℕ, Bool, true, false, List, [], ◌∷◌, length, get_or}
-use Rattle.std.proofs.Common.{Option, Some, None, refl, sym, ◌∙◌, ap, subst}
+use Rattle.std.proofs.Common.{Option, Some, None, refl, sym, ◌∙◌, ap, subst, arith}
 use Rattle.cell_words.specs.declared.fields.Field.{Field}
 use Rattle.cell_words.specs.declared.fields.Field.TheVariants as field
 use Rattle.cell_words.specs.Term.{Term, five}
@@ -39,15 +39,16 @@ known_moved fixed a b row now t u f g i x (knows.Boxed told) rows term fresh ent
     (h.0, ap is_box_kind (rows 5) ∙ h.1, fresh ∙ h.2,
       λ n other lt is told_is. ap (entry_of b) (rows n) ∙ entries n ∙ h.3 n other lt is told_is)
 
-pub five_moved : (a b : Terms) (row now : ℕ → Field) → ((n : ℕ) → entry_of b (now n) ≡ entry_of a (row n))
+pub five_moved : (a b : Terms) (row now : ℕ → Field) → ((n : ℕ) → n < 5 → entry_of b (now n) ≡ entry_of a (row n))
     → five_of b now ≡ five_of a row
 five_moved a b row now e =
-    λ t. five (term_of (e 0 t)) (term_of (e 1 t)) (term_of (e 2 t)) (term_of (e 3 t)) (term_of (e 4 t))
+    let at : (n : ℕ) → n < 5 → term_of (entry_of b (now n)) ≡ term_of (entry_of a (row n)) = (λ n lt. ap term_of (e n lt)) in
+    λ t. five (at 0 (omega arith) t) (at 1 (omega arith) t) (at 2 (omega arith) t) (at 3 (omega arith) t) (at 4 (omega arith) t)
 
 pub term_moved : (is : Bool) (a b : Terms) (row now : ℕ → Field) (t u : Option Term) → u ≡ t
-    → ((n : ℕ) → entry_of b (now n) ≡ entry_of a (row n)) → TermFits is a row t → TermFits is b now u
+    → ((n : ℕ) → n < 5 → entry_of b (now n) ≡ entry_of a (row n)) → TermFits is a row t → TermFits is b now u
 term_moved true a b row now t u term e h =
-    (term ∙ h.0 ∙ sym (ap Some (five_moved a b row now e)), λ n lt. subst IsPlain (sym (e n)) (h.1 n lt))
+    (term ∙ h.0 ∙ sym (ap Some (five_moved a b row now e)), λ n lt. subst IsPlain (sym (e n lt)) (h.1 n lt))
 term_moved false a b row now t u term e h = term ∙ h
 
 module _ (s t : State) (l m : Lore) where
@@ -61,8 +62,8 @@ module _ (s t : State) (l m : Lore) where
   pub fits_on : (x : ℕ) → SameAt s t l m x → TermFits (is_record_kind (field_of s x 5)) l.terms (field_of s x) (l.terms x)
       → TermFits (is_record_kind (field_of t x 5)) m.terms (field_of t x) (m.terms x)
   fits_on x same h =
-      let e : (n : ℕ) → entry_of m.terms (field_of t x n) ≡ entry_of l.terms (field_of s x n)
-      = (λ n. ap (entry_of m.terms) (same.rows n) ∙ same.entries n) in
+      let e : (n : ℕ) → n < 5 → entry_of m.terms (field_of t x n) ≡ entry_of l.terms (field_of s x n)
+      = (λ n lt. ap (entry_of m.terms) (same.rows n) ∙ same.entries n) in
       term_moved (is_record_kind (field_of t x 5)) l.terms m.terms (field_of s x) (field_of t x) (l.terms x) (m.terms x) same.term e
       (subst (λ (b : Bool). TermFits b l.terms (field_of s x) (l.terms x)) (sym (ap is_record_kind (same.rows 5))) h)
 

@@ -3,4 +3,5 @@ pub mod Holding
 pub mod Lists
 pub mod Makers
 pub mod Quiet
+pub mod Reading
 pub mod Unmoved
