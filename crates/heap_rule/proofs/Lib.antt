@@ -1,4 +1,5 @@
 pub mod Carried
+pub mod Claiming
 pub mod Holding
 pub mod Lists
 pub mod Makers

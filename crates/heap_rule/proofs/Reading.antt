@@ -149,6 +149,10 @@ pub has_old : (cells : List ℕ) (c x : ℕ) → has cells x ≡ true → has (c
 has_old cells c x h =
     list_any-append (λ (d : ℕ). d == x) cells (c ∷ []) ∙ ap (λ (b : Bool). b || has (c ∷ []) x) h
 
+pub has_last : (cells : List ℕ) (c : ℕ) → has (cells ++ c ∷ []) c ≡ true
+has_last [] c = or_here (c == c) (has [] c) (eq-eqb c c refl)
+has_last (d ∷ cells) c = or_later (d == c) (has (cells ++ c ∷ []) c) (has_last cells c)
+
 module _ (fixed : ℕ → Bool) (s : State) (l : Lore) (i place f : ℕ) (shape : IsShaped s) (k : IsConsistent s)
     (facts : Facts fixed s l) (inside : is_in s i ≡ true) (there : place < length (held_of s i)) where
   here : Reachable s (target_of s i place)
