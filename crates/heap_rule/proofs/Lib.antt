@@ -5,4 +5,5 @@ pub mod Lists
 pub mod Makers
 pub mod Quiet
 pub mod Reading
+pub mod Storing
 pub mod Unmoved

@@ -2,7 +2,7 @@
 --
 -- They are of reachable cells alone: what lies behind garbage is freed and claimed again.
 -- Source: this project's.
-use Rattle.std.specs.Prelude.{ℕ, ◌≡◌, ◌<◌, ◌==◌, Bool, true, false, List, [], ◌∷◌, length}
+use Rattle.std.specs.Prelude.{ℕ, ◌≡◌, ◌<◌, ◌==◌, ◌&&◌, ◌||◌, Bool, true, false, List, [], ◌∷◌, length}
 use Rattle.std.specs.Prelude.{Option, Some, None}
 use Rattle.cell_words.specs.declared.fields.Field.{Field}
 use Rattle.cell_words.specs.declared.fields.Field.TheVariants as field
@@ -14,6 +14,7 @@ use Rattle.core_machine.specs.declared.events.Event.TheVariants as event
 use Rattle.core_machine.specs.State.{State, field_in, field_of, target_of}
 use Rattle.dlg_core.specs.Reachable.{Reachable}
 use Rattle.heap_rule.specs.declared.known.Known.{Known}
+use Rattle.heap_rule.specs.declared.known.Known.TheVariants as knows
 use Rattle.heap_rule.specs.Knowledge.{KnownAt}
 use Rattle.heap_rule.specs.Lore.{Entry, Plain, Named, Lore, Terms, Fresh, entry_of, five_of, known_in, cells_of, has}
 
@@ -44,6 +45,14 @@ pub record FreshFits (rows : ℕ → ℕ → Field) (reached : ℕ → Type 0) (
   pub alone : (x i j : ℕ) → fresh x ≡ Some i → has (cells j) x ≡ true → j ≡ i
   pub unnamed : (x i a f : ℕ) → fresh x ≡ Some i → reached a → rows a f ≡ field.Cell x → ⊥
 
+-- what is known of the cell is its term
+abbrev pub is_term : Known → Bool
+is_term knows.Nothing = false
+is_term (knows.Raw fields) = false
+is_term (knows.Fresh fields) = false
+is_term (knows.Record t) = true
+is_term (knows.Boxed terms) = false
+
 -- something is so of each cell and of what is known of it, and as many cells stand there as that
 abbrev pub AllKnown : (ℕ → Known → Type 0) → List ℕ → List Known → Type 0
 AllKnown K [] [] = Unit {0}
@@ -62,14 +71,26 @@ pub record Facts (fixed : ℕ → Bool) (s : State) (l : Lore) : Type 0 where
   pub known_fit : length l.known ≡ s.mutators
   pub known_all : (i : ℕ) → AllKnown (IsKnown fixed s l i) (cells_of s i) (known_in l.known i)
 
--- What is owed beside the event table: no write of a fixed field, but in the anchor; and a record's
--- fields have terms when it is sealed.
-abbrev pub SealsTerms : Kind → Terms → (ℕ → Field) → Type 0
-SealsTerms kind.Record terms row = (f : ℕ) → f < 5 → IsPlain (entry_of terms (row f))
-SealsTerms kind.Boxed terms row = Unit {0}
+-- What is owed beside the event table: no write of a fixed field, but in the anchor; and who seals a
+-- record knows the term of each of its fields.
+
+-- some place has the cell, with a term known of it
+abbrev pub knows_term : List ℕ → List Known → ℕ → Bool
+knows_term [] known c = false
+knows_term (cell ∷ cells) [] c = false
+knows_term (cell ∷ cells) (k ∷ known) c = ((cell == c) && is_term k) || knows_term cells known c
+
+abbrev pub IsTermKnown : List ℕ → List Known → Field → Type 0
+IsTermKnown cells known field.Null = Unit {0}
+IsTermKnown cells known (field.Num n) = Unit {0}
+IsTermKnown cells known (field.Cell c) = knows_term cells known c ≡ true
+
+abbrev pub SealsTerms : Kind → List ℕ → List Known → (ℕ → Field) → Type 0
+SealsTerms kind.Record cells known row = (f : ℕ) → f < 5 → IsTermKnown cells known (row f)
+SealsTerms kind.Boxed cells known row = Unit {0}
 
 abbrev pub Proper : (ℕ → Bool) → State → Lore → Event → Type 0
 Proper fixed s l (event.Write i place f old new) = fixed f ≡ true → target_of s i place ≡ 0
 Proper fixed s l (event.Seal i place of) =
-    SealsTerms of l.terms (field_of s (target_of s i place))
+    SealsTerms of (cells_of s i) (known_in l.known i) (field_of s (target_of s i place))
 Proper fixed s l _ = Unit {0}
