@@ -5,5 +5,7 @@ pub mod Lists
 pub mod Makers
 pub mod Quiet
 pub mod Reading
+pub mod Sealing
 pub mod Storing
 pub mod Unmoved
+pub mod Writing

@@ -52,13 +52,6 @@ pub revealed_here : (fresh : Fresh) (value : Field) (x j : ℕ) → value ≡ fi
 revealed_here fresh value x j is h =
     let none : None ≡ Some j = sym (put_here fresh x None) ∙ ap (λ (v : Field). revealed fresh v x) (sym is) ∙ h in absurd cc
 
--- What holds of a cell's kind tells it from another.
-differs : (test : Field → Bool) (a b : Field) (one other : Bool) → test a ≡ one → test b ≡ other → (one ≡ other → ⊥) → a ≡ b → ⊥
-differs test a b one other here there apart is = apart (sym here ∙ ap test is ∙ there)
-
-record_not_box : (x : Field) → x ≡ field.Num 1 → is_record_kind x ≡ true
-record_not_box x is = ap is_record_kind is
-
 -- Field f of cell x becomes the value, which names no cell or a sealed one that the maker holds.
 pub record Stores (fixed : ℕ → Bool) (s t : State) (l : Lore) (i x f : ℕ) (value : Field) : Type 0 where
   pub rows : t.rows ≡ set_field s.rows x f value
