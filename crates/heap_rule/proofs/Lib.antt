@@ -1,5 +1,6 @@
 pub mod Carried
 pub mod Claiming
+pub mod FactsAfter
 pub mod Holding
 pub mod Lists
 pub mod Makers
@@ -7,5 +8,4 @@ pub mod Quiet
 pub mod Reading
 pub mod Sealing
 pub mod Storing
-pub mod Unmoved
 pub mod Writing
