@@ -5,7 +5,7 @@ use Rattle.cell_words.specs.declared.fields.Field.{Field}
 use Rattle.cell_words.specs.declared.fields.Field.TheVariants as field
 use Rattle.cell_words.specs.Term.{Term, five}
 use Rattle.core_machine.specs.State.{State, field_of, held_of, presence_of}
-use Rattle.core_machine.specs.Words.{is_box_kind}
+use Rattle.core_machine.specs.Words.{is_box_kind, is_raw_kind}
 use Rattle.dlg_core.specs.Consistent.{IsConsistent}
 use Rattle.dlg_core.specs.Reachable.{Reachable, Reach, anchor, held, named}
 use Rattle.dlg_core.proofs.Computes.{into}
@@ -87,6 +87,9 @@ still_facts fixed s t l k same cells mutators facts = record {
     held = λ x i is. subst (λ (c : List ℕ). has c x ≡ true) (sym (cells i)) (facts.freshed.held x i is);
     alone = λ x i j is h. facts.freshed.alone x i j is (subst (λ (c : List ℕ). has c x ≡ true) (cells j) h);
     unnamed = λ x i a f is r e. facts.freshed.unnamed x i a f is (same a r).reached (sym ((same a r).rows f) ∙ e);
+    raw = λ x r h.
+        let was = facts.freshed.raw x (same x r).reached (ap is_raw_kind (sym ((same x r).rows 5)) ∙ h) in
+        (was.0, (same x r).fresh ∙ was.1);
   };
   known_fit = facts.known_fit ∙ sym mutators;
   known_all = λ i.

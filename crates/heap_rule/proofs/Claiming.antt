@@ -17,6 +17,7 @@ use Rattle.core_machine.specs.InRange.{IsShaped}
 use Rattle.core_machine.specs.Next.{can, after}
 use Rattle.core_machine.specs.Own.{Own, having_claimed}
 use Rattle.core_machine.specs.State.{State, colour_of, field_in, field_of, held_of, own_in, own_of}
+use Rattle.core_machine.specs.Words.{is_raw_kind}
 use Rattle.core_machine.proofs.Conditions.{claim_needs}
 use Rattle.dlg_core.specs.Consistent.{IsConsistent}
 use Rattle.dlg_core.specs.Reachable.{Reachable, Reach, anchor, named}
@@ -210,6 +211,12 @@ module _ (fixed : ℕ → Bool) (s t : State) (l : Lore) (i c : ℕ) (shape : Is
             let none : field.Null ≡ field.Cell x =
             sym (nulls f) ∙ ap (λ (n : ℕ). field_of s n f) (sym here) ∙ sym (fields b f) ∙ e in
             absurd cc
+      ];
+      raw = λ x r h. elim (cases_eq x c) [
+        | inl here ↦ (i, ap m.fresh here ∙ put_here l.fresh c (Some i))
+        | inr other ↦
+            let was = facts.freshed.raw x (back_else x r other) (ap is_raw_kind (sym (fields x 5)) ∙ h) in
+            (was.0, put_other l.fresh c (Some i) x other ∙ was.1)
       ];
     };
     known_fit = length-set l.known i _ ∙ facts.known_fit ∙ sym mutators;

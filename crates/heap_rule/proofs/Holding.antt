@@ -59,9 +59,8 @@ module _ (fixed : ℕ → Bool) (s : State) (l : Lore) (i : ℕ) (shape : IsShap
   begin_back = maker_back s (after s (event.Begin i)) i (begun (own_of s i)) refl k below refl
       (λ x h. anchor (sym (has_one 0 x h)))
 
-  pub facts_begin : Facts fixed (after s (event.Begin i)) (lore_after s l (event.Begin i))
-  facts_begin = made_facts fixed s (after s (event.Begin i)) l (lore_after s l (event.Begin i)) i (begun (own_of s i)) (knows.Nothing ∷ [])
-      (consistent_after s (event.Begin i) shape k happens)
+  pub begin_made : Made fixed s (after s (event.Begin i)) l (lore_after s l (event.Begin i)) i (begun (own_of s i)) (knows.Nothing ∷ [])
+  begin_made =
       record {
         owns = refl;
         knows = refl;
@@ -79,7 +78,11 @@ module _ (fixed : ℕ → Bool) (s : State) (l : Lore) (i : ℕ) (shape : IsShap
             sym facts.freshed.anchor ∙ ap l.fresh (has_one 0 x h) ∙ is in
             absurd cc;
         known_mine = (tt, tt);
-      } facts
+      }
+
+  pub facts_begin : Facts fixed (after s (event.Begin i)) (lore_after s l (event.Begin i))
+  facts_begin = made_facts fixed s (after s (event.Begin i)) l (lore_after s l (event.Begin i)) i (begun (own_of s i)) (knows.Nothing ∷ [])
+      (consistent_after s (event.Begin i) shape k happens) begin_made facts
 
 -- Keep and End.
 
@@ -138,13 +141,13 @@ dropped l i cells known = record {
   known = set l.known i known;
 }
 
-dropped_facts : (fixed : ℕ → Bool) (s t : State) (l : Lore) (i : ℕ) (own : Own) (known : List Known)
+dropped_made : (fixed : ℕ → Bool) (s t : State) (l : Lore) (i : ℕ) (own : Own) (known : List Known)
     → IsConsistent s → IsConsistent t → t.rows ≡ s.rows → t.owns ≡ set s.owns i own → t.mutators ≡ s.mutators
     → i < length s.owns → i < length l.known
     → ((x : ℕ) → has (cells_in own.held) x ≡ true → has (cells_of s i) x ≡ true)
     → AllKnown (IsKnown fixed s l i) (cells_in own.held) known
-    → Facts fixed s l → Facts fixed t (dropped l i (cells_in own.held) known)
-dropped_facts fixed s t l i own known k later rows owns mutators below known_below fewer before facts =
+    → Facts fixed s l → Made fixed s t l (dropped l i (cells_in own.held) known) i own known
+dropped_made fixed s t l i own known k later rows owns mutators below known_below fewer before facts =
     let cells = cells_in own.held in
     let m = dropped l i cells known in
     let fields : (x f : ℕ) → field_of t x f ≡ field_of s x f
@@ -164,7 +167,6 @@ dropped_facts fixed s t l i own known k later rows owns mutators below known_bel
       fresh = still_same i (has cells x) (l.fresh x) (stays x r);
       entries = λ f. refl;
     }) in
-    made_facts fixed s t l m i own known later
     record {
       owns = owns;
       knows = refl;
@@ -179,7 +181,7 @@ dropped_facts fixed s t l i own known k later rows owns mutators below known_bel
           (λ x w h is. knows_on s t l m fixed i x w
               (same x (reached_held t i x later (subst (λ (c : List ℕ). has c x ≡ true) (sym (cells_mine s t i own owns below)) h)))
               is) before;
-    } facts
+    }
 
 cells_taken : (n : ℕ) (places : List Held) → cells_in (take n places) ≡ take n (cells_in places)
 cells_taken zero places = refl
@@ -211,9 +213,10 @@ module _ (fixed : ℕ → Bool) (s : State) (l : Lore) (i : ℕ) (shape : IsShap
       let there = inside_below s i shape inside in
       omega (arith, there, facts.known_fit)
 
-  pub facts_keep : (count from copies : ℕ) → can s (event.Keep i count from copies) ≡ true
-      → Facts fixed (after s (event.Keep i count from copies)) (lore_after s l (event.Keep i count from copies))
-  facts_keep count from copies h =
+  pub keep_made : (count from copies : ℕ) → can s (event.Keep i count from copies) ≡ true
+      → Made fixed s (after s (event.Keep i count from copies)) l (lore_after s l (event.Keep i count from copies)) i
+      (keeping (own_of s i) count from copies) (take count (known_in l.known i) ++ take copies (drop from (known_in l.known i)))
+  keep_made count from copies h =
       let inside = keep_inside s i count from copies h in
       let t = after s (event.Keep i count from copies) in
       let own = keeping (own_of s i) count from copies in
@@ -224,7 +227,7 @@ module _ (fixed : ℕ → Bool) (s : State) (l : Lore) (i : ℕ) (shape : IsShap
       = all_append of (take count (cells_of s i)) (take copies (drop from (cells_of s i))) (take count known) (take copies (drop from known))
           (all_take of count (cells_of s i) known all)
           (all_take of copies (drop from (cells_of s i)) (drop from known) (all_drop of from (cells_of s i) known all)) in
-      dropped_facts fixed s t l i own (take count known ++ take copies (drop from known)) k
+      dropped_made fixed s t l i own (take count known ++ take copies (drop from known)) k
       (consistent_after s (event.Keep i count from copies) shape k h) refl refl refl (own_below inside) (known_below inside)
       (λ x there. has_holds (held_of s i) x
           ∙ holds_kept (held_of s i) count from copies x (sym (has_holds own.held x) ∙ there))
@@ -232,8 +235,21 @@ module _ (fixed : ℕ → Bool) (s : State) (l : Lore) (i : ℕ) (shape : IsShap
           (sym (cells_kept (held_of s i) count from copies)) parts)
       facts
 
-  pub facts_end : can s (event.End i) ≡ true → Facts fixed (after s (event.End i)) (lore_after s l (event.End i))
-  facts_end h =
-      dropped_facts fixed s (after s (event.End i)) l i (ended (own_of s i)) [] k
+  pub facts_keep : (count from copies : ℕ) → can s (event.Keep i count from copies) ≡ true
+      → Facts fixed (after s (event.Keep i count from copies)) (lore_after s l (event.Keep i count from copies))
+  facts_keep count from copies h =
+      made_facts fixed s (after s (event.Keep i count from copies)) l (lore_after s l (event.Keep i count from copies)) i
+      (keeping (own_of s i) count from copies) (take count (known_in l.known i) ++ take copies (drop from (known_in l.known i)))
+      (consistent_after s (event.Keep i count from copies) shape k h) (keep_made count from copies h) facts
+
+  pub end_made : can s (event.End i) ≡ true
+      → Made fixed s (after s (event.End i)) l (lore_after s l (event.End i)) i (ended (own_of s i)) []
+  end_made h =
+      dropped_made fixed s (after s (event.End i)) l i (ended (own_of s i)) [] k
       (consistent_after s (event.End i) shape k h) refl refl refl (own_below h) (known_below h)
       (λ x there. absurd (let none : has [] x ≡ true = there in cc)) tt facts
+
+  pub facts_end : can s (event.End i) ≡ true → Facts fixed (after s (event.End i)) (lore_after s l (event.End i))
+  facts_end h =
+      made_facts fixed s (after s (event.End i)) l (lore_after s l (event.End i)) i (ended (own_of s i)) []
+      (consistent_after s (event.End i) shape k h) (end_made h) facts

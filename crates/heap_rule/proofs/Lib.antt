@@ -4,6 +4,7 @@ pub mod FactsAfter
 pub mod Holding
 pub mod Lists
 pub mod Makers
+pub mod Maps
 pub mod Quiet
 pub mod Reading
 pub mod Sealing

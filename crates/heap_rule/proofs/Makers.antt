@@ -7,6 +7,7 @@ use Rattle.std.proofs.lemmas.List.{get_or-set_same, get_or-set_other}
 use Rattle.cell_words.specs.declared.fields.Field.{Field}
 use Rattle.cell_words.specs.declared.fields.Field.TheVariants as field
 use Rattle.core_machine.specs.Own.{Own, no_own}
+use Rattle.core_machine.specs.Words.{is_raw_kind}
 use Rattle.core_machine.specs.State.{State, field_in, field_of, held_of, own_in}
 use Rattle.dlg_core.specs.Consistent.{IsConsistent}
 use Rattle.dlg_core.specs.Reachable.{Reachable, Reach, anchor, held, named}
@@ -72,6 +73,9 @@ made_facts fixed s t l m i own known k made facts =
             (λ n other there. facts.freshed.alone x a n (made.less x a is) there) j h;
         unnamed = λ x a c f is r e.
             facts.freshed.unnamed x a c f (made.less x a is) (made.same c r).reached (sym ((made.same c r).rows f) ∙ e);
+        raw = λ x r h.
+            let was = facts.freshed.raw x (made.same x r).reached (ap is_raw_kind (sym ((made.same x r).rows 5)) ∙ h) in
+            (was.0, (made.same x r).fresh ∙ was.1);
       };
       known_fit = ap length made.knows ∙ length-set l.known i known ∙ facts.known_fit ∙ sym made.mutators;
       known_all = λ j. elim (cases_eq j i) [

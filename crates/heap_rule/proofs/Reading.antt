@@ -40,9 +40,9 @@ use Rattle.heap_rule.proofs.Makers.{Made, cells_mine, made_facts, maker_back}
 
 -- Wipe.
 
-pub facts_wipe : (fixed : ℕ → Bool) (s : State) (l : Lore) → IsShaped s → IsConsistent s → can s event.Wipe ≡ true
-    → Facts fixed s l → Facts fixed (after s event.Wipe) l
-facts_wipe fixed s l shape k h facts =
+pub wipe_same : (s : State) (l : Lore) → IsShaped s → IsConsistent s → can s event.Wipe ≡ true
+    → (x : ℕ) → Reachable (after s event.Wipe) x → SameAt s (after s event.Wipe) l l x
+wipe_same s l shape k h =
     let t = after s event.Wipe in
     let wiping = wipe_is s.collector.sweep h in
     let away : (x : ℕ) → Reachable s x → x ≢ s.control.position
@@ -52,8 +52,12 @@ facts_wipe fixed s l shape k h facts =
     let back : (x : ℕ) → Reachable t x → Reachable s x
     = back_from s t (λ i x there. reached_held s i x k there)
         (λ c d f r e. named f r (sym (fields c f (away c r)) ∙ e)) in
-    still_facts fixed s t l (consistent_after s event.Wipe shape k h)
-    (λ x r. record { reached = back x r; rows = λ f. fields x f (away x (back x r)); term = refl; fresh = refl; entries = λ f. refl })
+    λ x r. record { reached = back x r; rows = λ f. fields x f (away x (back x r)); term = refl; fresh = refl; entries = λ f. refl }
+
+pub facts_wipe : (fixed : ℕ → Bool) (s : State) (l : Lore) → IsShaped s → IsConsistent s → can s event.Wipe ≡ true
+    → Facts fixed s l → Facts fixed (after s event.Wipe) l
+facts_wipe fixed s l shape k h facts =
+    still_facts fixed s (after s event.Wipe) l (consistent_after s event.Wipe shape k h) (wipe_same s l shape k h)
     (λ i. refl) refl facts
 
 -- What is told of a cell is so.
@@ -218,16 +222,15 @@ module _ (fixed : ℕ → Bool) (s : State) (l : Lore) (i place f : ℕ) (shape 
                 (learned_so fixed s l i c facts reached, tt));
       }
 
-  read_facts : (found : Field) → field_of s (target_of s i place) f ≡ found → IsConsistent (reads found)
-      → Facts fixed (reads found) (tells found)
-  read_facts found is later =
+  pub read_made_by : (found : Field) → field_of s (target_of s i place) f ≡ found → IsConsistent (reads found)
+      → Made fixed s (reads found) l (tells found) i (having_read (own_of s i) found) (known_found known_here (learned_from s l found) found)
+  read_made_by found is later =
       let own = having_read (own_of s i) found in
       let grown = grows found is in
       let below : i < length s.owns = let lt = inside_below s i shape inside in let fit = shape.mutators_fit in omega (arith, lt, fit.owns_fit) in
       let back = maker_back s (reads found) i own refl k below refl grown.back in
       let same : (x : ℕ) → Reachable (reads found) x → SameAt s (reads found) l (tells found) x
       = (λ x r. record { reached = back x r; rows = λ g. refl; term = refl; fresh = refl; entries = λ g. refl }) in
-      made_facts fixed s (reads found) l (tells found) i own (known_found known_here (learned_from s l found) found) later
       record {
         owns = refl;
         knows = refl;
@@ -245,7 +248,21 @@ module _ (fixed : ℕ → Bool) (s : State) (l : Lore) (i place f : ℕ) (shape 
                 (same x (reached_held (reads found) i x later
                     (subst (λ (c : List ℕ). has c x ≡ true) (sym (cells_mine s (reads found) i own refl below)) h))) before)
             grown.known;
-      } facts
+      }
+
+  pub read_facts : (found : Field) → field_of s (target_of s i place) f ≡ found → IsConsistent (reads found)
+      → Facts fixed (reads found) (tells found)
+  read_facts found is later =
+      made_facts fixed s (reads found) l (tells found) i (having_read (own_of s i) found) (known_found known_here (learned_from s l found) found)
+      later (read_made_by found is later) facts
+
+pub read_same : (fixed : ℕ → Bool) (s : State) (l : Lore) (i place f : ℕ) → IsShaped s → IsConsistent s
+    → can s (event.Read i place f) ≡ true → Facts fixed s l → (x : ℕ) → Reachable (after s (event.Read i place f)) x
+    → SameAt s (after s (event.Read i place f)) l (lore_after s l (event.Read i place f)) x
+read_same fixed s l i place f shape k h facts =
+    let needs = read_needs s i place f h in
+    (read_made_by fixed s l i place f shape k facts needs.inside needs.there (field_of s (target_of s i place) f) refl
+        (consistent_after s (event.Read i place f) shape k h)).same
 
 pub facts_read : (fixed : ℕ → Bool) (s : State) (l : Lore) (i place f : ℕ) → IsShaped s → IsConsistent s
     → can s (event.Read i place f) ≡ true → Facts fixed s l

@@ -80,6 +80,10 @@ not_cell : (of : Kind) (c : ℕ) → kind_field of ≡ field.Cell c → ⊥
 not_cell kind.Record c h = absurd cc
 not_cell kind.Boxed c h = absurd cc
 
+not_raw : (of : Kind) → is_raw_kind (kind_field of) ≡ true → ⊥
+not_raw kind.Record h = absurd cc
+not_raw kind.Boxed h = absurd cc
+
 module _ (fixed : ℕ → Bool) (s : State) (l : Lore) (i place : ℕ) (of : Kind) (shape : IsShaped s) (k : IsConsistent s)
     (facts : Facts fixed s l) (h : can s (event.Seal i place of) ≡ true)
     (proper : SealsTerms of (cells_of s i) (known_in l.known i) (field_of s (target_of s i place))) where
@@ -278,6 +282,10 @@ module _ (fixed : ℕ → Bool) (s : State) (l : Lore) (i place : ℕ) (of : Kin
       held = facts.freshed.held;
       alone = facts.freshed.alone;
       unnamed = λ y j a f is r e. names_before (λ n. ⊥) a f y (λ g was. facts.freshed.unnamed y j a g is (back a r) was) e;
+      raw = λ y r is. elim (cases_eq y x) [
+        | inl here ↦ absurd (not_raw of (sym (ap is_raw_kind (ap (λ (n : ℕ). field_of t n 5) here ∙ kind_now)) ∙ is))
+        | inr other ↦ facts.freshed.raw y (back y r) (ap is_raw_kind (sym (fields y 5 (λ here five. other here))) ∙ is)
+      ];
     };
     known_fit = length-set l.known i _ ∙ facts.known_fit;
     known_all = λ j. elim (cases_eq j i) [

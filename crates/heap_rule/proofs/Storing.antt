@@ -64,6 +64,7 @@ pub record Stores (fixed : ℕ → Bool) (s t : State) (l : Lore) (i x f : ℕ) 
   pub no_record : is_record_kind (field_of s x 5) ≡ false
   pub proper : is_box_kind (field_of s x 5) ≡ true → fixed f ≡ true → x ≡ 0
   pub held : (c : ℕ) → value ≡ field.Cell c → has (cells_of s i) c ≡ true
+  pub sealed : (c : ℕ) → value ≡ field.Cell c → is_raw_kind (field_of s c 5) ≡ false
 
 module _ (fixed : ℕ → Bool) (s t : State) (l : Lore) (i x f : ℕ) (value : Field) (shape : IsShaped s) (k : IsConsistent s)
     (facts : Facts fixed s l) (later : IsConsistent t) (stores : Stores fixed s t l i x f value) where
@@ -239,6 +240,10 @@ module _ (fixed : ℕ → Bool) (s t : State) (l : Lore) (i x f : ℕ) (value : 
               (λ named_it there. revealed_here l.fresh value y j named_it h)
               (λ n b named_it there. facts.freshed.unnamed y j n b (revealed_less l.fresh value y j h) there named_it) a g
               (sym (ap (λ (rs : List (List Field)). field_in rs a g) stores.rows) ∙ e) (stored_back a r);
+          raw = λ y r h.
+              let is_raw : is_raw_kind (field_of s y 5) ≡ true = ap is_raw_kind (sym (kinds y)) ∙ h in
+              let was = facts.freshed.raw y (stored_back y r) is_raw in
+              (was.0, revealed_other l.fresh value y (λ e. let no = stores.sealed y e in absurd cc) ∙ was.1);
         };
         known_fit = length-set l.known i _ ∙ facts.known_fit ∙ sym stores.mutators;
         known_all = λ j. elim (cases_eq j i) [

@@ -11,7 +11,7 @@ use Rattle.core_machine.specs.InRange.{IsShaped}
 use Rattle.core_machine.specs.Mutation.{names_own}
 use Rattle.core_machine.specs.Next.{can, after}
 use Rattle.core_machine.specs.Own.{spent}
-use Rattle.core_machine.specs.State.{State, field_in, field_of, held_of, own_of, row_in, set_field, target_of}
+use Rattle.core_machine.specs.State.{State, field_in, field_of, held_of, is_raw_value, own_of, row_in, set_field, target_of}
 use Rattle.core_machine.specs.Words.{is_box_kind, is_raw_kind, same_field, written}
 use Rattle.core_machine.proofs.Conditions.{fill_needs, write_needs}
 use Rattle.dlg_core.specs.Consistent.{IsConsistent}
@@ -64,6 +64,7 @@ module _ (fixed : ℕ → Bool) (s : State) (l : Lore) (i place f : ℕ) (shape 
         no_record = raw_no_record (field_of s x 5) needs.raw;
         proper = λ box is. absurd (let no = raw_no_box (field_of s x 5) needs.raw in cc);
         held = named_held s i value needs.names;
+        sealed = λ c is. subst (λ (v : Field). is_raw_value s v ≡ false) is needs.sealed;
       } place (cell_there (held_of s i) place)
 
   -- a Write, by whether it was made
@@ -91,6 +92,7 @@ module _ (fixed : ℕ → Bool) (s : State) (l : Lore) (i place f : ℕ) (shape 
         no_record = box_no_record (field_of s x 5) needs.box;
         proper = λ box is. proper is;
         held = named_held s i new needs.names_new;
+        sealed = λ c is. subst (λ (v : Field). is_raw_value s v ≡ false) is needs.sealed;
       } place (cell_there (held_of s i) place)
   wrote old new t false h proper rows cells mutators later =
       let x = target_of s i place in

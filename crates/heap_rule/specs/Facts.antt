@@ -12,6 +12,7 @@ use Rattle.cell_words.specs.Term.{Term}
 use Rattle.core_machine.specs.declared.events.Event.{Event}
 use Rattle.core_machine.specs.declared.events.Event.TheVariants as event
 use Rattle.core_machine.specs.State.{State, field_in, field_of, target_of}
+use Rattle.core_machine.specs.Words.{is_raw_kind}
 use Rattle.dlg_core.specs.Reachable.{Reachable}
 use Rattle.heap_rule.specs.declared.known.Known.{Known}
 use Rattle.heap_rule.specs.declared.known.Known.TheVariants as knows
@@ -38,12 +39,14 @@ abbrev pub Termed : (ℕ → ℕ → Field) → (ℕ → Type 0) → Terms → T
 Termed rows reached terms =
     (x : ℕ) → reached x → TermFits (is_record_kind (rows x 5)) terms (rows x) (terms x)
 
--- a cell is fresh for a mutator that holds it, and no other does, and no reachable cell names it
+-- a cell is fresh for a mutator that holds it, and no other does, and no reachable cell names it; a raw
+-- cell is fresh for somebody
 pub record FreshFits (rows : ℕ → ℕ → Field) (reached : ℕ → Type 0) (cells : ℕ → List ℕ) (fresh : Fresh) : Type 0 where
   pub anchor : fresh 0 ≡ None
   pub held : (x i : ℕ) → fresh x ≡ Some i → has (cells i) x ≡ true
   pub alone : (x i j : ℕ) → fresh x ≡ Some i → has (cells j) x ≡ true → j ≡ i
   pub unnamed : (x i a f : ℕ) → fresh x ≡ Some i → reached a → rows a f ≡ field.Cell x → ⊥
+  pub raw : (x : ℕ) → reached x → is_raw_kind (rows x 5) ≡ true → (i : ℕ) × (fresh x ≡ Some i)
 
 -- what is known of the cell is its term
 abbrev pub is_term : Known → Bool
