@@ -89,7 +89,7 @@ module _ (fixed : ℕ → Bool) (s t : State) (l : Lore) (i c : ℕ) (shape : Is
   below = let fit = shape.mutators_fit in omega (arith, lt, fit.owns_fit)
 
   -- it was not reachable, and has null fields
-  unreached : Reachable s c → ⊥
+  pub unreached : Reachable s c → ⊥
   unreached r = (consistent_safe s k).in_use c r blue
 
   nulls : (f : ℕ) → field_of s c f ≡ field.Null
@@ -124,8 +124,8 @@ module _ (fixed : ℕ → Bool) (s t : State) (l : Lore) (i c : ℕ) (shape : Is
   back_else : (x : ℕ) → Reachable t x → x ≢ c → Reachable s x
   back_else x r other = elim (back x r) [ | inl old ↦ old | inr is ↦ absurd (other is) ]
 
-  same : (x : ℕ) → Reachable t x → x ≢ c → SameAt s t l m x
-  same x r other = record {
+  pub claimed_same : (x : ℕ) → Reachable t x → x ≢ c → SameAt s t l m x
+  claimed_same x r other = record {
     reached = back_else x r other;
     rows = fields x;
     term = put_other l.terms c None x other;
@@ -147,7 +147,7 @@ module _ (fixed : ℕ → Bool) (s t : State) (l : Lore) (i c : ℕ) (shape : Is
       → AllKnown (IsKnown fixed t m j) (cells_of s j) (known_in l.known j)
   carried j still =
       all_known (IsKnown fixed s l j) (IsKnown fixed t m j) (cells_of s j) (known_in l.known j)
-      (λ x w h before. knows_on s t l m fixed j x w (same x (reached_held t j x later (still x h)) (not_held j x h)) before)
+      (λ x w h before. knows_on s t l m fixed j x w (claimed_same x (reached_held t j x later (still x h)) (not_held j x h)) before)
       (facts.known_all j)
 
   mine_cells : cells_of t i ≡ cells_of s i ++ c ∷ []
@@ -176,7 +176,7 @@ module _ (fixed : ℕ → Bool) (s t : State) (l : Lore) (i c : ℕ) (shape : Is
           let raw : field_of t x 5 ≡ field.Null = fields x 5 ∙ ap (λ (n : ℕ). field_of s n 5) is ∙ nulls 5 in
           let none : m.terms x ≡ None = ap m.terms is ∙ put_here l.terms c None in
           subst (λ (b : Bool). TermFits b m.terms (field_of t x) (m.terms x)) (sym (ap is_record_kind raw)) none
-      | inr other ↦ fits_on s t l m x (same x r other) (facts.termed x (back_else x r other))
+      | inr other ↦ fits_on s t l m x (claimed_same x r other) (facts.termed x (back_else x r other))
     ];
     freshed = record {
       anchor = put_other l.fresh c (Some i) 0 (λ is. unreached (anchor (sym is))) ∙ facts.freshed.anchor;

@@ -8,5 +8,6 @@ pub mod Maps
 pub mod Quiet
 pub mod Reading
 pub mod Sealing
+pub mod SmallerAfter
 pub mod Storing
 pub mod Writing

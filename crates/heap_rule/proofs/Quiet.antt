@@ -22,7 +22,7 @@ module _ (s t : State) (consistent : IsConsistent s) (rows : t.rows ≡ s.rows)
       (λ i x h. reached_held s i x consistent (subst (λ (c : List ℕ). has c x ≡ true) (cells i) h))
       (λ c d f r e. named f r (sym (ap (λ (rs : List (List Field)). field_in rs c f) rows) ∙ e))
 
-  quiet_same : (l : Lore) (x : ℕ) → Reachable t x → SameAt s t l l x
+  pub quiet_same : (l : Lore) (x : ℕ) → Reachable t x → SameAt s t l l x
   quiet_same l x r = record {
     reached = quiet_back x r;
     rows = λ f. ap (λ (rs : List (List Field)). field_in rs x f) rows;

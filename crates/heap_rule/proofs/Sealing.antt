@@ -102,7 +102,7 @@ module _ (fixed : ℕ → Bool) (s : State) (l : Lore) (i place : ℕ) (of : Kin
   later : IsConsistent t
   later = consistent_after s (event.Seal i place of) shape k h
 
-  raw : is_raw_kind (field_of s x 5) ≡ true
+  pub raw : is_raw_kind (field_of s x 5) ≡ true
   raw = needs.raw
 
   null_kind : field_of s x 5 ≡ field.Null
@@ -111,8 +111,8 @@ module _ (fixed : ℕ → Bool) (s : State) (l : Lore) (i place : ℕ) (of : Kin
   held_here : has (cells_of s i) x ≡ true
   held_here = has_place s i place needs.there
 
-  reached : Reachable s x
-  reached = reached_held s i x k held_here
+  pub target_reached : Reachable s x
+  target_reached = reached_held s i x k held_here
 
   -- no reachable cell names it, and no other mutator holds it
   unnamed : (c f : ℕ) → Reachable s c → field_of s c f ≡ field.Cell x → ⊥
@@ -162,8 +162,8 @@ module _ (fixed : ℕ → Bool) (s : State) (l : Lore) (i place : ℕ) (of : Kin
       entry_else (field.Num n) other = refl
       entry_else (field.Cell d) other = ap (named_or d) (terms_else d (λ is. other (ap field.Cell is)))
 
-  same : (y : ℕ) → Reachable t y → y ≢ x → SameAt s t l m y
-  same y r other = record {
+  pub sealed_same : (y : ℕ) → Reachable t y → y ≢ x → SameAt s t l m y
+  sealed_same y r other = record {
     reached = back y r;
     rows = λ f. fields y f (λ is five. other is);
     term = terms_else y other;
@@ -175,7 +175,7 @@ module _ (fixed : ℕ → Bool) (s : State) (l : Lore) (i place : ℕ) (of : Kin
   others_know j other =
       all_known (IsKnown fixed s l j) (IsKnown fixed t m j) (cells_of s j) (known_in l.known j)
       (λ y w there before. knows_on s t l m fixed j y w
-          (same y (reached_held t j y later there)
+          (sealed_same y (reached_held t j y later there)
               (λ is. other (alone j (subst (λ (n : ℕ). has (cells_of s j) n ≡ true) is there)))) before)
       (facts.known_all j)
 
@@ -212,7 +212,7 @@ module _ (fixed : ℕ → Bool) (s : State) (l : Lore) (i place : ℕ) (of : Kin
     record_fits : TermFits true m.terms (field_of t x) (m.terms x)
     record_fits =
         let e : (f : ℕ) → f < 5 → entry_of m.terms (field_of t x f) ≡ entry_of l.terms (field_of s x f)
-        = (λ f lt. ap (entry_of m.terms) (payload x f lt) ∙ entries x f reached) in
+        = (λ f lt. ap (entry_of m.terms) (payload x f lt) ∙ entries x f target_reached) in
         (term_now ∙ sym (ap Some (five_moved l.terms m.terms (field_of s x) (field_of t x) e)),
           λ f lt. subst IsPlain (sym (e f lt)) (value_plain (field_of s x f) (knows_fields f lt)))
 
@@ -234,7 +234,7 @@ module _ (fixed : ℕ → Bool) (s : State) (l : Lore) (i place : ℕ) (of : Kin
     box_term : m.terms x ≡ None
     box_term =
         ap (λ (o : Kind). sealed_terms l.terms x (field_of s x) o x) is
-        ∙ subst (λ (b : Bool). TermFits b l.terms (field_of s x) (l.terms x)) (ap is_record_kind null_kind) (facts.termed x reached)
+        ∙ subst (λ (b : Bool). TermFits b l.terms (field_of s x) (l.terms x)) (ap is_record_kind null_kind) (facts.termed x target_reached)
 
     box_known : (fs : List Field) → l.fresh x ≡ Some i → ArePayload fs (field_of s x) → IsKnown fixed t m i x (knows.Fresh fs)
     box_known fs fresh are = (ap is_box_kind (kind_now ∙ ap kind_field is), fresh, row_known fs are)
@@ -268,14 +268,14 @@ module _ (fixed : ℕ → Bool) (s : State) (l : Lore) (i place : ℕ) (of : Kin
       (get_or (cells_of s i) place 0) (cells_of s i) (known_in l.known i)
       (subst (λ (n : ℕ). (w : Known) → IsKnown fixed s l i n w → IsKnown fixed t m i n (known_sealed (cells_of s i) (known_in l.known i) of w))
           (sym there) (sealed_known of refl))
-      (λ y w other held before. knows_on s t l m fixed i y w (same y (reached_held t i y later held) (λ is. other (is ∙ sym there))) before)
+      (λ y w other held before. knows_on s t l m fixed i y w (sealed_same y (reached_held t i y later held) (λ is. other (is ∙ sym there))) before)
       (facts.known_all i)
 
   sealed_facts : Facts fixed t m
   sealed_facts = record {
     termed = λ y r. elim (cases_eq y x) [
       | inl is ↦ subst (λ (n : ℕ). TermFits (is_record_kind (field_of t n 5)) m.terms (field_of t n) (m.terms n)) (sym is) (fits_here of refl)
-      | inr other ↦ fits_on s t l m y (same y r other) (facts.termed y (back y r))
+      | inr other ↦ fits_on s t l m y (sealed_same y r other) (facts.termed y (back y r))
     ];
     freshed = record {
       anchor = facts.freshed.anchor;

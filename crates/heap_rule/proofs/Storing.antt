@@ -71,11 +71,11 @@ module _ (fixed : ℕ → Bool) (s t : State) (l : Lore) (i x f : ℕ) (value : 
   abbrev fresh : Fresh
   fresh = revealed l.fresh value
 
-  fields : (y g : ℕ) → (y ≡ x → g ≡ f → ⊥) → field_of t y g ≡ field_of s y g
-  fields y g other =
+  pub stored_fields : (y g : ℕ) → (y ≡ x → g ≡ f → ⊥) → field_of t y g ≡ field_of s y g
+  stored_fields y g other =
       ap (λ (rs : List (List Field)). field_in rs y g) stores.rows ∙ set_field_other s.rows x f y g value other
 
-  stored_there : field_of t x f ≡ value
+  pub stored_there : field_of t x f ≡ value
   stored_there =
       let row : length (row_in s.rows x) ≡ 6 = shape.cells_fit.six_fields x stores.there in
       ap (λ (rs : List (List Field)). field_in rs x f) stores.rows
@@ -84,8 +84,8 @@ module _ (fixed : ℕ → Bool) (s t : State) (l : Lore) (i x f : ℕ) (value : 
           (let fit = shape.cells_fit.rows_fit in let lt = stores.there in omega (arith, fit, lt)))
       ∙ get_or-set_same (row_in s.rows x) f value field.Null (let lt = stores.payload in omega (arith, lt, row))
 
-  kinds : (y : ℕ) → field_of t y 5 ≡ field_of s y 5
-  kinds y = fields y 5 (λ is five. let lt = stores.payload in omega (arith, lt, five))
+  pub stored_kinds : (y : ℕ) → field_of t y 5 ≡ field_of s y 5
+  stored_kinds y = stored_fields y 5 (λ is five. let lt = stores.payload in omega (arith, lt, five))
 
   -- a field of a cell is the value in its place, or what it was
   named_before : (c d g : ℕ) → Reachable s c → field_of t c g ≡ field.Cell d → Reachable s d
@@ -99,12 +99,12 @@ module _ (fixed : ℕ → Bool) (s t : State) (l : Lore) (i x f : ℕ) (value : 
       (λ j y h. reached_held s j y k (subst (λ (cs : List ℕ). has cs y ≡ true) (stores.cells j) h)) named_before
 
   entries : (y g : ℕ) → (y ≡ x → g ≡ f → ⊥) → entry_of l.terms (field_of t y g) ≡ entry_of l.terms (field_of s y g)
-  entries y g other = ap (entry_of l.terms) (fields y g other)
+  entries y g other = ap (entry_of l.terms) (stored_fields y g other)
 
   fits : (y : ℕ) → TermFits (is_record_kind (field_of s y 5)) l.terms (field_of s y) (l.terms y)
       → TermFits (is_record_kind (field_of t y 5)) l.terms (field_of t y) (l.terms y)
   fits y h =
-      subst (λ (b : Bool). TermFits b l.terms (field_of t y) (l.terms y)) (sym (ap is_record_kind (kinds y)))
+      subst (λ (b : Bool). TermFits b l.terms (field_of t y) (l.terms y)) (sym (ap is_record_kind (stored_kinds y)))
       (elim (cases_eq y x) [
         | inl is ↦
             let none : is_record_kind (field_of s y 5) ≡ false = ap (λ (n : ℕ). is_record_kind (field_of s n 5)) is ∙ stores.no_record in
@@ -137,14 +137,14 @@ module _ (fixed : ℕ → Bool) (s t : State) (l : Lore) (i x f : ℕ) (value : 
       → KnownAt fixed l.terms (field_of t y) (l.terms y) (fresh y) j y w
   others_know j y knows.Nothing other h is = tt
   others_know j y (knows.Raw fs) other h is =
-      (kinds y ∙ is.0, revealed_other l.fresh value y (λ e. not_named j y other is.1 e) ∙ is.1,
-        record { five = is.2.five; each = λ g lt. fields y g (λ same. absurd (not_target j y other is.1 same)) ∙ is.2.each g lt })
+      (stored_kinds y ∙ is.0, revealed_other l.fresh value y (λ e. not_named j y other is.1 e) ∙ is.1,
+        record { five = is.2.five; each = λ g lt. stored_fields y g (λ same. absurd (not_target j y other is.1 same)) ∙ is.2.each g lt })
   others_know j y (knows.Fresh fs) other h is =
-      (ap is_box_kind (kinds y) ∙ is.0, revealed_other l.fresh value y (λ e. not_named j y other is.1 e) ∙ is.1,
-        record { five = is.2.five; each = λ g lt. fields y g (λ same. absurd (not_target j y other is.1 same)) ∙ is.2.each g lt })
-  others_know j y (knows.Record term) other h is = (kinds y ∙ is.0, is.1)
+      (ap is_box_kind (stored_kinds y) ∙ is.0, revealed_other l.fresh value y (λ e. not_named j y other is.1 e) ∙ is.1,
+        record { five = is.2.five; each = λ g lt. stored_fields y g (λ same. absurd (not_target j y other is.1 same)) ∙ is.2.each g lt })
+  others_know j y (knows.Record term) other h is = (stored_kinds y ∙ is.0, is.1)
   others_know j y (knows.Boxed told) other h is =
-      (is.0, ap is_box_kind (kinds y) ∙ is.1, revealed_none l.fresh value y is.2, told_on y told is.0 is.1 is.3)
+      (is.0, ap is_box_kind (stored_kinds y) ∙ is.1, revealed_none l.fresh value y is.2, told_on y told is.0 is.1 is.3)
 
   -- what the maker knows: first of the cell with the new field
   abbrev Then : ℕ → Known → Type 0
@@ -159,24 +159,24 @@ module _ (fixed : ℕ → Bool) (s t : State) (l : Lore) (i x f : ℕ) (value : 
           ∙ sym (get_or-set_same fs f value field.Null (let five = is.five in let less = stores.payload in omega (arith, five, less)))
           ∙ ap (λ (n : ℕ). get_or (set fs f value) n field.Null) (sym same)
       | inr other ↦
-          fields x g (λ here same. other same) ∙ is.each g lt ∙ sym (get_or-set_other fs f g value field.Null other)
+          stored_fields x g (λ here same. other same) ∙ is.each g lt ∙ sym (get_or-set_other fs f g value field.Null other)
     ];
   }
 
   target_known : (w : Known) → IsKnown fixed s l i x w → Then x (known_set f value w)
   target_known knows.Nothing is = tt
-  target_known (knows.Raw fs) is = (kinds x ∙ is.0, is.1, payload_on fs is.2)
-  target_known (knows.Fresh fs) is = (ap is_box_kind (kinds x) ∙ is.0, is.1, payload_on fs is.2)
+  target_known (knows.Raw fs) is = (stored_kinds x ∙ is.0, is.1, payload_on fs is.2)
+  target_known (knows.Fresh fs) is = (ap is_box_kind (stored_kinds x) ∙ is.0, is.1, payload_on fs is.2)
   target_known (knows.Record term) is =
       absurd (let yes : is_record_kind (field_of s x 5) ≡ true = ap is_record_kind is.0 in
           let no = stores.no_record in cc)
   target_known (knows.Boxed told) is =
-      (is.0, ap is_box_kind (kinds x) ∙ is.1, is.2, told_on x told is.0 is.1 is.3)
+      (is.0, ap is_box_kind (stored_kinds x) ∙ is.1, is.2, told_on x told is.0 is.1 is.3)
 
   elsewhere_known : (y : ℕ) (w : Known) → y ≢ x → IsKnown fixed s l i y w → Then y w
   elsewhere_known y w other is =
       known_moved fixed l.terms l.terms (field_of s y) (field_of t y) (l.terms y) (l.terms y) (l.fresh y) (l.fresh y) i y w
-      (λ g. fields y g (λ same e. other same)) refl refl (λ g. refl) is
+      (λ g. stored_fields y g (λ same e. other same)) refl refl (λ g. refl) is
 
   -- .. then of the cell that the value names
   revealed_known : (y : ℕ) (w : Known) → Then y w
@@ -241,7 +241,7 @@ module _ (fixed : ℕ → Bool) (s t : State) (l : Lore) (i x f : ℕ) (value : 
               (λ n b named_it there. facts.freshed.unnamed y j n b (revealed_less l.fresh value y j h) there named_it) a g
               (sym (ap (λ (rs : List (List Field)). field_in rs a g) stores.rows) ∙ e) (stored_back a r);
           raw = λ y r h.
-              let is_raw : is_raw_kind (field_of s y 5) ≡ true = ap is_raw_kind (sym (kinds y)) ∙ h in
+              let is_raw : is_raw_kind (field_of s y 5) ≡ true = ap is_raw_kind (sym (stored_kinds y)) ∙ h in
               let was = facts.freshed.raw y (stored_back y r) is_raw in
               (was.0, revealed_other l.fresh value y (λ e. let no = stores.sealed y e in absurd cc) ∙ was.1);
         };

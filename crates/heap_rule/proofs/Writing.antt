@@ -40,19 +40,17 @@ raw_no_record field.Null h = refl
 raw_no_record (field.Num n) h = absurd cc
 raw_no_record (field.Cell c) h = refl
 
-raw_no_box : (x : Field) → is_raw_kind x ≡ true → is_box_kind x ≡ false
+pub raw_no_box : (x : Field) → is_raw_kind x ≡ true → is_box_kind x ≡ false
 raw_no_box field.Null h = refl
 raw_no_box (field.Num n) h = absurd cc
 raw_no_box (field.Cell c) h = refl
 
 module _ (fixed : ℕ → Bool) (s : State) (l : Lore) (i place f : ℕ) (shape : IsShaped s) (k : IsConsistent s) (facts : Facts fixed s l) where
-  pub facts_fill : (value : Field) → can s (event.Fill i place f value) ≡ true
-      → Facts fixed (after s (event.Fill i place f value)) (lore_after s l (event.Fill i place f value))
-  facts_fill value h =
+  pub fill_stores : (value : Field) → can s (event.Fill i place f value) ≡ true
+      → Stores fixed s (after s (event.Fill i place f value)) l i (target_of s i place) f value
+  fill_stores value h =
       let needs = fill_needs s i place f value h in
       let x = target_of s i place in
-      stored_facts fixed s (after s (event.Fill i place f value)) l i x f value shape k facts
-      (consistent_after s (event.Fill i place f value) shape k h)
       record {
         rows = refl;
         cells = λ j. refl;
@@ -65,22 +63,21 @@ module _ (fixed : ℕ → Bool) (s : State) (l : Lore) (i place f : ℕ) (shape 
         proper = λ box is. absurd (let no = raw_no_box (field_of s x 5) needs.raw in cc);
         held = named_held s i value needs.names;
         sealed = λ c is. subst (λ (v : Field). is_raw_value s v ≡ false) is needs.sealed;
-      } place (cell_there (held_of s i) place)
-
-  -- a Write, by whether it was made
-  wrote : (old new : Field) (t : State) (made : Bool) → can s (event.Write i place f old new) ≡ true
-      → Proper fixed s l (event.Write i place f old new)
-      → t.rows ≡ set_field s.rows (target_of s i place) f (if made then new else field_of s (target_of s i place) f)
-      → ((j : ℕ) → cells_of t j ≡ cells_of s j) → t.mutators ≡ s.mutators → IsConsistent t
-      → Facts fixed t record {
-        terms = l.terms;
-        fresh = revealed_if made l.fresh new;
-        known = set l.known i (known_stored_if made (cells_of s i) (known_in l.known i) place f new);
       }
-  wrote old new t true h proper rows cells mutators later =
+
+  pub facts_fill : (value : Field) → can s (event.Fill i place f value) ≡ true
+      → Facts fixed (after s (event.Fill i place f value)) (lore_after s l (event.Fill i place f value))
+  facts_fill value h =
+      stored_facts fixed s (after s (event.Fill i place f value)) l i (target_of s i place) f value shape k facts
+      (consistent_after s (event.Fill i place f value) shape k h) (fill_stores value h) place (cell_there (held_of s i) place)
+
+  pub write_stores : (old new : Field) (t : State) → can s (event.Write i place f old new) ≡ true
+      → Proper fixed s l (event.Write i place f old new) → t.rows ≡ set_field s.rows (target_of s i place) f new
+      → ((j : ℕ) → cells_of t j ≡ cells_of s j) → t.mutators ≡ s.mutators
+      → Stores fixed s t l i (target_of s i place) f new
+  write_stores old new t h proper rows cells mutators =
       let needs = write_needs s i place f old new h in
       let x = target_of s i place in
-      stored_facts fixed s t l i x f new shape k facts later
       record {
         rows = rows;
         cells = cells;
@@ -93,7 +90,21 @@ module _ (fixed : ℕ → Bool) (s : State) (l : Lore) (i place f : ℕ) (shape 
         proper = λ box is. proper is;
         held = named_held s i new needs.names_new;
         sealed = λ c is. subst (λ (v : Field). is_raw_value s v ≡ false) is needs.sealed;
-      } place (cell_there (held_of s i) place)
+      }
+
+  -- a Write, by whether it was made
+  wrote : (old new : Field) (t : State) (made : Bool) → can s (event.Write i place f old new) ≡ true
+      → Proper fixed s l (event.Write i place f old new)
+      → t.rows ≡ set_field s.rows (target_of s i place) f (if made then new else field_of s (target_of s i place) f)
+      → ((j : ℕ) → cells_of t j ≡ cells_of s j) → t.mutators ≡ s.mutators → IsConsistent t
+      → Facts fixed t record {
+        terms = l.terms;
+        fresh = revealed_if made l.fresh new;
+        known = set l.known i (known_stored_if made (cells_of s i) (known_in l.known i) place f new);
+      }
+  wrote old new t true h proper rows cells mutators later =
+      stored_facts fixed s t l i (target_of s i place) f new shape k facts later
+      (write_stores old new t h proper rows cells mutators) place (cell_there (held_of s i) place)
   wrote old new t false h proper rows cells mutators later =
       let x = target_of s i place in
       let still : t.rows ≡ s.rows =
