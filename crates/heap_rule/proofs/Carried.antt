@@ -35,9 +35,12 @@ known_moved fixed a b row now t u f g i x (knows.Fresh fields) rows term fresh e
     (ap is_box_kind (rows 5) ∙ h.0, fresh ∙ h.1, record { five = h.2.five; each = λ n lt. rows n ∙ h.2.each n lt })
 known_moved fixed a b row now t u f g i x (knows.Record other) rows term fresh entries h =
     (rows 5 ∙ h.0, term ∙ h.1)
-known_moved fixed a b row now t u f g i x (knows.Boxed told) rows term fresh entries h =
-    (h.0, ap is_box_kind (rows 5) ∙ h.1, fresh ∙ h.2,
-      λ n other lt is told_is. ap (entry_of b) (rows n) ∙ entries n ∙ h.3 n other lt is told_is)
+known_moved fixed a b row now t u f g i x (knows.Boxed told) rows term fresh entries h = (
+  h.0,
+  ap is_box_kind (rows 5) ∙ h.1,
+  fresh ∙ h.2,
+  λ n other lt is told_is. ap (entry_of b) (rows n) ∙ entries n ∙ h.3 n other lt is told_is,
+)
 
 pub five_moved : (a b : Terms) (row now : ℕ → Field) → ((n : ℕ) → n < 5 → entry_of b (now n) ≡ entry_of a (row n))
     → five_of b now ≡ five_of a row

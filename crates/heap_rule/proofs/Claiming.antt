@@ -110,11 +110,11 @@ module _ (fixed : ℕ → Bool) (s t : State) (l : Lore) (i c : ℕ) (shape : Is
   back : (x : ℕ) → Reachable t x → Reachable s x ⊎ (x ≡ c)
   back = into t.rows t.presences t.owns (λ x. Reachable s x ⊎ (x ≡ c)) (inl (anchor refl))
       (λ j x inside h. each (λ n cs. has cs x ≡ true → Reachable s x ⊎ (x ≡ c))
-          (λ there. elim (mine_is x there) [
-            | inl old ↦ inl (reached_held s i x k old)
-            | inr is ↦ inr (sym is)
-          ])
-          (λ n other there. inl (reached_held s n x k there)) j (has_holds (held_of t j) x ∙ h))
+      (λ there. elim (mine_is x there) [
+        | inl old ↦ inl (reached_held s i x k old)
+        | inr is ↦ inr (sym is)
+      ])
+      (λ n other there. inl (reached_held s n x k there)) j (has_holds (held_of t j) x ∙ h))
       (λ x y f reached e. elim reached [
         | inl r ↦ inl (named f r (sym (fields x f) ∙ e))
         | inr is ↦ absurd (let none : field.Null ≡ field.Cell y =
@@ -122,7 +122,7 @@ module _ (fixed : ℕ → Bool) (s t : State) (l : Lore) (i c : ℕ) (shape : Is
       ])
 
   back_else : (x : ℕ) → Reachable t x → x ≢ c → Reachable s x
-  back_else x r other = elim (back x r) [ | inl old ↦ old | inr is ↦ absurd (other is) ]
+  back_else x r other = elim (back x r) [ inl old ↦ old | inr is ↦ absurd (other is) ]
 
   pub claimed_same : (x : ℕ) → Reachable t x → x ≢ c → SameAt s t l m x
   claimed_same x r other = record {
@@ -154,10 +154,14 @@ module _ (fixed : ℕ → Bool) (s t : State) (l : Lore) (i c : ℕ) (shape : Is
   mine_cells = cells_mine s t i new owns below ∙ cells_more (held_of s i) c
 
   raw_known : IsKnown fixed t m i c (knows.Raw five_nulls)
-  raw_known = (fields c 5 ∙ nulls 5, put_here l.fresh c (Some i), record {
-    five = refl;
-    each = λ f five. fields c f ∙ nulls f ∙ null_at f five;
-  })
+  raw_known = (
+    fields c 5 ∙ nulls 5,
+    put_here l.fresh c (Some i),
+    record {
+      five = refl;
+      each = λ f five. fields c f ∙ nulls f ∙ null_at f five;
+    },
+  )
 
   mine_known : AllKnown (IsKnown fixed t m i) (cells_of t i) (known_in m.known i)
   mine_known =
@@ -165,9 +169,9 @@ module _ (fixed : ℕ → Bool) (s t : State) (l : Lore) (i c : ℕ) (shape : Is
       get_or-set_same l.known i _ [] (omega (arith, lt, facts.known_fit)) in
       subst (λ (cs : List ℕ). AllKnown (IsKnown fixed t m i) cs (known_in m.known i)) (sym mine_cells)
       (subst (λ (ws : List Known). AllKnown (IsKnown fixed t m i) (cells_of s i ++ c ∷ []) ws) (sym known_is)
-          (all_append (IsKnown fixed t m i) (cells_of s i) (c ∷ []) (known_in l.known i) (knows.Raw five_nulls ∷ [])
-              (carried i (λ x h. subst (λ (cs : List ℕ). has cs x ≡ true) (sym mine_cells) (has_old (cells_of s i) c x h)))
-              (raw_known, tt)))
+      (all_append (IsKnown fixed t m i) (cells_of s i) (c ∷ []) (known_in l.known i) (knows.Raw five_nulls ∷ [])
+      (carried i (λ x h. subst (λ (cs : List ℕ). has cs x ≡ true) (sym mine_cells) (has_old (cells_of s i) c x h)))
+      (raw_known, tt)))
 
   claimed : Facts fixed t m
   claimed = record {
@@ -225,7 +229,7 @@ module _ (fixed : ℕ → Bool) (s t : State) (l : Lore) (i c : ℕ) (shape : Is
       | inr other ↦
           subst (λ (cs : List ℕ). AllKnown (IsKnown fixed t m j) cs (known_in m.known j)) (sym (cells_else s t i new owns j other))
           (subst (λ (ws : List Known). AllKnown (IsKnown fixed t m j) (cells_of s j) ws) (sym (get_or-set_other l.known i j _ [] other))
-              (carried j (λ x h. subst (λ (cs : List ℕ). has cs x ≡ true) (sym (cells_else s t i new owns j other)) h)))
+          (carried j (λ x h. subst (λ (cs : List ℕ). has cs x ≡ true) (sym (cells_else s t i new owns j other)) h)))
     ];
   }
 

@@ -156,9 +156,9 @@ dropped_made fixed s t l i own known k later rows owns mutators below known_belo
     = maker_back s t i own owns k below rows (λ x h. reached_held s i x k (fewer x h)) in
     let stays : (x : ℕ) → Reachable t x → l.fresh x ≡ Some i → has cells x ≡ true
     = (λ x r is. fresh_stays s t l i x cells facts.freshed.anchor
-        (cells_each s t i own owns (λ j c. has c x ≡ true → has cells x ≡ true) below (λ h. h)
-            (λ j other h. absurd (other (facts.freshed.alone x i j is h))))
-        (λ c f reached e. facts.freshed.unnamed x i c f is (back c reached) (sym (fields c f) ∙ e)) r is) in
+    (cells_each s t i own owns (λ j c. has c x ≡ true → has cells x ≡ true) below (λ h. h)
+    (λ j other h. absurd (other (facts.freshed.alone x i j is h))))
+    (λ c f reached e. facts.freshed.unnamed x i c f is (back c reached) (sym (fields c f) ∙ e)) r is) in
     let same : (x : ℕ) → Reachable t x → SameAt s t l m x
     = (λ x r. record {
       reached = back x r;
@@ -179,8 +179,8 @@ dropped_made fixed s t l i own known k later rows owns mutators below known_belo
       alone_mine = λ x j is h. facts.freshed.alone x j i (still_less i (has cells x) (l.fresh x) j is) (fewer x h);
       known_mine = all_known (IsKnown fixed s l i) (IsKnown fixed t m i) cells known
           (λ x w h is. knows_on s t l m fixed i x w
-              (same x (reached_held t i x later (subst (λ (c : List ℕ). has c x ≡ true) (sym (cells_mine s t i own owns below)) h)))
-              is) before;
+          (same x (reached_held t i x later (subst (λ (c : List ℕ). has c x ≡ true) (sym (cells_mine s t i own owns below)) h)))
+          is) before;
     }
 
 cells_taken : (n : ℕ) (places : List Held) → cells_in (take n places) ≡ take n (cells_in places)
@@ -225,14 +225,14 @@ module _ (fixed : ℕ → Bool) (s : State) (l : Lore) (i : ℕ) (shape : IsShap
       let of = IsKnown fixed s l i in
       let parts : AllKnown of (take count (cells_of s i) ++ take copies (drop from (cells_of s i))) (take count known ++ take copies (drop from known))
       = all_append of (take count (cells_of s i)) (take copies (drop from (cells_of s i))) (take count known) (take copies (drop from known))
-          (all_take of count (cells_of s i) known all)
-          (all_take of copies (drop from (cells_of s i)) (drop from known) (all_drop of from (cells_of s i) known all)) in
+      (all_take of count (cells_of s i) known all)
+      (all_take of copies (drop from (cells_of s i)) (drop from known) (all_drop of from (cells_of s i) known all)) in
       dropped_made fixed s t l i own (take count known ++ take copies (drop from known)) k
       (consistent_after s (event.Keep i count from copies) shape k h) refl refl refl (own_below inside) (known_below inside)
       (λ x there. has_holds (held_of s i) x
-          ∙ holds_kept (held_of s i) count from copies x (sym (has_holds own.held x) ∙ there))
+      ∙ holds_kept (held_of s i) count from copies x (sym (has_holds own.held x) ∙ there))
       (subst (λ (c : List ℕ). AllKnown of c (take count known ++ take copies (drop from known)))
-          (sym (cells_kept (held_of s i) count from copies)) parts)
+      (sym (cells_kept (held_of s i) count from copies)) parts)
       facts
 
   pub facts_keep : (count from copies : ℕ) → can s (event.Keep i count from copies) ≡ true

@@ -44,9 +44,10 @@ pub all_known : (K L : ℕ → Known → Type 0) (cells : List ℕ) (known : Lis
 all_known K L [] [] step all = tt
 all_known K L [] (k ∷ known) step all = absurd all
 all_known K L (c ∷ cells) [] step all = absurd all
-all_known K L (c ∷ cells) (k ∷ known) step all =
-    (step c k (or_here (c == c) (has cells c) (eq-eqb c c refl)) all.0,
-      all_known K L cells known (λ d j h. step d j (or_later (c == d) (has cells d) h)) all.1)
+all_known K L (c ∷ cells) (k ∷ known) step all = (
+  step c k (or_here (c == c) (has cells c) (eq-eqb c c refl)) all.0,
+  all_known K L cells known (λ d j h. step d j (or_later (c == d) (has cells d) h)) all.1,
+)
 
 pub all_append : (K : ℕ → Known → Type 0) (cells more : List ℕ) (known further : List Known)
     → AllKnown K cells known → AllKnown K more further → AllKnown K (cells ++ more) (known ++ further)
@@ -95,7 +96,8 @@ pub all_changed : (K L : ℕ → Known → Type 0) (change : Known → Known) (x
 all_changed K L change x [] [] here step all = tt
 all_changed K L change x [] (k ∷ known) here step all = absurd all
 all_changed K L change x (c ∷ cells) [] here step all = absurd all
-all_changed K L change x (c ∷ cells) (k ∷ known) here step all =
-    (one_changed K L change x c k here
-        (λ other h. step c k other (or_here (c == c) (has cells c) (eq-eqb c c refl)) h) all.0,
-      all_changed K L change x cells known here (λ d j other h. step d j other (or_later (c == d) (has cells d) h)) all.1)
+all_changed K L change x (c ∷ cells) (k ∷ known) here step all = (
+  one_changed K L change x c k here
+      (λ other h. step c k other (or_here (c == c) (has cells c) (eq-eqb c c refl)) h) all.0,
+  all_changed K L change x cells known here (λ d j other h. step d j other (or_later (c == d) (has cells d) h)) all.1,
+)

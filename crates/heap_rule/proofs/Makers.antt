@@ -84,8 +84,8 @@ made_facts fixed s t l m i own known k made facts =
             subst (λ (c : List ℕ). AllKnown (IsKnown fixed t m i) c (known_in m.known i))
             (sym (cells_mine s t i own made.owns made.below))
             (subst (λ (w : List Known). AllKnown (IsKnown fixed t m i) (cells_in own.held) w)
-                (sym (ap (λ (ws : List (List Known)). known_in ws i) made.knows ∙ get_or-set_same l.known i known [] made.known_below))
-                made.known_mine) in
+            (sym (ap (λ (ws : List (List Known)). known_in ws i) made.knows ∙ get_or-set_same l.known i known [] made.known_below))
+            made.known_mine) in
             subst (λ (n : ℕ). AllKnown (IsKnown fixed t m n) (cells_of t n) (known_in m.known n)) (sym is) here
         | inr other ↦
             let cells = cells_else s t i own made.owns j other in
@@ -93,7 +93,7 @@ made_facts fixed s t l m i own known k made facts =
             ap (λ (ws : List (List Known)). known_in ws j) made.knows ∙ get_or-set_other l.known i j known [] other in
             subst (λ (ws : List Known). AllKnown (IsKnown fixed t m j) (cells_of t j) ws) (sym w)
             (all_known (IsKnown fixed s l j) (IsKnown fixed t m j) (cells_of t j) (known_in l.known j)
-                (λ x v h before. knows_on s t l m fixed j x v (made.same x (reached_held t j x k h)) before)
-                (subst (λ (c : List ℕ). AllKnown (IsKnown fixed s l j) c (known_in l.known j)) (sym cells) (facts.known_all j)))
+            (λ x v h before. knows_on s t l m fixed j x v (made.same x (reached_held t j x k h)) before)
+            (subst (λ (c : List ℕ). AllKnown (IsKnown fixed s l j) c (known_in l.known j)) (sym cells) (facts.known_all j)))
       ];
     }

@@ -51,7 +51,7 @@ wipe_same s l shape k h =
     = (λ x f other. set_field_other s.rows s.control.position (wiped_count s.collector.sweep) x f field.Null (λ is same. other is)) in
     let back : (x : ℕ) → Reachable t x → Reachable s x
     = back_from s t (λ i x there. reached_held s i x k there)
-        (λ c d f r e. named f r (sym (fields c f (away c r)) ∙ e)) in
+    (λ c d f r e. named f r (sym (fields c f (away c r)) ∙ e)) in
     λ x r. record { reached = back x r; rows = λ f. fields x f (away x (back x r)); term = refl; fresh = refl; entries = λ f. refl }
 
 pub facts_wipe : (fixed : ℕ → Bool) (s : State) (l : Lore) → IsShaped s → IsConsistent s → can s event.Wipe ≡ true
@@ -96,9 +96,13 @@ told_fits fixed terms row term fresh i x a b (Some t) for anchor box of_is for_i
     with_term fixed terms row term fresh i x t (is_record_kind (row 5)) refl fits of_is
 told_fits fixed terms row term fresh i x true b None for anchor box of_is for_is fits = tt
 told_fits fixed terms row term fresh i x false b None (Some j) anchor box of_is for_is fits = tt
-told_fits fixed terms row term fresh i x false true None None anchor box of_is for_is fits =
-    (not_zero x anchor, box, for_is, λ f t lt is told_is.
-      plain_is (entry_of terms (row f)) t (sym (five_at (λ n. entry_of terms (row n)) f lt) ∙ told_is))
+told_fits fixed terms row term fresh i x false true None None anchor box of_is for_is fits = (
+  not_zero x anchor,
+  box,
+  for_is,
+  λ f t lt is told_is.
+      plain_is (entry_of terms (row f)) t (sym (five_at (λ n. entry_of terms (row n)) f lt) ∙ told_is),
+)
 told_fits fixed terms row term fresh i x false false None None anchor box of_is for_is fits = tt
 
 pub learned_so : (fixed : ℕ → Bool) (s : State) (l : Lore) (i x : ℕ) → Facts fixed s l → Reachable s x
@@ -144,9 +148,9 @@ has_more [] c x h = elim (or_cases (c == x) false h) [
 has_more (d ∷ cells) c x h = elim (or_cases (d == x) (has (cells ++ c ∷ []) x) h) [
   | inl here ↦ inl (or_here (d == x) (has cells x) here)
   | inr there ↦ elim (has_more cells c x there) [
-      | inl old ↦ inl (or_later (d == x) (has cells x) old)
-      | inr new ↦ inr new
-    ]
+    | inl old ↦ inl (or_later (d == x) (has cells x) old)
+    | inr new ↦ inr new
+  ]
 ]
 
 pub has_old : (cells : List ℕ) (c x : ℕ) → has cells x ≡ true → has (cells ++ c ∷ []) x ≡ true
@@ -171,8 +175,8 @@ module _ (fixed : ℕ → Bool) (s : State) (l : Lore) (i place f : ℕ) (shape 
       all_changed (IsKnown fixed s l i) (IsKnown fixed s l i) (told (learned_of s l (target_of s i place)))
       (get_or (cells_of s i) place 0) (cells_of s i) (known_in l.known i)
       (λ w h. told_so (IsKnown fixed s l i (get_or (cells_of s i) place 0)) (learned_of s l (target_of s i place)) w
-          (subst (λ (c : ℕ). IsKnown fixed s l i c (learned_of s l (target_of s i place))) (sym (cell_there (held_of s i) place))
-              (learned_so fixed s l i (target_of s i place) facts here)) h)
+      (subst (λ (c : ℕ). IsKnown fixed s l i c (learned_of s l (target_of s i place))) (sym (cell_there (held_of s i) place))
+      (learned_so fixed s l i (target_of s i place) facts here)) h)
       (λ c w other h before. before) (facts.known_all i)
 
   -- the event, by what it found
@@ -219,7 +223,7 @@ module _ (fixed : ℕ → Bool) (s : State) (l : Lore) (i place f : ℕ) (shape 
         ];
         known = subst (λ (cs : List ℕ). AllKnown (IsKnown fixed s l i) cs (known_here ++ learned_of s l c ∷ [])) (sym cells)
             (all_append (IsKnown fixed s l i) (cells_of s i) (c ∷ []) known_here (learned_of s l c ∷ []) known_there
-                (learned_so fixed s l i c facts reached, tt));
+            (learned_so fixed s l i c facts reached, tt));
       }
 
   pub read_made_by : (found : Field) → field_of s (target_of s i place) f ≡ found → IsConsistent (reads found)
@@ -245,8 +249,8 @@ module _ (fixed : ℕ → Bool) (s : State) (l : Lore) (i place f : ℕ) (shape 
             all_known (IsKnown fixed s l i) (IsKnown fixed (reads found) (tells found) i) (cells_in own.held)
             (known_found known_here (learned_from s l found) found)
             (λ x w h before. knows_on s (reads found) l (tells found) fixed i x w
-                (same x (reached_held (reads found) i x later
-                    (subst (λ (c : List ℕ). has c x ≡ true) (sym (cells_mine s (reads found) i own refl below)) h))) before)
+            (same x (reached_held (reads found) i x later
+            (subst (λ (c : List ℕ). has c x ≡ true) (sym (cells_mine s (reads found) i own refl below)) h))) before)
             grown.known;
       }
 
@@ -262,7 +266,7 @@ pub read_same : (fixed : ℕ → Bool) (s : State) (l : Lore) (i place f : ℕ) 
 read_same fixed s l i place f shape k h facts =
     let needs = read_needs s i place f h in
     (read_made_by fixed s l i place f shape k facts needs.inside needs.there (field_of s (target_of s i place) f) refl
-        (consistent_after s (event.Read i place f) shape k h)).same
+    (consistent_after s (event.Read i place f) shape k h)).same
 
 pub facts_read : (fixed : ℕ → Bool) (s : State) (l : Lore) (i place f : ℕ) → IsShaped s → IsConsistent s
     → can s (event.Read i place f) ≡ true → Facts fixed s l

@@ -59,6 +59,7 @@ module _ (fixed : ℕ → Bool) (s : State) (l : Lore) (i : ℕ) where
         (term_same c d w other h rest same)
     | inr apart ↦ subst (λ (b : Bool). l.terms d ≡ Some (if b then term_or other w else other)) (sym (ne_eqb c d apart)) rest
   ]
+
   pub cell_term_is : (cells : List ℕ) (known : List Known) (d : ℕ) → AllKnown (IsKnown fixed s l i) cells known
       → knows_term cells known d ≡ true → l.terms d ≡ Some (cell_term cells known d)
   cell_term_is [] known d all h = absurd cc
@@ -175,8 +176,8 @@ module _ (fixed : ℕ → Bool) (s : State) (l : Lore) (i place : ℕ) (of : Kin
   others_know j other =
       all_known (IsKnown fixed s l j) (IsKnown fixed t m j) (cells_of s j) (known_in l.known j)
       (λ y w there before. knows_on s t l m fixed j y w
-          (sealed_same y (reached_held t j y later there)
-              (λ is. other (alone j (subst (λ (n : ℕ). has (cells_of s j) n ≡ true) is there)))) before)
+      (sealed_same y (reached_held t j y later there)
+      (λ is. other (alone j (subst (λ (n : ℕ). has (cells_of s j) n ≡ true) is there)))) before)
       (facts.known_all j)
 
   -- what is known of the cell itself
@@ -190,7 +191,7 @@ module _ (fixed : ℕ → Bool) (s : State) (l : Lore) (i place : ℕ) (of : Kin
   value_is (field.Num n) is = refl
   value_is (field.Cell d) is =
       sym (ap (λ (o : Option Term). term_of (named_or d o))
-          (cell_term_is fixed s l i (cells_of s i) (known_in l.known i) d (facts.known_all i) is))
+      (cell_term_is fixed s l i (cells_of s i) (known_in l.known i) d (facts.known_all i) is))
 
   value_plain : (value : Field) → IsTermKnown (cells_of s i) (known_in l.known i) value → IsPlain (entry_of l.terms value)
   value_plain field.Null is = tt
@@ -212,9 +213,10 @@ module _ (fixed : ℕ → Bool) (s : State) (l : Lore) (i place : ℕ) (of : Kin
     record_fits : TermFits true m.terms (field_of t x) (m.terms x)
     record_fits =
         let e : (f : ℕ) → f < 5 → entry_of m.terms (field_of t x f) ≡ entry_of l.terms (field_of s x f)
-        = (λ f lt. ap (entry_of m.terms) (payload x f lt) ∙ entries x f target_reached) in
-        (term_now ∙ sym (ap Some (five_moved l.terms m.terms (field_of s x) (field_of t x) e)),
-          λ f lt. subst IsPlain (sym (e f lt)) (value_plain (field_of s x f) (knows_fields f lt)))
+        = (λ f lt. ap (entry_of m.terms) (payload x f lt) ∙ entries x f target_reached) in (
+          term_now ∙ sym (ap Some (five_moved l.terms m.terms (field_of s x) (field_of t x) e)),
+          λ f lt. subst IsPlain (sym (e f lt)) (value_plain (field_of s x f) (knows_fields f lt)),
+        )
 
     field_term : (fs : List Field) → ArePayload fs (field_of s x) → (f : ℕ) → f < 5
         → value_term (cells_of s i) (known_in l.known i) (slice_index_or fs f field.Null) ≡ term_of (entry_of l.terms (field_of s x f))
@@ -267,7 +269,7 @@ module _ (fixed : ℕ → Bool) (s : State) (l : Lore) (i place : ℕ) (of : Kin
       all_changed (IsKnown fixed s l i) (IsKnown fixed t m i) (known_sealed (cells_of s i) (known_in l.known i) of)
       (get_or (cells_of s i) place 0) (cells_of s i) (known_in l.known i)
       (subst (λ (n : ℕ). (w : Known) → IsKnown fixed s l i n w → IsKnown fixed t m i n (known_sealed (cells_of s i) (known_in l.known i) of w))
-          (sym there) (sealed_known of refl))
+      (sym there) (sealed_known of refl))
       (λ y w other held before. knows_on s t l m fixed i y w (sealed_same y (reached_held t i y later held) (λ is. other (is ∙ sym there))) before)
       (facts.known_all i)
 

@@ -54,7 +54,7 @@ module _ (fixed : ℕ → Bool) (s : State) (l : Lore) (shape : IsShaped s) (k :
       → Smaller (boxes_of s l) (boxes_of (after s e) (lore_after s l e))
   quiet e h p rows cells same =
       kept_by e h p (subst (λ (m : Lore). (x : ℕ) → Reachable (after s e) x → SameAt s (after s e) l m x) (sym same)
-          (quiet_same s (after s e) k rows cells l))
+      (quiet_same s (after s e) k rows cells l))
 
   -- A field of a held cell becomes another value.
   module _ (i x f : ℕ) (value : Field) (t : State) (later : IsConsistent t) (stores : Stores fixed s t l i x f value) where
@@ -93,7 +93,7 @@ module _ (fixed : ℕ → Bool) (s : State) (l : Lore) (shape : IsShaped s) (k :
         = (λ y is same. let yes = is.box in let no = ap (λ (n : ℕ). is_box_kind (field_of s n 5)) same ∙ no_box in absurd cc) in
         smaller (boxes_of s seen) t m root
         (λ y is. let before = in_before m y fresh is in
-            in_map s seen y before ∙ ap Some (sym (entries_else y (apart y before) m terms)))
+        in_map s seen y before ∙ ap Some (sym (entries_else y (apart y before) m terms)))
         (λ y q r h. in_behind m y fresh r (of_map s seen y q h))
 
     -- in a box
@@ -155,8 +155,8 @@ module _ (fixed : ℕ → Bool) (s : State) (l : Lore) (shape : IsShaped s) (k :
       let still : t.owns ≡ s.owns = owns ∙ set-get_or s.owns i _ in
       subst (λ (n : Lore). Smaller (boxes_of s l) (boxes_of t n)) (sym same)
       (same_but_smaller s t l l (λ x. false) (subst (λ (n : Lore). In t n 0) same root)
-          (λ x r b. quiet_same s t k rows (λ j. ap (λ (os : List Own). cells_in (own_in os j).held) still) l x r)
-          (λ x b is. absurd cc) (λ x b is. absurd cc))
+      (λ x r b. quiet_same s t k rows (λ j. ap (λ (os : List Own). cells_in (own_in os j).held) still) l x r)
+      (λ x b is. absurd cc) (λ x b is. absurd cc))
 
   claimed_smaller : (i c : ℕ) (found : Colour) → colour_of s c ≡ found → (t : State) (m : Lore) → IsConsistent t → t.rows ≡ s.rows
       → t.mutators ≡ s.mutators → t.owns ≡ set s.owns i (having_claimed (own_of s i) c found) → m ≡ claimed_lore i c found
@@ -165,13 +165,13 @@ module _ (fixed : ℕ → Bool) (s : State) (l : Lore) (shape : IsShaped s) (k :
       let new = claimed_lore i c colour.Blue in
       subst (λ (n : Lore). Smaller (boxes_of s l) (boxes_of t n)) (sym m_is)
       (same_but_smaller s t l new (λ x. x == c) (subst (λ (n : Lore). In t n 0) m_is root)
-          (λ x r other. claimed_same fixed s t l i c shape k facts later rows mutators owns lt is x r
-              (λ here. let yes : (x == c) ≡ true = eq-eqb x c here in cc))
-          (λ x here now. absurd (
-              let none : Some i ≡ None =
-              sym (put_here l.fresh c (Some i)) ∙ ap new.fresh (sym (eqb-true x c here)) ∙ now.old in cc))
-          (λ x here before. unreached fixed s t l i c shape k facts later rows mutators owns lt is
-              (subst (Reachable s) (eqb-true x c here) before.reached)))
+      (λ x r other. claimed_same fixed s t l i c shape k facts later rows mutators owns lt is x r
+      (λ here. let yes : (x == c) ≡ true = eq-eqb x c here in cc))
+      (λ x here now. absurd (
+      let none : Some i ≡ None =
+      sym (put_here l.fresh c (Some i)) ∙ ap new.fresh (sym (eqb-true x c here)) ∙ now.old in cc))
+      (λ x here before. unreached fixed s t l i c shape k facts later rows mutators owns lt is
+      (subst (Reachable s) (eqb-true x c here) before.reached)))
   claimed_smaller i c colour.White is t m later rows mutators owns m_is lt root =
       missed_smaller i t m rows owns (m_is ∙ known_back l i) root
   claimed_smaller i c colour.Gray is t m later rows mutators owns m_is lt root =
@@ -199,9 +199,9 @@ module _ (fixed : ℕ → Bool) (s : State) (l : Lore) (shape : IsShaped s) (k :
       (λ y r other. sealed_same fixed s l i place of shape k facts h p y r (λ here. let yes : (y == x) ≡ true = eq-eqb y x here in cc))
       (λ y here now. absurd (let none : Some fresh.0 ≡ None = sym fresh.1 ∙ ap l.fresh (sym (eqb-true y x here)) ∙ now.old in cc))
       (λ y here before. absurd (
-          let no : is_box_kind (field_of s y 5) ≡ false =
-          ap (λ (n : ℕ). is_box_kind (field_of s n 5)) (eqb-true y x here) ∙ raw_no_box (field_of s x 5) is_raw in
-          let yes = before.box in cc))
+      let no : is_box_kind (field_of s y 5) ≡ false =
+      ap (λ (n : ℕ). is_box_kind (field_of s n 5)) (eqb-true y x here) ∙ raw_no_box (field_of s x 5) is_raw in
+      let yes = before.box in cc))
 
   fill_smaller : (i place f : ℕ) (value : Field) → can s (event.Fill i place f value) ≡ true
       → Smaller (boxes_of s (revealing l value)) (boxes_of (after s (event.Fill i place f value)) (lore_after s l (event.Fill i place f value)))

@@ -81,7 +81,7 @@ module _ (fixed : ℕ → Bool) (s t : State) (l : Lore) (i x f : ℕ) (value : 
       ap (λ (rs : List (List Field)). field_in rs x f) stores.rows
       ∙ ap (λ (r : List Field). get_or r f field.Null)
       (get_or-set_same s.rows x (set (row_in s.rows x) f value) []
-          (let fit = shape.cells_fit.rows_fit in let lt = stores.there in omega (arith, fit, lt)))
+      (let fit = shape.cells_fit.rows_fit in let lt = stores.there in omega (arith, fit, lt)))
       ∙ get_or-set_same (row_in s.rows x) f value field.Null (let lt = stores.payload in omega (arith, lt, row))
 
   pub stored_kinds : (y : ℕ) → field_of t y 5 ≡ field_of s y 5
@@ -119,8 +119,8 @@ module _ (fixed : ℕ → Bool) (s t : State) (l : Lore) (i x f : ℕ) (value : 
       → AreTold fixed told l.terms (field_of s y) → AreTold fixed told l.terms (field_of t y)
   told_on y told not_anchor box h g term lt is told_is =
       entries y g (λ same field_is. not_anchor (same ∙ stores.proper
-          (subst (λ (n : ℕ). is_box_kind (field_of s n 5) ≡ true) same box)
-          (subst (λ (n : ℕ). fixed n ≡ true) field_is is)))
+      (subst (λ (n : ℕ). is_box_kind (field_of s n 5) ≡ true) same box)
+      (subst (λ (n : ℕ). fixed n ≡ true) field_is is)))
       ∙ h g term lt is told_is
 
   -- a cell that is fresh for another mutator is not the target, and not named
@@ -136,12 +136,16 @@ module _ (fixed : ℕ → Bool) (s t : State) (l : Lore) (i x f : ℕ) (value : 
       → KnownAt fixed l.terms (field_of s y) (l.terms y) (l.fresh y) j y w
       → KnownAt fixed l.terms (field_of t y) (l.terms y) (fresh y) j y w
   others_know j y knows.Nothing other h is = tt
-  others_know j y (knows.Raw fs) other h is =
-      (stored_kinds y ∙ is.0, revealed_other l.fresh value y (λ e. not_named j y other is.1 e) ∙ is.1,
-        record { five = is.2.five; each = λ g lt. stored_fields y g (λ same. absurd (not_target j y other is.1 same)) ∙ is.2.each g lt })
-  others_know j y (knows.Fresh fs) other h is =
-      (ap is_box_kind (stored_kinds y) ∙ is.0, revealed_other l.fresh value y (λ e. not_named j y other is.1 e) ∙ is.1,
-        record { five = is.2.five; each = λ g lt. stored_fields y g (λ same. absurd (not_target j y other is.1 same)) ∙ is.2.each g lt })
+  others_know j y (knows.Raw fs) other h is = (
+    stored_kinds y ∙ is.0,
+    revealed_other l.fresh value y (λ e. not_named j y other is.1 e) ∙ is.1,
+    record { five = is.2.five; each = λ g lt. stored_fields y g (λ same. absurd (not_target j y other is.1 same)) ∙ is.2.each g lt },
+  )
+  others_know j y (knows.Fresh fs) other h is = (
+    ap is_box_kind (stored_kinds y) ∙ is.0,
+    revealed_other l.fresh value y (λ e. not_named j y other is.1 e) ∙ is.1,
+    record { five = is.2.five; each = λ g lt. stored_fields y g (λ same. absurd (not_target j y other is.1 same)) ∙ is.2.each g lt },
+  )
   others_know j y (knows.Record term) other h is = (stored_kinds y ∙ is.0, is.1)
   others_know j y (knows.Boxed told) other h is =
       (is.0, ap is_box_kind (stored_kinds y) ∙ is.1, revealed_none l.fresh value y is.2, told_on y told is.0 is.1 is.3)
@@ -169,7 +173,7 @@ module _ (fixed : ℕ → Bool) (s t : State) (l : Lore) (i x f : ℕ) (value : 
   target_known (knows.Fresh fs) is = (ap is_box_kind (stored_kinds x) ∙ is.0, is.1, payload_on fs is.2)
   target_known (knows.Record term) is =
       absurd (let yes : is_record_kind (field_of s x 5) ≡ true = ap is_record_kind is.0 in
-          let no = stores.no_record in cc)
+      let no = stores.no_record in cc)
   target_known (knows.Boxed told) is =
       (is.0, ap is_box_kind (stored_kinds x) ∙ is.1, is.2, told_on x told is.0 is.1 is.3)
 
@@ -251,13 +255,13 @@ module _ (fixed : ℕ → Bool) (s t : State) (l : Lore) (i x f : ℕ) (value : 
               let here : AllKnown (IsKnown fixed t m i) (cells_of t i) (known_in m.known i) =
               subst (λ (cs : List ℕ). AllKnown (IsKnown fixed t m i) cs (known_in m.known i)) (sym (stores.cells i))
               (subst (λ (ws : List Known). AllKnown (IsKnown fixed t m i) (cells_of s i) ws)
-                  (sym (get_or-set_same l.known i _ [] (let lt = stores.maker in let fit = facts.known_fit in omega (arith, lt, fit))))
-                  (stored_known (cells_of s i) place is (facts.known_all i))) in
+              (sym (get_or-set_same l.known i _ [] (let lt = stores.maker in let fit = facts.known_fit in omega (arith, lt, fit))))
+              (stored_known (cells_of s i) place is (facts.known_all i))) in
               subst (λ (n : ℕ). AllKnown (IsKnown fixed t m n) (cells_of t n) (known_in m.known n)) (sym same) here
           | inr other ↦
               subst (λ (cs : List ℕ). AllKnown (IsKnown fixed t m j) cs (known_in m.known j)) (sym (stores.cells j))
               (subst (λ (ws : List Known). AllKnown (IsKnown fixed t m j) (cells_of s j) ws) (sym (get_or-set_other l.known i j _ [] other))
-                  (all_known (IsKnown fixed s l j) (IsKnown fixed t m j) (cells_of s j) (known_in l.known j)
-                      (λ y w h before. others_know j y w other h before) (facts.known_all j)))
+              (all_known (IsKnown fixed s l j) (IsKnown fixed t m j) (cells_of s j) (known_in l.known j)
+              (λ y w h before. others_know j y w other h before) (facts.known_all j)))
         ];
       }

@@ -13,5 +13,6 @@
 #![tactic(auto)]
 
 mod known;
+pub mod theorems;
 
 pub use known::{Known, Learned};
