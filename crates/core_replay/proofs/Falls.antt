@@ -187,7 +187,7 @@ blackens s r now = record {
       let old = work_at s stage.Trace now in
       let new = work_at (after s event.Blacken) stage.Trace now in
       let less = blackens_less s.cells s.colours s.collector.clean s.collector.cursor s.collector.scan
-      (λ x is. (r.kept.consistent.scans x is).gray) shape.names_fit.scan_fits shape.cells_fit.colours_fit happens in
+      (λ x is. (r.kept.consistent.tracing.scans x is).gray) shape.names_fit.scan_fits shape.cells_fit.colours_fit happens in
       omega arith);
 }
 

@@ -128,7 +128,7 @@ may_answer : (s : State) (i : ℕ) → IsReplayed s → IsOut s i
 may_answer s i r out =
     let found = presence_of s i in
     let within : i < s.mutators = subst (λ n. i < n) r.kept.range.shape.mutators_fit.answered_fit out.owed.within in
-    let fits = r.kept.consistent.statuses i within in
+    let fits = r.kept.consistent.mutators.statuses i within in
     let next = next_wanted s.control.stage found.status out.asks fits out.other in
     and_from (not found.inside && same_flag found.over found.over) _
     (and_from (not found.inside) _ (ap not out.outside) (same_flag_self found.over)) next

@@ -3,7 +3,7 @@
 //!
 //! A crate that has tests is proved twice, so the tests of several crates stand here.
 //!
-//! Reading order: `words`, `machine`, `runs`, `schedules`.
+//! Reading order: `words`, `machine`, `runs`, `schedules`, `worked`.
 #![tactic(auto)]
 
 #[cfg(test)]
@@ -14,3 +14,5 @@ mod runs;
 mod schedules;
 #[cfg(test)]
 mod words;
+#[cfg(test)]
+mod worked;

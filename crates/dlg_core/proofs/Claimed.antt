@@ -24,10 +24,10 @@ use Rattle.dlg_core.specs.FirstRows.{are_first_rows, AreRows}
 use Rattle.dlg_core.specs.Runs.{taken_from}
 use Rattle.dlg_core.specs.Sums.{IsClaimed, StaysClaimed}
 use Rattle.dlg_core.proofs.Each.{colour_each}
-use Rattle.dlg_core.proofs.Keeps.Sweep.{black_found_is}
 use Rattle.dlg_core.proofs.Starts.{opening_consistent, same_everywhere, back_of}
 use Rattle.dlg_core.proofs.Step.{consistent_after}
 use Rattle.dlg_core.proofs.Throughout.{rows_shaped}
+use Rattle.dlg_core.proofs.Truths.{black_found_is}
 
 -- a colour changes, and a blue one does not
 blue_set : (colours : List Colour) (p : ℕ) (x : Colour) (c : ℕ) → (colour_in colours p ≡ colour.Blue → x ≡ colour.Blue)
@@ -39,7 +39,7 @@ blackened : (s : State) (scan : Option Scanning) (c : ℕ) → IsConsistent s �
     → colour_of s c ≡ colour.Blue → colour_in (slice_set s.colours (scan_or_none scan).cell colour.Black) c ≡ colour.Blue
 blackened s None c consistent is h blue = absurd cc
 blackened s (Some x) c consistent is h blue =
-    blue_set s.colours x.cell colour.Black c (λ b. absurd (let gray = (consistent.scans x is).gray in cc)) blue
+    blue_set s.colours x.cell colour.Black c (λ b. absurd (let gray = (consistent.tracing.scans x is).gray in cc)) blue
 
 -- a free cell stays free at every event but a claim of it
 pub blue_after : (s : State) (e : Event) (c : ℕ) → IsConsistent s → can s e ≡ true → ((i : ℕ) → e ≢ event.Claim i c)
@@ -54,7 +54,7 @@ blue_after s event.Blacken c consistent h other blue = blackened s s.collector.s
 blue_after s event.Free c consistent h other blue = blue_set s.colours s.control.position colour.Blue c (λ b. refl) blue
 blue_after s event.Whiten c consistent h other blue =
     blue_set s.colours s.control.position colour.White c
-    (λ b. absurd (let black = consistent.found_black (black_found_is s.collector.sweep h) in cc)) blue
+    (λ b. absurd (let black = consistent.sweep.found_black (black_found_is s.collector.sweep h) in cc)) blue
 blue_after s _ c consistent h other blue = blue
 
 -- an event is a claim of the cell, or it is not

@@ -1,18 +1,20 @@
 -- What holds of each element of a list, after one element was replaced.
-use Rattle.std.proofs.Common.{◌≡◌, ◌≢◌, ◌==◌, ℕ, zero, suc, true, ◌<◌, inl, inr, List, [], ◌∷◌, length, get_or, refl, subst, arith, eq-eqb}
+use Rattle.std.proofs.Common.{◌≡◌, ◌≢◌, ◌==◌, ℕ, zero, suc, true, ◌<◌, inl, inr, List, [], ◌∷◌, length, get_or, refl, subst, arith, eq-eqb, ap, ◌≤◌}
 use Rattle.std.proofs.Math.ListN.{set}
 use Rattle.std.specs.List.{All}
-use Rattle.std.proofs.lemmas.Bool.{or_cases, eqb-true}
+use Rattle.std.proofs.lemmas.Bool.{or_cases, eqb-true, cases_lt}
 use Rattle.std.proofs.lemmas.List.Elements.{All-nil, All-cons, All-head, All-tail}
 use Rattle.cell_words.specs.declared.colours.Colour.{Colour}
 use Rattle.cell_words.specs.declared.fields.Field.{Field}
 use Rattle.cell_words.specs.declared.fields.Field.TheVariants as field
 use Rattle.cell_words.specs.declared.presences.Presence.{Presence}
 use Rattle.core_machine.specs.declared.places.Held.{Held}
-use Rattle.core_machine.specs.State.{colour_in, row_in, field_in, presence_in, own_in, set_field}
+use Rattle.core_machine.specs.State.{colour_in, row_in, field_in, presence_in, own_in, set_field, State, field_of}
 use Rattle.core_machine.specs.Own.{Own}
 use Rattle.core_machine.specs.Places.{holds}
 use Rattle.dlg_core.proofs.Truths.{or_here, or_later}
+use Rattle.std.proofs.lemmas.List.{get_or_past}
+use Rattle.core_machine.specs.InRange.{IsShaped}
 
 -- at the place of the new element it holds of that one, at every other of the old one
 pub set_each : {X : Type 0} (P : ℕ → X → Type 0) (xs : List X) (i : ℕ) (y d : X)
@@ -85,3 +87,21 @@ all_both P Q R [] step p q = All-nil R
 all_both P Q R (x ∷ xs) step p q =
     All-cons R x xs (step x (All-head P x xs p) (All-head Q x xs q))
     (all_both P Q R xs step (All-tail P x xs p) (All-tail Q x xs q))
+
+-- beyond a row fields are null
+pub null_beyond : (s : State) (c f : ℕ) → IsShaped s → 6 ≤ f → field_of s c f ≡ field.Null
+null_beyond s c f range past = elim (cases_lt c s.cells) [
+  | inl lt ↦
+      let six = range.cells_fit.six_fields c lt in
+      get_or_past (row_in s.rows c) f field.Null (omega arith)
+  | inr out ↦
+      let fit = range.cells_fit.rows_fit in
+      let empty : row_in s.rows c ≡ [] = get_or_past s.rows c [] (omega arith) in
+      ap (λ row. get_or row f field.Null) empty
+]
+
+-- another cell's fields stay
+pub field_elsewhere : (rows : List (List Field)) (p f : ℕ) (x : Field) (c : ℕ) → c ≢ p → (g : ℕ)
+    → field_in (set_field rows p f x) c g ≡ field_in rows c g
+field_elsewhere rows p f x c other g =
+    field_each (λ d h y. d ≢ p → y ≡ field_in rows d h) rows p f x (λ ne. absurd (ne refl)) (λ d h ne. refl) c g other

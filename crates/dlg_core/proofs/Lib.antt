@@ -3,7 +3,9 @@ pub mod Changes
 pub mod Claimed
 pub mod Collects
 pub mod Computes
+pub mod CutOff
 pub mod Each
+pub mod HeldLists
 pub mod Joins
 pub mod Keeps
 pub mod Longer

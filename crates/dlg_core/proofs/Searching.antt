@@ -17,8 +17,8 @@ use Rattle.dlg_core.specs.Search.{Search, has_found, with_found, twice_unfound, 
 use Rattle.dlg_core.proofs.Each.{set_each}
 use Rattle.dlg_core.proofs.Computes.{into}
 use Rattle.dlg_core.proofs.Keeps.Blacken.{payload_names}
-use Rattle.dlg_core.proofs.Keeps.Holding.{inside_below}
 use Rattle.dlg_core.proofs.Truths.{or_here, or_later}
+use Rattle.core_machine.proofs.OneOperation.{inside_there}
 
 -- a mark that is set is set, and each that was set still is
 pub marked_same : (marks : List Bool) (c : ℕ) → c < length marks → get_or (set marks c true) c false ≡ true
@@ -242,7 +242,7 @@ roots_done s k f shape all so = record {
   found = so.found;
   roots = record {
     anchor = so.anchor;
-    held = (λ i c inside h. so.held i (let lt = inside_below s i shape inside in omega arith) c inside h);
+    held = (λ i c inside h. so.held i (let lt = inside_there s shape i inside in omega arith) c inside h);
   };
   closed = (λ c h. inl (so.waits c h));
 }

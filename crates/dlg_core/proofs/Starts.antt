@@ -111,40 +111,48 @@ opening_consistent cells rooms first few h =
     let alive : (c : ℕ) → c < k → live s.colours s.control s.collector.sweep c ≡ true
     = (λ c lt. live_outside s.colours s.control s.collector.sweep c refl ∙ ap (λ x. is_live x false) (white c lt)) in
     record {
-      statuses = (λ i lt. async_fits_idle (in_replicate (length rooms) i opening_presence no_presence lt));
-      answered = (λ i lt e. absurd cc);
-      modes = (λ i. subst (λ o. IsStaleMode (presence_of s i).status o.mode s.control) (sym (own i)) tt);
-      out = (λ i o. (ap (λ x. x.held) (own i), ap (λ x. x.mode) (own i)));
-      marks = (λ i m. subst (λ o. All (MarkStands s.colours) o.held) (sym (own i)) (All-nil (MarkStands s.colours)));
-      anchor_box = ap is_box_kind (here 0 5 some) ∙ b.1;
-      kinds = (λ c. elim (cases_lt c k) [
-        | inl lt ↦ sealed_is_kind (field_of s c 5) (kind c lt)
-        | inr ge ↦ ap is_kind_field (null c 5 ge)
-      ]);
-      blue_null = (λ c f is. elim (cases_lt c k) [
-        | inl lt ↦ absurd (let w = white c lt in cc)
-        | inr ge ↦ null c f ge
-      ]);
-      anchor_live = alive 0 some;
-      held_live = (λ i. subst (λ o. All (λ p. live s.colours s.control s.collector.sweep p.cell ≡ true) o.held) (sym (own i))
-          (All-nil (λ p. live s.colours s.control s.collector.sweep p.cell ≡ true)));
-      child_live = (λ c e. absurd cc);
-      names_live = (λ c d f l n. elim (cases_lt c k) [
-        | inl lt ↦
-            let within = and_parts _ _ (one_of_list (is_first_row k) first c [] a.1 lt) in
-            let below = first_cell k (row_in first c) f d within.0 (sym (here c f lt) ∙ n) in
-            (alive d below, sealed_not_raw (field_of s d 5) (kind d below))
-        | inr ge ↦ absurd (let e = null c f ge in cc)
-      ]);
-      raw_once = (λ i j c raw hi hj. absurd (let none : holds (own_of s i).held c ≡ false = ap (λ o. holds o.held c) (own i) in cc));
-      raw_not_black = (λ i e. subst (λ o. All (NoRawBlack s.colours s.rows) o.held) (sym (own i)) (All-nil (NoRawBlack s.colours s.rows)));
-      cleared = (λ c e. absurd cc);
-      anchor_marked = (λ e. absurd cc);
-      traced = (λ e. absurd cc);
-      clean_pass = (λ e. absurd cc);
-      pass_waits = (λ e. absurd cc);
-      scans = (λ x e. absurd cc);
-      unswept = (λ c far. absurd (let never = not_sweeping s.control s.collector.sweep c refl in cc));
-      wipes = (λ n e. absurd cc);
-      found_black = (λ e. absurd cc);
+      mutators = record {
+        statuses = (λ i lt. async_fits_idle (in_replicate (length rooms) i opening_presence no_presence lt));
+        answered = (λ i lt e. absurd cc);
+        modes = (λ i. subst (λ o. IsStaleMode (presence_of s i).status o.mode s.control) (sym (own i)) tt);
+        out = (λ i o. (ap (λ x. x.held) (own i), ap (λ x. x.mode) (own i)));
+        marks = (λ i m. subst (λ o. All (MarkStands s.colours) o.held) (sym (own i)) (All-nil (MarkStands s.colours)));
+      };
+      cells = record {
+        anchor_box = ap is_box_kind (here 0 5 some) ∙ b.1;
+        kinds = (λ c. elim (cases_lt c k) [
+          | inl lt ↦ sealed_is_kind (field_of s c 5) (kind c lt)
+          | inr ge ↦ ap is_kind_field (null c 5 ge)
+        ]);
+        blue_null = (λ c f is. elim (cases_lt c k) [
+          | inl lt ↦ absurd (let w = white c lt in cc)
+          | inr ge ↦ null c f ge
+        ]);
+        anchor_live = alive 0 some;
+        held_live = (λ i. subst (λ o. All (λ p. live s.colours s.control s.collector.sweep p.cell ≡ true) o.held) (sym (own i))
+            (All-nil (λ p. live s.colours s.control s.collector.sweep p.cell ≡ true)));
+        child_live = (λ c e. absurd cc);
+        names_live = (λ c d f l n. elim (cases_lt c k) [
+          | inl lt ↦
+              let within = and_parts _ _ (one_of_list (is_first_row k) first c [] a.1 lt) in
+              let below = first_cell k (row_in first c) f d within.0 (sym (here c f lt) ∙ n) in
+              (alive d below, sealed_not_raw (field_of s d 5) (kind d below))
+          | inr ge ↦ absurd (let e = null c f ge in cc)
+        ]);
+        raw_once = (λ i j c raw hi hj. absurd (let none : holds (own_of s i).held c ≡ false = ap (λ o. holds o.held c) (own i) in cc));
+        raw_not_black = (λ i e. subst (λ o. All (NoRawBlack s.colours s.rows) o.held) (sym (own i)) (All-nil (NoRawBlack s.colours s.rows)));
+      };
+      tracing = record {
+        cleared = (λ c e. absurd cc);
+        anchor_marked = (λ e. absurd cc);
+        traced = (λ e. absurd cc);
+        clean_pass = (λ e. absurd cc);
+        pass_waits = (λ e. absurd cc);
+        scans = (λ x e. absurd cc);
+      };
+      sweep = record {
+        unswept = (λ c far. absurd (let never = not_sweeping s.control s.collector.sweep c refl in cc));
+        wipes = (λ n e. absurd cc);
+        found_black = (λ e. absurd cc);
+      };
     }

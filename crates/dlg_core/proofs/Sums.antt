@@ -7,7 +7,7 @@ use Rattle.std.proofs.Common.{◌≡◌, inl, inr, ℕ, true, false, cond, not, 
 use Rattle.std.specs.Prelude.{slice_set, slice_index, take}
 use Rattle.std.proofs.Math.ListN.{set}
 use Rattle.std.specs.List.{sum}
-use Rattle.std.proofs.lemmas.Bool.{and_parts, ltb-true, cases_lt}
+use Rattle.std.proofs.lemmas.Bool.{cases_lt}
 use Rattle.std.proofs.lemmas.List.{set_past}
 use Rattle.std.proofs.lemmas.List.Folds.{sum_by-replicate}
 use Rattle.std.proofs.lemmas.List.Sums.{sum_by-set, sum_by-append}
@@ -29,15 +29,17 @@ use Rattle.core_machine.specs.Words.{shaded, cleared, claimed, is_blue, same_sta
 use Rattle.core_machine.specs.Handshakes.{wanted_of}
 use Rattle.core_machine.specs.InRange.{IsShaped}
 use Rattle.core_machine.specs.Next.{can, after}
+use Rattle.core_machine.proofs.Conditions.{claim_needs}
 use Rattle.core_machine.proofs.Ranges.Mutators.{born-blue}
 use Rattle.dlg_core.specs.Consistent.{IsConsistent}
 use Rattle.dlg_core.specs.FirstRows.{are_first_rows, AreRows}
 use Rattle.dlg_core.specs.Sums.{is_used, used_in, claims_in, Balances, IsBalanced, StaysBalanced}
 use Rattle.dlg_core.proofs.Changes.Noted.{answered_each, look_each}
-use Rattle.dlg_core.proofs.Keeps.Holding.{inside_below}
-use Rattle.dlg_core.proofs.Keeps.Sweep.{position_below, free_is, black_found_is}
 use Rattle.dlg_core.proofs.Starts.{opening_consistent}
 use Rattle.dlg_core.proofs.Throughout.{along_run, rows_shaped}
+use Rattle.core_machine.proofs.OneOperation.{inside_there}
+use Rattle.dlg_core.proofs.Truths.{free_is, black_found_is}
+use Rattle.dlg_core.proofs.Changes.Sweep.{position_below}
 
 -- What a change does to the sums.
 
@@ -130,12 +132,10 @@ claim_balances first s i c born colour.Black own cell e fresh k =
 pub claim_balanced : (first : ℕ) (s : State) (i c : ℕ) → IsShaped s → can s (event.Claim i c) ≡ true → IsBalanced first s
     → IsBalanced first (after s (event.Claim i c))
 claim_balanced first s i c range h k =
-    let a = and_parts _ _ h in
-    let b = and_parts _ _ a.0 in
-    let d = and_parts _ _ b.0 in
+    let needs = claim_needs s i c h in
     claim_balances first s i c (born_colour (presence_of s i).status (own_of s i).mode c) (colour_of s c)
-    (subst (λ n. i < n) (sym range.mutators_fit.owns_fit) (inside_below s i range d.0))
-    (subst (λ n. c < n) (sym range.cells_fit.colours_fit) (ltb-true c s.cells b.1))
+    (subst (λ n. i < n) (sym range.mutators_fit.owns_fit) (inside_there s range i needs.inside))
+    (subst (λ n. c < n) (sym range.cells_fit.colours_fit) needs.cell)
     refl (born-blue (presence_of s i).status (own_of s i).mode c) k
 
 -- the cell was white, and one cell in use goes
@@ -148,7 +148,7 @@ free_balanced first s range consistent h k =
     let there : p < length s.collector.times_freed
     = (let a = range.cells_fit.colours_fit in let b = range.cells_fit.freed_fit in omega arith) in
     let used = used_set s.colours p colour.Blue lt in
-    let old : weight (colour_of s p) ≡ 1 = ap weight (consistent.wipes 6 is).white in
+    let old : weight (colour_of s p) ≡ 1 = ap weight (consistent.sweep.wipes 6 is).white in
     let counted : sum (set s.collector.times_freed p (slice_index s.collector.times_freed p + 1)) + slice_index s.collector.times_freed p
     ≡ sum s.collector.times_freed + (slice_index s.collector.times_freed p + 1)
     = sum_by-set (λ x. x) s.collector.times_freed p (slice_index s.collector.times_freed p + 1) 0 there in
@@ -160,7 +160,7 @@ pub blacken_balanced : (first : ℕ) (s : State) (x : Scanning) → IsConsistent
     → Balances first (slice_set s.colours x.cell colour.Black) s.owns s.collector.times_freed s.collector.number_freed
 blacken_balanced first s x consistent is k =
     colour_balances first s.colours s.owns s.collector.times_freed s.collector.number_freed x.cell colour.Black
-    (sym (ap is_used (consistent.scans x is).gray)) k
+    (sym (ap is_used (consistent.tracing.scans x is).gray)) k
 
 pub blacken_balanced_at : (first : ℕ) (s : State) (scan : Option Scanning) → IsConsistent s → s.collector.scan ≡ scan
     → may_blacken scan ≡ true → IsBalanced first s
@@ -219,7 +219,7 @@ balanced_after first s e range consistent h k =
       | event.Wipe ↦ λ h. k
       | event.Free ↦ λ h. free_balanced first s range consistent h k
       | event.Whiten ↦ λ h. tinted s.control.position colour.White
-          (sym (ap is_used (consistent.found_black (black_found_is s.collector.sweep h))))
+          (sym (ap is_used (consistent.sweep.found_black (black_found_is s.collector.sweep h))))
       | event.Advance ↦ λ h. k
     ] h
 

@@ -1,10 +1,18 @@
 -- What the tests of the definitions say.
-use Rattle.std.proofs.Common.{◌≡◌, ◌⊎◌, inl, inr, ◌||◌, Bool, true, false, cond, refl}
+use Rattle.std.proofs.Common.{◌≡◌, ◌⊎◌, inl, inr, ◌||◌, Bool, true, false, cond, refl, ℕ, zero, suc, List, [], get_or, Option, Some, None, is_none, ◌∷◌, ap, ◌<◌}
 use Rattle.cell_words.specs.declared.controls.Stage.{Stage}
 use Rattle.cell_words.specs.declared.controls.Stage.TheVariants as stage
 use Rattle.cell_words.specs.declared.presences.Status.{Status}
 use Rattle.cell_words.specs.declared.presences.Status.TheVariants as status
-use Rattle.core_machine.specs.Words.{same_stage, same_status}
+use Rattle.core_machine.specs.Words.{same_status, is_raw_kind, is_box_kind}
+use Rattle.std.proofs.lemmas.Bool.{and_parts, ltb-true, eqb-true}
+use Rattle.dlg_core.specs.Facts.{all_in, async_fits}
+use Rattle.cell_words.specs.declared.fields.Field.{Field}
+use Rattle.cell_words.specs.declared.fields.Field.TheVariants as field
+use Rattle.core_machine.specs.declared.progress.Scanning.{Scanning}
+use Rattle.core_machine.specs.declared.progress.Sweeping.{Sweeping}
+use Rattle.core_machine.specs.declared.progress.Sweeping.TheVariants as sweeping
+use Rattle.core_machine.specs.Sweep.{may_wipe, may_free, is_black_found}
 
 -- a disjunction by cases holds where its left part does
 pub or_left : (a b : Bool) → a ≡ true → cond a true b ≡ true
@@ -40,17 +48,41 @@ or_later false b h = h
 
 -- Stages and statuses.
 
-pub same_stage_is : (a b : Stage) → same_stage a b ≡ true → a ≡ b
-same_stage_is stage.Idle stage.Idle h = refl
-same_stage_is stage.Sync1 stage.Sync1 h = refl
-same_stage_is stage.Clear stage.Clear h = refl
-same_stage_is stage.Sync2 stage.Sync2 h = refl
-same_stage_is stage.Trace stage.Trace h = refl
-same_stage_is stage.Sweep stage.Sweep h = refl
-same_stage_is _ _ h = absurd cc
-
 pub same_status_is : (a b : Status) → same_status a b ≡ true → a ≡ b
 same_status_is status.Async status.Async h = refl
 same_status_is status.Sync1 status.Sync1 h = refl
 same_status_is status.Sync2 status.Sync2 h = refl
 same_status_is _ _ h = absurd cc
+
+-- who is among those that have all answered has answered
+pub one_of_all : (answered : List Bool) (i : ℕ) → all_in answered ≡ true → get_or answered i true ≡ true
+one_of_all [] i h = refl
+one_of_all (a ∷ rest) zero h = (and_parts _ _ h).0
+one_of_all (a ∷ rest) (suc i) h = one_of_all rest i (and_parts _ _ h).1
+
+-- a box is not raw
+pub box_not_raw : (x : Field) → is_box_kind x ≡ true → is_raw_kind x ≡ false
+box_not_raw field.Null h = absurd cc
+box_not_raw (field.Num n) h = refl
+box_not_raw (field.Cell c) h = refl
+
+pub no_scan_is : (scan : Option Scanning) → is_none scan ≡ true → scan ≡ None
+no_scan_is None h = refl
+no_scan_is (Some x) h = absurd cc
+
+-- an async mutator's mode is of the tracing that goes on
+pub async_mode : (looked : Stage) → async_fits looked stage.Trace ≡ true → looked ≡ stage.Trace
+async_mode stage.Trace h = refl
+async_mode _ h = absurd cc
+
+pub free_is : (sweep : Sweeping) → may_free sweep ≡ true → sweep ≡ sweeping.Wiping 6
+free_is (sweeping.Wiping k) h = ap (λ n. sweeping.Wiping n) (eqb-true k 6 h)
+free_is _ h = absurd cc
+
+pub black_found_is : (sweep : Sweeping) → is_black_found sweep ≡ true → sweep ≡ sweeping.BlackFound
+black_found_is sweeping.BlackFound h = refl
+black_found_is _ h = absurd cc
+
+pub wipe_is : (sweep : Sweeping) → may_wipe sweep ≡ true → (n : ℕ) × (sweep ≡ sweeping.Wiping n) × (n < 6)
+wipe_is (sweeping.Wiping n) h = (n, refl, ltb-true n 6 h)
+wipe_is _ h = absurd cc

@@ -16,9 +16,10 @@ use Rattle.core_machine.proofs.Frames.{set_field_other}
 use Rattle.dlg_core.specs.Consistent.{IsConsistent}
 use Rattle.dlg_core.specs.Facts.{is_live, live, unswept}
 use Rattle.dlg_core.specs.Reachable.{Reachable}
-use Rattle.dlg_core.proofs.Keeps.Sweep.{busy_now, wipe_is}
 use Rattle.dlg_core.proofs.Changes.Shade.{here_unswept}
 use Rattle.dlg_core.proofs.Safety.{reachable_live}
+use Rattle.dlg_core.proofs.Truths.{wipe_is}
+use Rattle.dlg_core.proofs.Changes.Sweep.{busy_now}
 
 -- the cell that is being wiped is not live
 pub wiping_not_live : (s : State) (k : ℕ) → IsShaped s → IsConsistent s → s.collector.sweep ≡ sweeping.Wiping k
@@ -27,7 +28,7 @@ wiping_not_live s k range consistent is =
     let now = busy_now s (sweeping.Wiping k) range is (λ e. cc) in
     let ahead : unswept s.control s.collector.sweep s.control.position ≡ true =
     here_unswept s.control s.collector.sweep now (λ done. let no = sym is ∙ done in cc) in
-    ap (λ x. is_live x (unswept s.control s.collector.sweep s.control.position)) (consistent.wipes k is).white
+    ap (λ x. is_live x (unswept s.control s.collector.sweep s.control.position)) (consistent.sweep.wipes k is).white
     ∙ ap not ahead
 
 -- .. so it is not reachable

@@ -169,27 +169,42 @@ Wipes colours rows position sweep = (k : ℕ) → sweep ≡ Wiping k → IsWipin
 abbrev pub FoundIsBlack : List Colour → ℕ → Sweeping → Type 0
 FoundIsBlack colours position sweep = sweep ≡ BlackFound → colour_in colours position ≡ Black
 
+-- In groups. Each takes the parts of the state that it reads, so an event that changes none of these
+-- keeps the group as it is.
+
+pub record MutatorsConsistent (mutators : ℕ) (control : Control) (presences : List Presence) (owns : List Own) (answers : List Bool) (colours : List Colour) : Type 0 where
+  pub statuses : Statuses mutators control.stage presences
+  pub answered : Answered mutators control.stage presences answers
+  pub modes : Modes control presences owns
+  pub out : OutHoldsNothing presences owns
+  pub marks : Marks control.stage presences owns colours
+
+pub record CellsConsistent (control : Control) (presences : List Presence) (owns : List Own) (colours : List Colour) (rows : List (List Field)) (sweep : Sweeping) (scan : Option Scanning) : Type 0 where
+  pub anchor_box : AnchorIsBox rows
+  pub kinds : KindsAreKinds rows
+  pub blue_null : BlueIsNull colours rows
+  pub anchor_live : live colours control sweep 0 ≡ true
+  pub held_live : HeldAreLive colours control sweep owns
+  pub child_live : ChildIsLive colours control sweep scan
+  pub names_live : NamesAreLive colours control sweep rows
+  pub raw_once : RawIsHeldOnce rows owns
+  pub raw_not_black : RawIsNotBlack presences owns colours rows
+
+pub record TracingConsistent (now : Stage) (presences : List Presence) (owns : List Own) (colours : List Colour) (rows : List (List Field)) (answers : List Bool) (marked : Bool) (cursor : ℕ) (clean : Bool) (scan : Option Scanning) : Type 0 where
+  pub cleared : ClearedIsNotBlack now cursor colours
+  pub anchor_marked : AnchorIsMarked now marked colours
+  pub traced : Traced now presences owns colours rows scan
+  pub clean_pass : CleanPass now clean cursor colours
+  pub pass_waits : PassWaits now answers cursor
+  pub scans : Scans now answers clean colours scan
+
+pub record SweepConsistent (control : Control) (colours : List Colour) (rows : List (List Field)) (sweep : Sweeping) : Type 0 where
+  pub unswept : UnsweptIsNotGray colours control sweep
+  pub wipes : Wipes colours rows control.position sweep
+  pub found_black : FoundIsBlack colours control.position sweep
+
 pub record IsConsistent (s : State) : Type 0 where
-  pub statuses : Statuses s.mutators s.control.stage s.presences
-  pub answered : Answered s.mutators s.control.stage s.presences s.collector.answered
-  pub modes : Modes s.control s.presences s.owns
-  pub out : OutHoldsNothing s.presences s.owns
-  pub marks : Marks s.control.stage s.presences s.owns s.colours
-  pub anchor_box : AnchorIsBox s.rows
-  pub kinds : KindsAreKinds s.rows
-  pub blue_null : BlueIsNull s.colours s.rows
-  pub anchor_live : live s.colours s.control s.collector.sweep 0 ≡ true
-  pub held_live : HeldAreLive s.colours s.control s.collector.sweep s.owns
-  pub child_live : ChildIsLive s.colours s.control s.collector.sweep s.collector.scan
-  pub names_live : NamesAreLive s.colours s.control s.collector.sweep s.rows
-  pub raw_once : RawIsHeldOnce s.rows s.owns
-  pub raw_not_black : RawIsNotBlack s.presences s.owns s.colours s.rows
-  pub cleared : ClearedIsNotBlack s.control.stage s.collector.cursor s.colours
-  pub anchor_marked : AnchorIsMarked s.control.stage s.collector.anchor_marked s.colours
-  pub traced : Traced s.control.stage s.presences s.owns s.colours s.rows s.collector.scan
-  pub clean_pass : CleanPass s.control.stage s.collector.clean s.collector.cursor s.colours
-  pub pass_waits : PassWaits s.control.stage s.collector.answered s.collector.cursor
-  pub scans : Scans s.control.stage s.collector.answered s.collector.clean s.colours s.collector.scan
-  pub unswept : UnsweptIsNotGray s.colours s.control s.collector.sweep
-  pub wipes : Wipes s.colours s.rows s.control.position s.collector.sweep
-  pub found_black : FoundIsBlack s.colours s.control.position s.collector.sweep
+  pub mutators : MutatorsConsistent s.mutators s.control s.presences s.owns s.collector.answered s.colours
+  pub cells : CellsConsistent s.control s.presences s.owns s.colours s.rows s.collector.sweep s.collector.scan
+  pub tracing : TracingConsistent s.control.stage s.presences s.owns s.colours s.rows s.collector.answered s.collector.anchor_marked s.collector.cursor s.collector.clean s.collector.scan
+  pub sweep : SweepConsistent s.control s.colours s.rows s.collector.sweep

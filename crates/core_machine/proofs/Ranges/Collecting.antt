@@ -2,7 +2,7 @@
 -- stands at it, and the position passes each cell once in a cycle: so the cycles bound the counts.
 use Rattle.std.proofs.Common.{◌≡◌, ℕ, ◌+◌, ◌*◌, ◌<◌, ◌≤◌, Bool, true, false, not, ◌&&◌, ◌==◌, cond, List, length, set, slice_index, Option, Some, None, is_none, refl, sym, ◌∙◌, ap, subst, arith}
 use Rattle.std.proofs.Math.Nat.{add-mul}
-use Rattle.std.proofs.lemmas.Bool.{and_parts, ltb-true, eqb-true}
+use Rattle.std.proofs.lemmas.Bool.{and_parts, ltb-true}
 use Rattle.std.proofs.lemmas.List.{length-set, length-map}
 use Rattle.cell_words.specs.declared.colours.Colour.{Colour}
 use Rattle.cell_words.specs.declared.colours.Colour.TheVariants as colour
@@ -16,11 +16,12 @@ use Rattle.core_machine.specs.declared.progress.Sweeping.{Sweeping}
 use Rattle.core_machine.specs.declared.progress.Sweeping.TheVariants as sweeping
 use Rattle.core_machine.specs.Collector.{nobody_answered, answered_by, restarted, passed, seen, scanning_from, scanned, scan_shaded, on_scan, sweep_of, wiped, posted_control}
 use Rattle.core_machine.specs.Handshakes.{post_can, post_after, duty_after, poll_after, answer_out_after}
-use Rattle.core_machine.specs.Sweep.{is_fresh, sweep_look_can, sweep_look_after, may_wipe, wipe_can, wipe_after, may_free, free_can, free_after, is_black_found, whiten_can, whiten_after, is_done, advance_can, advance_after}
+use Rattle.core_machine.specs.Sweep.{is_fresh, sweep_look_can, sweep_look_after, may_wipe, wipe_can, wipe_after, may_free, free_can, free_after, is_black_found, whiten_can, whiten_after, advance_can, advance_after}
 use Rattle.core_machine.specs.Tracing.{clear_can, clear_after, anchor_after, see_can, see_after, scan_or_none, may_scan, scan_can, scan_after, child_or_anchor, child_of, may_shade, shade_can, shade_after, may_blacken, blacken_can, blacken_after}
 use Rattle.core_machine.specs.InRange.{IsShaped, NamesBelow, ChildFits, ScanFits, SweepFits, StageFits, CyclesFit, ControlFits, swept_count}
 use Rattle.core_machine.specs.State.{State, greatest_cycles, colour_of, field_of}
-use Rattle.core_machine.specs.Words.{is_blue, shaded, cleared, same_stage}
+use Rattle.core_machine.specs.Words.{is_blue, shaded, cleared}
+use Rattle.core_machine.proofs.Conditions.{post_idle_needs, post_sync1_needs, post_clear_needs, post_sync2_needs, post_trace_needs, post_sweep_needs, clear_needs, see_needs, sweep_look_needs, advance_needs}
 use Rattle.core_machine.proofs.Ranges.Lists.{set_cases, count-set_most}
 use Rattle.core_machine.proofs.Ranges.Mutators.{shaded-blue}
 use Rattle.core_machine.proofs.Ranges.Parts.{presence_kept, colour_kept, colours_fit_kept, field_kept}
@@ -64,15 +65,6 @@ collecting_kept s r control answered marked cursor clean scan sweep answered_fit
 
 -- Post.
 
-same_stage_is : (a b : Stage) → same_stage a b ≡ true → a ≡ b
-same_stage_is stage.Idle stage.Idle is = refl
-same_stage_is stage.Sync1 stage.Sync1 is = refl
-same_stage_is stage.Clear stage.Clear is = refl
-same_stage_is stage.Sync2 stage.Sync2 is = refl
-same_stage_is stage.Trace stage.Trace is = refl
-same_stage_is stage.Sweep stage.Sweep is = refl
-same_stage_is _ _ is = cc
-
 nobody_fit : (s : State) → IsShaped s → length (nobody_answered s.collector.answered) ≡ s.mutators
 nobody_fit s r = length-map s.collector.answered (λ _. false) ∙ r.mutators_fit.answered_fit
 
@@ -86,9 +78,9 @@ swept_all cells position sweeping.Done fits is = absurd (omega arith)
 
 pub post_keeps : (s : State) → IsShaped s → (target : Stage) → post_can s target ≡ true → IsShaped (post_after s target)
 post_keeps s r stage.Idle can =
-    let parts = and_parts _ _ can in
-    let at : s.control.stage ≡ stage.Sweep = same_stage_is s.control.stage stage.Sweep parts.0 in
-    let end : s.control.position ≡ s.cells = eqb-true s.control.position s.cells parts.1 in
+    let needs = post_idle_needs s can in
+    let at = needs.now in
+    let end = needs.end in
     let fits : SweepFits s.cells s.control.position s.collector.sweep =
     subst (λ (a : Stage). StageFits s.cells s.control.position s.collector.sweep a) at r.control_fits.stage_fits in
     let cycles : s.control.cycles < greatest_cycles =
@@ -105,19 +97,18 @@ post_keeps s r stage.Idle can =
     r.mutators_fit.answered_fit r.names_fit.scan_fits
     (record { stage_fits = (refl, swept.0); cycles_fit = omega arith }) number
 post_keeps s r stage.Sync1 can =
-    let parts = and_parts _ _ can in
-    let at : s.control.stage ≡ stage.Idle = same_stage_is s.control.stage stage.Idle parts.0 in
+    let needs = post_sync1_needs s can in
+    let at = needs.now in
     collecting_kept s r (posted_control s.control stage.Sync1) (nobody_answered s.collector.answered) s.collector.anchor_marked
     s.collector.cursor s.collector.clean s.collector.scan s.collector.sweep
     (nobody_fit s r) r.names_fit.scan_fits
     (record {
       stage_fits = subst (λ (a : Stage). StageFits s.cells s.control.position s.collector.sweep a) at r.control_fits.stage_fits;
-      cycles_fit = ltb-true s.control.cycles greatest_cycles parts.1;
+      cycles_fit = needs.cycles;
     })
     r.counts_fit.freed_fits
 post_keeps s r stage.Clear can =
-    let parts = and_parts _ _ can in
-    let at : s.control.stage ≡ stage.Sync1 = same_stage_is s.control.stage stage.Sync1 parts.0 in
+    let at = (post_clear_needs s can).now in
     collecting_kept s r (posted_control s.control stage.Clear) s.collector.answered s.collector.anchor_marked
     0 s.collector.clean s.collector.scan s.collector.sweep
     r.mutators_fit.answered_fit r.names_fit.scan_fits
@@ -127,8 +118,7 @@ post_keeps s r stage.Clear can =
     })
     r.counts_fit.freed_fits
 post_keeps s r stage.Sync2 can =
-    let parts = and_parts _ _ can in
-    let at : s.control.stage ≡ stage.Clear = same_stage_is s.control.stage stage.Clear parts.0 in
+    let at = (post_sync2_needs s can).now in
     collecting_kept s r (posted_control s.control stage.Sync2) (nobody_answered s.collector.answered) false
     s.collector.cursor s.collector.clean s.collector.scan s.collector.sweep
     (nobody_fit s r) r.names_fit.scan_fits
@@ -138,8 +128,7 @@ post_keeps s r stage.Sync2 can =
     })
     r.counts_fit.freed_fits
 post_keeps s r stage.Trace can =
-    let parts = and_parts _ _ (and_parts _ _ can).0 in
-    let at : s.control.stage ≡ stage.Sync2 = same_stage_is s.control.stage stage.Sync2 parts.0 in
+    let at = (post_trace_needs s can).now in
     collecting_kept s r (posted_control s.control stage.Trace) (nobody_answered s.collector.answered) s.collector.anchor_marked
     0 true s.collector.scan s.collector.sweep
     (nobody_fit s r) r.names_fit.scan_fits
@@ -149,11 +138,7 @@ post_keeps s r stage.Trace can =
     })
     r.counts_fit.freed_fits
 post_keeps s r stage.Sweep can =
-    let clean = and_parts _ _ can in
-    let end = and_parts _ _ clean.0 in
-    let scan = and_parts _ _ end.0 in
-    let parts = and_parts _ _ scan.0 in
-    let at : s.control.stage ≡ stage.Trace = same_stage_is s.control.stage stage.Trace parts.0 in
+    let at = (post_sweep_needs s can).now in
     let still : (s.control.position ≡ 0) × (s.collector.sweep ≡ sweeping.Fresh) =
     subst (λ (a : Stage). StageFits s.cells s.control.position s.collector.sweep a) at r.control_fits.stage_fits in
     let fresh : swept_count s.control.position s.collector.sweep ≡ s.control.position =
@@ -215,7 +200,7 @@ tracing_kept s r marked cursor clean scan fits =
 pub clear_keeps : (s : State) → IsShaped s → clear_can s ≡ true → IsShaped (clear_after s)
 clear_keeps s r can =
     let cell = s.collector.cursor in
-    let within : cell < s.cells = ltb-true cell s.cells (and_parts _ _ can).1 in
+    let within = (clear_needs s can).cell in
     tracing_kept _ (colour_kept s r cell (cleared (colour_of s cell)) within (cleared-blue (colour_of s cell)))
     s.collector.anchor_marked (cell + 1) s.collector.clean s.collector.scan r.names_fit.scan_fits
 
@@ -249,7 +234,7 @@ seen_keeps s r c within colour.Black = passed_keeps s r c
 
 pub see_keeps : (s : State) → IsShaped s → (c : ℕ) → see_can s c ≡ true → IsShaped (see_after s c)
 see_keeps s r c can =
-    seen_keeps _ (restarted_keeps s r) c (ltb-true c s.cells (and_parts _ _ can).1) (colour_of s c)
+    seen_keeps _ (restarted_keeps s r) c (see_needs s c can).cell (colour_of s c)
 
 -- without a child the next field does not matter
 no_child_fits : (n k : ℕ) (child : Option ℕ) → is_none child ≡ true → ChildFits n k child
@@ -341,12 +326,6 @@ sweep_kept s r sweep fits number =
     collecting_kept s r s.control s.collector.answered s.collector.anchor_marked s.collector.cursor s.collector.clean
     s.collector.scan sweep r.mutators_fit.answered_fit r.names_fit.scan_fits fits number
 
-fresh_is : (sweep : Sweeping) → is_fresh sweep ≡ true → sweep ≡ sweeping.Fresh
-fresh_is sweeping.Fresh is = refl
-fresh_is (sweeping.Wiping k) is = cc
-fresh_is sweeping.BlackFound is = cc
-fresh_is sweeping.Done is = cc
-
 found_fits : (n position : ℕ) (found : Colour) → position < n
     → SweepFits n position (sweep_of found) × (position ≤ swept_count position (sweep_of found))
 found_fits n position colour.Blue within = (within, omega arith)
@@ -356,15 +335,13 @@ found_fits n position colour.Black within = (within, omega arith)
 
 pub sweep_look_keeps : (s : State) → IsShaped s → sweep_look_can s ≡ true → IsShaped (sweep_look_after s)
 sweep_look_keeps s r can =
-    let gray = and_parts _ _ can in
-    let fresh = and_parts _ _ gray.0 in
-    let parts = and_parts _ _ fresh.0 in
-    let at : s.control.stage ≡ stage.Sweep = same_stage_is s.control.stage stage.Sweep parts.0 in
-    let within : s.control.position < s.cells = ltb-true s.control.position s.cells parts.1 in
+    let needs = sweep_look_needs s can in
+    let at = needs.now in
+    let within = needs.cell in
     let found = colour_of s s.control.position in
     let fits = found_fits s.cells s.control.position found within in
     let before : swept_count s.control.position s.collector.sweep ≡ s.control.position =
-    ap (λ (w : Sweeping). swept_count s.control.position w) (fresh_is s.collector.sweep fresh.1) in
+    ap (λ (w : Sweeping). swept_count s.control.position w) needs.fresh in
     let number : s.collector.number_freed ≤ s.control.cycles * s.cells + swept_count s.control.position (sweep_of found) =
     omega (arith, r.counts_fit.freed_fits, before, fits.1) in
     sweep_kept s r (sweep_of found) (sweep_to s.cells s.control s.collector.sweep _ r.control_fits at fits.0) number
@@ -459,20 +436,13 @@ whiten_keeps s r can =
     sweep_kept _ (colour_kept s r cell colour.White fits.0 (λ is. cc)) sweeping.Done
     (sweep_to s.cells s.control s.collector.sweep sweeping.Done r.control_fits at.0 fits.0) number
 
-done_is : (sweep : Sweeping) → is_done sweep ≡ true → sweep ≡ sweeping.Done
-done_is sweeping.Fresh is = cc
-done_is (sweeping.Wiping k) is = cc
-done_is sweeping.BlackFound is = cc
-done_is sweeping.Done is = refl
-
 pub advance_keeps : (s : State) → IsShaped s → advance_can s ≡ true → IsShaped (advance_after s)
 advance_keeps s r can =
-    let done = and_parts _ _ can in
-    let parts = and_parts _ _ done.0 in
-    let at : s.control.stage ≡ stage.Sweep = same_stage_is s.control.stage stage.Sweep parts.0 in
-    let within : s.control.position < s.cells = ltb-true s.control.position s.cells parts.1 in
+    let needs = advance_needs s can in
+    let at = needs.now in
+    let within = needs.cell in
     let before : swept_count s.control.position s.collector.sweep ≡ s.control.position + 1 =
-    ap (λ (w : Sweeping). swept_count s.control.position w) (done_is s.collector.sweep done.1) in
+    ap (λ (w : Sweeping). swept_count s.control.position w) needs.done in
     let number : s.collector.number_freed ≤ s.control.cycles * s.cells + (s.control.position + 1) =
     omega (arith, r.counts_fit.freed_fits, before) in
     let passed : s.control.position + 1 ≤ s.cells = omega arith in

@@ -2,7 +2,7 @@
 -- be held or named was held, named or tested before.
 use Rattle.std.proofs.Common.{◌≡◌, ℕ, ◌+◌, ◌<◌, ◌≤◌, true, false, cond, List, [], ◌∷◌, length, take, drop, set, Option, Some, None, nat_lt, ◌==◌, suc, refl, sym, ◌∙◌, ap, subst, arith, inl, inr}
 use Rattle.std.specs.List.{count_by}
-use Rattle.std.proofs.lemmas.Bool.{and_parts, or_cases, ltb-true, eqb-true}
+use Rattle.std.proofs.lemmas.Bool.{or_cases, eqb-true}
 use Rattle.std.proofs.lemmas.List.{length-set}
 use Rattle.cell_words.specs.declared.colours.Colour.{Colour}
 use Rattle.cell_words.specs.declared.colours.Colour.TheVariants as colour
@@ -24,13 +24,14 @@ use Rattle.core_machine.specs.Operations.{begin_after, look_after, read_after, a
 use Rattle.core_machine.specs.Places.{is_place_of, holds, names_rightly, unmark, mark_of, found_at}
 use Rattle.core_machine.specs.State.{State, colour_of, field_of, presence_of, own_of, held_of, target_of}
 use Rattle.core_machine.specs.Words.{is_blue, shaded, claimed, written, same_field, kind_field, born_colour}
+use Rattle.core_machine.proofs.Conditions.{write_needs, claim_needs, fill_needs}
 use Rattle.core_machine.proofs.Ranges.Lists.{set_cases, Below, below-none, below-cons, below-map, below-append, below-take, below-drop, count-set_claimed}
 use Rattle.core_machine.proofs.Ranges.Parts.{own_kept, presence_kept, colour_kept, colours_fit_kept, field_kept}
 
 -- What is held, named or born.
 
 -- a held cell is one that there is
-holds_below : (n : ℕ) (held : List Held) (c : ℕ) → Below n held → holds held c ≡ true → c < n
+pub holds_below : (n : ℕ) (held : List Held) (c : ℕ) → Below n held → holds held c ≡ true → c < n
 holds_below n [] c below is = cc
 holds_below n (p ∷ ps) c below is = elim (or_cases (is_place_of c p) (holds ps c) is) [
   | inl here ↦ subst (λ (d : ℕ). d < n) (eqb-true p.cell c here) (below 0)
@@ -38,7 +39,7 @@ holds_below n (p ∷ ps) c below is = elim (or_cases (is_place_of c p) (holds ps
 ]
 
 -- a value that names a cell rightly names none, or one that there is
-rightly_below : (n : ℕ) (held : List Held) (value : Field) → Below n held → names_rightly held value ≡ true
+pub rightly_below : (n : ℕ) (held : List Held) (value : Field) → Below n held → names_rightly held value ≡ true
     → NamesBelow n value
 rightly_below n held field.Null below is = tt
 rightly_below n held (field.Num k) below is = tt
@@ -126,12 +127,10 @@ pub write_keeps : (s : State) → IsShaped s → (i place f : ℕ) (old new : Fi
 write_keeps s r i place f old new can =
     let cell = target_of s i place in
     let found = field_of s cell f in
-    let last = and_parts _ _ can in
-    let raw = and_parts _ _ last.0 in
-    let rightly = and_parts _ _ raw.0 in
+    let needs = write_needs s i place f old new can in
     own_kept _ (field_kept s r cell f (written found old new)
     (written_below s.cells found old new (r.names_fit.fields_fit cell f)
-    (rightly_below s.cells (held_of s i) new (r.names_fit.held_fit i) rightly.1)))
+    (rightly_below s.cells (held_of s i) new (r.names_fit.held_fit i) needs.names_new)))
     i (spent (own_of s i)) (below-map s.cells unmark (λ p. refl) _ (r.names_fit.held_fit i)) (same_claims (own_of s i))
 
 -- a claim of a blue cell: one claim more, and one blue cell less
@@ -194,19 +193,15 @@ claim_found_keeps s r i c born colour.Black within is other = missed_keeps s r i
 
 pub claim_keeps : (s : State) → IsShaped s → (i c : ℕ) → claim_can s i c ≡ true → IsShaped (claim_after s i c)
 claim_keeps s r i c can =
-    let room = and_parts _ _ can in
-    let cells = and_parts _ _ room.0 in
-    claim_found_keeps s r i c _ (colour_of s c) (ltb-true c s.cells cells.1) refl
+    claim_found_keeps s r i c _ (colour_of s c) (claim_needs s i c can).cell refl
     (born-blue (presence_of s i).status (own_of s i).mode c)
 
 pub fill_keeps : (s : State) → IsShaped s → (i place f : ℕ) (value : Field) → fill_can s i place f value ≡ true
     → IsShaped (fill_after s i place f value)
 fill_keeps s r i place f value can =
-    let named = and_parts _ _ can in
-    let raw = and_parts _ _ named.0 in
-    let rightly = and_parts _ _ raw.0 in
     field_kept s r (target_of s i place) f value
-    (rightly_below s.cells (held_of s i) value (r.names_fit.held_fit i) rightly.1)
+    (rightly_below s.cells (held_of s i) value (r.names_fit.held_fit i)
+    (fill_needs s i place f value can).names)
 
 kind_below : (n : ℕ) (kind : Kind) → NamesBelow n (kind_field kind)
 kind_below n kind.Record = tt

@@ -47,71 +47,73 @@ field_kept s c f x range k fits =
     let t = with_field s c f x in
     let five = five_same s c f x fits.payload in
     record {
-      statuses = k.statuses;
-      answered = k.answered;
-      modes = k.modes;
-      out = k.out;
-      marks = k.marks;
-      anchor_box = ap is_box_kind (five 0) ∙ k.anchor_box;
-      kinds = (λ d. ap is_kind_field (five d) ∙ k.kinds d);
-      blue_null = (λ d g blue. field_each (λ e h y. colour_of s e ≡ Blue → y ≡ Null) s.rows c f x
-          (λ is. absurd (live_not_blue (colour_of s c) _ fits.alive is)) (λ e h is. k.blue_null e h is) d g blue);
-      anchor_live = k.anchor_live;
-      held_live = k.held_live;
-      child_live = k.child_live;
-      names_live = (λ d e g alive n.
-          let r = field_each (λ a h y. live s.colours s.control s.collector.sweep a ≡ true → y ≡ Cell e
-          → (live s.colours s.control s.collector.sweep e ≡ true) × (is_raw_kind (field_of s e 5) ≡ false)) s.rows c f x
-          (λ _ is. fits.names e is) (λ a h lives is. k.names_live a e h lives is) d g alive n in
-          (r.0, ap is_raw_kind (five e) ∙ r.1));
-      raw_once = (λ i j d raw hi hj. k.raw_once i j d (sym (ap is_raw_kind (five d)) ∙ raw) hi hj);
-      raw_not_black = (λ i sync2. All-weaker (NoRawBlack s.colours s.rows) (NoRawBlack s.colours t.rows)
-          (λ p h raw. h (sym (ap is_raw_kind (five p.cell)) ∙ raw)) (own_in s.owns i).held (k.raw_not_black i sync2));
-      cleared = k.cleared;
-      anchor_marked = k.anchor_marked;
-      traced = (λ now set cut.
-          let stays : (d e g : ℕ) → field_of s d g ≡ Cell e → (field_of t d g ≡ Cell e) ⊎ (set e ≡ false)
-          = (λ d e g. field_each (λ a h y. field_of s a h ≡ Cell e → (y ≡ Cell e) ⊎ (set e ≡ false)) s.rows c f x
-          (λ is. elim (fits.gone now e is) [
-            | inl named ↦ inl named
-            | inr dark ↦ inr (elim (set e) as (λ b. set e ≡ b → set e ≡ false) [
-              | true ↦ λ h. absurd (dark (cut.white e h))
-              | false ↦ λ h. h
-            ] refl)
-          ])
-          (λ a h is. inl is) d g) in
-          let before : IsCutOff s.colours s.rows s.collector.scan set = record {
-            white = cut.white;
-            child = cut.child;
-            gray = (λ d e g gray unread n. elim (stays d e g n) [
-              | inl named ↦ cut.gray d e g gray unread named
-              | inr out ↦ out
-            ]);
-            outside = (λ d e g white out n. elim (stays d e g n) [
-              | inl named ↦ cut.outside d e g white out named
-              | inr other ↦ other
-            ]);
-          } in
-          let old = k.traced now set before in record {
-            black = (λ d e g black n. field_each (λ a h y. colour_of s a ≡ Black → y ≡ Cell e → set e ≡ false) s.rows c f x
-                (λ is named. fits.due now set before old e named (inl is)) (λ a h is named. old.black a e h is named) d g black n);
-            scanned = (λ y e g is lt n. field_each (λ a h v. a ≡ y.cell → h < scanned_count y → v ≡ Cell e → set e ≡ false) s.rows c f x
-                (λ same below named. fits.due now set before old e named (inr (y, is, same, below)))
-                (λ a h same below named. old.scanned y e h is below (subst (λ b. field_of s b h ≡ Cell e) same named))
-                y.cell g refl lt n);
-            held = old.held;
-          });
-      clean_pass = k.clean_pass;
-      pass_waits = k.pass_waits;
-      scans = k.scans;
-      unswept = k.unswept;
-      wipes = (λ n is. let r = k.wipes n is in record {
-        white = r.white;
-        null = (λ g lt. field_each (λ a h y. a ≡ s.control.position → h < n → y ≡ Null) s.rows c f x
-            (λ same below. absurd (let dead = wiped_not_live s range n is r.white in
-            let lives : live s.colours s.control s.collector.sweep s.control.position ≡ true
-            = subst (λ b. live s.colours s.control s.collector.sweep b ≡ true) same fits.alive in cc))
-            (λ a h same below. subst (λ b. field_of s b h ≡ Null) (sym same) (r.null h below)) s.control.position g refl lt);
-      });
-      found_black = k.found_black;
+      mutators = k.mutators;
+      cells = record {
+        anchor_box = ap is_box_kind (five 0) ∙ k.cells.anchor_box;
+        kinds = (λ d. ap is_kind_field (five d) ∙ k.cells.kinds d);
+        blue_null = (λ d g blue. field_each (λ e h y. colour_of s e ≡ Blue → y ≡ Null) s.rows c f x
+            (λ is. absurd (live_not_blue (colour_of s c) _ fits.alive is)) (λ e h is. k.cells.blue_null e h is) d g blue);
+        anchor_live = k.cells.anchor_live;
+        held_live = k.cells.held_live;
+        child_live = k.cells.child_live;
+        names_live = (λ d e g alive n.
+            let r = field_each (λ a h y. live s.colours s.control s.collector.sweep a ≡ true → y ≡ Cell e
+            → (live s.colours s.control s.collector.sweep e ≡ true) × (is_raw_kind (field_of s e 5) ≡ false)) s.rows c f x
+            (λ _ is. fits.names e is) (λ a h lives is. k.cells.names_live a e h lives is) d g alive n in
+            (r.0, ap is_raw_kind (five e) ∙ r.1));
+        raw_once = (λ i j d raw hi hj. k.cells.raw_once i j d (sym (ap is_raw_kind (five d)) ∙ raw) hi hj);
+        raw_not_black = (λ i sync2. All-weaker (NoRawBlack s.colours s.rows) (NoRawBlack s.colours t.rows)
+            (λ p h raw. h (sym (ap is_raw_kind (five p.cell)) ∙ raw)) (own_in s.owns i).held (k.cells.raw_not_black i sync2));
+      };
+      tracing = record {
+        cleared = k.tracing.cleared;
+        anchor_marked = k.tracing.anchor_marked;
+        traced = (λ now set cut.
+            let stays : (d e g : ℕ) → field_of s d g ≡ Cell e → (field_of t d g ≡ Cell e) ⊎ (set e ≡ false)
+            = (λ d e g. field_each (λ a h y. field_of s a h ≡ Cell e → (y ≡ Cell e) ⊎ (set e ≡ false)) s.rows c f x
+            (λ is. elim (fits.gone now e is) [
+              | inl named ↦ inl named
+              | inr dark ↦ inr (elim (set e) as (λ b. set e ≡ b → set e ≡ false) [
+                | true ↦ λ h. absurd (dark (cut.white e h))
+                | false ↦ λ h. h
+              ] refl)
+            ])
+            (λ a h is. inl is) d g) in
+            let before : IsCutOff s.colours s.rows s.collector.scan set = record {
+              white = cut.white;
+              child = cut.child;
+              gray = (λ d e g gray unread n. elim (stays d e g n) [
+                | inl named ↦ cut.gray d e g gray unread named
+                | inr out ↦ out
+              ]);
+              outside = (λ d e g white out n. elim (stays d e g n) [
+                | inl named ↦ cut.outside d e g white out named
+                | inr other ↦ other
+              ]);
+            } in
+            let old = k.tracing.traced now set before in record {
+              black = (λ d e g black n. field_each (λ a h y. colour_of s a ≡ Black → y ≡ Cell e → set e ≡ false) s.rows c f x
+                  (λ is named. fits.due now set before old e named (inl is)) (λ a h is named. old.black a e h is named) d g black n);
+              scanned = (λ y e g is lt n. field_each (λ a h v. a ≡ y.cell → h < scanned_count y → v ≡ Cell e → set e ≡ false) s.rows c f x
+                  (λ same below named. fits.due now set before old e named (inr (y, is, same, below)))
+                  (λ a h same below named. old.scanned y e h is below (subst (λ b. field_of s b h ≡ Cell e) same named))
+                  y.cell g refl lt n);
+              held = old.held;
+            });
+        clean_pass = k.tracing.clean_pass;
+        pass_waits = k.tracing.pass_waits;
+        scans = k.tracing.scans;
+      };
+      sweep = record {
+        unswept = k.sweep.unswept;
+        wipes = (λ n is. let r = k.sweep.wipes n is in record {
+          white = r.white;
+          null = (λ g lt. field_each (λ a h y. a ≡ s.control.position → h < n → y ≡ Null) s.rows c f x
+              (λ same below. absurd (let dead = wiped_not_live s range n is r.white in
+              let lives : live s.colours s.control s.collector.sweep s.control.position ≡ true
+              = subst (λ b. live s.colours s.control s.collector.sweep b ≡ true) same fits.alive in cc))
+              (λ a h same below. subst (λ b. field_of s b h ≡ Null) (sym same) (r.null h below)) s.control.position g refl lt);
+        });
+        found_black = k.sweep.found_black;
+      };
     }

@@ -1,8 +1,8 @@
 -- Live cells are told by a test on cells. Where two tests hold of the same cells, what is said of live
 -- cells by the one is said by the other.
-use Rattle.std.proofs.Common.{◌≡◌, ◌&&◌, ◌||◌, ◌==◌, ◌⊎◌, inl, inr, ℕ, Bool, true, false, not, nat_lt, List, Option, Some, ◌≤◌, sym, subst, ◌∙◌, ap}
+use Rattle.std.proofs.Common.{◌≡◌, ◌&&◌, ◌||◌, ◌==◌, ◌⊎◌, inl, inr, ℕ, Bool, true, false, not, nat_lt, List, Option, Some, ◌≤◌, sym, subst, ◌∙◌, ap, arith}
 use Rattle.std.specs.List.{All}
-use Rattle.std.proofs.lemmas.Bool.{cases_lt}
+use Rattle.std.proofs.lemmas.Bool.{cases_lt, and_parts, or_cases, ltb-true, eqb-true}
 use Rattle.std.proofs.lemmas.List.{get_or_past}
 use Rattle.std.proofs.lemmas.List.Elements.{All-weaker}
 use Rattle.cell_words.specs.declared.colours.Colour.{Colour}
@@ -21,6 +21,7 @@ use Rattle.core_machine.specs.InRange.{IsShaped}
 use Rattle.core_machine.specs.Own.{Own}
 use Rattle.dlg_core.specs.Consistent.{IsConsistent}
 use Rattle.dlg_core.specs.Facts.{is_live, live, unswept, child_in, status_fits}
+use Rattle.core_machine.proofs.Conditions.{same_stage_is}
 
 -- the facts on live cells, by the test
 pub record LiveFacts (test : ℕ → Bool) (rows : List (List Field)) (owns : List Own) (scan : Option Scanning) : Type 0 where
@@ -32,7 +33,7 @@ pub record LiveFacts (test : ℕ → Bool) (rows : List (List Field)) (owns : Li
 
 pub live_facts : (s : State) → IsConsistent s
     → LiveFacts (live s.colours s.control s.collector.sweep) s.rows s.owns s.collector.scan
-live_facts s k = record { anchor = k.anchor_live; held = k.held_live; child = k.child_live; names = k.names_live }
+live_facts s k = record { anchor = k.cells.anchor_live; held = k.cells.held_live; child = k.cells.child_live; names = k.cells.names_live }
 
 -- tests that say the same
 pub live_moves : (one other : ℕ → Bool) (rows : List (List Field)) (owns : List Own) (scan : Option Scanning)
@@ -62,7 +63,19 @@ other_stage now x e h = subst (λ y. same_stage y stage.Sweep ≡ false) (sym e)
 pub status_known : (s : State) (i : ℕ) → IsShaped s → IsConsistent s
     → (status_fits s.control.stage (presence_of s i).status ≡ true) ⊎ ((presence_of s i).status ≡ status.Async)
 status_known s i range k = elim (cases_lt i s.mutators) [
-  | inl lt ↦ inl (k.statuses i lt)
+  | inl lt ↦ inl (k.mutators.statuses i lt)
   | inr past ↦ inr (ap (λ p. p.status) (get_or_past s.presences i no_presence
       (subst (λ n. n ≤ i) (sym range.mutators_fit.presences_fit) past)))
 ]
+
+-- an unswept cell is at the position or ahead of it, in the sweep
+pub unswept_where : (now : Control) (sweep : Sweeping) (c : ℕ) → unswept now sweep c ≡ true
+    → (now.stage ≡ stage.Sweep) × (now.position ≤ c)
+unswept_where now sweep c h =
+    let r = and_parts _ _ h in (
+      same_stage_is now.stage stage.Sweep r.0,
+      elim (or_cases (nat_lt now.position c) ((c == now.position) && not (is_done sweep)) r.1) [
+        | inl lt ↦ let below = ltb-true now.position c lt in omega arith
+        | inr here ↦ let same = eqb-true c now.position (and_parts _ _ here).0 in omega arith
+      ],
+    )

@@ -2,18 +2,21 @@
 --
 -- Its new held list has to be live, may have no raw cell that the old one had not, and no cell that
 -- is cut off from a tracing collector.
-use Rattle.std.proofs.Common.{◌≡◌, ℕ, Bool, true, false, [], None}
+use Rattle.std.proofs.Common.{◌≡◌, ℕ, Bool, true, false, [], None, sym, ◌∙◌}
 use Rattle.std.specs.Prelude.{slice_set}
 use Rattle.std.specs.List.{All}
 use Rattle.cell_words.specs.declared.controls.Stage.TheVariants as stage
 use Rattle.cell_words.specs.declared.presences.Status.TheVariants.{Async, Sync2}
-use Rattle.core_machine.specs.State.{State, field_in, presence_in, own_in, presence_of, own_of}
+use Rattle.core_machine.specs.State.{State, field_in, presence_in, own_in, presence_of, own_of, held_of}
 use Rattle.core_machine.specs.Words.{is_raw_kind}
-use Rattle.core_machine.specs.Own.{Own}
-use Rattle.core_machine.specs.Places.{holds}
+use Rattle.core_machine.specs.Own.{Own, spent}
+use Rattle.core_machine.specs.Places.{holds, unmark}
 use Rattle.dlg_core.specs.Consistent.{IsConsistent, MarkStands, NoRawBlack, IsCutOff, IsNotDue}
 use Rattle.dlg_core.specs.Facts.{IsStaleMode, marks_count, live}
 use Rattle.dlg_core.proofs.Each.{own_each}
+use Rattle.std.proofs.lemmas.List.Elements.{All-map}
+use Rattle.core_machine.specs.Operations.{is_in}
+use Rattle.dlg_core.proofs.HeldLists.{none_marked, holds_unmark}
 
 -- the state with another own part of mutator i
 abbrev pub with_own : State → ℕ → Own → State
@@ -42,40 +45,55 @@ own_kept s i own k fits =
     = (λ c raw j. own_each (λ n o. holds o.held c ≡ true → holds (own_in s.owns n).held c ≡ true) s.owns i own
     (fits.raw c raw) (λ n h. h) j) in
     record {
-      statuses = k.statuses;
-      answered = k.answered;
-      modes = own_each (λ j o. IsStaleMode (presence_in s.presences j).status o.mode s.control) s.owns i own
-          fits.mode k.modes;
-      out = own_each (λ j o. (presence_in s.presences j).inside ≡ false → (o.held ≡ []) × (o.mode ≡ None)) s.owns i own
-          fits.out k.out;
-      marks = own_each (λ j o. marks_count s.control.stage (presence_in s.presences j).status ≡ true
-          → All (MarkStands s.colours) o.held) s.owns i own
-          fits.marks k.marks;
-      anchor_box = k.anchor_box;
-      kinds = k.kinds;
-      blue_null = k.blue_null;
-      anchor_live = k.anchor_live;
-      held_live = own_each (λ j o. All (λ place. live s.colours s.control s.collector.sweep place.cell ≡ true) o.held) s.owns i own
-          fits.held_live k.held_live;
-      child_live = k.child_live;
-      names_live = k.names_live;
-      raw_once = (λ a b c raw ha hb. k.raw_once a b c raw (before c raw a ha) (before c raw b hb));
-      raw_not_black = own_each (λ j o. (presence_in s.presences j).status ≡ Sync2
-          → All (NoRawBlack s.colours s.rows) o.held)
-          s.owns i own fits.raw_not_black k.raw_not_black;
-      cleared = k.cleared;
-      anchor_marked = k.anchor_marked;
-      traced = (λ now set cut. let old = k.traced now set cut in record {
-        black = old.black;
-        scanned = old.scanned;
-        held = own_each (λ j o. (presence_in s.presences j).status ≡ Async
-            → All (λ place. set place.cell ≡ false) o.held) s.owns i own
-            (λ async. fits.due now async set cut old) old.held;
-      });
-      clean_pass = k.clean_pass;
-      pass_waits = k.pass_waits;
-      scans = k.scans;
-      unswept = k.unswept;
-      wipes = k.wipes;
-      found_black = k.found_black;
+      mutators = record {
+        statuses = k.mutators.statuses;
+        answered = k.mutators.answered;
+        modes = own_each (λ j o. IsStaleMode (presence_in s.presences j).status o.mode s.control) s.owns i own
+            fits.mode k.mutators.modes;
+        out = own_each (λ j o. (presence_in s.presences j).inside ≡ false → (o.held ≡ []) × (o.mode ≡ None)) s.owns i own
+            fits.out k.mutators.out;
+        marks = own_each (λ j o. marks_count s.control.stage (presence_in s.presences j).status ≡ true
+            → All (MarkStands s.colours) o.held) s.owns i own
+            fits.marks k.mutators.marks;
+      };
+      cells = record {
+        anchor_box = k.cells.anchor_box;
+        kinds = k.cells.kinds;
+        blue_null = k.cells.blue_null;
+        anchor_live = k.cells.anchor_live;
+        held_live = own_each (λ j o. All (λ place. live s.colours s.control s.collector.sweep place.cell ≡ true) o.held) s.owns i own
+            fits.held_live k.cells.held_live;
+        child_live = k.cells.child_live;
+        names_live = k.cells.names_live;
+        raw_once = (λ a b c raw ha hb. k.cells.raw_once a b c raw (before c raw a ha) (before c raw b hb));
+        raw_not_black = own_each (λ j o. (presence_in s.presences j).status ≡ Sync2
+            → All (NoRawBlack s.colours s.rows) o.held)
+            s.owns i own fits.raw_not_black k.cells.raw_not_black;
+      };
+      tracing = record {
+        cleared = k.tracing.cleared;
+        anchor_marked = k.tracing.anchor_marked;
+        traced = (λ now set cut. let old = k.tracing.traced now set cut in record {
+          black = old.black;
+          scanned = old.scanned;
+          held = own_each (λ j o. (presence_in s.presences j).status ≡ Async
+              → All (λ place. set place.cell ≡ false) o.held) s.owns i own
+              (λ async. fits.due now async set cut old) old.held;
+        });
+        clean_pass = k.tracing.clean_pass;
+        pass_waits = k.tracing.pass_waits;
+        scans = k.tracing.scans;
+      };
+      sweep = k.sweep;
     }
+
+pub spent_fits : (s : State) (i : ℕ) → IsConsistent s → is_in s i ≡ true → OwnFits s i (spent (own_of s i))
+spent_fits s i k inside = record {
+  mode = tt;
+  out = (λ o. absurd cc);
+  marks = (λ m. none_marked s.colours (held_of s i));
+  held_live = All-map (λ place. live s.colours s.control s.collector.sweep place.cell ≡ true) unmark (held_of s i) (k.cells.held_live i);
+  raw = (λ c raw h. sym (holds_unmark (held_of s i) c) ∙ h);
+  raw_not_black = (λ sync2. All-map (NoRawBlack s.colours s.rows) unmark (held_of s i) (k.cells.raw_not_black i sync2));
+  due = (λ now async set cut old. All-map (λ place. set place.cell ≡ false) unmark (held_of s i) (old.held i async));
+}

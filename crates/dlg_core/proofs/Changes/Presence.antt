@@ -23,32 +23,36 @@ pub presence_kept : (s : State) (i : ℕ) (p : Presence) → IsConsistent s → 
 presence_kept s i p k same out =
     let to = same_statuses s i p same in
     record {
-      statuses = (λ j lt. subst (λ own. status_fits s.control.stage own ≡ true) (sym (to j)) (k.statuses j lt));
-      answered = (λ j lt now has. to j ∙ k.answered j lt now has);
-      modes = (λ j. subst (λ own. IsStaleMode own (own_in s.owns j).mode s.control) (sym (to j)) (k.modes j));
-      out = presence_each (λ j q. q.inside ≡ false → ((own_in s.owns j).held ≡ []) × ((own_in s.owns j).mode ≡ None))
-          s.presences i p out k.out;
-      marks = (λ j m. k.marks j (subst (λ own. marks_count s.control.stage own ≡ true) (to j) m));
-      anchor_box = k.anchor_box;
-      kinds = k.kinds;
-      blue_null = k.blue_null;
-      anchor_live = k.anchor_live;
-      held_live = k.held_live;
-      child_live = k.child_live;
-      names_live = k.names_live;
-      raw_once = k.raw_once;
-      raw_not_black = (λ j sync2. k.raw_not_black j (sym (to j) ∙ sync2));
-      cleared = k.cleared;
-      anchor_marked = k.anchor_marked;
-      traced = (λ now set cut. let old = k.traced now set cut in record {
-        black = old.black;
-        scanned = old.scanned;
-        held = (λ j async. old.held j (sym (to j) ∙ async));
-      });
-      clean_pass = k.clean_pass;
-      pass_waits = k.pass_waits;
-      scans = k.scans;
-      unswept = k.unswept;
-      wipes = k.wipes;
-      found_black = k.found_black;
+      mutators = record {
+        statuses = (λ j lt. subst (λ own. status_fits s.control.stage own ≡ true) (sym (to j)) (k.mutators.statuses j lt));
+        answered = (λ j lt now has. to j ∙ k.mutators.answered j lt now has);
+        modes = (λ j. subst (λ own. IsStaleMode own (own_in s.owns j).mode s.control) (sym (to j)) (k.mutators.modes j));
+        out = presence_each (λ j q. q.inside ≡ false → ((own_in s.owns j).held ≡ []) × ((own_in s.owns j).mode ≡ None))
+            s.presences i p out k.mutators.out;
+        marks = (λ j m. k.mutators.marks j (subst (λ own. marks_count s.control.stage own ≡ true) (to j) m));
+      };
+      cells = record {
+        anchor_box = k.cells.anchor_box;
+        kinds = k.cells.kinds;
+        blue_null = k.cells.blue_null;
+        anchor_live = k.cells.anchor_live;
+        held_live = k.cells.held_live;
+        child_live = k.cells.child_live;
+        names_live = k.cells.names_live;
+        raw_once = k.cells.raw_once;
+        raw_not_black = (λ j sync2. k.cells.raw_not_black j (sym (to j) ∙ sync2));
+      };
+      tracing = record {
+        cleared = k.tracing.cleared;
+        anchor_marked = k.tracing.anchor_marked;
+        traced = (λ now set cut. let old = k.tracing.traced now set cut in record {
+          black = old.black;
+          scanned = old.scanned;
+          held = (λ j async. old.held j (sym (to j) ∙ async));
+        });
+        clean_pass = k.tracing.clean_pass;
+        pass_waits = k.tracing.pass_waits;
+        scans = k.tracing.scans;
+      };
+      sweep = k.sweep;
     }

@@ -2,9 +2,9 @@
 --
 -- Live cells stay as they are, since a live white cell is none that the sweep will free. A set that is
 -- cut off after it was cut off before: the cell is not in it and names nothing in it.
-use Rattle.std.proofs.Common.{◌≡◌, ◌≢◌, ◌==◌, ◌&&◌, ◌⊎◌, inl, inr, ℕ, Bool, true, false, not, nat_lt, Option, Some, None, refl, sym, subst, ap, eq-eqb}
+use Rattle.std.proofs.Common.{◌≡◌, ◌≢◌, ◌==◌, ◌&&◌, ◌⊎◌, inl, inr, ℕ, Bool, true, false, not, nat_lt, Option, Some, None, refl, sym, subst, ap, eq-eqb, length, ◌∙◌}
 use Rattle.std.specs.Prelude.{slice_set}
-use Rattle.std.proofs.lemmas.Bool.{eqb-true, and_from}
+use Rattle.std.proofs.lemmas.Bool.{eqb-true, and_from, cases_lt}
 use Rattle.std.proofs.lemmas.List.Elements.{All-weaker}
 use Rattle.cell_words.specs.declared.colours.Colour.{Colour}
 use Rattle.cell_words.specs.declared.colours.Colour.TheVariants as colour
@@ -14,14 +14,15 @@ use Rattle.cell_words.specs.declared.controls.Stage.TheVariants as stage
 use Rattle.core_machine.specs.declared.progress.Scanning.{Scanning}
 use Rattle.core_machine.specs.declared.progress.Sweeping.{Sweeping}
 use Rattle.core_machine.specs.declared.progress.Sweeping.TheVariants as sweeping
-use Rattle.core_machine.specs.State.{State, colour_of, own_in}
+use Rattle.core_machine.specs.State.{State, colour_of, own_in, colour_in}
 use Rattle.core_machine.specs.Sweep.{is_done}
-use Rattle.core_machine.specs.Words.{shaded, same_stage}
+use Rattle.core_machine.specs.Words.{shaded, same_stage, cleared}
 use Rattle.core_machine.specs.InRange.{IsShaped, StageFits}
 use Rattle.dlg_core.specs.Consistent.{IsConsistent, CleanPass, IsCutOff, MarkStands, NoRawBlack}
 use Rattle.dlg_core.specs.Facts.{is_live, live, unswept, is_open, scanned_count}
 use Rattle.dlg_core.proofs.Each.{colour_each}
 use Rattle.dlg_core.proofs.Truths.{or_later}
+use Rattle.std.proofs.lemmas.List.{get_or-set_same, get_or_past, set_past}
 
 -- the state with another colour of a cell
 abbrev pub with_colour : State → ℕ → Colour → State
@@ -138,65 +139,88 @@ shade_kept s c range k alive clean =
     = colour_each (λ d y. is_live y (unswept s.control s.collector.sweep d) ≡ true → live s.colours s.control s.collector.sweep d ≡ true)
     s.colours c (shaded x) (λ _. alive) (λ d h. h) in
     record {
-      statuses = k.statuses;
-      answered = k.answered;
-      modes = k.modes;
-      out = k.out;
-      marks = (λ i m. All-weaker (MarkStands s.colours) (MarkStands t.colours) (λ p h marked. not_white p.cell (h marked)) (own_in s.owns i).held (k.marks i m));
-      anchor_box = k.anchor_box;
-      kinds = k.kinds;
-      blue_null = (λ d f blue. k.blue_null d f
-          (colour_each (λ e y. y ≡ colour.Blue → colour_of s e ≡ colour.Blue) s.colours c (shaded x) (shaded_blue x) (λ e h. h) d blue));
-      anchor_live = live_is 0 k.anchor_live;
-      held_live = (λ i. All-weaker (λ p. live s.colours s.control s.collector.sweep p.cell ≡ true) (λ p. live t.colours s.control s.collector.sweep p.cell ≡ true)
-          (λ p h. live_is p.cell h) (own_in s.owns i).held (k.held_live i));
-      child_live = (λ d e. live_is d (k.child_live d e));
-      names_live = (λ d e f h n. let r = k.names_live d e f (live_was d h) n in (live_is e r.0, r.1));
-      raw_once = k.raw_once;
-      raw_not_black = (λ i sync2. All-weaker (NoRawBlack s.colours s.rows) (NoRawBlack t.colours s.rows)
-          (λ p h raw black. h raw (black_was p.cell black)) (own_in s.owns i).held (k.raw_not_black i sync2));
-      cleared = (λ d h black. k.cleared d h (black_was d black));
-      anchor_marked = (λ h. not_white 0 (k.anchor_marked h));
-      traced = (λ now set cut.
-          let before : IsCutOff s.colours s.rows s.collector.scan set = record {
-            white = (λ d is. white_was d (cut.white d is));
-            child = cut.child;
-            gray = (λ d e f is unread n. cut.gray d e f (gray_is d is) unread n);
-            outside = (λ d e f is out n. elim (white_is d is) [
-              | inl white ↦ cut.outside d e f white out n
-              | inr gray ↦ cut.gray d e f gray
-                  (open_elsewhere s.collector.scan d f (λ y scans same. absurd
-                  (let g = (k.scans y scans).gray in
-                  let w : colour_of s y.cell ≡ colour.White = subst (λ m. colour_of s m ≡ colour.White) same is in cc))) n
-            ]);
-          } in
-          let old = k.traced now set before in record {
-            black = (λ d e f is n. old.black d e f (black_was d is) n);
-            scanned = old.scanned;
-            held = old.held;
-          });
-      clean_pass = clean;
-      pass_waits = k.pass_waits;
-      scans = (λ y is. let r = k.scans y is in record {
-        traces = r.traces;
-        answers = r.answers;
-        gray = gray_is y.cell r.gray;
-        unclean = r.unclean;
-      });
-      unswept = (λ d ahead gray. colour_each (λ e y. unswept s.control s.collector.sweep e ≡ true → y ≢ colour.Gray) s.colours c (shaded x)
-          (λ far is. elim (shaded_gray x is) [
-            | inl white ↦ let dead : live s.colours s.control s.collector.sweep c ≡ false
-                = subst (λ y. is_live y (unswept s.control s.collector.sweep c) ≡ false) (sym white) (ap not far) in absurd cc
-            | inr same ↦ k.unswept c far same
-          ])
-          k.unswept d ahead gray);
-      wipes = (λ n is. let r = k.wipes n is in record {
-        white = elim (white_is s.control.position r.white) [
-          | inl white ↦ white
-          | inr gray ↦ absurd (let dead = wiped_not_live s range n is r.white in
-              let lives = live_was s.control.position (subst (λ y. is_live y (unswept s.control s.collector.sweep s.control.position) ≡ true) (sym gray) refl) in cc)
-        ];
-        null = r.null;
-      });
-      found_black = (λ is. black_is s.control.position (k.found_black is));
+      mutators = record {
+        statuses = k.mutators.statuses;
+        answered = k.mutators.answered;
+        modes = k.mutators.modes;
+        out = k.mutators.out;
+        marks = (λ i m. All-weaker (MarkStands s.colours) (MarkStands t.colours) (λ p h marked. not_white p.cell (h marked)) (own_in s.owns i).held (k.mutators.marks i m));
+      };
+      cells = record {
+        anchor_box = k.cells.anchor_box;
+        kinds = k.cells.kinds;
+        blue_null = (λ d f blue. k.cells.blue_null d f
+            (colour_each (λ e y. y ≡ colour.Blue → colour_of s e ≡ colour.Blue) s.colours c (shaded x) (shaded_blue x) (λ e h. h) d blue));
+        anchor_live = live_is 0 k.cells.anchor_live;
+        held_live = (λ i. All-weaker (λ p. live s.colours s.control s.collector.sweep p.cell ≡ true) (λ p. live t.colours s.control s.collector.sweep p.cell ≡ true)
+            (λ p h. live_is p.cell h) (own_in s.owns i).held (k.cells.held_live i));
+        child_live = (λ d e. live_is d (k.cells.child_live d e));
+        names_live = (λ d e f h n. let r = k.cells.names_live d e f (live_was d h) n in (live_is e r.0, r.1));
+        raw_once = k.cells.raw_once;
+        raw_not_black = (λ i sync2. All-weaker (NoRawBlack s.colours s.rows) (NoRawBlack t.colours s.rows)
+            (λ p h raw black. h raw (black_was p.cell black)) (own_in s.owns i).held (k.cells.raw_not_black i sync2));
+      };
+      tracing = record {
+        cleared = (λ d h black. k.tracing.cleared d h (black_was d black));
+        anchor_marked = (λ h. not_white 0 (k.tracing.anchor_marked h));
+        traced = (λ now set cut.
+            let before : IsCutOff s.colours s.rows s.collector.scan set = record {
+              white = (λ d is. white_was d (cut.white d is));
+              child = cut.child;
+              gray = (λ d e f is unread n. cut.gray d e f (gray_is d is) unread n);
+              outside = (λ d e f is out n. elim (white_is d is) [
+                | inl white ↦ cut.outside d e f white out n
+                | inr gray ↦ cut.gray d e f gray
+                    (open_elsewhere s.collector.scan d f (λ y scans same. absurd
+                    (let g = (k.tracing.scans y scans).gray in
+                    let w : colour_of s y.cell ≡ colour.White = subst (λ m. colour_of s m ≡ colour.White) same is in cc))) n
+              ]);
+            } in
+            let old = k.tracing.traced now set before in record {
+              black = (λ d e f is n. old.black d e f (black_was d is) n);
+              scanned = old.scanned;
+              held = old.held;
+            });
+        clean_pass = clean;
+        pass_waits = k.tracing.pass_waits;
+        scans = (λ y is. let r = k.tracing.scans y is in record {
+          traces = r.traces;
+          answers = r.answers;
+          gray = gray_is y.cell r.gray;
+          unclean = r.unclean;
+        });
+      };
+      sweep = record {
+        unswept = (λ d ahead gray. colour_each (λ e y. unswept s.control s.collector.sweep e ≡ true → y ≢ colour.Gray) s.colours c (shaded x)
+            (λ far is. elim (shaded_gray x is) [
+              | inl white ↦ let dead : live s.colours s.control s.collector.sweep c ≡ false
+                  = subst (λ y. is_live y (unswept s.control s.collector.sweep c) ≡ false) (sym white) (ap not far) in absurd cc
+              | inr same ↦ k.sweep.unswept c far same
+            ])
+            k.sweep.unswept d ahead gray);
+        wipes = (λ n is. let r = k.sweep.wipes n is in record {
+          white = elim (white_is s.control.position r.white) [
+            | inl white ↦ white
+            | inr gray ↦ absurd (let dead = wiped_not_live s range n is r.white in
+                let lives = live_was s.control.position (subst (λ y. is_live y (unswept s.control s.collector.sweep s.control.position) ≡ true) (sym gray) refl) in cc)
+          ];
+          null = r.null;
+        });
+        found_black = (λ is. black_is s.control.position (k.sweep.found_black is));
+      };
     }
+
+-- the cell that was shaded is not white
+pub shaded_there : (s : State) (c : ℕ) → colour_of (with_shade s c) c ≢ colour.White
+shaded_there s c = elim (cases_lt c (length s.colours)) [
+  | inl lt ↦ λ white. shaded_not_white (colour_of s c)
+      (sym (get_or-set_same s.colours c (shaded (colour_of s c)) colour.Blue lt) ∙ white)
+  | inr past ↦ λ white.
+      let same = set_past s.colours c (shaded (colour_of s c)) past in
+      let blue : colour_of (with_shade s c) c ≡ colour.Blue
+      = ap (λ xs. colour_in xs c) same ∙ get_or_past s.colours c colour.Blue past in absurd cc
+]
+
+pub cleared_blue : (x : Colour) → cleared x ≡ colour.Blue → x ≡ colour.Blue
+cleared_blue colour.Blue e = refl
+cleared_blue _ e = absurd cc

@@ -1,7 +1,7 @@
 -- The theorem: the set is followed from a state in which no sweep goes on; two whole cycles count two
 -- cycles that end, and then the set has no cell.
 use Rattle.std.proofs.Common.{◌≡◌, ◌≢◌, inl, inr, ℕ, true, false, get_or, List, [], ◌∷◌, ◌++◌, ◌+◌, ◌≤◌, refl, sym, subst, ap, arith}
-use Rattle.std.proofs.lemmas.Bool.{and_parts, cases_lt}
+use Rattle.std.proofs.lemmas.Bool.{cases_lt}
 use Rattle.std.proofs.lemmas.List.{append-nil, get_or_past}
 use Rattle.cell_words.specs.declared.controls.Stage.TheVariants as stage
 use Rattle.cell_words.specs.declared.fields.Field.TheVariants as field
@@ -11,6 +11,7 @@ use Rattle.core_machine.specs.Places.{holds}
 use Rattle.core_machine.specs.State.{State, field_of, freed_of, presence_of, held_of}
 use Rattle.core_machine.specs.InRange.{IsShaped}
 use Rattle.core_machine.specs.Next.{after}
+use Rattle.core_machine.proofs.Conditions.{post_sync1_needs}
 use Rattle.dlg_core.specs.Collects.{IsGarbage, IsFreedSince, IsCycle, AreTwoCycles, Collects}
 use Rattle.dlg_core.specs.Consistent.{IsConsistent}
 use Rattle.dlg_core.specs.Kept.{IsKept}
@@ -20,7 +21,6 @@ use Rattle.dlg_core.proofs.Collects.Events.{followed_after}
 use Rattle.dlg_core.proofs.Collects.Followed.{IsFollowed}
 use Rattle.dlg_core.proofs.Longer.{leads_apart}
 use Rattle.dlg_core.proofs.Throughout.{along_run, shaped_along, consistent_along}
-use Rattle.dlg_core.proofs.Truths.{same_stage_is}
 
 -- Cycles that end are counted.
 
@@ -54,7 +54,7 @@ cycle_counts s events t cycle leads =
 pub cycle_begins : (s : State) (events : List Event) (t : State) → IsCycle events → LeadsTo s events t → s.control.stage ≡ stage.Idle
 cycle_begins s events t cycle leads =
     let h = (subst (λ es. LeadsTo s es t) cycle.whole leads).runs.0 in
-    same_stage_is s.control.stage stage.Idle (and_parts _ _ h).0
+    (post_sync1_needs s h).now
 
 -- two of them are two more, whatever follows
 pub two_cycles_more : (s : State) (first between next after : List Event) (t : State) → AreTwoCycles first between next
@@ -80,7 +80,7 @@ pub inside_of : (s : State) (i c : ℕ) → IsConsistent s → holds (held_of s 
 inside_of s i c k h =
     elim (presence_of s i).inside as (λ b. (presence_of s i).inside ≡ b → (presence_of s i).inside ≡ true) [
       | true ↦ λ e. e
-      | false ↦ λ e. absurd (let none : holds (held_of s i) c ≡ false = ap (λ ps. holds ps c) (k.out i e).0 in cc)
+      | false ↦ λ e. absurd (let none : holds (held_of s i) c ≡ false = ap (λ ps. holds ps c) (k.mutators.out i e).0 in cc)
     ] refl
 
 -- The start: what is not garbage is reachable or blue, and names no garbage.
@@ -98,7 +98,7 @@ followed_from s range k other = record {
               let none : field_of s c f ≡ field.Null
               = ap (λ row. get_or row f field.Null) (get_or_past s.rows c [] (let fit = range.cells_fit.rows_fit in omega arith)) in cc)
         ];
-        not_free = (λ blue. let none = k.blue_null c f blue in cc);
+        not_free = (λ blue. let none = k.cells.blue_null c f blue in cc);
         unreachable = (λ r. left.garbage.unreachable (named f r n));
       };
       unfreed = refl;

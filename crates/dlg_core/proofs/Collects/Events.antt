@@ -1,31 +1,19 @@
 -- Every event keeps what holds of the set that is followed: a line a kind.
-use Rattle.std.proofs.Common.{◌≡◌, ℕ, true, length}
-use Rattle.std.proofs.lemmas.Bool.{and_parts, ltb-true}
+use Rattle.std.proofs.Common.{◌≡◌, true}
 use Rattle.core_machine.specs.declared.events.Event.{Event}
 use Rattle.core_machine.specs.declared.events.Event.TheVariants as event
-use Rattle.core_machine.specs.Operations.{is_place}
 use Rattle.core_machine.specs.Own.{looked, spent, ended}
 use Rattle.core_machine.specs.State.{State, own_of, held_of}
 use Rattle.core_machine.specs.InRange.{IsShaped}
 use Rattle.core_machine.specs.Next.{can, after}
+use Rattle.core_machine.proofs.Conditions.{read_needs, mark_needs}
 use Rattle.dlg_core.specs.Consistent.{IsConsistent}
 use Rattle.dlg_core.proofs.Collects.Followed.{IsFollowed}
 use Rattle.dlg_core.proofs.Collects.Mutating.{own_followed, beside_followed, begin_followed, unmark_followed, read_followed, mark_followed, keep_followed, write_followed, fill_followed, seal_followed, claim_followed}
 use Rattle.dlg_core.proofs.Collects.Posting.{post_followed, duty_followed, poll_followed, answer_out_followed}
 use Rattle.dlg_core.proofs.Collects.Sweeping.{look_followed, wipe_followed, free_followed, whiten_followed, advance_followed}
 use Rattle.dlg_core.proofs.Collects.Tracing.{clear_followed, see_followed, scan_followed, shade_followed, blacken_followed}
-use Rattle.dlg_core.proofs.Keeps.Holding.{holds_unmark}
-
--- the place of a read, and of a mark, is one that there is
-read_place : (s : State) (i place f : ℕ) → can s (event.Read i place f) ≡ true → is_place s i place ≡ true
-read_place s i place f h =
-    let room = and_parts _ _ h in
-    let four = and_parts _ _ room.0 in
-    (and_parts _ _ four.0).1
-
-mark_place : (s : State) (i place : ℕ) → can s (event.Mark i place) ≡ true → is_place s i place ≡ true
-mark_place s i place h =
-    (and_parts _ _ (and_parts _ _ h).0).1
+use Rattle.dlg_core.proofs.HeldLists.{holds_unmark}
 
 pub followed_after : (old s : State) (e : Event) → IsShaped s → IsConsistent s → can s e ≡ true → IsFollowed old s
     → IsFollowed old (after s e)
@@ -33,9 +21,9 @@ followed_after old s (event.Begin i) range consistent h k = begin_followed old s
 followed_after old s (event.Look i) range consistent h k =
     unmark_followed old s i (looked (own_of s i) s.control) (λ c. holds_unmark (held_of s i) c) k
 followed_after old s (event.Read i place f) range consistent h k =
-    read_followed old s i place f (ltb-true place (length (held_of s i)) (read_place s i place f h)) k
+    read_followed old s i place f (read_needs s i place f h).there k
 followed_after old s (event.Mark i place) range consistent h k =
-    mark_followed old s i place (ltb-true place (length (held_of s i)) (mark_place s i place h)) k
+    mark_followed old s i place (mark_needs s i place h).there k
 followed_after old s (event.Write i place f expected value) range consistent h k = write_followed old s i place f expected value h k
 followed_after old s (event.Claim i c) range consistent h k = claim_followed old s i c k
 followed_after old s (event.Fill i place f value) range consistent h k = fill_followed old s i place f value h k

@@ -20,14 +20,13 @@ use Rattle.core_machine.specs.Places.{holds, names_rightly}
 use Rattle.core_machine.specs.State.{State, colour_of, field_of, own_of, held_of, presence_of, target_of}
 use Rattle.core_machine.specs.Words.{written, same_field, kind_field, shaded, claimed, born_colour}
 use Rattle.core_machine.specs.Next.{can, after}
+use Rattle.core_machine.proofs.Conditions.{write_needs, fill_needs}
 use Rattle.dlg_core.proofs.Changes.Field.{with_field}
 use Rattle.dlg_core.proofs.Changes.Own.{with_own}
 use Rattle.dlg_core.proofs.Changes.Shade.{with_colour}
 use Rattle.dlg_core.proofs.Collects.Changes.{own_apart, field_apart, colour_apart, colour_beside}
 use Rattle.dlg_core.proofs.Collects.Followed.{IsLeftIn, IsFollowed}
-use Rattle.dlg_core.proofs.Keeps.Holding.{holds_unmark, holds_more, holds_kept}
-use Rattle.dlg_core.proofs.Keeps.Mark.{holds_marking, holds_place}
-use Rattle.dlg_core.proofs.Keeps.Write.{write_guard, fill_guard}
+use Rattle.dlg_core.proofs.HeldLists.{holds_unmark, holds_more, holds_place, holds_kept, holds_marking}
 
 -- What a change of one part leaves.
 
@@ -124,13 +123,13 @@ rightly_outside old s i d x rightly is k left =
 pub write_followed : (old s : State) (i place f : ℕ) (expected value : Field) → can s (event.Write i place f expected value) ≡ true
     → IsFollowed old s → IsFollowed old (after s (event.Write i place f expected value))
 write_followed old s i place f expected value h k =
-    let guard = write_guard s i place f expected value h in
+    let needs = write_needs s i place f expected value h in
     let b = target_of s i place in
     let found = field_of s b f in
     let fits : (d : ℕ) → written found expected value ≡ field.Cell d → IsLeftIn old s d → IsLeftIn old s b
     = (λ d. elim (same_field found expected) as (λ same. (if same then value else found) ≡ field.Cell d
     → IsLeftIn old s d → IsLeftIn old s b) [
-      | true ↦ λ is left. absurd (rightly_outside old s i d value guard.new_rightly is k left)
+      | true ↦ λ is left. absurd (rightly_outside old s i d value needs.names_new is k left)
       | false ↦ λ is left. k.apart.named b d f is left
     ]) in
     unmark_followed old (with_field s b f (written found expected value)) i (spent (own_of s i)) (λ c. holds_unmark (held_of s i) c)
@@ -140,7 +139,7 @@ pub fill_followed : (old s : State) (i place f : ℕ) (value : Field) → can s 
     → IsFollowed old s → IsFollowed old (after s (event.Fill i place f value))
 fill_followed old s i place f value h k =
     field_followed old s (target_of s i place) f value
-    (λ d is left. absurd (rightly_outside old s i d value (fill_guard s i place f value h).rightly is k left)) k
+    (λ d is left. absurd (rightly_outside old s i d value (fill_needs s i place f value h).names is k left)) k
 
 pub kind_names_none : (x : Kind) (d : ℕ) → kind_field x ≢ field.Cell d
 kind_names_none kind.Record d e = cc

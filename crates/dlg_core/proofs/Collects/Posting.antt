@@ -4,7 +4,7 @@
 -- Post(Idle)   no cell is still to be swept: so after the first sweep the set is white, and after the
 --              next one it has no cell.
 use Rattle.std.proofs.Common.{◌≡◌, ◌≢◌, ◌⊎◌, inl, inr, ℕ, Bool, true, false, Some, None, ◌+◌, ◌≤◌, refl, sym, subst, ◌∙◌, arith}
-use Rattle.std.proofs.lemmas.Bool.{and_parts, eqb-true, cases_lt}
+use Rattle.std.proofs.lemmas.Bool.{cases_lt}
 use Rattle.std.proofs.lemmas.List.{get_or_past}
 use Rattle.cell_words.specs.declared.colours.Colour.{Colour}
 use Rattle.cell_words.specs.declared.colours.Colour.TheVariants as colour
@@ -18,13 +18,13 @@ use Rattle.core_machine.specs.State.{State, colour_of, presence_of}
 use Rattle.core_machine.specs.Words.{same_status, may_answer_out}
 use Rattle.core_machine.specs.InRange.{IsShaped}
 use Rattle.core_machine.specs.Next.{can, after}
+use Rattle.core_machine.proofs.Conditions.{post_idle_needs}
 use Rattle.dlg_core.specs.Consistent.{IsConsistent}
 use Rattle.dlg_core.specs.Facts.{child_in, unswept}
 use Rattle.dlg_core.proofs.Changes.Noted.{answered_each}
 use Rattle.dlg_core.proofs.Collects.Changes.{sweep_way}
 use Rattle.dlg_core.proofs.Collects.Followed.{Follows, IsLeftIn, IsFollowed}
 use Rattle.dlg_core.proofs.Keeps.Post.{all_ahead, none_ahead, no_scan, no_gray_at_end}
-use Rattle.dlg_core.proofs.Truths.{same_stage_is}
 
 -- a colour that is neither blue nor gray
 pub white_or_black : (x : Colour) → x ≢ colour.Blue → x ≢ colour.Gray → (x ≡ colour.White) ⊎ (x ≡ colour.Black)
@@ -72,9 +72,9 @@ sweep_followed old s range consistent h k =
 pub idle_followed : (old s : State) → IsShaped s → IsConsistent s → can s (event.Post stage.Idle) ≡ true → IsFollowed old s
     → IsFollowed old (after s (event.Post stage.Idle))
 idle_followed old s range consistent h k =
-    let g = and_parts _ _ h in
-    let now = same_stage_is s.control.stage stage.Sweep g.0 in
-    let ended : s.control.position ≡ s.cells = eqb-true s.control.position s.cells g.1 in
+    let needs = post_idle_needs s h in
+    let now = needs.now in
+    let ended = needs.end in
     let other : s.control.stage ≢ stage.Trace = (λ e. cc) in
     -- every cell of the set is passed
     let passed : (c : ℕ) → IsLeftIn old s c → unswept s.control s.collector.sweep c ≡ false

@@ -40,9 +40,10 @@ use Rattle.dlg_core.proofs.Changes.Shade.{wiped_not_live}
 use Rattle.dlg_core.proofs.Collects.Cycles.{cycle_begins, two_cycles_more, garbage_freed}
 use Rattle.dlg_core.proofs.Longer.{leads_apart}
 use Rattle.dlg_core.proofs.Computes.{into, reach-sound, reach-complete}
-use Rattle.dlg_core.proofs.Each.{colour_each, presence_each}
-use Rattle.dlg_core.proofs.Keeps.Sweep.{position_below, free_is, black_found_is, wipe_is, field_elsewhere}
+use Rattle.dlg_core.proofs.Each.{colour_each, presence_each, field_elsewhere}
 use Rattle.dlg_core.proofs.Step.{consistent_after}
+use Rattle.dlg_core.proofs.Truths.{free_is, black_found_is, wipe_is}
+use Rattle.dlg_core.proofs.Changes.Sweep.{position_below}
 
 -- what holds since an old state, while the collector alone goes on
 pub record Rests (old : State) (presences : List Presence) (rows : List (List Field)) (colours : List Colour) (times_freed : List ℕ) : Type 0 where
@@ -94,23 +95,23 @@ pub blacken_rests : (old s : State) (scan : Option Scanning) → IsConsistent s 
     → RestsIn old s → Rests old s.presences s.rows (slice_set s.colours (scan_or_none scan).cell colour.Black) s.collector.times_freed
 blacken_rests old s None consistent is h k = absurd cc
 blacken_rests old s (Some x) consistent is h k =
-    colour_rests old s x.cell colour.Black (λ blue. absurd (let gray = (consistent.scans x is).gray in cc)) k
+    colour_rests old s x.cell colour.Black (λ blue. absurd (let gray = (consistent.tracing.scans x is).gray in cc)) k
 
 pub wipe_rests : (old s : State) → IsShaped s → IsConsistent s → can s event.Wipe ≡ true → RestsIn old s
     → RestsIn old (after s event.Wipe)
 wipe_rests old s range consistent h k =
     let p = s.control.position in
     let r = wipe_is s.collector.sweep h in
-    let dead = wiped_not_live s range r.0 r.1 (consistent.wipes r.0 r.1).white in
+    let dead = wiped_not_live s range r.0 r.1 (consistent.sweep.wipes r.0 r.1).white in
     let rows = set_field s.rows p (wiped_count s.collector.sweep) field.Null in
     let still : (c : ℕ) → IsFromAnchor s c → (live s.colours s.control s.collector.sweep c ≡ true) × Reach rows [] [] c
-    = into s.rows [] [] (λ c. (live s.colours s.control s.collector.sweep c ≡ true) × Reach rows [] [] c) (consistent.anchor_live, anchor refl)
+    = into s.rows [] [] (λ c. (live s.colours s.control s.collector.sweep c ≡ true) × Reach rows [] [] c) (consistent.cells.anchor_live, anchor refl)
     (λ i c inside has. absurd cc)
     (λ c d f before n.
     let other : c ≢ p = (λ here. absurd (
     let alive : live s.colours s.control s.collector.sweep p ≡ true
     = subst (λ m. live s.colours s.control s.collector.sweep m ≡ true) here before.0 in cc)) in (
-      (consistent.names_live c d f before.0 n).0,
+      (consistent.cells.names_live c d f before.0 n).0,
       named f before.1 (field_elsewhere s.rows p (wiped_count s.collector.sweep) field.Null c other f ∙ n),
     )) in
     record {
@@ -159,7 +160,7 @@ rests_after old s event.Wipe range consistent h by k = wipe_rests old s range co
 rests_after old s event.Free range consistent h by k = free_rests old s range consistent h k
 rests_after old s event.Whiten range consistent h by k =
     colour_rests old s s.control.position colour.White
-    (λ blue. absurd (let black = consistent.found_black (black_found_is s.collector.sweep h) in cc)) k
+    (λ blue. absurd (let black = consistent.sweep.found_black (black_found_is s.collector.sweep h) in cc)) k
 rests_after old s event.Advance range consistent h by k = k
 rests_after old s _ range consistent h by k = absurd cc
 

@@ -7,7 +7,7 @@
 -- Whiten              in the next sweep the cell is outside, since it was black.
 use Rattle.std.proofs.Common.{◌≡◌, ◌≢◌, inl, inr, ℕ, true, false, not, slice_index, length, ◌+◌, ◌<◌, ◌≤◌, refl, sym, subst, ◌∙◌, ap, arith}
 use Rattle.std.specs.Prelude.{slice_set}
-use Rattle.std.proofs.lemmas.Bool.{and_parts, cases_lt}
+use Rattle.std.proofs.lemmas.Bool.{cases_lt, not_from_false}
 use Rattle.std.proofs.lemmas.List.{get_or-set_same, get_or-set_other}
 use Rattle.cell_words.specs.declared.colours.Colour.{Colour}
 use Rattle.cell_words.specs.declared.colours.Colour.TheVariants as colour
@@ -22,16 +22,17 @@ use Rattle.core_machine.specs.Sweep.{is_done, wiped_count}
 use Rattle.core_machine.specs.Words.{is_gray}
 use Rattle.core_machine.specs.InRange.{IsShaped}
 use Rattle.core_machine.specs.Next.{can, after}
+use Rattle.core_machine.proofs.Conditions.{sweep_look_needs, advance_needs}
 use Rattle.dlg_core.specs.Consistent.{IsConsistent}
 use Rattle.dlg_core.specs.Facts.{unswept}
 use Rattle.dlg_core.proofs.Changes.Field.{with_field}
-use Rattle.dlg_core.proofs.Changes.Sweep.{at_position, same_unswept, unswept_elsewhere}
+use Rattle.dlg_core.proofs.Changes.Sweep.{at_position, same_unswept, unswept_elsewhere, position_below}
 use Rattle.dlg_core.proofs.Collects.Changes.{colour_apart, colour_way, colour_beside, sweep_way, fewer_way}
 use Rattle.dlg_core.proofs.Collects.Followed.{Follows, IsLeft, IsLeftIn, IsFollowed}
 use Rattle.dlg_core.proofs.Collects.Mutating.{field_followed}
-use Rattle.dlg_core.proofs.Each.{set_each}
-use Rattle.dlg_core.proofs.Keeps.Blacken.{null_beyond}
-use Rattle.dlg_core.proofs.Keeps.Sweep.{fresh_is, position_below, free_is, black_found_is, done_is, advance_unswept, wipe_is}
+use Rattle.dlg_core.proofs.Each.{set_each, null_beyond}
+use Rattle.dlg_core.proofs.Keeps.Sweep.{advance_unswept}
+use Rattle.dlg_core.proofs.Truths.{free_is, black_found_is, wipe_is}
 
 -- The word on the cell at the position changes, and what is still to be swept is.
 pub word_followed : (old s : State) (later : Control) (further : Sweeping) → later.cycles ≡ s.control.cycles
@@ -65,9 +66,9 @@ look_followed_at old s colour.Black undone is h k =
 
 pub look_followed : (old s : State) → can s event.SweepLook ≡ true → IsFollowed old s → IsFollowed old (after s event.SweepLook)
 look_followed old s h k =
-    let a = and_parts _ _ h in
-    let b = and_parts _ _ a.0 in
-    look_followed_at old s (colour_of s s.control.position) (ap is_done (fresh_is s.collector.sweep b.1)) refl a.1 k
+    let needs = sweep_look_needs s h in
+    look_followed_at old s (colour_of s s.control.position) (ap is_done needs.fresh) refl
+    (not_from_false _ needs.not_gray) k
 
 -- Wipe.
 
@@ -117,7 +118,7 @@ free_followed old s range consistent h k =
     let p = s.control.position in
     let times = s.collector.times_freed in
     let is = free_is s.collector.sweep h in
-    let wipes = consistent.wipes 6 is in
+    let wipes = consistent.sweep.wipes 6 is in
     let there : p < length times
     = (let lt = position_below s (sweeping.Wiping 6) range is (λ e. cc) in
     let a = range.cells_fit.colours_fit in let b = range.cells_fit.freed_fit in omega arith) in
@@ -157,7 +158,7 @@ pub whiten_followed : (old s : State) → IsShaped s → IsConsistent s → can 
 whiten_followed old s range consistent h k =
     let p = s.control.position in
     let is = black_found_is s.collector.sweep h in
-    let black = consistent.found_black is in
+    let black = consistent.sweep.found_black is in
     let lt = position_below s sweeping.BlackFound range is (λ e. cc) in
     let colours = slice_set s.colours p colour.White in
     let whitened : colour_in colours p ≡ colour.White = get_or-set_same s.colours p colour.White colour.Blue lt in
@@ -178,7 +179,6 @@ whiten_followed old s range consistent h k =
 
 pub advance_followed : (old s : State) → can s event.Advance ≡ true → IsFollowed old s → IsFollowed old (after s event.Advance)
 advance_followed old s h k =
-    let a = and_parts _ _ h in
-    let is = done_is s.collector.sweep a.1 in
+    let is = (advance_needs s h).done in
     word_followed old s (at_position s.control (s.control.position + 1)) sweeping.Fresh refl refl
     (λ c left far. advance_unswept s c is ∙ far) k

@@ -5,7 +5,6 @@
 -- Scan           the cell under scan is gray, so it is outside, and what it names is.
 -- Shade, Blacken the child and the cell under scan are outside.
 use Rattle.std.proofs.Common.{◌≡◌, ◌≢◌, ℕ, true, not, Option, Some, None, is_none, ◌+◌, refl, ◌∙◌, ap}
-use Rattle.std.proofs.lemmas.Bool.{and_parts}
 use Rattle.cell_words.specs.declared.colours.Colour.{Colour}
 use Rattle.cell_words.specs.declared.colours.Colour.TheVariants as colour
 use Rattle.cell_words.specs.declared.controls.Stage.TheVariants as stage
@@ -18,15 +17,14 @@ use Rattle.core_machine.specs.State.{State, colour_of, field_of}
 use Rattle.core_machine.specs.Tracing.{may_scan, may_shade, may_blacken, scan_or_none, child_or_anchor}
 use Rattle.core_machine.specs.Words.{shaded, cleared}
 use Rattle.core_machine.specs.Next.{can, after}
+use Rattle.core_machine.proofs.Conditions.{clear_needs}
 use Rattle.dlg_core.specs.Consistent.{IsConsistent}
 use Rattle.dlg_core.specs.Facts.{child_in}
 use Rattle.dlg_core.proofs.Changes.Noted.{look_each}
-use Rattle.dlg_core.proofs.Changes.Shade.{with_colour, shaded_blue}
+use Rattle.dlg_core.proofs.Changes.Shade.{with_colour, shaded_blue, cleared_blue}
 use Rattle.dlg_core.proofs.Collects.Changes.{colour_apart, colour_way, scan_way}
 use Rattle.dlg_core.proofs.Collects.Followed.{Follows, IsLeftIn, IsFollowed}
-use Rattle.dlg_core.proofs.Keeps.Clear.{cleared_blue}
-use Rattle.dlg_core.proofs.Keeps.Trace.{with_scan}
-use Rattle.dlg_core.proofs.Truths.{same_stage_is}
+use Rattle.dlg_core.proofs.Changes.Pass.{with_scan}
 
 -- A colour changes outside of the sweep: no cell of the set becomes blue, and in the next cycle none
 -- gets another colour than white.
@@ -52,7 +50,7 @@ scan_followed_to old s further fits k = record {
 pub clear_followed : (old s : State) → can s event.ClearCell ≡ true → IsFollowed old s → IsFollowed old (after s event.ClearCell)
 clear_followed old s h k =
     let c = s.collector.cursor in
-    let now = same_stage_is s.control.stage stage.Clear (and_parts _ _ h).0 in
+    let now = (clear_needs s h).now in
     colour_followed old s c (cleared (colour_of s c)) (λ e. cc)
     (λ left blue. k.apart.not_blue c left (cleared_blue (colour_of s c) blue))
     (λ next left. ap cleared (k.way.white next c left)) k
@@ -73,7 +71,7 @@ scan_followed_at old s x (field.Cell w) consistent is e k =
     let same : w ≡ c = cc in
     let outer = k.apart.named x.cell c x.next (e ∙ ap (λ d. field.Cell d) same) left in
     let white = k.way.white next x.cell outer in
-    let gray = (consistent.scans x is).gray in cc) k
+    let gray = (consistent.tracing.scans x is).gray in cc) k
 
 pub scan_followed : (old s : State) → IsConsistent s → can s event.Scan ≡ true → IsFollowed old s
     → IsFollowed old (after s event.Scan)
@@ -90,7 +88,7 @@ pub shade_followed_at : (old s : State) (x : Scanning) (child : Option ℕ) → 
 shade_followed_at old s x None consistent is e h k = absurd cc
 shade_followed_at old s x (Some w) consistent is e h k =
     let t = with_colour s w (shaded (colour_of s w)) in
-    let now = (consistent.scans x is).traces in
+    let now = (consistent.tracing.scans x is).traces in
     scan_followed_to old t (Some (scan_shaded x)) (λ next c child. absurd cc)
     (colour_followed old s w (shaded (colour_of s w)) (λ sweeps. cc)
     (λ left blue. k.apart.not_blue w left (shaded_blue (colour_of s w) blue))
@@ -109,7 +107,7 @@ shade_followed old s consistent h k =
 pub blacken_followed_at : (old s : State) (x : Scanning) → IsConsistent s → s.collector.scan ≡ Some x → IsFollowed old s
     → IsFollowed old (with_scan (with_colour s x.cell colour.Black) None)
 blacken_followed_at old s x consistent is k =
-    let facts = consistent.scans x is in
+    let facts = consistent.tracing.scans x is in
     let now = facts.traces in
     let gray = facts.gray in
     scan_followed_to old (with_colour s x.cell colour.Black) None (λ next c child. absurd cc)

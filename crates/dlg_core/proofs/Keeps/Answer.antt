@@ -26,12 +26,13 @@ use Rattle.core_machine.specs.InRange.{IsShaped}
 use Rattle.core_machine.specs.Next.{can, after}
 use Rattle.core_machine.specs.Own.{Own, no_own, spent}
 use Rattle.core_machine.specs.Places.{all_marked, unmark}
+use Rattle.core_machine.proofs.Conditions.{answer_needs}
 use Rattle.dlg_core.specs.Consistent.{IsConsistent, MarkStands, NoRawBlack}
 use Rattle.dlg_core.specs.Facts.{status_fits, async_fits, sync1_fits, sync2_fits, IsStaleMode, marks_count, is_cleared}
-use Rattle.dlg_core.proofs.Changes.Own.{own_kept, with_own}
+use Rattle.dlg_core.proofs.Changes.Own.{own_kept, with_own, spent_fits}
 use Rattle.dlg_core.proofs.Changes.Status.{status_kept, StatusFits}
-use Rattle.dlg_core.proofs.Keeps.Holding.{inside_below, none_marked}
-use Rattle.dlg_core.proofs.Keeps.Write.{spent_fits}
+use Rattle.core_machine.proofs.OneOperation.{inside_there}
+use Rattle.dlg_core.proofs.HeldLists.{none_marked}
 
 -- the three answers of a cycle, each at its stage
 pub data IsAnswer : Status → Stage → Type 0 where
@@ -123,7 +124,7 @@ answer_fits s i held k none is (second own now) dark =
     answer_of s i held status.Sync2 k none is new
     (subst (λ x. status_fits x status.Sync2 ≡ true) (sym now) refl)
     (λ h. sym (ap requested_of now))
-    (λ e c. k.cleared c (subst (λ x. is_cleared x s.collector.cursor c ≡ true) (sym now) refl))
+    (λ e c. k.tracing.cleared c (subst (λ x. is_cleared x s.collector.cursor c ≡ true) (sym now) refl))
     (λ trace e. absurd cc)
 answer_fits s i held k none is (third own now) dark =
     let new : next_own_status s i ≡ status.Async = ap next_status_of own in
@@ -142,14 +143,13 @@ third_marked s i (third own now) trace h =
 pub answer_keeps : (s : State) (i : ℕ) → IsShaped s → IsConsistent s → can s (event.Answer i) ≡ true
     → IsConsistent (after s (event.Answer i))
 answer_keeps s i range k h =
-    let a = and_parts _ _ h in
-    let b = and_parts _ _ a.0 in
+    let needs = answer_needs s i h in
     let own = spent (own_of s i) in
     let u = with_own s i own in
-    let below : i < length s.owns = subst (λ n. i < n) (sym range.mutators_fit.owns_fit) (inside_below s i range b.0) in
+    let below : i < length s.owns = subst (λ n. i < n) (sym range.mutators_fit.owns_fit) (inside_there s range i needs.inside) in
     let there : own_of u i ≡ own = own_there s.owns i own below in
-    let answers = answer_when (presence_of s i).status (own_of s i).mode s.control b.1 (k.modes i) in
-    status_kept u i (next_own_status s i) (own_kept s i own k (spent_fits s i k b.0))
-    (answer_fits u i (held_of s i) (own_kept s i own k (spent_fits s i k b.0)) (ap (λ o. o.mode) there) (ap (λ o. o.held) there) answers
-    (λ trace. all_dark s.colours (held_of s i) (third_marked s i answers trace a.1)
-    (k.marks i (subst (λ x. marks_count x (presence_of s i).status ≡ true) (sym trace) refl))))
+    let answers = answer_when (presence_of s i).status (own_of s i).mode s.control needs.requested (k.mutators.modes i) in
+    status_kept u i (next_own_status s i) (own_kept s i own k (spent_fits s i k needs.inside))
+    (answer_fits u i (held_of s i) (own_kept s i own k (spent_fits s i k needs.inside)) (ap (λ o. o.mode) there) (ap (λ o. o.held) there) answers
+    (λ trace. all_dark s.colours (held_of s i) (third_marked s i answers trace needs.third)
+    (k.mutators.marks i (subst (λ x. marks_count x (presence_of s i).status ≡ true) (sym trace) refl))))

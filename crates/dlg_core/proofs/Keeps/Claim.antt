@@ -12,7 +12,7 @@ use Rattle.std.proofs.Common.{◌≡◌, ◌≢◌, ◌==◌, ◌&&◌, ◌⊎�
 use Rattle.std.specs.Prelude.{slice_set}
 use Rattle.std.proofs.Math.ListN.{set}
 use Rattle.std.specs.List.{All}
-use Rattle.std.proofs.lemmas.Bool.{and_parts, and_cases, or_cases, ltb-true, eqb-true, not-false, not-true}
+use Rattle.std.proofs.lemmas.Bool.{and_parts, and_cases, ltb-true, eqb-true, not-false, not-true}
 use Rattle.std.proofs.lemmas.List.{get_or-set_same, set-get_or}
 use Rattle.std.proofs.lemmas.List.Elements.{All-push, All-weaker}
 use Rattle.cell_words.specs.declared.colours.Colour.{Colour}
@@ -28,18 +28,19 @@ use Rattle.core_machine.specs.declared.events.Event.TheVariants as event
 use Rattle.core_machine.specs.declared.progress.Sweeping.{Sweeping}
 use Rattle.core_machine.specs.Operations.{is_in}
 use Rattle.core_machine.specs.State.{State, colour_of, field_of, presence_in, presence_of, own_in, own_of, held_of}
-use Rattle.core_machine.specs.Sweep.{is_done}
 use Rattle.core_machine.specs.Words.{claimed, born_colour}
 use Rattle.core_machine.specs.InRange.{IsShaped}
 use Rattle.core_machine.specs.Next.{can, after}
 use Rattle.core_machine.specs.Own.{Own, no_own, having_claimed}
 use Rattle.core_machine.specs.Places.{holds, found_at}
+use Rattle.core_machine.proofs.Conditions.{claim_needs}
 use Rattle.dlg_core.specs.Consistent.{IsConsistent, IsCutOff, IsNotDue, MarkStands, NoRawBlack}
 use Rattle.dlg_core.specs.Facts.{is_live, live, unswept, status_fits, async_fits, IsStaleMode, IsStale, is_cleared, marks_count}
 use Rattle.dlg_core.proofs.Each.{colour_each, own_each, all_held, all_from_held, all_both}
-use Rattle.dlg_core.proofs.Keeps.Holding.{inside_below, holds_more}
-use Rattle.dlg_core.proofs.Keeps.Write.{async_mode}
-use Rattle.dlg_core.proofs.Truths.{same_stage_is}
+use Rattle.dlg_core.proofs.Truths.{async_mode}
+use Rattle.core_machine.proofs.OneOperation.{inside_there}
+use Rattle.dlg_core.proofs.HeldLists.{holds_more}
+use Rattle.dlg_core.proofs.Changes.Live.{unswept_where}
 
 -- the part with a new cell more
 abbrev pub with_claim : Own → ℕ → Own
@@ -93,7 +94,7 @@ born_kept s i c y k inside blue lt fits =
     let t = with_born s i c y in
     let dead : live s.colours s.control s.collector.sweep c ≡ false
     = ap (λ x. is_live x (unswept s.control s.collector.sweep c)) blue in
-    let null : (f : ℕ) → field_of s c f ≡ field.Null = (λ f. k.blue_null c f blue) in
+    let null : (f : ℕ) → field_of s c f ≡ field.Null = (λ f. k.cells.blue_null c f blue) in
     let names_nothing : (d f : ℕ) → field_of s c f ≢ field.Cell d = (λ d f e. absurd (let n = null f in cc)) in
     let is : (x : Colour) → x ≢ colour.Blue → (d : ℕ) → colour_of s d ≡ x → colour_of t d ≡ x
     = (λ x other d. colour_each (λ e z. colour_of s e ≡ x → z ≡ x) s.colours c y
@@ -111,17 +112,17 @@ born_kept s i c y k inside blue lt fits =
     let held_apart : (j d : ℕ) → holds (own_in s.owns j).held d ≡ true → d ≢ c
     = (λ j d h. all_held (λ e. e ≢ c) (own_in s.owns j).held d
     (All-weaker (λ p. live s.colours s.control s.collector.sweep p.cell ≡ true) (λ p. p.cell ≢ c)
-    (λ p l. apart s c p.cell dead l) (own_in s.owns j).held (k.held_live j)) h) in
+    (λ p l. apart s c p.cell dead l) (own_in s.owns j).held (k.cells.held_live j)) h) in
     let live_held : (j : ℕ) → All (λ p. p.cell ≢ c) (own_in s.owns j).held
     = (λ j. All-weaker (λ p. live s.colours s.control s.collector.sweep p.cell ≡ true) (λ p. p.cell ≢ c)
-    (λ p l. apart s c p.cell dead l) (own_in s.owns j).held (k.held_live j)) in
+    (λ p l. apart s c p.cell dead l) (own_in s.owns j).held (k.cells.held_live j)) in
     let marks_still : (j : ℕ) → marks_count s.control.stage (presence_in s.presences j).status ≡ true
     → All (MarkStands t.colours) (own_in s.owns j).held
     = (λ j m. all_both (MarkStands s.colours) (λ p. p.cell ≢ c) (MarkStands t.colours) (own_in s.owns j).held
-    (λ p h ne marked white. h marked (was colour.White p.cell ne white)) (k.marks j m) (live_held j)) in
+    (λ p h ne marked white. h marked (was colour.White p.cell ne white)) (k.mutators.marks j m) (live_held j)) in
     let raw_still : (j : ℕ) → (presence_in s.presences j).status ≡ status.Sync2 → All (NoRawBlack t.colours s.rows) (own_in s.owns j).held
     = (λ j sync2. all_both (NoRawBlack s.colours s.rows) (λ p. p.cell ≢ c) (NoRawBlack t.colours s.rows) (own_in s.owns j).held
-    (λ p h ne raw black. h raw (was colour.Black p.cell ne black)) (k.raw_not_black j sync2) (live_held j)) in
+    (λ p h ne raw black. h raw (was colour.Black p.cell ne black)) (k.cells.raw_not_black j sync2) (live_held j)) in
     let held_still : (set : ℕ → Bool) → IsNotDue s.presences s.owns s.colours s.rows s.collector.scan (without set c) → (j : ℕ)
     → (presence_in s.presences j).status ≡ status.Async → All (λ p. set p.cell ≡ false) (own_in s.owns j).held
     = (λ set old j async. all_both (λ p. without set c p.cell ≡ false) (λ p. p.cell ≢ c) (λ p. set p.cell ≡ false) (own_in s.owns j).held
@@ -142,90 +143,98 @@ born_kept s i c y k inside blue lt fits =
       | inr fresh ↦ subst P (sym fresh.1) new
     ])) in
     record {
-      statuses = k.statuses;
-      answered = k.answered;
-      modes = own_each (λ j o. IsStaleMode (presence_in s.presences j).status o.mode s.control) s.owns i (with_claim (own_of s i) c) tt k.modes;
-      out = own_each (λ j o. (presence_in s.presences j).inside ≡ false → (o.held ≡ []) × (o.mode ≡ None)) s.owns i (with_claim (own_of s i) c)
-          (λ o. absurd cc) k.out;
-      marks = own_each (λ j o. marks_count s.control.stage (presence_in s.presences j).status ≡ true → All (MarkStands t.colours) o.held)
-          s.owns i (with_claim (own_of s i) c)
-          (λ m. All-push (MarkStands t.colours) (held_of s i) (found_at c) (marks_still i m) (λ h. absurd cc))
-          (λ j m. marks_still j m);
-      anchor_box = k.anchor_box;
-      kinds = k.kinds;
-      blue_null = (λ d f b. colour_each (λ e z. z ≡ colour.Blue → field_of s e f ≡ field.Null) s.colours c y
-          (λ e. absurd (fits.not_blue e)) (λ e h. k.blue_null e f h) d b);
-      anchor_live = live_is 0 k.anchor_live;
-      held_live = all_new (λ d. live t.colours s.control s.collector.sweep d ≡ true)
-          (subst (λ z. is_live z (unswept s.control s.collector.sweep c) ≡ true) (sym here) fits.alive)
-          (λ j d h. live_is d (all_held (λ e. live s.colours s.control s.collector.sweep e ≡ true) (own_in s.owns j).held d (k.held_live j) h));
-      child_live = (λ d e. live_is d (k.child_live d e));
-      names_live = (λ d e f l n.
-          let other : d ≢ c = (λ same. names_nothing e f (subst (λ m. field_of s m f ≡ field.Cell e) same n)) in
-          let r = k.names_live d e f (live_was d other l) n in (live_is e r.0, r.1));
-      raw_once = (λ a b d raw ha hb. elim (held_was a d ha) [
-        | inl olda ↦ elim (held_was b d hb) [
-          | inl oldb ↦ k.raw_once a b d raw olda oldb
-          | inr newb ↦ absurd (held_apart a d olda newb.1)
-        ]
-        | inr newa ↦ elim (held_was b d hb) [
-          | inl oldb ↦ absurd (held_apart b d oldb newa.1)
-          | inr newb ↦ newa.0 ∙ sym newb.0
-        ]
-      ]);
-      raw_not_black = own_each (λ j o. (presence_in s.presences j).status ≡ status.Sync2 → All (NoRawBlack t.colours s.rows) o.held)
-          s.owns i (with_claim (own_of s i) c)
-          (λ sync2. All-push (NoRawBlack t.colours s.rows) (held_of s i) (found_at c) (raw_still i sync2)
-          (λ raw black. fits.sync2 sync2 (sym here ∙ black)))
-          (λ j sync2. raw_still j sync2);
-      cleared = (λ d h. colour_each (λ e z. is_cleared s.control.stage s.collector.cursor e ≡ true → z ≢ colour.Black) s.colours c y
-          fits.cleared k.cleared d h);
-      anchor_marked = (λ h white. k.anchor_marked h (was colour.White 0 (apart s c 0 dead k.anchor_live) white));
-      traced = (λ now set cut.
-          let before : IsCutOff s.colours s.rows s.collector.scan (without set c) = record {
-            white = (λ d h. let r = in_without set c d h in was colour.White d r.1 (cut.white d r.0));
-            child = (λ d h. out_before set c d (cut.child d h));
-            gray = (λ d e f gray unread n. out_before set c e (cut.gray d e f (is colour.Gray (λ g. cc) d gray) unread n));
-            outside = (λ d e f white out n. out_before set c e (cut.outside d e f (is colour.White (λ g. cc) d white)
-                (out_of_without set c d out (λ same. absurd (let b : colour_of s d ≡ colour.Blue = subst (λ m. colour_of s m ≡ colour.Blue) (sym same) blue in cc))) n));
-          } in
-          let old = k.traced now (without set c) before in
-          let named_apart : (d e f : ℕ) → live s.colours s.control s.collector.sweep d ≡ true → field_of s d f ≡ field.Cell e → e ≢ c
-          = (λ d e f l n. apart s c e dead (k.names_live d e f l n).0) in
-          record {
-            black = (λ d e f black n.
-                let other : d ≢ c = (λ same. names_nothing e f (subst (λ m. field_of s m f ≡ field.Cell e) same n)) in
-                let b = was colour.Black d other black in
-                out_of_without set c e (old.black d e f b n)
-                (named_apart d e f (subst (λ z. is_live z (unswept s.control s.collector.sweep d) ≡ true) (sym b) refl) n));
-            scanned = (λ x e f scan below n. out_of_without set c e (old.scanned x e f scan below n)
-                (named_apart x.cell e f (subst (λ z. is_live z (unswept s.control s.collector.sweep x.cell) ≡ true) (sym (k.scans x scan).gray) refl) n));
-            held = own_each (λ j o. (presence_in s.presences j).status ≡ status.Async → All (λ p. set p.cell ≡ false) o.held)
-                s.owns i (with_claim (own_of s i) c)
-                (λ async. All-push (λ p. set p.cell ≡ false) (held_of s i) (found_at c) (held_still set old i async)
-                (elim (set c) as (λ b. set c ≡ b → set c ≡ false) [
-                  | true ↦ λ in_set. absurd (fits.traced now async (sym here ∙ cut.white c in_set))
-                  | false ↦ λ h. h
-                ] refl))
-                (λ j async. held_still set old j async);
-          });
-      clean_pass = (λ now clean d gray.
-          let r = k.clean_pass now clean d (was colour.Gray d (λ same. fits.not_gray (sym here ∙ subst (λ m. colour_of t m ≡ colour.Gray) same gray)) gray) in
-          (r.0, r.1, is colour.Gray (λ g. cc) r.0 r.2));
-      pass_waits = k.pass_waits;
-      scans = (λ x e. let r = k.scans x e in record {
-        traces = r.traces;
-        answers = r.answers;
-        gray = is colour.Gray (λ g. cc) x.cell r.gray;
-        unclean = r.unclean;
-      });
-      unswept = (λ d ahead. colour_each (λ e z. unswept s.control s.collector.sweep e ≡ true → z ≢ colour.Gray) s.colours c y
-          (λ _. fits.not_gray) k.unswept d ahead);
-      wipes = (λ n e. let r = k.wipes n e in record {
-        white = is colour.White (λ g. cc) s.control.position r.white;
-        null = r.null;
-      });
-      found_black = (λ e. is colour.Black (λ g. cc) s.control.position (k.found_black e));
+      mutators = record {
+        statuses = k.mutators.statuses;
+        answered = k.mutators.answered;
+        modes = own_each (λ j o. IsStaleMode (presence_in s.presences j).status o.mode s.control) s.owns i (with_claim (own_of s i) c) tt k.mutators.modes;
+        out = own_each (λ j o. (presence_in s.presences j).inside ≡ false → (o.held ≡ []) × (o.mode ≡ None)) s.owns i (with_claim (own_of s i) c)
+            (λ o. absurd cc) k.mutators.out;
+        marks = own_each (λ j o. marks_count s.control.stage (presence_in s.presences j).status ≡ true → All (MarkStands t.colours) o.held)
+            s.owns i (with_claim (own_of s i) c)
+            (λ m. All-push (MarkStands t.colours) (held_of s i) (found_at c) (marks_still i m) (λ h. absurd cc))
+            (λ j m. marks_still j m);
+      };
+      cells = record {
+        anchor_box = k.cells.anchor_box;
+        kinds = k.cells.kinds;
+        blue_null = (λ d f b. colour_each (λ e z. z ≡ colour.Blue → field_of s e f ≡ field.Null) s.colours c y
+            (λ e. absurd (fits.not_blue e)) (λ e h. k.cells.blue_null e f h) d b);
+        anchor_live = live_is 0 k.cells.anchor_live;
+        held_live = all_new (λ d. live t.colours s.control s.collector.sweep d ≡ true)
+            (subst (λ z. is_live z (unswept s.control s.collector.sweep c) ≡ true) (sym here) fits.alive)
+            (λ j d h. live_is d (all_held (λ e. live s.colours s.control s.collector.sweep e ≡ true) (own_in s.owns j).held d (k.cells.held_live j) h));
+        child_live = (λ d e. live_is d (k.cells.child_live d e));
+        names_live = (λ d e f l n.
+            let other : d ≢ c = (λ same. names_nothing e f (subst (λ m. field_of s m f ≡ field.Cell e) same n)) in
+            let r = k.cells.names_live d e f (live_was d other l) n in (live_is e r.0, r.1));
+        raw_once = (λ a b d raw ha hb. elim (held_was a d ha) [
+          | inl olda ↦ elim (held_was b d hb) [
+            | inl oldb ↦ k.cells.raw_once a b d raw olda oldb
+            | inr newb ↦ absurd (held_apart a d olda newb.1)
+          ]
+          | inr newa ↦ elim (held_was b d hb) [
+            | inl oldb ↦ absurd (held_apart b d oldb newa.1)
+            | inr newb ↦ newa.0 ∙ sym newb.0
+          ]
+        ]);
+        raw_not_black = own_each (λ j o. (presence_in s.presences j).status ≡ status.Sync2 → All (NoRawBlack t.colours s.rows) o.held)
+            s.owns i (with_claim (own_of s i) c)
+            (λ sync2. All-push (NoRawBlack t.colours s.rows) (held_of s i) (found_at c) (raw_still i sync2)
+            (λ raw black. fits.sync2 sync2 (sym here ∙ black)))
+            (λ j sync2. raw_still j sync2);
+      };
+      tracing = record {
+        cleared = (λ d h. colour_each (λ e z. is_cleared s.control.stage s.collector.cursor e ≡ true → z ≢ colour.Black) s.colours c y
+            fits.cleared k.tracing.cleared d h);
+        anchor_marked = (λ h white. k.tracing.anchor_marked h (was colour.White 0 (apart s c 0 dead k.cells.anchor_live) white));
+        traced = (λ now set cut.
+            let before : IsCutOff s.colours s.rows s.collector.scan (without set c) = record {
+              white = (λ d h. let r = in_without set c d h in was colour.White d r.1 (cut.white d r.0));
+              child = (λ d h. out_before set c d (cut.child d h));
+              gray = (λ d e f gray unread n. out_before set c e (cut.gray d e f (is colour.Gray (λ g. cc) d gray) unread n));
+              outside = (λ d e f white out n. out_before set c e (cut.outside d e f (is colour.White (λ g. cc) d white)
+                  (out_of_without set c d out (λ same. absurd (let b : colour_of s d ≡ colour.Blue = subst (λ m. colour_of s m ≡ colour.Blue) (sym same) blue in cc))) n));
+            } in
+            let old = k.tracing.traced now (without set c) before in
+            let named_apart : (d e f : ℕ) → live s.colours s.control s.collector.sweep d ≡ true → field_of s d f ≡ field.Cell e → e ≢ c
+            = (λ d e f l n. apart s c e dead (k.cells.names_live d e f l n).0) in
+            record {
+              black = (λ d e f black n.
+                  let other : d ≢ c = (λ same. names_nothing e f (subst (λ m. field_of s m f ≡ field.Cell e) same n)) in
+                  let b = was colour.Black d other black in
+                  out_of_without set c e (old.black d e f b n)
+                  (named_apart d e f (subst (λ z. is_live z (unswept s.control s.collector.sweep d) ≡ true) (sym b) refl) n));
+              scanned = (λ x e f scan below n. out_of_without set c e (old.scanned x e f scan below n)
+                  (named_apart x.cell e f (subst (λ z. is_live z (unswept s.control s.collector.sweep x.cell) ≡ true) (sym (k.tracing.scans x scan).gray) refl) n));
+              held = own_each (λ j o. (presence_in s.presences j).status ≡ status.Async → All (λ p. set p.cell ≡ false) o.held)
+                  s.owns i (with_claim (own_of s i) c)
+                  (λ async. All-push (λ p. set p.cell ≡ false) (held_of s i) (found_at c) (held_still set old i async)
+                  (elim (set c) as (λ b. set c ≡ b → set c ≡ false) [
+                    | true ↦ λ in_set. absurd (fits.traced now async (sym here ∙ cut.white c in_set))
+                    | false ↦ λ h. h
+                  ] refl))
+                  (λ j async. held_still set old j async);
+            });
+        clean_pass = (λ now clean d gray.
+            let r = k.tracing.clean_pass now clean d (was colour.Gray d (λ same. fits.not_gray (sym here ∙ subst (λ m. colour_of t m ≡ colour.Gray) same gray)) gray) in
+            (r.0, r.1, is colour.Gray (λ g. cc) r.0 r.2));
+        pass_waits = k.tracing.pass_waits;
+        scans = (λ x e. let r = k.tracing.scans x e in record {
+          traces = r.traces;
+          answers = r.answers;
+          gray = is colour.Gray (λ g. cc) x.cell r.gray;
+          unclean = r.unclean;
+        });
+      };
+      sweep = record {
+        unswept = (λ d ahead. colour_each (λ e z. unswept s.control s.collector.sweep e ≡ true → z ≢ colour.Gray) s.colours c y
+            (λ _. fits.not_gray) k.sweep.unswept d ahead);
+        wipes = (λ n e. let r = k.sweep.wipes n e in record {
+          white = is colour.White (λ g. cc) s.control.position r.white;
+          null = r.null;
+        });
+        found_black = (λ e. is colour.Black (λ g. cc) s.control.position (k.sweep.found_black e));
+      };
     }
 
 -- The colour that is born.
@@ -248,18 +257,6 @@ pub white_or_black : (own : Status) (m : Control) (c : ℕ)
 white_or_black status.Async m c = async_born m.stage m.position c
 white_or_black status.Sync1 m c = inl refl
 white_or_black status.Sync2 m c = inl refl
-
--- an unswept cell is at the position or ahead of it, in the sweep
-pub unswept_where : (now : Control) (sweep : Sweeping) (c : ℕ) → unswept now sweep c ≡ true
-    → (now.stage ≡ stage.Sweep) × (now.position ≤ c)
-unswept_where now sweep c h =
-    let r = and_parts _ _ h in (
-      same_stage_is now.stage stage.Sweep r.0,
-      elim (or_cases (nat_lt now.position c) ((c == now.position) && not (is_done sweep)) r.1) [
-        | inl lt ↦ let below = ltb-true now.position c lt in omega arith
-        | inr here ↦ let same = eqb-true c now.position (and_parts _ _ here).0 in omega arith
-      ],
-    )
 
 -- to an async mutator an unswept cell is born black
 pub unswept_born : (looked : Stage) (position here c : ℕ) → async_fits looked stage.Sweep ≡ true
@@ -320,8 +317,8 @@ pub born_fits : (s : State) (i c : ℕ) (m : Control) → IsShaped s → IsConsi
     → (own_of s i).mode ≡ Some m → BornFits s i c (claim_colour_of (presence_of s i).status m c)
 born_fits s i c m range k inside has =
     let own = (presence_of s i).status in
-    let stale : IsStale own m s.control = subst (λ x. IsStaleMode own x s.control) has (k.modes i) in
-    let fits = k.statuses i (inside_below s i range inside) in
+    let stale : IsStale own m s.control = subst (λ x. IsStaleMode own x s.control) has (k.mutators.modes i) in
+    let fits = k.mutators.statuses i (inside_there s range i inside) in
     let cases = white_or_black own m c in
     record {
       not_blue = (λ e. elim cases [ inl white ↦ absurd cc | inr black ↦ absurd cc ]);
@@ -358,15 +355,12 @@ claim_at s i c m colour.Black range k inside lt has e = claimed_same s i c colou
 pub claim_keeps : (s : State) (i c : ℕ) → IsShaped s → IsConsistent s → can s (event.Claim i c) ≡ true
     → IsConsistent (after s (event.Claim i c))
 claim_keeps s i c range k h =
-    let a = and_parts _ _ h in
-    let b = and_parts _ _ a.0 in
-    let d = and_parts _ _ b.0 in
-    let below = ltb-true c s.cells b.1 in
-    let lt : c < length s.colours = subst (λ n. c < n) (sym range.cells_fit.colours_fit) below in
+    let needs = claim_needs s i c h in
+    let lt : c < length s.colours = subst (λ n. c < n) (sym range.cells_fit.colours_fit) needs.cell in
     elim (own_of s i).mode as (λ o. (own_of s i).mode ≡ o → is_some o ≡ true → IsConsistent (record s {
       colours = slice_set s.colours c (claimed (colour_of s c) (born_colour (presence_of s i).status o c));
       owns = slice_set s.owns i (having_claimed (own_of s i) c (colour_of s c));
     })) [
       | None ↦ λ e none. absurd cc
-      | Some m ↦ λ e some. claim_at s i c m (colour_of s c) range k d.0 lt e refl
-    ] refl d.1
+      | Some m ↦ λ e some. claim_at s i c m (colour_of s c) range k needs.inside lt e refl
+    ] refl needs.mode

@@ -4,7 +4,7 @@
 --            sweep white cells are as live as black ones.
 -- Anchor     the anchor is shaded, and is not white from now on.
 use Rattle.std.proofs.Common.{◌≡◌, ◌≢◌, ◌⊎◌, inl, inr, ℕ, true, false, ◌+◌, ◌<◌, arith, refl, sym, subst, ◌∙◌}
-use Rattle.std.proofs.lemmas.Bool.{and_parts, ltb-true, lt-ltb, cases_lt}
+use Rattle.std.proofs.lemmas.Bool.{ltb-true, lt-ltb, cases_lt}
 use Rattle.std.proofs.lemmas.List.Elements.{All-weaker}
 use Rattle.cell_words.specs.declared.colours.Colour.{Colour}
 use Rattle.cell_words.specs.declared.colours.Colour.TheVariants as colour
@@ -18,14 +18,13 @@ use Rattle.core_machine.specs.Words.{cleared, same_stage}
 use Rattle.cell_words.specs.declared.fields.Field.TheVariants as field
 use Rattle.core_machine.specs.InRange.{IsShaped}
 use Rattle.core_machine.specs.Next.{can, after}
+use Rattle.core_machine.proofs.Conditions.{clear_needs, anchor_needs}
 use Rattle.dlg_core.specs.Consistent.{IsConsistent, NoRawBlack}
 use Rattle.dlg_core.specs.Facts.{is_live, live, status_fits, marks_count, is_cleared, anchor_counts}
 use Rattle.dlg_core.proofs.Changes.Live.{live_facts, live_moves, not_sweeping, live_outside, other_stage, status_known}
 use Rattle.dlg_core.proofs.Changes.Pass.{pass_kept}
-use Rattle.dlg_core.proofs.Changes.Shade.{with_shade, shade_kept, sweeps}
+use Rattle.dlg_core.proofs.Changes.Shade.{with_shade, shade_kept, sweeps, shaded_there, cleared_blue}
 use Rattle.dlg_core.proofs.Each.{colour_each, colour_else}
-use Rattle.dlg_core.proofs.Keeps.Mark.{shaded_there}
-use Rattle.dlg_core.proofs.Truths.{same_stage_is}
 
 -- What clearing leaves of a colour.
 
@@ -34,10 +33,6 @@ cleared_not_black colour.Blue e = absurd cc
 cleared_not_black colour.White e = absurd cc
 cleared_not_black colour.Gray e = absurd cc
 cleared_not_black colour.Black e = absurd cc
-
-pub cleared_blue : (x : Colour) → cleared x ≡ colour.Blue → x ≡ colour.Blue
-cleared_blue colour.Blue e = refl
-cleared_blue _ e = absurd cc
 
 pub cleared_live : (x : Colour) → is_live (cleared x) false ≡ is_live x false
 cleared_live colour.Blue = refl
@@ -61,8 +56,8 @@ below_or_here c n lt = elim (cases_lt c n) [
 pub clear_keeps : (s : State) → IsShaped s → IsConsistent s → can s event.ClearCell ≡ true
     → IsConsistent (after s event.ClearCell)
 clear_keeps s range k h =
-    let now : s.control.stage ≡ stage.Clear
-    = same_stage_is s.control.stage stage.Clear (and_parts _ _ h).0 in
+    let needs = clear_needs s h in
+    let now = needs.now in
     let t = after s event.ClearCell in
     let c = s.collector.cursor in
     let x = colour_of s c in
@@ -80,57 +75,66 @@ clear_keeps s range k h =
     let not_swept : s.collector.sweep ≢ sweeping.Fresh → ⊥ = (λ busy.
     absurd (let e = sweeps s.cells s.control.position s.collector.sweep s.control.stage range.control_fits.stage_fits busy in cc)) in
     record {
-      statuses = k.statuses;
-      answered = k.answered;
-      modes = k.modes;
-      out = k.out;
-      marks = (λ i m. absurd (
-          let never : marks_count s.control.stage (presence_of s i).status ≡ false
-          = subst (λ y. marks_count y (presence_of s i).status ≡ false) (sym now)
-          (no_mark_in_clear (presence_of s i).status (subst (λ y. (status_fits y (presence_of s i).status ≡ true) ⊎ ((presence_of s i).status ≡ status.Async))
-          now (status_known s i range k))) in cc));
-      anchor_box = k.anchor_box;
-      kinds = k.kinds;
-      blue_null = (λ d f b. colour_each (λ e y. y ≡ colour.Blue → field_of s e f ≡ field.Null) s.colours c (cleared x)
-          (λ e. k.blue_null c f (cleared_blue x e)) (λ e b2. k.blue_null e f b2) d b);
-      anchor_live = lives.anchor;
-      held_live = lives.held;
-      child_live = lives.child;
-      names_live = lives.names;
-      raw_once = k.raw_once;
-      raw_not_black = (λ i sync2. All-weaker (NoRawBlack s.colours s.rows) (NoRawBlack t.colours s.rows)
-          (λ p g raw black. g raw (black_was p.cell black)) (own_in s.owns i).held (k.raw_not_black i sync2));
-      cleared = (λ d g. colour_else (λ e y. is_cleared s.control.stage (c + 1) e ≡ true → y ≢ colour.Black) s.colours c (cleared x)
-          (subst (λ n. c < n) (sym range.cells_fit.colours_fit) (ltb-true c s.cells (and_parts _ _ h).1))
-          (λ _. cleared_not_black x)
-          (λ e other below black. elim (below_or_here e c (ltb-true e (c + 1) (subst (λ y. is_cleared y (c + 1) e ≡ true) now below))) [
-            | inl lt ↦ k.cleared e (subst (λ y. is_cleared y c e ≡ true) (sym now) (lt-ltb e c lt)) black
-            | inr here ↦ other here
-          ]) d g);
-      anchor_marked = (λ g. absurd (let never : anchor_counts stage.Clear s.collector.anchor_marked ≡ true
-          = subst (λ y. anchor_counts y s.collector.anchor_marked ≡ true) now g in cc));
-      traced = (λ e. absurd (not_trace e));
-      clean_pass = (λ e. absurd (not_trace e));
-      pass_waits = (λ e. absurd (not_trace e));
-      scans = (λ y e. absurd (not_trace (k.scans y e).traces));
-      unswept = (λ d ahead. absurd (let never = not_sweeping s.control s.collector.sweep d no_sweep in cc));
-      wipes = (λ n e. absurd (not_swept (λ f. cc)));
-      found_black = (λ e. absurd (not_swept (λ f. cc)));
+      mutators = record {
+        statuses = k.mutators.statuses;
+        answered = k.mutators.answered;
+        modes = k.mutators.modes;
+        out = k.mutators.out;
+        marks = (λ i m. absurd (
+            let never : marks_count s.control.stage (presence_of s i).status ≡ false
+            = subst (λ y. marks_count y (presence_of s i).status ≡ false) (sym now)
+            (no_mark_in_clear (presence_of s i).status (subst (λ y. (status_fits y (presence_of s i).status ≡ true) ⊎ ((presence_of s i).status ≡ status.Async))
+            now (status_known s i range k))) in cc));
+      };
+      cells = record {
+        anchor_box = k.cells.anchor_box;
+        kinds = k.cells.kinds;
+        blue_null = (λ d f b. colour_each (λ e y. y ≡ colour.Blue → field_of s e f ≡ field.Null) s.colours c (cleared x)
+            (λ e. k.cells.blue_null c f (cleared_blue x e)) (λ e b2. k.cells.blue_null e f b2) d b);
+        anchor_live = lives.anchor;
+        held_live = lives.held;
+        child_live = lives.child;
+        names_live = lives.names;
+        raw_once = k.cells.raw_once;
+        raw_not_black = (λ i sync2. All-weaker (NoRawBlack s.colours s.rows) (NoRawBlack t.colours s.rows)
+            (λ p g raw black. g raw (black_was p.cell black)) (own_in s.owns i).held (k.cells.raw_not_black i sync2));
+      };
+      tracing = record {
+        cleared = (λ d g. colour_else (λ e y. is_cleared s.control.stage (c + 1) e ≡ true → y ≢ colour.Black) s.colours c (cleared x)
+            (subst (λ n. c < n) (sym range.cells_fit.colours_fit) needs.cell)
+            (λ _. cleared_not_black x)
+            (λ e other below black. elim (below_or_here e c (ltb-true e (c + 1) (subst (λ y. is_cleared y (c + 1) e ≡ true) now below))) [
+              | inl lt ↦ k.tracing.cleared e (subst (λ y. is_cleared y c e ≡ true) (sym now) (lt-ltb e c lt)) black
+              | inr here ↦ other here
+            ]) d g);
+        anchor_marked = (λ g. absurd (let never : anchor_counts stage.Clear s.collector.anchor_marked ≡ true
+            = subst (λ y. anchor_counts y s.collector.anchor_marked ≡ true) now g in cc));
+        traced = (λ e. absurd (not_trace e));
+        clean_pass = (λ e. absurd (not_trace e));
+        pass_waits = (λ e. absurd (not_trace e));
+        scans = (λ y e. absurd (not_trace (k.tracing.scans y e).traces));
+      };
+      sweep = record {
+        unswept = (λ d ahead. absurd (let never = not_sweeping s.control s.collector.sweep d no_sweep in cc));
+        wipes = (λ n e. absurd (not_swept (λ f. cc)));
+        found_black = (λ e. absurd (not_swept (λ f. cc)));
+      };
     }
 
 pub anchor_keeps : (s : State) → IsShaped s → IsConsistent s → can s event.Anchor ≡ true → IsConsistent (after s event.Anchor)
 anchor_keeps s range k h =
-    let now : s.control.stage ≡ stage.Sync2
-    = same_stage_is s.control.stage stage.Sync2 (and_parts _ _ h).0 in
+    let now = (anchor_needs s h).now in
     let t = with_shade s 0 in
-    let shady = shade_kept s 0 range k k.anchor_live (λ e. absurd cc) in
+    let shady = shade_kept s 0 range k k.cells.anchor_live (λ e. absurd cc) in
     pass_kept t t.collector.answered true t.collector.cursor t.collector.clean t.collector.scan shady record {
-      answers = shady.answered;
-      child_live = shady.child_live;
-      cleared = shady.cleared;
-      anchor_marked = (λ g. shaded_there s 0);
-      traced = shady.traced;
-      clean_pass = shady.clean_pass;
-      pass_waits = shady.pass_waits;
-      scans = shady.scans;
+      answers = shady.mutators.answered;
+      child_live = shady.cells.child_live;
+      tracing = record {
+        cleared = shady.tracing.cleared;
+        anchor_marked = (λ g. shaded_there s 0);
+        traced = shady.tracing.traced;
+        clean_pass = shady.tracing.clean_pass;
+        pass_waits = shady.tracing.pass_waits;
+        scans = shady.tracing.scans;
+      };
     }

@@ -5,54 +5,32 @@
 --        no news to a tracing collector: by the colour of the cell that was read a black cell names
 --        it, or a scanned field does, or it is a white cell that is due itself.
 -- Keep   places are copied with their marks, and none is new.
-use Rattle.std.proofs.Common.{◌≡◌, ℕ, Bool, true, false, ◌||◌, ◌==◌, ◌<◌, ◌⊎◌, inl, inr, List, [], ◌∷◌, ◌++◌, map, take, drop, length, Option, Some, None, eq-eqb, refl, sym, subst, ap, arith, ◌∙◌}
-use Rattle.std.specs.List.{All}
-use Rattle.std.proofs.lemmas.Bool.{and_parts, or_cases, cases_lt, ltb-true, eqb-true, not-false}
-use Rattle.std.proofs.lemmas.List.{get_or_past}
-use Rattle.std.proofs.lemmas.List.Elements.{All-nil, All-cons, All-map, All-weaker, All-push, All-take, All-drop, All-append, All-get_or}
-use Rattle.cell_words.specs.declared.colours.Colour.{Colour}
+use Rattle.std.proofs.Common.{◌≡◌, ℕ, Bool, true, false, ◌<◌, inl, inr, length, Option, Some, None, refl, sym, subst, arith, ◌∙◌}
+use Rattle.std.proofs.lemmas.Bool.{and_parts, ltb-true, eqb-true, not-false}
+use Rattle.std.proofs.lemmas.List.Elements.{All-map, All-push}
 use Rattle.cell_words.specs.declared.colours.Colour.TheVariants as colour
 use Rattle.cell_words.specs.declared.controls.Stage.{Stage}
 use Rattle.cell_words.specs.declared.controls.Stage.TheVariants as stage
 use Rattle.cell_words.specs.declared.presences.Status.{Status}
 use Rattle.cell_words.specs.declared.presences.Status.TheVariants as status
 use Rattle.core_machine.specs.declared.events.Event.TheVariants as event
-use Rattle.core_machine.specs.declared.places.Held.{Held}
 use Rattle.core_machine.specs.declared.progress.Scanning.{Scanning}
 use Rattle.core_machine.specs.Operations.{is_in}
-use Rattle.core_machine.specs.State.{State, presence_of, own_of, held_of, presence_in, no_presence, colour_of, field_of, target_of}
+use Rattle.core_machine.specs.State.{State, presence_of, own_of, held_of, colour_of, field_of, target_of}
 use Rattle.core_machine.specs.Words.{is_raw_kind}
 use Rattle.cell_words.specs.declared.fields.Field.{Field}
 use Rattle.cell_words.specs.declared.fields.Field.TheVariants as field
 use Rattle.core_machine.specs.InRange.{IsShaped}
 use Rattle.core_machine.specs.Next.{can, after}
 use Rattle.core_machine.specs.Own.{looked, holding, having_read, keeping}
-use Rattle.core_machine.specs.Places.{holds, unmark, found_at, kept, cell_at, no_place}
+use Rattle.core_machine.specs.Places.{unmark, found_at}
+use Rattle.core_machine.proofs.Conditions.{read_needs, keep_needs}
 use Rattle.dlg_core.specs.Consistent.{IsConsistent, MarkStands, NoRawBlack, IsCutOff, IsNotDue}
 use Rattle.dlg_core.specs.Facts.{status_fits, mode_fits, live, is_open, scanned_count}
 use Rattle.dlg_core.proofs.Changes.Own.{own_kept, OwnFits}
-use Rattle.dlg_core.proofs.Each.{all_held}
 use Rattle.dlg_core.proofs.Safety.{live_not_blue}
-use Rattle.dlg_core.proofs.Truths.{or_here, or_later}
-
--- a mutator that is in is one that there is
-pub inside_below : (s : State) (i : ℕ) → IsShaped s → is_in s i ≡ true → i < s.mutators
-inside_below s i range inside = elim (cases_lt i (length s.presences)) [
-  | inl lt ↦ subst (λ n. i < n) range.mutators_fit.presences_fit lt
-  | inr past ↦
-      let gone : presence_in s.presences i ≡ no_presence = get_or_past s.presences i no_presence past in
-      absurd (let out : is_in s i ≡ false = ap (λ p. p.inside) gone in cc)
-]
-
--- unmarking changes no cell
-pub holds_unmark : (held : List Held) (c : ℕ) → holds (map unmark held) c ≡ holds held c
-holds_unmark [] c = refl
-holds_unmark (p ∷ ps) c = ap (λ b. (p.cell == c) || b) (holds_unmark ps c)
-
--- .. and no place is marked then
-pub none_marked : (colours : List Colour) (held : List Held) → All (MarkStands colours) (map unmark held)
-none_marked colours [] = All-nil (MarkStands colours)
-none_marked colours (p ∷ ps) = All-cons (MarkStands colours) (unmark p) (map unmark ps) (λ h. absurd cc) (none_marked colours ps)
+use Rattle.core_machine.proofs.OneOperation.{inside_there}
+use Rattle.dlg_core.proofs.HeldLists.{holds_unmark, none_marked, holds_more, at_place, all_kept, holds_kept}
 
 -- a status that fits a stage fits a look at it
 pub look_fits : (now : Stage) (own : Status) → status_fits now own ≡ true → mode_fits own now now ≡ true
@@ -71,14 +49,14 @@ pub look_keeps : (s : State) (i : ℕ) → IsShaped s → IsConsistent s → can
 look_keeps s i range k inside =
     own_kept s i (looked (own_of s i) s.control) k record {
       mode = record {
-        fits = look_fits s.control.stage (presence_of s i).status (k.statuses i (inside_below s i range inside));
+        fits = look_fits s.control.stage (presence_of s i).status (k.mutators.statuses i (inside_there s range i inside));
         position = (λ _ _. omega arith);
       };
       out = (λ o. absurd cc);
       marks = (λ m. none_marked s.colours (held_of s i));
-      held_live = All-map (λ place. live s.colours s.control s.collector.sweep place.cell ≡ true) unmark (held_of s i) (k.held_live i);
+      held_live = All-map (λ place. live s.colours s.control s.collector.sweep place.cell ≡ true) unmark (held_of s i) (k.cells.held_live i);
       raw = (λ c raw h. sym (holds_unmark (held_of s i) c) ∙ h);
-      raw_not_black = (λ sync2. All-map (NoRawBlack s.colours s.rows) unmark (held_of s i) (k.raw_not_black i sync2));
+      raw_not_black = (λ sync2. All-map (NoRawBlack s.colours s.rows) unmark (held_of s i) (k.cells.raw_not_black i sync2));
       due = (λ now async set cut old. All-map (λ place. set place.cell ≡ false) unmark (held_of s i) (old.held i async));
     }
 
@@ -87,29 +65,14 @@ look_keeps s i range k inside =
 -- the part as it is
 pub same_fits : (s : State) (i : ℕ) → IsConsistent s → OwnFits s i (own_of s i)
 same_fits s i k = record {
-  mode = k.modes i;
-  out = k.out i;
-  marks = k.marks i;
-  held_live = k.held_live i;
+  mode = k.mutators.modes i;
+  out = k.mutators.out i;
+  marks = k.mutators.marks i;
+  held_live = k.cells.held_live i;
   raw = (λ c raw h. h);
-  raw_not_black = k.raw_not_black i;
+  raw_not_black = k.cells.raw_not_black i;
   due = (λ now async set cut old. old.held i async);
 }
-
--- who holds one cell more holds that one or held the other before
-pub holds_more : (held : List Held) (w c : ℕ) → holds (held ++ found_at w ∷ []) c ≡ true
-    → (holds held c ≡ true) ⊎ (w ≡ c)
-holds_more [] w c h = elim (or_cases (w == c) false h) [
-  | inl here ↦ inr (eqb-true w c here)
-  | inr there ↦ absurd cc
-]
-holds_more (p ∷ ps) w c h = elim (or_cases (p.cell == c) _ h) [
-  | inl here ↦ inl (or_here (p.cell == c) _ here)
-  | inr there ↦ elim (holds_more ps w c there) [
-    | inl held ↦ inl (or_later (p.cell == c) _ held)
-    | inr new ↦ inr new
-  ]
-]
 
 -- a field that is not open is a scanned field of the cell under scan
 pub shut_is_scanned : (scan : Option Scanning) (c f : ℕ) → is_open scan c f ≡ false
@@ -145,24 +108,19 @@ pub holding_fits : (s : State) (i w : ℕ) → IsConsistent s → is_in s i ≡ 
     → IsNotDue s.presences s.owns s.colours s.rows s.collector.scan set → set w ≡ false)
     → OwnFits s i (holding (own_of s i) w)
 holding_fits s i w k inside alive whole due = record {
-  mode = k.modes i;
+  mode = k.mutators.modes i;
   out = (λ o. absurd cc);
-  marks = (λ m. All-push (MarkStands s.colours) (held_of s i) (found_at w) (k.marks i m) (λ h. absurd cc));
-  held_live = All-push (λ place. live s.colours s.control s.collector.sweep place.cell ≡ true) (held_of s i) (found_at w) (k.held_live i) alive;
+  marks = (λ m. All-push (MarkStands s.colours) (held_of s i) (found_at w) (k.mutators.marks i m) (λ h. absurd cc));
+  held_live = All-push (λ place. live s.colours s.control s.collector.sweep place.cell ≡ true) (held_of s i) (found_at w) (k.cells.held_live i) alive;
   raw = (λ c raw h. elim (holds_more (held_of s i) w c h) [
     | inl held ↦ held
     | inr same ↦ let sealed : is_raw_kind (field_of s c 5) ≡ false
         = subst (λ n. is_raw_kind (field_of s n 5) ≡ false) same whole in absurd cc
   ]);
-  raw_not_black = (λ sync2. All-push (NoRawBlack s.colours s.rows) (held_of s i) (found_at w) (k.raw_not_black i sync2) (λ h. absurd cc));
+  raw_not_black = (λ sync2. All-push (NoRawBlack s.colours s.rows) (held_of s i) (found_at w) (k.cells.raw_not_black i sync2) (λ h. absurd cc));
   due = (λ now async set cut old. All-push (λ place. set place.cell ≡ false) (held_of s i) (found_at w) (old.held i async)
       (due now async set cut old));
 }
-
--- a place of a held list has a cell for which holds what holds of all
-pub at_place : (P : ℕ → Type 0) (held : List Held) (place : ℕ) → place < length held
-    → All (λ p. P p.cell) held → P (cell_at held place)
-at_place P held place lt all = All-get_or (λ p. P p.cell) held place no_place lt all
 
 -- the part after a read, by the field that was found
 pub read_fits : (s : State) (i place f : ℕ) (found : Field) → IsConsistent s → is_in s i ≡ true
@@ -173,8 +131,8 @@ read_fits s i place f (field.Num n) k inside lt e = same_fits s i k
 read_fits s i place f (field.Cell w) k inside lt e =
     let b = target_of s i place in
     let alive : live s.colours s.control s.collector.sweep b ≡ true
-    = at_place (λ c. live s.colours s.control s.collector.sweep c ≡ true) (held_of s i) place lt (k.held_live i) in
-    let named = k.names_live b w f alive e in
+    = at_place (λ c. live s.colours s.control s.collector.sweep c ≡ true) (held_of s i) place lt (k.cells.held_live i) in
+    let named = k.cells.names_live b w f alive e in
     holding_fits s i w k inside named.0 named.1 (λ now async set cut old.
     named_not_cut s set b w f cut old alive
     (at_place (λ c. set c ≡ false) (held_of s i) place lt (old.held i async)) e)
@@ -182,49 +140,21 @@ read_fits s i place f (field.Cell w) k inside lt e =
 pub read_keeps : (s : State) (i place f : ℕ) → IsConsistent s
     → can s (event.Read i place f) ≡ true → IsConsistent (after s (event.Read i place f))
 read_keeps s i place f k h =
-    let room = and_parts _ _ h in
-    let four = and_parts _ _ room.0 in
-    let parts = and_parts _ _ four.0 in
-    let lt = ltb-true place (length (held_of s i)) parts.1 in
+    let needs = read_needs s i place f h in
     own_kept s i (having_read (own_of s i) (field_of s (target_of s i place) f)) k
-    (read_fits s i place f (field_of s (target_of s i place) f) k parts.0 lt refl)
+    (read_fits s i place f (field_of s (target_of s i place) f) k needs.inside needs.there refl)
 
 -- Keep.
-
--- what holds of each place holds of each that is kept
-pub all_kept : (P : Held → Type 0) (held : List Held) (count from copies : ℕ) → All P held → All P (kept held count from copies)
-all_kept P held count from copies all =
-    All-append P (take count held) (take copies (drop from held)) (All-take P count held all)
-    (All-take P copies (drop from held) (All-drop P from held all))
-
--- each held cell is held
-pub all_itself : (held : List Held) → All (λ p. holds held p.cell ≡ true) held
-all_itself [] = All-nil (λ p. holds [] p.cell ≡ true)
-all_itself (p ∷ ps) = All-cons (λ q. holds (p ∷ ps) q.cell ≡ true) p ps (or_here (p.cell == p.cell) _ (eq-eqb p.cell p.cell refl))
-    (All-weaker (λ q. holds ps q.cell ≡ true) (λ q. holds (p ∷ ps) q.cell ≡ true) (λ q h. or_later (p.cell == q.cell) _ h) ps (all_itself ps))
-
--- what is held after it was held before
-pub holds_kept : (held : List Held) (count from copies c : ℕ) → holds (kept held count from copies) c ≡ true → holds held c ≡ true
-holds_kept held count from copies c h =
-    all_held (λ d. holds held d ≡ true) (kept held count from copies) c
-    (all_kept (λ p. holds held p.cell ≡ true) held count from copies (all_itself held)) h
-
-pub keep_inside : (s : State) (i count from copies : ℕ) → can s (event.Keep i count from copies) ≡ true → is_in s i ≡ true
-keep_inside s i count from copies h =
-    let a = and_parts _ _ h in
-    let b = and_parts _ _ a.0 in
-    let c = and_parts _ _ b.0 in
-    (and_parts _ _ c.0).0
 
 pub keep_keeps : (s : State) (i count from copies : ℕ) → IsConsistent s
     → can s (event.Keep i count from copies) ≡ true → IsConsistent (after s (event.Keep i count from copies))
 keep_keeps s i count from copies k h =
     own_kept s i (keeping (own_of s i) count from copies) k record {
-      mode = k.modes i;
-      out = (λ o. absurd (let inside = keep_inside s i count from copies h in cc));
-      marks = (λ m. all_kept (MarkStands s.colours) (held_of s i) count from copies (k.marks i m));
-      held_live = all_kept (λ place. live s.colours s.control s.collector.sweep place.cell ≡ true) (held_of s i) count from copies (k.held_live i);
+      mode = k.mutators.modes i;
+      out = (λ o. absurd (let inside = (keep_needs s i count from copies h).inside in cc));
+      marks = (λ m. all_kept (MarkStands s.colours) (held_of s i) count from copies (k.mutators.marks i m));
+      held_live = all_kept (λ place. live s.colours s.control s.collector.sweep place.cell ≡ true) (held_of s i) count from copies (k.cells.held_live i);
       raw = (λ c raw held. holds_kept (held_of s i) count from copies c held);
-      raw_not_black = (λ sync2. all_kept (NoRawBlack s.colours s.rows) (held_of s i) count from copies (k.raw_not_black i sync2));
+      raw_not_black = (λ sync2. all_kept (NoRawBlack s.colours s.rows) (held_of s i) count from copies (k.cells.raw_not_black i sync2));
       due = (λ now async set cut old. all_kept (λ place. set place.cell ≡ false) (held_of s i) count from copies (old.held i async));
     }

@@ -10,7 +10,7 @@
 -- Idle          the sweep has come to the end, so no cell is unswept.
 use Rattle.std.proofs.Common.{◌≡◌, ◌≢◌, ◌==◌, ◌&&◌, ◌||◌, inl, inr, ℕ, zero, suc, Bool, true, false, nat_lt, List, [], ◌∷◌, Option, Some, None, length, get_or, ◌+◌, ◌<◌, ◌≤◌, arith, refl, sym, subst, ◌∙◌, ap, eq-eqb}
 use Rattle.std.specs.List.{All}
-use Rattle.std.proofs.lemmas.Bool.{and_parts, and_from, ltb-true, lt-ltb, eqb-true, cases_lt}
+use Rattle.std.proofs.lemmas.Bool.{and_from, ltb-true, lt-ltb, cases_lt}
 use Rattle.std.proofs.lemmas.List.{get_or_past}
 use Rattle.std.proofs.lemmas.List.Elements.{All-nil}
 use Rattle.cell_words.specs.declared.colours.Colour.{Colour}
@@ -25,21 +25,20 @@ use Rattle.core_machine.specs.declared.events.Event.TheVariants as event
 use Rattle.core_machine.specs.declared.progress.Scanning.{Scanning}
 use Rattle.core_machine.specs.declared.progress.Sweeping.{Sweeping}
 use Rattle.core_machine.specs.declared.progress.Sweeping.TheVariants as sweeping
-use Rattle.core_machine.specs.Collector.{Collector, nobody_answered}
+use Rattle.core_machine.specs.Collector.{Collector, nobody_answered, posted}
 use Rattle.core_machine.specs.State.{State, colour_of, presence_of, own_of, held_of}
 use Rattle.core_machine.specs.Words.{is_handshake, same_stage}
 use Rattle.core_machine.specs.InRange.{IsShaped, StageFits, SweepFits}
 use Rattle.core_machine.specs.Next.{can, after}
 use Rattle.core_machine.specs.Own.{no_own}
-use Rattle.dlg_core.specs.Consistent.{IsConsistent, Statuses, Answered, Modes, Marks, ClearedIsNotBlack, AnchorIsMarked, Traced, CleanPass, PassWaits, Scans, UnsweptIsNotGray, Wipes, FoundIsBlack, MarkStands}
+use Rattle.dlg_core.specs.Consistent.{IsConsistent, Statuses, Answered, Modes, Marks, MarkStands, TracingConsistent, SweepConsistent}
 use Rattle.dlg_core.specs.Facts.{status_fits, mode_fits, async_fits, sync1_fits, sync2_fits, IsStale, IsStaleMode, marks_count, is_live, live, unswept, is_cleared, anchor_counts, all_in, child_in}
-use Rattle.dlg_core.proofs.Changes.Live.{LiveFacts, live_facts, live_moves, live_outside, not_sweeping, other_stage}
-use Rattle.dlg_core.proofs.Keeps.Mark.{one_of_all, is_white, white_is_white, white_cut_off}
-use Rattle.dlg_core.proofs.Keeps.Trace.{no_scan_is}
-use Rattle.dlg_core.proofs.Truths.{same_stage_is, or_here, or_later}
+use Rattle.dlg_core.proofs.Changes.Live.{LiveFacts, live_facts, live_moves, live_outside, not_sweeping, other_stage, unswept_where}
+use Rattle.dlg_core.proofs.Truths.{or_here, or_later, one_of_all, no_scan_is}
 use Rattle.dlg_core.proofs.Each.{all_held, all_from_held}
-use Rattle.dlg_core.proofs.Keeps.Claim.{unswept_where}
 use Rattle.core_machine.specs.Places.{holds}
+use Rattle.core_machine.proofs.Conditions.{post_idle_needs, post_sync1_needs, post_clear_needs, post_sync2_needs, post_trace_needs, post_sweep_needs}
+use Rattle.dlg_core.proofs.CutOff.{is_white, white_is_white, white_cut_off}
 
 -- Modes that fit one stage fit the next.
 
@@ -78,7 +77,7 @@ IsSettled s = (i : ℕ) → i < s.mutators → (presence_of s i).status ≡ requ
 
 -- .. since all have answered
 pub settled_by_answers : (s : State) → IsConsistent s → is_handshake s.control.stage ≡ true → all_in s.collector.answered ≡ true → IsSettled s
-settled_by_answers s k now all i lt = k.answered i lt now (one_of_all s.collector.answered i all)
+settled_by_answers s k now all i lt = k.mutators.answered i lt now (one_of_all s.collector.answered i all)
 
 -- .. since there is nothing to answer
 pub settled_at : (now : Stage) (own : Status) → is_handshake now ≡ false → status_fits now own ≡ true → own ≡ requested_of now
@@ -88,7 +87,7 @@ settled_at stage.Sweep status.Async h fits = refl
 settled_at _ _ h fits = absurd cc
 
 pub settled_quiet : (s : State) → IsConsistent s → is_handshake s.control.stage ≡ false → IsSettled s
-settled_quiet s k h i lt = settled_at s.control.stage (presence_of s i).status h (k.statuses i lt)
+settled_quiet s k h i lt = settled_at s.control.stage (presence_of s i).status h (k.mutators.statuses i lt)
 
 -- a mutator that there is not has the opening part
 pub nobody : (s : State) (i : ℕ) → IsShaped s → s.mutators ≤ i → own_of s i ≡ no_own
@@ -102,42 +101,32 @@ pub record PostFits (s : State) (control : Control) (collector : Collector) : Ty
   pub modes : Modes control s.presences s.owns
   pub marks : Marks control.stage s.presences s.owns s.colours
   pub lives : LiveFacts (live s.colours control collector.sweep) s.rows s.owns collector.scan
-  pub cleared : ClearedIsNotBlack control.stage collector.cursor s.colours
-  pub anchor_marked : AnchorIsMarked control.stage collector.anchor_marked s.colours
-  pub traced : Traced control.stage s.presences s.owns s.colours s.rows collector.scan
-  pub clean_pass : CleanPass control.stage collector.clean collector.cursor s.colours
-  pub pass_waits : PassWaits control.stage collector.answered collector.cursor
-  pub scans : Scans control.stage collector.answered collector.clean s.colours collector.scan
-  pub unswept : UnsweptIsNotGray s.colours control collector.sweep
-  pub wipes : Wipes s.colours s.rows control.position collector.sweep
-  pub found_black : FoundIsBlack s.colours control.position collector.sweep
+  pub tracing : TracingConsistent control.stage s.presences s.owns s.colours s.rows collector.answered collector.anchor_marked collector.cursor collector.clean collector.scan
+  pub sweep : SweepConsistent control s.colours s.rows collector.sweep
 
 pub post_kept : (s : State) (control : Control) (collector : Collector) → IsConsistent s → PostFits s control collector
     → IsConsistent (record s { control = control; collector = collector })
 post_kept s control collector k fits = record {
-  statuses = fits.statuses;
-  answered = fits.answered;
-  modes = fits.modes;
-  out = k.out;
-  marks = fits.marks;
-  anchor_box = k.anchor_box;
-  kinds = k.kinds;
-  blue_null = k.blue_null;
-  anchor_live = fits.lives.anchor;
-  held_live = fits.lives.held;
-  child_live = fits.lives.child;
-  names_live = fits.lives.names;
-  raw_once = k.raw_once;
-  raw_not_black = k.raw_not_black;
-  cleared = fits.cleared;
-  anchor_marked = fits.anchor_marked;
-  traced = fits.traced;
-  clean_pass = fits.clean_pass;
-  pass_waits = fits.pass_waits;
-  scans = fits.scans;
-  unswept = fits.unswept;
-  wipes = fits.wipes;
-  found_black = fits.found_black;
+  mutators = record {
+    statuses = fits.statuses;
+    answered = fits.answered;
+    modes = fits.modes;
+    out = k.mutators.out;
+    marks = fits.marks;
+  };
+  cells = record {
+    anchor_box = k.cells.anchor_box;
+    kinds = k.cells.kinds;
+    blue_null = k.cells.blue_null;
+    anchor_live = fits.lives.anchor;
+    held_live = fits.lives.held;
+    child_live = fits.lives.child;
+    names_live = fits.lives.names;
+    raw_once = k.cells.raw_once;
+    raw_not_black = k.cells.raw_not_black;
+  };
+  tracing = fits.tracing;
+  sweep = fits.sweep;
 }
 
 -- Parts that many posts owe alike.
@@ -159,7 +148,7 @@ pub modes_on : (s : State) (later : Control) → IsShaped s → IsConsistent s �
 modes_on s later range k settled on position i = elim (cases_lt i s.mutators) [
   | inl lt ↦ subst (λ own. IsStaleMode own (own_of s i).mode later) (sym (settled i lt))
       (mode_on (requested_of s.control.stage) (own_of s i).mode s.control later on position
-      (subst (λ own. IsStaleMode own (own_of s i).mode s.control) (settled i lt) (k.modes i)))
+      (subst (λ own. IsStaleMode own (own_of s i).mode s.control) (settled i lt) (k.mutators.modes i)))
   | inr past ↦ subst (λ o. IsStaleMode (presence_of s i).status o.mode later) (sym (nobody s i range past)) tt
 ]
 
@@ -206,14 +195,36 @@ statuses_on s later settled fits i lt = subst (λ own. status_fits later own ≡
 
 -- no scan goes on but while the collector traces
 pub no_scan : (s : State) → IsConsistent s → s.control.stage ≢ stage.Trace → (x : Scanning) → s.collector.scan ≢ Some x
-no_scan s k other x e = other (k.scans x e).traces
+no_scan s k other x e = other (k.tracing.scans x e).traces
+
+-- Where the stage is neither a cleared one nor Trace and nothing is scanned, tracing owes nothing.
+pub not_traced : (s : State) (now : Stage) (collector : Collector) → ((c : ℕ) → is_cleared now collector.cursor c ≡ false)
+    → anchor_counts now collector.anchor_marked ≡ false → now ≢ stage.Trace → ((x : Scanning) → collector.scan ≢ Some x)
+    → TracingConsistent now s.presences s.owns s.colours s.rows collector.answered collector.anchor_marked collector.cursor collector.clean collector.scan
+not_traced s now collector uncleared uncounted other rests = record {
+  cleared = (λ c h. absurd (let no = uncleared c in cc));
+  anchor_marked = (λ h. absurd cc);
+  traced = (λ e. absurd (other e));
+  clean_pass = (λ e. absurd (other e));
+  pass_waits = (λ e. absurd (other e));
+  scans = (λ x e. absurd (rests x e));
+}
+
+-- Outside the sweep it owes nothing either.
+pub not_swept : (s : State) (control : Control) (sweep : Sweeping) → same_stage control.stage stage.Sweep ≡ false
+    → sweep ≡ sweeping.Fresh → SweepConsistent control s.colours s.rows sweep
+not_swept s control sweep outside fresh = record {
+  unswept = (λ c far. absurd (let never = not_sweeping control sweep c outside in cc));
+  wipes = (λ n e. absurd cc);
+  found_black = (λ e. absurd cc);
+}
 
 -- Post(Sync1).
 
 pub post_sync1 : (s : State) → IsShaped s → IsConsistent s → can s (event.Post stage.Sync1) ≡ true
     → IsConsistent (after s (event.Post stage.Sync1))
 post_sync1 s range k h =
-    let now = same_stage_is s.control.stage stage.Idle (and_parts _ _ h).0 in
+    let now = (post_sync1_needs s h).now in
     let outside = other_stage s.control.stage stage.Idle now refl in
     let settled = settled_quiet s k (ap is_handshake now) in
     let asks : requested_of s.control.stage ≡ status.Async = ap requested_of now in
@@ -229,15 +240,9 @@ post_sync1 s range k h =
           (λ m stale e e2. absurd cc);
       marks = no_marks s stage.Sync1 status.Async settled asks range refl;
       lives = lives_on s later s.collector.sweep k outside refl;
-      cleared = (λ c e. absurd cc);
-      anchor_marked = (λ e. absurd cc);
-      traced = (λ e. absurd cc);
-      clean_pass = (λ e. absurd cc);
-      pass_waits = (λ e. absurd cc);
-      scans = (λ x e. absurd (no_scan s k other x e));
-      unswept = (λ c far. absurd (let never = not_sweeping later s.collector.sweep c refl in cc));
-      wipes = (λ n e. absurd cc);
-      found_black = (λ e. absurd cc);
+      tracing = not_traced s stage.Sync1 (posted s.collector stage.Sync1)
+          (λ c. refl) refl (λ e. cc) (λ x e. no_scan s k other x e);
+      sweep = not_swept s later s.collector.sweep refl fresh;
     }
 
 -- Post(Clear).
@@ -245,10 +250,10 @@ post_sync1 s range k h =
 pub post_clear : (s : State) → IsShaped s → IsConsistent s → can s (event.Post stage.Clear) ≡ true
     → IsConsistent (after s (event.Post stage.Clear))
 post_clear s range k h =
-    let g = and_parts _ _ h in
-    let now = same_stage_is s.control.stage stage.Sync1 g.0 in
+    let needs = post_clear_needs s h in
+    let now = needs.now in
     let outside = other_stage s.control.stage stage.Sync1 now refl in
-    let settled = settled_by_answers s k (ap is_handshake now) g.1 in
+    let settled = settled_by_answers s k (ap is_handshake now) needs.answered in
     let asks : requested_of s.control.stage ≡ status.Sync1 = ap requested_of now in
     let later : Control = record s.control { stage = stage.Clear } in
     let fresh = fresh_outside s.cells s.control.position s.collector.sweep s.control.stage range.control_fits.stage_fits outside in
@@ -262,15 +267,15 @@ post_clear s range k h =
           (λ m stale e e2. absurd cc);
       marks = no_marks s stage.Clear status.Sync1 settled asks range refl;
       lives = lives_on s later s.collector.sweep k outside refl;
-      cleared = (λ c e. absurd (let lt = ltb-true c 0 e in omega arith));
-      anchor_marked = (λ e. absurd cc);
-      traced = (λ e. absurd cc);
-      clean_pass = (λ e. absurd cc);
-      pass_waits = (λ e. absurd cc);
-      scans = (λ x e. absurd (no_scan s k other x e));
-      unswept = (λ c far. absurd (let never = not_sweeping later s.collector.sweep c refl in cc));
-      wipes = (λ n e. absurd cc);
-      found_black = (λ e. absurd cc);
+      tracing = record {
+        cleared = (λ c e. absurd (let lt = ltb-true c 0 e in omega arith));
+        anchor_marked = (λ e. absurd cc);
+        traced = (λ e. absurd cc);
+        clean_pass = (λ e. absurd cc);
+        pass_waits = (λ e. absurd cc);
+        scans = (λ x e. absurd (no_scan s k other x e));
+      };
+      sweep = not_swept s later s.collector.sweep refl fresh;
     }
 
 -- Post(Sync2).
@@ -278,9 +283,9 @@ post_clear s range k h =
 pub post_sync2 : (s : State) → IsShaped s → IsConsistent s → can s (event.Post stage.Sync2) ≡ true
     → IsConsistent (after s (event.Post stage.Sync2))
 post_sync2 s range k h =
-    let g = and_parts _ _ h in
-    let now = same_stage_is s.control.stage stage.Clear g.0 in
-    let ended : s.collector.cursor ≡ s.cells = eqb-true s.collector.cursor s.cells g.1 in
+    let needs = post_sync2_needs s h in
+    let now = needs.now in
+    let ended = needs.end in
     let outside = other_stage s.control.stage stage.Clear now refl in
     let settled = settled_quiet s k (ap is_handshake now) in
     let asks : requested_of s.control.stage ≡ status.Sync1 = ap requested_of now in
@@ -296,21 +301,21 @@ post_sync2 s range k h =
           (λ m stale e e2. absurd cc);
       marks = no_marks s stage.Sync2 status.Sync1 settled asks range refl;
       lives = lives_on s later s.collector.sweep k outside refl;
-      cleared = (λ c e. elim (cases_lt c s.cells) [
-        | inl lt ↦ k.cleared c (subst (λ x. is_cleared x s.collector.cursor c ≡ true) (sym now)
-            (lt-ltb c s.collector.cursor (omega arith)))
-        | inr past ↦ λ black. absurd (
-            let fit = range.cells_fit.colours_fit in
-            let blue : colour_of s c ≡ colour.Blue = get_or_past s.colours c colour.Blue (omega arith) in cc)
-      ]);
-      anchor_marked = (λ e. absurd cc);
-      traced = (λ e. absurd cc);
-      clean_pass = (λ e. absurd cc);
-      pass_waits = (λ e. absurd cc);
-      scans = (λ x e. absurd (no_scan s k other x e));
-      unswept = (λ c far. absurd (let never = not_sweeping later s.collector.sweep c refl in cc));
-      wipes = (λ n e. absurd cc);
-      found_black = (λ e. absurd cc);
+      tracing = record {
+        cleared = (λ c e. elim (cases_lt c s.cells) [
+          | inl lt ↦ k.tracing.cleared c (subst (λ x. is_cleared x s.collector.cursor c ≡ true) (sym now)
+              (lt-ltb c s.collector.cursor (omega arith)))
+          | inr past ↦ λ black. absurd (
+              let fit = range.cells_fit.colours_fit in
+              let blue : colour_of s c ≡ colour.Blue = get_or_past s.colours c colour.Blue (omega arith) in cc)
+        ]);
+        anchor_marked = (λ e. absurd cc);
+        traced = (λ e. absurd cc);
+        clean_pass = (λ e. absurd cc);
+        pass_waits = (λ e. absurd cc);
+        scans = (λ x e. absurd (no_scan s k other x e));
+      };
+      sweep = not_swept s later s.collector.sweep refl fresh;
     }
 
 -- Post(Trace).
@@ -318,11 +323,10 @@ post_sync2 s range k h =
 pub post_trace : (s : State) → IsShaped s → IsConsistent s → can s (event.Post stage.Trace) ≡ true
     → IsConsistent (after s (event.Post stage.Trace))
 post_trace s range k h =
-    let g = and_parts _ _ h in
-    let g2 = and_parts _ _ g.0 in
-    let now = same_stage_is s.control.stage stage.Sync2 g2.0 in
+    let needs = post_trace_needs s h in
+    let now = needs.now in
     let outside = other_stage s.control.stage stage.Sync2 now refl in
-    let settled = settled_by_answers s k (ap is_handshake now) g2.1 in
+    let settled = settled_by_answers s k (ap is_handshake now) needs.answered in
     let asks : requested_of s.control.stage ≡ status.Sync2 = ap requested_of now in
     let later : Control = record s.control { stage = stage.Trace } in
     let fresh = fresh_outside s.cells s.control.position s.collector.sweep s.control.stage range.control_fits.stage_fits outside in
@@ -335,26 +339,26 @@ post_trace s range k h =
           (sync2_to_trace looked (subst (λ x. sync2_fits looked x ≡ true) now (subst (λ own. mode_fits own looked s.control.stage ≡ true) asks f))))
           (λ m stale e e2. absurd cc);
       marks = (λ i m. elim (cases_lt i s.mutators) [
-        | inl lt ↦ k.marks i (ap (marks_count s.control.stage) (settled i lt ∙ asks) ∙ ap (λ x. marks_count x status.Sync2) now)
+        | inl lt ↦ k.mutators.marks i (ap (marks_count s.control.stage) (settled i lt ∙ asks) ∙ ap (λ x. marks_count x status.Sync2) now)
         | inr past ↦ subst (λ o. All (MarkStands s.colours) o.held) (sym (nobody s i range past)) (All-nil (MarkStands s.colours))
       ]);
       lives = lives_on s later s.collector.sweep k outside refl;
-      cleared = (λ c e. absurd cc);
-      anchor_marked = (λ _. k.anchor_marked (ap (λ x. anchor_counts x s.collector.anchor_marked) now ∙ g.1));
-      traced = (λ _ set cut. record {
-        black = (λ c d f black n. absurd (k.cleared c (ap (λ x. is_cleared x s.collector.cursor c) now) black));
-        scanned = (λ x d f e lt n. absurd (no_scan s k other x e));
-        held = (λ i async. elim (cases_lt i s.mutators) [
-          | inl lt ↦ absurd (let sync2 = settled i lt ∙ asks in cc)
-          | inr past ↦ subst (λ o. All (λ p. set p.cell ≡ false) o.held) (sym (nobody s i range past)) (All-nil (λ p. set p.cell ≡ false))
-        ]);
-      });
-      clean_pass = (λ _ _ c gray. (c, omega arith, gray));
-      pass_waits = (λ _ _. refl);
-      scans = (λ x e. absurd (no_scan s k other x e));
-      unswept = (λ c far. absurd (let never = not_sweeping later s.collector.sweep c refl in cc));
-      wipes = (λ n e. absurd cc);
-      found_black = (λ e. absurd cc);
+      tracing = record {
+        cleared = (λ c e. absurd cc);
+        anchor_marked = (λ _. k.tracing.anchor_marked (ap (λ x. anchor_counts x s.collector.anchor_marked) now ∙ needs.anchor));
+        traced = (λ _ set cut. record {
+          black = (λ c d f black n. absurd (k.tracing.cleared c (ap (λ x. is_cleared x s.collector.cursor c) now) black));
+          scanned = (λ x d f e lt n. absurd (no_scan s k other x e));
+          held = (λ i async. elim (cases_lt i s.mutators) [
+            | inl lt ↦ absurd (let sync2 = settled i lt ∙ asks in cc)
+            | inr past ↦ subst (λ o. All (λ p. set p.cell ≡ false) o.held) (sym (nobody s i range past)) (All-nil (λ p. set p.cell ≡ false))
+          ]);
+        });
+        clean_pass = (λ _ _ c gray. (c, omega arith, gray));
+        pass_waits = (λ _ _. refl);
+        scans = (λ x e. absurd (no_scan s k other x e));
+      };
+      sweep = not_swept s later s.collector.sweep refl fresh;
     }
 
 -- Post(Sweep).
@@ -388,12 +392,10 @@ all_ahead control c now start =
 pub no_gray_at_end : (s : State) → IsShaped s → IsConsistent s → can s (event.Post stage.Sweep) ≡ true
     → (c : ℕ) → colour_of s c ≢ colour.Gray
 no_gray_at_end s range k h c gray =
-    let g = and_parts _ _ h in
-    let g2 = and_parts _ _ g.0 in
-    let g3 = and_parts _ _ g2.0 in
-    let now = same_stage_is s.control.stage stage.Trace (and_parts _ _ g3.0).0 in
-    let ended : s.collector.cursor ≡ s.cells = eqb-true s.collector.cursor s.cells g2.1 in
-    let r = k.clean_pass now g.1 c gray in
+    let needs = post_sweep_needs s h in
+    let now = needs.now in
+    let ended = needs.end in
+    let r = k.tracing.clean_pass now needs.clean c gray in
     let le = r.1 in
     let fit = range.cells_fit.colours_fit in
     let blue : colour_of s r.0 ≡ colour.Blue = get_or_past s.colours r.0 colour.Blue (omega arith) in
@@ -402,18 +404,15 @@ no_gray_at_end s range k h c gray =
 pub post_sweep : (s : State) → IsShaped s → IsConsistent s → can s (event.Post stage.Sweep) ≡ true
     → IsConsistent (after s (event.Post stage.Sweep))
 post_sweep s range k h =
-    let g = and_parts _ _ h in
-    let g2 = and_parts _ _ g.0 in
-    let g3 = and_parts _ _ g2.0 in
-    let g4 = and_parts _ _ g3.0 in
-    let now = same_stage_is s.control.stage stage.Trace g4.0 in
-    let rests = no_scan_is s.collector.scan g3.1 in
-    let settled = settled_by_answers s k (ap is_handshake now) g4.1 in
+    let needs = post_sweep_needs s h in
+    let now = needs.now in
+    let rests = no_scan_is s.collector.scan needs.no_scan in
+    let settled = settled_by_answers s k (ap is_handshake now) needs.answered in
     let asks : requested_of s.control.stage ≡ status.Async = ap requested_of now in
     let later : Control = record s.control { stage = stage.Sweep; position = 0 } in
     let no_gray : (c : ℕ) → colour_of s c ≢ colour.Gray = no_gray_at_end s range k h in
     let white : ℕ → Bool = (λ c. is_white (colour_of s c)) in
-    let due = k.traced now white (white_cut_off s k no_gray) in
+    let due = k.tracing.traced now white (white_cut_off s k no_gray) in
     let not_white : (c : ℕ) → white c ≡ false → colour_of s c ≢ colour.White
     = (λ c out e. absurd (let in_set = white_is_white (colour_of s c) e in cc)) in
     let live_on : (c : ℕ) → colour_of s c ≡ colour.Black → live s.colours later sweeping.Fresh c ≡ true
@@ -434,10 +433,10 @@ post_sweep s range k h =
           = subst (λ x. async_fits x stage.Trace ≡ true) e (subst (λ x. async_fits m.stage x ≡ true) now f) in cc));
       marks = no_marks s stage.Sweep status.Async settled asks range refl;
       lives = record {
-        anchor = live_on 0 (black_of 0 k.anchor_live (k.anchor_marked (ap (λ x. anchor_counts x s.collector.anchor_marked) now)));
+        anchor = live_on 0 (black_of 0 k.cells.anchor_live (k.tracing.anchor_marked (ap (λ x. anchor_counts x s.collector.anchor_marked) now)));
         held = (λ i. all_from_held (λ c. live s.colours later sweeping.Fresh c ≡ true) (held_of s i) (λ c held. elim (cases_lt i s.mutators) [
           | inl lt ↦ live_on c (black_of c
-              (all_held (λ d. live s.colours s.control s.collector.sweep d ≡ true) (held_of s i) c (k.held_live i) held)
+              (all_held (λ d. live s.colours s.control s.collector.sweep d ≡ true) (held_of s i) c (k.cells.held_live i) held)
               (not_white c (all_held (λ d. white d ≡ false) (held_of s i) c (due.held i (settled i lt ∙ asks)) held)))
           | inr past ↦ absurd (let none : holds (held_of s i) c ≡ false = ap (λ o. holds o.held c) (nobody s i range past) in cc)
         ]));
@@ -446,18 +445,16 @@ post_sweep s range k h =
             let black = black_if c alive in
             let was : live s.colours s.control s.collector.sweep c ≡ true
             = ap (λ x. is_live x (unswept s.control s.collector.sweep c)) black in
-            let r = k.names_live c d f was n in
+            let r = k.cells.names_live c d f was n in
             (live_on d (black_of d r.0 (not_white d (due.black c d f black n))), r.1));
       };
-      cleared = (λ c e. absurd cc);
-      anchor_marked = (λ e. absurd cc);
-      traced = (λ e. absurd cc);
-      clean_pass = (λ e. absurd cc);
-      pass_waits = (λ e. absurd cc);
-      scans = (λ x e. absurd cc);
-      unswept = (λ c far. no_gray c);
-      wipes = (λ n e. absurd cc);
-      found_black = (λ e. absurd cc);
+      tracing = not_traced s stage.Sweep (posted s.collector stage.Sweep)
+          (λ c. refl) refl (λ e. cc) (λ x e. cc);
+      sweep = record {
+        unswept = (λ c far. no_gray c);
+        wipes = (λ n e. absurd cc);
+        found_black = (λ e. absurd cc);
+      };
     }
 
 -- Post(Idle).
@@ -479,9 +476,9 @@ none_ahead control sweep c lt =
 pub post_idle : (s : State) → IsShaped s → IsConsistent s → can s (event.Post stage.Idle) ≡ true
     → IsConsistent (after s (event.Post stage.Idle))
 post_idle s range k h =
-    let g = and_parts _ _ h in
-    let now = same_stage_is s.control.stage stage.Sweep g.0 in
-    let ended : s.control.position ≡ s.cells = eqb-true s.control.position s.cells g.1 in
+    let needs = post_idle_needs s h in
+    let now = needs.now in
+    let ended = needs.end in
     let settled = settled_quiet s k (ap is_handshake now) in
     let asks : requested_of s.control.stage ≡ status.Async = ap requested_of now in
     let later : Control = record s.control { stage = stage.Idle; position = 0; cycles = s.control.cycles + 1 } in
@@ -507,15 +504,9 @@ post_idle s range k h =
       marks = no_marks s stage.Idle status.Async settled asks range refl;
       lives = live_moves (live s.colours s.control s.collector.sweep) (live s.colours later s.collector.sweep) s.rows s.owns s.collector.scan
           same (live_facts s k);
-      cleared = (λ c e. absurd cc);
-      anchor_marked = (λ e. absurd cc);
-      traced = (λ e. absurd cc);
-      clean_pass = (λ e. absurd cc);
-      pass_waits = (λ e. absurd cc);
-      scans = (λ x e. absurd (no_scan s k other x e));
-      unswept = (λ c far. absurd (let never = not_sweeping later s.collector.sweep c refl in cc));
-      wipes = (λ n e. absurd cc);
-      found_black = (λ e. absurd cc);
+      tracing = not_traced s stage.Idle (posted s.collector stage.Idle)
+          (λ c. refl) refl (λ e. cc) (λ x e. no_scan s k other x e);
+      sweep = not_swept s later s.collector.sweep refl fresh;
     }
 
 pub post_keeps : (s : State) (target : Stage) → IsShaped s → IsConsistent s → can s (event.Post target) ≡ true

@@ -4,34 +4,28 @@
 --        mutator that comes in holds nothing that could be cut off.
 -- End    nothing is held, so nothing is owed.
 -- Over   only who is out ends for good.
-use Rattle.std.proofs.Common.{◌≡◌, ◌≢◌, ◌==◌, inl, inr, ℕ, Bool, true, false, not, List, [], ◌<◌, length, None, refl, sym, subst, ◌∙◌, ap}
+use Rattle.std.proofs.Common.{◌≡◌, ◌==◌, inl, inr, ℕ, Bool, true, false, not, List, [], ◌<◌, length, None, refl, sym, subst, ◌∙◌, ap}
 use Rattle.std.specs.Prelude.{slice_set}
-use Rattle.std.proofs.lemmas.Bool.{and_parts, or_cases, eqb-true, cases_lt, not-true}
+use Rattle.std.proofs.lemmas.Bool.{and_parts, or_cases, eqb-true, cases_lt}
 use Rattle.std.proofs.lemmas.List.{get_or-set_same, get_or_past, set_past}
 use Rattle.std.proofs.lemmas.List.Elements.{All-nil, All-cons}
-use Rattle.cell_words.specs.declared.colours.Colour.TheVariants as colour
 use Rattle.cell_words.specs.declared.controls.Stage.{Stage}
-use Rattle.cell_words.specs.declared.fields.Field.{Field}
-use Rattle.cell_words.specs.declared.fields.Field.TheVariants as field
 use Rattle.cell_words.specs.declared.presences.Presence.{Presence}
 use Rattle.cell_words.specs.declared.controls.Stage.TheVariants as stage
 use Rattle.core_machine.specs.declared.events.Event.TheVariants as event
 use Rattle.core_machine.specs.Operations.{may_begin}
-use Rattle.core_machine.specs.State.{State, presence_of, presence_in, own_of, own_in, colour_of, field_of, no_presence}
-use Rattle.core_machine.specs.Words.{is_raw_kind, is_box_kind}
+use Rattle.core_machine.specs.State.{State, presence_of, presence_in, own_of, own_in, field_of, no_presence}
+use Rattle.core_machine.specs.Words.{is_raw_kind}
 use Rattle.core_machine.specs.Next.{can, after}
 use Rattle.core_machine.specs.Own.{Own, no_own, begun, ended}
 use Rattle.core_machine.specs.Places.{found_at}
-use Rattle.dlg_core.specs.Consistent.{IsConsistent, IsCutOff, MarkStands, NoRawBlack}
+use Rattle.core_machine.proofs.Conditions.{come_in_needs}
+use Rattle.dlg_core.specs.Consistent.{IsConsistent, MarkStands, NoRawBlack}
 use Rattle.dlg_core.specs.Facts.{live, anchor_counts}
 use Rattle.dlg_core.proofs.Changes.Own.{own_kept, with_own}
 use Rattle.dlg_core.proofs.Changes.Presence.{presence_kept, with_presence, same_statuses}
-
--- a box is not raw
-pub box_not_raw : (x : Field) → is_box_kind x ≡ true → is_raw_kind x ≡ false
-box_not_raw field.Null h = absurd cc
-box_not_raw (field.Num n) h = refl
-box_not_raw (field.Cell c) h = refl
+use Rattle.dlg_core.proofs.CutOff.{not_white_outside}
+use Rattle.dlg_core.proofs.Truths.{box_not_raw}
 
 -- who may begin is one that there is
 pub begins_below : (s : State) (i : ℕ) → may_begin s i ≡ true → i < length s.presences
@@ -42,14 +36,6 @@ begins_below s i h = elim (cases_lt i (length s.presences)) [
       let over : not (presence_of s i).over ≡ false = ap (λ p. not p.over) gone in
       absurd (let r = and_parts (not (presence_of s i).inside) (not (presence_of s i).over) h in cc)
 ]
-
--- a cell that is not white is in no set that is cut off
-pub not_white_outside : (s : State) (set : ℕ → Bool) (c : ℕ) → IsCutOff s.colours s.rows s.collector.scan set
-    → colour_of s c ≢ colour.White → set c ≡ false
-not_white_outside s set c cut nowhite = elim (set c) as (λ b. set c ≡ b → set c ≡ false) [
-  | true ↦ λ in_set. absurd (nowhite (cut.white c in_set))
-  | false ↦ λ h. h
-] refl
 
 -- while the collector traces the anchor counts as marked
 pub marked_in_trace : (now : Stage) (marked : Bool) → now ≡ stage.Trace → anchor_counts now marked ≡ true
@@ -62,12 +48,12 @@ begin_keeps s i k h =
     let t = with_presence s i p in
     let here : presence_of t i ≡ p = get_or-set_same s.presences i p no_presence (begins_below s i h) in
     let same = same_statuses s i p refl i in
-    let sealed : is_raw_kind (field_of s 0 5) ≡ false = box_not_raw (field_of s 0 5) k.anchor_box in
+    let sealed : is_raw_kind (field_of s 0 5) ≡ false = box_not_raw (field_of s 0 5) k.cells.anchor_box in
     own_kept t i (begun (own_of s i)) (presence_kept s i p k refl (λ o. absurd cc)) record {
       mode = tt;
       out = (λ o. absurd (let inside : (presence_of t i).inside ≡ true = ap (λ q. q.inside) here in cc));
       marks = (λ m. All-cons (MarkStands s.colours) (found_at 0) [] (λ h2. absurd cc) (All-nil (MarkStands s.colours)));
-      held_live = All-cons (λ place. live s.colours s.control s.collector.sweep place.cell ≡ true) (found_at 0) [] k.anchor_live
+      held_live = All-cons (λ place. live s.colours s.control s.collector.sweep place.cell ≡ true) (found_at 0) [] k.cells.anchor_live
           (All-nil (λ place. live s.colours s.control s.collector.sweep place.cell ≡ true));
       raw = (λ c raw held. absurd (elim (or_cases (0 == c) false held) [
         | inl is ↦ let e : 0 ≡ c = eqb-true 0 c is in
@@ -76,7 +62,7 @@ begin_keeps s i k h =
       ]));
       raw_not_black = (λ sync2. All-cons (NoRawBlack s.colours s.rows) (found_at 0) [] (λ raw. absurd cc) (All-nil (NoRawBlack s.colours s.rows)));
       due = (λ now async set cut old. All-cons (λ place. set place.cell ≡ false) (found_at 0) []
-          (not_white_outside s set 0 cut (k.anchor_marked (marked_in_trace s.control.stage s.collector.anchor_marked now)))
+          (not_white_outside s set 0 cut (k.tracing.anchor_marked (marked_in_trace s.control.stage s.collector.anchor_marked now)))
           (All-nil (λ place. set place.cell ≡ false)));
     }
 
@@ -115,5 +101,4 @@ end_keeps s i k inside =
 pub over_keeps : (s : State) (i : ℕ) → IsConsistent s → can s (event.Over i) ≡ true
     → IsConsistent (after s (event.Over i))
 over_keeps s i k h =
-    let outside = not-true (presence_of s i).inside (and_parts _ _ h).0 in
-    presence_kept s i (record (presence_of s i) { over = true }) k refl (λ o. k.out i outside)
+    presence_kept s i (record (presence_of s i) { over = true }) k refl (λ o. k.mutators.out i (come_in_needs s i h).out)

@@ -5,31 +5,30 @@
 -- Free       it has null fields by now, and was not live before it is blue.
 -- Whiten     a black cell that is unswept was live, and a white one that is swept is.
 -- Advance    the next cell is unswept as it was.
-use Rattle.std.proofs.Common.{◌≡◌, ◌≢◌, ◌==◌, ◌&&◌, ◌||◌, inl, inr, ℕ, Bool, true, false, not, nat_lt, List, [], length, get_or, slice_index, ◌+◌, ◌<◌, arith, refl, sym, subst, ◌∙◌, ap, eq-eqb}
+use Rattle.std.proofs.Common.{◌≡◌, ◌≢◌, ◌==◌, ◌&&◌, ◌||◌, inl, inr, ℕ, Bool, true, false, not, nat_lt, [], length, get_or, slice_index, ◌+◌, ◌<◌, arith, refl, sym, subst, ◌∙◌, ap, eq-eqb}
 use Rattle.std.specs.Prelude.{slice_set}
-use Rattle.std.proofs.lemmas.Bool.{and_parts, and_from, ltb-true, lt-ltb, le-ltb, ne_eqb, eqb-true, cases_lt, cases_eq}
+use Rattle.std.proofs.lemmas.Bool.{and_from, lt-ltb, le-ltb, ne_eqb, cases_lt, cases_eq, not_from_false}
 use Rattle.std.proofs.lemmas.List.{get_or-set_same}
 use Rattle.cell_words.specs.declared.colours.Colour.{Colour}
 use Rattle.cell_words.specs.declared.colours.Colour.TheVariants as colour
 use Rattle.cell_words.specs.declared.controls.Stage.TheVariants as stage
-use Rattle.cell_words.specs.declared.fields.Field.{Field}
 use Rattle.cell_words.specs.declared.fields.Field.TheVariants as field
 use Rattle.core_machine.specs.declared.events.Event.TheVariants as event
 use Rattle.core_machine.specs.declared.progress.Sweeping.{Sweeping}
 use Rattle.core_machine.specs.declared.progress.Sweeping.TheVariants as sweeping
 use Rattle.core_machine.specs.Collector.{sweep_of, wiped}
 use Rattle.core_machine.specs.State.{State, colour_in, colour_of, field_in, field_of, row_in, own_in, set_field}
-use Rattle.core_machine.specs.Sweep.{is_done, is_fresh, may_wipe, may_free, is_black_found, wiped_count}
+use Rattle.core_machine.specs.Sweep.{is_done, wiped_count}
 use Rattle.core_machine.specs.Words.{is_gray, is_raw_kind, is_box_kind, same_stage}
-use Rattle.core_machine.specs.InRange.{IsShaped, StageFits, SweepFits}
+use Rattle.core_machine.specs.InRange.{IsShaped}
 use Rattle.core_machine.specs.Next.{can, after}
+use Rattle.core_machine.proofs.Conditions.{sweep_look_needs, advance_needs}
 use Rattle.dlg_core.specs.Consistent.{IsConsistent, IsWiping}
 use Rattle.dlg_core.specs.Facts.{is_live, live, unswept, is_kind_field}
-use Rattle.dlg_core.proofs.Changes.Shade.{sweeps, here_unswept, wiped_not_live}
-use Rattle.dlg_core.proofs.Changes.Sweep.{SweepStep, sweep_kept, swept_on, at_position, same_unswept, unswept_elsewhere, done_swept}
-use Rattle.dlg_core.proofs.Each.{colour_each, colour_else, field_each, all_held}
-use Rattle.dlg_core.proofs.Keeps.Blacken.{null_beyond}
-use Rattle.dlg_core.proofs.Truths.{same_stage_is, or_here, or_later}
+use Rattle.dlg_core.proofs.Changes.Shade.{here_unswept, wiped_not_live}
+use Rattle.dlg_core.proofs.Changes.Sweep.{SweepStep, sweep_kept, swept_on, at_position, same_unswept, unswept_elsewhere, done_swept, busy_now, position_below}
+use Rattle.dlg_core.proofs.Each.{colour_each, colour_else, field_each, all_held, null_beyond, field_elsewhere}
+use Rattle.dlg_core.proofs.Truths.{or_here, or_later, free_is, black_found_is, wipe_is}
 
 -- Nothing but the word on the cell changes, and the cell stays unswept or is blue.
 
@@ -42,22 +41,18 @@ pub word_step : (s : State) (sweep : Sweeping) → IsConsistent s → s.control.
 word_step s sweep k now same less wipes found = record {
   now = now;
   on = omega arith;
-  anchor_box = k.anchor_box;
-  kinds = k.kinds;
-  blue_null = k.blue_null;
+  anchor_box = k.cells.anchor_box;
+  kinds = k.cells.kinds;
+  blue_null = k.cells.blue_null;
   same_live = same;
-  names = k.names_live;
-  raw_once = k.raw_once;
-  unswept = (λ c h. k.unswept c (less c h));
+  names = k.cells.names_live;
+  raw_once = k.cells.raw_once;
+  unswept = (λ c h. k.sweep.unswept c (less c h));
   wipes = wipes;
   found_black = found;
 }
 
 -- SweepLook.
-
-pub fresh_is : (sweep : Sweeping) → is_fresh sweep ≡ true → sweep ≡ sweeping.Fresh
-fresh_is sweeping.Fresh h = refl
-fresh_is _ h = absurd cc
 
 -- a blue cell is as little live whether it is done or not
 pub blue_done : (s : State) (c : ℕ) → colour_of s s.control.position ≡ colour.Blue
@@ -100,18 +95,11 @@ sweep_looked_at s colour.Black range k now undone is h =
 
 pub sweep_look_keeps : (s : State) → IsShaped s → IsConsistent s → can s event.SweepLook ≡ true → IsConsistent (after s event.SweepLook)
 sweep_look_keeps s range k h =
-    let a = and_parts _ _ h in
-    let b = and_parts _ _ a.0 in
-    let d = and_parts _ _ b.0 in
-    sweep_looked_at s (colour_of s s.control.position) range k (same_stage_is s.control.stage stage.Sweep d.0)
-    (ap is_done (fresh_is s.collector.sweep b.1)) refl a.1
+    let needs = sweep_look_needs s h in
+    sweep_looked_at s (colour_of s s.control.position) range k needs.now (ap is_done needs.fresh) refl
+    (not_from_false _ needs.not_gray)
 
 -- Work on one cell.
-
--- the cell is worked on in the sweep
-pub busy_now : (s : State) (sweep : Sweeping) → IsShaped s → s.collector.sweep ≡ sweep → sweep ≢ sweeping.Fresh → s.control.stage ≡ stage.Sweep
-busy_now s sweep range is busy =
-    sweeps s.cells s.control.position s.collector.sweep s.control.stage range.control_fits.stage_fits (λ e. busy (sym is ∙ e))
 
 -- the cell with another colour, done: as live as it was
 pub done_live : (s : State) (x : Colour) (sweep : Sweeping) → s.control.position < length s.colours → s.control.stage ≡ stage.Sweep
@@ -131,31 +119,9 @@ pub done_not_gray : (s : State) (x : Colour) → IsConsistent s → s.control.po
 done_not_gray s x k lt c h =
     colour_else (λ d y. unswept s.control sweeping.Done d ≡ true → y ≢ colour.Gray) s.colours s.control.position x lt
     (λ far. absurd (let gone = done_swept s.control in cc))
-    (λ d other far. k.unswept d (done_less s d far)) c h
-
-pub busy_below : (cells p : ℕ) (sweep : Sweeping) → SweepFits cells p sweep → sweep ≢ sweeping.Fresh → p < cells
-busy_below cells p sweeping.Fresh fits busy = absurd (busy refl)
-busy_below cells p (sweeping.Wiping k) fits busy = fits.0
-busy_below cells p sweeping.BlackFound fits busy = fits
-busy_below cells p sweeping.Done fits busy = fits
-
--- a cell that is worked on is one that there is
-pub position_below : (s : State) (sweep : Sweeping) → IsShaped s → s.collector.sweep ≡ sweep → sweep ≢ sweeping.Fresh
-    → s.control.position < length s.colours
-position_below s sweep range is busy =
-    let now = busy_now s sweep range is busy in
-    let fits : StageFits s.cells s.control.position sweep stage.Sweep
-    = subst (λ x. StageFits s.cells s.control.position sweep x) now
-    (subst (λ w. StageFits s.cells s.control.position w s.control.stage) is range.control_fits.stage_fits) in
-    let fit = range.cells_fit.colours_fit in
-    let below = busy_below s.cells s.control.position sweep fits busy in
-    omega arith
+    (λ d other far. k.sweep.unswept d (done_less s d far)) c h
 
 -- Free.
-
-pub free_is : (sweep : Sweeping) → may_free sweep ≡ true → sweep ≡ sweeping.Wiping 6
-free_is (sweeping.Wiping k) h = ap (λ n. sweeping.Wiping n) (eqb-true k 6 h)
-free_is _ h = absurd cc
 
 pub free_keeps : (s : State) → IsShaped s → IsConsistent s → can s event.Free ≡ true → IsConsistent (after s event.Free)
 free_keeps s range k h =
@@ -165,33 +131,29 @@ free_keeps s range k h =
     let undone : sweeping.Wiping 6 ≢ sweeping.Done = (λ e. cc) in
     let now = busy_now s (sweeping.Wiping 6) range is busy in
     let lt = position_below s (sweeping.Wiping 6) range is busy in
-    let wipes = k.wipes 6 is in
+    let wipes = k.sweep.wipes 6 is in
     let colours = slice_set s.colours p colour.Blue in
     sweep_kept s colours s.rows p sweeping.Done
     (slice_set s.collector.times_freed p (slice_index s.collector.times_freed p + 1)) (s.collector.number_freed + 1) range k record {
       now = now;
       on = omega arith;
-      anchor_box = k.anchor_box;
-      kinds = k.kinds;
+      anchor_box = k.cells.anchor_box;
+      kinds = k.cells.kinds;
       blue_null = (λ c f b. colour_each (λ d y. y ≡ colour.Blue → field_of s d f ≡ field.Null) s.colours p colour.Blue
           (λ _. elim (cases_lt f 6) [
             | inl six ↦ wipes.null f six
             | inr past ↦ null_beyond s p f range past
           ])
-          (λ d blue. k.blue_null d f blue) c b);
+          (λ d blue. k.cells.blue_null d f blue) c b);
       same_live = done_live s colour.Blue (sweeping.Wiping 6) lt now is undone (ap (λ x. is_live x true) (sym wipes.white));
-      names = k.names_live;
-      raw_once = k.raw_once;
+      names = k.cells.names_live;
+      raw_once = k.cells.raw_once;
       unswept = done_not_gray s colour.Blue k lt;
       wipes = (λ n e. absurd cc);
       found_black = (λ e. absurd cc);
     }
 
 -- Whiten.
-
-pub black_found_is : (sweep : Sweeping) → is_black_found sweep ≡ true → sweep ≡ sweeping.BlackFound
-black_found_is sweeping.BlackFound h = refl
-black_found_is _ h = absurd cc
 
 pub whiten_keeps : (s : State) → IsShaped s → IsConsistent s → can s event.Whiten ≡ true → IsConsistent (after s event.Whiten)
 whiten_keeps s range k h =
@@ -201,28 +163,24 @@ whiten_keeps s range k h =
     let undone : sweeping.BlackFound ≢ sweeping.Done = (λ e. cc) in
     let now = busy_now s sweeping.BlackFound range is busy in
     let lt = position_below s sweeping.BlackFound range is busy in
-    let black = k.found_black is in
+    let black = k.sweep.found_black is in
     let colours = slice_set s.colours p colour.White in
     sweep_kept s colours s.rows p sweeping.Done s.collector.times_freed s.collector.number_freed range k record {
       now = now;
       on = omega arith;
-      anchor_box = k.anchor_box;
-      kinds = k.kinds;
+      anchor_box = k.cells.anchor_box;
+      kinds = k.cells.kinds;
       blue_null = (λ c f b. colour_each (λ d y. y ≡ colour.Blue → field_of s d f ≡ field.Null) s.colours p colour.White
-          (λ e. absurd cc) (λ d blue. k.blue_null d f blue) c b);
+          (λ e. absurd cc) (λ d blue. k.cells.blue_null d f blue) c b);
       same_live = done_live s colour.White sweeping.BlackFound lt now is undone (ap (λ x. is_live x true) (sym black));
-      names = k.names_live;
-      raw_once = k.raw_once;
+      names = k.cells.names_live;
+      raw_once = k.cells.raw_once;
       unswept = done_not_gray s colour.White k lt;
       wipes = (λ n e. absurd cc);
       found_black = (λ e. absurd cc);
     }
 
 -- Advance.
-
-pub done_is : (sweep : Sweeping) → is_done sweep ≡ true → sweep ≡ sweeping.Done
-done_is sweeping.Done h = refl
-done_is _ h = absurd cc
 
 pub not_both : (a b : Bool) → a ≡ false → b ≡ false → (a || (b && true)) ≡ false
 not_both a b p q = ap (λ x. x || (b && true)) p ∙ ap (λ x. x && true) q
@@ -253,34 +211,24 @@ advance_unswept s c is =
 
 pub advance_keeps : (s : State) → IsShaped s → IsConsistent s → can s event.Advance ≡ true → IsConsistent (after s event.Advance)
 advance_keeps s range k h =
-    let a = and_parts _ _ h in
-    let now = same_stage_is s.control.stage stage.Sweep (and_parts _ _ a.0).0 in
-    let is = done_is s.collector.sweep a.1 in
+    let needs = advance_needs s h in
+    let now = needs.now in
+    let is = needs.done in
     sweep_kept s s.colours s.rows (s.control.position + 1) sweeping.Fresh s.collector.times_freed s.collector.number_freed range k record {
       now = now;
       on = omega arith;
-      anchor_box = k.anchor_box;
-      kinds = k.kinds;
-      blue_null = k.blue_null;
+      anchor_box = k.cells.anchor_box;
+      kinds = k.cells.kinds;
+      blue_null = k.cells.blue_null;
       same_live = (λ c. ap (is_live (colour_of s c)) (advance_unswept s c is));
-      names = k.names_live;
-      raw_once = k.raw_once;
-      unswept = (λ c far. k.unswept c (sym (advance_unswept s c is) ∙ far));
+      names = k.cells.names_live;
+      raw_once = k.cells.raw_once;
+      unswept = (λ c far. k.sweep.unswept c (sym (advance_unswept s c is) ∙ far));
       wipes = (λ n e. absurd cc);
       found_black = (λ e. absurd cc);
     }
 
 -- Wipe.
-
-pub wipe_is : (sweep : Sweeping) → may_wipe sweep ≡ true → (n : ℕ) × (sweep ≡ sweeping.Wiping n) × (n < 6)
-wipe_is (sweeping.Wiping n) h = (n, refl, ltb-true n 6 h)
-wipe_is _ h = absurd cc
-
--- another cell's fields stay
-pub field_elsewhere : (rows : List (List Field)) (p f : ℕ) (x : Field) (c : ℕ) → c ≢ p → (g : ℕ)
-    → field_in (set_field rows p f x) c g ≡ field_in rows c g
-field_elsewhere rows p f x c other g =
-    field_each (λ d h y. d ≢ p → y ≡ field_in rows d h) rows p f x (λ ne. absurd (ne refl)) (λ d h ne. refl) c g other
 
 pub wipe_at : (s : State) (n : ℕ) → IsShaped s → IsConsistent s → s.collector.sweep ≡ sweeping.Wiping n → n < 6
     → IsConsistent (swept_on s s.colours (set_field s.rows s.control.position n field.Null) s.control.position (sweeping.Wiping (n + 1))
@@ -290,7 +238,7 @@ wipe_at s n range k is six =
     let rows = set_field s.rows p n field.Null in
     let busy : sweeping.Wiping n ≢ sweeping.Fresh = (λ e. cc) in
     let now = busy_now s (sweeping.Wiping n) range is busy in
-    let wipes = k.wipes n is in
+    let wipes = k.sweep.wipes n is in
     let dead = wiped_not_live s range n is wipes.white in
     let apart : (d : ℕ) → live s.colours s.control s.collector.sweep d ≡ true → d ≢ p
     = (λ d alive e. absurd (let l : live s.colours s.control s.collector.sweep p ≡ true
@@ -309,19 +257,19 @@ wipe_at s n range k is six =
     sweep_kept s s.colours rows p (sweeping.Wiping (n + 1)) s.collector.times_freed s.collector.number_freed range k record {
       now = now;
       on = omega arith;
-      anchor_box = ap is_box_kind (field_elsewhere s.rows p n field.Null 0 (apart 0 k.anchor_live) 5) ∙ k.anchor_box;
+      anchor_box = ap is_box_kind (field_elsewhere s.rows p n field.Null 0 (apart 0 k.cells.anchor_live) 5) ∙ k.cells.anchor_box;
       kinds = (λ c. field_each (λ d g y. g ≡ 5 → is_kind_field y ≡ true) s.rows p n field.Null (λ _. refl)
-          (λ d g e. subst (λ m. is_kind_field (field_of s d m) ≡ true) (sym e) (k.kinds d)) c 5 refl);
+          (λ d g e. subst (λ m. is_kind_field (field_of s d m) ≡ true) (sym e) (k.cells.kinds d)) c 5 refl);
       blue_null = (λ c f blue. field_each (λ d g y. colour_of s d ≡ colour.Blue → y ≡ field.Null) s.rows p n field.Null (λ _. refl)
-          (λ d g b. k.blue_null d g b) c f blue);
+          (λ d g b. k.cells.blue_null d g b) c f blue);
       same_live = (λ c. ap (is_live (colour_of s c)) (same c));
       names = (λ c d f alive e.
-          let r = k.names_live c d f alive (sym (field_elsewhere s.rows p n field.Null c (apart c alive) f) ∙ e) in
+          let r = k.cells.names_live c d f alive (sym (field_elsewhere s.rows p n field.Null c (apart c alive) f) ∙ e) in
           (r.0, ap is_raw_kind (field_elsewhere s.rows p n field.Null d (apart d r.0) 5) ∙ r.1));
       raw_once = (λ i j c raw hi hj.
-          let other : c ≢ p = apart c (all_held (λ d. live s.colours s.control s.collector.sweep d ≡ true) (own_in s.owns i).held c (k.held_live i) hi) in
-          k.raw_once i j c (sym (ap is_raw_kind (field_elsewhere s.rows p n field.Null c other 5)) ∙ raw) hi hj);
-      unswept = (λ c far. k.unswept c (sym (same c) ∙ far));
+          let other : c ≢ p = apart c (all_held (λ d. live s.colours s.control s.collector.sweep d ≡ true) (own_in s.owns i).held c (k.cells.held_live i) hi) in
+          k.cells.raw_once i j c (sym (ap is_raw_kind (field_elsewhere s.rows p n field.Null c other 5)) ∙ raw) hi hj);
+      unswept = (λ c far. k.sweep.unswept c (sym (same c) ∙ far));
       wipes = (λ m e.
           let next : n + 1 ≡ m = cc in
           record {

@@ -1,12 +1,11 @@
--- See, Scan, Shade and Blacken: tracing.
+-- See, Scan and Shade: tracing.
 --
 -- See      a pass that starts over has the whole heap ahead of it; a cell that is not gray may be passed
 --          by; a gray one is scanned with all its fields open, so nothing is cut off that was not.
 -- Scan     one field more is scanned. It holds no cell, or its cell is the child.
 -- Shade    the child is shaded, and its field counted as scanned before.
--- Blacken  every payload field is scanned, so what the cell names was due before.
-use Rattle.std.proofs.Common.{◌≡◌, ◌≢◌, ◌==◌, ◌&&◌, ◌⊎◌, if◌then◌else◌, inl, inr, ℕ, Bool, true, false, not, nat_lt, Option, Some, None, is_none, ◌+◌, ◌<◌, ◌≤◌, arith, refl, sym, subst, ◌∙◌, ap, eq-eqb}
-use Rattle.std.proofs.lemmas.Bool.{and_parts, and_from, ltb-true, lt-ltb, eqb-true, cases_lt, cases_order}
+use Rattle.std.proofs.Common.{◌≡◌, ◌≢◌, ◌==◌, ◌&&◌, ◌⊎◌, if◌then◌else◌, inl, inr, ℕ, Bool, true, false, not, nat_lt, Option, Some, None, is_none, ◌+◌, ◌<◌, ◌≤◌, arith, refl, sym, subst, ◌∙◌, ap}
+use Rattle.std.proofs.lemmas.Bool.{and_parts, ltb-true, eqb-true, cases_lt, cases_order}
 use Rattle.cell_words.specs.declared.colours.Colour.{Colour}
 use Rattle.cell_words.specs.declared.colours.Colour.TheVariants as colour
 use Rattle.cell_words.specs.declared.controls.Stage.TheVariants as stage
@@ -19,12 +18,12 @@ use Rattle.core_machine.specs.State.{State, colour_of, field_of}
 use Rattle.core_machine.specs.Tracing.{may_scan, may_shade, scan_or_none, child_or_anchor}
 use Rattle.core_machine.specs.InRange.{IsShaped}
 use Rattle.core_machine.specs.Next.{can, after}
+use Rattle.core_machine.proofs.Conditions.{see_needs}
 use Rattle.dlg_core.specs.Consistent.{IsConsistent, CleanPass, IsCutOff, IsScan}
 use Rattle.dlg_core.specs.Facts.{is_live, live, unswept, is_open, scanned_count, scanned_count_at, child_in, all_in, is_cleared}
-use Rattle.dlg_core.proofs.Changes.Pass.{pass_kept}
-use Rattle.dlg_core.proofs.Changes.Shade.{with_shade, shade_kept}
-use Rattle.dlg_core.proofs.Keeps.Mark.{shaded_there}
-use Rattle.dlg_core.proofs.Truths.{same_stage_is}
+use Rattle.dlg_core.proofs.Changes.Pass.{pass_kept, with_scan, open_not_scanned}
+use Rattle.dlg_core.proofs.Changes.Shade.{with_shade, shade_kept, shaded_there}
+use Rattle.dlg_core.proofs.Truths.{no_scan_is}
 
 -- See.
 
@@ -34,14 +33,16 @@ pub pass_goes_on : (s : State) (cursor : ℕ) (clean : Bool) → IsConsistent s 
     → IsConsistent (record s { collector = record s.collector { cursor = cursor; clean = clean } })
 pass_goes_on s cursor clean k now all rests pass =
     pass_kept s s.collector.answered s.collector.anchor_marked cursor clean s.collector.scan k record {
-      answers = k.answered;
-      child_live = k.child_live;
-      cleared = (λ c h. absurd (let never : is_cleared stage.Trace cursor c ≡ true = subst (λ x. is_cleared x cursor c ≡ true) now h in cc));
-      anchor_marked = k.anchor_marked;
-      traced = k.traced;
-      clean_pass = pass;
-      pass_waits = (λ _ waits. absurd cc);
-      scans = (λ x e. absurd cc);
+      answers = k.mutators.answered;
+      child_live = k.cells.child_live;
+      tracing = record {
+        cleared = (λ c h. absurd (let never : is_cleared stage.Trace cursor c ≡ true = subst (λ x. is_cleared x cursor c ≡ true) now h in cc));
+        anchor_marked = k.tracing.anchor_marked;
+        traced = k.tracing.traced;
+        clean_pass = pass;
+        pass_waits = (λ _ waits. absurd cc);
+        scans = (λ x e. absurd cc);
+      };
     }
 
 -- all fields are open at the start of a scan
@@ -58,29 +59,31 @@ pub scan_begins : (s : State) (c : ℕ) → IsConsistent s → s.control.stage �
     → IsConsistent (record s { collector = record s.collector { clean = false; scan = Some (scanning_from c) } })
 scan_begins s c k now all rests gray =
     pass_kept s s.collector.answered s.collector.anchor_marked s.collector.cursor false (Some (scanning_from c)) k record {
-      answers = k.answered;
+      answers = k.mutators.answered;
       child_live = (λ d e. absurd cc);
-      cleared = k.cleared;
-      anchor_marked = k.anchor_marked;
-      traced = (λ trace set cut.
-          let before : IsCutOff s.colours s.rows s.collector.scan set = record {
-            white = cut.white;
-            child = (λ d e. absurd (let none : child_in s.collector.scan ≡ None = ap child_in rests in cc));
-            gray = (λ d e f g unread n. cut.gray d e f g (open_at_start c d f) n);
-            outside = cut.outside;
-          } in
-          let old = k.traced trace set before in record {
-            black = old.black;
-            scanned = (λ x d f e lt n. absurd (
-                let same : scanning_from c ≡ x = cc in
-                let none : f < 0 = subst (λ y. f < scanned_count y) (sym same) lt in omega arith));
-            held = old.held;
-          });
-      clean_pass = (λ _ clean. absurd cc);
-      pass_waits = k.pass_waits;
-      scans = (λ x e. let same : scanning_from c ≡ x = cc in
-          subst (λ y. IsScan s.control.stage s.collector.answered false s.colours y) same
-          record { traces = now; answers = all; gray = gray; unclean = refl });
+      tracing = record {
+        cleared = k.tracing.cleared;
+        anchor_marked = k.tracing.anchor_marked;
+        traced = (λ trace set cut.
+            let before : IsCutOff s.colours s.rows s.collector.scan set = record {
+              white = cut.white;
+              child = (λ d e. absurd (let none : child_in s.collector.scan ≡ None = ap child_in rests in cc));
+              gray = (λ d e f g unread n. cut.gray d e f g (open_at_start c d f) n);
+              outside = cut.outside;
+            } in
+            let old = k.tracing.traced trace set before in record {
+              black = old.black;
+              scanned = (λ x d f e lt n. absurd (
+                  let same : scanning_from c ≡ x = cc in
+                  let none : f < 0 = subst (λ y. f < scanned_count y) (sym same) lt in omega arith));
+              held = old.held;
+            });
+        clean_pass = (λ _ clean. absurd cc);
+        pass_waits = k.tracing.pass_waits;
+        scans = (λ x e. let same : scanning_from c ≡ x = cc in
+            subst (λ y. IsScan s.control.stage s.collector.answered false s.colours y) same
+            record { traces = now; answers = all; gray = gray; unclean = refl });
+      };
     }
 
 -- a pass that starts over is as clean as can be
@@ -102,7 +105,7 @@ pass_on s c k now all rests plain =
       collector = if b then record s.collector { cursor = s.collector.cursor + 1 } else s.collector;
     })) [
       | true ↦ λ e. pass_goes_on s (s.collector.cursor + 1) s.collector.clean k now all rests (λ trace clean d gray.
-          let r = k.clean_pass trace clean d gray in
+          let r = k.tracing.clean_pass trace clean d gray in
           let same : c ≡ s.collector.cursor = eqb-true c s.collector.cursor e in
           let apart : r.0 ≢ s.collector.cursor = (λ here. plain (subst (λ n. colour_of s n ≡ colour.Gray) (here ∙ sym same) r.2)) in
           let le = r.1 in
@@ -127,26 +130,16 @@ restarted_same c cells =
       | false ↦ (refl, refl)
     ]
 
-pub no_scan_is : (scan : Option Scanning) → is_none scan ≡ true → scan ≡ None
-no_scan_is None h = refl
-no_scan_is (Some x) h = absurd cc
-
 pub see_keeps : (s : State) (c : ℕ) → IsConsistent s → can s (event.See c) ≡ true → IsConsistent (after s (event.See c))
 see_keeps s c k h =
-    let a = and_parts _ _ h in
-    let b = and_parts _ _ a.0 in
-    let d = and_parts _ _ b.0 in
-    let now = same_stage_is s.control.stage stage.Trace d.0 in
-    let rests = no_scan_is s.collector.scan b.1 in
+    let needs = see_needs s c h in
+    let now = needs.now in
+    let rests = no_scan_is s.collector.scan needs.no_scan in
     let same = restarted_same s.collector s.cells in
     let t = record s { collector = restarted s.collector s.cells } in
-    seen_kept t c (colour_of s c) (restart_kept s k now d.1 rests) now (ap all_in same.0 ∙ d.1) (same.1 ∙ rests) refl
+    seen_kept t c (colour_of s c) (restart_kept s k now needs.answered rests) now (ap all_in same.0 ∙ needs.answered) (same.1 ∙ rests) refl
 
 -- Scan and Shade.
-
--- the state with another scan
-abbrev pub with_scan : State → Option Scanning → State
-with_scan s scan = record s { collector = record s.collector { scan = scan } }
 
 -- what a scan that is a step further owes
 pub record FurtherFits (s : State) (x y : Scanning) : Type 0 where
@@ -167,15 +160,6 @@ open_from x c f le =
       | false ↦ λ h. elim (c == x.cell) as (λ b. not (b && false) ≡ true) [ true ↦ refl | false ↦ refl ]
     ] refl
 
--- an open field of the cell under scan is not scanned
-pub open_not_scanned : (x : Scanning) (f : ℕ) → is_open (Some x) x.cell f ≡ true → scanned_count x ≤ f
-open_not_scanned x f h = elim (cases_lt f (scanned_count x)) [
-  | inl lt ↦ absurd (
-      let shut : is_open (Some x) x.cell f ≡ false
-      = ap not (and_from (x.cell == x.cell) (nat_lt f (scanned_count x)) (eq-eqb x.cell x.cell refl) (lt-ltb f (scanned_count x) lt)) in cc)
-  | inr le ↦ le
-]
-
 -- a field of another cell is open
 pub open_away : (x y : Scanning) (c f : ℕ) → y.cell ≡ x.cell → (c == x.cell) ≡ false → is_open (Some y) c f ≡ true
 open_away x y c f same other =
@@ -185,56 +169,58 @@ pub further_kept : (s : State) (x y : Scanning) → IsConsistent s → s.collect
     → IsConsistent (with_scan s (Some y))
 further_kept s x y k is fits =
     pass_kept s s.collector.answered s.collector.anchor_marked s.collector.cursor s.collector.clean (Some y) k record {
-      answers = k.answered;
+      answers = k.mutators.answered;
       child_live = fits.child_live;
-      cleared = k.cleared;
-      anchor_marked = k.anchor_marked;
-      traced = (λ trace set cut.
-          let before : IsCutOff s.colours s.rows s.collector.scan set = subst (λ z. IsCutOff s.colours s.rows z set) (sym is) record {
-            white = cut.white;
-            child = fits.child set cut;
-            gray = (λ c d f gray unread n. elim (c == x.cell) as (λ b. (c == x.cell) ≡ b → set d ≡ false) [
-              | true ↦ λ e.
-                  let here : c ≡ x.cell = eqb-true c x.cell e in
-                  let n2 : field_of s x.cell f ≡ field.Cell d = subst (λ m. field_of s m f ≡ field.Cell d) here n in
-                  let le = open_not_scanned x f (subst (λ m. is_open (Some x) m f ≡ true) here unread) in
+      tracing = record {
+        cleared = k.tracing.cleared;
+        anchor_marked = k.tracing.anchor_marked;
+        traced = (λ trace set cut.
+            let before : IsCutOff s.colours s.rows s.collector.scan set = subst (λ z. IsCutOff s.colours s.rows z set) (sym is) record {
+              white = cut.white;
+              child = fits.child set cut;
+              gray = (λ c d f gray unread n. elim (c == x.cell) as (λ b. (c == x.cell) ≡ b → set d ≡ false) [
+                | true ↦ λ e.
+                    let here : c ≡ x.cell = eqb-true c x.cell e in
+                    let n2 : field_of s x.cell f ≡ field.Cell d = subst (λ m. field_of s m f ≡ field.Cell d) here n in
+                    let le = open_not_scanned x f (subst (λ m. is_open (Some x) m f ≡ true) here unread) in
+                    elim (fits.between set cut f d n2) [
+                      | inl known ↦ elim known [
+                        | inl lt ↦ absurd (omega arith)
+                        | inr on ↦ cut.gray c d f gray (open_from y c f on) n
+                      ]
+                      | inr out ↦ out
+                    ]
+                | false ↦ λ e. cut.gray c d f gray (open_away x y c f fits.same_cell e) n
+              ] refl);
+              outside = cut.outside;
+            } in
+            let old = k.tracing.traced trace set before in record {
+              black = old.black;
+              scanned = (λ z d f e lt n.
+                  let same : y ≡ z = cc in
+                  let lt2 : f < scanned_count y = subst (λ v. f < scanned_count v) (sym same) lt in
+                  let n2 : field_of s x.cell f ≡ field.Cell d
+                  = subst (λ m. field_of s m f ≡ field.Cell d) (ap (λ v. v.cell) (sym same) ∙ fits.same_cell) n in
                   elim (fits.between set cut f d n2) [
                     | inl known ↦ elim known [
-                      | inl lt ↦ absurd (omega arith)
-                      | inr on ↦ cut.gray c d f gray (open_from y c f on) n
+                      | inl below ↦ old.scanned x d f is below n2
+                      | inr on ↦ absurd (omega arith)
                     ]
                     | inr out ↦ out
-                  ]
-              | false ↦ λ e. cut.gray c d f gray (open_away x y c f fits.same_cell e) n
-            ] refl);
-            outside = cut.outside;
-          } in
-          let old = k.traced trace set before in record {
-            black = old.black;
-            scanned = (λ z d f e lt n.
-                let same : y ≡ z = cc in
-                let lt2 : f < scanned_count y = subst (λ v. f < scanned_count v) (sym same) lt in
-                let n2 : field_of s x.cell f ≡ field.Cell d
-                = subst (λ m. field_of s m f ≡ field.Cell d) (ap (λ v. v.cell) (sym same) ∙ fits.same_cell) n in
-                elim (fits.between set cut f d n2) [
-                  | inl known ↦ elim known [
-                    | inl below ↦ old.scanned x d f is below n2
-                    | inr on ↦ absurd (omega arith)
-                  ]
-                  | inr out ↦ out
-                ]);
-            held = old.held;
-          });
-      clean_pass = k.clean_pass;
-      pass_waits = k.pass_waits;
-      scans = (λ z e.
-          let same : y ≡ z = cc in
-          let r = k.scans x is in record {
-            traces = r.traces;
-            answers = r.answers;
-            gray = subst (λ m. colour_of s m ≡ colour.Gray) (sym fits.same_cell ∙ ap (λ v. v.cell) same) r.gray;
-            unclean = r.unclean;
-          });
+                  ]);
+              held = old.held;
+            });
+        clean_pass = k.tracing.clean_pass;
+        pass_waits = k.tracing.pass_waits;
+        scans = (λ z e.
+            let same : y ≡ z = cc in
+            let r = k.tracing.scans x is in record {
+              traces = r.traces;
+              answers = r.answers;
+              gray = subst (λ m. colour_of s m ≡ colour.Gray) (sym fits.same_cell ∙ ap (λ v. v.cell) same) r.gray;
+              unclean = r.unclean;
+            });
+      };
     }
 
 -- .. where it holds no cell
@@ -265,11 +251,11 @@ scanned_fits s x (field.Num n) k is none e = passed_fits s x k none (λ d m. abs
 scanned_fits s x (field.Cell w) k is none e =
     let count : scanned_count x ≡ x.next = ap (scanned_count_at x.next) none in
     let alive : live s.colours s.control s.collector.sweep x.cell ≡ true
-    = subst (λ z. is_live z (unswept s.control s.collector.sweep x.cell) ≡ true) (sym (k.scans x is).gray) refl in
+    = subst (λ z. is_live z (unswept s.control s.collector.sweep x.cell) ≡ true) (sym (k.tracing.scans x is).gray) refl in
     record {
       same_cell = refl;
       child_live = (λ d h. let same : w ≡ d = cc in
-          subst (λ n. live s.colours s.control s.collector.sweep n ≡ true) same (k.names_live x.cell w x.next alive e).0);
+          subst (λ n. live s.colours s.control s.collector.sweep n ≡ true) same (k.cells.names_live x.cell w x.next alive e).0);
       child = (λ set cut d h. absurd cc);
       between = (λ set cut f d n. elim (cases_order f x.next) [
         | inl same ↦ inr (cut.child d (let is_w : field.Cell w ≡ field.Cell d
@@ -322,9 +308,9 @@ pub shade_at : (s : State) (x : Scanning) (child : Option ℕ) → IsShaped s �
     → IsConsistent (with_scan (with_shade s (child_or_anchor child)) (Some (scan_shaded x)))
 shade_at s x None range k is e h = absurd cc
 shade_at s x (Some w) range k is e h =
-    let unclean = (k.scans x is).unclean in
+    let unclean = (k.tracing.scans x is).unclean in
     let t = with_shade s w in
-    let shady = shade_kept s w range k (k.child_live w (ap child_in is ∙ e)) (λ now clean. absurd cc) in
+    let shady = shade_kept s w range k (k.cells.child_live w (ap child_in is ∙ e)) (λ now clean. absurd cc) in
     further_kept t x (scan_shaded x) shady is (shaded_fits t x w e (shaded_there s w))
 
 pub shade_with : (s : State) (scan : Option Scanning) → IsShaped s → IsConsistent s → s.collector.scan ≡ scan → may_shade scan ≡ true

@@ -4,7 +4,7 @@
 -- Poll       who has the requested status is noted as having answered.
 -- AnswerOut  a mutator that is out takes the requested status. It holds nothing and has no mode, so
 --            nothing is owed for it.
-use Rattle.std.proofs.Common.{◌≡◌, ◌≢◌, ℕ, zero, suc, Bool, true, false, List, [], ◌∷◌, Option, Some, None, ◌<◌, ◌≤◌, arith, refl, sym, subst, ◌∙◌, ap, if◌then◌else◌}
+use Rattle.std.proofs.Common.{◌≡◌, ◌≢◌, ℕ, zero, suc, Bool, true, false, List, [], ◌∷◌, ◌<◌, arith, refl, sym, subst, ap, if◌then◌else◌}
 use Rattle.std.specs.Prelude.{slice_set}
 use Rattle.std.proofs.Math.ListN.{set}
 use Rattle.std.specs.List.{All}
@@ -12,7 +12,6 @@ use Rattle.std.proofs.lemmas.Bool.{and_parts, and_from, not-true}
 use Rattle.std.proofs.lemmas.List.{get_or-set_same, set-get_or}
 use Rattle.std.proofs.lemmas.List.Elements.{All-nil}
 use Rattle.cell_words.specs.declared.colours.Colour.TheVariants.{White}
-use Rattle.cell_words.specs.declared.controls.Control.{Control}
 use Rattle.cell_words.specs.declared.controls.Stage.{Stage}
 use Rattle.cell_words.specs.declared.controls.Stage.TheVariants as stage
 use Rattle.cell_words.specs.declared.presences.Status.{Status}
@@ -25,52 +24,41 @@ use Rattle.core_machine.specs.Words.{same_status, is_handshake, may_answer_out}
 use Rattle.core_machine.specs.InRange.{IsShaped}
 use Rattle.core_machine.specs.Next.{can, after}
 use Rattle.dlg_core.specs.Consistent.{IsConsistent, MarkStands, NoRawBlack}
-use Rattle.dlg_core.specs.Facts.{status_fits, mode_fits, IsStaleMode, all_in}
+use Rattle.dlg_core.specs.Facts.{status_fits, all_in}
 use Rattle.dlg_core.proofs.Changes.Pass.{pass_kept}
-use Rattle.dlg_core.proofs.Changes.Status.{status_kept, with_status, StatusFits}
+use Rattle.dlg_core.proofs.Changes.Status.{status_kept, with_status, StatusFits, stale_on}
 use Rattle.dlg_core.proofs.Each.{set_each}
 use Rattle.dlg_core.proofs.Truths.{same_status_is}
 
 -- Duty.
 
--- a mode is as stale to a control with the same stage and a position that is not less
-pub stale_on : (own : Status) (mode : Option Control) (now later : Control) → later.stage ≡ now.stage
-    → (now.stage ≡ stage.Sweep → now.position ≤ later.position) → IsStaleMode own mode now → IsStaleMode own mode later
-stale_on own None now later same far k = tt
-stale_on own (Some m) now later same far k = record {
-  fits = subst (λ x. mode_fits own m.stage x ≡ true) (sym same) k.fits;
-  position = (λ looked sweeps.
-      let s = sym same ∙ sweeps in
-      let a = k.position looked s in
-      let b = far s in omega arith);
-}
-
 pub duty_keeps : (s : State) (on : Bool) → IsConsistent s → IsConsistent (after s (event.Duty on))
 duty_keeps s on k = record {
-  statuses = k.statuses;
-  answered = k.answered;
-  modes = (λ i. stale_on (presence_of s i).status (own_in s.owns i).mode s.control (record s.control { duty = on }) refl
-      (λ _. omega arith) (k.modes i));
-  out = k.out;
-  marks = k.marks;
-  anchor_box = k.anchor_box;
-  kinds = k.kinds;
-  blue_null = k.blue_null;
-  anchor_live = k.anchor_live;
-  held_live = k.held_live;
-  child_live = k.child_live;
-  names_live = k.names_live;
-  raw_once = k.raw_once;
-  raw_not_black = k.raw_not_black;
-  cleared = k.cleared;
-  anchor_marked = k.anchor_marked;
-  traced = k.traced;
-  clean_pass = k.clean_pass;
-  pass_waits = k.pass_waits;
-  scans = k.scans;
-  unswept = k.unswept;
-  wipes = k.wipes;
-  found_black = k.found_black;
+  mutators = record {
+    statuses = k.mutators.statuses;
+    answered = k.mutators.answered;
+    modes = (λ i. stale_on (presence_of s i).status (own_in s.owns i).mode s.control (record s.control { duty = on }) refl
+        (λ _. omega arith) (k.mutators.modes i));
+    out = k.mutators.out;
+    marks = k.mutators.marks;
+  };
+  cells = record {
+    anchor_box = k.cells.anchor_box;
+    kinds = k.cells.kinds;
+    blue_null = k.cells.blue_null;
+    anchor_live = k.cells.anchor_live;
+    held_live = k.cells.held_live;
+    child_live = k.cells.child_live;
+    names_live = k.cells.names_live;
+    raw_once = k.cells.raw_once;
+    raw_not_black = k.cells.raw_not_black;
+  };
+  tracing = k.tracing;
+  sweep = record {
+    unswept = k.sweep.unswept;
+    wipes = k.sweep.wipes;
+    found_black = k.sweep.found_black;
+  };
 }
 
 -- Poll.
@@ -88,22 +76,24 @@ pub noted_kept : (s : State) (i : ℕ) → IsConsistent s
 noted_kept s i k fits =
     pass_kept s (slice_set s.collector.answered i true) s.collector.anchor_marked s.collector.cursor s.collector.clean s.collector.scan k record {
       answers = (λ j lt now has. set_each (λ n a. n < s.mutators → a ≡ true → (presence_of s n).status ≡ requested_of s.control.stage)
-          s.collector.answered i true true (λ _ below done. fits below now) (λ n below done. k.answered n below now done) j lt has);
-      child_live = k.child_live;
-      cleared = k.cleared;
-      anchor_marked = k.anchor_marked;
-      traced = k.traced;
-      clean_pass = k.clean_pass;
-      pass_waits = (λ now waits. elim (all_in s.collector.answered) as (λ b. all_in s.collector.answered ≡ b → s.collector.cursor ≡ 0) [
-        | true ↦ λ all. absurd (let more = all_with s.collector.answered i all in cc)
-        | false ↦ λ few. k.pass_waits now few
-      ] refl);
-      scans = (λ x e. let r = k.scans x e in record {
-        traces = r.traces;
-        answers = all_with s.collector.answered i r.answers;
-        gray = r.gray;
-        unclean = r.unclean;
-      });
+          s.collector.answered i true true (λ _ below done. fits below now) (λ n below done. k.mutators.answered n below now done) j lt has);
+      child_live = k.cells.child_live;
+      tracing = record {
+        cleared = k.tracing.cleared;
+        anchor_marked = k.tracing.anchor_marked;
+        traced = k.tracing.traced;
+        clean_pass = k.tracing.clean_pass;
+        pass_waits = (λ now waits. elim (all_in s.collector.answered) as (λ b. all_in s.collector.answered ≡ b → s.collector.cursor ≡ 0) [
+          | true ↦ λ all. absurd (let more = all_with s.collector.answered i all in cc)
+          | false ↦ λ few. k.tracing.pass_waits now few
+        ] refl);
+        scans = (λ x e. let r = k.tracing.scans x e in record {
+          traces = r.traces;
+          answers = all_with s.collector.answered i r.answers;
+          gray = r.gray;
+          unclean = r.unclean;
+        });
+      };
     }
 
 pub poll_keeps : (s : State) (i : ℕ) → IsConsistent s → IsConsistent (after s (event.Poll i))
@@ -130,9 +120,9 @@ requested_fits stage.Sweep = refl
 pub out_fits : (s : State) (i : ℕ) → IsConsistent s → (presence_of s i).inside ≡ false
     → StatusFits s i (requested_of s.control.stage)
 out_fits s i k outside =
-    let nothing = (k.out i outside).0 in
+    let nothing = (k.mutators.out i outside).0 in
     record {
-      no_mode = (k.out i outside).1;
+      no_mode = (k.mutators.out i outside).1;
       fits = requested_fits s.control.stage;
       requested = (λ h. refl);
       marks = (λ m. subst (λ ps. All (MarkStands s.colours) ps) (sym nothing) (All-nil (MarkStands s.colours)));

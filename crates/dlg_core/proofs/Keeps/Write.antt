@@ -5,14 +5,13 @@
 --        was due before or is not white.
 -- Fill   no edge goes, since the field held no cell. To an async mutator the value was due before, as
 --        it holds it. One in sync2 fills a cell that is neither black nor under scan, so nothing is due.
-use Rattle.std.proofs.Common.{◌≡◌, ◌≢◌, ◌==◌, ◌&&◌, ◌⊎◌, if◌then◌else◌, inl, inr, ℕ, Bool, true, false, not, List, [], ◌∷◌, length, Option, Some, None, is_some, ◌<◌, ◌≤◌, refl, sym, subst, ◌∙◌, ap, arith}
+use Rattle.std.proofs.Common.{◌≡◌, ◌≢◌, ◌==◌, ◌&&◌, ◌⊎◌, if◌then◌else◌, inl, inr, ℕ, Bool, true, false, List, [], ◌∷◌, Option, Some, None, is_some, ◌<◌, refl, sym, subst, ◌∙◌, ap, arith}
 use Rattle.std.specs.List.{All}
-use Rattle.std.proofs.lemmas.Bool.{and_parts, or_cases, ltb-true, leb-true, eqb-true, not-true}
-use Rattle.std.proofs.lemmas.List.Elements.{All-head, All-tail, All-map}
+use Rattle.std.proofs.lemmas.Bool.{and_parts, or_cases, eqb-true}
+use Rattle.std.proofs.lemmas.List.Elements.{All-head, All-tail}
 use Rattle.cell_words.specs.declared.colours.Colour.{Colour}
 use Rattle.cell_words.specs.declared.colours.Colour.TheVariants as colour
 use Rattle.cell_words.specs.declared.controls.Control.{Control}
-use Rattle.cell_words.specs.declared.controls.Stage.{Stage}
 use Rattle.cell_words.specs.declared.controls.Stage.TheVariants as stage
 use Rattle.cell_words.specs.declared.fields.Field.{Field}
 use Rattle.cell_words.specs.declared.fields.Field.TheVariants as field
@@ -21,34 +20,24 @@ use Rattle.cell_words.specs.declared.presences.Status.TheVariants as status
 use Rattle.cell_words.specs.Modes.{async_barrier_of, requested_of}
 use Rattle.core_machine.specs.declared.events.Event.TheVariants as event
 use Rattle.core_machine.specs.declared.places.Held.{Held}
-use Rattle.core_machine.specs.Operations.{is_in, has_mode, own_barrier}
+use Rattle.core_machine.specs.Operations.{is_in}
 use Rattle.core_machine.specs.State.{State, colour_in, colour_of, field_of, presence_of, own_of, held_of, target_of, is_raw, is_raw_value}
 use Rattle.core_machine.specs.Words.{written, same_field, barrier_in, is_raw_kind, is_handshake, is_cell}
 use Rattle.core_machine.specs.InRange.{IsShaped}
 use Rattle.core_machine.specs.Next.{can, after}
 use Rattle.core_machine.specs.Own.{spent}
-use Rattle.core_machine.specs.Places.{holds_marked, is_marked_value, marks_stand, names_rightly, unmark}
-use Rattle.dlg_core.specs.Consistent.{IsConsistent, IsNotDue, MarkStands, NoRawBlack}
+use Rattle.core_machine.specs.Places.{holds_marked, is_marked_value, marks_stand, names_rightly}
+use Rattle.core_machine.specs.Conditions.{CanWrite}
+use Rattle.core_machine.proofs.Conditions.{write_needs, fill_needs}
+use Rattle.dlg_core.specs.Consistent.{IsConsistent, IsNotDue, MarkStands}
 use Rattle.dlg_core.specs.Facts.{live, status_fits, async_fits, marks_count, IsStaleMode}
 use Rattle.dlg_core.proofs.Changes.Field.{FieldFits, field_kept, with_field}
-use Rattle.dlg_core.proofs.Changes.Own.{own_kept, OwnFits}
+use Rattle.dlg_core.proofs.Changes.Own.{own_kept, spent_fits}
 use Rattle.dlg_core.proofs.Each.{all_held}
-use Rattle.dlg_core.proofs.Keeps.Holding.{inside_below, at_place, none_marked, holds_unmark}
-use Rattle.dlg_core.proofs.Keeps.Mark.{one_of_all}
-use Rattle.dlg_core.proofs.Keeps.Presence.{not_white_outside}
-
--- The own part that an operation leaves.
-
-pub spent_fits : (s : State) (i : ℕ) → IsConsistent s → is_in s i ≡ true → OwnFits s i (spent (own_of s i))
-spent_fits s i k inside = record {
-  mode = tt;
-  out = (λ o. absurd cc);
-  marks = (λ m. none_marked s.colours (held_of s i));
-  held_live = All-map (λ place. live s.colours s.control s.collector.sweep place.cell ≡ true) unmark (held_of s i) (k.held_live i);
-  raw = (λ c raw h. sym (holds_unmark (held_of s i) c) ∙ h);
-  raw_not_black = (λ sync2. All-map (NoRawBlack s.colours s.rows) unmark (held_of s i) (k.raw_not_black i sync2));
-  due = (λ now async set cut old. All-map (λ place. set place.cell ≡ false) unmark (held_of s i) (old.held i async));
-}
+use Rattle.core_machine.proofs.OneOperation.{inside_there}
+use Rattle.dlg_core.proofs.HeldLists.{at_place}
+use Rattle.dlg_core.proofs.Truths.{one_of_all, async_mode}
+use Rattle.dlg_core.proofs.CutOff.{not_white_outside}
 
 -- Statuses while the collector traces.
 
@@ -61,7 +50,7 @@ pub status_in_trace : (s : State) (i : ℕ) → IsShaped s → IsConsistent s �
     → ((presence_of s i).status ≡ status.Async) ⊎ ((presence_of s i).status ≡ status.Sync2)
 status_in_trace s i range k inside now =
     traced_status (presence_of s i).status
-    (subst (λ x. status_fits x (presence_of s i).status ≡ true) now (k.statuses i (inside_below s i range inside)))
+    (subst (λ x. status_fits x (presence_of s i).status ≡ true) now (k.mutators.statuses i (inside_there s range i inside)))
 
 -- Marks.
 
@@ -80,12 +69,7 @@ pub value_not_white : (s : State) (i w : ℕ) → IsConsistent s → s.control.s
     → is_marked_value (held_of s i) (field.Cell w) ≡ true → colour_of s w ≢ colour.White
 value_not_white s i w k now h =
     marked_stands s.colours (held_of s i) w
-    (k.marks i (subst (λ x. marks_count x (presence_of s i).status ≡ true) (sym now) refl)) h
-
--- an async mutator's mode is of the tracing that goes on
-pub async_mode : (looked : Stage) → async_fits looked stage.Trace ≡ true → looked ≡ stage.Trace
-async_mode stage.Trace h = refl
-async_mode _ h = absurd cc
+    (k.mutators.marks i (subst (λ x. marks_count x (presence_of s i).status ≡ true) (sym now) refl)) h
 
 -- the marks that a write found: the old value's, and in sync2 the new value's too
 pub record WriteMarks (own : Status) (held : List Held) (old new : Field) : Type 0 where
@@ -118,13 +102,13 @@ same_field_is _ _ h = absurd cc
 
 -- what a mutator names rightly and is not raw is live and sealed
 pub named_live : (s : State) (i w : ℕ) (x : Field) → IsConsistent s → names_rightly (held_of s i) x ≡ true
-    → not (is_raw_value s x) ≡ true → x ≡ field.Cell w
+    → is_raw_value s x ≡ false → x ≡ field.Cell w
     → (live s.colours s.control s.collector.sweep w ≡ true) × (is_raw_kind (field_of s w 5) ≡ false)
 named_live s i w (field.Cell c) k rightly whole e =
     let same : c ≡ w = cc in (
       subst (λ d. live s.colours s.control s.collector.sweep d ≡ true) same
-          (all_held (λ d. live s.colours s.control s.collector.sweep d ≡ true) (held_of s i) c (k.held_live i) rightly),
-      subst (λ d. is_raw_kind (field_of s d 5) ≡ false) same (not-true (is_raw s c) whole),
+          (all_held (λ d. live s.colours s.control s.collector.sweep d ≡ true) (held_of s i) c (k.cells.held_live i) rightly),
+      subst (λ d. is_raw_kind (field_of s d 5) ≡ false) same whole,
     )
 named_live s i w _ k rightly whole e = absurd cc
 
@@ -142,7 +126,7 @@ pub same_field_fits : (s : State) (b f : ℕ) → IsConsistent s → f < 5
 same_field_fits s b f k payload alive = record {
   payload = payload;
   alive = alive;
-  names = (λ w e. k.names_live b w f alive e);
+  names = (λ w e. k.cells.names_live b w f alive e);
   gone = (λ now w e. inl e);
   due = (λ now set cut old w e why. elim why [
     | inl black ↦ old.black b w f black e
@@ -151,63 +135,30 @@ same_field_fits s b f k payload alive = record {
 }
 
 -- what the test of a write found
-pub record WriteGuard (s : State) (i place f : ℕ) (old new : Field) : Type 0 where
-  pub inside : is_in s i ≡ true
-  pub mode : has_mode s i ≡ true
-  pub lt : place < length (held_of s i)
-  pub payload : f < 5
-  pub old_rightly : names_rightly (held_of s i) old ≡ true
-  pub new_rightly : names_rightly (held_of s i) new ≡ true
-  pub new_whole : not (is_raw_value s new) ≡ true
-  pub marks : marks_stand (own_barrier s i) (held_of s i) old new ≡ true
-
-pub write_guard : (s : State) (i place f : ℕ) (old new : Field) → can s (event.Write i place f old new) ≡ true
-    → WriteGuard s i place f old new
-write_guard s i place f old new h =
-    let a = and_parts _ _ h in
-    let b = and_parts _ _ a.0 in
-    let c = and_parts _ _ b.0 in
-    let d = and_parts _ _ c.0 in
-    let e = and_parts _ _ d.0 in
-    let g = and_parts _ _ e.0 in
-    let j = and_parts _ _ g.0 in
-    let l = and_parts _ _ j.0 in
-    let four : f ≤ 4 = leb-true f 4 g.1 in
-    record {
-      inside = l.0;
-      mode = l.1;
-      lt = ltb-true place (length (held_of s i)) j.1;
-      payload = omega arith;
-      old_rightly = d.1;
-      new_rightly = c.1;
-      new_whole = b.1;
-      marks = a.1;
-    }
-
 -- the value that a write leaves
 pub written_fits : (s : State) (i place f : ℕ) (old new : Field) → IsShaped s → IsConsistent s
-    → WriteGuard s i place f old new
+    → CanWrite s i place f old new
     → FieldFits s (target_of s i place) f (written (field_of s (target_of s i place) f) old new)
-written_fits s i place f old new range k guard =
+written_fits s i place f old new range k needs =
     let b = target_of s i place in
     let found = field_of s b f in
     let alive : live s.colours s.control s.collector.sweep b ≡ true
-    = at_place (λ d. live s.colours s.control s.collector.sweep d ≡ true) (held_of s i) place guard.lt (k.held_live i) in
+    = at_place (λ d. live s.colours s.control s.collector.sweep d ≡ true) (held_of s i) place needs.there (k.cells.held_live i) in
     let marks : s.control.stage ≡ stage.Trace → WriteMarks (presence_of s i).status (held_of s i) old new
     = (λ now. marks_found (presence_of s i).status (own_of s i).mode s.control (held_of s i) old new now
-    (status_in_trace s i range k guard.inside now) guard.mode (k.modes i) guard.marks) in
+    (status_in_trace s i range k needs.inside now) needs.mode (k.mutators.modes i) needs.marks) in
     elim (same_field found old) as (λ same. same_field found old ≡ same → FieldFits s b f (if same then new else found)) [
-      | false ↦ λ e. same_field_fits s b f k guard.payload alive
+      | false ↦ λ e. same_field_fits s b f k (omega (arith, needs.payload)) alive
       | true ↦ λ e.
           let was : found ≡ old = same_field_is found old e in
           record {
-            payload = guard.payload;
+            payload = omega (arith, needs.payload);
             alive = alive;
-            names = (λ w is. named_live s i w new k guard.new_rightly guard.new_whole is);
+            names = (λ w is. named_live s i w new k needs.names_new needs.sealed is);
             gone = (λ now w is. inr (value_not_white s i w k now
                 (subst (λ y. is_marked_value (held_of s i) y ≡ true) (sym was ∙ is) (marks now).old_marked)));
-            due = (λ now set cut old_due w is why. elim (status_in_trace s i range k guard.inside now) [
-              | inl async ↦ held_outside s i w set new old_due async guard.new_rightly is
+            due = (λ now set cut old_due w is why. elim (status_in_trace s i range k needs.inside now) [
+              | inl async ↦ held_outside s i w set new old_due async needs.names_new is
               | inr sync2 ↦ not_white_outside s set w cut (value_not_white s i w k now
                   (subst (λ y. is_marked_value (held_of s i) y ≡ true) is ((marks now).new_marked sync2)))
             ]);
@@ -217,42 +168,13 @@ written_fits s i place f old new range k guard =
 pub write_keeps : (s : State) (i place f : ℕ) (old new : Field) → IsShaped s → IsConsistent s
     → can s (event.Write i place f old new) ≡ true → IsConsistent (after s (event.Write i place f old new))
 write_keeps s i place f old new range k h =
-    let guard = write_guard s i place f old new h in
+    let needs = write_needs s i place f old new h in
     let b = target_of s i place in
     let x = written (field_of s b f) old new in
-    let wrote = field_kept s b f x range k (written_fits s i place f old new range k guard) in
-    own_kept (with_field s b f x) i (spent (own_of s i)) wrote (spent_fits (with_field s b f x) i wrote guard.inside)
+    let wrote = field_kept s b f x range k (written_fits s i place f old new range k needs) in
+    own_kept (with_field s b f x) i (spent (own_of s i)) wrote (spent_fits (with_field s b f x) i wrote needs.inside)
 
 -- Fill.
-
-pub record FillGuard (s : State) (i place f : ℕ) (value : Field) : Type 0 where
-  pub inside : is_in s i ≡ true
-  pub lt : place < length (held_of s i)
-  pub raw : is_raw s (target_of s i place) ≡ true
-  pub payload : f < 5
-  pub rightly : names_rightly (held_of s i) value ≡ true
-  pub whole : not (is_raw_value s value) ≡ true
-  pub no_cell : is_cell (field_of s (target_of s i place) f) ≡ false
-
-pub fill_guard : (s : State) (i place f : ℕ) (value : Field) → can s (event.Fill i place f value) ≡ true
-    → FillGuard s i place f value
-fill_guard s i place f value h =
-    let a = and_parts _ _ h in
-    let b = and_parts _ _ a.0 in
-    let c = and_parts _ _ b.0 in
-    let d = and_parts _ _ c.0 in
-    let e = and_parts _ _ d.0 in
-    let g = and_parts _ _ e.0 in
-    let four : f ≤ 4 = leb-true f 4 d.1 in
-    record {
-      inside = g.0;
-      lt = ltb-true place (length (held_of s i)) g.1;
-      raw = e.1;
-      payload = omega arith;
-      rightly = c.1;
-      whole = b.1;
-      no_cell = not-true (is_cell (field_of s (target_of s i place) f)) a.1;
-    }
 
 -- what is no cell names none
 pub no_cell_named : (x : Field) (w : ℕ) → is_cell x ≡ false → x ≢ field.Cell w
@@ -263,24 +185,24 @@ no_cell_named (field.Cell c) w h e = absurd cc
 pub fill_keeps : (s : State) (i place f : ℕ) (value : Field) → IsShaped s → IsConsistent s
     → can s (event.Fill i place f value) ≡ true → IsConsistent (after s (event.Fill i place f value))
 fill_keeps s i place f value range k h =
-    let guard = fill_guard s i place f value h in
+    let needs = fill_needs s i place f value h in
     let b = target_of s i place in
     let alive : live s.colours s.control s.collector.sweep b ≡ true
-    = at_place (λ d. live s.colours s.control s.collector.sweep d ≡ true) (held_of s i) place guard.lt (k.held_live i) in
+    = at_place (λ d. live s.colours s.control s.collector.sweep d ≡ true) (held_of s i) place needs.there (k.cells.held_live i) in
     field_kept s b f value range k record {
-      payload = guard.payload;
+      payload = omega (arith, needs.payload);
       alive = alive;
-      names = (λ w is. named_live s i w value k guard.rightly guard.whole is);
-      gone = (λ now w is. absurd (no_cell_named (field_of s b f) w guard.no_cell is));
-      due = (λ now set cut old w is why. elim (status_in_trace s i range k guard.inside now) [
-        | inl async ↦ held_outside s i w set value old async guard.rightly is
+      names = (λ w is. named_live s i w value k needs.names needs.sealed is);
+      gone = (λ now w is. absurd (no_cell_named (field_of s b f) w needs.clear is));
+      due = (λ now set cut old w is why. elim (status_in_trace s i range k needs.inside now) [
+        | inl async ↦ held_outside s i w set value old async needs.names is
         | inr sync2 ↦ absurd (elim why [
-          | inl black ↦ at_place (λ d. is_raw s d ≡ true → colour_of s d ≢ colour.Black) (held_of s i) place guard.lt
-              (k.raw_not_black i sync2) guard.raw black
+          | inl black ↦ at_place (λ d. is_raw s d ≡ true → colour_of s d ≢ colour.Black) (held_of s i) place needs.there
+              (k.cells.raw_not_black i sync2) needs.raw black
           | inr scan ↦
-              let answers = (k.scans scan.0 scan.1).answers in
+              let answers = (k.tracing.scans scan.0 scan.1).answers in
               let async : (presence_of s i).status ≡ status.Async
-              = k.answered i (inside_below s i range guard.inside) (subst (λ x. is_handshake x ≡ true) (sym now) refl)
+              = k.mutators.answered i (inside_there s range i needs.inside) (subst (λ x. is_handshake x ≡ true) (sym now) refl)
               (one_of_all s.collector.answered i answers)
               ∙ ap requested_of now in cc
         ])
