@@ -22,7 +22,7 @@ use Rattle.core_machine.proofs.Conditions.{claim_needs}
 use Rattle.dlg_core.specs.Consistent.{IsConsistent}
 use Rattle.dlg_core.specs.Reachable.{Reachable, Reach, anchor, named}
 use Rattle.dlg_core.proofs.Computes.{into}
-use Rattle.dlg_core.proofs.Keeps.Holding.{inside_below}
+use Rattle.core_machine.proofs.OneOperation.{inside_there}
 use Rattle.dlg_core.proofs.Safety.{consistent_safe}
 use Rattle.dlg_core.proofs.Step.{consistent_after}
 use Rattle.heap_rule.specs.declared.known.Known.{Known}
@@ -93,7 +93,7 @@ module _ (fixed : ℕ → Bool) (s t : State) (l : Lore) (i c : ℕ) (shape : Is
   unreached r = (consistent_safe s k).in_use c r blue
 
   nulls : (f : ℕ) → field_of s c f ≡ field.Null
-  nulls f = k.blue_null c f blue
+  nulls f = k.cells.blue_null c f blue
 
   fields : (x f : ℕ) → field_of t x f ≡ field_of s x f
   fields x f = ap (λ (rs : List (List Field)). field_in rs x f) rows
@@ -256,4 +256,4 @@ pub facts_claim : (fixed : ℕ → Bool) (s : State) (l : Lore) (i c : ℕ) → 
 facts_claim fixed s l i c shape k h facts =
     let needs = claim_needs s i c h in
     claim_facts fixed s (after s (event.Claim i c)) l i c (colour_of s c) shape k facts
-    (consistent_after s (event.Claim i c) shape k h) refl refl refl (inside_below s i shape needs.inside) refl
+    (consistent_after s (event.Claim i c) shape k h) refl refl refl (inside_there s shape i needs.inside) refl

@@ -17,8 +17,9 @@ use Rattle.core_machine.specs.Places.{holds, kept}
 use Rattle.core_machine.specs.State.{State, field_in, field_of, held_of, own_of, presence_of}
 use Rattle.dlg_core.specs.Consistent.{IsConsistent}
 use Rattle.dlg_core.specs.Reachable.{Reachable, Reach, anchor, held, named}
-use Rattle.dlg_core.proofs.Keeps.Holding.{holds_kept, inside_below, keep_inside}
-use Rattle.dlg_core.proofs.Keeps.Presence.{begins_below}
+use Rattle.dlg_core.proofs.HeldLists.{holds_kept}
+use Rattle.core_machine.proofs.Conditions.{keep_needs}
+use Rattle.core_machine.proofs.OneOperation.{beginner_there, inside_there}
 use Rattle.dlg_core.proofs.Step.{consistent_after}
 use Rattle.heap_rule.specs.declared.known.Known.{Known}
 use Rattle.heap_rule.specs.declared.known.Known.TheVariants as knows
@@ -47,11 +48,11 @@ module _ (fixed : ℕ → Bool) (s : State) (l : Lore) (i : ℕ) (shape : IsShap
   out = not_inside (presence_of s i).inside (and_parts _ _ happens).0
 
   holds_nothing : held_of s i ≡ []
-  holds_nothing = (k.out i out).0
+  holds_nothing = (k.mutators.out i out).0
 
   below : i < length s.owns
   below =
-      let there = begins_below s i happens in
+      let there = beginner_there s shape i happens in
       let fit = shape.mutators_fit in
       omega (arith, there, fit.owns_fit, fit.presences_fit)
 
@@ -204,20 +205,20 @@ cells_kept places count from copies =
 module _ (fixed : ℕ → Bool) (s : State) (l : Lore) (i : ℕ) (shape : IsShaped s) (k : IsConsistent s) (facts : Facts fixed s l) where
   own_below : is_in s i ≡ true → i < length s.owns
   own_below inside =
-      let there = inside_below s i shape inside in
+      let there = inside_there s shape i inside in
       let fit = shape.mutators_fit in
       omega (arith, there, fit.owns_fit)
 
   known_below : is_in s i ≡ true → i < length l.known
   known_below inside =
-      let there = inside_below s i shape inside in
+      let there = inside_there s shape i inside in
       omega (arith, there, facts.known_fit)
 
   pub keep_made : (count from copies : ℕ) → can s (event.Keep i count from copies) ≡ true
       → Made fixed s (after s (event.Keep i count from copies)) l (lore_after s l (event.Keep i count from copies)) i
       (keeping (own_of s i) count from copies) (take count (known_in l.known i) ++ take copies (drop from (known_in l.known i)))
   keep_made count from copies h =
-      let inside = keep_inside s i count from copies h in
+      let inside = (keep_needs s i count from copies h).inside in
       let t = after s (event.Keep i count from copies) in
       let own = keeping (own_of s i) count from copies in
       let known = known_in l.known i in

@@ -30,7 +30,7 @@ held_in : (s : State) (i x : ℕ) (inside : Bool) → (presence_of s i).inside �
 held_in s i x true is k h = held i is (sym (has_holds (held_of s i) x) ∙ h)
 held_in s i x false is k h =
     let none : has [] x ≡ true =
-    subst (λ (places : List Held). has (map (λ p. p.cell) places) x ≡ true) (k.out i is).0 h in
+    subst (λ (places : List Held). has (map (λ p. p.cell) places) x ≡ true) (k.mutators.out i is).0 h in
     absurd cc
 
 pub reached_held : (s : State) (i x : ℕ) → IsConsistent s → has (cells_of s i) x ≡ true → Reachable s x

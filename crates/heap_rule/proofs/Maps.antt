@@ -81,7 +81,7 @@ smaller old t m root within still =
 
 -- .. and that is so where nothing changes of any cell that is still reachable
 pub anchor_in : (fixed : ℕ → Bool) (t : State) (m : Lore) → IsConsistent t → Facts fixed t m → In t m 0
-anchor_in fixed t m k facts = record { reached = anchor refl; box = k.anchor_box; old = facts.freshed.anchor }
+anchor_in fixed t m k facts = record { reached = anchor refl; box = k.cells.anchor_box; old = facts.freshed.anchor }
 
 pub same_payload : (s t : State) (l m : Lore) (x : ℕ) → SameAt s t l m x → payload_of t m x ≡ payload_of s l x
 same_payload s t l m x same = λ j f. (ap (entry_of m.terms) (same.rows f) ∙ same.entries f) j

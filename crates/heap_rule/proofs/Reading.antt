@@ -23,8 +23,8 @@ use Rattle.core_machine.proofs.Conditions.{read_needs}
 use Rattle.core_machine.proofs.Frames.{set_field_other}
 use Rattle.dlg_core.specs.Consistent.{IsConsistent}
 use Rattle.dlg_core.specs.Reachable.{Reachable, named}
-use Rattle.dlg_core.proofs.Keeps.Holding.{inside_below}
-use Rattle.dlg_core.proofs.Keeps.Sweep.{wipe_is}
+use Rattle.core_machine.proofs.OneOperation.{inside_there}
+use Rattle.dlg_core.proofs.Truths.{wipe_is}
 use Rattle.dlg_core.proofs.Step.{consistent_after}
 use Rattle.dlg_core.proofs.Truths.{or_here, or_later, or_left}
 use Rattle.dlg_core.proofs.Untouched.{wiping_not_reachable}
@@ -231,7 +231,7 @@ module _ (fixed : ℕ → Bool) (s : State) (l : Lore) (i place f : ℕ) (shape 
   read_made_by found is later =
       let own = having_read (own_of s i) found in
       let grown = grows found is in
-      let below : i < length s.owns = let lt = inside_below s i shape inside in let fit = shape.mutators_fit in omega (arith, lt, fit.owns_fit) in
+      let below : i < length s.owns = let lt = inside_there s shape i inside in let fit = shape.mutators_fit in omega (arith, lt, fit.owns_fit) in
       let back = maker_back s (reads found) i own refl k below refl grown.back in
       let same : (x : ℕ) → Reachable (reads found) x → SameAt s (reads found) l (tells found) x
       = (λ x r. record { reached = back x r; rows = λ g. refl; term = refl; fresh = refl; entries = λ g. refl }) in
@@ -240,7 +240,7 @@ module _ (fixed : ℕ → Bool) (s : State) (l : Lore) (i place f : ℕ) (shape 
         knows = refl;
         mutators = refl;
         below = below;
-        known_below = let lt = inside_below s i shape inside in omega (arith, lt, facts.known_fit);
+        known_below = let lt = inside_there s shape i inside in omega (arith, lt, facts.known_fit);
         same = same;
         less = λ x j fresh. fresh;
         held_mine = λ x fresh. grown.old x (facts.freshed.held x i fresh);

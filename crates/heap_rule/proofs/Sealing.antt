@@ -21,7 +21,7 @@ use Rattle.core_machine.proofs.Frames.{set_field_other}
 use Rattle.dlg_core.specs.Consistent.{IsConsistent}
 use Rattle.dlg_core.specs.Reachable.{Reachable, anchor, named}
 use Rattle.dlg_core.proofs.Each.{field_each}
-use Rattle.dlg_core.proofs.Keeps.Holding.{inside_below}
+use Rattle.core_machine.proofs.OneOperation.{inside_there}
 use Rattle.dlg_core.proofs.Safety.{reachable_live}
 use Rattle.dlg_core.proofs.Step.{consistent_after}
 use Rattle.heap_rule.specs.declared.known.Known.{Known}
@@ -117,11 +117,11 @@ module _ (fixed : ℕ → Bool) (s : State) (l : Lore) (i place : ℕ) (of : Kin
 
   -- no reachable cell names it, and no other mutator holds it
   unnamed : (c f : ℕ) → Reachable s c → field_of s c f ≡ field.Cell x → ⊥
-  unnamed c f r e = absurd (let sealed = (k.names_live c x f (reachable_live s k c r) e).1 in let is = raw in cc)
+  unnamed c f r e = absurd (let sealed = (k.cells.names_live c x f (reachable_live s k c r) e).1 in let is = raw in cc)
 
   alone : (j : ℕ) → has (cells_of s j) x ≡ true → j ≡ i
   alone j there =
-      k.raw_once j i x raw (sym (has_holds (held_of s j) x) ∙ there) (sym (has_holds (held_of s i) x) ∙ held_here)
+      k.cells.raw_once j i x raw (sym (has_holds (held_of s j) x) ∙ there) (sym (has_holds (held_of s i) x) ∙ held_here)
 
   fields : (y f : ℕ) → (y ≡ x → f ≡ 5 → ⊥) → field_of t y f ≡ field_of s y f
   fields y f other = set_field_other s.rows x 5 y f (kind_field of) other
@@ -292,7 +292,7 @@ module _ (fixed : ℕ → Bool) (s : State) (l : Lore) (i place : ℕ) (of : Kin
     known_fit = length-set l.known i _ ∙ facts.known_fit;
     known_all = λ j. elim (cases_eq j i) [
       | inl is ↦
-          let lt = inside_below s i shape needs.inside in
+          let lt = inside_there s shape i needs.inside in
           let fit = facts.known_fit in
           let here : AllKnown (IsKnown fixed t m i) (cells_of t i) (known_in m.known i) =
           subst (λ (ws : List Known). AllKnown (IsKnown fixed t m i) (cells_of s i) ws)

@@ -17,7 +17,7 @@ use Rattle.core_machine.specs.Own.{Own, having_claimed, looked, marking, spent}
 use Rattle.core_machine.specs.State.{State, colour_of, field_of, held_of, own_in, own_of, row_in, set_field, target_of}
 use Rattle.core_machine.specs.declared.events.Found.TheVariants as finds
 use Rattle.core_machine.proofs.Conditions.{claim_needs, fill_needs}
-use Rattle.dlg_core.proofs.Keeps.Holding.{inside_below}
+use Rattle.core_machine.proofs.OneOperation.{inside_there}
 use Rattle.heap_rule.proofs.Sealing.{raw, sealed_same, target_reached}
 use Rattle.std.proofs.lemmas.List.{set-get_or}
 use Rattle.core_machine.specs.Words.{is_box_kind, is_raw_kind, same_field}
@@ -185,7 +185,7 @@ module _ (fixed : ℕ → Bool) (s : State) (l : Lore) (shape : IsShaped s) (k :
       let e = event.Claim i c in
       let needs = claim_needs s i c h in
       claimed_smaller i c (colour_of s c) refl (after s e) (lore_after s l e) (consistent_after s e shape k h) refl refl refl refl
-      (inside_below s i shape needs.inside) (root e h tt)
+      (inside_there s shape i needs.inside) (root e h tt)
 
   -- Seal: the cell was raw, and is a record or a fresh box now.
   seal_smaller : (i place : ℕ) (of : Kind) → can s (event.Seal i place of) ≡ true → Proper fixed s l (event.Seal i place of)

@@ -15,7 +15,7 @@ use Rattle.core_machine.specs.State.{State, field_in, field_of, held_of, is_raw_
 use Rattle.core_machine.specs.Words.{is_box_kind, is_raw_kind, same_field, written}
 use Rattle.core_machine.proofs.Conditions.{fill_needs, write_needs}
 use Rattle.dlg_core.specs.Consistent.{IsConsistent}
-use Rattle.dlg_core.proofs.Keeps.Holding.{inside_below}
+use Rattle.core_machine.proofs.OneOperation.{inside_there}
 use Rattle.dlg_core.proofs.Step.{consistent_after}
 use Rattle.heap_rule.specs.Facts.{Facts, Proper, is_record_kind}
 use Rattle.heap_rule.specs.Lore.{Lore, cells_of, has, known_in, known_stored_if, lore_after, revealed_if}
@@ -56,7 +56,7 @@ module _ (fixed : ℕ → Bool) (s : State) (l : Lore) (i place f : ℕ) (shape 
         cells = λ j. refl;
         mutators = refl;
         payload = let lt = needs.payload in omega (arith, lt);
-        maker = inside_below s i shape needs.inside;
+        maker = inside_there s shape i needs.inside;
         there = shape.names_fit.held_fit i place;
         holds_it = has_place s i place needs.there;
         no_record = raw_no_record (field_of s x 5) needs.raw;
@@ -83,7 +83,7 @@ module _ (fixed : ℕ → Bool) (s : State) (l : Lore) (i place f : ℕ) (shape 
         cells = cells;
         mutators = mutators;
         payload = let lt = needs.payload in omega (arith, lt);
-        maker = inside_below s i shape needs.inside;
+        maker = inside_there s shape i needs.inside;
         there = shape.names_fit.held_fit i place;
         holds_it = has_place s i place needs.there;
         no_record = box_no_record (field_of s x 5) needs.box;
