@@ -2,3 +2,5 @@ pub mod Boxes
 pub mod Facts
 pub mod Knowledge
 pub mod Lore
+pub mod NoRule
+pub mod Shape

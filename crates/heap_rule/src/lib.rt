@@ -12,7 +12,13 @@
 //! Reading order: `known`; specs/Lore, Knowledge, Facts, Boxes; then `theorems`.
 #![tactic(auto)]
 
+mod keeping;
 mod known;
+mod shape;
 pub mod theorems;
+mod view;
 
+pub use keeping::{Keeping, NoRule};
 pub use known::{Known, Learned};
+pub use shape::HeapShape;
+pub use view::{Place, Role, Share, View};
