@@ -3,4 +3,5 @@ pub mod Facts
 pub mod Knowledge
 pub mod Lore
 pub mod NoRule
+pub mod Rule
 pub mod Shape
