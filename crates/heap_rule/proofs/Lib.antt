@@ -9,5 +9,6 @@ pub mod Quiet
 pub mod Reading
 pub mod Sealing
 pub mod SmallerAfter
+pub mod Stepping
 pub mod Storing
 pub mod Writing

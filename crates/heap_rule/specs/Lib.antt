@@ -5,3 +5,4 @@ pub mod Lore
 pub mod NoRule
 pub mod Rule
 pub mod Shape
+pub mod Steps
