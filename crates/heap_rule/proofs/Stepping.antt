@@ -17,7 +17,9 @@ use Rattle.core_machine.specs.Frames.{Knows}
 use Rattle.core_machine.specs.InRange.{IsShaped, HasWords}
 use Rattle.core_machine.specs.Next.{after, can, found_by, maker}
 use Rattle.core_machine.specs.Own.{Own, own_after, presence_after}
+use Rattle.cell_words.specs.declared.controls.Control.{Control}
 use Rattle.cell_words.specs.declared.presences.Presence.{Presence}
+use Rattle.core_machine.specs.declared.events.Event.TheVariants as event
 use Rattle.core_machine.specs.Run.{Runs, last}
 use Rattle.core_machine.specs.State.{State, greatest_cells, own_in, own_of, presence_of, room_in, room_of}
 use Rattle.core_machine.specs.Table.{index_of, words_of}
@@ -39,7 +41,7 @@ use Rattle.heap_rule.specs.declared.view.Role.{Role}
 use Rattle.heap_rule.specs.declared.view.Role.TheVariants as role
 use Rattle.heap_rule.specs.declared.view.Share.{Share}
 use Rattle.heap_rule.specs.declared.view.View.{View}
-use Rattle.heap_rule.specs.Boxes.{Map, boxes_of}
+use Rattle.heap_rule.specs.Boxes.{Map, Smaller, boxes_by, boxes_of}
 use Rattle.heap_rule.specs.Facts.{Facts, Proper}
 use Rattle.heap_rule.specs.Lore.{Lore, cells_in, cells_of, known_by, known_in, learned, lore_after} 
 use Rattle.heap_rule.specs.Lore as lore
@@ -48,6 +50,7 @@ use Rattle.heap_rule.specs.Rule.{behind, share_of, told, told_collector, took, u
 use Rattle.heap_rule.specs.Shape.{Shape, start}
 use Rattle.heap_rule.specs.Steps.{AtStep, AtCollectorStep, CollectorOwes, Mine, Ours, Owed, Owes, Shown, StandsBy}
 use Rattle.heap_rule.proofs.FactsAfter.{facts_after}
+use Rattle.heap_rule.proofs.SmallerAfter.{smaller_after}
 
 -- What is so of any state that the rule shows.
 module _ {P : Type 0} (holds : Map → List P → Type 0) (fixed : ℕ → Bool) (h : Shape) (l : Ledger P)
@@ -144,6 +147,22 @@ module _ {P : Type 0} where
         trail = trail_mine (Some i) l.run (took e found) made ∙ ap (λ (ts : List Taken). ts ++ took e found ∷ []) fits.trail;
       }
 
+-- an event of the collector leaves the boxes
+collectors_boxes : (s : State) (l : Lore) (e : Event) → maker e ≡ None → boxes_by s l e ≡ boxes_of s l
+collectors_boxes s l (event.Begin i) made = let no = made in absurd cc
+collectors_boxes s l (event.Look i) made = let no = made in absurd cc
+collectors_boxes s l (event.Read i place f) made = let no = made in absurd cc
+collectors_boxes s l (event.Mark i place) made = let no = made in absurd cc
+collectors_boxes s l (event.Write i place f old new) made = let no = made in absurd cc
+collectors_boxes s l (event.Claim i c) made = let no = made in absurd cc
+collectors_boxes s l (event.Fill i place f value) made = let no = made in absurd cc
+collectors_boxes s l (event.Seal i place of) made = let no = made in absurd cc
+collectors_boxes s l (event.Answer i) made = let no = made in absurd cc
+collectors_boxes s l (event.Keep i count from copies) made = let no = made in absurd cc
+collectors_boxes s l (event.End i) made = let no = made in absurd cc
+collectors_boxes s l (event.Over i) made = let no = made in absurd cc
+collectors_boxes s l e made = refl
+
 -- A step of a mutator's seat.
 module _ {P : Type 0} (opens : ℕ → ℕ → P) (holds : Map → List P → Type 0) (fixed : ℕ → Bool) (h : Shape) where
   -- what the seat knows
@@ -196,3 +215,166 @@ module _ {P : Type 0} (opens : ℕ → ℕ → P) (holds : Map → List P → Ty
   place_else l e seat v passes mine made still j (places.Joined share) there fits =
       let apart : j ≢ v.number = (λ is. let no : some (places.Joined share) ≡ some places.Away = sym there ∙ ap (get_elem? l.places) is ∙ mine.place in cc) in
       (share_else l e passes j share (λ is. apart (let same : Some v.number ≡ Some j = sym made ∙ is in cc)) (still j apart) fits.0, fits.1)
+
+  -- the words behind the event
+  words_behind : (l : Ledger P) (e : Event) (words : List ℕ) (word : ℕ) (f g : ℕ → ℕ) → IsShaped l.core
+      → Owed fixed l.core l.lore e word f g → words ≡ words_of l.core
+      → slice_set words word (f (slice_index words word)) ≡ words_of (after l.core e)
+  words_behind l e words word f g shaped owed is =
+      let once = one_operation l.core e shaped owed.happens in
+      let ws = words_of l.core in
+      ap (λ (ns : List ℕ). slice_set ns word (f (slice_index ns word))) is
+      ∙ ap (λ (n : ℕ). slice_set ws word n) (owed.left (slice_index ws word))
+      ∙ ap (λ (i : ℕ). slice_set ws i (left_by (operation_of l.core e) (slice_index ws i))) (sym owed.index)
+      ∙ sym once.left
+
+  says_found : (l : Ledger P) (e : Event) (words : List ℕ) (word : ℕ) (f g : ℕ → ℕ) → IsShaped l.core
+      → Owed fixed l.core l.lore e word f g → words ≡ words_of l.core
+      → IsPackedAs (found_by l.core e) (g (slice_index words word))
+  says_found l e words word f g shaped owed is =
+      let once = one_operation l.core e shaped owed.happens in
+      owed.tells (slice_index words word)
+      (subst (λ (ns : List ℕ). IsPackedAs (found_by l.core e) (slice_index ns word)) (sym is)
+          (subst (λ (i : ℕ). IsPackedAs (found_by l.core e) (slice_index (words_of l.core) i)) owed.index once.found))
+
+  pub mutator_step : {S : Type 0} (slots id : ℕ) (me : table.Me S (View P)) (e : Event) (word : ℕ) (f g : ℕ → ℕ)
+      (next : Learned → Found → P → P) → me.0.role ≡ role.Mutator → maker e ≡ Some me.0.number → Owes fixed me.0 e word f g
+      → StandsBy holds fixed next me.0 e
+      → table.Allows (Kept opens holds fixed h) slots id me word f
+      (λ n m. AtStep holds fixed me.0 e next (g n) m.0 × (m.1 ≡ me.1))
+  mutator_step slots id me e word f g next is made owes rule s k fit there bound =
+      let v = me.0 in
+      let l = k.ledger in
+      let mine : MutatorFits h l id v = subst (λ (r : Role). SeatFits h l id v r) is (k.each_seat id v there) in
+      let knows = mine_of l id v k.stands mine in
+      let owed = owes l.core l.lore knows in
+      let shaped = core_shaped holds fixed h l k.stands in
+      let found = found_by l.core e in
+      let tells = learned l.core l.lore e in
+      let pass = next tells found v.pass in
+      let passes = slice_set l.passes v.number pass in
+      let w = told v e found tells pass in
+      let below : v.number < length l.passes = let lt = mine.number in let n = k.stands.passes_fit in omega (arith, lt, n) in
+      let still : (j : ℕ) → j ≢ v.number → get_elem? passes j ≡ get_elem? l.passes j
+      = (λ j other. lists.set_else l.passes v.number j pass other) in
+      let kept = rule l.core l.lore l.passes knows owed.happens owed.proper mine.share.pass k.stands.kept in
+      let new : MutatorFits h (behind l e passes) id w = record {
+        shape = mine.shape;
+        number = mine.number;
+        place = mine.place;
+        owner = mine.owner;
+        share = share_mine l e v passes pass shaped owed.happens
+            (let lt = knows.number in let fit = k.stands.facts.known_fit in let n = knows.mutators in omega (arith, lt, fit, n))
+            made (set_here l.passes v.number pass below) mine.share;
+      } in
+      (w, table.keeps, tt,
+        record {
+          ledger = behind l e passes;
+          stands = stands_behind holds fixed h l k.stands e passes owed.happens owed.proper
+              (length-set l.passes v.number pass ∙ k.stands.passes_fit) kept;
+          words_are = words_behind l e s.words word f g shaped owed k.words_are;
+          each_place = λ j p at. place_else l e id v passes mine made still j p at (k.each_place j p at);
+          each_seat = λ j u at. elim (at_set s.views id j w u at) [
+            | inl here ↦
+                let fits : SeatFits h (behind l e passes) id w w.role = subst (λ (r : Role). SeatFits h (behind l e passes) id w r) (sym is) new in
+                subst (λ (n : ℕ). SeatFits h (behind l e passes) n u u.role) (sym here.0)
+                (subst (λ (x : View P). SeatFits h (behind l e passes) id x x.role) here.1 fits)
+            | inr other ↦ seat_else l e id v passes mine made still j u u.role other.0 (k.each_seat j u other.1)
+          ];
+        },
+        (record {
+          core = l.core;
+          lore = l.lore;
+          passes = l.passes;
+          mine = knows;
+          happens = owed.happens;
+          kept = k.stands.kept;
+          pass = mine.share.pass;
+          says = says_found l e s.words word f g shaped owed k.words_are;
+          new = refl;
+        }, refl))
+
+  -- A step of the collector's seat. No pass changes, and the client's rule stands by its own law.
+  ours_of : (l : Ledger P) (seat : ℕ) (v : View P) → Stands holds fixed h l → CollectorFits h l seat v → Ours fixed v l.core l.lore
+  ours_of l seat v stands fits = record {
+    shown = core_shown holds fixed h l stands;
+    cells = stands.cells ∙ ap (λ (x : Shape). x.cells) (sym fits.shape);
+    mutators = stands.mutators ∙ ap (λ (x : Shape). x.mutators) (sym fits.shape);
+    few = subst (λ (x : Shape). x.cells ≤ greatest_cells) (sym fits.shape) stands.sound.few;
+    control = fits.control;
+    part = fits.part;
+  }
+
+  seat_beside : (l : Ledger P) (e : Event) (seat : ℕ) (v : View P) → CollectorFits h l seat v → maker e ≡ None
+      → (j : ℕ) (u : View P) (r : Role) → j ≢ seat → SeatFits h l j u r → SeatFits h (behind l e l.passes) j u r
+  seat_beside l e seat v ours made j u role.Mutator other fits = record {
+    shape = fits.shape;
+    number = fits.number;
+    place = fits.place;
+    owner = fits.owner;
+    share = share_else l e l.passes u.number (share_of u) (λ is. let no = sym made ∙ is in cc) refl fits.share;
+  }
+  seat_beside l e seat v ours made j u role.Collector other fits = absurd (other (sym fits.seat_is ∙ ours.seat_is))
+  seat_beside l e seat v ours made j u role.Spent other fits = tt
+
+  place_beside : (l : Ledger P) (e : Event) → maker e ≡ None → (j : ℕ) (p : Place P) → PlaceFits opens h l j p
+      → PlaceFits opens h (behind l e l.passes) j p
+  place_beside l e made j places.Unsplit fits = share_else l e l.passes j (unsplit opens h j) (λ is. let no = sym made ∙ is in cc) refl fits
+  place_beside l e made j places.Away fits = tt
+  place_beside l e made j (places.Joined share) fits =
+      (share_else l e l.passes j share (λ is. let no = sym made ∙ is in cc) refl fits.0, fits.1)
+
+  pub collector_step : ((old new : Map) (passes : List P) → Smaller old new → holds old passes → holds new passes)
+      → {S : Type 0} (slots id : ℕ) (me : table.Me S (View P)) (e : Event) (word : ℕ) (f g : ℕ → ℕ)
+      → me.0.role ≡ role.Collector → maker e ≡ None → CollectorOwes fixed me.0 e word f g
+      → table.Allows (Kept opens holds fixed h) slots id me word f
+      (λ n m. AtCollectorStep fixed me.0 e (g n) m.0 × (m.1 ≡ me.1))
+  collector_step shrinks slots id me e word f g is made owes s k fit there bound =
+      let v = me.0 in
+      let l = k.ledger in
+      let ours : CollectorFits h l id v = subst (λ (r : Role). SeatFits h l id v r) is (k.each_seat id v there) in
+      let knows = ours_of l id v k.stands ours in
+      let owed = owes l.core l.lore knows in
+      let shaped = core_shaped holds fixed h l k.stands in
+      let found = found_by l.core e in
+      let w = told_collector v e found in
+      let framed = collector_framed l.core e made in
+      let kept : holds (boxes_of (after l.core e) (lore_after l.core l.lore e)) l.passes =
+      shrinks (boxes_of l.core l.lore) (boxes_of (after l.core e) (lore_after l.core l.lore e)) l.passes
+      (subst (λ (m : Map). Smaller m (boxes_of (after l.core e) (lore_after l.core l.lore e))) (collectors_boxes l.core l.lore e made)
+          (smaller_after fixed l.core l.lore shaped (core_consistent holds fixed h l k.stands) k.stands.facts e owed.happens owed.proper))
+      k.stands.kept in
+      let new : CollectorFits h (behind l e l.passes) id w = record {
+        shape = ours.shape;
+        seat_is = ours.seat_is;
+        places = ours.places;
+        control = framed.control ∙ ap (λ (c : Control). control_after c e) ours.control;
+        part =
+            framed.collector
+            ∙ ap (λ (n : ℕ). collector_after n l.core.control l.core.collector e found) knows.cells
+            ∙ ap (λ (c : Control). collector_after v.shape.cells c l.core.collector e found) ours.control
+            ∙ ap (λ (c : Collector). collector_after v.shape.cells v.control c e found) ours.part;
+        trail = trail_mine None l.run (took e found) made ∙ ap (λ (ts : List Taken). ts ++ took e found ∷ []) ours.trail;
+      } in
+      (w, table.keeps, tt,
+        record {
+          ledger = behind l e l.passes;
+          stands = stands_behind holds fixed h l k.stands e l.passes owed.happens owed.proper k.stands.passes_fit kept;
+          words_are = words_behind l e s.words word f g shaped owed k.words_are;
+          each_place = λ j p at. place_beside l e made j p (k.each_place j p at);
+          each_seat = λ j u at. elim (at_set s.views id j w u at) [
+            | inl here ↦
+                let fits : SeatFits h (behind l e l.passes) id w w.role = subst (λ (r : Role). SeatFits h (behind l e l.passes) id w r) (sym is) new in
+                subst (λ (n : ℕ). SeatFits h (behind l e l.passes) n u u.role) (sym here.0)
+                (subst (λ (x : View P). SeatFits h (behind l e l.passes) id x x.role) here.1 fits)
+            | inr other ↦ seat_beside l e id v ours made j u u.role other.0 (k.each_seat j u other.1)
+          ];
+        },
+        (record {
+          core = l.core;
+          lore = l.lore;
+          ours = knows;
+          happens = owed.happens;
+          says = says_found l e s.words word f g shaped owed k.words_are;
+          new = refl;
+        }, refl))
