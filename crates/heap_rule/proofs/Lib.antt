@@ -5,6 +5,7 @@ pub mod Holding
 pub mod Lists
 pub mod Makers
 pub mod Maps
+pub mod Moving
 pub mod Quiet
 pub mod Reading
 pub mod Sealing

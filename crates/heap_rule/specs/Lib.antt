@@ -2,7 +2,9 @@ pub mod Boxes
 pub mod Facts
 pub mod Knowledge
 pub mod Lore
+pub mod Moves
 pub mod NoRule
+pub mod Opening
 pub mod Rule
 pub mod Shape
 pub mod Steps
