@@ -1,5 +1,5 @@
 -- The rule at the opening, and that splitting a mutator off and joining it keep it.
-use Rattle.std.proofs.Common.{◌≡◌, ◌≢◌, ◌<◌, ◌≤◌, ◌+◌, ◌-◌, ◌==◌, ℕ, zero, suc, Bool, true, false, List, [], ◌∷◌, ◌++◌, length}
+use Rattle.std.proofs.Common.{◌⊎◌, ◌≡◌, ◌≢◌, ◌<◌, ◌≤◌, ◌+◌, ◌-◌, ◌==◌, ℕ, zero, suc, Bool, true, false, List, [], ◌∷◌, ◌++◌, length}
 use Rattle.std.proofs.Common.{Option, Some, None, inl, inr, refl, sym, ◌∙◌, ap, subst, arith, if◌then◌else◌, replicate, get_or, cond, length-set}
 use Rattle.std.proofs.Math.ListN.{set}
 use Rattle.std.proofs.lemmas.Bool.{and_parts, cases_eq, cases_lt, eq-eqb, ne_eqb}
@@ -33,13 +33,15 @@ use Rattle.dlg_core.proofs.Starts.{back_of, front_of, in_replicate, null_behind,
 use Rattle.heap_rule.specs.declared.known.Known.{Known}
 use Rattle.heap_rule.specs.declared.view.Place.{Place}
 use Rattle.heap_rule.specs.declared.view.Place.TheVariants as places
+use Rattle.heap_rule.specs.declared.view.Role.{Role}
 use Rattle.heap_rule.specs.declared.view.Role.TheVariants as role
 use Rattle.heap_rule.specs.declared.view.View.{View}
 use Rattle.heap_rule.specs.Boxes.{Map, boxes_of}
 use Rattle.heap_rule.specs.Facts.{AllKnown, Facts, IsKnown, TermFits, is_record_kind}
 use Rattle.heap_rule.specs.Lore.{Lore, Terms, cells_in, cells_of, entry_of, has, known_in}
+use Rattle.heap_rule.specs.Moves.{given_view, joined_view, spent_view, split_view}
 use Rattle.heap_rule.specs.Opening.{FirstTerms, opening_lore, opening_passes, opening_rooms, opening_view, passes_from}
-use Rattle.heap_rule.specs.Rule.{Kept, Ledger, PlaceFits, SeatFits, ShareFits, Stands, unsplit}
+use Rattle.heap_rule.specs.Rule.{CollectorFits, Kept, Ledger, MutatorFits, PlaceFits, share_of, SeatFits, ShareFits, Stands, unsplit}
 use Rattle.heap_rule.specs.Shape.{IsSound, Shape, start}
 use Rattle.heap_rule.proofs.Carried.{term_moved}
 
@@ -116,6 +118,17 @@ some_below : {A : Type 0} (xs : List A) (i : ℕ) (a : A) → get_elem? xs i ≡
 some_below [] i a h = absurd cc
 some_below (x ∷ xs) zero a h = omega arith
 some_below (x ∷ xs) (suc i) a h = let lt = some_below xs i a h in omega (arith, lt)
+
+-- .. of a list with one element more at its end
+last_or : {A : Type 0} (xs : List A) (a b : A) (j : ℕ) → get_elem? (xs ++ a ∷ []) j ≡ some b
+    → (get_elem? xs j ≡ some b) ⊎ ((j ≡ length xs) × (a ≡ b))
+last_or [] a b zero h = inr (refl, cc)
+last_or [] a b (suc j) h = absurd cc
+last_or (x ∷ xs) a b zero h = inl h
+last_or (x ∷ xs) a b (suc j) h = elim (last_or xs a b j h) [
+  | inl before ↦ inl before
+  | inr behind ↦ inr (ap suc behind.0, behind.1)
+]
 
 replicated : {A : Type 0} (n i : ℕ) (x a : A) → get_elem? (replicate n x) i ≡ some a → x ≡ a
 replicated zero i x a h = absurd cc
@@ -245,3 +258,153 @@ module _ {P : Type 0} (opens : ℕ → ℕ → P) (holds : Map → List P → Ty
       room = roomed_else l.core.rooms i room j other ∙ is.room;
       own = is.own; presence = is.presence; known = is.known; pass = is.pass; trail = is.trail;
     }
+
+    split_place : (j : ℕ) (p : Place P) → j ≢ i → PlaceFits opens h l j p → PlaceFits opens h split j p
+    split_place j places.Unsplit other is = split_share j (unsplit opens h j) other is
+    split_place j places.Away other is = tt
+    split_place j (places.Joined share) other is = (split_share j share other is.0, is.1)
+
+    split_seat : (j : ℕ) (u : View P) (r : Role) → get_elem? l.places i ≡ some places.Unsplit → j ≢ l.collector
+        → SeatFits h l j u r → SeatFits h split j u r
+    split_seat j u role.Mutator there other is =
+        let apart : u.number ≢ i = (λ same. let no : some places.Away ≡ some places.Unsplit = sym is.place ∙ ap (get_elem? l.places) same ∙ there in cc) in
+        record {
+          shape = is.shape;
+          number = is.number;
+          place = lists.set_else l.places i u.number places.Away apart ∙ is.place;
+          owner = ap (λ (b : Bool). if b then seat else l.owner u.number) (ne_eqb u.number i apart) ∙ is.owner;
+          share = split_share u.number (share_of u) apart is.share;
+        }
+    split_seat j u role.Collector there other is = absurd (other (sym is.seat_is))
+    split_seat j u role.Spent there other is = tt
+
+    -- the new seat
+    given_fits : (v : View P) → v.shape ≡ h → i < length l.places → MutatorFits h split seat (given_view opens i room v)
+    given_fits v shape below = record {
+      shape = shape;
+      number = lt;
+      place = set_here l.places i places.Away below;
+      owner = ap (λ (b : Bool). if b then seat else l.owner i) (eq-eqb i i refl);
+      share = record {
+        room = get_or-set_same l.core.rooms i room 0 (let n = rooms_many in omega (arith, lt, n));
+        own = fits.own;
+        presence = fits.presence;
+        known = fits.known;
+        pass = fits.pass ∙ ap (λ (x : Shape). some (opens i x.setting)) (sym shape);
+        trail = fits.trail;
+      };
+    }
+
+  pub splits : {S : Type 0} (i room id : ℕ) (v : View P) → v.role ≡ role.Collector → i < v.shape.mutators
+      → get_elem? v.places i ≡ some places.Unsplit
+      → table.Splits (Kept opens holds fixed h {S = S}) id v (split_view i v) (given_view opens i room v)
+  splits i room id v is lt there s k at =
+      let l = k.ledger in
+      let ours : CollectorFits h l id v = subst (λ (r : Role). SeatFits h l id v r) is (k.each_seat id v at) in
+      let seat = length (set s.views id (split_view i v)) in
+      let old : get_elem? l.places i ≡ some places.Unsplit = ap (λ (ps : List (Place P)). get_elem? ps i) ours.places ∙ there in
+      let within : i < h.mutators = subst (λ (x : Shape). i < x.mutators) ours.shape lt in
+      let fits : ShareFits l i (unsplit opens h i) = k.each_place i places.Unsplit old in
+      let new = split l i room seat k.stands within fits in
+      let left : SeatFits h new id (split_view i v) v.role = subst (λ (r : Role). SeatFits h new id (split_view i v) r) (sym is) record {
+        shape = ours.shape;
+        seat_is = ours.seat_is;
+        places = ap (λ (ps : List (Place P)). set ps i places.Away) ours.places;
+        control = ours.control;
+        part = ours.part;
+        trail = ours.trail;
+      } in
+      let right = given_fits l i room seat k.stands within fits v ours.shape (some_below l.places i places.Unsplit old) in
+      record {
+        ledger = new;
+        stands = split_stands l i room seat k.stands within fits;
+        words_are = k.words_are;
+        each_place = λ j p place. elim (at_set l.places i j places.Away p place) [
+          | inl here ↦ subst (λ (q : Place P). PlaceFits opens h new j q) here.1 tt
+          | inr other ↦ split_place l i room seat k.stands within fits j p other.0 (k.each_place j p other.1)
+        ];
+        each_seat = λ j u view. elim (last_or (set s.views id (split_view i v)) (given_view opens i room v) u j view) [
+          | inl before ↦ elim (at_set s.views id j (split_view i v) u before) [
+              | inl here ↦
+                  subst (λ (n : ℕ). SeatFits h new n u u.role) (sym here.0)
+                  (subst (λ (x : View P). SeatFits h new id x x.role) here.1 left)
+              | inr other ↦ split_seat l i room seat k.stands within fits j u u.role old
+                  (λ same. other.0 (same ∙ ours.seat_is)) (k.each_seat j u other.1)
+            ]
+          | inr last_one ↦
+              subst (λ (n : ℕ). SeatFits h new n u u.role) (sym last_one.0)
+              (subst (λ (x : View P). SeatFits h new seat x x.role) last_one.1 right)
+        ];
+      }
+
+  -- Joining a mutator that is over.
+  module _ (l : Ledger P) (u : View P) where
+    abbrev joined : Ledger P
+    joined = record l { places = set l.places u.number (places.Joined (share_of u)) }
+
+    joined_share : (j : ℕ) (share : Share P) → ShareFits l j share → ShareFits joined j share
+    joined_share j share is = record {
+      room = is.room; own = is.own; presence = is.presence; known = is.known; pass = is.pass; trail = is.trail;
+    }
+
+    joined_place : (j : ℕ) (p : Place P) → PlaceFits opens h l j p → PlaceFits opens h joined j p
+    joined_place j places.Unsplit is = joined_share j (unsplit opens h j) is
+    joined_place j places.Away is = tt
+    joined_place j (places.Joined share) is = (joined_share j share is.0, is.1)
+
+    joined_seat : (j seat : ℕ) (w : View P) (r : Role) → l.owner u.number ≡ seat → j ≢ seat → j ≢ l.collector
+        → SeatFits h l j w r → SeatFits h joined j w r
+    joined_seat j seat w role.Mutator owner other apart is =
+        let away : w.number ≢ u.number = (λ same. other (sym is.owner ∙ ap l.owner same ∙ owner)) in
+        record {
+          shape = is.shape;
+          number = is.number;
+          place = lists.set_else l.places u.number w.number (places.Joined (share_of u)) away ∙ is.place;
+          owner = is.owner;
+          share = joined_share w.number (share_of w) is.share;
+        }
+    joined_seat j seat w role.Collector owner other apart is = absurd (apart (sym is.seat_is))
+    joined_seat j seat w role.Spent owner other apart is = tt
+
+  pub joins : {S : Type 0} (id : ℕ) (v : View P) (seat : ℕ) (u : View P) → v.role ≡ role.Collector → u.role ≡ role.Mutator
+      → u.presence.over ≡ true
+      → table.Joins (Kept opens holds fixed h {S = S}) id v seat u (joined_view v u) (spent_view opens)
+  joins id v seat u is joins_it over s k at apart there =
+      let l = k.ledger in
+      let ours : CollectorFits h l id v = subst (λ (r : Role). SeatFits h l id v r) is (k.each_seat id v at) in
+      let before : get_elem? s.views seat ≡ some u = sym (lists.set_else s.views id seat (joined_view v u) apart) ∙ there in
+      let mine : MutatorFits h l seat u = subst (λ (r : Role). SeatFits h l seat u r) joins_it (k.each_seat seat u before) in
+      let new = joined l u in
+      let stands = k.stands in
+      let both : SeatFits h new id (joined_view v u) v.role = subst (λ (r : Role). SeatFits h new id (joined_view v u) r) (sym is) record {
+        shape = ours.shape;
+        seat_is = ours.seat_is;
+        places = ap (λ (ps : List (Place P)). set ps u.number (places.Joined (share_of u))) ours.places;
+        control = ours.control;
+        part = ours.part;
+        trail = ours.trail;
+      } in
+      record {
+        ledger = new;
+        stands = record {
+          sound = stands.sound; cells = stands.cells; mutators = stands.mutators; legal = stands.legal; core_is = stands.core_is;
+          facts = stands.facts; passes_fit = stands.passes_fit; kept = stands.kept;
+        };
+        words_are = k.words_are;
+        each_place = λ j p place. elim (at_set l.places u.number j (places.Joined (share_of u)) p place) [
+          | inl here ↦
+              subst (λ (q : Place P). PlaceFits opens h new j q) here.1
+              (subst (λ (n : ℕ). PlaceFits opens h new n (places.Joined (share_of u))) (sym here.0) (joined_share l u u.number (share_of u) mine.share, over))
+          | inr other ↦ joined_place l u j p (k.each_place j p other.1)
+        ];
+        each_seat = λ j w view. elim (at_set (set s.views id (joined_view v u)) seat j (spent_view opens) w view) [
+          | inl here ↦ subst (λ (x : View P). SeatFits h new j x x.role) here.1 tt
+          | inr other ↦ elim (at_set s.views id j (joined_view v u) w other.1) [
+              | inl own ↦
+                  subst (λ (n : ℕ). SeatFits h new n w w.role) (sym own.0)
+                  (subst (λ (x : View P). SeatFits h new id x x.role) own.1 both)
+              | inr else_one ↦ joined_seat l u j seat w w.role mine.owner other.0
+                  (λ same. else_one.0 (same ∙ ours.seat_is)) (k.each_seat j w else_one.1)
+            ]
+        ];
+      }
