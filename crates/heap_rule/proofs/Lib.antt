@@ -6,6 +6,7 @@ pub mod Lists
 pub mod Makers
 pub mod Maps
 pub mod Moving
+pub mod Owing
 pub mod Quiet
 pub mod Reading
 pub mod Sealing

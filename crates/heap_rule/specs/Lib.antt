@@ -1,3 +1,4 @@
+pub mod Asks
 pub mod Boxes
 pub mod Facts
 pub mod Knowledge
