@@ -7,9 +7,11 @@ pub mod Makers
 pub mod Maps
 pub mod Moving
 pub mod Owing
+pub mod Picking
 pub mod Quiet
 pub mod Reading
 pub mod Sealing
+pub mod Showing
 pub mod SmallerAfter
 pub mod Stepping
 pub mod Storing

@@ -107,10 +107,10 @@ opening_facts fixed h terms sound firsts =
           let same = ap is_raw_kind (first_field h.first (h.cells - length h.first) x 5) in cc)
       | inr past ↦
           (consistent_safe (start h (opening_rooms h.mutators))
-              (opening_consistent h.cells (opening_rooms h.mutators) h.first sound.fit sound.first)).in_use x r
+          (opening_consistent h.cells (opening_rooms h.mutators) h.first sound.fit sound.first)).in_use x r
           (back_of (replicate (length h.first) colour.White) (replicate (h.cells - length h.first) colour.Blue) x colour.Blue colour.Blue
-              (let n = length-replicate (length h.first) colour.White in omega (arith, n, past))
-              (λ j. same_everywhere (h.cells - length h.first) j colour.Blue))
+          (let n = length-replicate (length h.first) colour.White in omega (arith, n, past))
+          (λ j. same_everywhere (h.cells - length h.first) j colour.Blue))
     ]
 
 -- reading of lists by `get_elem?`
@@ -197,8 +197,8 @@ module _ {P : Type 0} (opens : ℕ → ℕ → P) (holds : Map → List P → Ty
     words_are = refl;
     each_place = λ i p there.
         let lt : i < h.mutators = let below = some_below (replicate h.mutators places.Unsplit) i p there in
-            let still : Place P = places.Unsplit in
-            let n = length-replicate h.mutators still in omega (arith, below, n) in
+        let still : Place P = places.Unsplit in
+        let n = length-replicate h.mutators still in omega (arith, below, n) in
         place_opens terms i p lt (replicated h.mutators i places.Unsplit p there);
     each_seat = λ j v there. one_seat terms j v there;
   }
@@ -256,7 +256,11 @@ module _ {P : Type 0} (opens : ℕ → ℕ → P) (holds : Map → List P → Ty
     split_share : (j : ℕ) (share : Share P) → j ≢ i → ShareFits l j share → ShareFits split j share
     split_share j share other is = record {
       room = roomed_else l.core.rooms i room j other ∙ is.room;
-      own = is.own; presence = is.presence; known = is.known; pass = is.pass; trail = is.trail;
+      own = is.own;
+      presence = is.presence;
+      known = is.known;
+      pass = is.pass;
+      trail = is.trail;
     }
 
     split_place : (j : ℕ) (p : Place P) → j ≢ i → PlaceFits opens h l j p → PlaceFits opens h split j p
@@ -325,12 +329,12 @@ module _ {P : Type 0} (opens : ℕ → ℕ → P) (holds : Map → List P → Ty
         ];
         each_seat = λ j u view. elim (last_or (set s.views id (split_view i v)) (given_view opens i room v) u j view) [
           | inl before ↦ elim (at_set s.views id j (split_view i v) u before) [
-              | inl here ↦
-                  subst (λ (n : ℕ). SeatFits h new n u u.role) (sym here.0)
-                  (subst (λ (x : View P). SeatFits h new id x x.role) here.1 left)
-              | inr other ↦ split_seat l i room seat k.stands within fits j u u.role old
-                  (λ same. other.0 (same ∙ ours.seat_is)) (k.each_seat j u other.1)
-            ]
+            | inl here ↦
+                subst (λ (n : ℕ). SeatFits h new n u u.role) (sym here.0)
+                (subst (λ (x : View P). SeatFits h new id x x.role) here.1 left)
+            | inr other ↦ split_seat l i room seat k.stands within fits j u u.role old
+                (λ same. other.0 (same ∙ ours.seat_is)) (k.each_seat j u other.1)
+          ]
           | inr last_one ↦
               subst (λ (n : ℕ). SeatFits h new n u u.role) (sym last_one.0)
               (subst (λ (x : View P). SeatFits h new seat x x.role) last_one.1 right)
@@ -344,7 +348,12 @@ module _ {P : Type 0} (opens : ℕ → ℕ → P) (holds : Map → List P → Ty
 
     joined_share : (j : ℕ) (share : Share P) → ShareFits l j share → ShareFits joined j share
     joined_share j share is = record {
-      room = is.room; own = is.own; presence = is.presence; known = is.known; pass = is.pass; trail = is.trail;
+      room = is.room;
+      own = is.own;
+      presence = is.presence;
+      known = is.known;
+      pass = is.pass;
+      trail = is.trail;
     }
 
     joined_place : (j : ℕ) (p : Place P) → PlaceFits opens h l j p → PlaceFits opens h joined j p
@@ -387,8 +396,14 @@ module _ {P : Type 0} (opens : ℕ → ℕ → P) (holds : Map → List P → Ty
       record {
         ledger = new;
         stands = record {
-          sound = stands.sound; cells = stands.cells; mutators = stands.mutators; legal = stands.legal; core_is = stands.core_is;
-          facts = stands.facts; passes_fit = stands.passes_fit; kept = stands.kept;
+          sound = stands.sound;
+          cells = stands.cells;
+          mutators = stands.mutators;
+          legal = stands.legal;
+          core_is = stands.core_is;
+          facts = stands.facts;
+          passes_fit = stands.passes_fit;
+          kept = stands.kept;
         };
         words_are = k.words_are;
         each_place = λ j p place. elim (at_set l.places u.number j (places.Joined (share_of u)) p place) [
@@ -400,11 +415,11 @@ module _ {P : Type 0} (opens : ℕ → ℕ → P) (holds : Map → List P → Ty
         each_seat = λ j w view. elim (at_set (set s.views id (joined_view v u)) seat j (spent_view opens) w view) [
           | inl here ↦ subst (λ (x : View P). SeatFits h new j x x.role) here.1 tt
           | inr other ↦ elim (at_set s.views id j (joined_view v u) w other.1) [
-              | inl own ↦
-                  subst (λ (n : ℕ). SeatFits h new n w w.role) (sym own.0)
-                  (subst (λ (x : View P). SeatFits h new id x x.role) own.1 both)
-              | inr else_one ↦ joined_seat l u j seat w w.role mine.owner other.0
-                  (λ same. else_one.0 (same ∙ ours.seat_is)) (k.each_seat j w else_one.1)
-            ]
+            | inl own ↦
+                subst (λ (n : ℕ). SeatFits h new n w w.role) (sym own.0)
+                (subst (λ (x : View P). SeatFits h new id x x.role) own.1 both)
+            | inr else_one ↦ joined_seat l u j seat w w.role mine.owner other.0
+                (λ same. else_one.0 (same ∙ ours.seat_is)) (k.each_seat j w else_one.1)
+          ]
         ];
       }

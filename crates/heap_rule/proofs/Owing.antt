@@ -80,8 +80,8 @@ looks s k h =
     let is : s.collector.sweep ≡ sweeping.Fresh = fresh_is s.collector.sweep fresh.1 in
     and_from _ (not (is_gray (colour_of s s.control.position))) three.0
     (not_gray (colour_of s s.control.position)
-        (k.sweep.unswept s.control.position
-            (here_unswept s.control s.collector.sweep (same_stage_is s.control.stage stage.Sweep at.0) (λ done. let no = sym is ∙ done in cc))))
+    (k.sweep.unswept s.control.position
+    (here_unswept s.control s.collector.sweep (same_stage_is s.control.stage stage.Sweep at.0) (λ done. let no = sym is ∙ done in cc))))
 
 bare_can : (s : State) (e : Event) → IsConsistent s → maker e ≡ None → can (bare s) e ≡ true → can s e ≡ true
 bare_can s (event.Begin i) k made h = let no = made in absurd cc
@@ -238,7 +238,7 @@ module _ {P : Type 0} (fixed : ℕ → Bool) (v : View P) (s : State) (l : Lore)
   knows_place place lt =
       subst (λ (c : ℕ). IsKnown fixed s l i c (known_of v place)) (cell_there v.own.held place)
       (all_at (IsKnown fixed s l i) (cells_in v.own.held) v.known place
-          (subst (λ (n : ℕ). place < n) (sym (length-map v.own.held (λ (p : Held). p.cell))) lt) knows_all)
+      (subst (λ (n : ℕ). place < n) (sym (length-map v.own.held (λ (p : Held). p.cell))) lt) knows_all)
 
   raw_is : (x : ℕ) (k : Known) → IsRaw k → IsKnown fixed s l i x k
       → (field_of s x 5 ≡ field.Null) × ArePayload (raw_fields k) (field_of s x)
@@ -354,7 +354,7 @@ module _ {P : Type 0} (fixed : ℕ → Bool) (v : View P) (s : State) (l : Lore)
         let names = and_from _ _ (and_from _ _ box (names_now old may.names_old)) (names_now new may.names_new) in
         and_from _ _ (and_from _ _ names (not_now (is_raw_value s new) (sealed_now new may.sealed)))
         (ap (λ (b : Barrier). marks_stand b (held_of s i) old new) (barrier_now may.inside)
-            ∙ ap (λ (o : Own). marks_stand (barrier_in v.presence.status v.own.mode) o.held old new) mine.own ∙ may.marks);
+        ∙ ap (λ (o : Own). marks_stand (barrier_in v.presence.status v.own.mode) o.held old new) mine.own ∙ may.marks);
     proper = λ is. target_now place ∙ may.spares is;
     index = at_target (λ c. FieldOf c f) place;
     left = λ n. refl;
@@ -368,13 +368,13 @@ module _ {P : Type 0} (fixed : ℕ → Bool) (v : View P) (s : State) (l : Lore)
   owes_claim c may = record {
     happens =
         and_from _ _ (and_from _ _ (and_from _ _ (inside_now may.inside) (mode_now may.mode))
-            (ap (λ (n : ℕ). nat_lt c n) mine.cells ∙ lt-ltb c v.shape.cells may.cell)) (room_now may.room);
+        (ap (λ (n : ℕ). nat_lt c n) mine.cells ∙ lt-ltb c v.shape.cells may.cell)) (room_now may.room);
     proper = tt;
     index = ap (λ (n : ℕ). index_of n (ColourOf c)) mine.mutators;
     left = λ n.
         ap (λ (x : Colour). left_by (colour_exchange colour.Blue x) n)
         (sym (ap (λ (x : Status). born_colour x (own_of s i).mode c) (status_now may.inside)
-            ∙ ap (λ (o : Own). born_colour v.presence.status o.mode c) mine.own));
+        ∙ ap (λ (o : Own). born_colour v.presence.status o.mode c) mine.own));
     tells = λ n h. h;
   }
 
@@ -389,7 +389,7 @@ module _ {P : Type 0} (fixed : ℕ → Bool) (v : View P) (s : State) (l : Lore)
             let names = and_from _ _ (and_from _ _ front (le-leb f 4 may.payload)) (names_now value may.names) in
             and_from _ _ (and_from _ _ names (not_now (is_raw_value s value) (sealed_now value may.sealed)))
             (not_now (is_cell (field_of s (target_of s i place) f))
-                (ap is_cell (raw.1.each f (let le = may.payload in omega (arith, le))) ∙ may.clear));
+            (ap is_cell (raw.1.each f (let le = may.payload in omega (arith, le))) ∙ may.clear));
         proper = tt;
         index = at_target (λ c. FieldOf c f) place;
         left = λ n. refl;
@@ -403,7 +403,7 @@ module _ {P : Type 0} (fixed : ℕ → Bool) (v : View P) (s : State) (l : Lore)
   terms_now kind.Record fields row are knows_them = λ f lt.
       subst (λ (o : Own). IsTermKnown (cells_in o.held) (known_in l.known i) (row f)) (sym mine.own)
       (subst (λ (ws : List Known). IsTermKnown (cells_in v.own.held) ws (row f)) (sym mine.known)
-          (subst (λ (x : Field). IsTermKnown (cells_in v.own.held) v.known x) (sym (are.each f lt)) (knows_them f lt)))
+      (subst (λ (x : Field). IsTermKnown (cells_in v.own.held) v.known x) (sym (are.each f lt)) (knows_them f lt)))
   terms_now kind.Boxed fields row are knows_them = tt
 
   owes_seal : (place : ℕ) (of : Kind) → MaySeal v place of
@@ -429,10 +429,10 @@ module _ {P : Type 0} (fixed : ℕ → Bool) (v : View P) (s : State) (l : Lore)
       record {
         happens =
             and_from _ _ (and_from _ _ (inside_now may.inside)
-                (ap (λ (o : Own). requests o.mode (next_own_status s i)) mine.own
-                    ∙ ap (λ (x : Status). requests v.own.mode (next_status_of x)) status ∙ may.requested))
+            (ap (λ (o : Own). requests o.mode (next_own_status s i)) mine.own
+            ∙ ap (λ (x : Status). requests v.own.mode (next_status_of x)) status ∙ may.requested))
             (ap (λ (o : Own). not (same_status (next_own_status s i) status_kind.Async) || all_marked o.held) mine.own
-                ∙ ap (λ (x : Status). not (same_status (next_status_of x) status_kind.Async) || all_marked v.own.held) status ∙ may.third);
+            ∙ ap (λ (x : Status). not (same_status (next_status_of x) status_kind.Async) || all_marked v.own.held) status ∙ may.third);
         proper = tt;
         index = refl;
         left = λ n. ap (λ (p : Presence). pack_presence_of (answered_presence p)) (sym presence);

@@ -43,7 +43,7 @@ use Rattle.heap_rule.specs.declared.view.Share.{Share}
 use Rattle.heap_rule.specs.declared.view.View.{View}
 use Rattle.heap_rule.specs.Boxes.{Map, Smaller, boxes_by, boxes_of}
 use Rattle.heap_rule.specs.Facts.{Facts, Proper}
-use Rattle.heap_rule.specs.Lore.{Lore, cells_in, cells_of, known_by, known_in, learned, lore_after} 
+use Rattle.heap_rule.specs.Lore.{Lore, cells_in, cells_of, known_by, known_in, learned, lore_after}
 use Rattle.heap_rule.specs.Lore as lore
 use Rattle.heap_rule.specs.Rule.{Ledger, Stands, ShareFits, PlaceFits, MutatorFits, CollectorFits, SeatFits, Kept}
 use Rattle.heap_rule.specs.Rule.{behind, share_of, told, told_collector, took, unsplit}
@@ -55,7 +55,7 @@ use Rattle.heap_rule.proofs.SmallerAfter.{smaller_after}
 -- What is so of any state that the rule shows.
 module _ {P : Type 0} (holds : Map → List P → Type 0) (fixed : ℕ → Bool) (h : Shape) (l : Ledger P)
     (stands : Stands holds fixed h l) where
-  opening_shaped : IsShaped (start h l.core.rooms)
+  pub opening_shaped : IsShaped (start h l.core.rooms)
   opening_shaped = rows_shaped h.cells l.core.rooms h.first stands.sound.rows stands.sound.first stands.sound.fit
 
   pub core_shaped : IsShaped l.core
@@ -65,7 +65,7 @@ module _ {P : Type 0} (holds : Map → List P → Type 0) (fixed : ℕ → Bool)
   core_consistent =
       subst IsConsistent stands.core_is
       (runs_consistent (start h l.core.rooms) l.run opening_shaped
-          (opening_consistent h.cells l.core.rooms h.first stands.sound.fit stands.sound.first) stands.legal)
+      (opening_consistent h.cells l.core.rooms h.first stands.sound.fit stands.sound.first) stands.legal)
 
   pub core_words : HasWords l.core
   core_words =
@@ -235,7 +235,7 @@ module _ {P : Type 0} (opens : ℕ → ℕ → P) (holds : Map → List P → Ty
       let once = one_operation l.core e shaped owed.happens in
       owed.tells (slice_index words word)
       (subst (λ (ns : List ℕ). IsPackedAs (found_by l.core e) (slice_index ns word)) (sym is)
-          (subst (λ (i : ℕ). IsPackedAs (found_by l.core e) (slice_index (words_of l.core) i)) owed.index once.found))
+      (subst (λ (i : ℕ). IsPackedAs (found_by l.core e) (slice_index (words_of l.core) i)) owed.index once.found))
 
   pub mutator_step : {S : Type 0} (slots id : ℕ) (me : table.Me S (View P)) (e : Event) (word : ℕ) (f g : ℕ → ℕ)
       (next : Learned → Found → P → P) → me.0.role ≡ role.Mutator → maker e ≡ Some me.0.number → Owes fixed me.0 e word f g
@@ -266,8 +266,10 @@ module _ {P : Type 0} (opens : ℕ → ℕ → P) (holds : Map → List P → Ty
         share = share_mine l e v passes pass shaped owed.happens
             (let lt = knows.number in let fit = k.stands.facts.known_fit in let n = knows.mutators in omega (arith, lt, fit, n))
             made (set_here l.passes v.number pass below) mine.share;
-      } in
-      (w, table.keeps, tt,
+      } in (
+        w,
+        table.keeps,
+        tt,
         record {
           ledger = behind l e passes;
           stands = stands_behind holds fixed h l k.stands e passes owed.happens owed.proper
@@ -282,17 +284,21 @@ module _ {P : Type 0} (opens : ℕ → ℕ → P) (holds : Map → List P → Ty
             | inr other ↦ seat_else l e id v passes mine made still j u u.role other.0 (k.each_seat j u other.1)
           ];
         },
-        (record {
-          core = l.core;
-          lore = l.lore;
-          passes = l.passes;
-          mine = knows;
-          happens = owed.happens;
-          kept = k.stands.kept;
-          pass = mine.share.pass;
-          says = says_found l e s.words word f g shaped owed k.words_are;
-          new = refl;
-        }, refl))
+        (
+          record {
+            core = l.core;
+            lore = l.lore;
+            passes = l.passes;
+            mine = knows;
+            happens = owed.happens;
+            kept = k.stands.kept;
+            pass = mine.share.pass;
+            says = says_found l e s.words word f g shaped owed k.words_are;
+            new = refl;
+          },
+          refl,
+        ),
+      )
 
   -- A step of the collector's seat. No pass changes, and the client's rule stands by its own law.
   ours_of : (l : Ledger P) (seat : ℕ) (v : View P) → Stands holds fixed h l → CollectorFits h l seat v → Ours fixed v l.core l.lore
@@ -342,7 +348,7 @@ module _ {P : Type 0} (opens : ℕ → ℕ → P) (holds : Map → List P → Ty
       let kept : holds (boxes_of (after l.core e) (lore_after l.core l.lore e)) l.passes =
       shrinks (boxes_of l.core l.lore) (boxes_of (after l.core e) (lore_after l.core l.lore e)) l.passes
       (subst (λ (m : Map). Smaller m (boxes_of (after l.core e) (lore_after l.core l.lore e))) (collectors_boxes l.core l.lore e made)
-          (smaller_after fixed l.core l.lore shaped (core_consistent holds fixed h l k.stands) k.stands.facts e owed.happens owed.proper))
+      (smaller_after fixed l.core l.lore shaped (core_consistent holds fixed h l k.stands) k.stands.facts e owed.happens owed.proper))
       k.stands.kept in
       let new : CollectorFits h (behind l e l.passes) id w = record {
         shape = ours.shape;
@@ -355,8 +361,10 @@ module _ {P : Type 0} (opens : ℕ → ℕ → P) (holds : Map → List P → Ty
             ∙ ap (λ (c : Control). collector_after v.shape.cells c l.core.collector e found) ours.control
             ∙ ap (λ (c : Collector). collector_after v.shape.cells v.control c e found) ours.part;
         trail = trail_mine None l.run (took e found) made ∙ ap (λ (ts : List Taken). ts ++ took e found ∷ []) ours.trail;
-      } in
-      (w, table.keeps, tt,
+      } in (
+        w,
+        table.keeps,
+        tt,
         record {
           ledger = behind l e l.passes;
           stands = stands_behind holds fixed h l k.stands e l.passes owed.happens owed.proper k.stands.passes_fit kept;
@@ -370,11 +378,15 @@ module _ {P : Type 0} (opens : ℕ → ℕ → P) (holds : Map → List P → Ty
             | inr other ↦ seat_beside l e id v ours made j u u.role other.0 (k.each_seat j u other.1)
           ];
         },
-        (record {
-          core = l.core;
-          lore = l.lore;
-          ours = knows;
-          happens = owed.happens;
-          says = says_found l e s.words word f g shaped owed k.words_are;
-          new = refl;
-        }, refl))
+        (
+          record {
+            core = l.core;
+            lore = l.lore;
+            ours = knows;
+            happens = owed.happens;
+            says = says_found l e s.words word f g shaped owed k.words_are;
+            new = refl;
+          },
+          refl,
+        ),
+      )

@@ -81,8 +81,15 @@ KnowsTerms kind.Boxed cells known fields = Unit {0}
 -- a state that has what the collector knows, and nothing else
 abbrev pub known_state : ℕ → ℕ → Control → Collector → State
 known_state cells mutators control part = record {
-  cells = cells; colours = []; rows = []; mutators = mutators; rooms = []; presences = []; owns = [];
-  control = control; collector = part;
+  cells = cells;
+  colours = [];
+  rows = [];
+  mutators = mutators;
+  rooms = [];
+  presences = [];
+  owns = [];
+  control = control;
+  collector = part;
 }
 
 module _ {P : Type 0} where

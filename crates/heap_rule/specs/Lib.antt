@@ -2,6 +2,7 @@ pub mod Asks
 pub mod Boxes
 pub mod Facts
 pub mod Knowledge
+pub mod Laws
 pub mod Lore
 pub mod Moves
 pub mod NoRule

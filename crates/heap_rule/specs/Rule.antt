@@ -75,13 +75,23 @@ module _ {P : Type 0} where
   -- of a mutator that was not split off: it has its opening part, and room for one place
   abbrev pub unsplit : (ℕ → ℕ → P) → Shape → ℕ → Share P
   unsplit opens h i = record {
-    room = 1; own = no_own; presence = opening_presence; known = []; pass = opens i h.setting; trail = [];
+    room = 1;
+    own = no_own;
+    presence = opening_presence;
+    known = [];
+    pass = opens i h.setting;
+    trail = [];
   }
 
   -- what a mutator's view says of its part
   abbrev pub share_of : View P → Share P
   share_of v = record {
-    room = v.room; own = v.own; presence = v.presence; known = v.known; pass = v.pass; trail = v.trail;
+    room = v.room;
+    own = v.own;
+    presence = v.presence;
+    known = v.known;
+    pass = v.pass;
+    trail = v.trail;
   }
 
   abbrev pub PlaceFits : (ℕ → ℕ → P) → Shape → Ledger P → ℕ → Place P → Type 0

@@ -15,7 +15,7 @@ use Rattle.core_machine.specs.WordOperations.{IsPackedAs, left_by, operation_of,
 use Rattle.dlg_core.specs.Consistent.{IsConsistent}
 use Rattle.heap_rule.specs.declared.known.Learned.{Learned}
 use Rattle.heap_rule.specs.declared.view.View.{View}
-use Rattle.heap_rule.specs.Boxes.{Map, boxes_of}
+use Rattle.heap_rule.specs.Boxes.{Map, boxes_by, boxes_of}
 use Rattle.heap_rule.specs.Facts.{Facts, Proper}
 use Rattle.heap_rule.specs.Lore.{Lore, known_in, learned, lore_after}
 use Rattle.heap_rule.specs.Rule.{told, told_collector}
@@ -94,3 +94,14 @@ module _ {P : Type 0} where
     pub happens : can core e ≡ true
     pub says : IsPackedAs (found_by core e) number
     pub new : w ≡ told_collector v e (found_by core e)
+
+  -- What a client shows where it picks its pass: that its rule stands on the boxes that the event would
+  -- leave if nothing became unreachable. Its own law does the rest.
+  abbrev pub Picks : (Map → List P → Type 0) → (ℕ → Bool) → (Learned → Found → P → P) → View P → Event → Type 0
+  Picks holds fixed next v e = (s : State) (l : Lore) (passes : List P) → Mine fixed v s l → can s e ≡ true
+      → Proper fixed s l e → get_elem? passes v.number ≡ some v.pass → holds (boxes_of s l) passes
+      → holds (boxes_by s l e) (slice_set passes v.number (next (learned s l e) (found_by s e) v.pass))
+
+  -- the pass stays
+  abbrev pub same_pass : Learned → Found → P → P
+  same_pass tells found pass = pass
