@@ -1,0 +1,12 @@
+pub mod Asks
+pub mod Boxes
+pub mod Facts
+pub mod Knowledge
+pub mod Laws
+pub mod Lore
+pub mod Moves
+pub mod NoRule
+pub mod Opening
+pub mod Rule
+pub mod Shape
+pub mod Steps

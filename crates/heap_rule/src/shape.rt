@@ -1,0 +1,20 @@
+use cell_words::Row;
+use std::marker::Model;
+
+/// What is fixed of a heap when it is made: its numbers of cells and of mutators, the setting for the
+/// opening passes, and the first rows.
+#[derive(Drop)]
+pub struct HeapShape {
+    cells: u32,
+    mutators: u32,
+    setting: u64,
+    first: Vec<Row>,
+}
+
+impl Model for HeapShape {
+    ghost use Rattle.heap_rule.specs.Shape.{Shape};
+
+    ghost Value = { Shape };
+
+    ghost view = { λ h. record { cells = h.cells; mutators = h.mutators; setting = h.setting; first = h.first.items } };
+}
