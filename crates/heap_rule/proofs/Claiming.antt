@@ -1,7 +1,9 @@
 -- The facts on lore after Claim: a cell that nobody reached is reachable now, raw and fresh for its
 -- maker; of every other nothing changes.
-use Rattle.std.proofs.Common.{◌⊎◌, ◌≡◌, ◌≢◌, ◌<◌, ◌==◌, ◌||◌, ℕ, zero, suc, Bool, true, false, List, [], ◌∷◌, ◌++◌}
-use Rattle.std.proofs.Common.{length, get_or, slice_index_or, Option, Some, None, inl, inr, refl, sym, ◌∙◌, ap, subst, arith}
+use Rattle.std.proofs.Common.{◌⊎◌, ◌≡◌, ◌≢◌, ◌<◌, ◌==◌, ◌||◌, ℕ, zero, suc, Bool, true, false, List}
+use Rattle.std.proofs.Common.{[], ◌∷◌, ◌++◌}
+use Rattle.std.proofs.Common.{length, get_or, slice_index_or, Option, Some, None, inl, inr, refl}
+use Rattle.std.proofs.Common.{sym, ◌∙◌, ap, subst, arith}
 use Rattle.std.proofs.Common.{if◌then◌else◌, length-set}
 use Rattle.std.proofs.Math.ListN.{set}
 use Rattle.std.proofs.lemmas.Bool.{cases_eq, eq-eqb, ne_eqb}
@@ -28,7 +30,8 @@ use Rattle.dlg_core.proofs.Step.{consistent_after}
 use Rattle.heap_rule.specs.declared.known.Known.{Known}
 use Rattle.heap_rule.specs.declared.known.Known.TheVariants as knows
 use Rattle.heap_rule.specs.Facts.{AllKnown, Facts, IsKnown, TermFits, is_record_kind}
-use Rattle.heap_rule.specs.Lore.{Lore, Terms, cells_in, cells_of, claimed_fresh, claimed_terms, entry_of, five_nulls, has}
+use Rattle.heap_rule.specs.Lore.{Lore, Terms, cells_in, cells_of, claimed_fresh, claimed_terms}
+use Rattle.heap_rule.specs.Lore.{entry_of, five_nulls, has}
 use Rattle.heap_rule.specs.Lore.{known_claimed, known_in, lore_after, named_or, put}
 use Rattle.heap_rule.proofs.Carried.{SameAt, fits_on, knows_on}
 use Rattle.heap_rule.proofs.Lists.{all_append, all_known, has_holds, reached_held}
@@ -39,13 +42,16 @@ use Rattle.heap_rule.proofs.Reading.{cells_more, has_last, has_more, has_old}
 -- A function with another value at one number.
 
 pub put_here : {A : Type 0} (f : ℕ → A) (x : ℕ) (value : A) → put f x value x ≡ value
-put_here f x value = subst (λ (b : Bool). (if b then value else f x) ≡ value) (sym (eq-eqb x x refl)) refl
+put_here f x value = subst (λ (b : Bool). (if b then value else f x)
+    ≡ value) (sym (eq-eqb x x refl)) refl
 
 pub put_other : {A : Type 0} (f : ℕ → A) (x : ℕ) (value : A) (y : ℕ) → y ≢ x → put f x value y ≡ f y
-put_other f x value y other = subst (λ (b : Bool). (if b then value else f y) ≡ f y) (sym (ne_eqb y x other)) refl
+put_other f x value y other = subst (λ (b : Bool). (if b then value else f y)
+    ≡ f y) (sym (ne_eqb y x other)) refl
 
 -- a field that does not name the cell stands for what it did
-pub entry_put : (terms : Terms) (x : ℕ) (term : Option Term) (value : Field) → (value ≡ field.Cell x → ⊥)
+pub entry_put : (terms : Terms) (x : ℕ) (term : Option Term) (value : Field)
+    → (value ≡ field.Cell x → ⊥)
     → entry_of (put terms x term) value ≡ entry_of terms value
 entry_put terms x term field.Null other = refl
 entry_put terms x term (field.Num n) other = refl
@@ -53,14 +59,18 @@ entry_put terms x term (field.Cell c) other =
     ap (named_or c) (put_other terms x term c (λ is. other (ap field.Cell is)))
 
 -- A claim of a cell that was not blue changes nothing.
-module _ (fixed : ℕ → Bool) (s t : State) (l : Lore) (i c : ℕ) (k : IsConsistent s) (facts : Facts fixed s l)
+module _ (fixed : ℕ
+    → Bool) (s t : State) (l : Lore) (i c : ℕ) (k : IsConsistent s) (facts : Facts fixed s l)
     (later : IsConsistent t) (rows : t.rows ≡ s.rows) (mutators : t.mutators ≡ s.mutators) where
   missed : t.owns ≡ set s.owns i (own_of s i)
       → Facts fixed t (record l { known = set l.known i (known_in l.known i) })
   missed owns =
       let is : t.owns ≡ s.owns = owns ∙ set-get_or s.owns i _ in
-      subst (λ (known : List (List Known)). Facts fixed t (record l { known = known })) (sym (set-get_or l.known i []))
-      (quiet_facts s t k rows (λ j. ap (λ (os : List Own). cells_in ((own_in os j).held)) is) fixed l later mutators facts)
+      subst (λ (known : List (List Known)). Facts fixed t (record l { known = known }))
+      (sym (set-get_or l.known i []))
+      (quiet_facts s t k rows
+      (λ j. ap (λ (os : List Own). cells_in ((own_in os j).held)) is) fixed l later mutators
+      facts)
 
 null_at : (f : ℕ) → f < 5 → field.Null ≡ slice_index_or five_nulls f field.Null
 null_at zero lt = refl
@@ -71,7 +81,9 @@ null_at (suc (suc (suc (suc zero)))) lt = refl
 null_at (suc (suc (suc (suc (suc n))))) lt = absurd (omega arith)
 
 -- A claim that was made.
-module _ (fixed : ℕ → Bool) (s t : State) (l : Lore) (i c : ℕ) (shape : IsShaped s) (k : IsConsistent s) (facts : Facts fixed s l)
+module _ (fixed : ℕ
+    → Bool) (s t : State) (l : Lore) (i c : ℕ) (shape : IsShaped s) (k : IsConsistent s)
+    (facts : Facts fixed s l)
     (later : IsConsistent t) (rows : t.rows ≡ s.rows) (mutators : t.mutators ≡ s.mutators)
     (owns : t.owns ≡ set s.owns i (having_claimed (own_of s i) c colour.Blue)) (lt : i < s.mutators)
     (blue : colour_of s c ≡ colour.Blue) where
@@ -99,12 +111,15 @@ module _ (fixed : ℕ → Bool) (s t : State) (l : Lore) (i c : ℕ) (shape : Is
   fields x f = ap (λ (rs : List (List Field)). field_in rs x f) rows
 
   mine_is : (x : ℕ) → has (cells_in new.held) x ≡ true → (has (cells_of s i) x ≡ true) ⊎ (c ≡ x)
-  mine_is x h = has_more (cells_of s i) c x (subst (λ (cs : List ℕ). has cs x ≡ true) (cells_more (held_of s i) c) h)
+  mine_is x h = has_more (cells_of s i) c x (subst (λ (cs : List ℕ). has cs x
+      ≡ true) (cells_more (held_of s i) c) h)
 
   mine_old : (x : ℕ) → has (cells_of s i) x ≡ true → has (cells_in new.held) x ≡ true
-  mine_old x h = subst (λ (cs : List ℕ). has cs x ≡ true) (sym (cells_more (held_of s i) c)) (has_old (cells_of s i) c x h)
+  mine_old x h = subst (λ (cs : List ℕ). has cs x
+      ≡ true) (sym (cells_more (held_of s i) c)) (has_old (cells_of s i) c x h)
 
-  each : (P : ℕ → List ℕ → Type 0) → P i (cells_in new.held) → ((j : ℕ) → j ≢ i → P j (cells_of s j)) → (j : ℕ) → P j (cells_of t j)
+  each : (P : ℕ → List ℕ → Type 0) → P i (cells_in new.held)
+      → ((j : ℕ) → j ≢ i → P j (cells_of s j)) → (j : ℕ) → P j (cells_of t j)
   each P here elsewhere j = cells_each s t i new owns P below here elsewhere j
 
   back : (x : ℕ) → Reachable t x → Reachable s x ⊎ (x ≡ c)
@@ -130,7 +145,8 @@ module _ (fixed : ℕ → Bool) (s t : State) (l : Lore) (i c : ℕ) (shape : Is
     rows = fields x;
     term = put_other l.terms c None x other;
     fresh = put_other l.fresh c (Some i) x other;
-    entries = λ f. entry_put l.terms c None (field_of s x f) (λ e. unreached (named f (back_else x r other) e));
+    entries = λ f. entry_put l.terms c None (field_of s x f)
+        (λ e. unreached (named f (back_else x r other) e));
   }
 
   -- what another holds is not the cell
@@ -141,13 +157,15 @@ module _ (fixed : ℕ → Bool) (s t : State) (l : Lore) (i c : ℕ) (shape : Is
   old_fresh x j other is = sym (put_other l.fresh c (Some i) x other) ∙ is
 
   new_fresh : (x j : ℕ) → x ≡ c → m.fresh x ≡ Some j → i ≡ j
-  new_fresh x j here is = let both : Some i ≡ Some j = sym (put_here l.fresh c (Some i)) ∙ ap m.fresh (sym here) ∙ is in cc
+  new_fresh x j here is = let both : Some i ≡ Some j = sym (put_here l.fresh c (Some i))
+      ∙ ap m.fresh (sym here) ∙ is in cc
 
   carried : (j : ℕ) → ((x : ℕ) → has (cells_of s j) x ≡ true → has (cells_of t j) x ≡ true)
       → AllKnown (IsKnown fixed t m j) (cells_of s j) (known_in l.known j)
   carried j still =
       all_known (IsKnown fixed s l j) (IsKnown fixed t m j) (cells_of s j) (known_in l.known j)
-      (λ x w h before. knows_on s t l m fixed j x w (claimed_same x (reached_held t j x later (still x h)) (not_held j x h)) before)
+      (λ x w h before. knows_on s t l m fixed j x w
+      (claimed_same x (reached_held t j x later (still x h)) (not_held j x h)) before)
       (facts.known_all j)
 
   mine_cells : cells_of t i ≡ cells_of s i ++ c ∷ []
@@ -167,28 +185,38 @@ module _ (fixed : ℕ → Bool) (s t : State) (l : Lore) (i c : ℕ) (shape : Is
   mine_known =
       let known_is : known_in m.known i ≡ known_in l.known i ++ knows.Raw five_nulls ∷ [] =
       get_or-set_same l.known i _ [] (omega (arith, lt, facts.known_fit)) in
-      subst (λ (cs : List ℕ). AllKnown (IsKnown fixed t m i) cs (known_in m.known i)) (sym mine_cells)
-      (subst (λ (ws : List Known). AllKnown (IsKnown fixed t m i) (cells_of s i ++ c ∷ []) ws) (sym known_is)
-      (all_append (IsKnown fixed t m i) (cells_of s i) (c ∷ []) (known_in l.known i) (knows.Raw five_nulls ∷ [])
-      (carried i (λ x h. subst (λ (cs : List ℕ). has cs x ≡ true) (sym mine_cells) (has_old (cells_of s i) c x h)))
+      subst (λ (cs : List ℕ). AllKnown (IsKnown fixed t m i) cs (known_in m.known i))
+      (sym mine_cells)
+      (subst (λ (ws : List Known). AllKnown (IsKnown fixed t m i) (cells_of s i
+      ++ c ∷ []) ws) (sym known_is)
+      (all_append (IsKnown fixed t m i) (cells_of s i) (c ∷ []) (known_in l.known i)
+      (knows.Raw five_nulls ∷ [])
+      (carried i (λ x h. subst (λ (cs : List ℕ). has cs x
+      ≡ true) (sym mine_cells) (has_old (cells_of s i) c x h)))
       (raw_known, tt)))
 
   claimed : Facts fixed t m
   claimed = record {
     termed = λ x r. elim (cases_eq x c) [
       | inl is ↦
-          let raw : field_of t x 5 ≡ field.Null = fields x 5 ∙ ap (λ (n : ℕ). field_of s n 5) is ∙ nulls 5 in
+          let raw : field_of t x 5 ≡ field.Null = fields x 5 ∙ ap (λ (n : ℕ). field_of s n 5) is
+          ∙ nulls 5 in
           let none : m.terms x ≡ None = ap m.terms is ∙ put_here l.terms c None in
-          subst (λ (b : Bool). TermFits b m.terms (field_of t x) (m.terms x)) (sym (ap is_record_kind raw)) none
-      | inr other ↦ fits_on s t l m x (claimed_same x r other) (facts.termed x (back_else x r other))
+          subst (λ (b : Bool). TermFits b m.terms (field_of t x) (m.terms x))
+          (sym (ap is_record_kind raw)) none
+      | inr other ↦ fits_on s t l m x (claimed_same x r other)
+          (facts.termed x (back_else x r other))
     ];
     freshed = record {
-      anchor = put_other l.fresh c (Some i) 0 (λ is. unreached (anchor (sym is))) ∙ facts.freshed.anchor;
+      anchor = put_other l.fresh c (Some i) 0 (λ is. unreached (anchor (sym is)))
+          ∙ facts.freshed.anchor;
       held = λ x j is. elim (cases_eq x c) [
         | inl here ↦
             let mine : has (cells_of t i) x ≡ true =
-            subst (λ (cs : List ℕ). has cs x ≡ true) (sym (cells_mine s t i new owns below ∙ cells_more (held_of s i) c))
-            (subst (λ (n : ℕ). has (cells_of s i ++ c ∷ []) n ≡ true) (sym here) (has_last (cells_of s i) c)) in
+            subst (λ (cs : List ℕ). has cs x
+            ≡ true) (sym (cells_mine s t i new owns below ∙ cells_more (held_of s i) c))
+            (subst (λ (n : ℕ). has (cells_of s i ++ c ∷ []) n
+            ≡ true) (sym here) (has_last (cells_of s i) c)) in
             subst (λ (n : ℕ). has (cells_of t n) x ≡ true) (new_fresh x j here is) mine
         | inr other ↦ each (λ n cs. m.fresh x ≡ Some n → has cs x ≡ true)
             (λ fresh. mine_old x (facts.freshed.held x i (old_fresh x i other fresh)))
@@ -219,24 +247,32 @@ module _ (fixed : ℕ → Bool) (s t : State) (l : Lore) (i c : ℕ) (shape : Is
       raw = λ x r h. elim (cases_eq x c) [
         | inl here ↦ (i, ap m.fresh here ∙ put_here l.fresh c (Some i))
         | inr other ↦
-            let was = facts.freshed.raw x (back_else x r other) (ap is_raw_kind (sym (fields x 5)) ∙ h) in
+            let was = facts.freshed.raw x (back_else x r other) (ap is_raw_kind (sym (fields x 5))
+            ∙ h) in
             (was.0, put_other l.fresh c (Some i) x other ∙ was.1)
       ];
     };
     known_fit = length-set l.known i _ ∙ facts.known_fit ∙ sym mutators;
     known_all = λ j. elim (cases_eq j i) [
-      | inl is ↦ subst (λ (n : ℕ). AllKnown (IsKnown fixed t m n) (cells_of t n) (known_in m.known n)) (sym is) mine_known
+      | inl is ↦ subst
+          (λ (n : ℕ). AllKnown (IsKnown fixed t m n) (cells_of t n) (known_in m.known n))
+          (sym is) mine_known
       | inr other ↦
-          subst (λ (cs : List ℕ). AllKnown (IsKnown fixed t m j) cs (known_in m.known j)) (sym (cells_else s t i new owns j other))
-          (subst (λ (ws : List Known). AllKnown (IsKnown fixed t m j) (cells_of s j) ws) (sym (get_or-set_other l.known i j _ [] other))
-          (carried j (λ x h. subst (λ (cs : List ℕ). has cs x ≡ true) (sym (cells_else s t i new owns j other)) h)))
+          subst (λ (cs : List ℕ). AllKnown (IsKnown fixed t m j) cs (known_in m.known j))
+          (sym (cells_else s t i new owns j other))
+          (subst (λ (ws : List Known). AllKnown (IsKnown fixed t m j) (cells_of s j) ws)
+          (sym (get_or-set_other l.known i j _ [] other))
+          (carried j (λ x h. subst (λ (cs : List ℕ). has cs x
+          ≡ true) (sym (cells_else s t i new owns j other)) h)))
     ];
   }
 
 -- Claim, by the colour that it found.
-claim_facts : (fixed : ℕ → Bool) (s t : State) (l : Lore) (i c : ℕ) (found : Colour) → IsShaped s → IsConsistent s
+claim_facts : (fixed : ℕ → Bool) (s t : State) (l : Lore) (i c : ℕ) (found : Colour) → IsShaped s
+    → IsConsistent s
     → Facts fixed s l → IsConsistent t → t.rows ≡ s.rows → t.mutators ≡ s.mutators
-    → t.owns ≡ set s.owns i (having_claimed (own_of s i) c found) → i < s.mutators → colour_of s c ≡ found
+    → t.owns ≡ set s.owns i (having_claimed (own_of s i) c found) → i < s.mutators
+    → colour_of s c ≡ found
     → Facts fixed t record {
       terms = claimed_terms l.terms c found;
       fresh = claimed_fresh l.fresh i c found;
@@ -252,8 +288,10 @@ claim_facts fixed s t l i c colour.Black shape k facts later rows mutators owns 
     missed fixed s t l i c k facts later rows mutators owns
 
 pub facts_claim : (fixed : ℕ → Bool) (s : State) (l : Lore) (i c : ℕ) → IsShaped s → IsConsistent s
-    → can s (event.Claim i c) ≡ true → Facts fixed s l → Facts fixed (after s (event.Claim i c)) (lore_after s l (event.Claim i c))
+    → can s (event.Claim i c) ≡ true → Facts fixed s l
+    → Facts fixed (after s (event.Claim i c)) (lore_after s l (event.Claim i c))
 facts_claim fixed s l i c shape k h facts =
     let needs = claim_needs s i c h in
     claim_facts fixed s (after s (event.Claim i c)) l i c (colour_of s c) shape k facts
-    (consistent_after s (event.Claim i c) shape k h) refl refl refl (inside_there s shape i needs.inside) refl
+    (consistent_after s (event.Claim i c) shape k h) refl refl refl
+    (inside_there s shape i needs.inside) refl

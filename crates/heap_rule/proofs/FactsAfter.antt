@@ -17,35 +17,47 @@ use Rattle.heap_rule.proofs.Reading.{facts_read, facts_wipe}
 use Rattle.heap_rule.proofs.Sealing.{facts_seal}
 use Rattle.heap_rule.proofs.Writing.{facts_fill, facts_write}
 
-module _ (fixed : ℕ → Bool) (s : State) (l : Lore) (shape : IsShaped s) (k : IsConsistent s) (facts : Facts fixed s l) where
+module _ (fixed : ℕ
+    → Bool) (s : State) (l : Lore) (shape : IsShaped s) (k : IsConsistent s)
+    (facts : Facts fixed s l) where
   -- an event of the collector that changes no field and no mutator's cells
-  quiet : (e : Event) → can s e ≡ true → (after s e).rows ≡ s.rows → ((i : ℕ) → cells_of (after s e) i ≡ cells_of s i)
+  quiet : (e : Event) → can s e ≡ true → (after s e).rows ≡ s.rows
+      → ((i : ℕ) → cells_of (after s e) i ≡ cells_of s i)
       → (after s e).mutators ≡ s.mutators → Facts fixed (after s e) l
   quiet e h rows cells mutators =
       quiet_facts s (after s e) k rows cells fixed l (consistent_after s e shape k h) mutators facts
 
   -- .. or of mutator i, whose knowledge is written back
-  quiet_by : (i : ℕ) (e : Event) → can s e ≡ true → (after s e).rows ≡ s.rows → ((j : ℕ) → cells_of (after s e) j ≡ cells_of s j)
-      → (after s e).mutators ≡ s.mutators → lore_after s l e ≡ l → Facts fixed (after s e) (lore_after s l e)
+  quiet_by : (i : ℕ) (e : Event) → can s e ≡ true → (after s e).rows ≡ s.rows
+      → ((j : ℕ) → cells_of (after s e) j ≡ cells_of s j)
+      → (after s e).mutators ≡ s.mutators → lore_after s l e ≡ l
+      → Facts fixed (after s e) (lore_after s l e)
   quiet_by i e h rows cells mutators same =
       subst (λ (m : Lore). Facts fixed (after s e) m) (sym same) (quiet e h rows cells mutators)
 
-  pub facts_after : (e : Event) → can s e ≡ true → Proper fixed s l e → Facts fixed (after s e) (lore_after s l e)
+  pub facts_after : (e : Event) → can s e ≡ true → Proper fixed s l e
+      → Facts fixed (after s e) (lore_after s l e)
   facts_after (event.Begin i) h p = facts_begin fixed s l i shape k facts h
   facts_after (event.Look i) h p = quiet_by i (event.Look i) h refl
-      (cells_own s i (looked (own_of s i) s.control) (cells_unmarked (held_of s i))) refl (known_back l i)
+      (cells_own s i (looked (own_of s i) s.control) (cells_unmarked (held_of s i))) refl
+      (known_back l i)
   facts_after (event.Read i place f) h p = facts_read fixed s l i place f shape k h facts
   facts_after (event.Mark i place) h p = quiet_by i (event.Mark i place) h refl
-      (cells_own s i (marking (own_of s i) (target_of s i place)) (cells_marked (target_of s i place) (held_of s i))) refl (known_back l i)
-  facts_after (event.Write i place f old new) h p = facts_write fixed s l i place f shape k facts old new h p
+      (cells_own s i (marking (own_of s i) (target_of s i place))
+      (cells_marked (target_of s i place) (held_of s i))) refl (known_back l i)
+  facts_after (event.Write i place f old new) h p = facts_write fixed s l i place f shape k facts
+      old new h p
   facts_after (event.Claim i c) h p = facts_claim fixed s l i c shape k h facts
-  facts_after (event.Fill i place f value) h p = facts_fill fixed s l i place f shape k facts value h
+  facts_after (event.Fill i place f value) h p = facts_fill fixed s l i place f shape k facts value
+      h
   facts_after (event.Seal i place of) h p = facts_seal fixed s l i place of shape k h p facts
   facts_after (event.Answer i) h p = quiet_by i (event.Answer i) h refl
       (cells_own s i (spent (own_of s i)) (cells_unmarked (held_of s i))) refl (known_back l i)
-  facts_after (event.Keep i count from copies) h p = facts_keep fixed s l i shape k facts count from copies h
+  facts_after (event.Keep i count from copies) h p = facts_keep fixed s l i shape k facts count from
+      copies h
   facts_after (event.End i) h p = facts_end fixed s l i shape k facts h
-  facts_after (event.Over i) h p = quiet_by i (event.Over i) h refl (λ j. refl) refl (known_back l i)
+  facts_after (event.Over i) h p = quiet_by i (event.Over i) h refl (λ j. refl) refl
+      (known_back l i)
   facts_after (event.Post target) h p = quiet (event.Post target) h refl (λ i. refl) refl
   facts_after (event.Duty on) h p = quiet (event.Duty on) h refl (λ i. refl) refl
   facts_after (event.Poll i) h p = quiet (event.Poll i) h refl (λ j. refl) refl

@@ -1,5 +1,6 @@
 -- Events that change which cells their maker holds and what it knows, and no reachable cell.
-use Rattle.std.proofs.Common.{◌≡◌, ◌≢◌, ◌<◌, ℕ, Bool, true, false, List, [], ◌∷◌, map, length, get_or}
+use Rattle.std.proofs.Common.{◌≡◌, ◌≢◌, ◌<◌, ℕ, Bool, true, false, List, [], ◌∷◌, map, length}
+use Rattle.std.proofs.Common.{get_or}
 use Rattle.std.proofs.Common.{Option, Some, None, inl, inr, refl, sym, ◌∙◌, ap, subst, length-set}
 use Rattle.std.proofs.Math.ListN.{set}
 use Rattle.std.proofs.lemmas.Bool.{cases_eq}
@@ -39,14 +40,17 @@ module _ (s t : State) (i : ℕ) (own : Own) (owns : t.owns ≡ set s.owns i own
   ]
 
   pub maker_back : IsConsistent s → i < length s.owns → t.rows ≡ s.rows
-      → ((x : ℕ) → has (cells_in own.held) x ≡ true → Reachable s x) → (x : ℕ) → Reachable t x → Reachable s x
+      → ((x : ℕ) → has (cells_in own.held) x ≡ true → Reachable s x) → (x : ℕ) → Reachable t x
+      → Reachable s x
   maker_back k below rows mine =
       back_from s t
-      (cells_each (λ j c. (x : ℕ) → has c x ≡ true → Reachable s x) below mine (λ j other x h. reached_held s j x k h))
+      (cells_each (λ j c. (x : ℕ) → has c x ≡ true
+      → Reachable s x) below mine (λ j other x h. reached_held s j x k h))
       (λ c d f r e. named f r (sym (ap (λ (rs : List (List Field)). field_in rs c f) rows) ∙ e))
 
 -- .. and knows something else
-pub record Made (fixed : ℕ → Bool) (s t : State) (l m : Lore) (i : ℕ) (own : Own) (known : List Known) : Type 0 where
+pub record Made (fixed : ℕ
+    → Bool) (s t : State) (l m : Lore) (i : ℕ) (own : Own) (known : List Known) : Type 0 where
   pub owns : t.owns ≡ set s.owns i own
   pub knows : m.known ≡ set l.known i known
   pub mutators : t.mutators ≡ s.mutators
@@ -59,7 +63,8 @@ pub record Made (fixed : ℕ → Bool) (s t : State) (l m : Lore) (i : ℕ) (own
   pub alone_mine : (x j : ℕ) → m.fresh x ≡ Some j → has (cells_in own.held) x ≡ true → i ≡ j
   pub known_mine : AllKnown (IsKnown fixed t m i) (cells_in own.held) known
 
-pub made_facts : (fixed : ℕ → Bool) (s t : State) (l m : Lore) (i : ℕ) (own : Own) (known : List Known)
+pub made_facts : (fixed : ℕ
+    → Bool) (s t : State) (l m : Lore) (i : ℕ) (own : Own) (known : List Known)
     → IsConsistent t → Made fixed s t l m i own known → Facts fixed s l → Facts fixed t m
 made_facts fixed s t l m i own known k made facts =
     let each = cells_each s t i own made.owns in
@@ -67,33 +72,44 @@ made_facts fixed s t l m i own known k made facts =
       termed = λ x r. fits_on s t l m x (made.same x r) (facts.termed x (made.same x r).reached);
       freshed = record {
         anchor = (made.same 0 (anchor refl)).fresh ∙ facts.freshed.anchor;
-        held = λ x j is. each (λ n c. m.fresh x ≡ Some n → has c x ≡ true) made.below (made.held_mine x)
+        held = λ x j is. each (λ n c. m.fresh x ≡ Some n
+            → has c x ≡ true) made.below (made.held_mine x)
             (λ n other fresh. facts.freshed.held x n (made.less x n fresh)) j is;
-        alone = λ x a j is h. each (λ n c. has c x ≡ true → n ≡ a) made.below (made.alone_mine x a is)
+        alone = λ x a j is h. each (λ n c. has c x ≡ true
+            → n ≡ a) made.below (made.alone_mine x a is)
             (λ n other there. facts.freshed.alone x a n (made.less x a is) there) j h;
         unnamed = λ x a c f is r e.
-            facts.freshed.unnamed x a c f (made.less x a is) (made.same c r).reached (sym ((made.same c r).rows f) ∙ e);
+            facts.freshed.unnamed x a c f (made.less x a is) (made.same c r).reached
+            (sym ((made.same c r).rows f) ∙ e);
         raw = λ x r h.
-            let was = facts.freshed.raw x (made.same x r).reached (ap is_raw_kind (sym ((made.same x r).rows 5)) ∙ h) in
+            let was = facts.freshed.raw x (made.same x r).reached
+            (ap is_raw_kind (sym ((made.same x r).rows 5)) ∙ h) in
             (was.0, (made.same x r).fresh ∙ was.1);
       };
-      known_fit = ap length made.knows ∙ length-set l.known i known ∙ facts.known_fit ∙ sym made.mutators;
+      known_fit = ap length made.knows ∙ length-set l.known i known ∙ facts.known_fit
+          ∙ sym made.mutators;
       known_all = λ j. elim (cases_eq j i) [
         | inl is ↦
             let here : AllKnown (IsKnown fixed t m i) (cells_of t i) (known_in m.known i) =
             subst (λ (c : List ℕ). AllKnown (IsKnown fixed t m i) c (known_in m.known i))
             (sym (cells_mine s t i own made.owns made.below))
             (subst (λ (w : List Known). AllKnown (IsKnown fixed t m i) (cells_in own.held) w)
-            (sym (ap (λ (ws : List (List Known)). known_in ws i) made.knows ∙ get_or-set_same l.known i known [] made.known_below))
+            (sym (ap (λ (ws : List (List Known)). known_in ws i) made.knows
+            ∙ get_or-set_same l.known i known [] made.known_below))
             made.known_mine) in
-            subst (λ (n : ℕ). AllKnown (IsKnown fixed t m n) (cells_of t n) (known_in m.known n)) (sym is) here
+            subst (λ (n : ℕ). AllKnown (IsKnown fixed t m n) (cells_of t n) (known_in m.known n))
+            (sym is) here
         | inr other ↦
             let cells = cells_else s t i own made.owns j other in
             let w : known_in m.known j ≡ known_in l.known j =
-            ap (λ (ws : List (List Known)). known_in ws j) made.knows ∙ get_or-set_other l.known i j known [] other in
+            ap (λ (ws : List (List Known)). known_in ws j) made.knows
+            ∙ get_or-set_other l.known i j known [] other in
             subst (λ (ws : List Known). AllKnown (IsKnown fixed t m j) (cells_of t j) ws) (sym w)
-            (all_known (IsKnown fixed s l j) (IsKnown fixed t m j) (cells_of t j) (known_in l.known j)
-            (λ x v h before. knows_on s t l m fixed j x v (made.same x (reached_held t j x k h)) before)
-            (subst (λ (c : List ℕ). AllKnown (IsKnown fixed s l j) c (known_in l.known j)) (sym cells) (facts.known_all j)))
+            (all_known (IsKnown fixed s l j) (IsKnown fixed t m j) (cells_of t j)
+            (known_in l.known j)
+            (λ x v h before. knows_on s t l m fixed j x v
+            (made.same x (reached_held t j x k h)) before)
+            (subst (λ (c : List ℕ). AllKnown (IsKnown fixed s l j) c (known_in l.known j))
+            (sym cells) (facts.known_all j)))
       ];
     }

@@ -16,18 +16,23 @@ use Rattle.heap_rule.specs.Steps.{Picks, StandsBy, same_pass}
 use Rattle.heap_rule.proofs.SmallerAfter.{smaller_after}
 
 module _ {P : Type 0} (holds : Map → List P → Type 0) (fixed : ℕ → Bool)
-    (shrinks : (old new : Map) (passes : List P) → Smaller old new → holds old passes → holds new passes) where
-  pub stands_by : (next : Learned → Found → P → P) (v : View P) (e : Event) → Picks holds fixed next v e
+    (shrinks : (old new : Map) (passes : List P) → Smaller old new → holds old passes
+    → holds new passes) where
+  pub stands_by : (next : Learned → Found → P → P) (v : View P) (e : Event)
+      → Picks holds fixed next v e
       → StandsBy holds fixed next v e
   stands_by next v e picks s l passes mine happens proper pass kept =
       shrinks (boxes_by s l e) (boxes_of (after s e) (lore_after s l e)) _
-      (smaller_after fixed s l mine.shown.shaped mine.shown.consistent mine.shown.facts e happens proper)
+      (smaller_after fixed s l mine.shown.shaped mine.shown.consistent mine.shown.facts e happens
+      proper)
       (picks s l passes mine happens proper pass kept)
 
   -- where the event shows no box and writes none, and the pass stays
-  pub stands_still : (v : View P) (e : Event) → ((s : State) (l : Lore) → boxes_by s l e ≡ boxes_of s l)
+  pub stands_still : (v : View P) (e : Event)
+      → ((s : State) (l : Lore) → boxes_by s l e ≡ boxes_of s l)
       → StandsBy holds fixed same_pass v e
   stands_still v e same =
       stands_by same_pass v e (λ s l passes mine happens proper pass kept.
-      subst (λ (ps : List P). holds (boxes_by s l e) ps) (sym (set_again passes v.number v.pass pass))
+      subst (λ (ps : List P). holds (boxes_by s l e) ps)
+      (sym (set_again passes v.number v.pass pass))
       (subst (λ (m : Map). holds m passes) (sym (same s l)) kept))

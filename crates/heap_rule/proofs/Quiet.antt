@@ -1,5 +1,6 @@
 -- Events that change no field and no mutator's cells: nothing that lore speaks of changes.
-use Rattle.std.proofs.Common.{◌≡◌, ◌==◌, ℕ, Bool, true, false, List, [], ◌∷◌, map, refl, sym, ◌∙◌, ap, subst, if◌then◌else◌}
+use Rattle.std.proofs.Common.{◌≡◌, ◌==◌, ℕ, Bool, true, false, List, [], ◌∷◌, map, refl, sym, ◌∙◌}
+use Rattle.std.proofs.Common.{ap, subst, if◌then◌else◌}
 use Rattle.std.proofs.Math.ListN.{set}
 use Rattle.std.proofs.lemmas.List.{set-get_or}
 use Rattle.cell_words.specs.declared.fields.Field.{Field}
@@ -31,9 +32,11 @@ module _ (s t : State) (consistent : IsConsistent s) (rows : t.rows ≡ s.rows)
     entries = λ f. refl;
   }
 
-  pub quiet_facts : (fixed : ℕ → Bool) (l : Lore) → IsConsistent t → t.mutators ≡ s.mutators → Facts fixed s l
+  pub quiet_facts : (fixed : ℕ → Bool) (l : Lore) → IsConsistent t → t.mutators ≡ s.mutators
+      → Facts fixed s l
       → Facts fixed t l
-  quiet_facts fixed l after mutators facts = still_facts fixed s t l after (quiet_same l) cells mutators facts
+  quiet_facts fixed l after mutators facts = still_facts fixed s t l after
+      (quiet_same l) cells mutators facts
 
 -- what a mutator knows, written back
 pub known_back : (l : Lore) (i : ℕ) → record l { known = set l.known i (known_in l.known i) } ≡ l
@@ -41,7 +44,8 @@ known_back l i = λ t. record l { known = set-get_or l.known i [] t }
 
 -- Own parts with the same cells.
 
-pub cells_unmarked : (held : List Held) → map (λ p. p.cell) (map unmark held) ≡ map (λ p. p.cell) held
+pub cells_unmarked : (held : List Held)
+    → map (λ p. p.cell) (map unmark held) ≡ map (λ p. p.cell) held
 cells_unmarked [] = refl
 cells_unmarked (p ∷ ps) = ap (λ cs. p.cell ∷ cs) (cells_unmarked ps)
 
@@ -49,7 +53,8 @@ cell_marked : (b : Bool) (p : Held) → (if b then record p { marked = true } el
 cell_marked true p = refl
 cell_marked false p = refl
 
-pub cells_marked : (c : ℕ) (held : List Held) → map (λ p. p.cell) (map (mark_of c) held) ≡ map (λ p. p.cell) held
+pub cells_marked : (c : ℕ) (held : List Held)
+    → map (λ p. p.cell) (map (mark_of c) held) ≡ map (λ p. p.cell) held
 cells_marked c [] = refl
 cells_marked c (p ∷ ps) =
     λ t. cell_marked (p.cell == c) p t ∷ cells_marked c ps t
@@ -57,4 +62,5 @@ cells_marked c (p ∷ ps) =
 pub cells_own : (s : State) (i : ℕ) (own : Own) → map (λ p. p.cell) own.held ≡ cells_of s i
     → (j : ℕ) → cells_of (record s { owns = set s.owns i own }) j ≡ cells_of s j
 cells_own s i own same j =
-    own_each (λ k (o : Own). map (λ p. p.cell) o.held ≡ cells_of s k) s.owns i own same (λ k. refl) j
+    own_each (λ k (o : Own). map (λ p. p.cell) o.held
+    ≡ cells_of s k) s.owns i own same (λ k. refl) j

@@ -1,5 +1,6 @@
 -- What the rule says of any moment, in words of the table alone.
-use Rattle.std.proofs.Common.{◌≡◌, ◌≢◌, ◌<◌, ℕ, Bool, true, List, Option, Some, refl, sym, ◌∙◌, ap, subst, slice_index}
+use Rattle.std.proofs.Common.{◌≡◌, ◌≢◌, ◌<◌, ℕ, Bool, true, List, Option, Some, refl, sym, ◌∙◌, ap}
+use Rattle.std.proofs.Common.{subst, slice_index}
 use mathlib.Core.Option.{some}
 use lib.ListN.{get_elem?}
 use Rattle.atomic_table.specs.Table as table
@@ -32,25 +33,30 @@ blue_word colour.White h = absurd cc
 blue_word colour.Gray h = absurd cc
 blue_word colour.Black h = absurd cc
 
-module _ {P : Type 0} (opens : ℕ → ℕ → P) (holding : Map → List P → Type 0) (fixed : ℕ → Bool) (h : Shape) where
-  seat_shows : (l : Ledger P) (seat : ℕ) (v : View P) → Stands holding fixed h l → MutatorFits h l seat v
+module _ {P : Type 0} (opens : ℕ → ℕ → P) (holding : Map → List P → Type 0) (fixed : ℕ
+    → Bool) (h : Shape) where
+  seat_shows : (l : Ledger P) (seat : ℕ) (v : View P) → Stands holding fixed h l
+      → MutatorFits h l seat v
       → SeatShows l.core l.run v
   seat_shows l seat v stands fits =
       let rooms = l.core.rooms in
       let begins : own_of (start h rooms) v.number ≡ no_own = same_everywhere _ v.number no_own in
       let told : own_of l.core v.number ≡ own_along no_own (trail_of (Some v.number) l.run) =
       ap (λ (s : State). own_of s v.number) (sym stands.core_is)
-      ∙ own_told (start h rooms) v.number no_own l.run (opening_shaped holding fixed h l stands) stands.legal begins in
+      ∙ own_told (start h rooms) v.number no_own l.run
+      (opening_shaped holding fixed h l stands) stands.legal begins in
       record {
         own = fits.share.own;
         inside = sym fits.share.presence.inside;
         trail = fits.share.trail;
-        told = sym fits.share.own ∙ told ∙ ap (λ (ts : List Taken). own_along no_own ts) fits.share.trail;
+        told = sym fits.share.own ∙ told
+            ∙ ap (λ (ts : List Taken). own_along no_own ts) fits.share.trail;
         reached = λ inside c there. held v.number (sym fits.share.presence.inside ∙ inside)
             (subst (λ (o : Own). holds o.held c ≡ true) (sym fits.share.own) there);
       }
 
-  pub shows_run : {S : Type 0} (s : table.State S (View P)) → Kept opens holding fixed h s → ShowsRun h s
+  pub shows_run : {S : Type 0} (s : table.State S (View P)) → Kept opens holding fixed h s
+      → ShowsRun h s
   shows_run s k =
       let l = k.ledger in
       let shaped = core_shaped holding fixed h l k.stands in
@@ -68,7 +74,10 @@ module _ {P : Type 0} (opens : ℕ → ℕ → P) (holding : Map → List P → 
         safe = safe;
         not_free = λ c lt r blue. safe.in_use c r
             (blue_word (colour_of l.core c)
-            (sym (word_read l.core shaped (ColourOf c) lt) ∙ sym (ap (λ (ws : List ℕ). slice_index ws (index_of l.core.mutators (ColourOf c))) k.words_are) ∙ blue));
+            (sym (word_read l.core shaped (ColourOf c) lt)
+            ∙ sym (ap (λ (ws : List ℕ). slice_index ws (index_of l.core.mutators (ColourOf c)))
+            k.words_are) ∙ blue));
         seats = λ j v there is.
-            seat_shows l j v k.stands (subst (λ (r : Role). SeatFits h l j v r) is (k.each_seat j v there));
+            seat_shows l j v k.stands
+            (subst (λ (r : Role). SeatFits h l j v r) is (k.each_seat j v there));
       }

@@ -1,6 +1,8 @@
 -- One step of a seat keeps the rule: for every event of a mutator and of the collector alike.
-use Rattle.std.proofs.Common.{◌⊎◌, ◌≡◌, ◌≢◌, ◌<◌, ◌≤◌, ◌++◌, ℕ, Bool, true, List, [], ◌∷◌, length, get_or, Option, Some, None}
-use Rattle.std.proofs.Common.{inl, inr, refl, sym, ◌∙◌, ap, subst, arith, slice_index, slice_set, length-set}
+use Rattle.std.proofs.Common.{◌⊎◌, ◌≡◌, ◌≢◌, ◌<◌, ◌≤◌, ◌++◌, ℕ, Bool, true, List, [], ◌∷◌, length}
+use Rattle.std.proofs.Common.{get_or, Option, Some, None}
+use Rattle.std.proofs.Common.{inl, inr, refl, sym, ◌∙◌, ap, subst, arith, slice_index, slice_set}
+use Rattle.std.proofs.Common.{length-set}
 use Rattle.std.proofs.Math.ListN.{set}
 use Rattle.std.proofs.lemmas.Bool.{cases_eq}
 use Rattle.std.proofs.lemmas.List.{get_or-set_same, get_or-set_other}
@@ -21,11 +23,13 @@ use Rattle.cell_words.specs.declared.controls.Control.{Control}
 use Rattle.cell_words.specs.declared.presences.Presence.{Presence}
 use Rattle.core_machine.specs.declared.events.Event.TheVariants as event
 use Rattle.core_machine.specs.Run.{Runs, last}
-use Rattle.core_machine.specs.State.{State, greatest_cells, own_in, own_of, presence_of, room_in, room_of}
+use Rattle.core_machine.specs.State.{State, greatest_cells, own_in, own_of, presence_of, room_in}
+use Rattle.core_machine.specs.State.{room_of}
 use Rattle.core_machine.specs.Table.{index_of, words_of}
 use Rattle.core_machine.specs.Trail.{trail_of}
 use Rattle.core_machine.specs.WordOperations.{IsPackedAs, left_by, operation_of, word_of}
-use Rattle.core_machine.proofs.Frames.{as_large, collector_framed, knows_after, knows_else, mutator_framed, own_else, own_mine, presence_mine}
+use Rattle.core_machine.proofs.Frames.{as_large, collector_framed, knows_after, knows_else}
+use Rattle.core_machine.proofs.Frames.{mutator_framed, own_else, own_mine, presence_mine}
 use Rattle.core_machine.proofs.OneOperation.{one_operation}
 use Rattle.core_machine.proofs.Runs.{last_snoc, runs_shaped, runs_snoc}
 use Rattle.core_machine.proofs.Trails.{trail_else, trail_mine}
@@ -45,10 +49,12 @@ use Rattle.heap_rule.specs.Boxes.{Map, Smaller, boxes_by, boxes_of}
 use Rattle.heap_rule.specs.Facts.{Facts, Proper}
 use Rattle.heap_rule.specs.Lore.{Lore, cells_in, cells_of, known_by, known_in, learned, lore_after}
 use Rattle.heap_rule.specs.Lore as lore
-use Rattle.heap_rule.specs.Rule.{Ledger, Stands, ShareFits, PlaceFits, MutatorFits, CollectorFits, SeatFits, Kept}
+use Rattle.heap_rule.specs.Rule.{Ledger, Stands, ShareFits, PlaceFits, MutatorFits, CollectorFits}
+use Rattle.heap_rule.specs.Rule.{SeatFits, Kept}
 use Rattle.heap_rule.specs.Rule.{behind, share_of, told, told_collector, took, unsplit}
 use Rattle.heap_rule.specs.Shape.{Shape, start}
-use Rattle.heap_rule.specs.Steps.{AtStep, AtCollectorStep, CollectorOwes, Mine, Ours, Owed, Owes, Shown, StandsBy}
+use Rattle.heap_rule.specs.Steps.{AtStep, AtCollectorStep, CollectorOwes, Mine, Ours, Owed, Owes}
+use Rattle.heap_rule.specs.Steps.{Shown, StandsBy}
 use Rattle.heap_rule.proofs.FactsAfter.{facts_after}
 use Rattle.heap_rule.proofs.SmallerAfter.{smaller_after}
 
@@ -56,32 +62,44 @@ use Rattle.heap_rule.proofs.SmallerAfter.{smaller_after}
 module _ {P : Type 0} (holds : Map → List P → Type 0) (fixed : ℕ → Bool) (h : Shape) (l : Ledger P)
     (stands : Stands holds fixed h l) where
   pub opening_shaped : IsShaped (start h l.core.rooms)
-  opening_shaped = rows_shaped h.cells l.core.rooms h.first stands.sound.rows stands.sound.first stands.sound.fit
+  opening_shaped = rows_shaped h.cells l.core.rooms h.first stands.sound.rows stands.sound.first
+      stands.sound.fit
 
   pub core_shaped : IsShaped l.core
-  core_shaped = subst IsShaped stands.core_is (runs_shaped (start h l.core.rooms) l.run opening_shaped stands.legal)
+  core_shaped = subst IsShaped stands.core_is
+      (runs_shaped (start h l.core.rooms) l.run opening_shaped stands.legal)
 
   pub core_consistent : IsConsistent l.core
   core_consistent =
       subst IsConsistent stands.core_is
       (runs_consistent (start h l.core.rooms) l.run opening_shaped
-      (opening_consistent h.cells l.core.rooms h.first stands.sound.fit stands.sound.first) stands.legal)
+      (opening_consistent h.cells l.core.rooms h.first stands.sound.fit stands.sound.first)
+      stands.legal)
 
   pub core_words : HasWords l.core
   core_words =
-      subst HasWords stands.core_is (every_run_has_words h.cells l.core.rooms h.first l.run stands.sound.first stands.legal)
+      subst HasWords stands.core_is
+      (every_run_has_words h.cells l.core.rooms h.first l.run stands.sound.first stands.legal)
 
   pub core_shown : Shown fixed l.core l.lore
-  core_shown = record { shaped = core_shaped; consistent = core_consistent; words = core_words; facts = stands.facts }
+  core_shown = record {
+    shaped = core_shaped;
+    consistent = core_consistent;
+    words = core_words;
+    facts = stands.facts;
+  }
 
   -- .. and behind an event
-  pub stands_behind : (e : Event) (passes : List P) → can l.core e ≡ true → Proper fixed l.core l.lore e
-      → length passes ≡ h.mutators → holds (boxes_of (after l.core e) (lore_after l.core l.lore e)) passes
+  pub stands_behind : (e : Event) (passes : List P) → can l.core e ≡ true
+      → Proper fixed l.core l.lore e
+      → length passes ≡ h.mutators
+      → holds (boxes_of (after l.core e) (lore_after l.core l.lore e)) passes
       → Stands holds fixed h (behind l e passes)
   stands_behind e passes happens proper fit kept =
       let large = as_large l.core e in
       let t = took e (found_by l.core e) in
-      let now : can (last (start h l.core.rooms) l.run) e ≡ true = subst (λ (s : State). can s e ≡ true) (sym stands.core_is) happens in
+      let now : can (last (start h l.core.rooms) l.run) e
+      ≡ true = subst (λ (s : State). can s e ≡ true) (sym stands.core_is) happens in
       let found : found_by l.core e ≡ found_by (last (start h l.core.rooms) l.run) e =
       ap (λ (s : State). found_by s e) (sym stands.core_is) in
       record {
@@ -90,9 +108,12 @@ module _ {P : Type 0} (holds : Map → List P → Type 0) (fixed : ℕ → Bool)
         mutators = large.mutators ∙ stands.mutators;
         legal = subst (λ (rs : List ℕ). Runs (start h rs) (l.run ++ t ∷ [])) (sym large.rooms)
             (runs_snoc (start h l.core.rooms) l.run t stands.legal now found);
-        core_is = subst (λ (rs : List ℕ). last (start h rs) (l.run ++ t ∷ []) ≡ after l.core e) (sym large.rooms)
-            (last_snoc (start h l.core.rooms) l.run t ∙ ap (λ (s : State). after s e) stands.core_is);
-        facts = facts_after fixed l.core l.lore core_shaped core_consistent stands.facts e happens proper;
+        core_is = subst (λ (rs : List ℕ). last (start h rs) (l.run ++ t ∷ [])
+            ≡ after l.core e) (sym large.rooms)
+            (last_snoc (start h l.core.rooms) l.run t
+            ∙ ap (λ (s : State). after s e) stands.core_is);
+        facts = facts_after fixed l.core l.lore core_shaped core_consistent stands.facts e happens
+            proper;
         passes_fit = fit;
         kept = kept;
       }
@@ -109,11 +130,14 @@ own_other s e j other = by_maker (maker e) refl
 known_other : (s : State) (l : Lore) (e : Event) (j : ℕ) (who : Option ℕ) → who ≢ Some j
     → known_in (known_by s l e who) j ≡ known_in l.known j
 known_other s l e j None other = refl
-known_other s l e j (Some i) other = get_or-set_other l.known i j _ [] (λ is. other (ap Some (sym is)))
+known_other s l e j (Some i) other = get_or-set_other l.known i j _ []
+    (λ is. other (ap Some (sym is)))
 
 module _ {P : Type 0} where
-  share_else : (l : Ledger P) (e : Event) (passes : List P) (j : ℕ) (share : Share P) → maker e ≢ Some j
-      → get_elem? passes j ≡ get_elem? l.passes j → ShareFits l j share → ShareFits (behind l e passes) j share
+  share_else : (l : Ledger P) (e : Event) (passes : List P) (j : ℕ) (share : Share P)
+      → maker e ≢ Some j
+      → get_elem? passes j ≡ get_elem? l.passes j → ShareFits l j share
+      → ShareFits (behind l e passes) j share
   share_else l e passes j share other pass fits = record {
     room = ap (λ (rs : List ℕ). room_in rs j) (as_large l.core e).rooms ∙ fits.room;
     own = own_other l.core e j other ∙ fits.own;
@@ -124,31 +148,41 @@ module _ {P : Type 0} where
   }
 
   -- the maker's own
-  share_mine : (l : Ledger P) (e : Event) (v : View P) (passes : List P) (pass : P) → IsShaped l.core → can l.core e ≡ true
-      → v.number < length l.lore.known → maker e ≡ Some v.number → get_elem? passes v.number ≡ some pass
+  share_mine : (l : Ledger P) (e : Event) (v : View P) (passes : List P) (pass : P)
+      → IsShaped l.core → can l.core e ≡ true
+      → v.number < length l.lore.known → maker e ≡ Some v.number
+      → get_elem? passes v.number ≡ some pass
       → ShareFits l v.number (share_of v)
-      → ShareFits (behind l e passes) v.number (share_of (told v e (found_by l.core e) (learned l.core l.lore e) pass))
+      → ShareFits (behind l e passes) v.number
+      (share_of (told v e (found_by l.core e) (learned l.core l.lore e) pass))
   share_mine l e v passes pass shaped happens below made there fits =
       let i = v.number in
       let found = found_by l.core e in
       let tells = learned l.core l.lore e in
       record {
         room = ap (λ (rs : List ℕ). room_in rs i) (as_large l.core e).rooms ∙ fits.room;
-        own = own_mine l.core e i shaped happens made ∙ ap (λ (o : Own). own_after o e found) fits.own;
+        own = own_mine l.core e i shaped happens made
+            ∙ ap (λ (o : Own). own_after o e found) fits.own;
         presence = subst (λ (now : Presence). Knows (presence_after v.presence e found) now)
             (sym (presence_mine l.core e i shaped happens made))
             (knows_after v.presence (presence_of l.core i) e found fits.presence);
         known =
             ap (λ (who : Option ℕ). known_in (known_by l.core l.lore e who) i) made
-            ∙ get_or-set_same l.lore.known i (lore.knows_after (cells_of l.core i) (known_in l.lore.known i) e found tells) [] below
-            ∙ ap (λ (o : Own). lore.knows_after (cells_in o.held) (known_in l.lore.known i) e found tells) fits.own
-            ∙ ap (λ (ws : List Known). lore.knows_after (cells_in v.own.held) ws e found tells) fits.known;
+            ∙ get_or-set_same l.lore.known i
+            (lore.knows_after (cells_of l.core i) (known_in l.lore.known i) e found tells) []
+            below
+            ∙ ap (λ (o : Own). lore.knows_after (cells_in o.held)
+            (known_in l.lore.known i) e found tells) fits.own
+            ∙ ap (λ (ws : List Known). lore.knows_after (cells_in v.own.held) ws e found tells)
+            fits.known;
         pass = there;
-        trail = trail_mine (Some i) l.run (took e found) made ∙ ap (λ (ts : List Taken). ts ++ took e found ∷ []) fits.trail;
+        trail = trail_mine (Some i) l.run (took e found) made
+            ∙ ap (λ (ts : List Taken). ts ++ took e found ∷ []) fits.trail;
       }
 
 -- an event of the collector leaves the boxes
-collectors_boxes : (s : State) (l : Lore) (e : Event) → maker e ≡ None → boxes_by s l e ≡ boxes_of s l
+collectors_boxes : (s : State) (l : Lore) (e : Event) → maker e ≡ None
+    → boxes_by s l e ≡ boxes_of s l
 collectors_boxes s l (event.Begin i) made = let no = made in absurd cc
 collectors_boxes s l (event.Look i) made = let no = made in absurd cc
 collectors_boxes s l (event.Read i place f) made = let no = made in absurd cc
@@ -164,9 +198,11 @@ collectors_boxes s l (event.Over i) made = let no = made in absurd cc
 collectors_boxes s l e made = refl
 
 -- A step of a mutator's seat.
-module _ {P : Type 0} (opens : ℕ → ℕ → P) (holds : Map → List P → Type 0) (fixed : ℕ → Bool) (h : Shape) where
+module _ {P : Type 0} (opens : ℕ → ℕ → P) (holds : Map → List P → Type 0) (fixed : ℕ
+    → Bool) (h : Shape) where
   -- what the seat knows
-  mine_of : (l : Ledger P) (seat : ℕ) (v : View P) → Stands holds fixed h l → MutatorFits h l seat v → Mine fixed v l.core l.lore
+  mine_of : (l : Ledger P) (seat : ℕ) (v : View P) → Stands holds fixed h l → MutatorFits h l seat v
+      → Mine fixed v l.core l.lore
   mine_of l seat v stands fits = record {
     shown = core_shown holds fixed h l stands;
     cells = stands.cells ∙ ap (λ (x : Shape). x.cells) (sym fits.shape);
@@ -180,18 +216,22 @@ module _ {P : Type 0} (opens : ℕ → ℕ → P) (holds : Map → List P → Ty
   }
 
   -- another seat's part stays
-  seat_else : (l : Ledger P) (e : Event) (seat : ℕ) (v : View P) (passes : List P) → MutatorFits h l seat v → maker e ≡ Some v.number
+  seat_else : (l : Ledger P) (e : Event) (seat : ℕ) (v : View P) (passes : List P)
+      → MutatorFits h l seat v → maker e ≡ Some v.number
       → ((j : ℕ) → j ≢ v.number → get_elem? passes j ≡ get_elem? l.passes j)
-      → (j : ℕ) (u : View P) (r : Role) → j ≢ seat → SeatFits h l j u r → SeatFits h (behind l e passes) j u r
+      → (j : ℕ) (u : View P) (r : Role) → j ≢ seat → SeatFits h l j u r
+      → SeatFits h (behind l e passes) j u r
   seat_else l e seat v passes mine made still j u role.Mutator other fits =
-      let apart : u.number ≢ v.number = (λ is. other (sym fits.owner ∙ ap l.owner is ∙ mine.owner)) in
+      let apart : u.number ≢ v.number = (λ is. other (sym fits.owner ∙ ap l.owner is
+      ∙ mine.owner)) in
       record {
         shape = fits.shape;
         number = fits.number;
         place = fits.place;
         owner = fits.owner;
         share = share_else l e passes u.number (share_of u)
-            (λ is. apart (let same : Some v.number ≡ Some u.number = sym made ∙ is in cc)) (still u.number apart) fits.share;
+            (λ is. apart (let same : Some v.number ≡ Some u.number = sym made
+            ∙ is in cc)) (still u.number apart) fits.share;
       }
   seat_else l e seat v passes mine made still j u role.Collector other fits =
       let framed = mutator_framed l.core e v.number made in
@@ -201,23 +241,33 @@ module _ {P : Type 0} (opens : ℕ → ℕ → P) (holds : Map → List P → Ty
         places = fits.places;
         control = framed.control ∙ fits.control;
         part = framed.collector ∙ fits.part;
-        trail = trail_else None l.run (took e (found_by l.core e)) (λ is. let no = sym made ∙ is in cc) ∙ fits.trail;
+        trail = trail_else None l.run (took e (found_by l.core e)) (λ is. let no = sym made
+            ∙ is in cc) ∙ fits.trail;
       }
   seat_else l e seat v passes mine made still j u role.Spent other fits = tt
 
-  place_else : (l : Ledger P) (e : Event) (seat : ℕ) (v : View P) (passes : List P) → MutatorFits h l seat v → maker e ≡ Some v.number
+  place_else : (l : Ledger P) (e : Event) (seat : ℕ) (v : View P) (passes : List P)
+      → MutatorFits h l seat v → maker e ≡ Some v.number
       → ((j : ℕ) → j ≢ v.number → get_elem? passes j ≡ get_elem? l.passes j)
-      → (j : ℕ) (p : Place P) → get_elem? l.places j ≡ some p → PlaceFits opens h l j p → PlaceFits opens h (behind l e passes) j p
+      → (j : ℕ) (p : Place P) → get_elem? l.places j ≡ some p → PlaceFits opens h l j p
+      → PlaceFits opens h (behind l e passes) j p
   place_else l e seat v passes mine made still j places.Unsplit there fits =
-      let apart : j ≢ v.number = (λ is. let no : some places.Unsplit ≡ some places.Away = sym there ∙ ap (get_elem? l.places) is ∙ mine.place in cc) in
-      share_else l e passes j (unsplit opens h j) (λ is. apart (let same : Some v.number ≡ Some j = sym made ∙ is in cc)) (still j apart) fits
+      let apart : j ≢ v.number = (λ is. let no : some places.Unsplit ≡ some places.Away = sym there
+      ∙ ap (get_elem? l.places) is ∙ mine.place in cc) in
+      share_else l e passes j (unsplit opens h j) (λ is. apart (let same : Some v.number
+      ≡ Some j = sym made ∙ is in cc)) (still j apart) fits
   place_else l e seat v passes mine made still j places.Away there fits = tt
   place_else l e seat v passes mine made still j (places.Joined share) there fits =
-      let apart : j ≢ v.number = (λ is. let no : some (places.Joined share) ≡ some places.Away = sym there ∙ ap (get_elem? l.places) is ∙ mine.place in cc) in
-      (share_else l e passes j share (λ is. apart (let same : Some v.number ≡ Some j = sym made ∙ is in cc)) (still j apart) fits.0, fits.1)
+      let apart : j ≢ v.number = (λ is. let no : some (places.Joined share)
+      ≡ some places.Away = sym there ∙ ap (get_elem? l.places) is ∙ mine.place in cc) in (
+        share_else l e passes j share (λ is. apart (let same : Some v.number ≡ Some j = sym made
+            ∙ is in cc)) (still j apart) fits.0,
+        fits.1,
+      )
 
   -- the words behind the event
-  words_behind : (l : Ledger P) (e : Event) (words : List ℕ) (word : ℕ) (f g : ℕ → ℕ) → IsShaped l.core
+  words_behind : (l : Ledger P) (e : Event) (words : List ℕ) (word : ℕ) (f g : ℕ → ℕ)
+      → IsShaped l.core
       → Owed fixed l.core l.lore e word f g → words ≡ words_of l.core
       → slice_set words word (f (slice_index words word)) ≡ words_of (after l.core e)
   words_behind l e words word f g shaped owed is =
@@ -225,27 +275,33 @@ module _ {P : Type 0} (opens : ℕ → ℕ → P) (holds : Map → List P → Ty
       let ws = words_of l.core in
       ap (λ (ns : List ℕ). slice_set ns word (f (slice_index ns word))) is
       ∙ ap (λ (n : ℕ). slice_set ws word n) (owed.left (slice_index ws word))
-      ∙ ap (λ (i : ℕ). slice_set ws i (left_by (operation_of l.core e) (slice_index ws i))) (sym owed.index)
+      ∙ ap (λ (i : ℕ). slice_set ws i (left_by (operation_of l.core e) (slice_index ws i)))
+      (sym owed.index)
       ∙ sym once.left
 
-  says_found : (l : Ledger P) (e : Event) (words : List ℕ) (word : ℕ) (f g : ℕ → ℕ) → IsShaped l.core
+  says_found : (l : Ledger P) (e : Event) (words : List ℕ) (word : ℕ) (f g : ℕ → ℕ)
+      → IsShaped l.core
       → Owed fixed l.core l.lore e word f g → words ≡ words_of l.core
       → IsPackedAs (found_by l.core e) (g (slice_index words word))
   says_found l e words word f g shaped owed is =
       let once = one_operation l.core e shaped owed.happens in
       owed.tells (slice_index words word)
       (subst (λ (ns : List ℕ). IsPackedAs (found_by l.core e) (slice_index ns word)) (sym is)
-      (subst (λ (i : ℕ). IsPackedAs (found_by l.core e) (slice_index (words_of l.core) i)) owed.index once.found))
+      (subst (λ (i : ℕ). IsPackedAs (found_by l.core e) (slice_index (words_of l.core) i))
+      owed.index once.found))
 
-  pub mutator_step : {S : Type 0} (slots id : ℕ) (me : table.Me S (View P)) (e : Event) (word : ℕ) (f g : ℕ → ℕ)
-      (next : Learned → Found → P → P) → me.0.role ≡ role.Mutator → maker e ≡ Some me.0.number → Owes fixed me.0 e word f g
+  pub mutator_step : {S : Type 0} (slots id : ℕ) (me : table.Me S (View P)) (e : Event) (word : ℕ)
+      (f g : ℕ → ℕ)
+      (next : Learned → Found → P → P) → me.0.role ≡ role.Mutator → maker e ≡ Some me.0.number
+      → Owes fixed me.0 e word f g
       → StandsBy holds fixed next me.0 e
       → table.Allows (Kept opens holds fixed h) slots id me word f
       (λ n m. AtStep holds fixed me.0 e next (g n) m.0 × (m.1 ≡ me.1))
   mutator_step slots id me e word f g next is made owes rule s k fit there bound =
       let v = me.0 in
       let l = k.ledger in
-      let mine : MutatorFits h l id v = subst (λ (r : Role). SeatFits h l id v r) is (k.each_seat id v there) in
+      let mine : MutatorFits h l id v = subst (λ (r : Role). SeatFits h l id v r) is
+      (k.each_seat id v there) in
       let knows = mine_of l id v k.stands mine in
       let owed = owes l.core l.lore knows in
       let shaped = core_shaped holds fixed h l k.stands in
@@ -254,10 +310,12 @@ module _ {P : Type 0} (opens : ℕ → ℕ → P) (holds : Map → List P → Ty
       let pass = next tells found v.pass in
       let passes = slice_set l.passes v.number pass in
       let w = told v e found tells pass in
-      let below : v.number < length l.passes = let lt = mine.number in let n = k.stands.passes_fit in omega (arith, lt, n) in
+      let below : v.number < length
+      l.passes = let lt = mine.number in let n = k.stands.passes_fit in omega (arith, lt, n) in
       let still : (j : ℕ) → j ≢ v.number → get_elem? passes j ≡ get_elem? l.passes j
       = (λ j other. lists.set_else l.passes v.number j pass other) in
-      let kept = rule l.core l.lore l.passes knows owed.happens owed.proper mine.share.pass k.stands.kept in
+      let kept = rule l.core l.lore l.passes knows owed.happens owed.proper mine.share.pass
+      k.stands.kept in
       let new : MutatorFits h (behind l e passes) id w = record {
         shape = mine.shape;
         number = mine.number;
@@ -275,13 +333,16 @@ module _ {P : Type 0} (opens : ℕ → ℕ → P) (holds : Map → List P → Ty
           stands = stands_behind holds fixed h l k.stands e passes owed.happens owed.proper
               (length-set l.passes v.number pass ∙ k.stands.passes_fit) kept;
           words_are = words_behind l e s.words word f g shaped owed k.words_are;
-          each_place = λ j p at. place_else l e id v passes mine made still j p at (k.each_place j p at);
+          each_place = λ j p at. place_else l e id v passes mine made still j p at
+              (k.each_place j p at);
           each_seat = λ j u at. elim (at_set s.views id j w u at) [
             | inl here ↦
-                let fits : SeatFits h (behind l e passes) id w w.role = subst (λ (r : Role). SeatFits h (behind l e passes) id w r) (sym is) new in
+                let fits : SeatFits h (behind l e passes) id w w.role = subst
+                (λ (r : Role). SeatFits h (behind l e passes) id w r) (sym is) new in
                 subst (λ (n : ℕ). SeatFits h (behind l e passes) n u u.role) (sym here.0)
                 (subst (λ (x : View P). SeatFits h (behind l e passes) id x x.role) here.1 fits)
-            | inr other ↦ seat_else l e id v passes mine made still j u u.role other.0 (k.each_seat j u other.1)
+            | inr other ↦ seat_else l e id v passes mine made still j u u.role other.0
+                (k.each_seat j u other.1)
           ];
         },
         (
@@ -301,7 +362,8 @@ module _ {P : Type 0} (opens : ℕ → ℕ → P) (holds : Map → List P → Ty
       )
 
   -- A step of the collector's seat. No pass changes, and the client's rule stands by its own law.
-  ours_of : (l : Ledger P) (seat : ℕ) (v : View P) → Stands holds fixed h l → CollectorFits h l seat v → Ours fixed v l.core l.lore
+  ours_of : (l : Ledger P) (seat : ℕ) (v : View P) → Stands holds fixed h l
+      → CollectorFits h l seat v → Ours fixed v l.core l.lore
   ours_of l seat v stands fits = record {
     shown = core_shown holds fixed h l stands;
     cells = stands.cells ∙ ap (λ (x : Shape). x.cells) (sym fits.shape);
@@ -311,26 +373,33 @@ module _ {P : Type 0} (opens : ℕ → ℕ → P) (holds : Map → List P → Ty
     part = fits.part;
   }
 
-  seat_beside : (l : Ledger P) (e : Event) (seat : ℕ) (v : View P) → CollectorFits h l seat v → maker e ≡ None
-      → (j : ℕ) (u : View P) (r : Role) → j ≢ seat → SeatFits h l j u r → SeatFits h (behind l e l.passes) j u r
+  seat_beside : (l : Ledger P) (e : Event) (seat : ℕ) (v : View P) → CollectorFits h l seat v
+      → maker e ≡ None
+      → (j : ℕ) (u : View P) (r : Role) → j ≢ seat → SeatFits h l j u r
+      → SeatFits h (behind l e l.passes) j u r
   seat_beside l e seat v ours made j u role.Mutator other fits = record {
     shape = fits.shape;
     number = fits.number;
     place = fits.place;
     owner = fits.owner;
-    share = share_else l e l.passes u.number (share_of u) (λ is. let no = sym made ∙ is in cc) refl fits.share;
+    share = share_else l e l.passes u.number (share_of u) (λ is. let no = sym made
+        ∙ is in cc) refl fits.share;
   }
-  seat_beside l e seat v ours made j u role.Collector other fits = absurd (other (sym fits.seat_is ∙ ours.seat_is))
+  seat_beside l e seat v ours made j u role.Collector other fits = absurd (other (sym fits.seat_is
+      ∙ ours.seat_is))
   seat_beside l e seat v ours made j u role.Spent other fits = tt
 
-  place_beside : (l : Ledger P) (e : Event) → maker e ≡ None → (j : ℕ) (p : Place P) → PlaceFits opens h l j p
+  place_beside : (l : Ledger P) (e : Event) → maker e ≡ None → (j : ℕ) (p : Place P)
+      → PlaceFits opens h l j p
       → PlaceFits opens h (behind l e l.passes) j p
-  place_beside l e made j places.Unsplit fits = share_else l e l.passes j (unsplit opens h j) (λ is. let no = sym made ∙ is in cc) refl fits
+  place_beside l e made j places.Unsplit fits = share_else l e l.passes j (unsplit opens h j)
+      (λ is. let no = sym made ∙ is in cc) refl fits
   place_beside l e made j places.Away fits = tt
   place_beside l e made j (places.Joined share) fits =
       (share_else l e l.passes j share (λ is. let no = sym made ∙ is in cc) refl fits.0, fits.1)
 
-  pub collector_step : ((old new : Map) (passes : List P) → Smaller old new → holds old passes → holds new passes)
+  pub collector_step : ((old new : Map) (passes : List P) → Smaller old new → holds old passes
+      → holds new passes)
       → {S : Type 0} (slots id : ℕ) (me : table.Me S (View P)) (e : Event) (word : ℕ) (f g : ℕ → ℕ)
       → me.0.role ≡ role.Collector → maker e ≡ None → CollectorOwes fixed me.0 e word f g
       → table.Allows (Kept opens holds fixed h) slots id me word f
@@ -338,7 +407,8 @@ module _ {P : Type 0} (opens : ℕ → ℕ → P) (holds : Map → List P → Ty
   collector_step shrinks slots id me e word f g is made owes s k fit there bound =
       let v = me.0 in
       let l = k.ledger in
-      let ours : CollectorFits h l id v = subst (λ (r : Role). SeatFits h l id v r) is (k.each_seat id v there) in
+      let ours : CollectorFits h l id v = subst (λ (r : Role). SeatFits h l id v r) is
+      (k.each_seat id v there) in
       let knows = ours_of l id v k.stands ours in
       let owed = owes l.core l.lore knows in
       let shaped = core_shaped holds fixed h l k.stands in
@@ -346,9 +416,12 @@ module _ {P : Type 0} (opens : ℕ → ℕ → P) (holds : Map → List P → Ty
       let w = told_collector v e found in
       let framed = collector_framed l.core e made in
       let kept : holds (boxes_of (after l.core e) (lore_after l.core l.lore e)) l.passes =
-      shrinks (boxes_of l.core l.lore) (boxes_of (after l.core e) (lore_after l.core l.lore e)) l.passes
-      (subst (λ (m : Map). Smaller m (boxes_of (after l.core e) (lore_after l.core l.lore e))) (collectors_boxes l.core l.lore e made)
-      (smaller_after fixed l.core l.lore shaped (core_consistent holds fixed h l k.stands) k.stands.facts e owed.happens owed.proper))
+      shrinks (boxes_of l.core l.lore)
+      (boxes_of (after l.core e) (lore_after l.core l.lore e)) l.passes
+      (subst (λ (m : Map). Smaller m (boxes_of (after l.core e) (lore_after l.core l.lore e)))
+      (collectors_boxes l.core l.lore e made)
+      (smaller_after fixed l.core l.lore shaped
+      (core_consistent holds fixed h l k.stands) k.stands.facts e owed.happens owed.proper))
       k.stands.kept in
       let new : CollectorFits h (behind l e l.passes) id w = record {
         shape = ours.shape;
@@ -358,24 +431,29 @@ module _ {P : Type 0} (opens : ℕ → ℕ → P) (holds : Map → List P → Ty
         part =
             framed.collector
             ∙ ap (λ (n : ℕ). collector_after n l.core.control l.core.collector e found) knows.cells
-            ∙ ap (λ (c : Control). collector_after v.shape.cells c l.core.collector e found) ours.control
+            ∙ ap (λ (c : Control). collector_after v.shape.cells c l.core.collector e found)
+            ours.control
             ∙ ap (λ (c : Collector). collector_after v.shape.cells v.control c e found) ours.part;
-        trail = trail_mine None l.run (took e found) made ∙ ap (λ (ts : List Taken). ts ++ took e found ∷ []) ours.trail;
+        trail = trail_mine None l.run (took e found) made
+            ∙ ap (λ (ts : List Taken). ts ++ took e found ∷ []) ours.trail;
       } in (
         w,
         table.keeps,
         tt,
         record {
           ledger = behind l e l.passes;
-          stands = stands_behind holds fixed h l k.stands e l.passes owed.happens owed.proper k.stands.passes_fit kept;
+          stands = stands_behind holds fixed h l k.stands e l.passes owed.happens owed.proper
+              k.stands.passes_fit kept;
           words_are = words_behind l e s.words word f g shaped owed k.words_are;
           each_place = λ j p at. place_beside l e made j p (k.each_place j p at);
           each_seat = λ j u at. elim (at_set s.views id j w u at) [
             | inl here ↦
-                let fits : SeatFits h (behind l e l.passes) id w w.role = subst (λ (r : Role). SeatFits h (behind l e l.passes) id w r) (sym is) new in
+                let fits : SeatFits h (behind l e l.passes) id w w.role = subst
+                (λ (r : Role). SeatFits h (behind l e l.passes) id w r) (sym is) new in
                 subst (λ (n : ℕ). SeatFits h (behind l e l.passes) n u u.role) (sym here.0)
                 (subst (λ (x : View P). SeatFits h (behind l e l.passes) id x x.role) here.1 fits)
-            | inr other ↦ seat_beside l e id v ours made j u u.role other.0 (k.each_seat j u other.1)
+            | inr other ↦ seat_beside l e id v ours made j u u.role other.0
+                (k.each_seat j u other.1)
           ];
         },
         (

@@ -1,7 +1,8 @@
--- What a seat needs to know for each kind of event, and which operation on which word it makes: said of
--- its view alone.
+-- What a seat needs to know for each kind of event, and which operation on which word it makes:
+-- said of its view alone.
 -- Source: this project's.
-use Rattle.std.specs.Prelude.{ℕ, ◌≡◌, ◌≢◌, ◌<◌, ◌≤◌, ◌+◌, ◌==◌, ◌&&◌, ◌||◌, Bool, true, false, not, List, [], ◌∷◌, length}
+use Rattle.std.specs.Prelude.{ℕ, ◌≡◌, ◌≢◌, ◌<◌, ◌≤◌, ◌+◌, ◌==◌, ◌&&◌, ◌||◌, Bool, true, false, not}
+use Rattle.std.specs.Prelude.{List, [], ◌∷◌, length}
 use Rattle.std.specs.Prelude.{slice_index_or, is_some}
 use Rattle.cell_words.specs.Colour.{pack_colour_of}
 use Rattle.cell_words.specs.Field.{pack_field_of}
@@ -18,7 +19,8 @@ use Rattle.core_machine.specs.Collector.{Collector}
 use Rattle.core_machine.specs.Places.{all_marked, cell_at, marks_stand, names_rightly}
 use Rattle.core_machine.specs.State.{State}
 use Rattle.core_machine.specs.Table.{Word, ColourOf, FieldOf, index_of}
-use Rattle.core_machine.specs.WordOperations.{Operation, Load, Store, Exchange, SetBits, KeepBits, left_by}
+use Rattle.core_machine.specs.WordOperations.{Operation, Load, Store, Exchange, SetBits, KeepBits}
+use Rattle.core_machine.specs.WordOperations.{left_by}
 use Rattle.core_machine.specs.Words.{barrier_in, is_cell, marks_some, requests, same_status}
 use Rattle.core_machine.specs.declared.events.Event.{Event}
 use Rattle.heap_rule.specs.declared.known.Known.{Known}
@@ -64,7 +66,8 @@ is_sealed (knows.Boxed terms) = true
 abbrev pub knows_sealed : List ℕ → List Known → ℕ → Bool
 knows_sealed [] known c = false
 knows_sealed (cell ∷ cells) [] c = false
-knows_sealed (cell ∷ cells) (k ∷ known) c = ((cell == c) && is_sealed k) || knows_sealed cells known c
+knows_sealed (cell ∷ cells)
+    (k ∷ known) c = ((cell == c) && is_sealed k) || knows_sealed cells known c
 
 -- the value names no cell, or the anchor, or a cell that is known to be sealed
 abbrev pub IsSealedValue : List ℕ → List Known → Field → Type 0
@@ -100,7 +103,8 @@ module _ {P : Type 0} where
 
   abbrev pub CollectorAsks : (ℕ → Bool) → View P → Event → Word → Operation → Type 0
   CollectorAsks fixed v e word operation =
-      CollectorOwes fixed v e (index_of v.shape.mutators word) (left_by operation) (told_by operation)
+      CollectorOwes fixed v e (index_of v.shape.mutators word) (left_by operation)
+      (told_by operation)
 
   abbrev pub target : View P → ℕ → ℕ
   target v place = cell_at v.own.held place
@@ -157,7 +161,9 @@ module _ {P : Type 0} where
   pub record MayAnswer (v : View P) : Type 0 where
     pub inside : v.presence.inside ≡ true
     pub requested : requests v.own.mode (next_status_of v.presence.status) ≡ true
-    pub third : (not (same_status (next_status_of v.presence.status) status.Async) || all_marked v.own.held) ≡ true
+    pub third : (not
+        (same_status (next_status_of v.presence.status) status.Async) || all_marked v.own.held)
+        ≡ true
 
   pub record MayKeep (v : View P) (n from copies : ℕ) : Type 0 where
     pub inside : v.presence.inside ≡ true

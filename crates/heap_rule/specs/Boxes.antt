@@ -1,5 +1,5 @@
--- The boxes of a heap, as a client's rule sees them: a finite map from each reachable box that is not
--- fresh to what its payload stands for. And when one map is a smaller one.
+-- The boxes of a heap, as a client's rule sees them: a finite map from each reachable box that is
+-- not fresh to what its payload stands for. And when one map is a smaller one.
 -- Source: this project's.
 use Rattle.std.specs.Prelude.{ℕ, ◌≡◌, ◌<◌, ◌&&◌, Bool, true, false, Option, Some, None, is_none}
 use Rattle.cell_words.specs.declared.fields.Field.{Field}

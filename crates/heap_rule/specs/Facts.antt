@@ -2,7 +2,8 @@
 --
 -- They are of reachable cells alone: what lies behind garbage is freed and claimed again.
 -- Source: this project's.
-use Rattle.std.specs.Prelude.{ℕ, ◌≡◌, ◌<◌, ◌==◌, ◌&&◌, ◌||◌, Bool, true, false, List, [], ◌∷◌, length}
+use Rattle.std.specs.Prelude.{ℕ, ◌≡◌, ◌<◌, ◌==◌, ◌&&◌, ◌||◌, Bool, true, false, List, [], ◌∷◌}
+use Rattle.std.specs.Prelude.{length}
 use Rattle.std.specs.Prelude.{Option, Some, None}
 use Rattle.cell_words.specs.declared.fields.Field.{Field}
 use Rattle.cell_words.specs.declared.fields.Field.TheVariants as field
@@ -17,7 +18,8 @@ use Rattle.dlg_core.specs.Reachable.{Reachable}
 use Rattle.heap_rule.specs.declared.known.Known.{Known}
 use Rattle.heap_rule.specs.declared.known.Known.TheVariants as knows
 use Rattle.heap_rule.specs.Knowledge.{KnownAt}
-use Rattle.heap_rule.specs.Lore.{Entry, Plain, Named, Lore, Terms, Fresh, entry_of, five_of, known_in, cells_of, has}
+use Rattle.heap_rule.specs.Lore.{Entry, Plain, Named, Lore, Terms, Fresh, entry_of, five_of}
+use Rattle.heap_rule.specs.Lore.{known_in, cells_of, has}
 
 -- field 5 of a record is the number 1
 abbrev pub is_record_kind : Field → Bool
@@ -39,9 +41,10 @@ abbrev pub Termed : (ℕ → ℕ → Field) → (ℕ → Type 0) → Terms → T
 Termed rows reached terms =
     (x : ℕ) → reached x → TermFits (is_record_kind (rows x 5)) terms (rows x) (terms x)
 
--- a cell is fresh for a mutator that holds it, and no other does, and no reachable cell names it; a raw
--- cell is fresh for somebody
-pub record FreshFits (rows : ℕ → ℕ → Field) (reached : ℕ → Type 0) (cells : ℕ → List ℕ) (fresh : Fresh) : Type 0 where
+-- a cell is fresh for a mutator that holds it, and no other does, and no reachable cell names it; a
+-- raw cell is fresh for somebody
+pub record FreshFits (rows : ℕ → ℕ → Field) (reached : ℕ → Type 0) (cells : ℕ
+    → List ℕ) (fresh : Fresh) : Type 0 where
   pub anchor : fresh 0 ≡ None
   pub held : (x i : ℕ) → fresh x ≡ Some i → has (cells i) x ≡ true
   pub alone : (x i j : ℕ) → fresh x ≡ Some i → has (cells j) x ≡ true → j ≡ i
@@ -74,8 +77,8 @@ pub record Facts (fixed : ℕ → Bool) (s : State) (l : Lore) : Type 0 where
   pub known_fit : length l.known ≡ s.mutators
   pub known_all : (i : ℕ) → AllKnown (IsKnown fixed s l i) (cells_of s i) (known_in l.known i)
 
--- What is owed beside the event table: no write of a fixed field, but in the anchor; and who seals a
--- record knows the term of each of its fields.
+-- What is owed beside the event table: no write of a fixed field, but in the anchor; and who seals
+-- a record knows the term of each of its fields.
 
 -- some place has the cell, with a term known of it
 abbrev pub knows_term : List ℕ → List Known → ℕ → Bool

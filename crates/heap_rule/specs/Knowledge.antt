@@ -1,7 +1,8 @@
 -- What it means that a mutator knows something of a cell: it is so, and no event of another changes
 -- it.
 -- Source: this project's.
-use Rattle.std.specs.Prelude.{ℕ, ◌≡◌, ◌≢◌, ◌<◌, Bool, true, List, length, slice_index_or, Option, Some, None}
+use Rattle.std.specs.Prelude.{ℕ, ◌≡◌, ◌≢◌, ◌<◌, Bool, true, List, length, slice_index_or, Option}
+use Rattle.std.specs.Prelude.{Some, None}
 use Rattle.cell_words.specs.declared.fields.Field.{Field}
 use Rattle.cell_words.specs.declared.fields.Field.TheVariants as field
 use Rattle.cell_words.specs.Term.{Term}
@@ -20,9 +21,10 @@ abbrev pub AreTold : (ℕ → Bool) → List (Option Term) → Terms → (ℕ �
 AreTold fixed told terms row = (f : ℕ) (t : Term) → f < 5 → fixed f ≡ true
     → slice_index_or told f None ≡ Some t → entry_of terms (row f) ≡ Plain t
 
--- What is so where mutator i knows this of cell x, which has these fields and this term, and is fresh
--- for this mutator or for none. It takes the parts that it reads of a heap.
-abbrev pub KnownAt : (ℕ → Bool) → Terms → (ℕ → Field) → Option Term → Option ℕ → ℕ → ℕ → Known → Type 0
+-- What is so where mutator i knows this of cell x, which has these fields and this term, and is
+-- fresh for this mutator or for none. It takes the parts that it reads of a heap.
+abbrev pub KnownAt : (ℕ → Bool) → Terms → (ℕ → Field) → Option Term → Option ℕ → ℕ → ℕ → Known
+    → Type 0
 KnownAt fixed terms row term fresh i x knows.Nothing = Unit {0}
 KnownAt fixed terms row term fresh i x (knows.Raw fields) =
     (row 5 ≡ field.Null) × (fresh ≡ Some i) × ArePayload fields row

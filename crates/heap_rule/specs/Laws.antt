@@ -22,8 +22,8 @@ use Rattle.heap_rule.specs.declared.view.View.{View}
 use Rattle.heap_rule.specs.Shape.{Shape, start}
 
 module _ {P : Type 0} where
-  -- A mutator's seat has that one's own part and trail; the part is what the trail leaves, and what it
-  -- holds is reachable.
+  -- A mutator's seat has that one's own part and trail; the part is what the trail leaves, and what
+  -- it holds is reachable.
   pub record SeatShows (core : State) (run : List Taken) (v : View P) : Type 0 where
     pub own : own_of core v.number ≡ v.own
     pub inside : (presence_of core v.number).inside ≡ v.presence.inside

@@ -2,7 +2,8 @@
 -- fresh, and what each mutator knows of the cells that it holds. It changes with the events alone.
 -- Source: this project's.
 use Rattle.std.specs.Prelude.{ℕ, ◌≡◌, ◌==◌, Bool, true, false, List, [], ◌∷◌, ◌++◌}
-use Rattle.std.specs.Prelude.{slice_index_or, slice_set, map, take, drop, Option, Some, None, if◌then◌else◌}
+use Rattle.std.specs.Prelude.{slice_index_or, slice_set, map, take, drop, Option, Some, None}
+use Rattle.std.specs.Prelude.{if◌then◌else◌}
 use Rattle.std.specs.List.{list_any}
 use Rattle.cell_words.specs.declared.colours.Colour.{Colour}
 use Rattle.cell_words.specs.declared.colours.Colour.TheVariants as colour
@@ -18,7 +19,8 @@ use Rattle.core_machine.specs.declared.events.Found.TheVariants as finds
 use Rattle.core_machine.specs.declared.places.Held.{Held}
 use Rattle.core_machine.specs.Next.{found_by, maker}
 use Rattle.core_machine.specs.Places.{kept}
-use Rattle.core_machine.specs.State.{State, colour_of, field_in, field_of, held_of, target_of, null_row}
+use Rattle.core_machine.specs.State.{State, colour_of, field_in, field_of, held_of, target_of}
+use Rattle.core_machine.specs.State.{null_row}
 use Rattle.core_machine.specs.Words.{is_box_kind, same_field}
 use Rattle.heap_rule.specs.declared.known.Known.{Known}
 use Rattle.heap_rule.specs.declared.known.Known.TheVariants as knows
@@ -49,7 +51,8 @@ term_of (Named c) = null
 -- the record of five fields
 abbrev pub five_of : Terms → (ℕ → Field) → Term
 five_of terms row = five (term_of (entry_of terms (row 0))) (term_of (entry_of terms (row 1)))
-    (term_of (entry_of terms (row 2))) (term_of (entry_of terms (row 3))) (term_of (entry_of terms (row 4)))
+    (term_of (entry_of terms (row 2))) (term_of (entry_of terms (row 3)))
+    (term_of (entry_of terms (row 4)))
 
 -- the function with another value at one number
 abbrev pub put : {A : Type 0} → (ℕ → A) → ℕ → A → ℕ → A
@@ -149,7 +152,8 @@ plain (Plain t) = Some t
 plain (Named c) = None
 
 abbrev pub five_plain : (ℕ → Entry) → List (Option Term)
-five_plain entries = plain (entries 0) ∷ plain (entries 1) ∷ plain (entries 2) ∷ plain (entries 3) ∷ plain (entries 4) ∷ []
+five_plain entries = plain (entries 0) ∷ plain (entries 1) ∷ plain (entries 2) ∷ plain (entries 3) ∷
+    plain (entries 4) ∷ []
 
 -- of a record its term, of a box that is neither the anchor nor fresh the terms of its payload
 abbrev pub told_of : Bool → Bool → Option Term → Option ℕ → List (Option Term) → Known
@@ -208,7 +212,8 @@ known_found known k (field.Cell c) = known ++ k ∷ []
 
 abbrev pub known_read : List ℕ → List Known → ℕ → Learned → Found → List Known
 known_read cells known place tells (finds.Field found) =
-    known_found (at_cell (told tells.here) (slice_index_or cells place 0) cells known) tells.found found
+    known_found (at_cell (told tells.here) (slice_index_or cells place 0) cells known) tells.found
+    found
 known_read cells known place tells _ = known
 
 abbrev pub five_nulls : List Field
@@ -275,15 +280,18 @@ fields_term cells known fields =
     (value_term cells known (slice_index_or fields 4 field.Null))
 
 abbrev pub known_sealed : List ℕ → List Known → Kind → Known → Known
-known_sealed cells known kind.Record (knows.Raw fields) = knows.Record (fields_term cells known fields)
+known_sealed cells known kind.Record (knows.Raw fields) = knows.Record
+    (fields_term cells known fields)
 known_sealed cells known kind.Boxed (knows.Raw fields) = knows.Fresh fields
 known_sealed cells known of k = knows.Nothing
 
 abbrev pub knows_after : List ℕ → List Known → Event → Found → Learned → List Known
 knows_after cells known (event.Begin i) found tells = knows.Nothing ∷ []
-knows_after cells known (event.Read i place f) found tells = known_read cells known place tells found
+knows_after cells known
+    (event.Read i place f) found tells = known_read cells known place tells found
 knows_after cells known (event.Claim i c) found tells = known_claimed known found
-knows_after cells known (event.Fill i place f value) found tells = known_stored cells known place f value
+knows_after cells known
+    (event.Fill i place f value) found tells = known_stored cells known place f value
 knows_after cells known (event.Seal i place of) found tells =
     at_cell (known_sealed cells known of) (slice_index_or cells place 0) cells known
 knows_after cells known (event.Write i place f old new) found tells =
@@ -296,7 +304,8 @@ knows_after cells known _ found tells = known
 abbrev pub known_by : State → Lore → Event → Option ℕ → List (List Known)
 known_by s l e None = l.known
 known_by s l e (Some i) =
-    slice_set l.known i (knows_after (cells_of s i) (known_in l.known i) e (found_by s e) (learned s l e))
+    slice_set l.known i
+    (knows_after (cells_of s i) (known_in l.known i) e (found_by s e) (learned s l e))
 
 abbrev pub lore_after : State → Lore → Event → Lore
 lore_after s l e = record {

@@ -1,5 +1,5 @@
--- The moves of seats that are no events: a mutator is split off the collector's seat, and joined again.
--- Source: this project's.
+-- The moves of seats that are no events: a mutator is split off the collector's seat, and joined
+-- again. Source: this project's.
 use Rattle.std.specs.Prelude.{ℕ, List, [], slice_set}
 use Rattle.core_machine.specs.Own.{no_own}
 use Rattle.core_machine.specs.State.{opening_collector, opening_control, opening_presence}

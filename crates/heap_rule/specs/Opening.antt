@@ -1,5 +1,5 @@
--- What a heap opens with: the first rows and their terms, the opening passes, and the collector's seat.
--- Source: this project's.
+-- What a heap opens with: the first rows and their terms, the opening passes, and the collector's
+-- seat. Source: this project's.
 use Rattle.std.specs.Prelude.{ℕ, zero, suc, ◌≡◌, ◌+◌, List, [], ◌∷◌, replicate, None}
 use Rattle.cell_words.specs.declared.fields.Field.{Field}
 use Rattle.core_machine.specs.Own.{no_own}
@@ -18,7 +18,8 @@ FirstTerms first terms =
 
 -- nothing is fresh, and no mutator holds a cell
 abbrev pub opening_lore : Terms → ℕ → Lore
-opening_lore terms mutators = record { terms = terms; fresh = λ x. None; known = replicate mutators [] }
+opening_lore terms
+    mutators = record { terms = terms; fresh = λ x. None; known = replicate mutators [] }
 
 -- room for one place each, until a mutator is split off
 abbrev pub opening_rooms : ℕ → List ℕ
@@ -28,7 +29,8 @@ module _ {P : Type 0} where
   -- the passes of so many mutators from a number on
   abbrev pub passes_from : (ℕ → ℕ → P) → ℕ → ℕ → ℕ → List P
   passes_from opens setting number zero = []
-  passes_from opens setting number (suc more) = opens number setting ∷ passes_from opens setting (number + 1) more
+  passes_from opens setting number (suc more) = opens number setting ∷ passes_from opens setting
+      (number + 1) more
 
   abbrev pub opening_passes : (ℕ → ℕ → P) → Shape → List P
   opening_passes opens h = passes_from opens h.setting 0 h.mutators

@@ -1,11 +1,12 @@
--- The rule of a heap in an atomic table: what holds of its words and of the views of all seats between
--- any two steps, whatever threads the seats are in.
+-- The rule of a heap in an atomic table: what holds of its words and of the views of all seats
+-- between any two steps, whatever threads the seats are in.
 --
 -- The words show a core state, which is the last one of a run from the opening. Each seat knows its
--- maker's part of that state, and its trail is the maker's events of that run. The facts on lore stand,
--- and the client's rule stands on the boxes and the passes.
+-- maker's part of that state, and its trail is the maker's events of that run. The facts on lore
+-- stand, and the client's rule stands on the boxes and the passes.
 -- Source: this project's.
-use Rattle.std.specs.Prelude.{ℕ, ◌≡◌, ◌<◌, ◌++◌, Bool, true, List, [], ◌∷◌, length, slice_set, Option, Some, None}
+use Rattle.std.specs.Prelude.{ℕ, ◌≡◌, ◌<◌, ◌++◌, Bool, true, List, [], ◌∷◌, length, slice_set}
+use Rattle.std.specs.Prelude.{Option, Some, None}
 use mathlib.Core.Option.{some}
 use lib.ListN.{get_elem?}
 use Rattle.atomic_table.specs.Table as table
@@ -53,7 +54,8 @@ took e found = record { event = e; found = found }
 
 module _ {P : Type 0} where
   -- of the heap alone, whoever has a seat
-  pub record Stands (holds : Map → List P → Type 0) (fixed : ℕ → Bool) (h : Shape) (l : Ledger P) : Type 0 where
+  pub record Stands (holds : Map → List P → Type 0) (fixed : ℕ
+      → Bool) (h : Shape) (l : Ledger P) : Type 0 where
     pub sound : IsSound h
     pub cells : l.core.cells ≡ h.cells
     pub mutators : l.core.mutators ≡ h.mutators
@@ -120,13 +122,16 @@ module _ {P : Type 0} where
   SeatFits h l seat v role.Collector = CollectorFits h l seat v
   SeatFits h l seat v role.Spent = Unit {0}
 
-  pub record Kept (opens : ℕ → ℕ → P) (holds : Map → List P → Type 0) (fixed : ℕ → Bool) (h : Shape) {S : Type 0}
+  pub record Kept (opens : ℕ → ℕ → P) (holds : Map → List P → Type 0) (fixed : ℕ
+      → Bool) (h : Shape) {S : Type 0}
       (s : table.State S (View P)) : Type 0 where
     pub ledger : Ledger P
     pub stands : Stands holds fixed h ledger
     pub words_are : s.words ≡ words_of ledger.core
-    pub each_place : (i : ℕ) (p : Place P) → get_elem? ledger.places i ≡ some p → PlaceFits opens h ledger i p
-    pub each_seat : (j : ℕ) (v : View P) → get_elem? s.views j ≡ some v → SeatFits h ledger j v v.role
+    pub each_place : (i : ℕ) (p : Place P) → get_elem? ledger.places i ≡ some p
+        → PlaceFits opens h ledger i p
+    pub each_seat : (j : ℕ) (v : View P) → get_elem? s.views j ≡ some v
+        → SeatFits h ledger j v v.role
 
   -- What a step tells the seat that makes it.
 

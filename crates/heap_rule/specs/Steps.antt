@@ -1,5 +1,5 @@
--- One step of a seat: what the seat knows when it makes it, what its maker owes, what the client's rule
--- asks, and what the step tells.
+-- One step of a seat: what the seat knows when it makes it, what its maker owes, what the client's
+-- rule asks, and what the step tells.
 -- Source: this project's.
 use Rattle.std.specs.Prelude.{ℕ, ◌≡◌, ◌<◌, ◌≤◌, Bool, true, List, slice_set, None}
 use mathlib.Core.Option.{some}
@@ -29,7 +29,8 @@ pub record Shown (fixed : ℕ → Bool) (s : State) (l : Lore) : Type 0 where
 
 -- what is owed of an event beside what it touches: it can happen, it spares fixed fields and seals
 -- terms, its word lies there, and the operation leaves f of the number found and tells g of it
-pub record Owed (fixed : ℕ → Bool) (s : State) (l : Lore) (e : Event) (word : ℕ) (f g : ℕ → ℕ) : Type 0 where
+pub record Owed (fixed : ℕ → Bool) (s : State) (l : Lore) (e : Event) (word : ℕ) (f g : ℕ
+    → ℕ) : Type 0 where
   pub happens : can s e ≡ true
   pub proper : Proper fixed s l e
   pub index : index_of s.mutators (word_of s e) ≡ word
@@ -62,18 +63,21 @@ module _ {P : Type 0} where
   Owes fixed v e word f g = (s : State) (l : Lore) → Mine fixed v s l → Owed fixed s l e word f g
 
   abbrev pub CollectorOwes : (ℕ → Bool) → View P → Event → ℕ → (ℕ → ℕ) → (ℕ → ℕ) → Type 0
-  CollectorOwes fixed v e word f g = (s : State) (l : Lore) → Ours fixed v s l → Owed fixed s l e word f g
+  CollectorOwes fixed v e word f g = (s : State) (l : Lore) → Ours fixed v s l
+      → Owed fixed s l e word f g
 
   -- The client's rule stands behind the event with the pass that is picked: from what was learned,
   -- what was found, and the pass before.
-  abbrev pub StandsBy : (Map → List P → Type 0) → (ℕ → Bool) → (Learned → Found → P → P) → View P → Event → Type 0
-  StandsBy holds fixed next v e = (s : State) (l : Lore) (passes : List P) → Mine fixed v s l → can s e ≡ true
+  abbrev pub StandsBy : (Map → List P → Type 0) → (ℕ → Bool) → (Learned → Found → P → P) → View P
+      → Event → Type 0
+  StandsBy holds fixed next v e = (s : State) (l : Lore) (passes : List P) → Mine fixed v s l
+      → can s e ≡ true
       → Proper fixed s l e → get_elem? passes v.number ≡ some v.pass → holds (boxes_of s l) passes
       → holds (boxes_of (after s e) (lore_after s l e))
       (slice_set passes v.number (next (learned s l e) (found_by s e) v.pass))
 
-  -- What a step tells: the state, the lore and the passes at this moment, that the client's rule stood
-  -- on them, that what was found is the number there, and what the seat knows behind it.
+  -- What a step tells: the state, the lore and the passes at this moment, that the client's rule
+  -- stood on them, that what was found is the number there, and what the seat knows behind it.
   pub record AtStep (holds : Map → List P → Type 0) (fixed : ℕ → Bool) (v : View P) (e : Event)
       (next : Learned → Found → P → P) (number : ℕ) (w : View P) : Type 0 where
     pub core : State
@@ -84,10 +88,13 @@ module _ {P : Type 0} where
     pub kept : holds (boxes_of core lore) passes
     pub pass : get_elem? passes v.number ≡ some v.pass
     pub says : IsPackedAs (found_by core e) number
-    pub new : w ≡ told v e (found_by core e) (learned core lore e) (next (learned core lore e) (found_by core e) v.pass)
+    pub new : w
+        ≡ told v e (found_by core e) (learned core lore e)
+        (next (learned core lore e) (found_by core e) v.pass)
 
   -- .. of the collector's
-  pub record AtCollectorStep (fixed : ℕ → Bool) (v : View P) (e : Event) (number : ℕ) (w : View P) : Type 0 where
+  pub record AtCollectorStep (fixed : ℕ
+      → Bool) (v : View P) (e : Event) (number : ℕ) (w : View P) : Type 0 where
     pub core : State
     pub lore : Lore
     pub ours : Ours fixed v core lore
@@ -95,12 +102,15 @@ module _ {P : Type 0} where
     pub says : IsPackedAs (found_by core e) number
     pub new : w ≡ told_collector v e (found_by core e)
 
-  -- What a client shows where it picks its pass: that its rule stands on the boxes that the event would
-  -- leave if nothing became unreachable. Its own law does the rest.
-  abbrev pub Picks : (Map → List P → Type 0) → (ℕ → Bool) → (Learned → Found → P → P) → View P → Event → Type 0
-  Picks holds fixed next v e = (s : State) (l : Lore) (passes : List P) → Mine fixed v s l → can s e ≡ true
+  -- What a client shows where it picks its pass: that its rule stands on the boxes that the event
+  -- would leave if nothing became unreachable. Its own law does the rest.
+  abbrev pub Picks : (Map → List P → Type 0) → (ℕ → Bool) → (Learned → Found → P → P) → View P
+      → Event → Type 0
+  Picks holds fixed next v e = (s : State) (l : Lore) (passes : List P) → Mine fixed v s l
+      → can s e ≡ true
       → Proper fixed s l e → get_elem? passes v.number ≡ some v.pass → holds (boxes_of s l) passes
-      → holds (boxes_by s l e) (slice_set passes v.number (next (learned s l e) (found_by s e) v.pass))
+      → holds (boxes_by s l e)
+      (slice_set passes v.number (next (learned s l e) (found_by s e) v.pass))
 
   -- the pass stays
   abbrev pub same_pass : Learned → Found → P → P

@@ -2,8 +2,8 @@ ghost use Rattle.heap_rule.specs.Boxes.{Map, Smaller};
 ghost use Rattle.heap_rule.specs.NoRule.{anything_holds, no_field_is_fixed, nothing_to_keep};
 ghost use Rattle.std.specs.Prelude.{Bool, List, ℕ};
 
-/// A client's rule over the boxes of a heap. A value of the type is a pass: what the rule knows of one
-/// mutator. It takes no room at run time and changes at this mutator's steps alone.
+/// A client's rule over the boxes of a heap. A value of the type is a pass: what the rule knows of
+/// one mutator. It takes no room at run time and changes at this mutator's steps alone.
 pub trait Keeping {
     // the pass of a mutator at the start, by its number, in a heap with this setting
     ghost opening: { ℕ → ℕ → Self };

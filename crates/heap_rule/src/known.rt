@@ -11,8 +11,8 @@ pub enum Known {
     Fresh(LinkedList<Field>),
     /// The cell is a record, and this is its term.
     Record(Term),
-    /// The cell is a box and not the anchor: the terms of its payload, as far as they are told. They
-    /// hold of fixed fields alone.
+    /// The cell is a box and not the anchor: the terms of its payload, as far as they are told.
+    /// They hold of fixed fields alone.
     Boxed(LinkedList<Option<Term>>),
 }
 

@@ -1,8 +1,8 @@
 use cell_words::Row;
 use std::marker::Model;
 
-/// What is fixed of a heap when it is made: its numbers of cells and of mutators, the setting for the
-/// opening passes, and the first rows.
+/// What is fixed of a heap when it is made: its numbers of cells and of mutators, the setting for
+/// the opening passes, and the first rows.
 #[derive(Drop)]
 pub struct HeapShape {
     cells: u32,

@@ -1,5 +1,5 @@
-//! Laws on lore and boxes, for any number of cells and any client: the contracts of functions that do
-//! nothing.
+//! Laws on lore and boxes, for any number of cells and any client: the contracts of functions that
+//! do nothing.
 ghost use Rattle.core_machine.specs.declared.events.Event.{Event};
 ghost use Rattle.core_machine.specs.InRange.{IsShaped};
 ghost use Rattle.core_machine.specs.Next.{after, can};
@@ -17,8 +17,9 @@ ghost use Rattle.std.specs.Prelude.{Bool, true, ℕ, ◌≡◌};
 
 use crate::keeping::Keeping;
 
-/// The facts on lore stay with every event that spares fixed fields and seals what has a term: records
-/// have their terms, fresh cells are their mutator's alone, and what each mutator knows is so.
+/// The facts on lore stay with every event that spares fixed fields and seals what has a term:
+/// records have their terms, fresh cells are their mutator's alone, and what each mutator knows is
+/// so.
 pub fn facts_on_lore_stay()
     ensures { (fixed : ℕ → Bool) (s : State) (l : Lore) (e : Event) → IsShaped s → IsConsistent s
         → Facts fixed s l → can s e ≡ true → Proper fixed s l e → Facts fixed (after s e) (lore_after s l e) }
@@ -32,10 +33,10 @@ pub fn boxes_grow_smaller()
         → Smaller (boxes_by s l e) (boxes_of (after s e) (lore_after s l e)) }
 {}
 
-/// Between any two steps, whatever seats there are and in whatever threads: the words of a table with
-/// the rule show a safe core state, which is the last one of a run from the opening. Each mutator's seat
-/// has that one's own part and trail, what it holds is reachable, and the colour word of no reachable
-/// cell is that of a free one.
+/// Between any two steps, whatever seats there are and in whatever threads: the words of a table
+/// with the rule show a safe core state, which is the last one of a run from the opening. Each
+/// mutator's seat has that one's own part and trail, what it holds is reachable, and the colour
+/// word of no reachable cell is that of a free one.
 pub fn a_table_shows_a_safe_run<S, P: Keeping>()
     ensures { (h : Shape) (s : TableState S (View P)) → Kept P.opening P.holds P.fixed h s → ShowsRun h s }
 {}

@@ -44,8 +44,8 @@ pub struct View<P> {
     pub known: LinkedList<Known>,
     pub pass: P,
 
-    /// the collector's: the control as it stored it last, the part that no word shows, and where the
-    /// mutators' parts are
+    /// the collector's: the control as it stored it last, the part that no word shows, and where
+    /// the mutators' parts are
     pub control: Control,
     pub part: CollectorPart,
     pub places: LinkedList<Place<P>>,
