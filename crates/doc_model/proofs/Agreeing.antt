@@ -7,7 +7,7 @@ use Rattle.doc_tree.specs.Tree.{DocTree, empty, kid, no_kids}
 use Rattle.doc_model.specs.declared.command.Command.TheVariants as command
 use Rattle.doc_model.specs.declared.command.Reply.TheVariants as reply
 use Rattle.doc_model.specs.declared.command.Entry.{Entry}
-use Rattle.doc_model.specs.Answers.{Limits, opening_seat}
+use Rattle.doc_model.specs.Answers.{Limits, opening_account}
 use Rattle.doc_model.specs.ClientLog.{ClientLog}
 use Rattle.doc_model.specs.History.{Follows}
 use Rattle.doc_model.specs.Agreement.{Agree}
@@ -33,10 +33,10 @@ first = record { client = 1; entries = put ∷ []; spare = 0 }
 abbrev second : ClientLog
 second = record { client = 2; entries = full ∷ got ∷ []; spare = 0 }
 
-first_follows : Follows limits trees opening_seat first.entries
+first_follows : Follows limits trees opening_account first.entries
 first_follows = (record { known = omega arith; numbered = refl; rises = omega arith; says = (refl, refl); made = refl }, tt)
 
-second_follows : Follows limits trees opening_seat second.entries
+second_follows : Follows limits trees opening_account second.entries
 second_follows = (
   record { known = omega arith; numbered = refl; rises = omega arith; says = (refl, refl); made = refl },
   (record { known = omega arith; numbered = refl; rises = omega arith; says = (refl, refl); made = refl }, tt),
@@ -45,7 +45,7 @@ second_follows = (
 pub agree : Agree limits trees (first ∷ second ∷ [])
 agree =
     let own = λ (g : ClientLog). All (λ (e : Entry). e.client ≡ g.client) g.entries in
-    let follows = λ (g : ClientLog). Follows limits trees opening_seat g.entries in
+    let follows = λ (g : ClientLog). Follows limits trees opening_account g.entries in
     let is = λ (n : ℕ) (e : Entry). e.client ≡ n in
     record {
       clients = refl;

@@ -10,8 +10,8 @@ use Rattle.std.proofs.lemmas.List.Elements.{All-head, All-tail, All-weaker, filt
 use Rattle.std.proofs.lemmas.List.Sorted.{All-permutation}
 use Rattle.doc_tree.specs.Tree.{DocTree, empty}
 use Rattle.doc_model.specs.declared.command.Entry.{Entry}
-use Rattle.doc_model.specs.declared.answer.Seat.{Seat}
-use Rattle.doc_model.specs.Answers.{Limits, is_ok, opening_seat}
+use Rattle.doc_model.specs.declared.answer.Account.{Account}
+use Rattle.doc_model.specs.Answers.{Limits, is_ok, opening_account}
 use Rattle.doc_model.specs.ClientLog.{ClientLog}
 use Rattle.doc_model.specs.Store.{Store, opening, tree_at}
 use Rattle.doc_model.specs.History.{IsLegal, Follows, after_all}
@@ -30,7 +30,7 @@ module _ (l : Limits) (trees : List DocTree) (logs : List ClientLog) (merged : L
       let g = get_or logs j d in
       let c = g.client in
       let p : Entry → Bool = λ e. e.client == c in
-      let follows : Follows l trees opening_seat g.entries = agree.follows j d lt in
+      let follows : Follows l trees opening_account g.entries = agree.follows j d lt in
       let kept : filter p (all_entries logs) ≡ g.entries =
       own_kept 0 logs agree.clients agree.own j d c lt (client_at 0 logs agree.clients j d lt) in
       let of = All-kept p (IsOf g.entries) (all_entries logs) merged merge.same (subst (λ (es : List Entry). All (IsOf g.entries) es) (sym kept) (all_of l trees g.entries follows)) in
@@ -70,30 +70,30 @@ module _ (l : Limits) (trees : List DocTree) (logs : List ClientLog) (merged : L
   first_tree [] some opens = absurd (omega arith)
   first_tree (t ∷ ts) some opens = ap (λ (x : DocTree). x ∷ []) (sym opens)
 
-  opens : opening (length logs) l ≡ now l trees 0 (replicate (length logs) opening_seat)
+  opens : opening (length logs) l ≡ now l trees 0 (replicate (length logs) opening_account)
   opens =
-      ap (λ (ts : List DocTree). record { limits = l; trees = ts; seats = replicate (length logs) opening_seat }) (first_tree trees (omega (arith, agree.made)) agree.opens)
+      ap (λ (ts : List DocTree). record { limits = l; trees = ts; accounts = replicate (length logs) opening_account }) (first_tree trees (omega (arith, agree.made)) agree.opens)
 
-  ahead : Ahead l trees (length logs) 0 (length (ok_places (all_entries logs))) (replicate (length logs) opening_seat) merged
+  ahead : Ahead l trees (length logs) 0 (length (ok_places (all_entries logs))) (replicate (length logs) opening_account) merged
   ahead = record {
     count = omega (arith, agree.made);
     oks = made_in_order;
     late = late merged;
     order = ordered merged merge.sorted;
     clients = All-permutation (InRange 0 (length logs)) (all_entries logs) merged merge.same (all_in_range 0 logs agree.clients agree.own);
-    seated = length-replicate (length logs) opening_seat;
+    accounted = length-replicate (length logs) opening_account;
     follows = λ i lt.
         let d : ClientLog = record { client = 0; entries = []; spare = 0 } in
         let g = get_or logs i d in
         let number : g.client ≡ i + 1 = client_at 0 logs agree.clients i d lt ∙ omega arith in
         let kept = subst (λ (c : ℕ). filter (λ e. e.client == c) merged ≡ g.entries) number (keeps_order i d lt) in
-        let log = subst (λ (es : List Entry). Follows l trees opening_seat es) (sym kept) (agree.follows i d lt) in
-        subst (λ (m : Seat). Follows l trees m (filter (λ e. e.client == i + 1) merged)) (sym (get_or-replicate (length logs) i opening_seat opening_seat lt)) log;
+        let log = subst (λ (es : List Entry). Follows l trees opening_account es) (sym kept) (agree.follows i d lt) in
+        subst (λ (m : Account). Follows l trees m (filter (λ e. e.client == i + 1) merged)) (sym (get_or-replicate (length logs) i opening_account opening_account lt)) log;
   }
 
   pub legal : IsLegal (opening (length logs) l) merged × ((after_all (opening (length logs) l) merged).trees ≡ trees)
   legal =
-      subst (λ (s : Store). IsLegal s merged × ((after_all s merged).trees ≡ trees)) (sym opens) (ahead_legal l trees (length logs) merged 0 (length (ok_places (all_entries logs))) (replicate (length logs) opening_seat) ahead)
+      subst (λ (s : Store). IsLegal s merged × ((after_all s merged).trees ≡ trees)) (sym opens) (ahead_legal l trees (length logs) merged 0 (length (ok_places (all_entries logs))) (replicate (length logs) opening_account) ahead)
 
 pub composes : (l : Limits) (trees : List DocTree) (logs : List ClientLog) (merged : List Entry) → Agree l trees logs → IsMerge logs merged → MergedIsLegal l trees logs merged
 composes l trees logs merged agree merge =

@@ -21,5 +21,7 @@ pub use crate::command::{Command, Entry, Reply};
 pub use crate::history::{is_legal, merge};
 pub use crate::log::Log;
 pub use crate::store::PlainStore;
-pub use crate::theorems::merged_is_legal;
+pub use crate::theorems::{
+    log_goes_on, merged_is_legal, puts_are_never_too_deep, stores_stay_lawful,
+};
 pub use doc_tree::{EditFault, Name, Names, NoMemory, Path, Text, Tree};
