@@ -1,8 +1,10 @@
 -- Histories: a list of entries that a store could have given in that order, and a client's log that
 -- stands against a list of versions which others make with it.
--- Both fold the same answers. A history has one store, which makes its versions as it goes; a log has
--- its own account alone, and reads each version from the list.
-use Rattle.std.specs.Prelude.{◌≡◌, ℕ, ◌+◌, ◌-◌, ◌<◌, ◌≤◌, List, [], ◌∷◌, Option, Some, None, length, if◌then◌else◌}
+-- Both fold the same answers. A history has one store, which makes its versions as it goes; a log
+-- has its own account alone, and reads each version from the list.
+-- Source: this project's.
+use Rattle.std.specs.Prelude.{◌≡◌, ℕ, ◌+◌, ◌-◌, ◌<◌, ◌≤◌, List, [], ◌∷◌, Option, Some, None}
+use Rattle.std.specs.Prelude.{length, if◌then◌else◌}
 use Rattle.doc_model.specs.declared.command.Entry.{Entry}
 use Rattle.doc_model.specs.declared.answer.Answer.{Answer}
 use Rattle.doc_model.specs.declared.answer.Account.{Account}
@@ -18,7 +20,8 @@ Says a e = (a.reply ≡ e.reply) × (a.place ≡ e.place)
 abbrev pub IsLegal : Store → List Entry → Type 0
 IsLegal s [] = Unit {0}
 IsLegal s (e ∷ es) =
-    IsClient s e.client × (Says (answer_for_in s e) e × IsLegal (after s e.client (answer_for_in s e)) es)
+    IsClient s e.client × (Says (answer_for_in s e) e
+    × IsLegal (after s e.client (answer_for_in s e)) es)
 
 -- the store after a history
 abbrev pub after_all : Store → List Entry → Store
@@ -55,4 +58,5 @@ Follows l trees m (e ∷ es) =
 -- what the client has after a log
 abbrev pub account_after : Limits → List DocTree → Account → List Entry → Account
 account_after l trees m [] = m
-account_after l trees m (e ∷ es) = account_after l trees (left m (answer_for l trees (seen_by e) m e)) es
+account_after l trees m (e ∷ es) =
+    account_after l trees (left m (answer_for l trees (seen_by e) m e)) es

@@ -1,6 +1,6 @@
--- Lawful stores: every version is a lawful tree, and so is the draft of every client. An opening store
--- is one, every answer keeps it, and in one no command that puts a text is answered that the tree would
--- be too high.
+-- Lawful stores: every version is a lawful tree, and so is the draft of every client. An opening
+-- store is one, every answer keeps it, and in one no command that puts a text is answered that the
+-- tree would be too high.
 -- Source: this project's.
 use Rattle.std.specs.Prelude.{◌≢◌, ℕ, ◌≤◌, List, length, All}
 use Rattle.std.specs.Option.{ForSome}
@@ -65,7 +65,8 @@ EntryKeepsLawful =
 
 abbrev pub CommandKeepsLawful : Type 0
 CommandKeepsLawful =
-    (s : Store) (client : ℕ) (c : Command) → IsLawfulStore s → IsLawfulStore (after s client (answer_in s client c))
+    (s : Store) (client : ℕ) (c : Command) → IsLawfulStore s
+    → IsLawfulStore (after s client (answer_in s client c))
 
 abbrev pub HistoryIsLawful : Type 0
 HistoryIsLawful =
@@ -73,4 +74,5 @@ HistoryIsLawful =
 
 abbrev pub PutsAreShallow : Type 0
 PutsAreShallow =
-    (s : Store) (client : ℕ) (c : Command) → PutsLow c → IsLawfulStore s → IsShallow c (answer_in s client c).reply
+    (s : Store) (client : ℕ) (c : Command) → PutsLow c → IsLawfulStore s
+    → IsShallow c (answer_in s client c).reply

@@ -1,7 +1,9 @@
 //! What a command is answered, before a store takes it in.
 ghost use Rattle.std.specs.Prelude.{◌≡◌, ◌≢◌, ◌≤◌, ◌↔◌, Err, IsTrue, IfOk, OnOk, None, replicate};
 ghost use Rattle.std.specs.Option.{ForSome, option_copied};
-ghost use Rattle.doc_model.specs.Answers.{attached, count_shown, draft_made, drafted, full_place, names_shown, opening_account, refusal, taken, text_shown, told};
+ghost use Rattle.doc_model.specs.Answers.{attached, count_shown, draft_made, drafted, full_place};
+ghost use Rattle.doc_model.specs.Answers.{names_shown, opening_account, refusal, taken};
+ghost use Rattle.doc_model.specs.Answers.{text_shown, told};
 ghost use Rattle.doc_model.specs.History.{Says};
 ghost use Rattle.doc_model.specs.LawfulStore.{NotDeep};
 ghost use Rattle.doc_tree.specs.Tree.{count};

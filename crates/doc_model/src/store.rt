@@ -2,14 +2,16 @@
 //!
 //! It keeps the trees that a command can still ask for and no others. That there were more is known
 //! to contracts alone: `trees` has a place for each version, and a place takes no room.
-ghost use Rattle.std.specs.Prelude.{◌≡◌, ◌≢◌, ◌<◌, ◌≤◌, ◌-◌, ◌+◌, ◌∷◌, ◌++◌, [], ◌↔◌, Err, IfOk, IsTrue, All, OnOk, OnErr, length};
+ghost use Rattle.std.specs.Prelude.{◌≡◌, ◌≢◌, ◌<◌, ◌≤◌, ◌-◌, ◌+◌, ◌∷◌, ◌++◌, [], ◌↔◌, Err, IfOk};
+ghost use Rattle.std.specs.Prelude.{IsTrue, All, OnOk, OnErr, length};
 ghost use Rattle.std.specs.Result.{ForOk};
 ghost use Rattle.doc_tree.specs.Tree.{count, node};
 ghost use Rattle.doc_tree.specs.Edits.{Gives};
 ghost use Rattle.doc_model.specs.Answers.{committed, old_shown};
 ghost use Rattle.doc_model.specs.History.{Says};
 ghost use Rattle.doc_model.specs.LawfulStore.{IsLawfulStore, IsShallow, NotDeep};
-ghost use Rattle.doc_model.specs.Store.{IsClient, after, answer_for_in, answer_in, entry_of, opening, account_of, shown, tree_at};
+ghost use Rattle.doc_model.specs.Store.{IsClient, after, answer_for_in, answer_in, entry_of};
+ghost use Rattle.doc_model.specs.Store.{opening, account_of, shown, tree_at};
 ghost use Rattle.doc_model.specs.StoreView.{IsNext};
 
 use crate::NoMemory;
@@ -25,7 +27,6 @@ use std::marker::Model;
 use std::snapshot::Snapshot;
 
 /// The documents of several clients, with all their versions.
-#[derive(Drop)]
 pub struct PlainStore {
     keep: u32,
     versions: u32,
@@ -34,6 +35,18 @@ pub struct PlainStore {
     // All versions, for contracts: a snapshot has no bytes.
     trees: Vec<Snapshot<Tree>>,
     accounts: Vec<Account>,
+}
+
+impl Drop for PlainStore {
+    fn drop(self) {
+        let PlainStore {
+            keep: _,
+            versions: _,
+            recent: _recent,
+            trees: _trees,
+            accounts: _accounts,
+        } = self;
+    }
 }
 
 impl Model for PlainStore {
@@ -51,12 +64,13 @@ impl Model for PlainStore {
       accounts = s.accounts.items;
     } };
 
-    ghost invariant = { λ s. IsKept s.keep s.versions (map (λ t. t.value) s.trees.items) s.recent.items };
+    ghost invariant = { λ s. IsKept s.keep s.versions
+        (map (λ t. t.value) s.trees.items) s.recent.items };
 }
 
 impl PlainStore {
-    /// A store of version 0 alone, the empty tree. A command can ask for the latest `keep` versions,
-    /// and `versions` is the number of the last version that can be made.
+    /// A store of version 0 alone, the empty tree. A command can ask for the latest `keep`
+    /// versions, and `versions` is the number of the last version that can be made.
     #[tactic(auto, using(crate::proofs::Keeping::lawful_opening))]
     pub fn new(
         alloc: Global,
@@ -141,7 +155,8 @@ impl PlainStore {
     pub(crate) fn accept(&mut self, alloc: Global, entry: &Entry) -> Result<bool, NoMemory>
         requires { All (λ m. m.answered < 100_000) self.old.accounts }
         ensures says { IfOk result (λ legal. IsTrue legal
-            ↔ (IsClient self.old entry.now.client × Says (answer_for_in self.old entry.now) entry.now)) }
+            ↔ (IsClient self.old entry.now.client
+            × Says (answer_for_in self.old entry.now) entry.now)) }
         ensures next { IfOk result (λ legal. IsTrue legal
             → self.new ≡ after self.old entry.now.client (answer_for_in self.old entry.now)) }
     {
@@ -307,7 +322,8 @@ impl PlainStore {
     fn add_version(&mut self, tree: Tree) -> Result<(), NoMemory>
         requires room { length self.old.trees ≤ self.old.limits.versions }
         requires counted { count tree ≤ 1_000_000_000 }
-        ensures ok { OnOk result (self.new ≡ record self.old { trees = self.old.trees ++ tree ∷ [] }) }
+        ensures ok { OnOk result
+            (self.new ≡ record self.old { trees = self.old.trees ++ tree ∷ [] }) }
         ensures err { OnErr result (self.new ≡ self.old) }
     {
         self.trees.push(Snapshot::of(&tree))?;

@@ -5,18 +5,20 @@ ghost use Rattle.doc_model.specs.Agreement.{Agree, MergedIsLegal};
 ghost use Rattle.doc_model.specs.Answers.{Limits};
 ghost use Rattle.doc_model.specs.ClientLog.{ClientLog};
 ghost use Rattle.doc_model.specs.Growth.{AccountGoesOn, LogGoesOn};
-ghost use Rattle.doc_model.specs.LawfulStore.{CommandKeepsLawful, EntryKeepsLawful, HistoryIsLawful, OpensLawful, PutsAreShallow};
+ghost use Rattle.doc_model.specs.LawfulStore.{CommandKeepsLawful, EntryKeepsLawful};
+ghost use Rattle.doc_model.specs.LawfulStore.{HistoryIsLawful, OpensLawful, PutsAreShallow};
 ghost use Rattle.doc_model.specs.Merge.{IsMerge};
 ghost use Rattle.doc_tree.specs.Tree.{DocTree};
 
 /// Logs that agree on the versions that they read and made are, merged, a history of one store.
 pub fn merged_is_legal()
-    ensures legal { (l : Limits) (trees : List DocTree) (logs : List ClientLog) (merged : List Entry)
+    ensures legal { (l : Limits) (trees : List DocTree) (logs : List ClientLog)
+        (merged : List Entry)
         → Agree l trees logs → IsMerge logs merged → MergedIsLegal l trees logs merged }
 {}
 
-/// A log that follows from a list of versions does so too with one entry more that stands after it, and
-/// the client then has what that entry leaves.
+/// A log that follows from a list of versions does so too with one entry more that stands after it,
+/// and the client then has what that entry leaves.
 pub fn log_goes_on()
     ensures follows { LogGoesOn }
     ensures account { AccountGoesOn }

@@ -24,7 +24,8 @@ enum Stored {
     Long(Rc<Vec<u8>>),
 }
 
-// By hand, so that a proof above takes a drop as one call and not as a case for each place of the bytes.
+// By hand, so that a proof above takes a drop as one call and not as a case for each place of the
+// bytes.
 impl Drop for Letters {
     fn drop(self) {
         let Letters { stored: _stored } = self;

@@ -1,10 +1,13 @@
 //! Trees of documents. Two trees share what is the same in both: an edit makes new nodes on the way
 //! from the root to the place of the edit alone, and points to the old ones everywhere else.
-ghost use Rattle.std.specs.Prelude.{◌≡◌, ◌≢◌, ◌<◌, ◌≤◌, ◌+◌, ◌↔◌, Err, IfOk, IsTrue, MatchResult, None};
+ghost use Rattle.std.specs.Prelude.{◌≡◌, ◌≢◌, ◌<◌, ◌≤◌, ◌+◌, ◌↔◌, Err, IfOk, IsTrue, MatchResult};
+ghost use Rattle.std.specs.Prelude.{None};
 ghost use Rattle.std.specs.Option.{ForSome, option_copied};
 ghost use Rattle.std.specs.Result.{ForOk};
-ghost use Rattle.doc_tree.specs.Tree.{empty, node, child, count, height, names_of, kid_count, put_child, IsRising};
-ghost use Rattle.doc_tree.specs.Edits.{Gives, attach, delete, edit_along, set_text, with_text, within_limits, without_child};
+ghost use Rattle.doc_tree.specs.Tree.{empty, node, child, count, height, names_of, kid_count};
+ghost use Rattle.doc_tree.specs.Tree.{put_child, IsRising};
+ghost use Rattle.doc_tree.specs.Edits.{Gives, attach, delete, edit_along, set_text, with_text};
+ghost use Rattle.doc_tree.specs.Edits.{within_limits, without_child};
 ghost use Rattle.doc_tree.specs.Ends.{tree_at_end};
 ghost use Rattle.doc_tree.specs.Lawful.{IsLawful};
 ghost use Rattle.doc_tree.specs.Rows.{as_u64, as_u32};
@@ -154,8 +157,8 @@ impl Tree {
         edited.within_limits()
     }
 
-    /// Puts a whole tree at the path, in place of what stands there. Missing nodes before it are made
-    /// with empty texts.
+    /// Puts a whole tree at the path, in place of what stands there. Missing nodes before it are
+    /// made with empty texts.
     #[tactic(auto, using(crate::proofs::Orderly::lawful_attach))]
     pub fn attach(&self, alloc: Global, path: &Path, sub: &Tree) -> Result<Tree, EditFault>
         ensures tree { Gives result (attach path.now sub.now self.now) }

@@ -1,4 +1,5 @@
-use Rattle.doc_model.proofs.Keeping.{command_keeps_lawful, entry_keeps_lawful, history_lawful, opens_lawful}
+use Rattle.doc_model.proofs.Keeping.{command_keeps_lawful, entry_keeps_lawful, history_lawful}
+use Rattle.doc_model.proofs.Keeping.{opens_lawful}
 use Rattle.doc_model.proofs.theorems.stores_stay_lawful.Goals as goal
 
 pub returns : goal.returns

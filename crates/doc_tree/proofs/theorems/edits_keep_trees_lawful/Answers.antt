@@ -1,4 +1,5 @@
-use Rattle.doc_tree.proofs.Orderly.{attach_lawful, delete_lawful, lawful_empty, node_lawful, set_text_lawful}
+use Rattle.doc_tree.proofs.Orderly.{attach_lawful, delete_lawful, lawful_empty, node_lawful}
+use Rattle.doc_tree.proofs.Orderly.{set_text_lawful}
 use Rattle.doc_tree.proofs.theorems.edits_keep_trees_lawful.Goals as goal
 
 pub returns : goal.returns
