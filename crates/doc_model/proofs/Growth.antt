@@ -70,22 +70,21 @@ keeps_up l Might May m log e a was fewer h = record {
       (was.account trees (fewer trees may)) ∙ ap (left m) (h.is trees may);
 }
 
--- What the answers of three commands read: a draft's none of the trees, and an older version's that
--- one
--- alone. So a client meets the equation with what it read.
-draft_put_reads : (l : Limits) (u v : ℕ) (now older now' older' : DocTree) (m : Account)
+-- What the answers of three commands read: that of a draft none of the trees, and that of an older
+-- version that one alone. So a client meets the equation with what it read.
+pub draft_put_reads : (l : Limits) (u v : ℕ) (now older now' older' : DocTree) (m : Account)
     (path : List (List ℕ)) (text : List ℕ)
     → answer_at l u now older m (command.DraftPut path text)
     ≡ answer_at l v now' older' m (command.DraftPut path text)
 draft_put_reads l u v now older now' older' m path text = refl
 
-draft_get_reads : (l : Limits) (u v : ℕ) (now older now' older' : DocTree) (m : Account)
+pub draft_get_reads : (l : Limits) (u v : ℕ) (now older now' older' : DocTree) (m : Account)
     (path : List (List ℕ))
     → answer_at l u now older m (command.DraftGet path)
     ≡ answer_at l v now' older' m (command.DraftGet path)
 draft_get_reads l u v now older now' older' m path = refl
 
-old_reads : (l : Limits) (v back : ℕ) (now now' older : DocTree) (m : Account)
+pub old_reads : (l : Limits) (v back : ℕ) (now now' older : DocTree) (m : Account)
     (path : List (List ℕ))
     → answer_at l v now older m (command.Old back path)
     ≡ answer_at l v now' older m (command.Old back path)

@@ -3,7 +3,8 @@
 //! Every type is seen by contracts as the mathematics of it: a store is the record `Store` with
 //! every version that it ever had. The layer above may rely on the answers of `PlainStore` being
 //! those of the definitions in specs/, on `merge` and `is_legal` being the relations there, and on
-//! the law `merged_is_legal`: logs that agree on one list of versions make one legal history.
+//! the laws of `theorems`: logs that agree on one list of versions make one legal history, a log
+//! goes on with each entry that stands after it, and every version and every draft is a lawful tree.
 //! Names, texts, paths and trees are those of doc_tree. How commands and replies are written as
 //! text is left to others, and so is how clients come to agree.
 //!

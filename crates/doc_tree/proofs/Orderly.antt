@@ -1,8 +1,7 @@
 -- What an edit makes of lawful trees.
 --
 -- ordered_*  every node of the new tree is orderly: those that were there are, and a new child
--- comes
---            only where there is room.
+--            comes only where there is room.
 -- height_*   a path of so many names adds no more levels than it has names.
 -- *_lawful   the laws; the limits on the whole tree are asked at the end of each edit that adds.
 use Rattle.std.proofs.Common.{◌≡◌, ◌≢◌, ℕ, ◌+◌, ◌<◌, ◌≤◌, max, true, false, cond, List, [], ◌∷◌}

@@ -1,9 +1,10 @@
 -- How many nodes and how many levels a change of one child makes.
 --
 -- child_*   a child is smaller than the tree, and lower.
--- put_*     a child that is put adds its own height and one, and no nodes beyond those that it has
--- more. delete_*  what is left without a child is no greater and no higher.
-use Rattle.std.proofs.Common.{◌≡◌, ℕ, ◌+◌, ◌≤◌, List, None, Some, max, ap, arith}
+-- put_*     a child that is put makes the tree no higher than its own height and one asks for.
+-- delete_*  what is left without a child is no greater and no higher.
+-- nodes_*   how many nodes there are then, exactly.
+use Rattle.std.proofs.Common.{◌≡◌, ℕ, ◌+◌, ◌≤◌, List, Option, None, Some, max, ap, arith}
 use Rattle.std.specs.declared.cmp.Ordering.TheVariants.{Less, Equal, Greater}
 use Rattle.doc_tree.specs.Edits.{delete_child}
 use Rattle.doc_tree.specs.Tree.{DocTree, Kids, no_kids, kid, child, put_child, nodes_below}
@@ -85,4 +86,36 @@ delete_lower n (kid m text inside rest) =
       | Less ↦ omega arith
       | Equal ↦ omega arith
       | Greater ↦ omega (arith, delete_lower n rest)
+    ]
+
+-- Exactly: the nodes of a child that is put come in place of those of the child that stood there.
+abbrev pub nodes_in : Option DocTree → ℕ
+nodes_in None = 0
+nodes_in (Some d) = count d
+
+pub nodes_put : (n : List ℕ) (d : DocTree) (kids : Kids)
+    → nodes_below (put_child n d kids) + nodes_in (child n kids) ≡ nodes_below kids + count d
+nodes_put n d no_kids = omega arith
+nodes_put n d (kid m text inside rest) =
+    elim (name_cmp n m) as (λ o. nodes_below (by_order o
+    (kid n d.text d.kids (kid m text inside rest)) (kid n d.text d.kids rest)
+    (kid m text inside (put_child n d rest)))
+    + nodes_in (by_order o None (Some (record { text = text; kids = inside })) (child n rest))
+    ≡ ((nodes_below inside + 1) + nodes_below rest) + count d) [
+      | Less ↦ omega arith
+      | Equal ↦ omega arith
+      | Greater ↦ omega (arith, nodes_put n d rest)
+    ]
+
+pub nodes_delete : (n : List ℕ) (kids : Kids)
+    → nodes_below (delete_child n kids) + nodes_in (child n kids) ≡ nodes_below kids
+nodes_delete n no_kids = omega arith
+nodes_delete n (kid m text inside rest) =
+    elim (name_cmp n m) as (λ o. nodes_below
+    (by_order o (kid m text inside rest) rest (kid m text inside (delete_child n rest)))
+    + nodes_in (by_order o None (Some (record { text = text; kids = inside })) (child n rest))
+    ≡ (nodes_below inside + 1) + nodes_below rest) [
+      | Less ↦ omega arith
+      | Equal ↦ omega arith
+      | Greater ↦ omega (arith, nodes_delete n rest)
     ]
