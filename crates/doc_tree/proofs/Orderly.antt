@@ -46,7 +46,7 @@ ordered_child n (kid m text inside rest) d all h =
       | Greater ↦ λ h. ordered_child n rest d all.1.1 h
     ] h
 
-ordered_put : (n : List ℕ) (d : DocTree) (kids : Kids) → AreOrderly kids → IsOrdered d
+pub ordered_put : (n : List ℕ) (d : DocTree) (kids : Kids) → AreOrderly kids → IsOrdered d
     → AreOrderly (put_child n d kids)
 ordered_put n d no_kids all fresh = (fresh.here, (fresh.below, tt))
 ordered_put n d (kid m text inside rest) all fresh =
@@ -58,7 +58,7 @@ ordered_put n d (kid m text inside rest) all fresh =
       | Greater ↦ (all.0, (all.1.0, ordered_put n d rest all.1.1 fresh))
     ]
 
-ordered_delete : (n : List ℕ) (kids : Kids) → AreOrderly kids → AreOrderly (delete_child n kids)
+pub ordered_delete : (n : List ℕ) (kids : Kids) → AreOrderly kids → AreOrderly (delete_child n kids)
 ordered_delete n no_kids all = tt
 ordered_delete n (kid m text inside rest) all =
     elim (name_cmp n m) as (λ o. AreOrderly
@@ -68,7 +68,7 @@ ordered_delete n (kid m text inside rest) all =
       | Greater ↦ (all.0, (all.1.0, ordered_delete n rest all.1.1))
     ]
 
-ordered_with : (n : List ℕ) (d t : DocTree) → (child n t.kids ≡ None → kid_count t.kids < 256)
+pub ordered_with : (n : List ℕ) (d t : DocTree) → (child n t.kids ≡ None → kid_count t.kids < 256)
     → IsOrdered t → IsOrdered d → IsOrdered (with_child n d t)
 ordered_with n d t room was fresh = record {
   here = record {
@@ -78,7 +78,7 @@ ordered_with n d t room was fresh = record {
   below = ordered_put n d t.kids was.below fresh;
 }
 
-ordered_without : (n : List ℕ) (t : DocTree) → IsOrdered t → IsOrdered (without_child n t)
+pub ordered_without : (n : List ℕ) (t : DocTree) → IsOrdered t → IsOrdered (without_child n t)
 ordered_without n t was = record {
   here = record {
     rising = rising_delete n t.kids was.here.rising;
@@ -88,11 +88,11 @@ ordered_without n t was = record {
 }
 
 -- the child in which an edit goes on
-ordered_begins : (n : List ℕ) (t was : DocTree) → Begins n t was → IsOrdered t → IsOrdered was
+pub ordered_begins : (n : List ℕ) (t was : DocTree) → Begins n t was → IsOrdered t → IsOrdered was
 ordered_begins n t was (there is) all = ordered_child n t.kids was all.below is
 ordered_begins n t was (new none room is) all = subst IsOrdered is ordered_empty
 
-room_begins : (n : List ℕ) (t was : DocTree) → Begins n t was → child n t.kids ≡ None
+pub room_begins : (n : List ℕ) (t was : DocTree) → Begins n t was → child n t.kids ≡ None
     → kid_count t.kids < 256
 room_begins n t was (there is) none = cc
 room_begins n t was (new is room made) none = room
@@ -127,12 +127,12 @@ ordered_deleted (n ∷ m ∷ path) t u all h =
     subst IsOrdered p.is (ordered_with n p.becomes t room all inside)
 
 -- how high an edit makes a tree
-height_begins : (n : List ℕ) (t was : DocTree) → Begins n t was → height was ≤ height t
+pub height_begins : (n : List ℕ) (t was : DocTree) → Begins n t was → height was ≤ height t
 height_begins n t was (there is) = omega (arith, child_height n t.kids was is)
 height_begins n t was (new none room is) =
     omega (arith, ap (λ (x : DocTree). height_below x.kids) is)
 
-high_begins : (n : List ℕ) (t was : DocTree) (k : ℕ) → Begins n t was
+pub high_begins : (n : List ℕ) (t was : DocTree) (k : ℕ) → Begins n t was
     → max (height was) k + 1 ≤ max (height t) (k + 1)
 high_begins n t was k (there is) = omega (arith, child_height n t.kids was is)
 high_begins n t was k (new none room is) =

@@ -41,7 +41,7 @@ begins_new n t was none h =
       | false ↦ λ room h. cc
     ] refl h
 
-begins : (n : List ℕ) (t was : DocTree) → start n t ≡ Ok was → Begins n t was
+pub begins : (n : List ℕ) (t was : DocTree) → start n t ≡ Ok was → Begins n t was
 begins n t was h =
     elim (child n t.kids) as (λ o. child n t.kids ≡ o → begun t.kids o ≡ Ok was → Begins n t was) [
       | None ↦ λ none h. begins_new n t was none h
