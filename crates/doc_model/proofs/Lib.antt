@@ -5,6 +5,7 @@ pub mod Counted
 pub mod Counts
 pub mod Fold
 pub mod Growth
+pub mod Keeping
 pub mod Logs
 pub mod Order
 pub mod Replies

@@ -1,5 +1,6 @@
 -- The test of two replies that Rust derives is true at equal replies, and at those alone.
-use Rattle.std.proofs.Common.{◌≡◌, ℕ, List, Bool, true, refl, sym, ◌∙◌, ap, subst, rules, arith, nat_eq, ◌↔◌, IsTrue}
+use Rattle.std.proofs.Common.{◌≡◌, ℕ, List, Bool, true, refl, sym, ◌∙◌, ap, subst, rules, arith}
+use Rattle.std.proofs.Common.{nat_eq, ◌↔◌, IsTrue}
 use Rattle.std.proofs.lemmas.Bool.{false≢true, and_parts}
 use Rattle.std.proofs.lemmas.Bool.Decides.{nat_tests}
 use Rattle.std.specs.Cmp.Lexicographic.{pointwise, pointwise_decides, bytes_decides}
@@ -54,7 +55,8 @@ itself (reply.Committed m) = search rules
 itself (reply.Drafted m) = search rules
 itself (reply.Val m s) = search rules
 itself (reply.Names m s) =
-    let second : pointwise (pointwise nat_eq) s s ≡ true = (pointwise_decides bytes_decides s s).1 refl in
+    let second : pointwise (pointwise nat_eq) s s ≡ true =
+    (pointwise_decides bytes_decides s s).1 refl in
     search (rules, second)
 itself (reply.Count m s) = search rules
 itself (reply.Absent m) = search rules
@@ -67,5 +69,8 @@ itself (reply.Worn m) = search rules
 itself (reply.Full m) = search rules
 
 pub replies_decide : (a b : Reply) (r : Bool) → r ≡ (derived.ghosts).eq a b → IsTrue r ↔ (a ≡ b)
-replies_decide a b r is =
-    (λ t. same a b (sym is ∙ t), λ e. is ∙ subst (λ (x : Reply). (derived.ghosts).eq a x ≡ true) e (itself a))
+replies_decide a b r is = (
+  λ t. same a b (sym is ∙ t),
+  λ e. is
+      ∙ subst (λ (x : Reply). (derived.ghosts).eq a x ≡ true) e (itself a),
+)

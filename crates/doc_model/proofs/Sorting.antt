@@ -18,8 +18,12 @@ key_of e = (e.place, is_late e, e.client, e.number)
 -- the order of tuples
 abbrev pub key_cmp : Key → Key → Ordering
 key_cmp x y =
-    ordering_then (ordering_then (ordering_then (nat_cmp x.0 y.0) (bool_cmp x.1 y.1)) (nat_cmp x.2 y.2)) (nat_cmp x.3 y.3)
+    ordering_then (ordering_then (ordering_then (nat_cmp x.0 y.0) (bool_cmp x.1 y.1))
+    (nat_cmp x.2 y.2)) (nat_cmp x.3 y.3)
 
-pub sorted_by_place : {F : Type 0} {g : Mut F (Bor Entry × Unit {0}) Key} {f : F} (xs : List Entry) → ((key : Entry → Key) → ComputesKey g key f → IsSortedByKey key key_cmp xs) → ((a : Bor Entry × Unit {0}) (r : Key) (f' : F) → Called g f a r f' → (r ≡ key_of a.0.now) × (f' ≡ f)) → IsSortedByKey (λ e. e) entry_order xs
+pub sorted_by_place : {F : Type 0} {g : Mut F (Bor Entry × Unit {0}) Key} {f : F} (xs : List Entry)
+    → ((key : Entry → Key) → ComputesKey g key f → IsSortedByKey key key_cmp xs)
+    → ((a : Bor Entry × Unit {0}) (r : Key) (f' : F) → Called g f a r f'
+    → (r ≡ key_of a.0.now) × (f' ≡ f)) → IsSortedByKey (λ e. e) entry_order xs
 sorted_by_place {g = g} {f = f} xs up h =
     up key_of (always_returns_same g (λ a r. r ≡ key_of a.0.now) f h)

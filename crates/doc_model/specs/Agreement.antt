@@ -1,8 +1,10 @@
 -- Logs that agree on one list of versions, and what is then so of them merged.
-use Rattle.std.specs.Prelude.{◌≡◌, ℕ, zero, suc, ◌+◌, List, [], ◌∷◌, length, map, filter, IsPermutation, All}
+-- Source: this project's.
+use Rattle.std.specs.Prelude.{◌≡◌, ℕ, zero, suc, ◌+◌, List, [], ◌∷◌, length, map, filter}
+use Rattle.std.specs.Prelude.{IsPermutation, All}
 use Rattle.doc_model.specs.declared.command.Entry.{Entry}
 use Rattle.doc_tree.specs.Tree.{DocTree, empty}
-use Rattle.doc_model.specs.Answers.{Limits, is_ok, opening_seat}
+use Rattle.doc_model.specs.Answers.{Limits, is_ok, opening_account}
 use Rattle.doc_model.specs.ClientLog.{ClientLog}
 use Rattle.doc_model.specs.Store.{opening, tree_at}
 use Rattle.doc_model.specs.History.{IsLegal, Follows, after_all}
@@ -29,10 +31,11 @@ pub record Agree (l : Limits) (trees : List DocTree) (logs : List ClientLog) : T
   pub opens : tree_at trees 0 ≡ empty
   pub made : length trees ≡ length (ok_places (all_entries logs)) + 1
   pub once : EachOnce (ok_places (all_entries logs))
-  pub follows : All (λ g. Follows l trees opening_seat g.entries) logs
+  pub follows : All (λ g. Follows l trees opening_account g.entries) logs
 
--- The merged list is a history of one store, it has each client's entries once and in order, and the
--- versions of that store are those on which the logs agree.
+-- The merged list is a history of one store, it has each client's entries once and in order, and
+-- the versions of that store are those on which the logs agree.
 abbrev pub MergedIsLegal : Limits → List DocTree → List ClientLog → List Entry → Type 0
 MergedIsLegal l trees logs merged =
-    KeepsOrder logs merged × IsLegal (opening (length logs) l) merged × ((after_all (opening (length logs) l) merged).trees ≡ trees)
+    KeepsOrder logs merged × IsLegal (opening (length logs) l) merged
+    × ((after_all (opening (length logs) l) merged).trees ≡ trees)

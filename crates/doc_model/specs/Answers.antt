@@ -1,7 +1,10 @@
 -- What a command is answered, as a function of what it can see: the limits of the store, the number
 -- and the tree of the latest version, the tree of the version that it asks back for, and what the
--- client has in the store. A command is a case here, in `back_of` and in `full_place`, and nowhere else.
-use Rattle.std.specs.Prelude.{ℕ, List, ◌+◌, ◌-◌, nat_lt, nat_le, Bool, true, false, Option, Some, None, Result, Ok, Err, unwrap_or, if◌then◌else◌}
+-- client has in the store. A command is a case here, in `back_of` and in `full_place`, and nowhere
+-- else.
+-- Source: this project's.
+use Rattle.std.specs.Prelude.{ℕ, List, ◌+◌, ◌-◌, nat_lt, nat_le, Bool, true, false, Option, Some}
+use Rattle.std.specs.Prelude.{None, Result, Ok, Err, unwrap_or, if◌then◌else◌}
 use Rattle.doc_model.specs.declared.command.Command.{Command}
 use Rattle.doc_model.specs.declared.command.Command.TheVariants as command
 use Rattle.doc_model.specs.declared.command.Entry.{Entry}
@@ -10,7 +13,7 @@ use Rattle.doc_model.specs.declared.command.Reply.TheVariants as reply
 use Rattle.doc_tree.specs.declared.edit.EditFault.{EditFault}
 use Rattle.doc_tree.specs.declared.edit.EditFault.TheVariants as fault
 use Rattle.doc_model.specs.declared.answer.Answer.{Answer}
-use Rattle.doc_model.specs.declared.answer.Seat.{Seat}
+use Rattle.doc_model.specs.declared.answer.Account.{Account}
 use Rattle.doc_tree.specs.Tree.{DocTree, empty, node, names_of, count}
 use Rattle.doc_tree.specs.Edits.{set_text, delete, attach}
 
@@ -20,8 +23,8 @@ pub record Limits : Type 0 where
   pub versions : ℕ
 
 -- what a client has before its first command
-abbrev pub opening_seat : Seat
-opening_seat = record { draft = empty; last = 0; answered = 0 }
+abbrev pub opening_account : Account
+opening_account = record { draft = empty; last = 0; answered = 0 }
 
 -- an answer that makes no version and leaves the draft
 abbrev pub told : Reply → ℕ → Answer
@@ -39,11 +42,14 @@ refusal fault.NoMemory v = reply.Full v
 abbrev pub committed : Limits → ℕ → Result DocTree EditFault → Answer
 committed l v (Err e) = told (refusal e v) v
 committed l v (Ok t) =
-    if nat_lt v l.versions then record { reply = reply.Committed (v + 1); place = v + 1; made = Some t; draft = None } else told (reply.Worn v) v
+    if nat_lt v l.versions
+    then record { reply = reply.Committed (v + 1); place = v + 1; made = Some t; draft = None }
+    else told (reply.Worn v) v
 
 -- a tree as the client's next draft
 abbrev pub draft_made : ℕ → DocTree → Answer
-draft_made place t = record { reply = reply.Drafted place; place = place; made = None; draft = Some t }
+draft_made place t =
+    record { reply = reply.Drafted place; place = place; made = None; draft = Some t }
 
 -- an edited draft
 abbrev pub drafted : ℕ → Result DocTree EditFault → Answer
@@ -78,12 +84,15 @@ count_shown v (Some t) = told (reply.Count v (count t)) v
 -- the text in the version so many before v, while it can be asked for
 abbrev pub old_shown : Limits → ℕ → ℕ → Option DocTree → Answer
 old_shown l v back found =
-    if nat_lt v back then told (reply.Before v) v else (if nat_le l.keep back then told (reply.Gone v (v - back)) v else text_shown (v - back) v found)
+    if nat_lt v back then told (reply.Before v) v
+    else (if nat_le l.keep back then told (reply.Gone v (v - back)) v
+    else text_shown (v - back) v found)
 
-abbrev pub answer_at : Limits → ℕ → DocTree → DocTree → Seat → Command → Answer
+abbrev pub answer_at : Limits → ℕ → DocTree → DocTree → Account → Command → Answer
 answer_at l v now older m (command.Put path text) = committed l v (set_text path text now)
 answer_at l v now older m (command.Del path) = committed l v (delete path now)
-answer_at l v now older m (command.Copy «from» to) = committed l v (attached to now (node «from» now))
+answer_at l v now older m (command.Copy «from» to) =
+    committed l v (attached to now (node «from» now))
 answer_at l v now older m (command.Get path) = text_shown v v (node path now)
 answer_at l v now older m (command.List path) = names_shown v (node path now)
 answer_at l v now older m (command.Size path) = count_shown v (node path now)
@@ -108,7 +117,7 @@ back_of (command.Take path) = 0
 back_of (command.Publish path) = 0
 
 -- the place of a command that found the heap full, if it is one that needs cells
-abbrev pub full_place : ℕ → Seat → Command → Option ℕ
+abbrev pub full_place : ℕ → Account → Command → Option ℕ
 full_place v m (command.Put path text) = Some v
 full_place v m (command.Del path) = Some v
 full_place v m (command.Copy «from» to) = Some v
@@ -160,10 +169,11 @@ full_or (Some place) a = told (reply.Full place) place
 
 -- The answer that an entry has to have: that of its command, but for an entry which says that the
 -- heap was full. No store says when that comes, so it may stand for every command that needs cells.
-abbrev pub answer_for_at : Limits → ℕ → DocTree → DocTree → Seat → Entry → Answer
+abbrev pub answer_for_at : Limits → ℕ → DocTree → DocTree → Account → Entry → Answer
 answer_for_at l v now older m e =
-    full_or (if is_full e.reply then full_place v m e.command else None) (answer_at l v now older m e.command)
+    full_or (if is_full e.reply then full_place v m e.command else None)
+    (answer_at l v now older m e.command)
 
 -- what the client has after an answer
-abbrev pub left : Seat → Answer → Seat
+abbrev pub left : Account → Answer → Account
 left m a = record { draft = unwrap_or a.draft m.draft; last = a.place; answered = m.answered + 1 }

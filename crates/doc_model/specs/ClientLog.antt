@@ -1,4 +1,5 @@
 -- A client's log: its entries in order, and how many more there is room for.
+-- Source: this project's.
 use Rattle.std.specs.Prelude.{ℕ, List}
 use Rattle.doc_model.specs.declared.command.Entry.{Entry}
 

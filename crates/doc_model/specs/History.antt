@@ -1,11 +1,13 @@
 -- Histories: a list of entries that a store could have given in that order, and a client's log that
 -- stands against a list of versions which others make with it.
--- Both fold the same answers. A history has one store, which makes its versions as it goes; a log has
--- its own seat alone, and reads each version from the list.
-use Rattle.std.specs.Prelude.{◌≡◌, ℕ, ◌+◌, ◌-◌, ◌<◌, ◌≤◌, List, [], ◌∷◌, Option, Some, None, length, if◌then◌else◌}
+-- Both fold the same answers. A history has one store, which makes its versions as it goes; a log
+-- has its own account alone, and reads each version from the list.
+-- Source: this project's.
+use Rattle.std.specs.Prelude.{◌≡◌, ℕ, ◌+◌, ◌-◌, ◌<◌, ◌≤◌, List, [], ◌∷◌, Option, Some, None}
+use Rattle.std.specs.Prelude.{length, if◌then◌else◌}
 use Rattle.doc_model.specs.declared.command.Entry.{Entry}
 use Rattle.doc_model.specs.declared.answer.Answer.{Answer}
-use Rattle.doc_model.specs.declared.answer.Seat.{Seat}
+use Rattle.doc_model.specs.declared.answer.Account.{Account}
 use Rattle.doc_tree.specs.Tree.{DocTree}
 use Rattle.doc_model.specs.Answers.{Limits, is_ok, left}
 use Rattle.doc_model.specs.Store.{Store, IsClient, after, answer_for, answer_for_in, tree_at}
@@ -18,7 +20,8 @@ Says a e = (a.reply ≡ e.reply) × (a.place ≡ e.place)
 abbrev pub IsLegal : Store → List Entry → Type 0
 IsLegal s [] = Unit {0}
 IsLegal s (e ∷ es) =
-    IsClient s e.client × (Says (answer_for_in s e) e × IsLegal (after s e.client (answer_for_in s e)) es)
+    IsClient s e.client × (Says (answer_for_in s e) e
+    × IsLegal (after s e.client (answer_for_in s e)) es)
 
 -- the store after a history
 abbrev pub after_all : Store → List Entry → Store
@@ -38,7 +41,7 @@ abbrev pub made_by : List DocTree → Entry → Option DocTree
 made_by trees e = if is_ok e.reply then Some (tree_at trees e.place) else None
 
 -- an entry is the client's next one, against these versions
-pub record Stands (l : Limits) (trees : List DocTree) (m : Seat) (e : Entry) : Type 0 where
+pub record Stands (l : Limits) (trees : List DocTree) (m : Account) (e : Entry) : Type 0 where
   pub known : e.place < length trees
   pub numbered : e.number ≡ m.answered + 1
   -- no place falls, and that of a new version is above all before it
@@ -47,12 +50,13 @@ pub record Stands (l : Limits) (trees : List DocTree) (m : Seat) (e : Entry) : T
   pub made : (answer_for l trees (seen_by e) m e).made ≡ made_by trees e
 
 -- a log, or the rest of one, against these versions
-abbrev pub Follows : Limits → List DocTree → Seat → List Entry → Type 0
+abbrev pub Follows : Limits → List DocTree → Account → List Entry → Type 0
 Follows l trees m [] = Unit {0}
 Follows l trees m (e ∷ es) =
     Stands l trees m e × Follows l trees (left m (answer_for l trees (seen_by e) m e)) es
 
 -- what the client has after a log
-abbrev pub seat_after : Limits → List DocTree → Seat → List Entry → Seat
-seat_after l trees m [] = m
-seat_after l trees m (e ∷ es) = seat_after l trees (left m (answer_for l trees (seen_by e) m e)) es
+abbrev pub account_after : Limits → List DocTree → Account → List Entry → Account
+account_after l trees m [] = m
+account_after l trees m (e ∷ es) =
+    account_after l trees (left m (answer_for l trees (seen_by e) m e)) es

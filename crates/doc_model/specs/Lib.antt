@@ -3,6 +3,7 @@ pub mod Answers
 pub mod ClientLog
 pub mod Growth
 pub mod History
+pub mod LawfulStore
 pub mod Merge
 pub mod Store
 pub mod StoreView

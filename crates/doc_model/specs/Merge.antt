@@ -1,5 +1,7 @@
 -- The clients' logs as one list: all their entries in the order of the versions that they saw.
-use Rattle.std.specs.Prelude.{◌≡◌, ◌==◌, List, Bool, not, flat_map, filter, IsPermutation, IsSortedByKey, All}
+-- Source: this project's.
+use Rattle.std.specs.Prelude.{◌≡◌, ◌==◌, List, Bool, not, flat_map, filter, IsPermutation}
+use Rattle.std.specs.Prelude.{IsSortedByKey, All}
 use Rattle.std.specs.declared.cmp.Ordering.{Ordering}
 use Rattle.std.specs.Ordering.{nat_cmp, bool_cmp, ordering_then}
 use Rattle.doc_model.specs.declared.command.Entry.{Entry}
@@ -13,7 +15,9 @@ is_late e = not (is_ok e.reply)
 -- by place; at one place the entry that made the version comes first, then by client and by number
 abbrev pub entry_order : Entry → Entry → Ordering
 entry_order d e =
-    ordering_then (ordering_then (ordering_then (nat_cmp d.place e.place) (bool_cmp (is_late d) (is_late e))) (nat_cmp d.client e.client)) (nat_cmp d.number e.number)
+    ordering_then (ordering_then
+    (ordering_then (nat_cmp d.place e.place) (bool_cmp (is_late d) (is_late e)))
+    (nat_cmp d.client e.client)) (nat_cmp d.number e.number)
 
 abbrev pub all_entries : List ClientLog → List Entry
 all_entries logs = flat_map (λ g. g.entries) logs

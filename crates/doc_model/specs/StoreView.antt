@@ -1,5 +1,8 @@
--- What the fields of a `PlainStore` keep between two commands, and what they need of the next version.
-use Rattle.std.specs.Prelude.{◌≡◌, ℕ, ◌+◌, ◌-◌, ◌≤◌, List, Option, Some, None, length, drop, min, All}
+-- What the fields of a `PlainStore` keep between two commands, and what they need of the next
+-- version.
+-- Source: this project's.
+use Rattle.std.specs.Prelude.{◌≡◌, ℕ, ◌+◌, ◌-◌, ◌≤◌, List, Option, Some, None, length, drop, min}
+use Rattle.std.specs.Prelude.{All}
 use Rattle.doc_tree.specs.Tree.{DocTree, count}
 use Rattle.doc_model.specs.Store.{Store}
 

@@ -1,8 +1,11 @@
 //! What a command is answered, before a store takes it in.
-ghost use Rattle.std.specs.Prelude.{◌≡◌, ◌≢◌, ◌≤◌, ◌↔◌, IsTrue, IfOk, OnOk, None, replicate};
+ghost use Rattle.std.specs.Prelude.{◌≡◌, ◌≢◌, ◌≤◌, ◌↔◌, Err, IsTrue, IfOk, OnOk, None, replicate};
 ghost use Rattle.std.specs.Option.{ForSome, option_copied};
-ghost use Rattle.doc_model.specs.Answers.{attached, count_shown, draft_made, drafted, full_place, names_shown, opening_seat, refusal, taken, text_shown, told};
+ghost use Rattle.doc_model.specs.Answers.{attached, count_shown, draft_made, drafted, full_place};
+ghost use Rattle.doc_model.specs.Answers.{names_shown, opening_account, refusal, taken};
+ghost use Rattle.doc_model.specs.Answers.{text_shown, told};
 ghost use Rattle.doc_model.specs.History.{Says};
+ghost use Rattle.doc_model.specs.LawfulStore.{NotDeep};
 ghost use Rattle.doc_tree.specs.Tree.{count};
 ghost use Rattle.doc_tree.specs.Edits.{Gives};
 
@@ -13,7 +16,7 @@ use std::alloc::Global;
 
 /// What a client has in the store beside the versions.
 #[derive(Drop)]
-pub(crate) struct Seat {
+pub(crate) struct Account {
     pub(crate) draft: Tree,
     // The place of its last entry.
     pub(crate) last: u64,
@@ -38,18 +41,18 @@ impl Answer {
     }
 }
 
-pub(crate) fn opening_seats(alloc: Global, clients: u32) -> Result<Vec<Seat>, NoMemory>
-    ensures { IfOk result (λ seats. seats.items ≡ replicate clients opening_seat) }
+pub(crate) fn opening_accounts(alloc: Global, clients: u32) -> Result<Vec<Account>, NoMemory>
+    ensures { IfOk result (λ accounts. accounts.items ≡ replicate clients opening_account) }
 {
-    let mut seats = Vec::with_capacity(alloc, clients as usize)?;
+    let mut accounts = Vec::with_capacity(alloc, clients as usize)?;
     for _i in 0..clients {
-        seats.push(Seat {
+        accounts.push(Account {
             draft: Tree::empty(alloc)?,
             last: 0,
             answered: 0,
         })?;
     }
-    Ok(seats)
+    Ok(accounts)
 }
 
 pub(crate) fn told(reply: Reply, place: u64) -> Answer
@@ -66,6 +69,7 @@ pub(crate) fn told(reply: Reply, place: u64) -> Answer
 pub(crate) fn refused(fault: EditFault, shown: u64) -> Result<Answer, NoMemory>
     ensures answer { IfOk result (λ a. a ≡ told (refusal fault shown) shown) }
     ensures memory { OnOk result (fault ≢ EditFault.NoMemory) }
+    ensures shallow { fault ≢ EditFault.Deep → IfOk result (λ a. NotDeep a.reply) }
 {
     let reply = match fault {
         EditFault::Absent => Reply::Absent { shown },
@@ -82,6 +86,7 @@ pub(crate) fn drafted(place: u64, edited: Result<Tree, EditFault>) -> Result<Ans
     ensures answer { (wanted : _) → Gives edited wanted
         → IfOk result (λ a. a ≡ drafted place wanted) }
     ensures none { IfOk result (λ a. a.made ≡ None) }
+    ensures shallow { edited ≢ Err EditFault.Deep → IfOk result (λ a. NotDeep a.reply) }
 {
     match edited {
         Ok(tree) => Ok(draft_made(place, tree)),
@@ -183,8 +188,8 @@ pub(crate) fn count_shown(shown: u64, node: Option<&Tree>) -> Answer
 }
 
 // The place of a command that found the heap full, if it is one that needs cells.
-pub(crate) fn full_place(shown: u64, seat: &Seat, command: &Command) -> Option<u64>
-    ensures { result ≡ full_place shown seat.now command.now }
+pub(crate) fn full_place(shown: u64, account: &Account, command: &Command) -> Option<u64>
+    ensures { result ≡ full_place shown account.now command.now }
 {
     match command {
         Command::Put { .. }
@@ -192,7 +197,7 @@ pub(crate) fn full_place(shown: u64, seat: &Seat, command: &Command) -> Option<u
         | Command::Copy { .. }
         | Command::Take { .. }
         | Command::Publish { .. } => Some(shown),
-        Command::DraftPut { .. } => Some(seat.last),
+        Command::DraftPut { .. } => Some(account.last),
         Command::Get { .. }
         | Command::List { .. }
         | Command::Size { .. }

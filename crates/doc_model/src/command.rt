@@ -6,7 +6,7 @@ use crate::NoMemory;
 use doc_tree::{Names, Path, Text};
 
 /// One command of a client. A store with drafts answers each by the definition `answer_at`.
-#[derive(Debug, Drop, PartialEq, Eq)]
+#[derive(Debug, PartialEq, Eq)]
 pub enum Command {
     /// Gives the node the text, in a new version.
     Put { path: Path, text: Text },
@@ -33,7 +33,7 @@ pub enum Command {
 }
 
 /// The answer to a command. `shown` is the number of the version that it speaks of.
-#[derive(Debug, Drop, PartialEq, Eq)]
+#[derive(Debug, PartialEq, Eq)]
 pub enum Reply {
     Committed { shown: u64 },
     Drafted { shown: u64 },
@@ -51,13 +51,86 @@ pub enum Reply {
 }
 
 /// A command with its answer. A client's commands are numbered from 1.
-#[derive(Debug, Drop, PartialEq, Eq)]
+#[derive(Debug, PartialEq, Eq)]
 pub struct Entry {
     pub client: u32,
     pub number: u32,
     pub command: Command,
     pub reply: Reply,
     pub place: u64,
+}
+
+// By hand, as the two below, so that a proof above takes a drop as one call and not as a case a
+// variant.
+impl Drop for Command {
+    fn drop(self) {
+        match self {
+            Command::Put {
+                path: _path,
+                text: _text,
+            } => {}
+            Command::Del { path: _path } => {}
+            Command::Copy {
+                from: _from,
+                to: _to,
+            } => {}
+            Command::Get { path: _path } => {}
+            Command::List { path: _path } => {}
+            Command::Size { path: _path } => {}
+            Command::Old {
+                back: _,
+                path: _path,
+            } => {}
+            Command::DraftPut {
+                path: _path,
+                text: _text,
+            } => {}
+            Command::DraftGet { path: _path } => {}
+            Command::Take { path: _path } => {}
+            Command::Publish { path: _path } => {}
+        }
+    }
+}
+
+impl Drop for Reply {
+    fn drop(self) {
+        match self {
+            Reply::Committed { shown: _ } => {}
+            Reply::Drafted { shown: _ } => {}
+            Reply::Val {
+                shown: _,
+                text: _text,
+            } => {}
+            Reply::Names {
+                shown: _,
+                names: _names,
+            } => {}
+            Reply::Count { shown: _, count: _ } => {}
+            Reply::Absent { shown: _ } => {}
+            Reply::Gone {
+                shown: _,
+                wanted: _,
+            } => {}
+            Reply::Before { shown: _ } => {}
+            Reply::Many { shown: _ } => {}
+            Reply::Deep { shown: _ } => {}
+            Reply::Big { shown: _ } => {}
+            Reply::Worn { shown: _ } => {}
+            Reply::Full { shown: _ } => {}
+        }
+    }
+}
+
+impl Drop for Entry {
+    fn drop(self) {
+        let Entry {
+            client: _,
+            number: _,
+            command: _command,
+            reply: _reply,
+            place: _,
+        } = self;
+    }
 }
 
 impl Command {

@@ -1,5 +1,6 @@
 //! The clients' logs as one list, and whether a list of entries is a history of the store.
-ghost use Rattle.std.specs.Prelude.{◌≡◌, ◌≤◌, ◌++◌, ◌↔◌, IfOk, IsTrue, OnOk, IsPermutation, IsSortedByKey, length};
+ghost use Rattle.std.specs.Prelude.{◌≡◌, ◌≤◌, ◌++◌, ◌↔◌, IfOk, IsTrue, OnOk, IsPermutation};
+ghost use Rattle.std.specs.Prelude.{IsSortedByKey, length};
 ghost use Rattle.doc_model.specs.History.{IsLegal};
 ghost use Rattle.doc_model.specs.Merge.{IsMerge, entry_order};
 ghost use Rattle.doc_model.specs.Store.{opening};
@@ -39,7 +40,8 @@ fn sort_by_place(entries: &mut Vec<Entry>) -> Result<(), NoMemory>
     entries.sort_by_key(|e| (e.place, !e.reply.is_ok(), e.client, e.number))
 }
 
-/// Whether a store that answers the commands in this order gives each entry its reply and its place.
+/// Whether a store that answers the commands in this order gives each entry its reply and its
+/// place.
 pub fn is_legal(
     alloc: Global,
     entries: &[Entry],

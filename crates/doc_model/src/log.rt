@@ -7,10 +7,19 @@ use std::alloc::Global;
 use std::marker::Model;
 
 /// What one client was answered, from its first command on.
-#[derive(Debug, Drop)]
+#[derive(Debug)]
 pub struct Log {
     client: u32,
     entries: Vec<Entry>,
+}
+
+impl Drop for Log {
+    fn drop(self) {
+        let Log {
+            client: _,
+            entries: _entries,
+        } = self;
+    }
 }
 
 impl Model for Log {
@@ -57,6 +66,7 @@ impl Log {
         ensures entries { self.new.entries ≡ self.old.entries }
         ensures ok { OnOk result (more ≤ self.new.spare) }
         ensures room { self.old.spare ≤ self.new.spare }
+        ensures err { OnErr result (self.new ≡ self.old) }
     {
         self.entries.reserve(more)
     }

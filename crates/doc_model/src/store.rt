@@ -2,19 +2,22 @@
 //!
 //! It keeps the trees that a command can still ask for and no others. That there were more is known
 //! to contracts alone: `trees` has a place for each version, and a place takes no room.
-ghost use Rattle.std.specs.Prelude.{◌≡◌, ◌<◌, ◌≤◌, ◌-◌, ◌+◌, ◌∷◌, ◌++◌, [], ◌↔◌, IfOk, IsTrue, All, OnOk, OnErr, length};
+ghost use Rattle.std.specs.Prelude.{◌≡◌, ◌≢◌, ◌<◌, ◌≤◌, ◌-◌, ◌+◌, ◌∷◌, ◌++◌, [], ◌↔◌, Err, IfOk};
+ghost use Rattle.std.specs.Prelude.{IsTrue, All, OnOk, OnErr, length};
 ghost use Rattle.std.specs.Result.{ForOk};
 ghost use Rattle.doc_tree.specs.Tree.{count, node};
 ghost use Rattle.doc_tree.specs.Edits.{Gives};
 ghost use Rattle.doc_model.specs.Answers.{committed, old_shown};
 ghost use Rattle.doc_model.specs.History.{Says};
-ghost use Rattle.doc_model.specs.Store.{IsClient, after, answer_for_in, answer_in, entry_of, opening, seat_of, shown, tree_at};
+ghost use Rattle.doc_model.specs.LawfulStore.{IsLawfulStore, IsShallow, NotDeep};
+ghost use Rattle.doc_model.specs.Store.{IsClient, after, answer_for_in, answer_in, entry_of};
+ghost use Rattle.doc_model.specs.Store.{opening, account_of, shown, tree_at};
 ghost use Rattle.doc_model.specs.StoreView.{IsNext};
 
 use crate::NoMemory;
 use crate::answer::{
-    Answer, Seat, attached, count_shown, drafted, full_place, names_shown, opening_seats, refused,
-    taken, text_shown, told,
+    Account, Answer, attached, count_shown, drafted, full_place, names_shown, opening_accounts,
+    refused, taken, text_shown, told,
 };
 use crate::command::{Command, Entry, Reply};
 use doc_tree::{EditFault, Path, Tree};
@@ -24,7 +27,6 @@ use std::marker::Model;
 use std::snapshot::Snapshot;
 
 /// The documents of several clients, with all their versions.
-#[derive(Drop)]
 pub struct PlainStore {
     keep: u32,
     versions: u32,
@@ -32,7 +34,19 @@ pub struct PlainStore {
     recent: VecDeque<Tree>,
     // All versions, for contracts: a snapshot has no bytes.
     trees: Vec<Snapshot<Tree>>,
-    seats: Vec<Seat>,
+    accounts: Vec<Account>,
+}
+
+impl Drop for PlainStore {
+    fn drop(self) {
+        let PlainStore {
+            keep: _,
+            versions: _,
+            recent: _recent,
+            trees: _trees,
+            accounts: _accounts,
+        } = self;
+    }
 }
 
 impl Model for PlainStore {
@@ -47,15 +61,17 @@ impl Model for PlainStore {
     ghost view = { λ s. record {
       limits = record { keep = s.keep; versions = s.versions };
       trees = map (λ t. t.value) s.trees.items;
-      seats = s.seats.items;
+      accounts = s.accounts.items;
     } };
 
-    ghost invariant = { λ s. IsKept s.keep s.versions (map (λ t. t.value) s.trees.items) s.recent.items };
+    ghost invariant = { λ s. IsKept s.keep s.versions
+        (map (λ t. t.value) s.trees.items) s.recent.items };
 }
 
 impl PlainStore {
-    /// A store of version 0 alone, the empty tree. A command can ask for the latest `keep` versions,
-    /// and `versions` is the number of the last version that can be made.
+    /// A store of version 0 alone, the empty tree. A command can ask for the latest `keep`
+    /// versions, and `versions` is the number of the last version that can be made.
+    #[tactic(auto, using(crate::proofs::Keeping::lawful_opening))]
     pub fn new(
         alloc: Global,
         clients: u32,
@@ -65,8 +81,9 @@ impl PlainStore {
         requires clients { (1 ≤ clients) × (clients ≤ 64) }
         requires keep { (1 ≤ keep) × (keep ≤ 100) }
         requires versions { (1 ≤ versions) × (versions ≤ 1_000_000) }
-        ensures { IfOk result (λ store. store
+        ensures store { IfOk result (λ store. store
             ≡ opening clients (record { keep = keep; versions = versions })) }
+        ensures lawful { ForOk result IsLawfulStore }
     {
         let tree = Tree::empty(alloc)?;
         let mut trees = Vec::new(alloc);
@@ -78,7 +95,7 @@ impl PlainStore {
             versions,
             recent,
             trees,
-            seats: opening_seats(alloc, clients)?,
+            accounts: opening_accounts(alloc, clients)?,
         })
     }
 
@@ -90,12 +107,15 @@ impl PlainStore {
         command: &Command,
     ) -> Result<Entry, NoMemory>
         requires client { IsClient self.old client }
-        requires more { (seat_of self.old client).answered < 100_000 }
+        requires more { (account_of self.old client).answered < 100_000 }
         ensures entry { IfOk result (λ entry. entry
             ≡ entry_of self.old client command.now (answer_in self.old client command.now)) }
         ensures next { OnOk result (self.new
             ≡ after self.old client (answer_in self.old client command.now)) }
         ensures err { OnErr result (self.new ≡ self.old) }
+        ensures lawful { IsLawfulStore self.old → IsLawfulStore self.new }
+        ensures shallow { IsLawfulStore self.old
+            → IfOk result (λ entry. IsShallow command.now entry.reply) }
     {
         self.answer_owned(alloc, client, command.copy()?)
     }
@@ -108,16 +128,19 @@ impl PlainStore {
         command: Command,
     ) -> Result<Entry, NoMemory>
         requires client { IsClient self.old client }
-        requires more { (seat_of self.old client).answered < 100_000 }
+        requires more { (account_of self.old client).answered < 100_000 }
         ensures entry { IfOk result (λ entry. entry
             ≡ entry_of self.old client command (answer_in self.old client command)) }
         ensures next { OnOk result (self.new
             ≡ after self.old client (answer_in self.old client command)) }
         ensures err { OnErr result (self.new ≡ self.old) }
+        ensures lawful { IsLawfulStore self.old → IsLawfulStore self.new }
+        ensures shallow { IsLawfulStore self.old
+            → IfOk result (λ entry. IsShallow command entry.reply) }
     {
         let answer = self.reply_to(alloc, client, &command)?;
         let place = answer.place;
-        let number = self.seat(client).answered + 1;
+        let number = self.account(client).answered + 1;
         let reply = self.enter(client, answer)?;
         Ok(Entry {
             client,
@@ -130,13 +153,14 @@ impl PlainStore {
 
     // Takes the entry in, if its reply and place are those that it has to have.
     pub(crate) fn accept(&mut self, alloc: Global, entry: &Entry) -> Result<bool, NoMemory>
-        requires { All (λ m. m.answered < 100_000) self.old.seats }
+        requires { All (λ m. m.answered < 100_000) self.old.accounts }
         ensures says { IfOk result (λ legal. IsTrue legal
-            ↔ (IsClient self.old entry.now.client × Says (answer_for_in self.old entry.now) entry.now)) }
+            ↔ (IsClient self.old entry.now.client
+            × Says (answer_for_in self.old entry.now) entry.now)) }
         ensures next { IfOk result (λ legal. IsTrue legal
             → self.new ≡ after self.old entry.now.client (answer_for_in self.old entry.now)) }
     {
-        if entry.client < 1 || entry.client as usize > self.seats.len() {
+        if entry.client < 1 || entry.client as usize > self.accounts.len() {
             return Ok(false);
         }
         let answer = self.wanted(alloc, entry)?;
@@ -154,22 +178,25 @@ impl PlainStore {
         ensures next { IfOk result (λ a. IsNext self.now a.made) }
     {
         if entry.reply.is_full() {
-            let seat = self.seat(entry.client);
-            if let Some(shown) = full_place(self.shown(), seat, &entry.command) {
+            let account = self.account(entry.client);
+            if let Some(shown) = full_place(self.shown(), account, &entry.command) {
                 return Ok(told(Reply::Full { shown }, shown));
             }
         }
         self.reply_to(alloc, entry.client, &entry.command)
     }
 
+    #[tactic(auto, using(crate::proofs::Keeping::lawful_latest, crate::proofs::Keeping::lawful_draft))]
     fn reply_to(&self, alloc: Global, client: u32, command: &Command) -> Result<Answer, NoMemory>
         requires { IsClient self.now client }
         ensures answer { IfOk result (λ a. a ≡ answer_in self.now client command.now) }
         ensures next { IfOk result (λ a. IsNext self.now a.made) }
+        ensures shallow { IsLawfulStore self.now
+            → IfOk result (λ a. IsShallow command.now a.reply) }
     {
         let shown = self.shown();
         let now = self.latest();
-        let seat = self.seat(client);
+        let account = self.account(client);
         match command {
             Command::Put { path, text } => self.committed(now.set_text(alloc, path, text)),
             Command::Del { path } => self.committed(now.delete(alloc, path)),
@@ -179,11 +206,15 @@ impl PlainStore {
             Command::Size { path } => Ok(count_shown(shown, now.node(path))),
             Command::Old { back, path } => self.old_shown(*back, path),
             Command::DraftPut { path, text } => {
-                drafted(seat.last, seat.draft.set_text(alloc, path, text))
+                drafted(account.last, account.draft.set_text(alloc, path, text))
             }
-            Command::DraftGet { path } => text_shown(seat.last, seat.last, seat.draft.node(path)),
+            Command::DraftGet { path } => text_shown(
+                account.last,
+                account.last,
+                account.draft.node(path),
+            ),
             Command::Take { path } => taken(shown, now.node(path)),
-            Command::Publish { path } => self.committed(now.attach(alloc, path, &seat.draft)),
+            Command::Publish { path } => self.committed(now.attach(alloc, path, &account.draft)),
         }
     }
 
@@ -193,6 +224,7 @@ impl PlainStore {
         ensures answer { (wanted : _) → Gives edited wanted
             → IfOk result (λ a. a ≡ committed self.now.limits (shown self.now) wanted) }
         ensures next { IfOk result (λ a. IsNext self.now a.made) }
+        ensures shallow { edited ≢ Err EditFault.Deep → IfOk result (λ a. NotDeep a.reply) }
     {
         let shown = self.shown();
         let tree = match edited {
@@ -253,17 +285,17 @@ impl PlainStore {
         &self.recent[self.recent.len() - 1 - back as usize]
     }
 
-    fn seat(&self, client: u32) -> &Seat
+    fn account(&self, client: u32) -> &Account
         requires { IsClient self.now client }
-        ensures { result.now ≡ seat_of self.now client }
+        ensures { result.now ≡ account_of self.now client }
     {
-        &self.seats[client as usize - 1]
+        &self.accounts[client as usize - 1]
     }
 
     // Takes the answer in, and gives its reply back.
     fn enter(&mut self, client: u32, answer: Answer) -> Result<Reply, NoMemory>
         requires client { IsClient self.old client }
-        requires more { (seat_of self.old client).answered < 100_000 }
+        requires more { (account_of self.old client).answered < 100_000 }
         requires next { IsNext self.old answer.made }
         ensures reply { IfOk result (λ reply. reply ≡ answer.reply) }
         ensures next { OnOk result (self.new ≡ after self.old client answer) }
@@ -278,19 +310,20 @@ impl PlainStore {
         if let Some(tree) = made {
             self.add_version(tree)?;
         }
-        let seat = &mut self.seats[client as usize - 1];
+        let account = &mut self.accounts[client as usize - 1];
         if let Some(draft) = draft {
-            seat.draft = draft;
+            account.draft = draft;
         }
-        seat.last = place;
-        seat.answered += 1;
+        account.last = place;
+        account.answered += 1;
         Ok(reply)
     }
 
     fn add_version(&mut self, tree: Tree) -> Result<(), NoMemory>
         requires room { length self.old.trees ≤ self.old.limits.versions }
         requires counted { count tree ≤ 1_000_000_000 }
-        ensures ok { OnOk result (self.new ≡ record self.old { trees = self.old.trees ++ tree ∷ [] }) }
+        ensures ok { OnOk result
+            (self.new ≡ record self.old { trees = self.old.trees ++ tree ∷ [] }) }
         ensures err { OnErr result (self.new ≡ self.old) }
     {
         self.trees.push(Snapshot::of(&tree))?;

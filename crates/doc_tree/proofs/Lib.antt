@@ -1,6 +1,9 @@
 pub mod Chunks
 pub mod Joined
+pub mod Orderly
+pub mod Passes
 pub mod Pieces
 pub mod Places
 pub mod Plain
 pub mod Rising
+pub mod Sizes

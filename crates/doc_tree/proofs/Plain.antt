@@ -11,7 +11,8 @@ use Rattle.doc_tree.specs.Words.{is_name_byte, is_text_byte, is_name, is_text}
 pub utf8 : (bytes : List ℕ) → IsAscii bytes → IsUtf8 bytes
 utf8 bytes h = IsUtf8-from_ascii bytes h
 
-all_ascii : (p : ℕ → Bool) → ((b : ℕ) → p b ≡ true → b < 128) → (bytes : List ℕ) → list_all p bytes ≡ true → IsAscii bytes
+all_ascii : (p : ℕ → Bool) → ((b : ℕ) → p b ≡ true → b < 128) → (bytes : List ℕ)
+    → list_all p bytes ≡ true → IsAscii bytes
 all_ascii p h [] e = IsAscii-nil
 all_ascii p h (b ∷ bytes) e =
     let parts = and_parts (p b) (list_all p bytes) e in

@@ -1,4 +1,5 @@
 -- What a list of chunks shows, and in which of them a name belongs.
+-- Source: this project's: children lie in chunks (docs/DECISIONS.md).
 use Rattle.std.specs.Prelude.{◌≡◌, ◌<◌, ℕ, zero, suc, List, [], ◌∷◌, length, get_or, MatchResult}
 use Rattle.std.specs.declared.rc.Rc.{Rc}
 use Rattle.std.specs.declared.alloc.Global.{Global}
@@ -33,8 +34,9 @@ IsIn n [] at = ⊥
 IsIn n (c ∷ cs) zero = IsAbove n (kids_of cs)
 IsIn n (c ∷ cs) (suc at) = IsBelow n (row_of c.value.row.items) × IsIn n cs at
 
--- a place among chunks is that of a name: its chunk is the one where the name belongs, and in the row of
--- that one the child of that name stands there, or would go there
+-- a place among chunks is that of a name: its chunk is the one where the name belongs, and in the
+-- row of that one the child of that name stands there, or would go there
 pub record IsPlace (n : List ℕ) (cs : List (Rc Chunk Global)) (p : Place) : Type 0 where
   pub chunk : 0 < length cs → IsIn n cs p.chunk
-  pub kid : (c : Rc Chunk Global) → p.chunk < length cs → c ≡ get_or cs p.chunk c → MatchResult p.kid (IsHere n (row_of c.value.row.items)) (IsGap n (row_of c.value.row.items))
+  pub kid : (c : Rc Chunk Global) → p.chunk < length cs → c ≡ get_or cs p.chunk c
+      → MatchResult p.kid (IsHere n (row_of c.value.row.items)) (IsGap n (row_of c.value.row.items))

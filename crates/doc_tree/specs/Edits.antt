@@ -2,10 +2,13 @@
 -- An edit goes down its path, makes the missing nodes on the way, and puts each changed child in
 -- the place of the old one on the way back. What the limits on a whole tree say is asked once, of
 -- the whole new tree. A deletion makes nothing, and a tree is within its limits after it as before.
-use Rattle.std.specs.Prelude.{◌≡◌, ℕ, nat_lt, List, [], ◌∷◌, Option, Some, None, Result, Ok, Err, if◌then◌else◌}
+-- Source: this project's.
+use Rattle.std.specs.Prelude.{◌≡◌, ℕ, nat_lt, List, [], ◌∷◌, Option, Some, None, Result, Ok, Err}
+use Rattle.std.specs.Prelude.{if◌then◌else◌}
 use Rattle.doc_tree.specs.declared.edit.EditFault.{EditFault}
 use Rattle.doc_tree.specs.declared.edit.EditFault.TheVariants as fault
-use Rattle.doc_tree.specs.Tree.{DocTree, Kids, no_kids, kid, empty, kid_count, name_cmp, by_order, child, put_child, count, height}
+use Rattle.doc_tree.specs.Tree.{DocTree, Kids, no_kids, kid, empty, kid_count, name_cmp, by_order}
+use Rattle.doc_tree.specs.Tree.{child, put_child, count, height}
 
 -- the tree with this one as its child of that name
 abbrev pub with_child : List ℕ → DocTree → DocTree → DocTree
@@ -23,7 +26,8 @@ abbrev pub start : List ℕ → DocTree → Result DocTree EditFault
 start n t = begun t.kids (child n t.kids)
 
 -- an edit after another, unless that was refused
-abbrev pub edited : (DocTree → Result DocTree EditFault) → Result DocTree EditFault → Result DocTree EditFault
+abbrev pub edited : (DocTree → Result DocTree EditFault) → Result DocTree EditFault
+    → Result DocTree EditFault
 edited edit (Ok d) = edit d
 edited edit (Err e) = Err e
 
@@ -40,7 +44,8 @@ edit_along make (n ∷ path) t = placed n t (edited (edit_along make path) (star
 -- the limits on a whole tree: height at most 8, and then at most 1,000,000,000 nodes
 abbrev pub within_limits : DocTree → Result DocTree EditFault
 within_limits t =
-    if nat_lt 8 (height t) then Err fault.Deep else (if nat_lt 1_000_000_000 (count t) then Err fault.Big else Ok t)
+    if nat_lt 8 (height t) then Err fault.Deep
+    else (if nat_lt 1_000_000_000 (count t) then Err fault.Big else Ok t)
 
 -- gives the node at the path the text, and keeps its children
 abbrev pub set_text : List (List ℕ) → List ℕ → DocTree → Result DocTree EditFault

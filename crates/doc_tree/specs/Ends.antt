@@ -1,4 +1,5 @@
 -- What an edit makes of the node at the end of its path.
+-- Source: this project's.
 use Rattle.doc_tree.specs.declared.tree.End.{End}
 use Rattle.doc_tree.specs.declared.tree.End.TheVariants as ends
 use Rattle.doc_tree.specs.Tree.{DocTree}

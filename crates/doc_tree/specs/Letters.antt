@@ -1,4 +1,5 @@
 -- What letters show: the first of the bytes in the value, or all of those in shared memory.
+-- Source: this project's.
 use Rattle.std.specs.Prelude.{ℕ, ◌≤◌, List, take}
 use Rattle.doc_tree.specs.declared.letters.Stored.{Stored}
 use Rattle.doc_tree.specs.declared.letters.Stored.TheVariants.{Short, Long}

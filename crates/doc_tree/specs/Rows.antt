@@ -1,4 +1,5 @@
 -- A row of kids as the children that it shows, and where a name stands among children.
+-- Source: this project's.
 use Rattle.std.specs.Prelude.{◌≡◌, ℕ, Bool, false, zero, suc, ◌-◌, ◌^◌, List, [], ◌∷◌, min}
 use Rattle.std.specs.declared.cmp.Ordering.TheVariants.{Equal, Greater}
 use Rattle.std.specs.Ordering.{is_le}

@@ -1,6 +1,7 @@
 -- Trees of documents: a text, and children with names in rising order of their bytes.
 -- A node is found by the names on the way to it, and every definition stops where the order of
 -- names says that a name cannot come any more.
+-- Source: this project's; names are in the order of Rust's slices.
 use Rattle.std.specs.Prelude.{◌≡◌, ℕ, ◌+◌, List, [], ◌∷◌, Option, Some, None, max}
 use Rattle.std.specs.declared.cmp.Ordering.{Ordering}
 use Rattle.std.specs.declared.cmp.Ordering.TheVariants.{Less, Equal, Greater}
@@ -68,7 +69,8 @@ node (n ∷ path) t = option_and_then (node path) (child n t.kids)
 abbrev pub put_child : List ℕ → DocTree → Kids → Kids
 put_child n d no_kids = kid n d.text d.kids no_kids
 put_child n d (kid m text inside rest) =
-    by_order (name_cmp n m) (kid n d.text d.kids (kid m text inside rest)) (kid n d.text d.kids rest) (kid m text inside (put_child n d rest))
+    by_order (name_cmp n m) (kid n d.text d.kids (kid m text inside rest))
+    (kid n d.text d.kids rest) (kid m text inside (put_child n d rest))
 
 -- each name comes after this one
 abbrev pub IsAbove : List ℕ → Kids → Type 0

@@ -1,4 +1,5 @@
 -- What every `Tree` keeps of its children, with the two numbers that it keeps beside them.
+-- Source: this project's.
 use Rattle.std.specs.Prelude.{◌≡◌, ℕ, ◌+◌, ◌≤◌, List}
 use Rattle.std.specs.declared.rc.Rc.{Rc}
 use Rattle.std.specs.declared.alloc.Global.{Global}

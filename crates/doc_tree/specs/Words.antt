@@ -1,13 +1,16 @@
 -- Names, texts and paths as bytes: which bytes are one, and which one they are.
 -- A name has 1 to 64 letters, digits, `-` and `_`. A text has at most 4,096 characters from the
 -- space to the tilde. A path is 1 to 8 names joined by `/`.
-use Rattle.std.specs.Prelude.{ℕ, Bool, List, length, Option, Some, None, ◌&&◌, ◌||◌, ◌==◌, nat_le, if◌then◌else◌}
+-- Source: this project's.
+use Rattle.std.specs.Prelude.{ℕ, Bool, List, length, Option, Some, None, ◌&&◌, ◌||◌, ◌==◌, nat_le}
+use Rattle.std.specs.Prelude.{if◌then◌else◌}
 use Rattle.std.specs.List.{list_all, slice_split}
 
 -- 0 to 9, A to Z, a to z, `-` and `_`
 abbrev pub is_name_byte : ℕ → Bool
 is_name_byte b =
-    (nat_le 48 b && nat_le b 57) || (nat_le 65 b && nat_le b 90) || (nat_le 97 b && nat_le b 122) || (b == 45) || (b == 95)
+    (nat_le 48 b && nat_le b 57) || (nat_le 65 b && nat_le b 90) ||
+    (nat_le 97 b && nat_le b 122) || (b == 45) || (b == 95)
 
 abbrev pub is_name : List ℕ → Bool
 is_name bytes = nat_le 1 (length bytes) && nat_le (length bytes) 64 && list_all is_name_byte bytes

@@ -1,10 +1,11 @@
 //! A chunk of the children of a node: kids one after another, behind one owner.
 //!
-//! A chunk knows how many nodes its kids have and how high they are, so that a new list of chunks is
-//! summed up without a look at the kids of those that are shared.
+//! A chunk knows how many nodes its kids have and how high they are, so that a new list of chunks
+//! is summed up without a look at the kids of those that are shared.
 ghost use Rattle.std.specs.Prelude.{◌≡◌, ◌++◌, ◌<◌, IfOk, MatchResult, OnOk, length};
 ghost use Rattle.std.specs.Option.{option_copied};
-ghost use Rattle.doc_tree.specs.Tree.{child, height_below, names_of, nodes_below, put_child, IsRising};
+ghost use Rattle.doc_tree.specs.Tree.{child, height_below, names_of, nodes_below, put_child};
+ghost use Rattle.doc_tree.specs.Tree.{IsRising};
 ghost use Rattle.doc_tree.specs.Edits.{delete_child};
 ghost use Rattle.doc_tree.specs.Rows.{as_u32, as_u64, begins_by, row_of, IsGap, IsHere};
 ghost use Rattle.doc_tree.specs.Chunks.{IsChunk};
@@ -55,7 +56,8 @@ impl Chunk {
     }
 }
 
-/// Where the kid of that name stands in the row, or where it would go, and its tree if there is one.
+/// Where the kid of that name stands in the row, or where it would go, and its tree if there is
+/// one.
 #[tactic(auto, using(crate::proofs::Places::here_room, crate::proofs::Places::here_child, crate::proofs::Places::gap_child))]
 pub(crate) fn find_in_row<'a>(
     row: &'a [Rc<Kid>],
@@ -138,7 +140,8 @@ fn sizes_of_row(row: &[Rc<Kid>]) -> (u64, u32)
 // Where the kid of that name stands in the row, or where it would go.
 fn find(row: &[Rc<Kid>], name: &Name) -> Result<usize, usize>
     requires { IsRising (row_of row.now) }
-    ensures { MatchResult result (IsHere name.now (row_of row.now)) (IsGap name.now (row_of row.now)) }
+    ensures { MatchResult result (IsHere name.now (row_of row.now))
+        (IsGap name.now (row_of row.now)) }
 {
     row.binary_search_by(|kid| kid.name.order(name))
 }

@@ -4,7 +4,8 @@
 ghost use Rattle.std.specs.Prelude.{◌≡◌, ◌<◌, ◌≤◌, ◌+◌, IfOk, OnOk, length};
 ghost use Rattle.std.specs.List.{AllZip};
 ghost use Rattle.std.specs.Option.{option_copied};
-ghost use Rattle.doc_tree.specs.Tree.{child, height_below, kid_count, names_of, nodes_below, put_child, IsRising};
+ghost use Rattle.doc_tree.specs.Tree.{child, height_below, kid_count, names_of, nodes_below};
+ghost use Rattle.doc_tree.specs.Tree.{put_child, IsRising};
 ghost use Rattle.doc_tree.specs.Edits.{delete_child};
 ghost use Rattle.doc_tree.specs.Rows.{as_u32, as_u64, row_of};
 ghost use Rattle.doc_tree.specs.Chunks.{kids_of, with_row, AreChunks, IsIn, IsPlace};
@@ -86,7 +87,8 @@ pub(crate) fn without_kid(
     requires chunks { AreChunks chunks.now.items }
     requires rising { IsRising (kids_of chunks.now.items) }
     ensures chunks { IfOk result (λ all. AreChunks all.items) }
-    ensures kids { IfOk result (λ all. kids_of all.items ≡ delete_child name.now (kids_of chunks.now.items)) }
+    ensures kids { IfOk result
+        (λ all. kids_of all.items ≡ delete_child name.now (kids_of chunks.now.items)) }
 {
     let mut all = shared(chunks)?;
     if all.is_empty() {
@@ -109,7 +111,8 @@ fn put_row(
     requires chunks { AreChunks chunks.old.items }
     requires room { at < length chunks.old.items }
     ensures chunks { OnOk result (AreChunks chunks.new.items) }
-    ensures kids { OnOk result (kids_of chunks.new.items ≡ with_row chunks.old.items at (row_of row.items)) }
+    ensures kids { OnOk result
+        (kids_of chunks.new.items ≡ with_row chunks.old.items at (row_of row.items)) }
 {
     if row.is_empty() {
         let _ = chunks.remove(at);
@@ -131,7 +134,8 @@ pub(crate) fn shared(chunks: &Vec<Rc<Chunk>>) -> Result<Vec<Rc<Chunk>>, NoMemory
     requires { AreChunks chunks.now.items }
     ensures chunks { IfOk result (λ all. AreChunks all.items) }
     ensures kids { IfOk result (λ all. kids_of all.items ≡ kids_of chunks.now.items) }
-    ensures same { IfOk result (λ all. AllZip (λ c other. other.value ≡ c.value) chunks.now.items all.items) }
+    ensures same { IfOk result
+        (λ all. AllZip (λ c other. other.value ≡ c.value) chunks.now.items all.items) }
 {
     chunks.clone()
 }

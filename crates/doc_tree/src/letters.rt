@@ -13,7 +13,6 @@ use std::rc::Rc;
 const MOST_SHORT: usize = 22;
 
 /// Bytes that stay as they are.
-#[derive(Drop)]
 pub(crate) struct Letters {
     stored: Stored,
 }
@@ -23,6 +22,14 @@ pub(crate) struct Letters {
 enum Stored {
     Short { len: u8, bytes: [u8; MOST_SHORT] },
     Long(Rc<Vec<u8>>),
+}
+
+// By hand, so that a proof above takes a drop as one call and not as a case for each place of the
+// bytes.
+impl Drop for Letters {
+    fn drop(self) {
+        let Letters { stored: _stored } = self;
+    }
 }
 
 impl Model for Letters {

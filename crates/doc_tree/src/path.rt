@@ -8,9 +8,15 @@ use std::alloc::Global;
 use std::marker::Model;
 
 /// The names on the way from the root to a node: 1 to 8 of them. The root has no path.
-#[derive(Debug, Drop)]
+#[derive(Debug)]
 pub struct Path {
     names: Vec<Name>,
+}
+
+impl Drop for Path {
+    fn drop(self) {
+        let Path { names: _names } = self;
+    }
 }
 
 impl Model for Path {
@@ -25,9 +31,15 @@ impl Model for Path {
 }
 
 /// A list of names, as the children of a node.
-#[derive(Debug, Drop)]
+#[derive(Debug)]
 pub struct Names {
     names: Vec<Name>,
+}
+
+impl Drop for Names {
+    fn drop(self) {
+        let Names { names: _names } = self;
+    }
 }
 
 impl Model for Names {

@@ -3,7 +3,8 @@ ghost use Rattle.std.specs.Prelude.{◌≡◌, [], IfOk, IsTrue};
 ghost use Rattle.std.specs.List.{list_all};
 ghost use Rattle.std.specs.Str.{IsAscii};
 ghost use Rattle.doc_tree.specs.Tree.{name_cmp};
-ghost use Rattle.doc_tree.specs.Words.{name_of, text_of, is_name, is_text, is_name_byte, is_text_byte};
+ghost use Rattle.doc_tree.specs.Words.{name_of, text_of, is_name, is_text, is_name_byte};
+ghost use Rattle.doc_tree.specs.Words.{is_text_byte};
 
 use crate::NoMemory;
 use crate::letters::Letters;
@@ -13,9 +14,14 @@ use std::fmt;
 use std::marker::Model;
 
 /// The name of a child among its siblings: 1 to 64 letters, digits, `-` and `_`.
-#[derive(Drop)]
 pub struct Name {
     letters: Letters,
+}
+
+impl Drop for Name {
+    fn drop(self) {
+        let Name { letters: _letters } = self;
+    }
 }
 
 impl Model for Name {
@@ -30,9 +36,14 @@ impl Model for Name {
 }
 
 /// What a node of a tree says: 0 to 4,096 characters from the space to the tilde.
-#[derive(Drop)]
 pub struct Text {
     letters: Letters,
+}
+
+impl Drop for Text {
+    fn drop(self) {
+        let Text { letters: _letters } = self;
+    }
 }
 
 impl Model for Text {

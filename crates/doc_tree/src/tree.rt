@@ -1,10 +1,15 @@
 //! Trees of documents. Two trees share what is the same in both: an edit makes new nodes on the way
 //! from the root to the place of the edit alone, and points to the old ones everywhere else.
-ghost use Rattle.std.specs.Prelude.{◌≡◌, ◌<◌, ◌≤◌, ◌+◌, ◌↔◌, IfOk, IsTrue, MatchResult, None};
-ghost use Rattle.std.specs.Option.{option_copied};
-ghost use Rattle.doc_tree.specs.Tree.{empty, node, child, count, height, names_of, kid_count, put_child, IsRising};
-ghost use Rattle.doc_tree.specs.Edits.{Gives, attach, delete, edit_along, set_text, with_text, within_limits, without_child};
+ghost use Rattle.std.specs.Prelude.{◌≡◌, ◌≢◌, ◌<◌, ◌≤◌, ◌+◌, ◌↔◌, Err, IfOk, IsTrue, MatchResult};
+ghost use Rattle.std.specs.Prelude.{None};
+ghost use Rattle.std.specs.Option.{ForSome, option_copied};
+ghost use Rattle.std.specs.Result.{ForOk};
+ghost use Rattle.doc_tree.specs.Tree.{empty, node, child, count, height, names_of, kid_count};
+ghost use Rattle.doc_tree.specs.Tree.{put_child, IsRising};
+ghost use Rattle.doc_tree.specs.Edits.{Gives, attach, delete, edit_along, set_text, with_text};
+ghost use Rattle.doc_tree.specs.Edits.{within_limits, without_child};
 ghost use Rattle.doc_tree.specs.Ends.{tree_at_end};
+ghost use Rattle.doc_tree.specs.Lawful.{IsLawful};
 ghost use Rattle.doc_tree.specs.Rows.{as_u64, as_u32};
 ghost use Rattle.doc_tree.specs.Chunks.{kids_of, AreChunks, IsPlace};
 
@@ -20,7 +25,6 @@ use std::rc::Rc;
 
 /// A text and children with names in rising order, shared with other trees.
 #[cycle(tree)]
-#[derive(Drop)]
 pub struct Tree {
     // The two numbers come first, since an edit reads those of a whole chunk of children.
     nodes: u64,
@@ -34,6 +38,18 @@ pub struct Tree {
 enum End<'a> {
     Text(&'a Text),
     Tree(&'a Tree),
+}
+
+impl Drop for Tree {
+    #[cycle(dropping)]
+    fn drop(self) {
+        let Tree {
+            nodes: _,
+            levels: _,
+            text: _text,
+            kids: _kids,
+        } = self;
+    }
 }
 
 impl Model for Tree {
@@ -70,8 +86,10 @@ impl Tree {
     pub const HIGHEST: u32 = 8;
 
     /// The tree with an empty text and no children.
+    #[tactic(auto, using(crate::proofs::Orderly::lawful_made))]
     pub fn empty(alloc: Global) -> Result<Tree, NoMemory>
-        ensures { IfOk result (λ tree. tree ≡ empty) }
+        ensures tree { IfOk result (λ tree. tree ≡ empty) }
+        ensures lawful { ForOk result IsLawful }
     {
         Ok(Tree {
             text: Text::empty(),
@@ -82,8 +100,10 @@ impl Tree {
     }
 
     /// The node at the end of the path.
+    #[tactic(auto, using(crate::proofs::Orderly::lawful_node))]
     pub fn node(&self, path: &Path) -> Option<&Tree>
-        ensures { option_copied result ≡ node path.now self.now }
+        ensures node { option_copied result ≡ node path.now self.now }
+        ensures lawful { IsLawful self.now → ForSome (option_copied result) IsLawful }
     {
         let mut tree = self;
         for name in path.names() {
@@ -109,34 +129,43 @@ impl Tree {
     }
 
     /// How many nodes the tree has, itself included. It is kept, not counted.
+    #[tactic(auto, using(crate::proofs::Orderly::exact_count))]
     pub fn count(&self) -> u64
-        ensures { result ≡ as_u64 (count self.now) }
+        ensures count { result ≡ as_u64 (count self.now) }
+        ensures exact { IsLawful self.now → result ≡ count self.now }
     {
         self.nodes
     }
 
     /// The longest way from the root down, 0 without children. It is kept, not measured.
+    #[tactic(auto, using(crate::proofs::Orderly::exact_height))]
     pub fn height(&self) -> u32
-        ensures { result ≡ as_u32 (height self.now) }
+        ensures height { result ≡ as_u32 (height self.now) }
+        ensures exact { IsLawful self.now → result ≡ height self.now }
     {
         self.levels
     }
 
     /// Gives the node at the path the text. Missing nodes on the way are made with empty texts.
+    #[tactic(auto, using(crate::proofs::Orderly::lawful_set_text, crate::proofs::Orderly::shallow_set_text))]
     pub fn set_text(&self, alloc: Global, path: &Path, text: &Text) -> Result<Tree, EditFault>
-        ensures { Gives result (set_text path.now text.now self.now) }
+        ensures tree { Gives result (set_text path.now text.now self.now) }
+        ensures lawful { IsLawful self.now → ForOk result IsLawful }
+        ensures shallow { IsLawful self.now → result ≢ Err EditFault.Deep }
     {
-        self.edit_along(alloc, path.names(), End::Text(text))?
-            .within_limits()
+        let edited = self.edit_along(alloc, path.names(), End::Text(text))?;
+        edited.within_limits()
     }
 
-    /// Puts a whole tree at the path, in place of what stands there. Missing nodes before it are made
-    /// with empty texts.
+    /// Puts a whole tree at the path, in place of what stands there. Missing nodes before it are
+    /// made with empty texts.
+    #[tactic(auto, using(crate::proofs::Orderly::lawful_attach))]
     pub fn attach(&self, alloc: Global, path: &Path, sub: &Tree) -> Result<Tree, EditFault>
-        ensures { Gives result (attach path.now sub.now self.now) }
+        ensures tree { Gives result (attach path.now sub.now self.now) }
+        ensures lawful { IsLawful sub.now → IsLawful self.now → ForOk result IsLawful }
     {
-        self.edit_along(alloc, path.names(), End::Tree(sub))?
-            .within_limits()
+        let edited = self.edit_along(alloc, path.names(), End::Tree(sub))?;
+        edited.within_limits()
     }
 
     fn edit_along(&self, alloc: Global, names: &[Name], end: End<'_>) -> Result<Tree, EditFault>
@@ -164,8 +193,10 @@ impl Tree {
     }
 
     /// Removes the node at the path, with all that is below it.
+    #[tactic(auto, using(crate::proofs::Orderly::lawful_delete))]
     pub fn delete(&self, alloc: Global, path: &Path) -> Result<Tree, EditFault>
-        ensures { Gives result (delete path.now self.now) }
+        ensures tree { Gives result (delete path.now self.now) }
+        ensures lawful { IsLawful self.now → ForOk result IsLawful }
     {
         self.delete_along(alloc, path.names())
     }

@@ -8,10 +8,16 @@ loop-entry-preserved c =
     let es = c.args.entries.now in
     let i = c.loop-entry.entry-index in
     let e = c.entry-item.result in
-    let rest : drop i es ≡ e ∷ drop (i + 1) es = drop_more es i e (omega arith) ∙ ap (λ x. x ∷ drop (i + 1) es) (sym c.entry-item.is) in
+    let rest : drop i es ≡ e ∷ drop (i + 1) es = drop_more es i e (omega arith)
+    ∙ ap (λ x. x ∷ drop (i + 1) es) (sym c.entry-item.is) in
     let t : c.in_ok-accept.field-0 ≡ true = c.if-not-branch.false in
-    let both = legal_step c.loop-entry.store c.accept.new.self e (drop i es) (drop (i + 1) es) rest (c.in_ok-accept.ensures.says.0 t) (c.in_ok-accept.ensures.next t) in
+    let both = legal_step c.loop-entry.store c.accept.new.self e (drop i es) (drop (i + 1) es) rest
+    (c.in_ok-accept.ensures.says.0 t) (c.in_ok-accept.ensures.next t) in
     record {
-      rest = (λ h. c.loop-entry.invariant.rest.0 (both.0 h), λ h. both.1 (c.loop-entry.invariant.rest.1 h));
-      few = few_step c.loop-entry.store c.accept.new.self e i c.loop-entry.invariant.few (c.in_ok-accept.ensures.says.0 t).0 (c.in_ok-accept.ensures.next t);
+      rest = (
+        λ h. c.loop-entry.invariant.rest.0 (both.0 h),
+        λ h. both.1 (c.loop-entry.invariant.rest.1 h),
+      );
+      few = few_step c.loop-entry.store c.accept.new.self e i c.loop-entry.invariant.few
+          (c.in_ok-accept.ensures.says.0 t).0 (c.in_ok-accept.ensures.next t);
     }

@@ -5,4 +5,6 @@ use Rattle.doc_model.proofs.history.sort_by_place.Goals as goal
 
 pub returns-clause-sorted : goal.returns-clause-sorted
 returns-clause-sorted c =
-    on_ok_weaker c.sort_by_key.result (λ up. sorted_by_place c.sort_by_key.new.self.items up (λ a r f k. search rules)) c.sort_by_key.ensures.sorted
+    on_ok_weaker c.sort_by_key.result
+    (λ up. sorted_by_place c.sort_by_key.new.self.items up (λ a r f k. search rules))
+    c.sort_by_key.ensures.sorted

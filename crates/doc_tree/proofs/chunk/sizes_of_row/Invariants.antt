@@ -8,6 +8,8 @@ abbrev pub invariant-loop-kid : goal.invariant-loop-kid
 invariant-loop-kid l = record {
   nodes_fit : l.nodes ≤ 2 ^ 64 - 1;
   levels_fit : l.levels ≤ 2 ^ 32 - 1;
-  nodes : as_u64 (l.nodes + nodes_below (row_of (drop l.kid-index l.row))) ≡ as_u64 (nodes_below (row_of l.row));
-  levels : as_u32 (max l.levels (height_below (row_of (drop l.kid-index l.row)))) ≡ as_u32 (height_below (row_of l.row));
+  nodes : as_u64 (l.nodes + nodes_below (row_of (drop l.kid-index l.row)))
+      ≡ as_u64 (nodes_below (row_of l.row));
+  levels : as_u32 (max l.levels (height_below (row_of (drop l.kid-index l.row))))
+      ≡ as_u32 (height_below (row_of l.row));
 }

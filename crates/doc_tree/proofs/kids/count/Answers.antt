@@ -13,4 +13,11 @@ loop-chunk-preserved c =
     let cs = c.args.chunks.now in
     let i = c.loop-chunk.chunk-index in
     let row = c.chunk-item.result.value.row.items in
-    omega (arith, ap kid_count (kids_drop cs i c.chunk-item.result c.loop-chunk-test.true c.chunk-item.is), count_join (row_of row) (kids_of (drop (i + 1) cs)), count_kids row, ap (λ (chunk : Chunk). length chunk.row.items) c.deref.ensures)
+    omega (
+      arith,
+      ap kid_count
+          (kids_drop cs i c.chunk-item.result c.loop-chunk-test.true c.chunk-item.is),
+      count_join (row_of row) (kids_of (drop (i + 1) cs)),
+      count_kids row,
+      ap (λ (chunk : Chunk). length chunk.row.items) c.deref.ensures,
+    )

@@ -10,8 +10,10 @@ pub loop-chunk-preserved : goal.loop-chunk-preserved
 loop-chunk-preserved c =
     let row = row_of c.chunk-item.result.value.row.items in
     let rest = kids_of (drop (c.loop-chunk.chunk-index + 1) c.args.chunks.now) in
-    let step = kids_drop c.args.chunks.now c.loop-chunk.chunk-index c.chunk-item.result c.loop-chunk-test.true c.chunk-item.is in
-    let pushed : c.push_names.new.names ≡ c.loop-chunk.names ++ names_of row = cc (c.in_ok-push_names.ensures) in
+    let step = kids_drop c.args.chunks.now c.loop-chunk.chunk-index c.chunk-item.result
+    c.loop-chunk-test.true c.chunk-item.is in
+    let pushed : c.push_names.new.names ≡ c.loop-chunk.names ++ names_of row =
+    cc (c.in_ok-push_names.ensures) in
     ap (λ names. names ++ names_of rest) pushed
     ∙ append_assoc c.loop-chunk.names (names_of row) (names_of rest)
     ∙ ap (λ names. c.loop-chunk.names ++ names) (sym (names_join row rest) ∙ ap names_of (sym step))

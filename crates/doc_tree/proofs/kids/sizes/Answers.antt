@@ -14,11 +14,24 @@ loop-chunk-preserved c =
     let i = c.loop-chunk.chunk-index in
     let row = c.chunk-item.result.value.row.items in
     let step = kids_drop cs i c.chunk-item.result c.loop-chunk-test.true c.chunk-item.is in
-    let sound = chunks_drop cs i c.chunk-item.result c.loop-chunk-test.true c.chunk-item.is c.loop-chunk.invariant.chunks in
+    let sound = chunks_drop cs i c.chunk-item.result c.loop-chunk-test.true c.chunk-item.is
+    c.loop-chunk.invariant.chunks in
     record {
       chunks = sound.1;
       nodes_fit = omega arith;
       levels_fit = omega arith;
-      nodes = omega (arith, ap nodes_below step, nodes_join (row_of row) (kids_of (drop (i + 1) cs)), sound.0.counted, ap (λ (chunk : Chunk). chunk.nodes) c.deref.ensures);
-      levels = omega (arith, ap height_below step, height_join (row_of row) (kids_of (drop (i + 1) cs)), sound.0.high, ap (λ (chunk : Chunk). chunk.levels) c.deref-in-loop-chunk.ensures);
+      nodes = omega (
+        arith,
+        ap nodes_below step,
+        nodes_join (row_of row) (kids_of (drop (i + 1) cs)),
+        sound.0.counted,
+        ap (λ (chunk : Chunk). chunk.nodes) c.deref.ensures,
+      );
+      levels = omega (
+        arith,
+        ap height_below step,
+        height_join (row_of row) (kids_of (drop (i + 1) cs)),
+        sound.0.high,
+        ap (λ (chunk : Chunk). chunk.levels) c.deref-in-loop-chunk.ensures,
+      );
     }

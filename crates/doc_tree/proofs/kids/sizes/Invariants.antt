@@ -10,6 +10,8 @@ invariant-loop-chunk l = record {
   chunks : AreChunks (drop l.chunk-index l.chunks);
   nodes_fit : l.nodes ≤ 2 ^ 64 - 1;
   levels_fit : l.levels ≤ 2 ^ 32 - 1;
-  nodes : as_u64 (l.nodes + nodes_below (kids_of (drop l.chunk-index l.chunks))) ≡ as_u64 (nodes_below (kids_of l.chunks) + 1);
-  levels : as_u32 (max l.levels (height_below (kids_of (drop l.chunk-index l.chunks)))) ≡ as_u32 (height_below (kids_of l.chunks));
+  nodes : as_u64 (l.nodes + nodes_below (kids_of (drop l.chunk-index l.chunks)))
+      ≡ as_u64 (nodes_below (kids_of l.chunks) + 1);
+  levels : as_u32 (max l.levels (height_below (kids_of (drop l.chunk-index l.chunks))))
+      ≡ as_u32 (height_below (kids_of l.chunks));
 }

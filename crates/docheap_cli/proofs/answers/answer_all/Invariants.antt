@@ -1,6 +1,6 @@
 use Rattle.std.proofs.Common.{◌≡◌, ◌+◌, ◌≤◌, ◌++◌, length}
 use Rattle.std.specs.Vec.Iter.{into_iter_items, into_iter_len}
-use Rattle.doc_model.specs.Store.{entries_of, seat_of}
+use Rattle.doc_model.specs.Store.{entries_of, account_of}
 use Rattle.docheap_cli.specs.Session.{opening_store}
 use Rattle.docheap_cli.proofs.answers.answer_all.Given as goal
 
@@ -12,6 +12,6 @@ invariant-loop-command l =
       left : into_iter_len l.command-iterator ≡ length (into_iter_items l.command-iterator);
       room : length (into_iter_items l.command-iterator) ≤ l.log.spare;
       entries : l.log.entries ++ entries_of l.store 1 (into_iter_items l.command-iterator) ≡ entries_of opening_store 1 l.fn.commands.items;
-      one : length l.store.seats ≡ 1;
-      answered : (seat_of l.store 1).answered + length (into_iter_items l.command-iterator) ≤ 100_000;
+      one : length l.store.accounts ≡ 1;
+      answered : (account_of l.store 1).answered + length (into_iter_items l.command-iterator) ≤ 100_000;
     }

@@ -1,0 +1,10 @@
+//! What no clause says of doc_model: each public call on its happy path, and histories that are
+//! wrong in one place.
+//!
+//! Reading order: `made`, `stores`.
+#![tactic(auto)]
+
+#[cfg(test)]
+mod made;
+#[cfg(test)]
+mod stores;
