@@ -1,5 +1,6 @@
 -- What several calls of a loop wrote, one after another, is what they wrote together.
-use Rattle.std.proofs.Common.{◌≡◌, ℕ, ◌+◌, ◌<◌, List, ◌++◌, Option, length, take, drop, subst, sym, ap, arith, length-append, ◌∙◌, Some, None}
+use Rattle.std.proofs.Common.{◌≡◌, ℕ, ◌+◌, ◌<◌, List, ◌++◌, Option, length, take, drop, subst, sym}
+use Rattle.std.proofs.Common.{ap, arith, length-append, ◌∙◌, Some, None}
 use Rattle.std.proofs.Math.Seq.{take-add, take-append-add}
 use Rattle.std.specs.Prelude.{position}
 use Rattle.std.proofs.lemmas.List.{append_assoc, append-nil, take-append-drop, take-append-le}

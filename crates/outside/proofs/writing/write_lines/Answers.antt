@@ -11,7 +11,9 @@ loop-rest-preserved g c =
     record {
       taken = appended_next _ _ _ _ _ _ _ c.loop-rest.invariant.taken cut c.in_ok-write_all.ensures.ok;
       turns = omega (arith, long, c.loop-rest.invariant.turns, c.in_ok-write_all.ensures.calls);
+      unbroken = λ was. c.in_ok-write_all.ensures.unbroken (c.loop-rest.invariant.unbroken was);
       later = omega (arith, c.in_ok-write_all.ensures.faults, c.loop-rest.invariant.later);
+      wanted = omega (arith, c.in_ok-write_all.ensures.wants, c.loop-rest.invariant.wanted);
     }
 
 -- the lines before were written, and a part of this one
