@@ -1,5 +1,5 @@
 -- What a call, done or failed, makes of the course of an object.
-use Rattle.std.proofs.Common.{◌≡◌, Bool, true, false, refl, ◌∙◌, ap, subst, sym}
+use Rattle.std.proofs.Common.{◌≡◌, true, false, ◌∙◌, ap, subst, sym}
 use Rattle.outside.specs.Calls.{after_call, IsUnbroken, IsOrderly}
 use Rattle.outside.specs.declared.course.Course.{Course}
 use Rattle.outside.specs.declared.course.Course.TheVariants.{Unbroken, Broken, Overrun}
@@ -18,3 +18,6 @@ pub orderly_failed : (before now : Course) → now ≡ after_call before false �
     → IsOrderly now
 orderly_failed before now call is =
     subst (λ c. IsOrderly c) (sym (call ∙ ap (λ c. after_call c false) is)) tt
+
+-- what calls, done and failed, leave of the course
+pub ruleset courses = (unbroken_orderly, unbroken_done, orderly_failed)

@@ -136,7 +136,8 @@ impl Shelf for MemShelf {
         ensures faults { self.old.faults ≤ self.new.faults }
         ensures cause { IsErrOf result OutFault.Failed → Rose self.old.faults self.new.faults }
 
-        // It fails at a chosen call alone, asks for no memory, and gives all that there is room for.
+        // It fails at a chosen call alone, asks for no memory, and gives all that there is room
+        // for.
         ensures failed { IsErr result ↔ Contains self.old.failing (next_count self.old.calls) }
         ensures memory { IfErr result (λ fault. fault ≡ OutFault.Failed) }
         ensures count { IfOk result (λ count. IfSome self.old.left (λ left.

@@ -70,7 +70,7 @@ pub const READ_LIMIT: usize = 1_048_577;
 const PIECE: usize = 65_536;
 
 /// Opens a file and reads it to its end, or until `READ_LIMIT` bytes are taken.
-#[tactic(auto, using(crate::proofs::Courses::unbroken_done, crate::proofs::Courses::orderly_failed,))]
+#[tactic(auto, using(crate::proofs::Courses::courses))]
 pub fn read_file<H: Shelf>(alloc: Global, shelf: &mut H, name: &str) -> Result<Vec<u8>, OutFault>
     ensures content { IfOk result (λ bytes.
         IsFrontOf (H.holds shelf.old name.now) READ_LIMIT bytes.items) }
@@ -94,7 +94,7 @@ pub fn read_file<H: Shelf>(alloc: Global, shelf: &mut H, name: &str) -> Result<V
 }
 
 // Reads what is left of the open file to its end, or until `limit` bytes are taken.
-#[tactic(auto, using(crate::proofs::Courses::unbroken_orderly))]
+#[tactic(auto, using(crate::proofs::Courses::courses))]
 fn read_front<H: Shelf>(alloc: Global, shelf: &mut H, limit: usize) -> Result<Vec<u8>, OutFault>
     requires { H.is_open shelf.old }
     ensures content { IfOk result (λ bytes. IsFrontOf (H.left shelf.old) limit bytes.items) }
@@ -126,7 +126,7 @@ fn read_front<H: Shelf>(alloc: Global, shelf: &mut H, limit: usize) -> Result<Ve
 }
 
 // One turn: what the shelf puts into the piece is added to the bytes.
-#[tactic(auto, using(crate::proofs::Courses::unbroken_orderly, crate::proofs::Courses::unbroken_done, crate::proofs::Courses::orderly_failed,))]
+#[tactic(auto, using(crate::proofs::Courses::courses))]
 fn read_more<H: Shelf>(
     shelf: &mut H,
     piece: &mut [u8],

@@ -42,7 +42,7 @@ pub trait Sink {
 }
 
 /// Writes all of the bytes, offered as one piece and its rest again where a part was taken.
-#[tactic(auto, using(crate::proofs::Taken::appended_more, crate::proofs::Courses::unbroken_orderly, crate::proofs::Courses::unbroken_done, crate::proofs::Courses::orderly_failed,))]
+#[tactic(auto, using(crate::proofs::Taken::appended_more, crate::proofs::Courses::courses))]
 pub fn write_all<S: Sink>(sink: &mut S, bytes: &[u8]) -> Result<(), OutFault>
     ensures ok { OnOk result (Appends (S.written sink.old) (S.written sink.new) bytes.now) }
     ensures err { OnErr result (AppendsPart (S.written sink.old) (S.written sink.new) bytes.now) }
@@ -65,7 +65,7 @@ pub fn write_all<S: Sink>(sink: &mut S, bytes: &[u8]) -> Result<(), OutFault>
 }
 
 /// Writes the text line by line: each line, with its line feed, is offered as one piece.
-#[tactic(auto, using(crate::proofs::Courses::unbroken_orderly))]
+#[tactic(auto, using(crate::proofs::Courses::courses))]
 pub fn write_lines<S: Sink>(sink: &mut S, text: &[u8]) -> Result<(), OutFault>
     ensures ok { OnOk result (Appends (S.written sink.old) (S.written sink.new) text.now) }
     ensures err { OnErr result (AppendsPart (S.written sink.old) (S.written sink.new) text.now) }

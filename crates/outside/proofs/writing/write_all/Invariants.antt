@@ -7,7 +7,8 @@ abbrev pub invariant-loop-done : goal.invariant-loop-done
 invariant-loop-done g l =
     record {
       within : l.done ≤ length l.bytes;
-      taken : Appends (g.S.Sink.written l.initial.sink) (g.S.Sink.written l.sink) (take l.done l.bytes);
+      taken : Appends (g.S.Sink.written l.initial.sink) (g.S.Sink.written l.sink)
+          (take l.done l.bytes);
       turns : g.S.Sink.calls l.sink ≤ g.S.Sink.calls l.initial.sink + l.done;
       unbroken : IsUnbroken (g.S.Sink.course l.initial.sink) → IsUnbroken (g.S.Sink.course l.sink);
       later : g.S.Sink.faults l.initial.sink ≤ g.S.Sink.faults l.sink;
