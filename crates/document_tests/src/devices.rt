@@ -119,6 +119,7 @@ fn a_second_open_takes_the_place_of_the_first(rt: HostRuntime) -> Result<(), Fai
 }
 
 // A printer whose device is full.
+#[derive(Drop)]
 struct FullPrinter;
 
 impl Print for FullPrinter {
