@@ -1,5 +1,4 @@
-//! What no clause says of the crates of the documents and of the devices: each public call on its
-//! happy
+//! What no clause says of the crates of the documents and of the devices: each public call on its happy
 //! path, and the limits and texts that were worked out by hand.
 //!
 //! A crate that has tests is proved twice, so the tests of several crates stand here. Those of the
