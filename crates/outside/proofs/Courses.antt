@@ -2,7 +2,6 @@
 use Rattle.std.proofs.Common.{◌≡◌, true, false, ◌∙◌, ap, subst, sym}
 use Rattle.outside.specs.Calls.{after_call, IsUnbroken, IsOrderly}
 use Rattle.outside.specs.declared.course.Course.{Course}
-use Rattle.outside.specs.declared.course.Course.TheVariants.{Unbroken, Broken, Overrun}
 
 -- a course on which no call failed
 pub unbroken_orderly : (course : Course) → IsUnbroken course → IsOrderly course

@@ -2,7 +2,7 @@
 -- counts, whether a file is open, and what is gathered. What a file holds and what became of
 -- standard output they do not tell.
 -- Source: this project's own.
-use Rattle.std.specs.Prelude.{ℕ, ◌^◌, Bool, true, false, List, [], ◌++◌, length, nat_lt}
+use Rattle.std.specs.Prelude.{ℕ, Bool, true, false, List, ◌++◌, length, nat_lt}
 use Rattle.std.specs.Prelude.{Option, None, if◌then◌else◌}
 use Rattle.outside.specs.Calls.{after_call}
 use Rattle.outside.specs.Causes.{next_count}
