@@ -1,18 +1,17 @@
 -- The scripts of several files, read one after another.
-use Rattle.std.proofs.Common.{◌≡◌, ◌≢◌, ℕ, ◌+◌, ◌≤◌, List, [], ◌∷◌, ◌++◌, Option, None, Some}
+use Rattle.std.proofs.Common.{◌≡◌, ℕ, ◌+◌, List, [], ◌∷◌, ◌++◌, Option, None, Some}
 use Rattle.std.proofs.Common.{length}
-use Rattle.std.proofs.Common.{Result, Ok, Err, refl, sym, ap, subst, ◌∙◌, arith}
+use Rattle.std.proofs.Common.{Result, Ok, Err, refl, sym, ap, subst, ◌∙◌}
 use Rattle.std.proofs.Common.{rules}
 use Rattle.std.proofs.lemmas.List.{append_assoc, append-nil}
-use Rattle.std.specs.Prelude.{IfSome, IsOk, IsErrAnd}
 use Rattle.doc_model.specs.declared.command.Command.{Command}
 use Rattle.docheap_cli.specs.Ending.{Explains, Logs}
 use Rattle.docheap_cli.specs.Fault.{status_of}
 use Rattle.docheap_cli.specs.Files.{AreTold, IfTold}
 use Rattle.docheap_cli.specs.Reading.{DecidesFile, DecidesFrom}
-use Rattle.docheap_cli.specs.Scripts.{in_front, with_first, script_in, scripts_from, scripts_of}
+use Rattle.docheap_cli.specs.Scripts.{in_front, with_first, scripts_from, scripts_of}
 use Rattle.docheap_cli.specs.Scripts.{IsScriptIn, AreScripts, AreScriptsFrom}
-use Rattle.docheap_cli.specs.Scripts.{IsDue, IsFaultyLine, IsLarge, IsUnhindered}
+use Rattle.docheap_cli.specs.Scripts.{IsDue}
 use Rattle.docheap_cli.specs.declared.fault.Fault.{Fault}
 use Rattle.docheap_cli.specs.declared.fault.Fault.TheVariants.{Usage, Script, Schedule}
 use Rattle.docheap_cli.specs.declared.fault.Fault.TheVariants.{ReadFault, WriteFault}

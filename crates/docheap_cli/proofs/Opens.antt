@@ -2,7 +2,6 @@
 use Rattle.std.proofs.Common.{◌≡◌, ℕ, suc, refl, sym, arith}
 use Rattle.outside.specs.Causes.{next_count}
 use Rattle.docheap_cli.specs.Ending.{OpensInTurn}
-use Rattle.docheap_cli.specs.Files.{opened}
 
 -- no file
 pub opens_none : (before : ℕ) → OpensInTurn before before 0

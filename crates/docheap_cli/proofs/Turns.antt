@@ -2,7 +2,7 @@
 -- of the names behind it.
 use Rattle.std.proofs.Common.{◌≡◌, ℕ, suc, ◌+◌, ◌-◌, ◌≤◌, List, [], ◌∷◌, ◌++◌, Option, length}
 use Rattle.std.proofs.Common.{map, take, drop}
-use Rattle.std.proofs.Common.{get_or, Result, Ok, Err, refl, sym, ap, subst, ◌∙◌, arith}
+use Rattle.std.proofs.Common.{get_or, Result, Ok, Err, ap, subst, ◌∙◌, arith}
 use Rattle.std.proofs.lemmas.List.{map-append, take_all}
 use Rattle.std.specs.Prelude.{Vec, String, string_bytes}
 use Rattle.std.specs.declared.alloc.Global.{Global}

@@ -1,7 +1,7 @@
 -- The clients' sessions as functions of their scripts: the entries of all commands, each answered
 -- by the store in turn.
 -- Source: this project's own.
-use Rattle.std.specs.Prelude.{◌≡◌, ℕ, List, [], ◌∷◌, Option, Result, Ok}
+use Rattle.std.specs.Prelude.{◌≡◌, ℕ, List, [], ◌∷◌, Option, Ok}
 use Rattle.doc_model.specs.ClientLog.{ClientLog}
 use Rattle.doc_model.specs.Store.{Store, opening, entries_of}
 use Rattle.doc_model.specs.declared.command.Command.{Command}
