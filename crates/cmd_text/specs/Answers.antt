@@ -1,4 +1,5 @@
 -- How the answers of this crate's calls stand to the definitions: equal, but for want of memory.
+-- Source: this project's own.
 use Rattle.std.specs.Prelude.{◌≡◌, ℕ, List, Result, Ok, Err, Vec}
 use Rattle.std.specs.declared.alloc.Global.{Global}
 use Rattle.doc_model.specs.declared.command.Command.{Command}
@@ -23,7 +24,8 @@ GivesAt number (Err (script.Fault fault)) reading =
 GivesAt number (Err script.NoMemory) reading = Unit {0}
 
 -- the answer is this script
-abbrev pub Reads : Result (Vec Command Global) ScriptError → Result (List Command) ScriptFault → Type 0
+abbrev pub Reads : Result (Vec Command Global) ScriptError → Result (List Command) ScriptFault
+    → Type 0
 Reads (Ok commands) script = script ≡ Ok commands.items
 Reads (Err (script.Fault fault)) script = script ≡ Err fault
 Reads (Err script.NoMemory) script = Unit {0}

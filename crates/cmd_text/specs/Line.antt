@@ -2,7 +2,9 @@
 --
 -- A line that does not count holds no command. In every other line the faults are looked for from
 -- the left to the right, after those of single bytes, and the first one counts.
-use Rattle.std.specs.Prelude.{ℕ, not, List, [], ◌∷◌, length, drop, nat_le, if◌then◌else◌, Option, Some, None, Result, Ok, Err, ok_or}
+-- Source: this project's own.
+use Rattle.std.specs.Prelude.{ℕ, not, List, [], ◌∷◌, length, drop, nat_le, if◌then◌else◌, Option}
+use Rattle.std.specs.Prelude.{Some, None, Result, Ok, Err, ok_or}
 use Rattle.std.specs.List.{list_all}
 use Rattle.std.specs.Str.Lines.{strip_carriage_return}
 use Rattle.line_words.specs.Cut.{word_of, rest_of, next_word_of, next_rest_of}
@@ -13,12 +15,14 @@ use Rattle.doc_model.specs.declared.command.Command.{Command}
 use Rattle.doc_model.specs.declared.command.Command.TheVariants as commands
 use Rattle.cmd_text.specs.Verb.{verb_of}
 use Rattle.cmd_text.specs.declared.fault.ScriptKind.{ScriptKind}
-use Rattle.cmd_text.specs.declared.fault.ScriptKind.TheVariants.{BadByte, NoCommand, BadNumber, BadPath, LongText, Extra}
+use Rattle.cmd_text.specs.declared.fault.ScriptKind.TheVariants.{BadByte, NoCommand, BadNumber}
+use Rattle.cmd_text.specs.declared.fault.ScriptKind.TheVariants.{BadPath, LongText, Extra}
 use Rattle.cmd_text.specs.declared.verb.Verb.{Verb}
 use Rattle.cmd_text.specs.declared.verb.Verb.TheVariants as verbs
 
 -- what the reading of a first part, where it has no fault, is followed by
-abbrev pub and_then : {A B : Type 0} → Result A ScriptKind → (A → Result B ScriptKind) → Result B ScriptKind
+abbrev pub and_then : {A B : Type 0} → Result A ScriptKind → (A → Result B ScriptKind)
+    → Result B ScriptKind
 and_then (Ok part) later = later part
 and_then (Err kind) later = Err kind
 
@@ -73,8 +77,10 @@ arguments_in verbs.Get rest = and_then (last_path_in rest) (λ path. Ok (command
 arguments_in verbs.List rest = and_then (last_path_in rest) (λ path. Ok (commands.List path))
 arguments_in verbs.Size rest = and_then (last_path_in rest) (λ path. Ok (commands.Size path))
 arguments_in verbs.Old rest = and_then (number_and_path_in rest) (λ p. Ok (commands.Old p.0 p.1))
-arguments_in verbs.DraftPut rest = and_then (path_and_text_in rest) (λ p. Ok (commands.DraftPut p.0 p.1))
-arguments_in verbs.DraftGet rest = and_then (last_path_in rest) (λ path. Ok (commands.DraftGet path))
+arguments_in verbs.DraftPut rest =
+    and_then (path_and_text_in rest) (λ p. Ok (commands.DraftPut p.0 p.1))
+arguments_in verbs.DraftGet rest =
+    and_then (last_path_in rest) (λ path. Ok (commands.DraftGet path))
 arguments_in verbs.Take rest = and_then (last_path_in rest) (λ path. Ok (commands.Take path))
 arguments_in verbs.Publish rest = and_then (last_path_in rest) (λ path. Ok (commands.Publish path))
 

@@ -1,7 +1,10 @@
 -- The lines that the program writes of a client's replies.
+-- Source: this project's own.
 use Rattle.std.specs.Prelude.{ℕ, List, ◌++◌, codes, decimal, flat_map}
 use Rattle.doc_model.specs.declared.command.Reply.{Reply}
-use Rattle.doc_model.specs.declared.command.Reply.TheVariants.{Committed, Drafted, Val, Names, Count, Absent, Gone, Before, Many, Deep, Big, Worn, Full}
+use Rattle.doc_model.specs.declared.command.Reply.TheVariants.{Committed, Drafted, Val, Names}
+use Rattle.doc_model.specs.declared.command.Reply.TheVariants.{Count, Absent, Gone, Before, Many}
+use Rattle.doc_model.specs.declared.command.Reply.TheVariants.{Deep, Big, Worn, Full}
 
 -- the line above a client's replies
 abbrev pub heading_of : ℕ → List ℕ

@@ -2,6 +2,7 @@
 --
 -- Each line ends with a line feed, which the last may lack. Lines are numbered from 1, those
 -- without a command too.
+-- Source: this project's own.
 use Rattle.std.specs.Prelude.{ℕ, ◌+◌, List, [], ◌∷◌, ◌==◌, Option, Some, None, Result, Ok, Err}
 use Rattle.std.specs.List.{slice_split}
 use Rattle.doc_model.specs.declared.command.Command.{Command}
@@ -10,13 +11,15 @@ use Rattle.cmd_text.specs.declared.fault.ScriptFault.{ScriptFault}
 use Rattle.cmd_text.specs.declared.fault.ScriptKind.{ScriptKind}
 
 -- a line's command comes before those of the lines after it
-abbrev pub before : Option Command → Result (List Command) ScriptFault → Result (List Command) ScriptFault
+abbrev pub before : Option Command → Result (List Command) ScriptFault
+    → Result (List Command) ScriptFault
 before None later = later
 before (Some command) (Ok commands) = Ok (command ∷ commands)
 before (Some command) (Err fault) = Err fault
 
 -- the reading of one line, and then that of those after it
-abbrev pub with_line : ℕ → Result (Option Command) ScriptKind → Result (List Command) ScriptFault → Result (List Command) ScriptFault
+abbrev pub with_line : ℕ → Result (Option Command) ScriptKind → Result (List Command) ScriptFault
+    → Result (List Command) ScriptFault
 with_line number (Ok command) later = before command later
 with_line number (Err kind) later = Err (record { line = number; kind = kind })
 

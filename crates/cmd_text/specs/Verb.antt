@@ -1,4 +1,5 @@
 -- The first word of a command.
+-- Source: this project's own.
 use Rattle.std.specs.Prelude.{ℕ, List, codes, bytes_eq, if◌then◌else◌, Option, Some, None}
 use Rattle.cmd_text.specs.declared.verb.Verb.{Verb}
 use Rattle.cmd_text.specs.declared.verb.Verb.TheVariants as verbs

@@ -1,6 +1,7 @@
 //! One line of a script.
 ghost use Rattle.cmd_text.specs.Answers.{Gives};
-ghost use Rattle.cmd_text.specs.Line.{arguments_in, command_of, last_path_in, number_in, path_and_text_in, path_in, reading_of, text_in};
+ghost use Rattle.cmd_text.specs.Line.{arguments_in, command_of, last_path_in, number_in};
+ghost use Rattle.cmd_text.specs.Line.{path_and_text_in, path_in, reading_of, text_in};
 ghost use Rattle.line_words.specs.Line.{is_plain_byte};
 ghost use Rattle.std.specs.List.{list_all};
 ghost use Rattle.std.specs.Prelude.{IsTrue};

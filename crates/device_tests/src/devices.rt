@@ -3,6 +3,8 @@ use outside::{
     read_file, write_all, write_lines,
 };
 use std::alloc::{AllocError, Global};
+use std::fmt::Display;
+use std::io::{Error, ErrorKind};
 use std::test::Fail;
 
 type Files = Vec<(String, Vec<u8>)>;
@@ -102,6 +104,49 @@ fn real_files_are_read(rt: HostRuntime) -> Result<(), Fail> {
         let read = read_file(rt.alloc(), &mut shelf, name);
         assert!(rt; matches!(&read, Err(OutFault::Failed)), "{name}");
     }
+    Ok(())
+}
+
+#[test]
+fn a_second_open_takes_the_place_of_the_first(rt: HostRuntime) -> Result<(), Fail> {
+    let mut shelf = FileShelf::new(&rt);
+    shelf.open("/dev/null")?;
+    shelf.open("/dev/zero")?;
+    let mut buffer = [1; 4];
+    assert_eq!(rt; shelf.read(&mut buffer)?, 4);
+    assert_eq!(rt; shelf.open("/no such file"), Err(OutFault::Failed));
+    Ok(())
+}
+
+// A printer whose device is full.
+#[derive(Drop)]
+struct FullPrinter;
+
+impl Print for FullPrinter {
+    fn print<D: Display + Drop>(&self, _value: D) -> Result<(), Error> {
+        Err(Error::from(ErrorKind::StorageFull))
+    }
+
+    fn println<D: Display + Drop>(&self, _value: D) -> Result<(), Error> {
+        Err(Error::from(ErrorKind::StorageFull))
+    }
+
+    fn write_all(&self, _bytes: &[u8]) -> Result<(), Error> {
+        Err(Error::from(ErrorKind::StorageFull))
+    }
+}
+
+// A full device shows itself when what is gathered is written out, and not before.
+#[test]
+fn a_full_device_fails_the_write_that_meets_it(rt: HostRuntime) -> Result<(), Fail> {
+    let printer = FullPrinter;
+    let mut sink = StdSink::new(rt.alloc(), &printer);
+    assert_eq!(rt; sink.finish(), Err(OutFault::Failed));
+    let piece = vec![in rt.alloc(); b'#'; 65_536]?;
+    assert_eq!(rt; sink.write(&piece), Ok(65_536));
+    assert_eq!(rt; sink.write(b"more"), Err(OutFault::Failed));
+    assert_eq!(rt; sink.write(b"more"), Ok(4));
+    assert_eq!(rt; sink.finish(), Err(OutFault::Failed));
     Ok(())
 }
 

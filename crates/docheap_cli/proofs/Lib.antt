@@ -1,1 +1,4 @@
 mod Sessions
+mod Files
+mod Opens
+mod Turns

@@ -1,12 +1,15 @@
 -- The status of each fault, and the text that is printed of it.
 -- Source: this project's own.
-use Rattle.std.specs.Prelude.{ℕ, List, ◌++◌, Option, None, Some, codes, decimal, ◌==◌, if◌then◌else◌}
+use Rattle.std.specs.Prelude.{ℕ, List, ◌++◌, Option, None, Some, codes, decimal, Bool, true, false}
+use Rattle.std.specs.Prelude.{◌==◌, if◌then◌else◌}
 use Rattle.cmd_text.specs.declared.fault.ScriptKind.{ScriptKind}
-use Rattle.cmd_text.specs.declared.fault.ScriptKind.TheVariants.{BadByte, NoCommand, BadNumber, BadPath, LongText, Extra}
+use Rattle.cmd_text.specs.declared.fault.ScriptKind.TheVariants.{BadByte, NoCommand, BadNumber}
+use Rattle.cmd_text.specs.declared.fault.ScriptKind.TheVariants.{BadPath, LongText, Extra}
 use Rattle.core_replay.specs.declared.fault.ScheduleKind.{ScheduleKind}
 use Rattle.core_replay.specs.declared.fault.ScheduleKind.TheVariants as schedule
 use Rattle.docheap_cli.specs.declared.fault.Fault.{Fault}
-use Rattle.docheap_cli.specs.declared.fault.Fault.TheVariants.{Usage, Script, Schedule, ReadFault, WriteFault, Memory, TooLarge}
+use Rattle.docheap_cli.specs.declared.fault.Fault.TheVariants.{Usage, Script, Schedule, ReadFault}
+use Rattle.docheap_cli.specs.declared.fault.Fault.TheVariants.{WriteFault, Memory, TooLarge}
 
 -- the status of a run
 abbrev pub status_of : Option Fault → ℕ
@@ -28,7 +31,7 @@ kind_text_of BadPath = codes "BadPath"
 kind_text_of LongText = codes "LongText"
 kind_text_of Extra = codes "Extra"
 
--- .. of a schedule
+-- the same for a line of a schedule
 abbrev pub schedule_kind_text_of : ScheduleKind → List ℕ
 schedule_kind_text_of schedule.BadByte = codes "BadByte"
 schedule_kind_text_of schedule.NoStart = codes "NoStart"
@@ -54,3 +57,9 @@ fault_text_of WriteFault = codes "docheap: write fault"
 fault_text_of Memory = codes "docheap: out of memory"
 fault_text_of (TooLarge file) =
     if file == 0 then codes "docheap: too large" else file_text_of file (codes "too large")
+
+-- the fault that the program ends with, by that of its run and by whether all was written out
+abbrev pub final_fault_of : Option Fault → Bool → Option Fault
+final_fault_of (Some fault) finished = Some fault
+final_fault_of None true = None
+final_fault_of None false = Some WriteFault

@@ -1,6 +1,8 @@
 pub mod Request
 pub mod Fault
+pub mod Files
 pub mod Output
+pub mod Scripts
 pub mod Session
 pub mod Reading
 pub mod Replayed

@@ -2,15 +2,17 @@
 --
 -- A file is looked at for its size first, then for its grammar.
 -- Source: this project's own.
-use Rattle.std.specs.Prelude.{◌≡◌, ℕ, ◌≤◌, List, length, Option, IfSome, Result, Ok, Err, IsErr, IsOk, Vec}
+use Rattle.std.specs.Prelude.{◌≡◌, ℕ, ◌≤◌, List, length, Option, IfSome, Result, Ok, Err, IsErr}
+use Rattle.std.specs.Prelude.{IsOk, Vec}
 use Rattle.std.specs.declared.alloc.Global.{Global}
 use Rattle.core_replay.specs.Replay.{IsReplayText}
 use Rattle.core_replay.specs.Schedule.{schedule_of}
 use Rattle.core_replay.specs.ScheduleValue.{ScheduleValue}
 use Rattle.core_replay.specs.declared.fault.ScheduleFault.{ScheduleFault}
-use Rattle.docheap_cli.specs.Session.{largest_file, within_size}
+use Rattle.docheap_cli.specs.Scripts.{largest_file, within_size}
 use Rattle.docheap_cli.specs.declared.fault.Fault.{Fault}
-use Rattle.docheap_cli.specs.declared.fault.Fault.TheVariants.{Usage, Script, Schedule, ReadFault, WriteFault, Memory, TooLarge}
+use Rattle.docheap_cli.specs.declared.fault.Fault.TheVariants.{Usage, Script, Schedule, ReadFault}
+use Rattle.docheap_cli.specs.declared.fault.Fault.TheVariants.{WriteFault, Memory, TooLarge}
 
 -- what the reading of a schedule gives
 abbrev pub after_schedule : Result ScheduleValue ScheduleFault → Result ScheduleValue Fault
@@ -19,15 +21,17 @@ after_schedule (Err fault) = Err (Schedule fault.line fault.kind)
 
 -- what the bytes of a schedule give
 abbrev pub steps_of : List ℕ → Result ScheduleValue Fault
-steps_of bytes = within_size (λ schedule. after_schedule (schedule_of schedule)) bytes
+steps_of bytes = within_size 1 (λ schedule. after_schedule (schedule_of schedule)) bytes
 
 -- the steps of some bytes, which are all that the file holds where that is told
 abbrev pub IsReading : Option (List ℕ) → Result ScheduleValue Fault → Type 0
-IsReading told outcome = (bytes : List ℕ) × IfSome told (λ all. bytes ≡ all) × (steps_of bytes ≡ outcome)
+IsReading told outcome =
+    (bytes : List ℕ) × IfSome told (λ all. bytes ≡ all) × (steps_of bytes ≡ outcome)
 
 -- the replay text of the schedule that the file holds
 abbrev pub IsTextOf : Option (List ℕ) → List ℕ → Type 0
-IsTextOf told text = (schedule : ScheduleValue) × IsReading told (Ok schedule) × IsReplayText schedule text
+IsTextOf told text =
+    (schedule : ScheduleValue) × IsReading told (Ok schedule) × IsReplayText schedule text
 
 -- a file within its size that is no schedule
 abbrev pub IsFaultySchedule : List ℕ → Type 0
@@ -39,7 +43,8 @@ IsSchedule bytes = (length bytes ≤ largest_file) × IsOk (schedule_of bytes)
 
 -- the answer is the replay text of these steps, or memory was wanting
 abbrev pub Replays : Result (Vec ℕ Global) Fault → Result ScheduleValue Fault → Type 0
-Replays (Ok text) steps = (schedule : ScheduleValue) × (steps ≡ Ok schedule) × IsReplayText schedule text.items
+Replays (Ok text) steps =
+    (schedule : ScheduleValue) × (steps ≡ Ok schedule) × IsReplayText schedule text.items
 Replays (Err Usage) steps = ⊥
 Replays (Err (Script file line kind)) steps = ⊥
 Replays (Err (Schedule line kind)) steps = steps ≡ Err (Schedule line kind)

@@ -1,47 +1,64 @@
-ghost use Rattle.std.specs.Prelude.{◌≡◌, IfOk, string_bytes};
-ghost use Rattle.docheap_cli.specs.Fault.{fault_text_of, file_text_of, kind_text_of, line_text_of, schedule_kind_text_of, status_of};
+ghost use Rattle.std.specs.Prelude.{◌≡◌, IfOk, is_ok, string_bytes};
+ghost use Rattle.docheap_cli.specs.Fault.{fault_text_of, file_text_of, final_fault_of};
+ghost use Rattle.docheap_cli.specs.Fault.{kind_text_of, line_text_of, schedule_kind_text_of};
+ghost use Rattle.docheap_cli.specs.Fault.{status_of};
 
 use cmd_text::ScriptKind;
 use core_replay::ScheduleKind;
 use doc_model::NoMemory;
+use outside::OutFault;
 use std::alloc::Global;
+use std::fmt::{self, Display, Formatter, Write};
 use thiserror::Error;
 
-/// Why a run ended early. Files are numbered from 1.
+/// Why a run ended early. Files are numbered from 1. It shows itself as `fault_text` says.
 #[derive(Clone, Copy, Debug, PartialEq, Eq, Error)]
 pub enum Fault {
     /// The words are no command line of the program.
-    #[error("usage")]
+    #[error("docheap: usage")]
     Usage,
     /// A file is no script.
-    #[error("file {file}: line {line}: {kind:?}")]
+    #[error("docheap: file {file}: line {line}: {kind:?}")]
     Script {
         file: u32,
         line: u32,
         kind: ScriptKind,
     },
     /// A file is no schedule. It is the only one.
-    #[error("file 1: line {line}: {kind:?}")]
+    #[error("docheap: file 1: line {line}: {kind:?}")]
     Schedule {
         line: u32,
         kind: ScheduleKind,
     },
     /// A file could not be opened or read.
-    #[error("file {file}: read fault")]
+    #[error("docheap: file {file}: read fault")]
     ReadFault {
         file: u32,
     },
     /// The output could not be written.
-    #[error("write fault")]
+    #[error("docheap: write fault")]
     WriteFault,
     /// Memory was wanting.
-    #[error("out of memory")]
+    #[error("docheap: out of memory")]
     Memory,
     /// A file has too many bytes, or for file 0 the files have too many commands.
-    #[error("file {file}: too large")]
+    #[error("docheap: {place}too large", place = FilePlace(*.file))]
     TooLarge {
         file: u32,
     },
+}
+
+// A file's number in front of what is said of it, or nothing for file 0.
+#[derive(Drop)]
+struct FilePlace(u32);
+
+impl Display for FilePlace {
+    fn fmt<W: Write>(&self, f: &mut Formatter<W>) -> fmt::Result {
+        match self.0 {
+            0 => Ok(()),
+            file => write!(f, "file {file}: "),
+        }
+    }
 }
 
 /// The line that the program prints of a fault, without its line feed.
@@ -121,5 +138,16 @@ pub fn status(fault: Option<Fault>) -> u8
         Some(Fault::WriteFault) => 4,
         Some(Fault::Memory) => 5,
         Some(Fault::TooLarge { .. }) => 6,
+    }
+}
+
+/// The fault that the program ends with: that of the run, and else that of writing out at its end
+/// what was gathered.
+pub fn final_fault(of_run: Option<Fault>, finished: Result<(), OutFault>) -> Option<Fault>
+    ensures { result ≡ final_fault_of of_run (is_ok finished) }
+{
+    match (of_run, finished) {
+        (None, Err(_)) => Some(Fault::WriteFault),
+        (fault, _) => fault,
     }
 }

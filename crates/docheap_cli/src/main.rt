@@ -1,4 +1,4 @@
-//! The program `docheap`: a versioned store of documents answers the commands of a script, or a
+//! The program `docheap`: a versioned store of documents answers the commands of scripts, or a
 //! schedule of the collector is replayed.
 //!
 //! `run` is the whole program as one proved call over a shelf, which files come from, and a sink,
@@ -6,22 +6,22 @@
 //! status. What a file holds, and what became of standard output, no contract says: that is the
 //! trusted edge.
 //!
-//! Reading order: `request`, `words`, `fault`, `session`, `output`, `replayed`, `run`.
+//! Reading order: `request`, `words`, `fault`, `scripts`, `session`, `output`, `replayed`, `run`.
 #![tactic(auto)]
 
-mod answers;
 mod fault;
 mod outcome;
 mod output;
 mod replayed;
 mod request;
 mod run;
+mod scripts;
 mod session;
 #[cfg(test)]
 mod tests;
 mod words;
 
-pub use fault::{Fault, fault_text, status};
+pub use fault::{Fault, fault_text, final_fault, status};
 pub use outcome::Outcome;
 use outside::{FileShelf, StdSink};
 pub use request::Request;
@@ -48,10 +48,7 @@ fn run_on_devices(rt: &HostRuntime) -> Option<Fault> {
     let mut shelf = FileShelf::new(rt);
     let mut sink = StdSink::new(rt.alloc(), rt);
     let outcome = run(rt.alloc(), &words, &mut shelf, &mut sink);
-    match (sink.finish(), outcome.fault) {
-        (Err(_), None) => Some(Fault::WriteFault),
-        (_, fault) => fault,
-    }
+    final_fault(outcome.fault, sink.finish())
 }
 
 // The words behind the program's name. One that is no text is a faulty command line.

@@ -3,14 +3,18 @@
 //! The refusals of a file are looked for in the order of its reading: it could not be read, it is
 //! too long, it is no schedule.
 ghost use Rattle.std.specs.Prelude.{◌≡◌, ℕ, ◌+◌, ◌≤◌, IsErrOf};
+ghost use Rattle.outside.specs.Calls.{IsUnbroken, IsOrderly};
 ghost use Rattle.outside.specs.Causes.{Rose, next_count};
 ghost use Rattle.docheap_cli.specs.Replayed.{Replays, ReplaysFile, steps_of};
 
 use crate::fault::Fault;
-use crate::session::{FILE, LARGEST_FILE};
+use crate::scripts::LARGEST_FILE;
 use core_replay::{ScheduleError, ScheduleFault, read_schedule, replay};
 use outside::{OutFault, READ_LIMIT, Shelf, read_file};
 use std::alloc::Global;
+
+// The only file of a replay.
+const FILE: u32 = 1;
 
 /// The replay text of the schedule in the file of this name.
 #[tactic(auto, using(crate::proofs::Sessions::replayed_file))]
@@ -20,6 +24,7 @@ pub fn replay_in_file<H: Shelf>(alloc: Global, name: &str, shelf: &mut H) -> Res
         Rose (H.faults shelf.old) (H.faults shelf.new) }
     ensures opens { H.opens shelf.new ≡ next_count (H.opens shelf.old) }
     ensures calls { H.calls shelf.new ≤ H.calls shelf.old + READ_LIMIT + 1 }
+    ensures orderly { IsUnbroken (H.course shelf.old) → IsOrderly (H.course shelf.new) }
     ensures faults { H.faults shelf.old ≤ H.faults shelf.new }
 {
     match read_file(alloc, shelf, name) {

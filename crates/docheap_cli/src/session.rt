@@ -1,79 +1,79 @@
-//! One client's session, from the bytes of its file to its log.
-//!
-//! The refusals of a file are looked for in the order of its reading: it could not be read, it is
-//! too long, it is no script, it has too many commands.
-ghost use Rattle.std.specs.Prelude.{◌≡◌, ℕ, ◌+◌, ◌≤◌, length, Some, IfErr, IfOk, IsErrOf};
-ghost use Rattle.outside.specs.Causes.{Rose, next_count};
-ghost use Rattle.docheap_cli.specs.Session.{session_of, answers_of};
-ghost use Rattle.docheap_cli.specs.Reading.{Decides, DecidesFile};
+//! The clients' sessions, from the files that hold their scripts to their logs.
+ghost use Rattle.std.specs.Prelude.{◌≡◌, ℕ, ◌+◌, ◌*◌, ◌≤◌, IfOk, IsErrOf, All, length, map};
+ghost use Rattle.std.specs.Prelude.{string_bytes};
+ghost use Rattle.outside.specs.Calls.{IsUnbroken, IsOrderly};
+ghost use Rattle.outside.specs.Causes.{Rose};
+ghost use Rattle.docheap_cli.specs.Ending.{OpensInTurn};
+ghost use Rattle.docheap_cli.specs.Files.{opened};
+ghost use Rattle.docheap_cli.specs.Reading.{DecidesLogs, lists_of};
+ghost use Rattle.docheap_cli.specs.Session.{AreLogsOf, IsLogOf};
 
-use crate::answers::answer_all;
 use crate::fault::Fault;
-use cmd_text::{ScriptError, ScriptFault, read_script};
-use doc_model::{Command, Log};
-use outside::{OutFault, READ_LIMIT, Shelf, read_file};
+use crate::scripts::scripts_in_files;
+use doc_model::{Command, Log, NoMemory, PlainStore};
+use outside::{READ_LIMIT, Shelf};
 use std::alloc::Global;
 
-// The only file of a run.
-pub(crate) const FILE: u32 = 1;
+// The client of the only script.
+const CLIENT: u32 = 1;
 
-// How many bytes a file has at most.
-pub(crate) const LARGEST_FILE: usize = 1_048_576;
+// How many of the latest versions can be asked for.
+const KEEP: u32 = 8;
 
-// How many commands all scripts have at most.
-const MOST_COMMANDS: usize = 100_000;
+// How many versions can be made.
+const VERSIONS: u32 = 1_000_000;
 
-/// The log of the commands of the script in the file of this name.
-#[tactic(auto, using(crate::proofs::Sessions::decided_file))]
-pub fn session_in_file<H: Shelf>(alloc: Global, name: &str, shelf: &mut H) -> Result<Log, Fault>
-    ensures session { DecidesFile result (H.holds shelf.old name.now) }
+/// The logs of the clients whose scripts these files hold.
+pub fn logs_in_files<H: Shelf>(
+    alloc: Global,
+    names: &[String],
+    shelf: &mut H,
+) -> Result<Vec<Log>, Fault>
+    requires one { length names.now ≡ 1 }
+    ensures logs { DecidesLogs (map (H.holds shelf.old) (map string_bytes names.now)) result }
     ensures read { (file : ℕ) → IsErrOf result (Fault.ReadFault file) →
         Rose (H.faults shelf.old) (H.faults shelf.new) }
-    ensures opens { H.opens shelf.new ≡ next_count (H.opens shelf.old) }
-    ensures calls { H.calls shelf.new ≤ H.calls shelf.old + READ_LIMIT + 1 }
-    ensures faults { H.faults shelf.old ≤ H.faults shelf.new }
+    ensures read_file { (file : ℕ) → IsErrOf result (Fault.ReadFault file) →
+        H.opens shelf.new ≡ opened (H.opens shelf.old) file }
+    ensures opens { OpensInTurn (H.opens shelf.old) (H.opens shelf.new) (length names.now) }
+    ensures calls { H.calls shelf.new
+        ≤ H.calls shelf.old + length names.now * (READ_LIMIT + 1) }
+    ensures orderly { IsUnbroken (H.course shelf.old) → IsOrderly (H.course shelf.new) }
 {
-    match read_file(alloc, shelf, name) {
-        Ok(bytes) => session(alloc, &bytes),
-        Err(OutFault::Failed) => Err(Fault::ReadFault { file: FILE }),
-        Err(OutFault::NoMemory) => Err(Fault::Memory),
+    match scripts_in_files(alloc, names, shelf) {
+        Ok(scripts) => match answer_all(alloc, scripts) {
+            Ok(logs) => Ok(logs),
+            Err(_) => Err(Fault::Memory),
+        },
+        Err(fault) => Err(fault),
     }
 }
 
-// The log of the commands of a script.
-fn session(alloc: Global, bytes: &[u8]) -> Result<Log, Fault>
-    ensures session { Decides result (session_of bytes.now) }
+// The log of each client, whose commands a new store answers. There is one client yet.
+fn answer_all(alloc: Global, scripts: Vec<Vec<Command>>) -> Result<Vec<Log>, NoMemory>
+    requires one { length scripts.items ≡ 1 }
+    requires few { All (λ script. length script.items ≤ 100_000) scripts.items }
+    ensures logs { IfOk result (λ logs. AreLogsOf (lists_of scripts.items) logs.items) }
 {
-    if bytes.len() > LARGEST_FILE {
-        return Err(Fault::TooLarge { file: FILE });
+    let mut left = scripts;
+    let mut logs = Vec::new(alloc);
+    if let Some(script) = left.pop() {
+        logs.push(answer_script(alloc, script)?)?;
     }
-    match read_script(alloc, bytes) {
-        Ok(commands) => answers(alloc, commands),
-        Err(ScriptError::Fault(fault)) => Err(fault_in(fault)),
-        Err(ScriptError::NoMemory) => Err(Fault::Memory),
-    }
+    Ok(logs)
 }
 
-fn fault_in(fault: ScriptFault) -> Fault
-    ensures { result ≡ Fault.Script FILE fault.line fault.kind }
+// The log of one client's commands, each answered by a new store in turn. A command is dropped
+// when it is answered, so that its entry takes the room.
+fn answer_script(alloc: Global, commands: Vec<Command>) -> Result<Log, NoMemory>
+    requires { length commands.items ≤ 100_000 }
+    ensures log { IfOk result (λ log. IsLogOf commands.items log) }
 {
-    let ScriptFault { line, kind } = fault;
-    Fault::Script {
-        file: FILE,
-        line,
-        kind,
+    let mut store = PlainStore::new(alloc, CLIENT, KEEP, VERSIONS)?;
+    let mut log = Log::new(alloc, CLIENT);
+    log.reserve(commands.len())?;
+    for command in commands {
+        log.push(store.answer_owned(alloc, CLIENT, command)?);
     }
-}
-
-// The log of these commands.
-fn answers(alloc: Global, commands: Vec<Command>) -> Result<Log, Fault>
-    ensures session { Decides result (answers_of commands.items) }
-{
-    if commands.len() > MOST_COMMANDS {
-        return Err(Fault::TooLarge { file: 0 });
-    }
-    match answer_all(alloc, commands) {
-        Ok(log) => Ok(log),
-        Err(_) => Err(Fault::Memory),
-    }
+    Ok(log)
 }

@@ -25,7 +25,7 @@ fn outcome_of(alloc: Global, bytes: &[u8]) -> Result<(Outcome, SureSink), NoMemo
     outcome_by(alloc, "run", bytes)
 }
 
-// .. another subcommand.
+// What another subcommand makes of it.
 fn outcome_by(alloc: Global, word: &str, bytes: &[u8]) -> Result<(Outcome, SureSink), NoMemory> {
     let mut shelf = SureShelf::new(files(alloc, bytes)?);
     let mut sink = SureSink::new(alloc);
@@ -49,7 +49,7 @@ fn a_script_is_answered(rt: HostRuntime) -> Result<(), Fail> {
         let (outcome, sink) = outcome_of(rt.alloc(), script)?;
         assert_eq!(rt; outcome.status, 0, "{output}");
         assert_eq!(rt; outcome.fault, None, "{output}");
-        assert!(rt; outcome.log.is_some(), "{output}");
+        assert!(rt; outcome.logs.is_some(), "{output}");
         assert_eq!(rt; sink.written(), output.as_bytes(), "{output}");
     }
     Ok(())
@@ -83,7 +83,7 @@ fn a_schedule_is_replayed_or_refused(rt: HostRuntime) -> Result<(), Fail> {
     let bytes = b"core 2 1 1\nshow 0\npost clear\nplain\n";
     let (outcome, sink) = outcome_by(rt.alloc(), "replay", bytes)?;
     assert_eq!(rt; outcome.status, 0);
-    assert!(rt; outcome.log.is_none());
+    assert!(rt; outcome.logs.is_none());
     let text = "cell 0 white - - - - - =2 freed 0\nnot now 3\ndone 0\nfree 1\n";
     assert_eq!(rt; sink.written(), text.as_bytes());
     let table: [(&[u8], &str); 3] = [
@@ -138,7 +138,7 @@ fn a_failing_device_ends_the_run(rt: HostRuntime) -> Result<(), Fail> {
     let outcome = run(rt.alloc(), &run_f, &mut shelf, &mut sink);
     assert_eq!(rt; outcome.status, 4);
     assert_eq!(rt; outcome.fault, Some(Fault::WriteFault));
-    assert!(rt; outcome.log.is_some());
+    assert!(rt; outcome.logs.is_some());
     assert_eq!(rt; sink.calls(), 2);
     assert_eq!(rt; sink.written(), b"client 1\n".as_slice());
     Ok(())
@@ -176,6 +176,7 @@ fn each_fault_has_its_text(rt: HostRuntime) -> Result<(), Fail> {
     ];
     for (fault, text) in table {
         assert_eq!(rt; fault_text(rt.alloc(), &fault)?.as_slice(), text.as_bytes());
+        assert_eq!(rt; format!(in rt.alloc(); "{fault}")?.as_str(), text);
     }
     Ok(())
 }

@@ -1,5 +1,5 @@
 ghost use Rattle.std.specs.Prelude.{◌≡◌, [], ◌∷◌, ◌++◌, OnOk, OnErr};
-ghost use Rattle.docheap_cli.specs.Request.{request_of, asked_by};
+ghost use Rattle.docheap_cli.specs.Request.{AsksForOne, asked_by, request_of};
 
 use crate::request::Request;
 use doc_model::NoMemory;
@@ -41,12 +41,13 @@ impl Words {
 
     /// What the words ask for, or nothing where they are none of the program's command lines.
     pub fn request(&self) -> Option<Request<'_>>
-        ensures { asked_by result ≡ request_of self.now }
+        ensures asked { asked_by result ≡ request_of self.now }
+        ensures one { AsksForOne result }
     {
         match self.words.as_slice() {
-            [word, name] if word.as_str() == "run" => Some(Request::Run {
-                name: name.as_str(),
-            }),
+            [word, names @ ..] if word.as_str() == "run" && names.len() == 1 => {
+                Some(Request::Run { names })
+            }
             [word, name] if word.as_str() == "replay" => Some(Request::Replay {
                 name: name.as_str(),
             }),

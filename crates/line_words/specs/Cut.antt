@@ -2,6 +2,7 @@
 --
 -- One space ends a word. What is left of a line after a word begins with that space, or is empty
 -- where the line ended with the word.
+-- Source: this project's own.
 use Rattle.std.specs.Prelude.{ℕ, Bool, List, take, drop, ◌==◌}
 use Rattle.std.specs.List.{position_or_len}
 

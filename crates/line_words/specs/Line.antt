@@ -1,5 +1,6 @@
 -- A line before its words are looked at. A carriage return at its end is no part of it, and an
 -- empty line, or one that begins with `#`, does not count.
+-- Source: this project's own.
 use Rattle.std.specs.Prelude.{ℕ, Bool, false, not, ◌&&◌, List, [], ◌∷◌, nat_le, ◌==◌}
 
 -- the space to the tilde

@@ -5,7 +5,8 @@ ghost use Rattle.std.specs.List.{list_all};
 ghost use Rattle.std.specs.Prelude.{IfSome, IsTrue, length, ◌≡◌, ◌≤◌, ◌<◌, ◌^◌};
 ghost use Rattle.std.specs.Str.Parse.{digits_value};
 
-/// The number that a word of 1 to `most` digits is, which may begin with zeros. No other word is one.
+/// The number that a word of 1 to `most` digits is, which may begin with zeros. No other word is
+/// one.
 pub fn read_digits(word: &[u8], most: usize) -> Option<u64>
     requires { most ≤ 19 }
     ensures number { result ≡ digits_of most word.now }

@@ -1,5 +1,6 @@
 -- What several calls of a loop wrote, one after another, is what they wrote together.
-use Rattle.std.proofs.Common.{◌≡◌, ℕ, ◌+◌, ◌<◌, List, ◌++◌, Option, length, take, drop, subst, sym, ap, arith, length-append, ◌∙◌, Some, None}
+use Rattle.std.proofs.Common.{◌≡◌, ℕ, ◌+◌, ◌<◌, List, ◌++◌, Option, length, take, drop, subst, sym}
+use Rattle.std.proofs.Common.{ap, arith, length-append, ◌∙◌, Some, None}
 use Rattle.std.proofs.Math.Seq.{take-add, take-append-add}
 use Rattle.std.specs.Prelude.{position}
 use Rattle.std.proofs.lemmas.List.{append_assoc, append-nil, take-append-drop, take-append-le}
@@ -8,9 +9,12 @@ use Rattle.std.specs.Io.KnownBytes.{Appends}
 use Rattle.outside.specs.Pieces.{AppendsPart, cut_behind, first_line, is_line_feed}
 
 -- a front of the bytes was written, and then a front of the rest
-pub appended_more : (a b c : Option (List ℕ)) (bytes : List ℕ) (k n : ℕ) → Appends a b (take k bytes) → Appends b c (take n (drop k bytes)) → Appends a c (take (k + n) bytes)
+pub appended_more : (a b c : Option (List ℕ)) (bytes : List ℕ) (k n : ℕ)
+    → Appends a b (take k bytes) → Appends b c (take n (drop k bytes))
+    → Appends a c (take (k + n) bytes)
 appended_more a b c bytes k n first second =
-    subst (λ front. Appends a c front) (sym (take-add k n bytes)) (Appends-trans a b c _ _ first second)
+    subst (λ front. Appends a c front) (sym (take-add k n bytes))
+    (Appends-trans a b c _ _ first second)
 
 -- of a text that is written line by line, all that stands before the rest was written
 pub record IsWritten (a b : Option (List ℕ)) (text rest : List ℕ) : Type 0 where
@@ -19,7 +23,8 @@ pub record IsWritten (a b : Option (List ℕ)) (text rest : List ℕ) : Type 0 w
   pub written : Appends a b done
 
 -- the next line was written
-pub appended_next : (a b c : Option (List ℕ)) (text rest line left : List ℕ) → IsWritten a b text rest → rest ≡ line ++ left
+pub appended_next : (a b c : Option (List ℕ)) (text rest line left : List ℕ)
+    → IsWritten a b text rest → rest ≡ line ++ left
     → Appends b c line → IsWritten a c text left
 appended_next a b c text rest line left before is now =
     record {
@@ -29,7 +34,8 @@ appended_next a b c text rest line left before is now =
     }
 
 -- a part of the next line was written, and with what stands before it a part of the text
-pub part_of_text : (a b c : Option (List ℕ)) (text rest line left : List ℕ) → IsWritten a b text rest → rest ≡ line ++ left
+pub part_of_text : (a b c : Option (List ℕ)) (text rest line left : List ℕ)
+    → IsWritten a b text rest → rest ≡ line ++ left
     → AppendsPart b c line → AppendsPart a c text
 part_of_text a b c text rest line left before is part =
     let done : List ℕ = before.done in

@@ -1,4 +1,5 @@
 pub mod Causes
+pub mod Calls
 pub mod Pieces
 pub mod Named
 pub mod Memory

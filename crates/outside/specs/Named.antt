@@ -1,6 +1,7 @@
 -- Files that stand by name in memory, and the place up to which one of them was read.
 -- Source: this project's own.
-use Rattle.std.specs.Prelude.{ℕ, List, [], Option, drop, map, find, option_map, bytes_eq, slice_index_or, string_bytes, String, Vec}
+use Rattle.std.specs.Prelude.{ℕ, List, [], Option, drop, map, find, option_map, bytes_eq}
+use Rattle.std.specs.Prelude.{slice_index_or, string_bytes, String, Vec}
 use Rattle.std.specs.declared.alloc.Global.{Global}
 use Rattle.outside.specs.declared.named_files.Place.{Place}
 

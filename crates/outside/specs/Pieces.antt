@@ -3,7 +3,8 @@
 -- The bytes that a name holds, that are left of an open file or that a sink has taken are `None`
 -- where the object does not tell them: then nothing is claimed of them.
 -- Source: this project's own.
-use Rattle.std.specs.Prelude.{◌≡◌, ℕ, ◌+◌, ◌<◌, ◌≤◌, ◌==◌, Bool, List, [], ◌++◌, length, take, drop, position, Option, None, Some, Result, IfOk, ⊤}
+use Rattle.std.specs.Prelude.{◌≡◌, ℕ, ◌+◌, ◌<◌, ◌≤◌, ◌==◌, Bool, List, [], ◌++◌, length, take, drop}
+use Rattle.std.specs.Prelude.{position, Option, None, Some, Result, IfOk, ⊤}
 use Rattle.std.specs.Io.KnownBytes.{Appends, Consumes}
 
 -- a call took at most the whole piece, and at least a byte of a piece that is not empty

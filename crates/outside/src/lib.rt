@@ -9,6 +9,7 @@
 //! Reading order: `fault`, `reading`, `writing`, then the objects.
 #![tactic(auto)]
 
+mod course;
 mod fault;
 mod file_shelf;
 mod mem_shelf;
@@ -20,6 +21,7 @@ mod sure_shelf;
 mod sure_sink;
 mod writing;
 
+pub use course::Course;
 pub use fault::OutFault;
 pub use file_shelf::FileShelf;
 pub use mem_shelf::MemShelf;

@@ -1,10 +1,15 @@
-ghost use Rattle.std.specs.Prelude.{◌≡◌, ℕ, ◌+◌, ◌<◌, ◌≤◌, ◌⊎◌, ◌↔◌, None, length, Contains, IsErr, IfErr, IfOk, OnOk, OnErr, IsErrOf, IsSome, IsNone};
+ghost use Rattle.std.specs.Prelude.{◌≡◌, ℕ, ◌+◌, ◌<◌, ◌≤◌, ◌⊎◌, ◌↔◌, None, length, Contains, IsErr};
+ghost use Rattle.std.specs.Prelude.{IfErr, IfOk, IfSome, OnOk, OnErr, is_ok, IsErrOf, IsSome};
+ghost use Rattle.std.specs.Prelude.{IsNone, min};
 ghost use Rattle.std.specs.Io.{ReadsAtMost};
 ghost use Rattle.std.specs.Io.KnownBytes.{ReadConsumes, Consumes};
+ghost use Rattle.outside.specs.Calls.{after_call, IsUnbroken};
 ghost use Rattle.outside.specs.Causes.{Rose, next_count};
 ghost use Rattle.outside.specs.Named.{files_of, content_named};
-ghost use Rattle.outside.specs.Memory.{after_open, after_failed_open, after_read, after_failed_read};
+ghost use Rattle.outside.specs.Memory.{after_open, after_failed_open, after_read};
+ghost use Rattle.outside.specs.Memory.{after_failed_read};
 
+use crate::course::Course;
 use crate::fault::OutFault;
 use crate::named_files::{Place, index_of, read_at};
 use crate::reading::Shelf;
@@ -21,6 +26,7 @@ pub struct MemShelf {
     calls: u64,
     opens: u64,
     faults: u64,
+    course: Course,
 }
 
 impl Model for MemShelf {
@@ -35,6 +41,7 @@ impl Model for MemShelf {
       calls = s.calls;
       opens = s.opens;
       faults = s.faults;
+      course = s.course;
       left = left_of (files_of s.files.items) s.place;
     } };
 }
@@ -45,6 +52,7 @@ impl MemShelf {
         ensures files { result.files ≡ files_of files.items }
         ensures failing { result.failing ≡ failing.items }
         ensures unused { (result.calls ≡ 0) × (result.opens ≡ 0) × (result.faults ≡ 0) }
+        ensures unbroken { IsUnbroken result.course }
         ensures closed { result.left ≡ None }
     {
         MemShelf {
@@ -54,6 +62,7 @@ impl MemShelf {
             calls: 0,
             opens: 0,
             faults: 0,
+            course: Course::Unbroken,
         }
     }
 
@@ -76,6 +85,8 @@ impl Shelf for MemShelf {
 
     ghost faults = { λ s. s.faults };
 
+    ghost course = { λ s. s.course };
+
     ghost calls = { λ s. s.calls };
 
     fn open(&mut self, name: &str) -> Result<(), OutFault>
@@ -84,6 +95,7 @@ impl Shelf for MemShelf {
         ensures held { content_named self.new.files ≡ content_named self.old.files }
         ensures opens { self.new.opens ≡ next_count self.old.opens }
         ensures calls { self.new.calls ≤ self.old.calls + 1 }
+        ensures course { self.new.course ≡ after_call self.old.course (is_ok result) }
         ensures faults { self.old.faults ≤ self.new.faults }
         ensures cause { IsErrOf result OutFault.Failed → Rose self.old.faults self.new.faults }
 
@@ -99,13 +111,16 @@ impl Shelf for MemShelf {
         self.place = None;
         if self.failing.contains(&self.calls) {
             self.faults = self.faults.saturating_add(1);
+            self.course = self.course.after(false);
             return Err(OutFault::Failed);
         }
         let Some(index) = index_of(&self.files, name) else {
             self.faults = self.faults.saturating_add(1);
+            self.course = self.course.after(false);
             return Err(OutFault::Failed);
         };
         self.place = Some(Place { index, position: 0 });
+        self.course = self.course.after(true);
         Ok(())
     }
 
@@ -117,18 +132,23 @@ impl Shelf for MemShelf {
         ensures held { content_named self.new.files ≡ content_named self.old.files }
         ensures opens { self.new.opens ≡ self.old.opens }
         ensures calls { self.new.calls ≤ self.old.calls + 1 }
+        ensures course { self.new.course ≡ after_call self.old.course (is_ok result) }
         ensures faults { self.old.faults ≤ self.new.faults }
         ensures cause { IsErrOf result OutFault.Failed → Rose self.old.faults self.new.faults }
 
-        // It fails at a chosen call alone, and no memory is asked for.
+        // It fails at a chosen call alone, asks for no memory, and gives all that there is room
+        // for.
         ensures failed { IsErr result ↔ Contains self.old.failing (next_count self.old.calls) }
         ensures memory { IfErr result (λ fault. fault ≡ OutFault.Failed) }
+        ensures count { IfOk result (λ count. IfSome self.old.left (λ left.
+            count ≡ min (length left) (length buffer.old))) }
         ensures ok { OnOk result (self.new ≡ after_read self.old self.new.left) }
         ensures err { OnErr result (self.new ≡ after_failed_read self.old) }
     {
         self.calls = self.calls.saturating_add(1);
         if self.failing.contains(&self.calls) {
             self.faults = self.faults.saturating_add(1);
+            self.course = self.course.after(false);
             return Err(OutFault::Failed);
         }
         let Some(place) = self.place else {
@@ -136,6 +156,7 @@ impl Shelf for MemShelf {
         };
         let (count, behind) = read_at(&self.files, place, buffer);
         self.place = Some(behind);
+        self.course = self.course.after(true);
         Ok(count)
     }
 }

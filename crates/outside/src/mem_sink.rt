@@ -1,9 +1,12 @@
-ghost use Rattle.std.specs.Prelude.{◌≡◌, ℕ, ◌+◌, ◌<◌, ◌≤◌, ◌↔◌, [], Some, length, min, Contains, IfErr, IfOk, OnErr, IsErrOf};
+ghost use Rattle.std.specs.Prelude.{◌≡◌, ℕ, ◌+◌, ◌<◌, ◌≤◌, ◌↔◌, [], Some, length, min, Contains};
+ghost use Rattle.std.specs.Prelude.{IfErr, IfOk, OnErr, is_ok, IsErrOf};
 ghost use Rattle.std.specs.Io.KnownBytes.{WriteAppends};
+ghost use Rattle.outside.specs.Calls.{after_call, IsUnbroken};
 ghost use Rattle.outside.specs.Causes.{Rose, next_count};
 ghost use Rattle.outside.specs.Pieces.{TakesSome};
-ghost use Rattle.outside.specs.Memory.{after_write, after_failed_write};
+ghost use Rattle.outside.specs.Memory.{after_write, after_failed_write, after_want};
 
+use crate::course::Course;
 use crate::fault::OutFault;
 use crate::writing::Sink;
 use std::marker::Model;
@@ -15,6 +18,8 @@ pub struct MemSink {
     failing: Vec<u64>,
     calls: u64,
     faults: u64,
+    wants: u64,
+    course: Course,
     written: Vec<u8>,
 }
 
@@ -29,6 +34,8 @@ impl Model for MemSink {
       failing = s.failing.items;
       calls = s.calls;
       faults = s.faults;
+      wants = s.wants;
+      course = s.course;
       written = s.written.items;
     } };
 
@@ -41,7 +48,8 @@ impl MemSink {
         requires { 1 ≤ most }
         ensures most { result.most ≡ most }
         ensures failing { result.failing ≡ failing.items }
-        ensures unused { (result.calls ≡ 0) × (result.faults ≡ 0) }
+        ensures unused { (result.calls ≡ 0) × (result.faults ≡ 0) × (result.wants ≡ 0) }
+        ensures unbroken { IsUnbroken result.course }
         ensures empty { result.written ≡ [] }
     {
         let written = Vec::new(*failing.allocator());
@@ -50,6 +58,8 @@ impl MemSink {
             failing,
             calls: 0,
             faults: 0,
+            wants: 0,
+            course: Course::Unbroken,
             written,
         }
     }
@@ -74,6 +84,10 @@ impl Sink for MemSink {
 
     ghost faults = { λ s. s.faults };
 
+    ghost wants = { λ s. s.wants };
+
+    ghost course = { λ s. s.course };
+
     ghost calls = { λ s. s.calls };
 
     fn write(&mut self, piece: &[u8]) -> Result<usize, OutFault>
@@ -81,8 +95,11 @@ impl Sink for MemSink {
         ensures bytes { WriteAppends (Some self.old.written) (Some self.new.written)
             result piece.now }
         ensures calls { self.new.calls ≤ self.old.calls + 1 }
+        ensures course { self.new.course ≡ after_call self.old.course (is_ok result) }
         ensures faults { self.old.faults ≤ self.new.faults }
         ensures cause { IsErrOf result OutFault.Failed → Rose self.old.faults self.new.faults }
+        ensures wants { self.old.wants ≤ self.new.wants }
+        ensures want { IsErrOf result OutFault.NoMemory → Rose self.old.wants self.new.wants }
 
         // It fails at a chosen call alone, and takes as much as it may.
         ensures failed { IsErrOf result OutFault.Failed
@@ -90,17 +107,23 @@ impl Sink for MemSink {
         ensures count { IfOk result (λ n. n ≡ min self.old.most (length piece.now)) }
         ensures ok { IfOk result (λ n. self.new ≡ after_write self.old piece.now n) }
         ensures err { IsErrOf result OutFault.Failed → self.new ≡ after_failed_write self.old }
-        ensures memory { IsErrOf result OutFault.NoMemory → self.new ≡ self.old }
+        ensures memory { IsErrOf result OutFault.NoMemory → self.new ≡ after_want self.old }
     {
         let call = self.calls.saturating_add(1);
         if self.failing.contains(&call) {
             self.calls = call;
             self.faults = self.faults.saturating_add(1);
+            self.course = self.course.after(false);
             return Err(OutFault::Failed);
         }
         let count = self.most.min(piece.len());
-        self.written.extend_from_slice(&piece[..count])?;
+        if self.written.extend_from_slice(&piece[..count]).is_err() {
+            self.wants = self.wants.saturating_add(1);
+            self.course = self.course.after(false);
+            return Err(OutFault::NoMemory);
+        }
         self.calls = call;
+        self.course = self.course.after(true);
         Ok(count)
     }
 }

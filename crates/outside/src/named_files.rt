@@ -1,4 +1,5 @@
-ghost use Rattle.std.specs.Prelude.{◌≡◌, ℕ, ◌+◌, ◌^◌, ◌<◌, ◌≤◌, [], ◌++◌, length, take, drop, None, Some, IfSome, IfNone};
+ghost use Rattle.std.specs.Prelude.{◌≡◌, ℕ, ◌+◌, ◌^◌, ◌<◌, ◌≤◌, [], ◌++◌, length, take, drop, min};
+ghost use Rattle.std.specs.Prelude.{None, Some, IfSome, IfNone};
 ghost use Rattle.outside.specs.Named.{files_of, content_named, content_at, left_at};
 
 /// The index of an open file, and how many of its bytes were read.
@@ -45,10 +46,8 @@ fn rest_of(bytes: &[u8], position: usize) -> &[u8]
 
 // Copies the front of what is left into the buffer, and says how many bytes it is.
 fn copy_front(rest: &[u8], buffer: &mut [u8]) -> usize
-    ensures bound { result ≤ length buffer.old }
-    ensures within { result ≤ length rest.now }
+    ensures count { result ≡ min (length rest.now) (length buffer.old) }
     ensures copied { take result buffer.new ≡ take result rest.now }
-    ensures end { result ≡ 0 → 0 < length buffer.old → rest.now ≡ [] }
 {
     let count = rest.len().min(buffer.len());
     buffer[..count].copy_from_slice(&rest[..count]);
@@ -61,7 +60,8 @@ pub(crate) fn read_at(
     place: Place,
     buffer: &mut [u8],
 ) -> (usize, Place)
-    ensures bound { result.0 ≤ length buffer.old }
+    ensures count { result.0
+        ≡ min (length (left_at (files_of files.now) place)) (length buffer.old) }
     ensures bytes { left_at (files_of files.now) place
         ≡ take result.0 buffer.new ++ left_at (files_of files.now) result.1 }
     ensures end { result.0 ≡ 0 → 0 < length buffer.old →

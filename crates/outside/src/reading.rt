@@ -2,10 +2,13 @@
 //!
 //! Each turn of `read_file` takes at least one byte, so a device without an end stops it too: after
 //! `READ_LIMIT` bytes, one more than the largest file that is accepted.
-ghost use Rattle.std.specs.Prelude.{◌≡◌, ℕ, ◌+◌, ◌<◌, ◌≤◌, List, length, Option, OnOk, IfOk, IsErrOf, Result};
+ghost use Rattle.std.specs.Prelude.{◌≡◌, ℕ, ◌+◌, ◌<◌, ◌≤◌, List, length, Option, OnOk, IfOk, is_ok};
+ghost use Rattle.std.specs.Prelude.{IsErrOf, Result};
 ghost use Rattle.std.specs.Io.{ReadsAtMost};
 ghost use Rattle.std.specs.Io.KnownBytes.{ReadConsumes, Consumes, IsAtEnd};
+ghost use Rattle.outside.specs.Calls.{after_call, IsUnbroken, IsOrderly};
 ghost use Rattle.outside.specs.Causes.{Rose, next_count};
+ghost use Rattle.outside.specs.declared.course.Course.{Course};
 ghost use Rattle.outside.specs.Pieces.{IsFrontOf, AddsRead};
 
 use crate::fault::OutFault;
@@ -28,6 +31,9 @@ pub trait Shelf {
     /// How many calls failed: it never falls.
     ghost faults: { Self → ℕ };
 
+    /// How its calls went so far.
+    ghost course: { Self → Course };
+
     /// How many calls were made, where the shelf counts them.
     ghost calls: { Self → ℕ } = { λ _. 0 };
 
@@ -38,6 +44,7 @@ pub trait Shelf {
         ensures held { holds self.new ≡ holds self.old }
         ensures opens { opens self.new ≡ next_count (opens self.old) }
         ensures calls { calls self.new ≤ calls self.old + 1 }
+        ensures course { course self.new ≡ after_call (course self.old) (is_ok result) }
         ensures faults { faults self.old ≤ faults self.new }
         ensures cause { IsErrOf result OutFault.Failed → Rose (faults self.old) (faults self.new) };
 
@@ -51,6 +58,7 @@ pub trait Shelf {
         ensures held { holds self.new ≡ holds self.old }
         ensures opens { opens self.new ≡ opens self.old }
         ensures calls { calls self.new ≤ calls self.old + 1 }
+        ensures course { course self.new ≡ after_call (course self.old) (is_ok result) }
         ensures faults { faults self.old ≤ faults self.new }
         ensures cause { IsErrOf result OutFault.Failed → Rose (faults self.old) (faults self.new) };
 }
@@ -62,6 +70,7 @@ pub const READ_LIMIT: usize = 1_048_577;
 const PIECE: usize = 65_536;
 
 /// Opens a file and reads it to its end, or until `READ_LIMIT` bytes are taken.
+#[tactic(auto, using(crate::proofs::Courses::courses))]
 pub fn read_file<H: Shelf>(alloc: Global, shelf: &mut H, name: &str) -> Result<Vec<u8>, OutFault>
     ensures content { IfOk result (λ bytes.
         IsFrontOf (H.holds shelf.old name.now) READ_LIMIT bytes.items) }
@@ -73,6 +82,9 @@ pub fn read_file<H: Shelf>(alloc: Global, shelf: &mut H, name: &str) -> Result<V
     ensures calls { H.calls shelf.new ≤ H.calls shelf.old + READ_LIMIT + 1 }
     ensures held { H.holds shelf.new ≡ H.holds shelf.old }
     ensures opens { H.opens shelf.new ≡ next_count (H.opens shelf.old) }
+    ensures unbroken { OnOk result (IsUnbroken (H.course shelf.old)
+        → IsUnbroken (H.course shelf.new)) }
+    ensures orderly { IsUnbroken (H.course shelf.old) → IsOrderly (H.course shelf.new) }
     ensures faults { H.faults shelf.old ≤ H.faults shelf.new }
     ensures cause { IsErrOf result OutFault.Failed →
         Rose (H.faults shelf.old) (H.faults shelf.new) }
@@ -82,6 +94,7 @@ pub fn read_file<H: Shelf>(alloc: Global, shelf: &mut H, name: &str) -> Result<V
 }
 
 // Reads what is left of the open file to its end, or until `limit` bytes are taken.
+#[tactic(auto, using(crate::proofs::Courses::courses))]
 fn read_front<H: Shelf>(alloc: Global, shelf: &mut H, limit: usize) -> Result<Vec<u8>, OutFault>
     requires { H.is_open shelf.old }
     ensures content { IfOk result (λ bytes. IsFrontOf (H.left shelf.old) limit bytes.items) }
@@ -93,6 +106,9 @@ fn read_front<H: Shelf>(alloc: Global, shelf: &mut H, limit: usize) -> Result<Ve
     ensures calls { H.calls shelf.new ≤ H.calls shelf.old + limit }
     ensures held { H.holds shelf.new ≡ H.holds shelf.old }
     ensures opens { H.opens shelf.new ≡ H.opens shelf.old }
+    ensures unbroken { OnOk result (IsUnbroken (H.course shelf.old)
+        → IsUnbroken (H.course shelf.new)) }
+    ensures orderly { IsUnbroken (H.course shelf.old) → IsOrderly (H.course shelf.new) }
     ensures faults { H.faults shelf.old ≤ H.faults shelf.new }
     ensures cause { IsErrOf result OutFault.Failed →
         Rose (H.faults shelf.old) (H.faults shelf.new) }
@@ -110,6 +126,7 @@ fn read_front<H: Shelf>(alloc: Global, shelf: &mut H, limit: usize) -> Result<Ve
 }
 
 // One turn: what the shelf puts into the piece is added to the bytes.
+#[tactic(auto, using(crate::proofs::Courses::courses))]
 fn read_more<H: Shelf>(
     shelf: &mut H,
     piece: &mut [u8],
@@ -125,6 +142,9 @@ fn read_more<H: Shelf>(
     ensures held { H.holds shelf.new ≡ H.holds shelf.old }
     ensures opens { H.opens shelf.new ≡ H.opens shelf.old }
     ensures calls { H.calls shelf.new ≤ H.calls shelf.old + 1 }
+    ensures unbroken { OnOk result (IsUnbroken (H.course shelf.old)
+        → IsUnbroken (H.course shelf.new)) }
+    ensures orderly { IsUnbroken (H.course shelf.old) → IsOrderly (H.course shelf.new) }
     ensures faults { H.faults shelf.old ≤ H.faults shelf.new }
     ensures cause { IsErrOf result OutFault.Failed →
         Rose (H.faults shelf.old) (H.faults shelf.new) }

@@ -1,4 +1,7 @@
-ghost use Rattle.std.specs.Prelude.{◌≡◌, ℕ, ◌+◌, ◌<◌, ◌≤◌, [], None, Some, IfErr, IsOk, unwrap_or, IsSome};
+ghost use Rattle.std.specs.Prelude.{◌≡◌, ℕ, ◌+◌, ◌<◌, ◌≤◌, [], None, Some, IfOk, IfSome, IsOk};
+ghost use Rattle.std.specs.Prelude.{unwrap_or, IsSome, length, min};
+ghost use Rattle.std.specs.Io.{ReadsAtMost};
+ghost use Rattle.std.specs.Io.KnownBytes.{ReadConsumes};
 ghost use Rattle.outside.specs.Causes.{next_count};
 ghost use Rattle.outside.specs.Named.{files_of, content_named};
 
@@ -44,6 +47,8 @@ impl SureShelf {
 }
 
 impl Shelf for SureShelf {
+    ghost use Rattle.outside.specs.declared.course.Course.TheVariants.{Unbroken};
+
     ghost holds = { λ s name. Some (unwrap_or (content_named s.files name) []) };
 
     ghost left = { λ s. s.left };
@@ -54,7 +59,18 @@ impl Shelf for SureShelf {
 
     ghost faults = { λ _. 0 };
 
-    fn open(&mut self, name: &str) -> Result<(), OutFault> {
+    ghost course = { λ _. Unbroken };
+
+    fn open(&mut self, name: &str) -> Result<(), OutFault>
+        ensures open { IsSome self.new.left }
+        ensures whole { self.new.left
+            ≡ Some (unwrap_or (content_named self.old.files name.now) []) }
+        ensures held { self.new.files ≡ self.old.files }
+        ensures opens { self.new.opens ≡ next_count self.old.opens }
+
+        // It never fails.
+        ensures done { IsOk result }
+    {
         self.opens = self.opens.saturating_add(1);
         let index = match index_of(&self.files, name) {
             Some(index) => index,
@@ -64,7 +80,19 @@ impl Shelf for SureShelf {
         Ok(())
     }
 
-    fn read(&mut self, buffer: &mut [u8]) -> Result<usize, OutFault> {
+    fn read(&mut self, buffer: &mut [u8]) -> Result<usize, OutFault>
+        requires { IsSome self.old.left }
+        ensures open { IsSome self.new.left }
+        ensures bound { ReadsAtMost result buffer.new }
+        ensures bytes { ReadConsumes self.old.left self.new.left result buffer.new }
+        ensures held { self.new.files ≡ self.old.files }
+        ensures opens { self.new.opens ≡ self.old.opens }
+
+        // It never fails, and gives all that there is room for.
+        ensures done { IsOk result }
+        ensures count { IfOk result (λ count. IfSome self.old.left (λ left.
+            count ≡ min (length left) (length buffer.old))) }
+    {
         let Some(place) = self.place else {
             unreachable!();
         };

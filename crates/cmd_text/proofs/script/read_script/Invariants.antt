@@ -6,5 +6,6 @@ use Rattle.cmd_text.proofs.script.read_script.Given as goal
 abbrev pub invariant-loop-line : goal.invariant-loop-line
 invariant-loop-line l = record {
   count : l.number ≡ length l.yielded;
-  so_far : with_front l.commands.items (left_after (length l.yielded) (lines_of l.bytes)) ≡ script_of l.bytes;
+  so_far : with_front l.commands.items (left_after (length l.yielded) (lines_of l.bytes))
+      ≡ script_of l.bytes;
 }

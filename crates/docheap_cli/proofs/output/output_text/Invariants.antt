@@ -1,9 +1,7 @@
-use Rattle.std.proofs.Common.{◌≡◌, ◌++◌, take}
-use Rattle.cmd_text.specs.ReplyText.{heading_of}
-use Rattle.docheap_cli.specs.Output.{replies_of}
+use Rattle.std.proofs.Common.{◌≡◌, take}
+use Rattle.docheap_cli.specs.Output.{output_of}
 use Rattle.docheap_cli.proofs.output.output_text.Given as goal
 
--- the heading, and the replies of the entries so far
-abbrev pub invariant-loop-entry : goal.invariant-loop-entry
-invariant-loop-entry l =
-    l.text.items ≡ heading_of l.log.client ++ replies_of (take l.entry-index l.log.entries)
+-- the text of the logs so far
+abbrev pub invariant-loop-log : goal.invariant-loop-log
+invariant-loop-log l = l.text.items ≡ output_of (take l.log-index l.logs)

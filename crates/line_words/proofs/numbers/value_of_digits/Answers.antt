@@ -19,7 +19,8 @@ overflow_add-number c =
 
 pub loop-byte-preserved : goal.loop-byte-preserved
 loop-byte-preserved c =
-    let more = value_more c.args.word.now c.loop-byte.byte-index c.requires.digits c.loop-byte-test.true in
+    let more =
+    value_more c.args.word.now c.loop-byte.byte-index c.requires.digits c.loop-byte-test.true in
     omega arith
 
 pub returns-clause-small : goal.returns-clause-small

@@ -1,5 +1,6 @@
 use Rattle.std.proofs.Common.{◌≡◌, ◌+◌, ◌-◌, ◌≤◌, length}
 use Rattle.std.specs.Io.KnownBytes.{Consumes}
+use Rattle.outside.specs.Calls.{IsUnbroken}
 use Rattle.outside.proofs.reading.read_front.Given as goal
 
 abbrev pub invariant-loop-bytes : goal.invariant-loop-bytes
@@ -12,6 +13,8 @@ invariant-loop-bytes g l =
       turns : g.H.Shelf.calls l.shelf ≤ g.H.Shelf.calls l.initial.shelf + length l.bytes.items;
       held : g.H.Shelf.holds l.shelf ≡ g.H.Shelf.holds l.initial.shelf;
       opens : g.H.Shelf.opens l.shelf ≡ g.H.Shelf.opens l.initial.shelf;
+      unbroken :
+          IsUnbroken (g.H.Shelf.course l.initial.shelf) → IsUnbroken (g.H.Shelf.course l.shelf);
       later : g.H.Shelf.faults l.initial.shelf ≤ g.H.Shelf.faults l.shelf;
     }
 

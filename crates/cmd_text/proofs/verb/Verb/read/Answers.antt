@@ -5,5 +5,18 @@ use Rattle.cmd_text.proofs.verb.Verb.read.Goals as goal
 
 pub returns-in-publish : goal.returns-in-publish
 returns-in-publish c =
-    let is : c.args.word.now ≡ codes "publish" = text_from_reads c.args.word.now (codes "publish") (omega arith) (omega arith, (omega arith, (omega arith, (omega arith, (omega arith, (omega arith, (omega arith, tt))))))) in
+    let is : c.args.word.now ≡ codes "publish" =
+    text_from_reads c.args.word.now (codes "publish") (omega arith) (
+      omega arith,
+      (
+        omega arith,
+        (
+          omega arith,
+          (
+            omega arith,
+            (omega arith, (omega arith, (omega arith, tt))),
+          ),
+        ),
+      ),
+    ) in
     rw is

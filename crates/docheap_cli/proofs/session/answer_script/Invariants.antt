@@ -1,8 +1,8 @@
 use Rattle.std.proofs.Common.{◌≡◌, ◌+◌, ◌≤◌, ◌++◌, length}
 use Rattle.std.specs.Vec.Iter.{into_iter_items, into_iter_len}
-use Rattle.doc_model.specs.Store.{entries_of, account_of}
+use Rattle.doc_model.specs.Store.{account_of, entries_of}
 use Rattle.docheap_cli.specs.Session.{opening_store}
-use Rattle.docheap_cli.proofs.answers.answer_all.Given as goal
+use Rattle.docheap_cli.proofs.session.answer_script.Given as goal
 
 -- the entries so far, with those of the commands that are left, are all of them
 abbrev pub invariant-loop-command : goal.invariant-loop-command
@@ -11,7 +11,9 @@ invariant-loop-command l =
       client : l.log.client ≡ 1;
       left : into_iter_len l.command-iterator ≡ length (into_iter_items l.command-iterator);
       room : length (into_iter_items l.command-iterator) ≤ l.log.spare;
-      entries : l.log.entries ++ entries_of l.store 1 (into_iter_items l.command-iterator) ≡ entries_of opening_store 1 l.fn.commands.items;
+      entries : l.log.entries ++ entries_of l.store 1 (into_iter_items l.command-iterator)
+          ≡ entries_of opening_store 1 l.fn.commands.items;
       one : length l.store.accounts ≡ 1;
-      answered : (account_of l.store 1).answered + length (into_iter_items l.command-iterator) ≤ 100_000;
+      answered : (account_of l.store 1).answered + length (into_iter_items l.command-iterator)
+          ≤ 100_000;
     }
