@@ -1,4 +1,5 @@
-ghost use Rattle.cell_words.specs.Control.{IsControlWord, IsValidControl, greatest_position_of, pack_control_of, pack_stage_of};
+ghost use Rattle.cell_words.specs.Control.{IsControlWord, IsValidControl, greatest_position_of};
+ghost use Rattle.cell_words.specs.Control.{pack_control_of, pack_stage_of};
 ghost use Rattle.cell_words.specs.declared.controls.Control.{Control};
 ghost use Rattle.cell_words.specs.declared.controls.Stage.{Stage};
 ghost use Rattle.std.specs.Prelude.{IfSome, IsSome, Some, ◌≡◌, ◌↔◌};

@@ -2,9 +2,9 @@
 //!
 //! A colour, a field, a mutator's presence and the collector's control are one word each, since
 //! every step of the heap is one atomic operation on one word. For each of the four there is a
-//! `pack` and an `unpack` that undo each other, and an `unpack` knows every word that is no packing.
-//! The module `modes` has the choices that a mutator makes from its own status and one look at the
-//! control: which colour a new cell gets, and what a write marks first.
+//! `pack` and an `unpack` that undo each other, and an `unpack` knows every word that is no
+//! packing. The module `modes` has the choices that a mutator makes from its own status and one
+//! look at the control: which colour a new cell gets, and what a write marks first.
 //!
 //! When a word may change is not said here: that is the core machine above.
 //!

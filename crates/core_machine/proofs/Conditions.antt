@@ -1,14 +1,19 @@
 -- What each event needs, read off its test (`KIND_needs`), and that a mutator's event which has it
 -- can happen (`can_KIND`).
 use Rattle.std.proofs.Common.{◌≡◌, ℕ, true, not, Option, Some, None, is_none, refl}
-use Rattle.std.proofs.lemmas.Bool.{and_parts, ltb-true, leb-true, eqb-true, not-true, and_from, lt-ltb, le-leb, not_from_false}
+use Rattle.std.proofs.lemmas.Bool.{and_parts, ltb-true, leb-true, eqb-true, not-true, and_from}
+use Rattle.std.proofs.lemmas.Bool.{lt-ltb, le-leb, not_from_false}
 use Rattle.cell_words.specs.declared.controls.Stage.{Stage}
 use Rattle.cell_words.specs.declared.controls.Stage.TheVariants as stage
 use Rattle.cell_words.specs.declared.fields.Field.{Field}
 use Rattle.core_machine.specs.declared.progress.Scanning.{Scanning}
 use Rattle.core_machine.specs.declared.progress.Sweeping.{Sweeping}
 use Rattle.core_machine.specs.declared.progress.Sweeping.TheVariants as sweeping
-use Rattle.core_machine.specs.Conditions.{CanComeIn, CanRead, CanMark, CanWrite, CanClaim, CanFill, CanSeal, CanAnswer, CanKeep, CanPostIdle, CanPostSync1, CanPostClear, CanPostSync2, CanPostTrace, CanPostSweep, CanPoll, CanAnswerOut, CanClear, CanMarkAnchor, CanSee, CanScan, CanShade, CanBlacken, CanSweepLook, CanAdvance}
+use Rattle.core_machine.specs.Conditions.{CanComeIn, CanRead, CanMark, CanWrite, CanClaim, CanFill}
+use Rattle.core_machine.specs.Conditions.{CanSeal, CanAnswer, CanKeep, CanPostIdle, CanPostSync1}
+use Rattle.core_machine.specs.Conditions.{CanPostClear, CanPostSync2, CanPostTrace, CanPostSweep}
+use Rattle.core_machine.specs.Conditions.{CanPoll, CanAnswerOut, CanClear, CanMarkAnchor, CanSee}
+use Rattle.core_machine.specs.Conditions.{CanScan, CanShade, CanBlacken, CanSweepLook, CanAdvance}
 use Rattle.core_machine.specs.Handshakes.{post_can, poll_can, answer_out_can}
 use Rattle.core_machine.specs.Mutation.{mark_can, write_can, claim_can, fill_can, seal_can}
 use Rattle.core_machine.specs.Operations.{may_begin, read_can, answer_can, keep_can}
@@ -17,7 +22,8 @@ use Rattle.core_machine.specs.declared.events.Event.TheVariants as event
 use Rattle.core_machine.specs.Next.{can}
 use Rattle.core_machine.specs.State.{State}
 use Rattle.core_machine.specs.Sweep.{is_fresh, is_done, sweep_look_can, advance_can}
-use Rattle.core_machine.specs.Tracing.{may_scan, may_shade, may_blacken, clear_can, anchor_can, see_can, scan_can, shade_can, blacken_can}
+use Rattle.core_machine.specs.Tracing.{may_scan, may_shade, may_blacken, clear_can, anchor_can}
+use Rattle.core_machine.specs.Tracing.{see_can, scan_can, shade_can, blacken_can}
 use Rattle.core_machine.specs.Words.{same_stage}
 
 -- Of a mutator. A chain of tests falls apart from its end.
@@ -266,9 +272,11 @@ advance_needs s h =
 pub can_begin : (s : State) (i : ℕ) → CanComeIn s i → can s (event.Begin i) ≡ true
 can_begin s i needs = and_from _ _ (not_from_false _ needs.out) (not_from_false _ needs.not_over)
 
-pub can_read : (s : State) (i place f : ℕ) → CanRead s i place f → can s (event.Read i place f) ≡ true
+pub can_read : (s : State) (i place f : ℕ) → CanRead s i place f
+    → can s (event.Read i place f) ≡ true
 can_read s i place f needs =
-    and_from _ _ (and_from _ _ (and_from _ _ needs.inside (lt-ltb _ _ needs.there)) (le-leb _ _ needs.payload))
+    and_from _ _ (and_from _ _ (and_from _ _ needs.inside (lt-ltb _ _ needs.there))
+    (le-leb _ _ needs.payload))
     (lt-ltb _ _ needs.room)
 
 pub can_mark : (s : State) (i place : ℕ) → CanMark s i place → can s (event.Mark i place) ≡ true
@@ -295,8 +303,10 @@ can_fill s i place f value needs =
     let names = and_from _ _ (and_from _ _ raw (le-leb _ _ needs.payload)) needs.names in
     and_from _ _ (and_from _ _ names (not_from_false _ needs.sealed)) (not_from_false _ needs.clear)
 
-pub can_seal : (s : State) (i place : ℕ) (kind : Kind) → CanSeal s i place → can s (event.Seal i place kind) ≡ true
-can_seal s i place kind needs = and_from _ _ (and_from _ _ needs.inside (lt-ltb _ _ needs.there)) needs.raw
+pub can_seal : (s : State) (i place : ℕ) (kind : Kind) → CanSeal s i place
+    → can s (event.Seal i place kind) ≡ true
+can_seal s i place kind needs = and_from _ _
+    (and_from _ _ needs.inside (lt-ltb _ _ needs.there)) needs.raw
 
 pub can_answer : (s : State) (i : ℕ) → CanAnswer s i → can s (event.Answer i) ≡ true
 can_answer s i needs = and_from _ _ (and_from _ _ needs.inside needs.requested) needs.third
@@ -304,7 +314,8 @@ can_answer s i needs = and_from _ _ (and_from _ _ needs.inside needs.requested) 
 pub can_keep : (s : State) (i count from copies : ℕ) → CanKeep s i count from copies
     → can s (event.Keep i count from copies) ≡ true
 can_keep s i count from copies needs =
-    let kept = and_from _ _ (and_from _ _ needs.inside (le-leb _ _ needs.some)) (le-leb _ _ needs.kept) in
+    let kept = and_from _ _ (and_from _ _ needs.inside (le-leb _ _ needs.some))
+    (le-leb _ _ needs.kept) in
     and_from _ _ (and_from _ _ kept (le-leb _ _ needs.copied)) (le-leb _ _ needs.room)
 
 pub can_over : (s : State) (i : ℕ) → CanComeIn s i → can s (event.Over i) ≡ true

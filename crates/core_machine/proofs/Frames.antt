@@ -1,5 +1,6 @@
 -- What each event leaves alone, and what follows of one part of the state.
-use Rattle.std.proofs.Common.{◌≡◌, ◌≢◌, ℕ, ◌<◌, Bool, true, false, cond, List, length, get_or, set, Option, Some, None, refl, sym, ◌∙◌, ap, subst}
+use Rattle.std.proofs.Common.{◌≡◌, ◌≢◌, ℕ, ◌<◌, Bool, true, false, cond, List, length, get_or, set}
+use Rattle.std.proofs.Common.{Option, Some, None, refl, sym, ◌∙◌, ap, subst}
 use Rattle.std.proofs.lemmas.Bool.{and_parts, not-true}
 use Rattle.std.proofs.lemmas.List.{set-get_or, get_or-set_same, get_or-set_other}
 use Rattle.cell_words.specs.Modes.{next_status_of}
@@ -12,17 +13,21 @@ use Rattle.core_machine.specs.declared.events.Event.{Event}
 use Rattle.core_machine.specs.declared.events.Event.TheVariants as event
 use Rattle.core_machine.specs.declared.events.Found.{Found}
 use Rattle.core_machine.specs.declared.events.Found.TheVariants as finds
-use Rattle.core_machine.specs.Frames.{IsAsLarge, Knows, MutatorFrame, CollectorFrame, Frame, RowsFrame, ColoursFrame, IsFramed}
+use Rattle.core_machine.specs.Frames.{IsAsLarge, Knows, MutatorFrame, CollectorFrame, Frame}
+use Rattle.core_machine.specs.Frames.{RowsFrame, ColoursFrame, IsFramed}
 use Rattle.core_machine.specs.Handshakes.{wanted_of}
 use Rattle.core_machine.specs.InRange.{IsShaped}
 use Rattle.core_machine.specs.Next.{can, maker, found_by, after}
 use Rattle.core_machine.specs.Own.{Own, no_own, own_after, presence_after}
-use Rattle.core_machine.specs.State.{State, colour_of, colour_in, row_in, field_in, field_of, own_of, own_in, presence_in, presence_of, no_presence, set_field, target_of}
+use Rattle.core_machine.specs.State.{State, colour_of, colour_in, row_in, field_in, field_of}
+use Rattle.core_machine.specs.State.{own_of, own_in, presence_in, presence_of, no_presence}
+use Rattle.core_machine.specs.State.{set_field, target_of}
 use Rattle.core_machine.specs.Table.{Word, TheControl, StatusOf, ColourOf, FieldOf}
 use Rattle.core_machine.specs.Tracing.{scan_of}
 use Rattle.core_machine.specs.WordOperations.{word_of}
 use Rattle.core_machine.specs.Words.{may_answer_out, answered_out}
-use Rattle.core_machine.proofs.Conditions.{answer_needs, keep_needs, read_needs, mark_needs, write_needs, claim_needs, fill_needs, seal_needs}
+use Rattle.core_machine.proofs.Conditions.{answer_needs, keep_needs, read_needs, mark_needs}
+use Rattle.core_machine.proofs.Conditions.{write_needs, claim_needs, fill_needs, seal_needs}
 use Rattle.core_machine.proofs.OneOperation.{inside_there, beginner_there}
 use Rattle.core_machine.proofs.Ranges.Lists.{set_cases}
 

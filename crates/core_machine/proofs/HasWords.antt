@@ -1,6 +1,8 @@
 -- Every state of a run has words: each field is a number that fits its word, or a cell, and nobody
 -- is in and over at once. So what an event finds has a word, and the control has one.
-use Rattle.std.proofs.Common.{◌≡◌, ℕ, zero, suc, ◌^◌, ◌≤◌, Bool, true, false, not, ◌&&◌, cond, List, [], ◌∷◌, ◌++◌, length, replicate, get_or, set, refl, sym, ap, subst, arith}
+use Rattle.std.proofs.Common.{◌≡◌, ℕ, zero, suc, ◌^◌, ◌≤◌, Bool, true, false, not, ◌&&◌, cond, List}
+use Rattle.std.proofs.Common.{[], ◌∷◌, ◌++◌, length, replicate, get_or, set, refl, sym, ap, subst}
+use Rattle.std.proofs.Common.{arith}
 use Rattle.std.proofs.lemmas.Bool.{ltb-true}
 use Rattle.cell_words.specs.Control.{IsValidControl, greatest_position_of}
 use Rattle.cell_words.specs.Field.{IsValidField}
@@ -20,11 +22,14 @@ use Rattle.core_machine.specs.declared.places.Held.{Held}
 use Rattle.core_machine.specs.declared.progress.Sweeping.{Sweeping}
 use Rattle.core_machine.specs.declared.progress.Sweeping.TheVariants as sweeping
 use Rattle.core_machine.specs.Handshakes.{wanted_of}
-use Rattle.core_machine.specs.InRange.{InRange, NamesBelow, SweepFits, StageFits, CyclesFit, NumberFits, HasWords}
+use Rattle.core_machine.specs.InRange.{InRange, NamesBelow, SweepFits, StageFits, CyclesFit}
+use Rattle.core_machine.specs.InRange.{NumberFits, HasWords}
 use Rattle.core_machine.specs.Next.{can, found_by, after}
 use Rattle.core_machine.specs.Places.{names_rightly}
 use Rattle.core_machine.specs.Run.{Runs, last}
-use Rattle.core_machine.specs.State.{State, greatest_cells, greatest_cycles, row_in, field_in, field_of, held_of, presence_in, presence_of, no_presence, null_row, opening_presence, opening, set_field, target_of}
+use Rattle.core_machine.specs.State.{State, greatest_cells, greatest_cycles, row_in, field_in}
+use Rattle.core_machine.specs.State.{field_of, held_of, presence_in, presence_of, no_presence}
+use Rattle.core_machine.specs.State.{null_row, opening_presence, opening, set_field, target_of}
 use Rattle.core_machine.specs.Sweep.{wiped_count}
 use Rattle.core_machine.specs.Tracing.{scan_of}
 use Rattle.core_machine.specs.WordOperations.{IsValidFound}

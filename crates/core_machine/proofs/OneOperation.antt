@@ -1,5 +1,6 @@
 -- Every event is one operation on one word of the table: `KIND_once`.
-use Rattle.std.proofs.Common.{◌≡◌, ℕ, ◌<◌, ◌≤◌, Bool, true, false, List, [], ◌∷◌, length, set, Option, Some, None, zero, suc, refl, sym, ◌∙◌, ap, subst, arith}
+use Rattle.std.proofs.Common.{◌≡◌, ℕ, ◌<◌, ◌≤◌, Bool, true, false, List, [], ◌∷◌, length, set}
+use Rattle.std.proofs.Common.{Option, Some, None, zero, suc, refl, sym, ◌∙◌, ap, subst, arith}
 use Rattle.std.proofs.lemmas.Bool.{ltb-true}
 use Rattle.std.proofs.lemmas.List.{set-get_or}
 use Rattle.cell_words.specs.declared.colours.Colour.TheVariants as colour
@@ -15,16 +16,25 @@ use Rattle.core_machine.specs.Handshakes.{wanted_of}
 use Rattle.core_machine.specs.InRange.{IsShaped, ScanFits, SweepFits}
 use Rattle.core_machine.specs.Next.{can, found_by, after}
 use Rattle.core_machine.specs.Operations.{may_begin}
-use Rattle.core_machine.specs.State.{State, colour_of, field_of, presence_in, presence_of, own_of, target_of}
+use Rattle.core_machine.specs.State.{State, colour_of, field_of, presence_in, presence_of, own_of}
+use Rattle.core_machine.specs.State.{target_of}
 use Rattle.core_machine.specs.Sweep.{is_fresh, wiped_count, may_wipe}
-use Rattle.core_machine.specs.Table.{Word, StatusOf, ColourOf, FieldOf, HasWord, number_in, index_of, words_of}
+use Rattle.core_machine.specs.Table.{Word, StatusOf, ColourOf, FieldOf, HasWord, number_in}
+use Rattle.core_machine.specs.Table.{index_of, words_of}
 use Rattle.core_machine.specs.Tracing.{may_scan, scan_of, scan_or_none, child_of}
-use Rattle.core_machine.specs.WordOperations.{word_of, left_by, operation_of, IsPackedAs, IsOneOperation}
+use Rattle.core_machine.specs.WordOperations.{word_of, left_by, operation_of, IsPackedAs}
+use Rattle.core_machine.specs.WordOperations.{IsOneOperation}
 use Rattle.core_machine.specs.Words.{shaded, cleared, claimed, born_colour}
-use Rattle.core_machine.proofs.Conditions.{come_in_needs, read_needs, claim_needs, fill_needs, write_needs, answer_needs, keep_needs, poll_needs, answer_out_needs, clear_needs, see_needs, sweep_look_needs}
-use Rattle.core_machine.proofs.Ranges.Collecting.{in_sweep, child_fits, scan_cell_below, wiping_busy, freeing_busy, black_busy}
+use Rattle.core_machine.proofs.Conditions.{come_in_needs, read_needs, claim_needs, fill_needs}
+use Rattle.core_machine.proofs.Conditions.{write_needs, answer_needs, keep_needs, poll_needs}
+use Rattle.core_machine.proofs.Conditions.{answer_out_needs, clear_needs, see_needs}
+use Rattle.core_machine.proofs.Conditions.{sweep_look_needs}
+use Rattle.core_machine.proofs.Ranges.Collecting.{in_sweep, child_fits, scan_cell_below}
+use Rattle.core_machine.proofs.Ranges.Collecting.{wiping_busy, freeing_busy, black_busy}
 use Rattle.core_machine.proofs.Table.{word_below, word_read, status_set, colour_set, field_set}
-use Rattle.core_machine.proofs.WordOperations.{shade_leaves, clear_leaves, claim_leaves, write_leaves, begin_leaves, over_leaves, end_leaves, answer_out_leaves}
+use Rattle.core_machine.proofs.WordOperations.{shade_leaves, clear_leaves, claim_leaves}
+use Rattle.core_machine.proofs.WordOperations.{write_leaves, begin_leaves, over_leaves, end_leaves}
+use Rattle.core_machine.proofs.WordOperations.{answer_out_leaves}
 
 -- an event that leaves what its operation does, and finds what stands in the word
 once : (s : State) (e : Event) → IsShaped s → HasWord s (word_of s e)

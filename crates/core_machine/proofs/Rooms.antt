@@ -1,5 +1,7 @@
 -- A run stays a run where the room of a mutator without events is another one.
-use Rattle.std.proofs.Common.{◌≡◌, ◌≢◌, ℕ, ◌+◌, true, false, cond, ◌&&◌, List, [], ◌∷◌, length, set, replicate, nat_lt, nat_le, Option, Some, None, refl, sym, ◌∙◌, ap, subst}
+use Rattle.std.proofs.Common.{◌≡◌, ◌≢◌, ℕ, ◌+◌, true, false, cond, ◌&&◌, List, [], ◌∷◌, length, set}
+use Rattle.std.proofs.Common.{replicate, nat_lt, nat_le, Option, Some, None, refl, sym, ◌∙◌, ap}
+use Rattle.std.proofs.Common.{subst}
 use Rattle.std.proofs.lemmas.List.{get_or-set_other, length-set}
 use Rattle.cell_words.specs.declared.controls.Stage.TheVariants as stage
 use Rattle.cell_words.specs.declared.fields.Field.{Field}
@@ -9,7 +11,8 @@ use Rattle.core_machine.specs.declared.events.Taken.{Taken}
 use Rattle.core_machine.specs.Next.{can, maker, found_by, after}
 use Rattle.core_machine.specs.Operations.{is_in, has_mode, is_place}
 use Rattle.core_machine.specs.Run.{Runs, last}
-use Rattle.core_machine.specs.State.{State, room_in, held_of, opening, opening_presence, opening_collector}
+use Rattle.core_machine.specs.State.{State, room_in, held_of, opening, opening_presence}
+use Rattle.core_machine.specs.State.{opening_collector}
 use Rattle.core_machine.specs.Own.{no_own}
 use Rattle.core_machine.specs.Trail.{trail_of, same_maker, roomed}
 use Rattle.core_machine.proofs.Trails.{maker_differs}
@@ -17,7 +20,8 @@ use Rattle.core_machine.proofs.Frames.{as_large}
 
 -- Only a mutator's own events look at its room: Read, Claim and Keep.
 
-pub found_roomed : (s : State) (rooms : List ℕ) (e : Event) → found_by (roomed s rooms) e ≡ found_by s e
+pub found_roomed : (s : State) (rooms : List ℕ) (e : Event)
+    → found_by (roomed s rooms) e ≡ found_by s e
 found_roomed s rooms (event.Begin i) = refl
 found_roomed s rooms _ = refl
 

@@ -13,18 +13,21 @@ pub some_when : (s : State) (e : Event) → can s e ≡ true → next s e ≡ So
 some_when s e is = ap (λ (b : Bool). when b (after s e)) is
 
 -- one event more
-pub runs_snoc : (s : State) (ts : List Taken) (t : Taken) → Runs s ts → can (last s ts) t.event ≡ true
+pub runs_snoc : (s : State) (ts : List Taken) (t : Taken) → Runs s ts
+    → can (last s ts) t.event ≡ true
     → t.found ≡ found_by (last s ts) t.event → Runs s (ts ++ t ∷ [])
 runs_snoc s [] t runs happens found = (happens, found, tt)
 runs_snoc s (u ∷ us) t runs happens found =
     (runs.0, runs.1, runs_snoc (after s u.event) us t runs.2 happens found)
 
-pub last_snoc : (s : State) (ts : List Taken) (t : Taken) → last s (ts ++ t ∷ []) ≡ after (last s ts) t.event
+pub last_snoc : (s : State) (ts : List Taken) (t : Taken)
+    → last s (ts ++ t ∷ []) ≡ after (last s ts) t.event
 last_snoc s [] t = refl
 last_snoc s (u ∷ us) t = last_snoc (after s u.event) us t
 
 -- two runs, one after the other
-pub runs_append : (s : State) (ts us : List Taken) → Runs s ts → Runs (last s ts) us → Runs s (ts ++ us)
+pub runs_append : (s : State) (ts us : List Taken) → Runs s ts → Runs (last s ts) us
+    → Runs s (ts ++ us)
 runs_append s [] us first rest = rest
 runs_append s (t ∷ ts) us first rest =
     (first.0, first.1, runs_append (after s t.event) ts us first.2 rest)

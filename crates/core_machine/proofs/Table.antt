@@ -1,7 +1,10 @@
 -- What stands where in the table of a heap, and that a change of one part of the state is a change
 -- of one word.
-use Rattle.std.proofs.Common.{◌≡◌, ℕ, zero, suc, ◌+◌, ◌*◌, ◌<◌, List, [], ◌∷◌, ◌++◌, length, map, get_or, set, refl, sym, ◌∙◌, ap, subst, arith, append_assoc, length-append}
-use Rattle.std.proofs.lemmas.List.{get_or_append_left, get_or-append-add, get_or-map, length-map, map-set, set-append_left, set-append_right, set-get_or}
+use Rattle.std.proofs.Common.{◌≡◌, ℕ, zero, suc, ◌+◌, ◌*◌, ◌<◌, List, [], ◌∷◌, ◌++◌, length, map}
+use Rattle.std.proofs.Common.{get_or, set, refl, sym, ◌∙◌, ap, subst, arith, append_assoc}
+use Rattle.std.proofs.Common.{length-append}
+use Rattle.std.proofs.lemmas.List.{get_or_append_left, get_or-append-add, get_or-map, length-map}
+use Rattle.std.proofs.lemmas.List.{map-set, set-append_left, set-append_right, set-get_or}
 use Rattle.cell_words.specs.Colour.{pack_colour_of}
 use Rattle.cell_words.specs.Control.{pack_control_of}
 use Rattle.cell_words.specs.Field.{pack_field_of}
@@ -12,7 +15,8 @@ use Rattle.cell_words.specs.declared.fields.Field.TheVariants as field
 use Rattle.cell_words.specs.declared.presences.Presence.{Presence}
 use Rattle.core_machine.specs.InRange.{IsShaped}
 use Rattle.core_machine.specs.State.{State, colour_in, row_in, field_in, no_presence, set_field}
-use Rattle.core_machine.specs.Table.{Word, TheControl, StatusOf, ColourOf, FieldOf, HasWord, number_in, index_of, cell_words, words_of}
+use Rattle.core_machine.specs.Table.{Word, TheControl, StatusOf, ColourOf, FieldOf, HasWord}
+use Rattle.core_machine.specs.Table.{number_in, index_of, cell_words, words_of}
 
 -- Lists of numbers.
 

@@ -1,5 +1,6 @@
 -- How trails grow along a run, and that each maker knows its own part from its trail.
-use Rattle.std.proofs.Common.{◌≡◌, ◌≢◌, ℕ, Bool, true, false, cond, List, [], ◌∷◌, ◌++◌, Option, Some, None, refl, sym, ◌∙◌, ap, subst}
+use Rattle.std.proofs.Common.{◌≡◌, ◌≢◌, ℕ, Bool, true, false, cond, List, [], ◌∷◌, ◌++◌, Option}
+use Rattle.std.proofs.Common.{Some, None, refl, sym, ◌∙◌, ap, subst}
 use Rattle.std.proofs.lemmas.Bool.{eq-eqb, eqb-true}
 use Rattle.std.proofs.lemmas.List.{append-nil}
 use Rattle.cell_words.specs.declared.presences.Presence.{Presence}
@@ -11,8 +12,10 @@ use Rattle.core_machine.specs.Next.{can, maker, found_by, after}
 use Rattle.core_machine.specs.Own.{Own, own_after, presence_after}
 use Rattle.core_machine.specs.Run.{Runs, last}
 use Rattle.core_machine.specs.State.{State, own_in, own_of, presence_of}
-use Rattle.core_machine.specs.Trail.{same_maker, trail_of, own_along, presence_along, Collecting, collecting_of, collecting_after, collecting_along}
-use Rattle.core_machine.proofs.Frames.{as_large, mutator_framed, collector_framed, own_mine, own_else, presence_mine, knows_after, knows_else}
+use Rattle.core_machine.specs.Trail.{same_maker, trail_of, own_along, presence_along, Collecting}
+use Rattle.core_machine.specs.Trail.{collecting_of, collecting_after, collecting_along}
+use Rattle.core_machine.proofs.Frames.{as_large, mutator_framed, collector_framed, own_mine}
+use Rattle.core_machine.proofs.Frames.{own_else, presence_mine, knows_after, knows_else}
 use Rattle.core_machine.proofs.Ranges.Events.{after_shaped}
 
 -- Makers.

@@ -4,7 +4,8 @@
 -- collector knows besides: the number of cells, and the control, which it alone stores. Events of
 -- mutators leave it.
 -- Source: this project's.
-use Rattle.std.specs.Prelude.{ℕ, ◌+◌, Bool, true, false, not, ◌&&◌, ◌==◌, List, map, Option, Some, None, slice_index, slice_set, if◌then◌else◌}
+use Rattle.std.specs.Prelude.{ℕ, ◌+◌, Bool, true, false, not, ◌&&◌, ◌==◌, List, map, Option, Some}
+use Rattle.std.specs.Prelude.{None, slice_index, slice_set, if◌then◌else◌}
 use Rattle.cell_words.specs.declared.colours.Colour.{Colour}
 use Rattle.cell_words.specs.declared.colours.Colour.TheVariants as colour
 use Rattle.cell_words.specs.declared.controls.Control.{Control}
@@ -60,7 +61,8 @@ answered_by c i false = c
 
 -- a pass that met gray and came to the end starts over
 abbrev pub restarted : Collector → ℕ → Collector
-restarted c cells = if (c.cursor == cells) && not c.clean then record c { cursor = 0; clean = true } else c
+restarted c cells = if
+    (c.cursor == cells) && not c.clean then record c { cursor = 0; clean = true } else c
 
 -- the pass goes on where this is the cell that it has come to
 abbrev pub passed : Collector → ℕ → Collector
@@ -139,7 +141,8 @@ sweep_looked_by c _ = c
 abbrev pub collector_after : ℕ → Control → Collector → Event → Found → Collector
 collector_after cells control c (event.Post target) found = posted c target
 collector_after cells control c (event.Poll i) found = polled_by c control i found
-collector_after cells control c (event.AnswerOut i over) found = answered_out_by c control i over found
+collector_after cells control c
+    (event.AnswerOut i over) found = answered_out_by c control i over found
 collector_after cells control c event.ClearCell found = record c { cursor = c.cursor + 1 }
 collector_after cells control c event.Anchor found = record c { anchor_marked = true }
 collector_after cells control c (event.See cell) found = seen_by c cells cell found
@@ -156,7 +159,8 @@ collector_after cells control c _ found = c
 -- What an event of the collector leaves of the control.
 
 abbrev pub posted_control : Control → Stage → Control
-posted_control control stage.Idle = record control { stage = stage.Idle; position = 0; cycles = control.cycles + 1 }
+posted_control control stage.Idle = record control
+    { stage = stage.Idle; position = 0; cycles = control.cycles + 1 }
 posted_control control stage.Sync1 = record control { stage = stage.Sync1 }
 posted_control control stage.Clear = record control { stage = stage.Clear }
 posted_control control stage.Sync2 = record control { stage = stage.Sync2 }

@@ -11,9 +11,12 @@ use Rattle.cell_words.specs.declared.fields.Field.{Field}
 use Rattle.core_machine.specs.declared.progress.Scanning.{Scanning}
 use Rattle.core_machine.specs.declared.progress.Sweeping.TheVariants as sweeping
 use Rattle.core_machine.specs.Mutation.{names_own}
-use Rattle.core_machine.specs.Operations.{is_in, has_mode, own_barrier, next_own_status, third_answer_can}
+use Rattle.core_machine.specs.Operations.{is_in, has_mode, own_barrier, next_own_status}
+use Rattle.core_machine.specs.Operations.{third_answer_can}
 use Rattle.core_machine.specs.Places.{marks_stand}
-use Rattle.core_machine.specs.State.{State, greatest_cycles, colour_of, field_of, held_of, own_of, presence_of, room_of, target_of, is_box, is_raw, is_raw_value, has_answered, all_answered}
+use Rattle.core_machine.specs.State.{State, greatest_cycles, colour_of, field_of, held_of, own_of}
+use Rattle.core_machine.specs.State.{presence_of, room_of, target_of, is_box, is_raw, is_raw_value}
+use Rattle.core_machine.specs.State.{has_answered, all_answered}
 use Rattle.core_machine.specs.Words.{is_cell, is_gray, is_handshake, marks_some, requests}
 
 -- Of a mutator.

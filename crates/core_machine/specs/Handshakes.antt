@@ -12,7 +12,8 @@ use Rattle.core_machine.specs.declared.events.Found.TheVariants as finds
 use Rattle.core_machine.specs.declared.events.Event.{Event}
 use Rattle.core_machine.specs.declared.events.Event.TheVariants as event
 use Rattle.core_machine.specs.Collector.{collector_after, control_after}
-use Rattle.core_machine.specs.State.{State, greatest_cycles, presence_of, has_answered, all_answered}
+use Rattle.core_machine.specs.State.{State, greatest_cycles, presence_of, has_answered}
+use Rattle.core_machine.specs.State.{all_answered}
 use Rattle.core_machine.specs.Words.{same_stage, is_handshake, answered_out}
 
 -- Tests and readers that many kinds use.
@@ -48,10 +49,12 @@ post_can s stage.Clear = at_stage s stage.Sync1 && all_answered s
 post_can s stage.Sync2 = at_stage s stage.Clear && at_end s
 post_can s stage.Trace = at_stage s stage.Sync2 && all_answered s && s.collector.anchor_marked
 post_can s stage.Sweep =
-    at_stage s stage.Trace && all_answered s && is_none s.collector.scan && at_end s && s.collector.clean
+    at_stage s stage.Trace && all_answered s && is_none s.collector.scan && at_end s &&
+    s.collector.clean
 
 abbrev pub post_after : State → Stage → State
-post_after s target = tell_control (tell_collector s (event.Post target) finds.Stored) (event.Post target)
+post_after s target = tell_control (tell_collector s (event.Post target) finds.Stored)
+    (event.Post target)
 
 -- Duty.
 

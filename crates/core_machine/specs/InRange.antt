@@ -4,7 +4,8 @@
 -- Each group of facts takes the parts of the state that it reads, so an event that changes none of
 -- these keeps the group as it is.
 -- Source: this project's.
-use Rattle.std.specs.Prelude.{ℕ, ◌≡◌, ◌+◌, ◌*◌, ◌^◌, ◌<◌, ◌≤◌, Bool, true, nat_lt, List, length, slice_index, Option, Some, None}
+use Rattle.std.specs.Prelude.{ℕ, ◌≡◌, ◌+◌, ◌*◌, ◌^◌, ◌<◌, ◌≤◌, Bool, true, nat_lt, List, length}
+use Rattle.std.specs.Prelude.{slice_index, Option, Some, None}
 use Rattle.std.specs.List.{count_by, list_all}
 use Rattle.cell_words.specs.Presence.{is_valid_presence}
 use Rattle.cell_words.specs.declared.colours.Colour.{Colour}
@@ -19,7 +20,8 @@ use Rattle.core_machine.specs.declared.progress.Sweeping.{Sweeping}
 use Rattle.core_machine.specs.declared.progress.Sweeping.TheVariants as sweeping
 use Rattle.core_machine.specs.Own.{Own}
 use Rattle.core_machine.specs.Places.{cell_at}
-use Rattle.core_machine.specs.State.{State, greatest_cells, greatest_cycles, row_in, field_in, own_in, presence_in}
+use Rattle.core_machine.specs.State.{State, greatest_cells, greatest_cycles, row_in, field_in}
+use Rattle.core_machine.specs.State.{own_in, presence_in}
 use Rattle.core_machine.specs.Words.{is_blue}
 
 -- the lists that go by cells

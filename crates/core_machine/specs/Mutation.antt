@@ -10,9 +10,12 @@ use Rattle.core_machine.specs.declared.events.Found.{Found}
 use Rattle.core_machine.specs.declared.events.Found.TheVariants as finds
 use Rattle.core_machine.specs.declared.events.Event.TheVariants as event
 use Rattle.core_machine.specs.Places.{names_rightly, marks_stand}
-use Rattle.core_machine.specs.State.{State, colour_of, field_of, presence_of, own_of, held_of, target_of, is_raw, is_box, is_raw_value, set_field}
-use Rattle.core_machine.specs.Words.{shaded, claimed, written, is_cell, kind_field, marks_some, born_colour}
-use Rattle.core_machine.specs.Operations.{is_in, is_place, has_room, has_mode, own_barrier, tell_own}
+use Rattle.core_machine.specs.State.{State, colour_of, field_of, presence_of, own_of, held_of}
+use Rattle.core_machine.specs.State.{target_of, is_raw, is_box, is_raw_value, set_field}
+use Rattle.core_machine.specs.Words.{shaded, claimed, written, is_cell, kind_field, marks_some}
+use Rattle.core_machine.specs.Words.{born_colour}
+use Rattle.core_machine.specs.Operations.{is_in, is_place, has_room, has_mode, own_barrier}
+use Rattle.core_machine.specs.Operations.{tell_own}
 
 -- Mark. Without a mode the barrier is Nothing, so the last test wants a mode too.
 
@@ -25,7 +28,8 @@ mark_found s i place = finds.Colour (colour_of s (target_of s i place))
 abbrev pub mark_after : State → ℕ → ℕ → State
 mark_after s i place =
     tell_own (record s {
-      colours = slice_set s.colours (target_of s i place) (shaded (colour_of s (target_of s i place)));
+      colours = slice_set s.colours (target_of s i place)
+          (shaded (colour_of s (target_of s i place)));
     }) i (event.Mark i place) (mark_found s i place)
 
 -- Write.
@@ -82,4 +86,5 @@ abbrev pub seal_can : State → ℕ → ℕ → Bool
 seal_can s i place = is_in s i && is_place s i place && is_raw s (target_of s i place)
 
 abbrev pub seal_after : State → ℕ → ℕ → Kind → State
-seal_after s i place kind = record s { rows = set_field s.rows (target_of s i place) 5 (kind_field kind) }
+seal_after s i place kind = record s
+    { rows = set_field s.rows (target_of s i place) 5 (kind_field kind) }

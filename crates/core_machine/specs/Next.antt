@@ -8,11 +8,23 @@ use Rattle.core_machine.specs.declared.events.Found.TheVariants as finds
 use Rattle.core_machine.specs.declared.events.Event.{Event}
 use Rattle.core_machine.specs.declared.events.Event.TheVariants as event
 use Rattle.core_machine.specs.State.{State}
-use Rattle.core_machine.specs.Mutation.{mark_can, mark_found, mark_after, write_can, write_found, write_after, claim_can, claim_found, claim_after, fill_can, fill_after, seal_can, seal_after}
-use Rattle.core_machine.specs.Operations.{begin_can, begin_found, begin_after, look_can, look_found, look_after, read_can, read_found, read_after, answer_can, answer_after, keep_can, keep_found, keep_after, end_can, end_found, end_after, over_can, over_found, over_after}
-use Rattle.core_machine.specs.Handshakes.{post_can, post_after, duty_can, duty_after, poll_can, poll_found, poll_after, answer_out_can, answer_out_found, answer_out_after}
-use Rattle.core_machine.specs.Sweep.{sweep_look_can, sweep_look_found, sweep_look_after, wipe_can, wipe_after, free_can, free_after, whiten_can, whiten_after, advance_can, advance_after}
-use Rattle.core_machine.specs.Tracing.{clear_can, clear_found, clear_after, anchor_can, anchor_found, anchor_after, see_can, see_found, see_after, scan_can, scan_found, scan_after, shade_can, shade_found, shade_after, blacken_can, blacken_after}
+use Rattle.core_machine.specs.Mutation.{mark_can, mark_found, mark_after, write_can, write_found}
+use Rattle.core_machine.specs.Mutation.{write_after, claim_can, claim_found, claim_after, fill_can}
+use Rattle.core_machine.specs.Mutation.{fill_after, seal_can, seal_after}
+use Rattle.core_machine.specs.Operations.{begin_can, begin_found, begin_after, look_can, look_found}
+use Rattle.core_machine.specs.Operations.{look_after, read_can, read_found, read_after, answer_can}
+use Rattle.core_machine.specs.Operations.{answer_after, keep_can, keep_found, keep_after, end_can}
+use Rattle.core_machine.specs.Operations.{end_found, end_after, over_can, over_found, over_after}
+use Rattle.core_machine.specs.Handshakes.{post_can, post_after, duty_can, duty_after, poll_can}
+use Rattle.core_machine.specs.Handshakes.{poll_found, poll_after, answer_out_can, answer_out_found}
+use Rattle.core_machine.specs.Handshakes.{answer_out_after}
+use Rattle.core_machine.specs.Sweep.{sweep_look_can, sweep_look_found, sweep_look_after, wipe_can}
+use Rattle.core_machine.specs.Sweep.{wipe_after, free_can, free_after, whiten_can, whiten_after}
+use Rattle.core_machine.specs.Sweep.{advance_can, advance_after}
+use Rattle.core_machine.specs.Tracing.{clear_can, clear_found, clear_after, anchor_can}
+use Rattle.core_machine.specs.Tracing.{anchor_found, anchor_after, see_can, see_found, see_after}
+use Rattle.core_machine.specs.Tracing.{scan_can, scan_found, scan_after, shade_can, shade_found}
+use Rattle.core_machine.specs.Tracing.{shade_after, blacken_can, blacken_after}
 
 -- whose event it is: a mutator's, or the collector's
 abbrev pub maker : Event → Option ℕ

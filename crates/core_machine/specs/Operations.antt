@@ -6,7 +6,8 @@
 -- its held list.
 -- Source: Doligez and Leroy, POPL 1993, and Doligez and Gonthier, POPL 1994 (the handshakes); this
 -- project's (held lists with marks, modes, operations).
-use Rattle.std.specs.Prelude.{ℕ, ◌+◌, Bool, not, ◌&&◌, ◌||◌, nat_lt, nat_le, length, slice_set, is_some}
+use Rattle.std.specs.Prelude.{ℕ, ◌+◌, Bool, not, ◌&&◌, ◌||◌, nat_lt, nat_le, length, slice_set}
+use Rattle.std.specs.Prelude.{is_some}
 use Rattle.cell_words.specs.declared.presences.Status.TheVariants as status
 use Rattle.cell_words.specs.declared.write_barrier.Barrier.{Barrier}
 use Rattle.cell_words.specs.declared.presences.Status.{Status}
@@ -17,7 +18,8 @@ use Rattle.core_machine.specs.declared.events.Event.{Event}
 use Rattle.core_machine.specs.declared.events.Event.TheVariants as event
 use Rattle.core_machine.specs.Own.{own_after, presence_after}
 use Rattle.core_machine.specs.Places.{all_marked}
-use Rattle.core_machine.specs.State.{State, field_of, room_of, presence_of, own_of, held_of, target_of}
+use Rattle.core_machine.specs.State.{State, field_of, room_of, presence_of, own_of, held_of}
+use Rattle.core_machine.specs.State.{target_of}
 use Rattle.core_machine.specs.Words.{same_status, barrier_in, requests}
 
 -- Tests that many kinds make.
@@ -60,7 +62,8 @@ abbrev pub begin_found : State → ℕ → Found
 begin_found s i = finds.Presence (presence_of s i)
 
 abbrev pub begin_after : State → ℕ → State
-begin_after s i = tell_presence (tell_own s i (event.Begin i) (begin_found s i)) i (event.Begin i) (begin_found s i)
+begin_after s i = tell_presence (tell_own s i (event.Begin i) (begin_found s i)) i (event.Begin i)
+    (begin_found s i)
 
 -- Look.
 
@@ -91,13 +94,16 @@ next_own_status s i = next_status_of (presence_of s i).status
 
 -- where the next status is async, each place is marked
 abbrev pub third_answer_can : State → ℕ → Bool
-third_answer_can s i = not (same_status (next_own_status s i) status.Async) || all_marked (held_of s i)
+third_answer_can s i = not (same_status (next_own_status s i) status.Async) || all_marked
+    (held_of s i)
 
 abbrev pub answer_can : State → ℕ → Bool
-answer_can s i = is_in s i && requests (own_of s i).mode (next_own_status s i) && third_answer_can s i
+answer_can s i = is_in s i && requests (own_of s i).mode
+    (next_own_status s i) && third_answer_can s i
 
 abbrev pub answer_after : State → ℕ → State
-answer_after s i = tell_presence (tell_own s i (event.Answer i) finds.Stored) i (event.Answer i) finds.Stored
+answer_after s i = tell_presence (tell_own s i (event.Answer i) finds.Stored) i
+    (event.Answer i) finds.Stored
 
 -- Keep.
 
@@ -121,7 +127,8 @@ abbrev pub end_found : State → ℕ → Found
 end_found s i = finds.Presence (presence_of s i)
 
 abbrev pub end_after : State → ℕ → State
-end_after s i = tell_presence (tell_own s i (event.End i) (end_found s i)) i (event.End i) (end_found s i)
+end_after s i = tell_presence (tell_own s i (event.End i) (end_found s i)) i (event.End i)
+    (end_found s i)
 
 -- Over.
 

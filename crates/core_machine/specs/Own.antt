@@ -101,12 +101,14 @@ own_after own _ found = own
 
 -- it takes the status that it finds, since the collector may have answered while it was out
 abbrev pub present_by : Presence → Found → Presence
-present_by presence (finds.Presence found) = record presence { status = found.status; inside = true }
+present_by presence
+    (finds.Presence found) = record presence { status = found.status; inside = true }
 present_by presence _ = presence
 
 abbrev pub presence_after : Presence → Event → Found → Presence
 presence_after presence (event.Begin i) found = present_by presence found
-presence_after presence (event.Answer i) found = record presence { status = next_status_of presence.status }
+presence_after presence
+    (event.Answer i) found = record presence { status = next_status_of presence.status }
 presence_after presence (event.End i) found = record presence { inside = false }
 presence_after presence (event.Over i) found = record presence { over = true }
 presence_after presence _ found = presence

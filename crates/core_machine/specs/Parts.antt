@@ -13,7 +13,11 @@ pub record Parts : Type 0 where
   pub owns : List Own
 
 abbrev pub parts_of : List Part → Parts
-parts_of parts = record { rooms = map (λ part. part.room) parts; owns = map (λ part. part.own) parts }
+parts_of parts = record {
+  rooms = map (λ part. part.room) parts;
+  owns = map
+      (λ part. part.own) parts;
+}
 
 -- mutator i has another own part
 abbrev pub with_own : Parts → ℕ → Own → Parts

@@ -7,7 +7,8 @@ use Rattle.core_machine.specs.State.{State}
 -- from the state on each event can happen when its turn comes, and finds what is told of it
 abbrev pub Runs : State → List Taken → Type 0
 Runs s [] = Unit {0}
-Runs s (t ∷ ts) = (can s t.event ≡ true) × (t.found ≡ found_by s t.event) × Runs (after s t.event) ts
+Runs s (t ∷ ts) = (can s t.event ≡ true) × (t.found ≡ found_by s t.event)
+    × Runs (after s t.event) ts
 
 -- the state behind the last event
 abbrev pub last : State → List Taken → State

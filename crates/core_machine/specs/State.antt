@@ -6,7 +6,8 @@
 -- above has to speak of ranges. What a state of the machine has besides, as equal lengths, is
 -- `InRange`.
 -- Source: this project's.
-use Rattle.std.specs.Prelude.{ℕ, ◌-◌, Bool, true, false, List, [], ◌++◌, length, replicate, slice_index, slice_index_or, slice_set, None}
+use Rattle.std.specs.Prelude.{ℕ, ◌-◌, Bool, true, false, List, [], ◌++◌, length, replicate}
+use Rattle.std.specs.Prelude.{slice_index, slice_index_or, slice_set, None}
 use Rattle.std.specs.List.{list_all, count_by}
 use Rattle.cell_words.specs.declared.colours.Colour.{Colour}
 use Rattle.cell_words.specs.declared.colours.Colour.TheVariants as colour

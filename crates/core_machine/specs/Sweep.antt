@@ -99,7 +99,8 @@ is_done sweeping.BlackFound = false
 is_done sweeping.Done = true
 
 abbrev pub advance_can : State → Bool
-advance_can s = at_stage s stage.Sweep && nat_lt s.control.position s.cells && is_done s.collector.sweep
+advance_can s = at_stage s stage.Sweep && nat_lt s.control.position s.cells && is_done
+    s.collector.sweep
 
 abbrev pub advance_after : State → State
 advance_after s = tell_control (tell_collector s event.Advance finds.Stored) event.Advance

@@ -3,7 +3,8 @@
 -- happen.
 -- Source: Doligez and Leroy, POPL 1993, and Doligez and Gonthier, POPL 1994 (the colours, tracing
 -- by passes over all cells); this project's (clearing as a stage, a scan field by field).
-use Rattle.std.specs.Prelude.{ℕ, Bool, false, not, ◌&&◌, ◌==◌, nat_lt, slice_set, Option, Some, None, is_none}
+use Rattle.std.specs.Prelude.{ℕ, Bool, false, not, ◌&&◌, ◌==◌, nat_lt, slice_set, Option, Some}
+use Rattle.std.specs.Prelude.{None, is_none}
 use Rattle.cell_words.specs.declared.colours.Colour.TheVariants as colour
 use Rattle.cell_words.specs.declared.controls.Stage.TheVariants as stage
 use Rattle.core_machine.specs.declared.events.Found.{Found}
@@ -62,7 +63,8 @@ anchor_after s =
 -- See.
 
 abbrev pub see_can : State → ℕ → Bool
-see_can s c = at_stage s stage.Trace && all_answered s && is_none s.collector.scan && nat_lt c s.cells
+see_can s c = at_stage s stage.Trace && all_answered s && is_none s.collector.scan && nat_lt c
+    s.cells
 
 abbrev pub see_found : State → ℕ → Found
 see_found s c = finds.Colour (colour_of s c)

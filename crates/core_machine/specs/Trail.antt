@@ -2,7 +2,8 @@
 --
 -- Each knows its own part from its own trail: where it began, its events, and what they found.
 -- Source: this project's.
-use Rattle.std.specs.Prelude.{ℕ, Bool, true, false, ◌==◌, List, [], ◌∷◌, Option, Some, None, if◌then◌else◌}
+use Rattle.std.specs.Prelude.{ℕ, Bool, true, false, ◌==◌, List, [], ◌∷◌, Option, Some, None}
+use Rattle.std.specs.Prelude.{if◌then◌else◌}
 use Rattle.cell_words.specs.declared.controls.Control.{Control}
 use Rattle.cell_words.specs.declared.presences.Presence.{Presence}
 use Rattle.core_machine.specs.declared.events.Event.{Event}

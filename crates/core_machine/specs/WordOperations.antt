@@ -3,7 +3,8 @@
 -- The operations are those of one processor on one word: a load, a store, a compare and exchange,
 -- and the two that set bits and keep bits. Each leaves a function of the number that it finds.
 -- Source: this project's.
-use Rattle.std.specs.Prelude.{ℕ, ◌≡◌, ◌==◌, ◌<◌, Bool, true, false, slice_index, slice_set, length, bit_and, bit_or, if◌then◌else◌}
+use Rattle.std.specs.Prelude.{ℕ, ◌≡◌, ◌==◌, ◌<◌, Bool, true, false, slice_index, slice_set, length}
+use Rattle.std.specs.Prelude.{bit_and, bit_or, if◌then◌else◌}
 use Rattle.cell_words.specs.Colour.{pack_colour_of}
 use Rattle.cell_words.specs.Control.{pack_control_of, IsValidControl}
 use Rattle.cell_words.specs.Field.{pack_field_of, IsValidField}
@@ -24,7 +25,8 @@ use Rattle.core_machine.specs.Handshakes.{wanted_of}
 use Rattle.core_machine.specs.Next.{found_by, after}
 use Rattle.core_machine.specs.State.{State, own_of, presence_of, target_of}
 use Rattle.core_machine.specs.Sweep.{wiped_count}
-use Rattle.core_machine.specs.Table.{Word, TheControl, StatusOf, ColourOf, FieldOf, HasWord, index_of, words_of}
+use Rattle.core_machine.specs.Table.{Word, TheControl, StatusOf, ColourOf, FieldOf, HasWord}
+use Rattle.core_machine.specs.Table.{index_of, words_of}
 use Rattle.core_machine.specs.Tracing.{scan_of, child_of}
 use Rattle.core_machine.specs.Words.{kind_field, born_colour}
 

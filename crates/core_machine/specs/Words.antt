@@ -4,7 +4,8 @@
 -- not the expected one is left as it is by the same words as one that is.
 -- Source: Doligez and Leroy, POPL 1993 (the colours); this project's (kinds in field 5, six
 -- stages).
-use Rattle.std.specs.Prelude.{ℕ, Bool, true, false, not, ◌&&◌, ◌==◌, Option, Some, None, if◌then◌else◌}
+use Rattle.std.specs.Prelude.{ℕ, Bool, true, false, not, ◌&&◌, ◌==◌, Option, Some, None}
+use Rattle.std.specs.Prelude.{if◌then◌else◌}
 use Rattle.cell_words.specs.Modes.{requested_of, next_status_of, claim_colour_of, barrier_of}
 use Rattle.cell_words.specs.declared.colours.Colour.{Colour}
 use Rattle.cell_words.specs.declared.colours.Colour.TheVariants as colour
@@ -164,7 +165,8 @@ same_flag false false = true
 -- it would answer with is the requested one
 abbrev pub may_answer_out : Status → Bool → Presence → Bool
 may_answer_out wanted over found =
-    not found.inside && same_flag found.over over && same_status (next_status_of found.status) wanted
+    not found.inside && same_flag found.over over && same_status
+    (next_status_of found.status) wanted
 
 -- the exchange on the status word of a mutator that is out: what AnswerOut leaves
 abbrev pub answered_out : Status → Bool → Presence → Presence

@@ -1,7 +1,9 @@
 //! When the events of the collector can happen. Each test is one of specs/Handshakes,
 //! specs/Tracing or specs/Sweep.
-ghost use Rattle.core_machine.specs.Handshakes.{answer_out_can, at_end, at_stage, is_mutator, poll_can, post_can};
-ghost use Rattle.core_machine.specs.Sweep.{advance_can, is_black_found, is_done, is_fresh, may_free, may_wipe, sweep_look_can};
+ghost use Rattle.core_machine.specs.Handshakes.{answer_out_can, at_end, at_stage, is_mutator};
+ghost use Rattle.core_machine.specs.Handshakes.{poll_can, post_can};
+ghost use Rattle.core_machine.specs.Sweep.{advance_can, is_black_found, is_done, is_fresh};
+ghost use Rattle.core_machine.specs.Sweep.{may_free, may_wipe, sweep_look_can};
 ghost use Rattle.core_machine.specs.Tracing.{anchor_can, clear_can, may_blacken, may_scan, see_can};
 ghost use Rattle.core_machine.specs.InRange.{InRange};
 ghost use Rattle.cell_words.specs.declared.controls.Stage.TheVariants as stage;

@@ -1,9 +1,11 @@
 //! The collector's own part: the handshake's answers, how far clearing, tracing and the sweep are,
 //! and the counts of freed cells.
-ghost use Rattle.core_machine.specs.Collector.{answered_by, freed, nobody_answered, passed, posted, restarted, seen};
+ghost use Rattle.core_machine.specs.Collector.{answered_by, freed, nobody_answered, passed, posted};
+ghost use Rattle.core_machine.specs.Collector.{restarted, seen};
 ghost use Rattle.core_machine.specs.State.{opening_collector};
 ghost use Rattle.std.specs.List.{list_all};
-ghost use Rattle.std.specs.Prelude.{IfOk, length, slice_index, slice_index_or, true, ◌+◌, ◌<◌, ◌≡◌, ◌^◌};
+ghost use Rattle.std.specs.Prelude.{IfOk, length, slice_index, slice_index_or, true, ◌+◌, ◌<◌, ◌≡◌};
+ghost use Rattle.std.specs.Prelude.{◌^◌};
 
 use crate::NoMemory;
 use crate::progress::{Scanning, Sweeping};

@@ -1,6 +1,8 @@
 //! The state in memory, and its readers. The events stand in `mutator_events`, `collector_events`.
 ghost use Rattle.core_machine.specs.InRange.{InRange};
-ghost use Rattle.core_machine.specs.State.{all_answered, colour_of, field_of, free_count_of, freed_of, has_answered, held_of, own_of, presence_of, room_of, set_field, target_of};
+ghost use Rattle.core_machine.specs.State.{all_answered, colour_of, field_of, free_count_of};
+ghost use Rattle.core_machine.specs.State.{freed_of, has_answered, held_of, own_of, presence_of};
+ghost use Rattle.core_machine.specs.State.{room_of, set_field, target_of};
 ghost use Rattle.core_machine.specs.Words.{is_blue};
 ghost use Rattle.std.specs.Prelude.{count_by, length, ◌<◌, ◌≡◌};
 

@@ -1,7 +1,10 @@
 //! When the events of a mutator can happen. Each test is one of specs/Operations or specs/Mutation.
 ghost use Rattle.core_machine.specs.InRange.{InRange};
-ghost use Rattle.core_machine.specs.Mutation.{claim_can, fill_can, mark_can, names_own, seal_can, write_can};
-ghost use Rattle.core_machine.specs.Operations.{answer_can, has_mode, has_room, is_in, is_place, keep_can, may_begin, next_own_status, own_barrier, read_can, third_answer_can};
+ghost use Rattle.core_machine.specs.Mutation.{claim_can, fill_can, mark_can, names_own, seal_can};
+ghost use Rattle.core_machine.specs.Mutation.{write_can};
+ghost use Rattle.core_machine.specs.Operations.{answer_can, has_mode, has_room, is_in, is_place};
+ghost use Rattle.core_machine.specs.Operations.{keep_can, may_begin, next_own_status, own_barrier};
+ghost use Rattle.core_machine.specs.Operations.{read_can, third_answer_can};
 ghost use Rattle.core_machine.specs.State.{is_box, is_raw, is_raw_value};
 ghost use Rattle.std.specs.Prelude.{nat_le, ◌+◌, ◌<◌, ◌≡◌};
 

@@ -1,7 +1,8 @@
 //! The own part of one mutator: its held list with marks, its mode and its claims.
 //!
 //! The held list gets all its memory at the opening, so that no event takes memory.
-ghost use Rattle.core_machine.specs.Own.{begun, ended, having_claimed, having_read, holding, keeping, looked, marking, no_own, spent};
+ghost use Rattle.core_machine.specs.Own.{begun, ended, having_claimed, having_read, holding};
+ghost use Rattle.core_machine.specs.Own.{keeping, looked, marking, no_own, spent};
 ghost use Rattle.cell_words.specs.declared.colours.Colour.TheVariants.{Blue};
 ghost use Rattle.std.specs.Prelude.{length, IfOk, ◌≡◌, ◌+◌, ◌<◌, ◌≤◌, ◌^◌};
 

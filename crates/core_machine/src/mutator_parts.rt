@@ -1,6 +1,7 @@
 //! The own parts of all mutators. A call changes the part of one mutator.
 ghost use Rattle.cell_words.specs.declared.colours.Colour.TheVariants.{Blue};
-ghost use Rattle.core_machine.specs.Own.{begun, ended, having_claimed, having_read, keeping, looked, marking, no_own, spent};
+ghost use Rattle.core_machine.specs.Own.{begun, ended, having_claimed, having_read, keeping};
+ghost use Rattle.core_machine.specs.Own.{looked, marking, no_own, spent};
 ghost use Rattle.core_machine.specs.Parts.{with_own};
 ghost use Rattle.core_machine.specs.State.{own_in, room_in};
 ghost use Rattle.std.specs.Prelude.{IfOk, length, replicate, ◌+◌, ◌<◌, ◌≡◌, ◌≤◌, ◌^◌};

@@ -1,5 +1,7 @@
 //! Held lists: what a mutator holds, place by place.
-ghost use Rattle.core_machine.specs.Places.{all_marked, cell_at, holds, holds_marked, is_marked_value, kept, mark_of, marks_stand, names_rightly, unmark};
+ghost use Rattle.core_machine.specs.Places.{all_marked, cell_at, holds, holds_marked};
+ghost use Rattle.core_machine.specs.Places.{is_marked_value, kept, mark_of, marks_stand};
+ghost use Rattle.core_machine.specs.Places.{names_rightly, unmark};
 ghost use Rattle.std.specs.Prelude.{length, map, take, vec_capacity, ◌≡◌, ◌+◌, ◌≤◌};
 
 use cell_words::{Barrier, Field};

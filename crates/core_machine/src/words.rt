@@ -1,5 +1,9 @@
 //! What one operation on a word leaves there, and the tests that events make on words.
-ghost use Rattle.core_machine.specs.Words.{answered_out, barrier_in, born_colour, claimed, cleared, is_blue, is_box_kind, is_cell, is_gray, is_handshake, is_raw_kind, kind_field, marks_some, may_answer_out, requests, same_field, same_flag, same_stage, same_status, shaded, written};
+ghost use Rattle.core_machine.specs.Words.{answered_out, barrier_in, born_colour, claimed, cleared};
+ghost use Rattle.core_machine.specs.Words.{is_blue, is_box_kind, is_cell, is_gray, is_handshake};
+ghost use Rattle.core_machine.specs.Words.{is_raw_kind, kind_field, marks_some, may_answer_out};
+ghost use Rattle.core_machine.specs.Words.{requests, same_field, same_flag, same_stage};
+ghost use Rattle.core_machine.specs.Words.{same_status, shaded, written};
 ghost use Rattle.std.specs.Prelude.{◌≡◌};
 
 use cell_words::modes::{barrier, claim_colour, next_status, requested};

@@ -9,7 +9,8 @@ use Rattle.core_replay.specs.Standing.{IsReplayed}
 use Rattle.dlg_core.proofs.Throughout.{takes_consistent}
 
 -- whatever a call of one event answers
-pub takes_replayed : {U E : Type 0} (result : Result U E) (old new : State) (e : Event) → IsReplayed old
+pub takes_replayed : {U E : Type 0} (result : Result U E) (old new : State) (e : Event)
+    → IsReplayed old
     → Takes result old (next old e) new → IsReplayed new
 takes_replayed result old new e r is =
     let sizes = takes_sizes result old new e is in

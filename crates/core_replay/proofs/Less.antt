@@ -1,6 +1,8 @@
 -- Each event of a turn that does not post leaves the part of the work less that it is for. The
 -- lemmas speak of the parts of a state that the work is read from.
-use Rattle.std.proofs.Common.{if◌then◌else◌, ◌≡◌, ◌≢◌, ◌==◌, ℕ, ◌+◌, ◌*◌, ◌<◌, ◌≤◌, Bool, true, false, not, ◌&&◌, cond, nat_lt, List, length, get_or, Option, Some, None, is_none, refl, sym, ap, subst, arith, eq-eqb}
+use Rattle.std.proofs.Common.{if◌then◌else◌, ◌≡◌, ◌≢◌, ◌==◌, ℕ, ◌+◌, ◌*◌, ◌<◌, ◌≤◌, Bool, true}
+use Rattle.std.proofs.Common.{false, not, ◌&&◌, cond, nat_lt, List, length, get_or, Option, Some}
+use Rattle.std.proofs.Common.{None, is_none, refl, sym, ap, subst, arith, eq-eqb}
 use Rattle.std.specs.List.{count_by}
 use Rattle.std.proofs.Math.ListN.{set}
 use Rattle.std.proofs.lemmas.Bool.{and_from, and_parts, eqb-true, ltb-true, ne_eqb}
@@ -9,7 +11,8 @@ use Rattle.cell_words.specs.declared.colours.Colour.{Colour}
 use Rattle.cell_words.specs.declared.colours.Colour.TheVariants as colour
 use Rattle.cell_words.specs.declared.fields.Field.{Field}
 use Rattle.cell_words.specs.declared.fields.Field.TheVariants as field
-use Rattle.core_machine.specs.Collector.{Collector, passed, restarted, scanned, seen, sweep_of, wiped}
+use Rattle.core_machine.specs.Collector.{Collector, passed, restarted, scanned, seen, sweep_of}
+use Rattle.core_machine.specs.Collector.{wiped}
 use Rattle.core_machine.specs.InRange.{ChildFits}
 use Rattle.core_machine.specs.State.{colour_in}
 use Rattle.core_machine.specs.Sweep.{is_black_found, is_fresh, may_free, may_wipe}
@@ -29,16 +32,23 @@ count_set : {X : Type 0} (p : X → Bool) (xs : List X) (i : ℕ) (y d : X) → 
 count_set p xs i y d within = sum_by-set (λ x. weight (p x)) xs i y d within
 
 -- one mutator less has not answered
-pub answered_less : (answered : List Bool) (i : ℕ) → i < length answered → get_or answered i true ≡ false
+pub answered_less : (answered : List Bool) (i : ℕ) → i < length answered
+    → get_or answered i true ≡ false
     → unanswered (set answered i true) + 1 ≡ unanswered answered
 answered_less answered i within not_yet =
     omega (arith, count_set not answered i true true within, ap (λ b. weight (not b)) not_yet)
 
 -- one cell less is left
-pub blackened_less : (colours : List Colour) (c : ℕ) → c < length colours → colour_in colours c ≡ colour.Gray
+pub blackened_less : (colours : List Colour) (c : ℕ) → c < length colours
+    → colour_in colours c ≡ colour.Gray
     → count_by is_left (set colours c colour.Black) + 1 ≡ count_by is_left colours
 blackened_less colours c within gray =
-    omega (arith, count_set is_left colours c colour.Black colour.Blue within, ap (λ x. weight (is_left x)) gray)
+    omega (
+      arith,
+      count_set is_left colours c colour.Black colour.Blue within,
+      ap
+          (λ x. weight (is_left x)) gray,
+    )
 
 shaded_left : (x : Colour) → is_left (shaded x) ≡ is_left x
 shaded_left colour.Blue = refl
@@ -63,7 +73,8 @@ one_less k m w a b e h = subst (λ n. k * w + a + 1 ≤ n * w + b) e (omega arit
 -- Passes.
 
 -- a pass goes on by one cell
-pass_step : (cells : ℕ) (clean : Bool) (cursor : ℕ) (scan : Option Scanning) → scan ≡ None → cursor < cells
+pass_step : (cells : ℕ) (clean : Bool) (cursor : ℕ) (scan : Option Scanning) → scan ≡ None
+    → cursor < cells
     → pass_work cells clean (cursor + 1) scan + 1 ≤ pass_work cells clean cursor scan
 pass_step cells true cursor None none lt = omega arith
 pass_step cells false cursor None none lt = omega arith
@@ -100,7 +111,8 @@ seen_less : (cells : ℕ) (c : Collector) (found : Colour) → c.scan ≡ None �
     → pass_of cells (seen c c.cursor found) + 1 ≤ pass_of cells c
 seen_less cells c colour.Blue none lt = passed_less cells c none lt
 seen_less cells c colour.White none lt = passed_less cells c none lt
-seen_less cells c colour.Gray none lt = let most = pass_costs cells c.clean c.cursor c.scan none in omega arith
+seen_less cells c colour.Gray none lt = let most = pass_costs cells c.clean c.cursor c.scan
+    none in omega arith
 seen_less cells c colour.Black none lt = passed_less cells c none lt
 
 -- .. in a pass that goes on
@@ -109,7 +121,8 @@ pub see_on_less : (cells : ℕ) (c : Collector) (found : Colour) → c.scan ≡ 
 see_on_less cells c found none lt =
     rw (ne_eqb c.cursor cells (λ e. omega arith)) (seen_less cells c found none lt)
 
-pass_whole : (cells : ℕ) (clean : Bool) (cursor : ℕ) (scan : Option Scanning) → scan ≡ None → clean ≡ false
+pass_whole : (cells : ℕ) (clean : Bool) (cursor : ℕ) (scan : Option Scanning) → scan ≡ None
+    → clean ≡ false
     → cursor ≡ cells → pass_work cells true 0 scan + 1 ≤ pass_work cells clean cursor scan
 pass_whole cells true cursor scan none unclean end = absurd cc
 pass_whole cells false cursor None none unclean end = omega arith
@@ -122,12 +135,14 @@ restarts cells c end unclean =
     (and_from (c.cursor == cells) (not c.clean) (eq-eqb c.cursor cells end) (ap not unclean)))
 
 -- .. in a pass that starts over
-pub see_again_less : (cells : ℕ) (c : Collector) (found : Colour) → c.scan ≡ None → 0 < cells → c.cursor ≡ cells
+pub see_again_less : (cells : ℕ) (c : Collector) (found : Colour) → c.scan ≡ None → 0 < cells
+    → c.cursor ≡ cells
     → c.clean ≡ false → pass_of cells (seen (restarted c cells) 0 found) + 1 ≤ pass_of cells c
 see_again_less cells c found none some end unclean =
     let less = seen_less cells (record c { cursor = 0; clean = true }) found none some in
     let whole = pass_whole cells c.clean c.cursor c.scan none unclean end in
-    subst (λ d. pass_of cells (seen d 0 found) + 1 ≤ pass_of cells c) (restarts cells c end unclean) (omega arith)
+    subst (λ d. pass_of cells (seen d 0 found) + 1 ≤ pass_of cells c) (restarts cells c end unclean)
+    (omega arith)
 
 -- Scans.
 
@@ -149,7 +164,8 @@ scanned_less x found h =
     scanned_at x found (ltb-true x.next 5 parts.0) (no_child x.child parts.1)
 
 -- the child is shaded
-pub shade_less : (cells next : ℕ) (child : Option ℕ) → ChildFits cells next child → not (is_none child) ≡ true
+pub shade_less : (cells next : ℕ) (child : Option ℕ) → ChildFits cells next child
+    → not (is_none child) ≡ true
     → scan_work (next + 1) None + 1 ≤ scan_work next child
 shade_less cells next None fits h = absurd cc
 shade_less cells next (Some c) fits h = let lt = fits.0 in omega arith
@@ -166,7 +182,8 @@ looked_less (sweeping.Wiping k) found h other = absurd cc
 looked_less sweeping.BlackFound found h other = absurd cc
 looked_less sweeping.Done found h other = absurd cc
 
-pub wiped_less : (sweep : Sweeping) → may_wipe sweep ≡ true → place_work (wiped sweep) + 1 ≤ place_work sweep
+pub wiped_less : (sweep : Sweeping) → may_wipe sweep ≡ true
+    → place_work (wiped sweep) + 1 ≤ place_work sweep
 wiped_less sweeping.Fresh h = absurd cc
 wiped_less (sweeping.Wiping k) h = let lt = ltb-true k 6 h in omega arith
 wiped_less sweeping.BlackFound h = absurd cc

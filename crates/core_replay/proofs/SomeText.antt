@@ -1,6 +1,8 @@
--- A schedule with sizes that a core can have has a replay text: turns leave less to do, so they come
--- to an end.
-use Rattle.std.proofs.Common.{if◌then◌else◌, ◌≡◌, ◌<◌, ◌≤◌, ◌+◌, ℕ, zero, suc, Bool, true, false, nat_lt, nat_le, List, [], ◌∷◌, ◌++◌, length, replicate, Option, Some, None, Ok, IsTrue, refl, sym, subst, arith}
+-- A schedule with sizes that a core can have has a replay text: turns leave less to do, so they
+-- come to an end.
+use Rattle.std.proofs.Common.{if◌then◌else◌, ◌≡◌, ◌<◌, ◌≤◌, ◌+◌, ℕ, zero, suc, Bool, true, false}
+use Rattle.std.proofs.Common.{nat_lt, nat_le, List, [], ◌∷◌, ◌++◌, length, replicate, Option, Some}
+use Rattle.std.proofs.Common.{None, Ok, IsTrue, refl, sym, subst, arith}
 use Rattle.std.proofs.lemmas.Bool.{and_parts, leb-true}
 use Rattle.std.proofs.lemmas.List.{length-replicate}
 use Rattle.core_machine.specs.Next.{next}
@@ -10,7 +12,8 @@ use Rattle.core_machine.proofs.Ranges.Start.{opening_in_range, rows_below}
 use Rattle.core_replay.specs.Replay.{IsReplayText, Leads, Writes, WritesOn, after_event, shown}
 use Rattle.core_replay.specs.ReplayText.{cell_line_of, ending_of, not_now_line}
 use Rattle.core_replay.specs.Standing.{IsReplayed, Standing, anchor_row, counted, opened, taken_by}
-use Rattle.core_replay.specs.Turns.{Outcome, Went, Stopped, Turn, Ends, GoesOn, PlainLeads, ends, goes_on, is_post, look_before, looked, turn_of, turned}
+use Rattle.core_replay.specs.Turns.{Outcome, Went, Stopped, Turn, Ends, GoesOn, PlainLeads, ends}
+use Rattle.core_replay.specs.Turns.{goes_on, is_post, look_before, looked, turn_of, turned}
 use Rattle.core_replay.specs.Work.{HasFallen, work}
 use Rattle.core_replay.specs.ScheduleValue.{ScheduleValue, are_sizes}
 use Rattle.core_replay.specs.declared.line.Numbered.{Numbered}
@@ -18,25 +21,31 @@ use Rattle.core_replay.specs.declared.start.Sizes.{Sizes}
 use Rattle.core_replay.specs.declared.step.Step.{Step}
 use Rattle.core_replay.specs.declared.step.Step.TheVariants.{Take, Plain, Show}
 use Rattle.core_replay.proofs.Kept.{takes_replayed}
-use Rattle.core_replay.proofs.Turning.{turn_falls, turn_refused, turn_taken, turn_unlooked, turn_without}
+use Rattle.core_replay.proofs.Turning.{turn_falls, turn_refused, turn_taken, turn_unlooked}
+use Rattle.core_replay.proofs.Turning.{turn_without}
 use Rattle.dlg_core.proofs.Starts.{opening_consistent}
 use Rattle.dlg_core.proofs.Throughout.{first_rows_named}
 use Rattle.dlg_core.specs.Plain.{next_plain_of}
 
 -- What is kept of a core stays so.
 
-counted_some : (taken : ℕ) (o : Option State) (q : Standing) → counted taken o ≡ Some q → o ≡ Some q.core
+counted_some : (taken : ℕ) (o : Option State) (q : Standing) → counted taken o ≡ Some q
+    → o ≡ Some q.core
 counted_some taken None q is = absurd cc
 counted_some taken (Some s) q is =
     let same : record { core = s; taken = taken + 1 } ≡ q = cc in
     subst (λ (x : Standing). Some s ≡ Some x.core) same refl
 
-taken_kept : (p q : Standing) (e : Event) → IsReplayed p.core → taken_by p e ≡ Some q → IsReplayed q.core
+taken_kept : (p q : Standing) (e : Event) → IsReplayed p.core → taken_by p e ≡ Some q
+    → IsReplayed q.core
 taken_kept p q e kept is =
-    takes_replayed {U = ℕ} {E = ℕ} (Ok 0) p.core q.core e kept (counted_some p.taken (next p.core e) q is)
+    takes_replayed {U = ℕ} {E = ℕ} (Ok 0) p.core q.core e kept
+    (counted_some p.taken (next p.core e) q is)
 
-looked_kept : (p q : Standing) (look : Option Event) → IsReplayed p.core → looked p look ≡ Some q → IsReplayed q.core
-looked_kept p q None kept is = let same : p ≡ q = cc in subst (λ (x : Standing). IsReplayed x.core) same kept
+looked_kept : (p q : Standing) (look : Option Event) → IsReplayed p.core → looked p look ≡ Some q
+    → IsReplayed q.core
+looked_kept p q None kept is = let same : p
+    ≡ q = cc in subst (λ (x : Standing). IsReplayed x.core) same kept
 looked_kept p q (Some e) kept is = taken_kept p q e kept is
 
 abbrev EndKept : Outcome → Type 0
@@ -48,25 +57,36 @@ abbrev Ahead : Standing → Turn → Type 0
 Ahead p (Ends outcome) = EndKept outcome
 Ahead p (GoesOn q) = HasFallen p q × IsReplayed q.core
 
-ahead_taken : (p q r : Standing) (e : Event) (posts : Bool) → IsReplayed p.core → next_plain_of p.core ≡ Some e
-    → looked p (look_before e) ≡ Some q → taken_by q e ≡ Some r → is_post e ≡ posts → Ahead p (turned posts q (Some r))
-ahead_taken p q r e true kept plain look take is = taken_kept q r e (looked_kept p q (look_before e) kept look) take
-ahead_taken p q r e false kept plain look take is =
-    (turn_falls p q r e kept plain look take is, taken_kept q r e (looked_kept p q (look_before e) kept look) take)
+ahead_taken : (p q r : Standing) (e : Event) (posts : Bool) → IsReplayed p.core
+    → next_plain_of p.core ≡ Some e
+    → looked p (look_before e) ≡ Some q → taken_by q e ≡ Some r → is_post e ≡ posts
+    → Ahead p (turned posts q (Some r))
+ahead_taken p q r e true kept plain look take is = taken_kept q r e
+    (looked_kept p q (look_before e) kept look) take
+ahead_taken p q r e false kept plain look take is = (
+  turn_falls p q r e kept plain look take is,
+  taken_kept q r e
+      (looked_kept p q (look_before e) kept look) take,
+)
 
-ahead_looked : (p q : Standing) (e : Event) (next : Option Standing) → IsReplayed p.core → next_plain_of p.core ≡ Some e
+ahead_looked : (p q : Standing) (e : Event) (next : Option Standing) → IsReplayed p.core
+    → next_plain_of p.core ≡ Some e
     → looked p (look_before e) ≡ Some q → taken_by q e ≡ next → Ahead p (turn_of p)
 ahead_looked p q e None kept plain look take =
-    subst (Ahead p) (sym (turn_refused p q e plain look take)) (looked_kept p q (look_before e) kept look)
+    subst (Ahead p) (sym (turn_refused p q e plain look take))
+    (looked_kept p q (look_before e) kept look)
 ahead_looked p q e (Some r) kept plain look take =
-    subst (Ahead p) (sym (turn_taken p q r e plain look take)) (ahead_taken p q r e (is_post e) kept plain look take refl)
+    subst (Ahead p) (sym (turn_taken p q r e plain look take))
+    (ahead_taken p q r e (is_post e) kept plain look take refl)
 
-ahead_plain : (p : Standing) (e : Event) (look : Option Standing) → IsReplayed p.core → next_plain_of p.core ≡ Some e
+ahead_plain : (p : Standing) (e : Event) (look : Option Standing) → IsReplayed p.core
+    → next_plain_of p.core ≡ Some e
     → looked p (look_before e) ≡ look → Ahead p (turn_of p)
 ahead_plain p e None kept plain is = subst (Ahead p) (sym (turn_unlooked p e plain is)) kept
 ahead_plain p e (Some q) kept plain is = ahead_looked p q e (taken_by q e) kept plain is refl
 
-ahead_with : (p : Standing) (plain : Option Event) → IsReplayed p.core → next_plain_of p.core ≡ plain → Ahead p (turn_of p)
+ahead_with : (p : Standing) (plain : Option Event) → IsReplayed p.core
+    → next_plain_of p.core ≡ plain → Ahead p (turn_of p)
 ahead_with p None kept is = subst (Ahead p) (sym (turn_without p is)) kept
 ahead_with p (Some e) kept is = ahead_plain p e (looked p (look_before e)) kept is refl
 
@@ -85,11 +105,13 @@ by_turn p (GoesOn q) is next later =
 some_end : (n : ℕ) (p : Standing) → work p.core < n → IsReplayed p.core → SomeEnd p
 some_end zero p below kept = absurd (omega arith)
 some_end (suc n) p below kept =
-    by_turn p (turn_of p) refl (ahead_with p (next_plain_of p.core) kept refl) (λ q less so. some_end n q (omega arith) so)
+    by_turn p (turn_of p) refl (ahead_with p (next_plain_of p.core) kept refl)
+    (λ q less so. some_end n q (omega arith) so)
 
 -- Steps.
 
-after_kept : (p : Standing) (next : Option Standing) → IsReplayed p.core → ((q : Standing) → next ≡ Some q → IsReplayed q.core)
+after_kept : (p : Standing) (next : Option Standing) → IsReplayed p.core
+    → ((q : Standing) → next ≡ Some q → IsReplayed q.core)
     → EndKept (after_event p next)
 after_kept p None kept on = kept
 after_kept p (Some q) kept on = on q refl
@@ -99,15 +121,23 @@ shown_kept : (p : Standing) (there : Bool) (line : List ℕ) → IsReplayed p.co
 shown_kept p true line kept = kept
 shown_kept p false line kept = kept
 
-some_lead : (p : Standing) (step : Step) → IsReplayed p.core → (outcome : Outcome) × Leads p step outcome × EndKept outcome
-some_lead p (Take e) kept =
-    (after_event p (taken_by p e), refl, after_kept p (taken_by p e) kept (λ q is. taken_kept p q e kept is))
+some_lead : (p : Standing) (step : Step) → IsReplayed p.core
+    → (outcome : Outcome) × Leads p step outcome × EndKept outcome
+some_lead p (Take e) kept = (
+  after_event p (taken_by p e),
+  refl,
+  after_kept p (taken_by p e) kept
+      (λ q is. taken_kept p q e kept is),
+)
 some_lead p Plain kept = some_end (work p.core + 1) p (omega arith) kept
-some_lead p (Show c) kept = (shown p c, refl, shown_kept p (nat_lt c p.core.cells) (cell_line_of p.core c) kept)
+some_lead p (Show c)
+    kept = (shown p c, refl, shown_kept p (nat_lt c p.core.cells) (cell_line_of p.core c) kept)
 
-some_on : (line : ℕ) (outcome : Outcome) (Later : Standing → List ℕ → Standing → Type 0) → EndKept outcome
+some_on : (line : ℕ) (outcome : Outcome) (Later : Standing → List ℕ → Standing → Type 0)
+    → EndKept outcome
     → ((q : Standing) → IsReplayed q.core → (rest : List ℕ) × (last : Standing) × Later q rest last)
-    → (text : List ℕ) × (last : Standing) × WritesOn line outcome (λ q rest. Later q rest last) text last
+    → (text : List ℕ) × (last : Standing)
+    × WritesOn line outcome (λ q rest. Later q rest last) text last
 some_on line (Stopped p) Later kept on = (not_now_line line, p, (refl, refl))
 some_on line (Went written p) Later kept on =
     let rest = on p kept in
@@ -118,7 +148,8 @@ some_writing : (p : Standing) (steps : List Numbered) → IsReplayed p.core
 some_writing p [] kept = ([], p, (refl, refl))
 some_writing p (step ∷ later) kept =
     let lead = some_lead p step.step kept in
-    let on = some_on step.line lead.0 (λ q rest last. Writes q later rest last) lead.2 (λ q so. some_writing q later so) in
+    let on = some_on step.line lead.0 (λ q rest last. Writes q later rest last) lead.2
+    (λ q so. some_writing q later so) in
     (on.0, on.1, (lead.0, lead.1, on.2))
 
 -- The start.
@@ -127,7 +158,8 @@ six : (i : ℕ) → i < 1 → length (row_in (anchor_row ∷ []) i) ≡ 6
 six zero lt = refl
 six (suc i) lt = absurd (omega arith)
 
-few_of_rooms : (sizes : Sizes) → sizes.mutators ≤ 64 → length (replicate sizes.mutators sizes.room) ≤ 64
+few_of_rooms : (sizes : Sizes) → sizes.mutators ≤ 64
+    → length (replicate sizes.mutators sizes.room) ≤ 64
 few_of_rooms sizes few = subst (λ n. n ≤ 64) (sym (length-replicate sizes.mutators sizes.room)) few
 
 opened_kept : (sizes : Sizes) → IsTrue (are_sizes sizes) → IsReplayed (opened sizes).core
@@ -151,7 +183,9 @@ opened_kept sizes allowed =
       few_mutators = few_of_rooms sizes (leb-true sizes.mutators 64 c.1);
     }
 
-pub some_text : (schedule : ScheduleValue) → IsTrue (are_sizes schedule.sizes) → (text : List ℕ) × IsReplayText schedule text
+pub some_text : (schedule : ScheduleValue) → IsTrue (are_sizes schedule.sizes)
+    → (text : List ℕ) × IsReplayText schedule text
 some_text schedule allowed =
-    let writes = some_writing (opened schedule.sizes) schedule.steps (opened_kept schedule.sizes allowed) in
+    let writes = some_writing (opened schedule.sizes) schedule.steps
+    (opened_kept schedule.sizes allowed) in
     (writes.0 ++ ending_of writes.1, (writes.1, writes.0, writes.2, refl))

@@ -1,7 +1,8 @@
 -- One line of a schedule.
 --
 -- The first line that counts gives the sizes of the core, each later one a step.
-use Rattle.std.specs.Prelude.{ℕ, IsTrue, not, List, if◌then◌else◌, Option, Some, None, Result, Ok, Err}
+use Rattle.std.specs.Prelude.{ℕ, IsTrue, not, List, if◌then◌else◌, Option, Some, None, Result, Ok}
+use Rattle.std.specs.Prelude.{Err}
 use Rattle.std.specs.List.{list_all}
 use Rattle.std.specs.Str.Lines.{strip_carriage_return}
 use Rattle.line_words.specs.Line.{counts, is_plain_byte}

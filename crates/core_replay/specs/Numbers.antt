@@ -2,7 +2,8 @@
 --
 -- A number is 1 to 19 decimal digits, which may begin with zeros. A value of a field is `-` for
 -- null, `=` before a number below 2^62, or `@` before the number of a cell.
-use Rattle.std.specs.Prelude.{ℕ, ◌-◌, ◌^◌, ◌&&◌, List, [], ◌∷◌, length, nat_le, ◌==◌, if◌then◌else◌, Option, Some, None, Result, Ok, Err}
+use Rattle.std.specs.Prelude.{ℕ, ◌-◌, ◌^◌, ◌&&◌, List, [], ◌∷◌, length, nat_le, ◌==◌, if◌then◌else◌}
+use Rattle.std.specs.Prelude.{Option, Some, None, Result, Ok, Err}
 use Rattle.cell_words.specs.declared.fields.Field.{Field}
 use Rattle.cell_words.specs.declared.fields.Field.TheVariants as fields
 use Rattle.line_words.specs.Cut.{next_word_of}
@@ -11,7 +12,8 @@ use Rattle.core_replay.specs.declared.fault.ScheduleKind.{ScheduleKind}
 use Rattle.core_replay.specs.declared.fault.ScheduleKind.TheVariants.{BadNumber}
 
 -- what the reading of a first part, where it has no fault, is followed by
-abbrev pub and_then : {A B : Type 0} → Result A ScheduleKind → (A → Result B ScheduleKind) → Result B ScheduleKind
+abbrev pub and_then : {A B : Type 0} → Result A ScheduleKind → (A → Result B ScheduleKind)
+    → Result B ScheduleKind
 and_then (Ok part) later = later part
 and_then (Err kind) later = Err kind
 

@@ -3,7 +3,8 @@
 -- The steps are taken one after the other, up to the first that cannot be taken, or of which a
 -- part cannot. Nothing further is taken then, and what was taken before stands and counts.
 -- Source: this project's.
-use Rattle.std.specs.Prelude.{ℕ, ◌≡◌, List, [], ◌∷◌, ◌++◌, nat_lt, Option, Some, None, if◌then◌else◌}
+use Rattle.std.specs.Prelude.{ℕ, ◌≡◌, List, [], ◌∷◌, ◌++◌, nat_lt, Option, Some, None}
+use Rattle.std.specs.Prelude.{if◌then◌else◌}
 use Rattle.core_replay.specs.ReplayText.{cell_line_of, ending_of, not_now_line}
 use Rattle.core_replay.specs.Standing.{Standing, opened, taken_by}
 use Rattle.core_replay.specs.Turns.{Outcome, Went, Stopped, PlainLeads}
@@ -30,7 +31,8 @@ Leads p (Show c) outcome = outcome ≡ shown p c
 -- what is written from an outcome on, where the steps behind it write as the last relation says
 abbrev pub WritesOn : ℕ → Outcome → (Standing → List ℕ → Type 0) → List ℕ → Standing → Type 0
 WritesOn line (Stopped p) Later text last = (text ≡ not_now_line line) × (last ≡ p)
-WritesOn line (Went written p) Later text last = (rest : List ℕ) × (text ≡ written ++ rest) × Later p rest
+WritesOn line (Went written p) Later text last = (rest : List ℕ) × (text ≡ written ++ rest)
+    × Later p rest
 
 -- from one standing the steps lead to the last one, and write the text
 abbrev pub Writes : Standing → List Numbered → List ℕ → Standing → Type 0

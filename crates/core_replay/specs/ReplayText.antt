@@ -23,12 +23,14 @@ field_text (field.Cell c) = codes "@" ++ decimal c
 -- six texts, parted by spaces
 abbrev pub six_texts : List ℕ → List ℕ → List ℕ → List ℕ → List ℕ → List ℕ → List ℕ
 six_texts a b c d e f =
-    a ++ (codes " " ++ (b ++ (codes " " ++ (c ++ (codes " " ++ (d ++ (codes " " ++ (e ++ (codes " " ++ f)))))))))
+    a ++ (codes " " ++
+    (b ++ (codes " " ++ (c ++ (codes " " ++ (d ++ (codes " " ++ (e ++ (codes " " ++ f)))))))))
 
 -- the six fields of a cell
 abbrev pub fields_text : State → ℕ → List ℕ
 fields_text s c =
-    six_texts (field_text (field_of s c 0)) (field_text (field_of s c 1)) (field_text (field_of s c 2))
+    six_texts (field_text (field_of s c 0)) (field_text (field_of s c 1))
+    (field_text (field_of s c 2))
     (field_text (field_of s c 3)) (field_text (field_of s c 4)) (field_text (field_of s c 5))
 
 -- the line of a cell: its number, its colour, its fields and how often it was freed

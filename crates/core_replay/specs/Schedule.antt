@@ -15,12 +15,14 @@ use Rattle.core_replay.specs.declared.start.Sizes.{Sizes}
 use Rattle.core_replay.specs.ScheduleValue.{ScheduleValue}
 
 -- a step comes before those of the lines after it
-abbrev pub with_step : Numbered → Result ScheduleValue ScheduleFault → Result ScheduleValue ScheduleFault
+abbrev pub with_step : Numbered → Result ScheduleValue ScheduleFault
+    → Result ScheduleValue ScheduleFault
 with_step step (Ok later) = Ok (record { sizes = later.sizes; steps = step ∷ later.steps })
 with_step step (Err fault) = Err fault
 
 -- the reading of the line with this number, and then that of the lines after it
-abbrev pub with_line : ℕ → Option Sizes → Result Reading ScheduleKind → (Option Sizes → Result ScheduleValue ScheduleFault) → Result ScheduleValue ScheduleFault
+abbrev pub with_line : ℕ → Option Sizes → Result Reading ScheduleKind
+    → (Option Sizes → Result ScheduleValue ScheduleFault) → Result ScheduleValue ScheduleFault
 with_line number sizes (Ok Nothing) later = later sizes
 with_line number sizes (Ok (Start found)) later = later (Some found)
 with_line number sizes (Ok (Next step)) later =

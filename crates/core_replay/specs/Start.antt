@@ -1,5 +1,6 @@
 -- The first line of a schedule that counts: the sizes of the core.
-use Rattle.std.specs.Prelude.{ℕ, List, [], ◌∷◌, codes, bytes_eq, nat_le, if◌then◌else◌, Result, Ok, Err}
+use Rattle.std.specs.Prelude.{ℕ, List, [], ◌∷◌, codes, bytes_eq, nat_le, if◌then◌else◌, Result, Ok}
+use Rattle.std.specs.Prelude.{Err}
 use Rattle.line_words.specs.Cut.{word_of, rest_of, next_word_of, next_rest_of}
 use Rattle.core_replay.specs.Numbers.{and_then, number_to}
 use Rattle.core_replay.specs.declared.fault.ScheduleKind.{ScheduleKind}
@@ -25,7 +26,8 @@ sizes_in rest =
     and_then (size_in 256 rest) (λ cells.
     and_then (size_in 64 after_cells) (λ mutators.
     and_then (size_in 1024 after_mutators) (λ room.
-    at_end (next_rest_of after_mutators) (record { cells = cells; mutators = mutators; room = room }))))
+    at_end (next_rest_of after_mutators)
+    (record { cells = cells; mutators = mutators; room = room }))))
 
 -- the first line that counts
 abbrev pub start_of : List ℕ → Result Sizes ScheduleKind

@@ -59,4 +59,5 @@ turn_of p = turn_by p (next_plain_of p.core)
 -- the turns from here on lead to the outcome
 pub data PlainLeads (outcome : Outcome) : Standing → Type 0 where
   ends : {p : Standing} → turn_of p ≡ Ends outcome → PlainLeads outcome p
-  goes_on : {p : Standing} (q : Standing) → turn_of p ≡ GoesOn q → PlainLeads outcome q → PlainLeads outcome p
+  goes_on : {p : Standing} (q : Standing) → turn_of p ≡ GoesOn q → PlainLeads outcome q
+      → PlainLeads outcome p

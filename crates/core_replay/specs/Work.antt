@@ -4,7 +4,8 @@
 -- An answer counts two events. Tracing goes by cells that are not yet black, and between two of
 -- them over the rest of a pass and one pass more.
 -- Source: this project's.
-use Rattle.std.specs.Prelude.{ℕ, ◌+◌, ◌-◌, ◌*◌, ◌<◌, ◌≤◌, Bool, true, false, not, List, Option, Some, None, if◌then◌else◌}
+use Rattle.std.specs.Prelude.{ℕ, ◌+◌, ◌-◌, ◌*◌, ◌<◌, ◌≤◌, Bool, true, false, not, List, Option}
+use Rattle.std.specs.Prelude.{Some, None, if◌then◌else◌}
 use Rattle.std.specs.List.{count_by}
 use Rattle.cell_words.specs.declared.colours.Colour.{Colour}
 use Rattle.cell_words.specs.declared.colours.Colour.TheVariants as colour
@@ -64,4 +65,5 @@ work s = 2 * unanswered s.collector.answered + stage_work s s.control.stage
 
 -- there is less to do, by as much at least as events were taken
 abbrev pub HasFallen : Standing → Standing → Type 0
-HasFallen old new = (work new.core < work old.core) × (new.taken + work new.core ≤ old.taken + work old.core)
+HasFallen old new = (work new.core < work old.core)
+    × (new.taken + work new.core ≤ old.taken + work old.core)

@@ -3,7 +3,9 @@
 //! Each reader below takes what is left of a line after its first word. A fault of an earlier word
 //! counts before one of a later word, so each word is read where it stands in the line.
 ghost use Rattle.core_replay.specs.Start.{at_end};
-ghost use Rattle.core_replay.specs.Steps.{claim_in, copies_in, duty_in, event_in, fill_in, keep_in, mark_in, out_in, over_in, place_in, post_in, read_in, seal_in, single_in, single_step_of, step_of, write_in};
+ghost use Rattle.core_replay.specs.Steps.{claim_in, copies_in, duty_in, event_in, fill_in, keep_in};
+ghost use Rattle.core_replay.specs.Steps.{mark_in, out_in, over_in, place_in, post_in, read_in};
+ghost use Rattle.core_replay.specs.Steps.{seal_in, single_in, single_step_of, step_of, write_in};
 ghost use Rattle.std.specs.Prelude.{ok_or, ◌<◌, ◌^◌, ◌≡◌};
 
 use crate::fault::ScheduleKind;

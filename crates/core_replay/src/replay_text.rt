@@ -1,6 +1,7 @@
 //! The lines that a replay writes, each with its line feed.
 ghost use Rattle.core_machine.specs.State.{State};
-ghost use Rattle.core_replay.specs.ReplayText.{cell_line_of, colour_text, ending_line, field_text, fields_text, not_now_line, six_texts};
+ghost use Rattle.core_replay.specs.ReplayText.{cell_line_of, colour_text, ending_line, field_text};
+ghost use Rattle.core_replay.specs.ReplayText.{fields_text, not_now_line, six_texts};
 ghost use Rattle.std.specs.Prelude.{IfOk, string_bytes, ◌<◌, ◌≡◌};
 
 use cell_words::{Colour, Field};

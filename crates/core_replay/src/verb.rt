@@ -1,5 +1,6 @@
 //! The first words of lines, and the words that name a stage, a kind or a duty.
-ghost use Rattle.core_replay.specs.Steps.{bare_step_of, duty_of, kind_of, single_of, stage_of, verb_of};
+ghost use Rattle.core_replay.specs.Steps.{bare_step_of, duty_of, kind_of, single_of, stage_of};
+ghost use Rattle.core_replay.specs.Steps.{verb_of};
 ghost use Rattle.std.specs.Prelude.{◌≡◌};
 
 use crate::step::Step;

@@ -1,5 +1,5 @@
-//! What no clause says of the crates of the collector's core: each public call on its happy path, and
-//! the words, runs and schedules that were worked out by hand.
+//! What no clause says of the crates of the collector's core: each public call on its happy path,
+//! and the words, runs and schedules that were worked out by hand.
 //!
 //! A crate that has tests is proved twice, so the tests of several crates stand here.
 //!

@@ -1,6 +1,7 @@
 -- The computed reachability is the family: what a chain reaches is computed, and what is computed
 -- is reached by a chain.
-use Rattle.std.proofs.Common.{◌≡◌, ℕ, zero, suc, Bool, true, false, cond, ◌<◌, ◌==◌, inl, inr, List, [], ◌∷◌, length, get_or, refl, sym, subst, arith, eq-eqb}
+use Rattle.std.proofs.Common.{◌≡◌, ℕ, zero, suc, Bool, true, false, cond, ◌<◌, ◌==◌, inl, inr, List}
+use Rattle.std.proofs.Common.{[], ◌∷◌, length, get_or, refl, sym, subst, arith, eq-eqb}
 use Rattle.std.specs.List.{list_any}
 use Rattle.std.proofs.lemmas.Bool.{eqb-true, or_cases}
 use Rattle.cell_words.specs.declared.fields.Field.{Field}
@@ -10,7 +11,8 @@ use Rattle.core_machine.specs.declared.places.Held.{Held}
 use Rattle.core_machine.specs.State.{row_in, field_in, presence_in, own_in}
 use Rattle.core_machine.specs.Own.{Own}
 use Rattle.core_machine.specs.Places.{holds}
-use Rattle.dlg_core.specs.Reachable.{Reach, anchor, held, named, names_cell, edge, some_root, leads, reach_in}
+use Rattle.dlg_core.specs.Reachable.{Reach, anchor, held, named, names_cell, edge, some_root, leads}
+use Rattle.dlg_core.specs.Reachable.{reach_in}
 use Rattle.dlg_core.proofs.Joins.{path_self, path_edge, joins, along}
 use Rattle.dlg_core.proofs.Truths.{or_here, or_later, or_left, or_right, or_split, both, both_split}
 
@@ -26,7 +28,8 @@ found_in_row c (x ∷ xs) (suc f) h = or_later (names_cell c x) _ (found_in_row 
 
 -- a field that names a cell is that cell
 names_it : (c : ℕ) (x : Field) → names_cell c x ≡ true → x ≡ field.Cell c
-names_it c (field.Cell d) h = let same : d ≡ c = eqb-true d c h in subst (λ e. field.Cell d ≡ field.Cell e) same refl
+names_it c (field.Cell d) h = let same : d
+    ≡ c = eqb-true d c h in subst (λ e. field.Cell d ≡ field.Cell e) same refl
 names_it c _ h = absurd cc
 
 -- .. and what is found there stands at some place of it
@@ -47,7 +50,8 @@ row_below (row ∷ rows) (suc x) y h = let lt = row_below rows x y h in omega ar
 -- Roots.
 
 -- what holds of a held cell holds of some place of the list
-holds_of_held : (test : ℕ → Bool) (c : ℕ) (places : List Held) → holds places c ≡ true → test c ≡ true
+holds_of_held : (test : ℕ → Bool) (c : ℕ) (places : List Held) → holds places c ≡ true
+    → test c ≡ true
     → list_any (λ place. test place.cell) places ≡ true
 holds_of_held test c [] h t = absurd cc
 holds_of_held test c (p ∷ ps) h t = elim (or_cases (p.cell == c) _ h) [
@@ -57,7 +61,8 @@ holds_of_held test c (p ∷ ps) h t = elim (or_cases (p.cell == c) _ h) [
 ]
 
 -- .. and a place of which it holds has a held cell
-held_where : (test : ℕ → Bool) (places : List Held) → list_any (λ place. test place.cell) places ≡ true
+held_where : (test : ℕ → Bool) (places : List Held)
+    → list_any (λ place. test place.cell) places ≡ true
     → (c : ℕ) × (holds places c ≡ true) × (test c ≡ true)
 held_where test [] h = absurd cc
 held_where test (p ∷ ps) h = elim (or_cases (test p.cell) _ h) [
@@ -78,9 +83,11 @@ root_at test _ _ _ c inside h t = absurd cc
 
 -- .. and some root of which it holds is a cell that a mutator which is in holds
 root_where : (test : ℕ → Bool) (ps : List Presence) (os : List Own) → some_root test ps os ≡ true
-    → (i : ℕ) × (c : ℕ) × ((presence_in ps i).inside ≡ true) × (holds (own_in os i).held c ≡ true) × (test c ≡ true)
+    → (i : ℕ) × (c : ℕ) × ((presence_in ps i).inside ≡ true) × (holds (own_in os i).held c ≡ true)
+    × (test c ≡ true)
 root_where test (p ∷ ps) (o ∷ os) h =
-    elim (or_split (cond p.inside (list_any (λ place. test place.cell) o.held) false) (some_root test ps os) h) [
+    elim (or_split (cond p.inside (list_any (λ place. test place.cell) o.held) false)
+    (some_root test ps os) h) [
       | inl here ↦
           let r = both_split p.inside _ here in
           let w = held_where test o.held r.1 in
@@ -140,4 +147,5 @@ pub into : (rows : List (List Field)) (ps : List Presence) (os : List Own) (P : 
     → (c : ℕ) → Reach rows ps os c → P c
 into rows ps os P root roots along c (anchor e) = subst P (sym e) root
 into rows ps os P root roots along c (held i inside h) = roots i c inside h
-into rows ps os P root roots along d (named {c} f r e) = along c d f (into rows ps os P root roots along c r) e
+into rows ps os P root roots along d (named {c} f r e) = along c d f
+    (into rows ps os P root roots along c r) e

@@ -1,5 +1,6 @@
 -- What holds of each element of a list, after one element was replaced.
-use Rattle.std.proofs.Common.{◌≡◌, ◌≢◌, ◌==◌, ℕ, zero, suc, true, ◌<◌, inl, inr, List, [], ◌∷◌, length, get_or, refl, subst, arith, eq-eqb, ap, ◌≤◌}
+use Rattle.std.proofs.Common.{◌≡◌, ◌≢◌, ◌==◌, ℕ, zero, suc, true, ◌<◌, inl, inr, List, [], ◌∷◌}
+use Rattle.std.proofs.Common.{length, get_or, refl, subst, arith, eq-eqb, ap, ◌≤◌}
 use Rattle.std.proofs.Math.ListN.{set}
 use Rattle.std.specs.List.{All}
 use Rattle.std.proofs.lemmas.Bool.{or_cases, eqb-true, cases_lt}
@@ -9,7 +10,8 @@ use Rattle.cell_words.specs.declared.fields.Field.{Field}
 use Rattle.cell_words.specs.declared.fields.Field.TheVariants as field
 use Rattle.cell_words.specs.declared.presences.Presence.{Presence}
 use Rattle.core_machine.specs.declared.places.Held.{Held}
-use Rattle.core_machine.specs.State.{colour_in, row_in, field_in, presence_in, own_in, set_field, State, field_of}
+use Rattle.core_machine.specs.State.{colour_in, row_in, field_in, presence_in, own_in, set_field}
+use Rattle.core_machine.specs.State.{State, field_of}
 use Rattle.core_machine.specs.Own.{Own}
 use Rattle.core_machine.specs.Places.{holds}
 use Rattle.dlg_core.proofs.Truths.{or_here, or_later}
@@ -18,7 +20,8 @@ use Rattle.core_machine.specs.InRange.{IsShaped}
 
 -- at the place of the new element it holds of that one, at every other of the old one
 pub set_each : {X : Type 0} (P : ℕ → X → Type 0) (xs : List X) (i : ℕ) (y d : X)
-    → (i < length xs → P i y) → ((j : ℕ) → P j (get_or xs j d)) → (j : ℕ) → P j (get_or (set xs i y) j d)
+    → (i < length xs → P i y) → ((j : ℕ) → P j (get_or xs j d)) → (j : ℕ)
+    → P j (get_or (set xs i y) j d)
 set_each P [] i y d here old j = old j
 set_each P (x ∷ xs) zero y d here old zero = here (omega arith)
 set_each P (x ∷ xs) zero y d here old (suc j) = old (suc j)
@@ -34,7 +37,8 @@ set_else P (x ∷ xs) zero y d lt here old zero = here
 set_else P (x ∷ xs) zero y d lt here old (suc j) = old (suc j) (omega arith)
 set_else P (x ∷ xs) (suc i) y d lt here old zero = old zero (omega arith)
 set_else P (x ∷ xs) (suc i) y d lt here old (suc j) =
-    set_else (λ k. P (suc k)) xs i y d (omega arith) here (λ k ne. old (suc k) (λ e. ne (omega arith))) j
+    set_else (λ k. P (suc k)) xs i y d (omega arith) here
+    (λ k ne. old (suc k) (λ e. ne (omega arith))) j
 
 -- the parts of the state
 
@@ -43,8 +47,10 @@ pub colour_each : (P : ℕ → Colour → Type 0) (colours : List Colour) (c : �
 colour_each P colours c x here old d = set_each P colours c x _ (λ lt. here) old d
 
 -- .. of a cell that there is, where the old colours matter elsewhere alone
-pub colour_else : (P : ℕ → Colour → Type 0) (colours : List Colour) (c : ℕ) (x : Colour) → c < length colours
-    → P c x → ((d : ℕ) → d ≢ c → P d (colour_in colours d)) → (d : ℕ) → P d (colour_in (set colours c x) d)
+pub colour_else : (P : ℕ → Colour → Type 0) (colours : List Colour) (c : ℕ) (x : Colour)
+    → c < length colours
+    → P c x → ((d : ℕ) → d ≢ c → P d (colour_in colours d)) → (d : ℕ)
+    → P d (colour_in (set colours c x) d)
 colour_else P colours c x lt here old d = set_else P colours c x _ lt here old d
 
 pub own_each : (P : ℕ → Own → Type 0) (owns : List Own) (i : ℕ) (own : Own)
@@ -52,13 +58,16 @@ pub own_each : (P : ℕ → Own → Type 0) (owns : List Own) (i : ℕ) (own : O
 own_each P owns i own here old j = set_each P owns i own _ (λ lt. here) old j
 
 pub presence_each : (P : ℕ → Presence → Type 0) (presences : List Presence) (i : ℕ) (p : Presence)
-    → P i p → ((j : ℕ) → P j (presence_in presences j)) → (j : ℕ) → P j (presence_in (set presences i p) j)
+    → P i p → ((j : ℕ) → P j (presence_in presences j)) → (j : ℕ)
+    → P j (presence_in (set presences i p) j)
 presence_each P presences i p here old j = set_each P presences i p _ (λ lt. here) old j
 
 pub field_each : (P : ℕ → ℕ → Field → Type 0) (rows : List (List Field)) (c f : ℕ) (x : Field)
-    → P c f x → ((d g : ℕ) → P d g (field_in rows d g)) → (d g : ℕ) → P d g (field_in (set_field rows c f x) d g)
+    → P c f x → ((d g : ℕ) → P d g (field_in rows d g)) → (d g : ℕ)
+    → P d g (field_in (set_field rows c f x) d g)
 field_each P rows c f x here old d =
-    set_each (λ e row. (g : ℕ) → P e g (get_or row g field.Null)) rows c (set (row_in rows c) f x) []
+    set_each (λ e row. (g : ℕ) → P e g (get_or row g field.Null)) rows c
+    (set (row_in rows c) f x) []
     (λ lt. set_each (P c) (row_in rows c) f x field.Null (λ lt2. here) (old c)) old d
 
 -- Held lists.
@@ -78,11 +87,13 @@ pub all_from_held : (P : ℕ → Type 0) (places : List Held) → ((c : ℕ) →
     → All (λ place. P place.cell) places
 all_from_held P [] each = All-nil (λ place. P place.cell)
 all_from_held P (p ∷ ps) each =
-    All-cons (λ place. P place.cell) p ps (each p.cell (or_here (p.cell == p.cell) _ (eq-eqb p.cell p.cell refl)))
+    All-cons (λ place. P place.cell) p ps
+    (each p.cell (or_here (p.cell == p.cell) _ (eq-eqb p.cell p.cell refl)))
     (all_from_held P ps (λ c h. each c (or_later (p.cell == c) _ h)))
 
 -- two facts of each element
-pub all_both : {X : Type 0} (P Q R : X → Type 0) (xs : List X) → ((x : X) → P x → Q x → R x) → All P xs → All Q xs → All R xs
+pub all_both : {X : Type 0} (P Q R : X → Type 0) (xs : List X) → ((x : X) → P x → Q x → R x)
+    → All P xs → All Q xs → All R xs
 all_both P Q R [] step p q = All-nil R
 all_both P Q R (x ∷ xs) step p q =
     All-cons R x xs (step x (All-head P x xs p) (All-head Q x xs q))
@@ -104,4 +115,5 @@ null_beyond s c f range past = elim (cases_lt c s.cells) [
 pub field_elsewhere : (rows : List (List Field)) (p f : ℕ) (x : Field) (c : ℕ) → c ≢ p → (g : ℕ)
     → field_in (set_field rows p f x) c g ≡ field_in rows c g
 field_elsewhere rows p f x c other g =
-    field_each (λ d h y. d ≢ p → y ≡ field_in rows d h) rows p f x (λ ne. absurd (ne refl)) (λ d h ne. refl) c g other
+    field_each (λ d h y. d ≢ p → y ≡ field_in rows d h) rows p f x (λ ne. absurd (ne refl))
+    (λ d h ne. refl) c g other

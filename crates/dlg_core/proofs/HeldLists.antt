@@ -1,8 +1,11 @@
 -- Held lists: which cells they hold, and what holds of each place.
-use Rattle.std.proofs.Common.{◌≡◌, ℕ, true, false, ◌||◌, ◌==◌, ◌<◌, ◌⊎◌, inl, inr, List, [], ◌∷◌, ◌++◌, map, length, eq-eqb, refl, ap, arith, zero, suc, take, drop, if◌then◌else◌, ◌∙◌}
+use Rattle.std.proofs.Common.{◌≡◌, ℕ, true, false, ◌||◌, ◌==◌, ◌<◌, ◌⊎◌, inl, inr, List, [], ◌∷◌}
+use Rattle.std.proofs.Common.{◌++◌, map, length, eq-eqb, refl, ap, arith, zero, suc, take, drop}
+use Rattle.std.proofs.Common.{if◌then◌else◌, ◌∙◌}
 use Rattle.std.specs.List.{All}
 use Rattle.std.proofs.lemmas.Bool.{or_cases, eqb-true}
-use Rattle.std.proofs.lemmas.List.Elements.{All-nil, All-cons, All-get_or, All-weaker, All-take, All-drop, All-append}
+use Rattle.std.proofs.lemmas.List.Elements.{All-nil, All-cons, All-get_or, All-weaker, All-take}
+use Rattle.std.proofs.lemmas.List.Elements.{All-drop, All-append}
 use Rattle.cell_words.specs.declared.colours.Colour.{Colour}
 use Rattle.core_machine.specs.declared.places.Held.{Held}
 use Rattle.core_machine.specs.Places.{holds, unmark, found_at, cell_at, no_place, kept, mark_of}

@@ -1,5 +1,6 @@
 -- Paths join at an inner point, and what passes along each edge passes along each path.
-use Rattle.std.proofs.Common.{◌≡◌, ℕ, zero, suc, Bool, true, ◌<◌, ◌==◌, refl, inl, inr, subst, arith, eq-eqb}
+use Rattle.std.proofs.Common.{◌≡◌, ℕ, zero, suc, Bool, true, ◌<◌, ◌==◌, refl, inl, inr, subst}
+use Rattle.std.proofs.Common.{arith, eq-eqb}
 use Rattle.std.proofs.lemmas.Bool.{cases_lt, eqb-true}
 use Rattle.dlg_core.specs.Paths.{path}
 use Rattle.dlg_core.proofs.Truths.{or_left, or_right, or_split, both, both_split}
@@ -50,8 +51,10 @@ joins edge (suc k) x m y lt p q =
       ]
       | inr above ↦
           let same : m ≡ k = omega arith in
-          let first : path edge (suc k) x k ≡ true = subst (λ n. path edge (suc k) x n ≡ true) same p in
-          let second : path edge (suc k) k y ≡ true = subst (λ n. path edge (suc k) n y ≡ true) same q in
+          let first : path edge (suc k) x k
+          ≡ true = subst (λ n. path edge (suc k) x n ≡ true) same p in
+          let second : path edge (suc k) k y
+          ≡ true = subst (λ n. path edge (suc k) n y ≡ true) same q in
           through (to_last edge k x first) (from_last edge k y second)
     ]
 

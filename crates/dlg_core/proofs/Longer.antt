@@ -1,5 +1,6 @@
 -- A run that goes on by one event, and one that is cut in two.
-use Rattle.std.proofs.Common.{◌≡◌, ℕ, true, ◌+◌, ◌<◌, List, [], ◌∷◌, ◌++◌, length, take, get_or, Some, refl, sym, subst, ◌∙◌}
+use Rattle.std.proofs.Common.{◌≡◌, ℕ, true, ◌+◌, ◌<◌, List, [], ◌∷◌, ◌++◌, length, take, get_or}
+use Rattle.std.proofs.Common.{Some, refl, sym, subst, ◌∙◌}
 use Rattle.std.proofs.lemmas.List.{take_more}
 use Rattle.core_machine.specs.declared.events.Event.{Event}
 use Rattle.core_machine.specs.State.{State}
@@ -23,7 +24,8 @@ pub leads_more : (s : State) (es : List Event) (e : Event) (t u : State) → Lea
     → next t e ≡ Some u → LeadsTo s (es ++ e ∷ []) u
 leads_more s es e t u run step =
     let w = when_some (can t e) (after t e) u step in
-    let here : can (last s (taken_from s es)) e ≡ true = subst (λ v. can v e ≡ true) (sym run.ends) w.0 in
+    let here : can (last s (taken_from s es)) e
+    ≡ true = subst (λ v. can v e ≡ true) (sym run.ends) w.0 in
     let there : after (last s (taken_from s es)) e ≡ u
     = subst (λ v. after v e ≡ u) (sym run.ends) w.1 in
     record { runs = runs_more s es e run.runs here; ends = last_more s es e ∙ there }
@@ -32,12 +34,14 @@ leads_more s es e t u run step =
 pub leads_next : (s : State) (es : List Event) (i : ℕ) (d : Event) (t u : State) → i < length es
     → LeadsTo s (take i es) t → next t (get_or es i d) ≡ Some u → LeadsTo s (take (i + 1) es) u
 leads_next s es i d t u lt run step =
-    subst (λ xs. LeadsTo s xs u) (sym (take_more es i d lt)) (leads_more s (take i es) (get_or es i d) t u run step)
+    subst (λ xs. LeadsTo s xs u) (sym (take_more es i d lt))
+    (leads_more s (take i es) (get_or es i d) t u run step)
 
 -- a run of two lists is a run of the one, and then of the other
 pub leads_apart : (s : State) (first rest : List Event) (t : State) → LeadsTo s (first ++ rest) t
     → (m : State) × LeadsTo s first m × LeadsTo m rest t
 leads_apart s [] rest t leads = (s, record { runs = tt; ends = refl }, leads)
 leads_apart s (e ∷ first) rest t leads =
-    let r = leads_apart (after s e) first rest t record { runs = leads.runs.2; ends = leads.ends } in
+    let r = leads_apart
+    (after s e) first rest t record { runs = leads.runs.2; ends = leads.ends } in
     (r.0, record { runs = (leads.runs.0, leads.runs.1, r.1.runs); ends = r.1.ends }, r.2)

@@ -22,12 +22,15 @@ live_not_blue colour.Black ahead h e = absurd cc
 pub reachable_live : (s : State) → IsConsistent s → (c : ℕ) → Reachable s c
     → live s.colours s.control s.collector.sweep c ≡ true
 reachable_live s k c r =
-    into s.rows s.presences s.owns (λ d. live s.colours s.control s.collector.sweep d ≡ true) k.cells.anchor_live
-    (λ i d inside h. all_held (λ e. live s.colours s.control s.collector.sweep e ≡ true) (own_in s.owns i).held d (k.cells.held_live i) h)
+    into s.rows s.presences s.owns
+    (λ d. live s.colours s.control s.collector.sweep d ≡ true) k.cells.anchor_live
+    (λ i d inside h. all_held (λ e. live s.colours s.control s.collector.sweep e ≡ true)
+    (own_in s.owns i).held d (k.cells.held_live i) h)
     (λ d e f l n. (k.cells.names_live d e f l n).0) c r
 
 pub consistent_safe : (s : State) → IsConsistent s → IsSafe s
 consistent_safe s k = record {
-  in_use = (λ c r. live_not_blue (colour_of s c) (unswept s.control s.collector.sweep c) (reachable_live s k c r));
+  in_use = (λ c r. live_not_blue (colour_of s c) (unswept s.control s.collector.sweep c)
+      (reachable_live s k c r));
   wiped = (λ c f blue. k.cells.blue_null c f blue);
 }

@@ -1,6 +1,8 @@
--- The opening state is consistent: the first cells are white and sealed and name each other alone, all
--- others are blue and null, and nobody is in.
-use Rattle.std.proofs.Common.{◌≡◌, inl, inr, ℕ, zero, suc, Bool, true, false, List, [], ◌∷◌, ◌++◌, length, replicate, get_or, ◌-◌, ◌<◌, ◌≤◌, arith, refl, sym, subst, ◌∙◌, ap}
+-- The opening state is consistent: the first cells are white and sealed and name each other alone,
+-- all others are blue and null, and nobody is in.
+use Rattle.std.proofs.Common.{◌≡◌, inl, inr, ℕ, zero, suc, Bool, true, false, List, [], ◌∷◌, ◌++◌}
+use Rattle.std.proofs.Common.{length, replicate, get_or, ◌-◌, ◌<◌, ◌≤◌, arith, refl, sym, subst}
+use Rattle.std.proofs.Common.{◌∙◌, ap}
 use Rattle.std.specs.List.{All, list_all}
 use Rattle.std.proofs.lemmas.Bool.{and_parts, ltb-true, cases_lt}
 use Rattle.std.proofs.lemmas.List.{length-replicate}
@@ -12,7 +14,8 @@ use Rattle.cell_words.specs.declared.controls.Stage.TheVariants as stage
 use Rattle.cell_words.specs.declared.presences.Presence.{Presence}
 use Rattle.core_machine.specs.Own.{no_own}
 use Rattle.core_machine.specs.Places.{holds}
-use Rattle.core_machine.specs.State.{opening, null_row, no_presence, opening_presence, colour_of, row_in, field_in, field_of, own_of, presence_of}
+use Rattle.core_machine.specs.State.{opening, null_row, no_presence, opening_presence, colour_of}
+use Rattle.core_machine.specs.State.{row_in, field_in, field_of, own_of, presence_of}
 use Rattle.core_machine.specs.Words.{is_raw_kind, is_box_kind}
 use Rattle.dlg_core.specs.Consistent.{IsConsistent, MarkStands, NoRawBlack}
 use Rattle.dlg_core.specs.Facts.{is_kind_field, is_live, live, status_fits, IsStaleMode}
@@ -27,12 +30,14 @@ same_everywhere zero i x = refl
 same_everywhere (suc n) zero x = refl
 same_everywhere (suc n) (suc i) x = same_everywhere n i x
 
-pub front_of : {X : Type 0} (xs ys : List X) (i : ℕ) (d : X) → i < length xs → get_or (xs ++ ys) i d ≡ get_or xs i d
+pub front_of : {X : Type 0} (xs ys : List X) (i : ℕ) (d : X) → i < length xs
+    → get_or (xs ++ ys) i d ≡ get_or xs i d
 front_of [] ys i d lt = absurd (omega arith)
 front_of (x ∷ xs) ys zero d lt = refl
 front_of (x ∷ xs) ys (suc i) d lt = front_of xs ys i d (omega arith)
 
-pub back_of : {X : Type 0} (xs ys : List X) (i : ℕ) (d x : X) → length xs ≤ i → ((j : ℕ) → get_or ys j d ≡ x) → get_or (xs ++ ys) i d ≡ x
+pub back_of : {X : Type 0} (xs ys : List X) (i : ℕ) (d x : X) → length xs ≤ i
+    → ((j : ℕ) → get_or ys j d ≡ x) → get_or (xs ++ ys) i d ≡ x
 back_of [] ys i d x ge all = all i
 back_of (y ∷ xs) ys zero d x ge all = absurd (omega arith)
 back_of (y ∷ xs) ys (suc i) d x ge all = back_of xs ys i d x (omega arith) all
@@ -42,7 +47,8 @@ in_replicate zero i x d lt = absurd (omega arith)
 in_replicate (suc n) zero x d lt = refl
 in_replicate (suc n) (suc i) x d lt = in_replicate n i x d (omega arith)
 
-pub one_of_list : {X : Type 0} (test : X → Bool) (xs : List X) (i : ℕ) (d : X) → list_all test xs ≡ true → i < length xs
+pub one_of_list : {X : Type 0} (test : X → Bool) (xs : List X) (i : ℕ) (d : X)
+    → list_all test xs ≡ true → i < length xs
     → test (get_or xs i d) ≡ true
 one_of_list test [] i d h lt = absurd (omega arith)
 one_of_list test (x ∷ xs) zero d h lt = (and_parts _ _ h).0
@@ -51,7 +57,8 @@ one_of_list test (x ∷ xs) (suc i) d h lt = one_of_list test xs i d (and_parts 
 -- Fields of the first rows.
 
 -- a cell in a first row is one of the first
-pub first_cell : (count : ℕ) (row : List Field) (f d : ℕ) → list_all (is_first_value count) row ≡ true
+pub first_cell : (count : ℕ) (row : List Field) (f d : ℕ)
+    → list_all (is_first_value count) row ≡ true
     → get_or row f field.Null ≡ field.Cell d → d < count
 first_cell count [] f d h e = absurd cc
 first_cell count (x ∷ xs) zero d h e =
@@ -75,7 +82,8 @@ null_rows (suc n) zero f = same_everywhere 6 f field.Null
 null_rows (suc n) (suc c) f = null_rows n c f
 
 -- behind the first rows all is null
-pub null_behind : (first : List (List Field)) (n c f : ℕ) → length first ≤ c → field_in (first ++ replicate n null_row) c f ≡ field.Null
+pub null_behind : (first : List (List Field)) (n c f : ℕ) → length first ≤ c
+    → field_in (first ++ replicate n null_row) c f ≡ field.Null
 null_behind [] n c f ge = null_rows n c f
 null_behind (x ∷ xs) n zero f ge = absurd (omega arith)
 null_behind (x ∷ xs) n (suc c) f ge = null_behind xs n c f (omega arith)
@@ -83,7 +91,8 @@ null_behind (x ∷ xs) n (suc c) f ge = null_behind xs n c f (omega arith)
 pub async_fits_idle : {p : Presence} → p ≡ opening_presence → status_fits stage.Idle p.status ≡ true
 async_fits_idle {p} e = ap (λ q. status_fits stage.Idle q.status) e
 
-pub opening_consistent : (cells : ℕ) (rooms : List ℕ) (first : List (List Field)) → length first ≤ cells
+pub opening_consistent : (cells : ℕ) (rooms : List ℕ) (first : List (List Field))
+    → length first ≤ cells
     → are_first_rows first ≡ true → IsConsistent (opening cells rooms first)
 opening_consistent cells rooms first few h =
     let s = opening cells rooms first in
@@ -93,10 +102,12 @@ opening_consistent cells rooms first few h =
     let some : 0 < k = ltb-true 0 k b.0 in
     let long : length (replicate k colour.White) ≡ k = length-replicate k colour.White in
     let white : (c : ℕ) → c < k → colour_of s c ≡ colour.White
-    = (λ c lt. front_of (replicate k colour.White) (replicate (cells - k) colour.Blue) c colour.Blue (omega arith)
+    = (λ c lt. front_of (replicate k colour.White) (replicate (cells - k) colour.Blue) c colour.Blue
+    (omega arith)
     ∙ in_replicate k c colour.White colour.Blue lt) in
     let blue : (c : ℕ) → k ≤ c → colour_of s c ≡ colour.Blue
-    = (λ c ge. back_of (replicate k colour.White) (replicate (cells - k) colour.Blue) c colour.Blue colour.Blue (omega arith)
+    = (λ c ge. back_of (replicate k colour.White)
+    (replicate (cells - k) colour.Blue) c colour.Blue colour.Blue (omega arith)
     (λ j. same_everywhere (cells - k) j colour.Blue)) in
     let row : (c : ℕ) → c < k → row_in s.rows c ≡ row_in first c
     = (λ c lt. front_of first (replicate (cells - k) null_row) c [] lt) in
@@ -109,14 +120,18 @@ opening_consistent cells rooms first few h =
     ∙ (and_parts _ _ (one_of_list (is_first_row k) first c [] a.1 lt)).1) in
     let own : (i : ℕ) → own_of s i ≡ no_own = (λ i. same_everywhere (length rooms) i no_own) in
     let alive : (c : ℕ) → c < k → live s.colours s.control s.collector.sweep c ≡ true
-    = (λ c lt. live_outside s.colours s.control s.collector.sweep c refl ∙ ap (λ x. is_live x false) (white c lt)) in
+    = (λ c lt. live_outside s.colours s.control s.collector.sweep c refl
+    ∙ ap (λ x. is_live x false) (white c lt)) in
     record {
       mutators = record {
-        statuses = (λ i lt. async_fits_idle (in_replicate (length rooms) i opening_presence no_presence lt));
+        statuses = (λ i lt. async_fits_idle
+            (in_replicate (length rooms) i opening_presence no_presence lt));
         answered = (λ i lt e. absurd cc);
-        modes = (λ i. subst (λ o. IsStaleMode (presence_of s i).status o.mode s.control) (sym (own i)) tt);
+        modes = (λ i. subst (λ o. IsStaleMode (presence_of s i).status o.mode s.control)
+            (sym (own i)) tt);
         out = (λ i o. (ap (λ x. x.held) (own i), ap (λ x. x.mode) (own i)));
-        marks = (λ i m. subst (λ o. All (MarkStands s.colours) o.held) (sym (own i)) (All-nil (MarkStands s.colours)));
+        marks = (λ i m. subst (λ o. All (MarkStands s.colours) o.held) (sym (own i))
+            (All-nil (MarkStands s.colours)));
       };
       cells = record {
         anchor_box = ap is_box_kind (here 0 5 some) ∙ b.1;
@@ -129,7 +144,9 @@ opening_consistent cells rooms first few h =
           | inr ge ↦ null c f ge
         ]);
         anchor_live = alive 0 some;
-        held_live = (λ i. subst (λ o. All (λ p. live s.colours s.control s.collector.sweep p.cell ≡ true) o.held) (sym (own i))
+        held_live = (λ i. subst
+            (λ o. All (λ p. live s.colours s.control s.collector.sweep p.cell ≡ true) o.held)
+            (sym (own i))
             (All-nil (λ p. live s.colours s.control s.collector.sweep p.cell ≡ true)));
         child_live = (λ c e. absurd cc);
         names_live = (λ c d f l n. elim (cases_lt c k) [
@@ -139,8 +156,11 @@ opening_consistent cells rooms first few h =
               (alive d below, sealed_not_raw (field_of s d 5) (kind d below))
           | inr ge ↦ absurd (let e = null c f ge in cc)
         ]);
-        raw_once = (λ i j c raw hi hj. absurd (let none : holds (own_of s i).held c ≡ false = ap (λ o. holds o.held c) (own i) in cc));
-        raw_not_black = (λ i e. subst (λ o. All (NoRawBlack s.colours s.rows) o.held) (sym (own i)) (All-nil (NoRawBlack s.colours s.rows)));
+        raw_once = (λ i j c raw hi hj. absurd
+            (let none : holds (own_of s i).held c
+            ≡ false = ap (λ o. holds o.held c) (own i) in cc));
+        raw_not_black = (λ i e. subst (λ o. All (NoRawBlack s.colours s.rows) o.held) (sym (own i))
+            (All-nil (NoRawBlack s.colours s.rows)));
       };
       tracing = record {
         cleared = (λ c e. absurd cc);
@@ -151,7 +171,8 @@ opening_consistent cells rooms first few h =
         scans = (λ x e. absurd cc);
       };
       sweep = record {
-        unswept = (λ c far. absurd (let never = not_sweeping s.control s.collector.sweep c refl in cc));
+        unswept = (λ c far. absurd
+            (let never = not_sweeping s.control s.collector.sweep c refl in cc));
         wipes = (λ n e. absurd cc);
         found_black = (λ e. absurd cc);
       };

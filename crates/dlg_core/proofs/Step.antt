@@ -15,17 +15,20 @@ use Rattle.dlg_core.proofs.Keeps.Mark.{mark_keeps}
 use Rattle.dlg_core.proofs.Keeps.Post.{post_keeps}
 use Rattle.dlg_core.proofs.Keeps.Presence.{begin_keeps, end_keeps, over_keeps}
 use Rattle.dlg_core.proofs.Keeps.Seal.{seal_keeps}
-use Rattle.dlg_core.proofs.Keeps.Sweep.{sweep_look_keeps, wipe_keeps, free_keeps, whiten_keeps, advance_keeps}
+use Rattle.dlg_core.proofs.Keeps.Sweep.{sweep_look_keeps, wipe_keeps, free_keeps, whiten_keeps}
+use Rattle.dlg_core.proofs.Keeps.Sweep.{advance_keeps}
 use Rattle.dlg_core.proofs.Keeps.Trace.{see_keeps, scan_keeps, shade_keeps}
 use Rattle.dlg_core.proofs.Keeps.Waiting.{duty_keeps, poll_keeps, answer_out_keeps}
 use Rattle.dlg_core.proofs.Keeps.Write.{write_keeps, fill_keeps}
 
-pub consistent_after : (s : State) (e : Event) → IsShaped s → IsConsistent s → can s e ≡ true → IsConsistent (after s e)
+pub consistent_after : (s : State) (e : Event) → IsShaped s → IsConsistent s → can s e ≡ true
+    → IsConsistent (after s e)
 consistent_after s (event.Begin i) range k h = begin_keeps s i k h
 consistent_after s (event.Look i) range k h = look_keeps s i range k h
 consistent_after s (event.Read i place f) range k h = read_keeps s i place f k h
 consistent_after s (event.Mark i place) range k h = mark_keeps s i place range k h
-consistent_after s (event.Write i place f old new) range k h = write_keeps s i place f old new range k h
+consistent_after s
+    (event.Write i place f old new) range k h = write_keeps s i place f old new range k h
 consistent_after s (event.Claim i c) range k h = claim_keeps s i c range k h
 consistent_after s (event.Fill i place f value) range k h = fill_keeps s i place f value range k h
 consistent_after s (event.Seal i place kind) range k h = seal_keeps s i place kind range k h

@@ -1,5 +1,6 @@
 -- What the tests of the definitions say.
-use Rattle.std.proofs.Common.{◌≡◌, ◌⊎◌, inl, inr, ◌||◌, Bool, true, false, cond, refl, ℕ, zero, suc, List, [], get_or, Option, Some, None, is_none, ◌∷◌, ap, ◌<◌}
+use Rattle.std.proofs.Common.{◌≡◌, ◌⊎◌, inl, inr, ◌||◌, Bool, true, false, cond, refl, ℕ, zero, suc}
+use Rattle.std.proofs.Common.{List, [], get_or, Option, Some, None, is_none, ◌∷◌, ap, ◌<◌}
 use Rattle.cell_words.specs.declared.controls.Stage.{Stage}
 use Rattle.cell_words.specs.declared.controls.Stage.TheVariants as stage
 use Rattle.cell_words.specs.declared.presences.Status.{Status}
@@ -55,7 +56,8 @@ same_status_is status.Sync2 status.Sync2 h = refl
 same_status_is _ _ h = absurd cc
 
 -- who is among those that have all answered has answered
-pub one_of_all : (answered : List Bool) (i : ℕ) → all_in answered ≡ true → get_or answered i true ≡ true
+pub one_of_all : (answered : List Bool) (i : ℕ) → all_in answered ≡ true
+    → get_or answered i true ≡ true
 one_of_all [] i h = refl
 one_of_all (a ∷ rest) zero h = (and_parts _ _ h).0
 one_of_all (a ∷ rest) (suc i) h = one_of_all rest i (and_parts _ _ h).1
@@ -83,6 +85,7 @@ pub black_found_is : (sweep : Sweeping) → is_black_found sweep ≡ true → sw
 black_found_is sweeping.BlackFound h = refl
 black_found_is _ h = absurd cc
 
-pub wipe_is : (sweep : Sweeping) → may_wipe sweep ≡ true → (n : ℕ) × (sweep ≡ sweeping.Wiping n) × (n < 6)
+pub wipe_is : (sweep : Sweeping) → may_wipe sweep ≡ true
+    → (n : ℕ) × (sweep ≡ sweeping.Wiping n) × (n < 6)
 wipe_is (sweeping.Wiping n) h = (n, refl, ltb-true n 6 h)
 wipe_is _ h = absurd cc

@@ -34,8 +34,8 @@ pub record AreTwoCycles (first between next : List Event) : Type 0 where
   pub apart : All (λ e. e ≢ Post Sync1) between
   pub other : IsCycle next
 
--- Wherever in the list a cycle and the next one stand whole, as far as its events can happen: what was
--- garbage right before the first has been freed right after the next.
+-- Wherever in the list a cycle and the next one stand whole, as far as its events can happen: what
+-- was garbage right before the first has been freed right after the next.
 abbrev pub Collects : State → List Event → Type 0
 Collects s events =
     (before first between next after : List Event) (old new : State) (c : ℕ)
@@ -68,9 +68,9 @@ IsFromAnchor s c = Reach s.rows [] [] c
 abbrev pub IsTidy : State → Type 0
 IsTidy s = (c : ℕ) → colour_of s c ≢ Blue → IsFromAnchor s c
 
--- Where the events begin with a cycle and the next one, whole, no garbage is left behind them. (Mutators
--- may have no part in either cycle: one that marks a cell behind the sweep of the first may leave it
--- gray, and the next then keeps it, though nobody holds it any more.)
+-- Where the events begin with a cycle and the next one, whole, no garbage is left behind them.
+-- (Mutators may have no part in either cycle: one that marks a cell behind the sweep of the first
+-- may leave it gray, and the next then keeps it, though nobody holds it any more.)
 abbrev pub LeavesNoGarbage : State → List Event → Type 0
 LeavesNoGarbage s events =
     (first between next after : List Event) (t : State)
@@ -79,4 +79,5 @@ LeavesNoGarbage s events =
 
 -- the mutator makes none of the events, and is out for good behind them
 abbrev pub DoesNoMore : State → List Event → ℕ → Type 0
-DoesNoMore s events i = (t : State) → LeadsTo s events t → All (λ e. maker e ≢ Some i) events × IsOver t i
+DoesNoMore s events i = (t : State) → LeadsTo s events t
+    → All (λ e. maker e ≢ Some i) events × IsOver t i

@@ -4,7 +4,8 @@
 -- Each fact takes the parts of the state that it reads, so an event that leaves these leaves the
 -- fact.
 -- Source: this project's, after the facts that Doligez and Gonthier, POPL 1994, argue from.
-use Rattle.std.specs.Prelude.{ℕ, ◌≡◌, ◌≢◌, ◌<◌, ◌≤◌, Bool, true, false, List, [], slice_index_or, Option, Some, None}
+use Rattle.std.specs.Prelude.{ℕ, ◌≡◌, ◌≢◌, ◌<◌, ◌≤◌, Bool, true, false, List, [], slice_index_or}
+use Rattle.std.specs.Prelude.{Option, Some, None}
 use Rattle.std.specs.List.{All}
 use Rattle.cell_words.specs.Modes.{requested_of}
 use Rattle.cell_words.specs.declared.colours.Colour.{Colour}
@@ -24,7 +25,9 @@ use Rattle.core_machine.specs.State.{State, colour_in, field_in, presence_in, ow
 use Rattle.core_machine.specs.Words.{is_handshake, is_raw_kind, is_box_kind}
 use Rattle.core_machine.specs.Own.{Own}
 use Rattle.core_machine.specs.Places.{holds}
-use Rattle.dlg_core.specs.Facts.{status_fits, IsStaleMode, marks_count, is_kind_field, unswept, live, is_cleared, anchor_counts, all_in, child_in, scanned_count, is_open}
+use Rattle.dlg_core.specs.Facts.{status_fits, IsStaleMode, marks_count, is_kind_field, unswept}
+use Rattle.dlg_core.specs.Facts.{live, is_cleared, anchor_counts, all_in, child_in, scanned_count}
+use Rattle.dlg_core.specs.Facts.{is_open}
 
 -- Handshakes and mutators.
 

@@ -1,7 +1,8 @@
 -- The words in which the invariant of the core speaks: small tests on stages, statuses, modes and
 -- colours, and which cells are live.
 -- Source: this project's, after the facts that Doligez and Gonthier, POPL 1994, argue from.
-use Rattle.std.specs.Prelude.{ℕ, ◌≡◌, ◌+◌, ◌≤◌, Bool, true, false, not, ◌&&◌, ◌||◌, ◌==◌, nat_lt, List, Option, Some, None}
+use Rattle.std.specs.Prelude.{ℕ, ◌≡◌, ◌+◌, ◌≤◌, Bool, true, false, not, ◌&&◌, ◌||◌, ◌==◌, nat_lt}
+use Rattle.std.specs.Prelude.{List, Option, Some, None}
 use Rattle.std.specs.List.{list_all}
 use Rattle.cell_words.specs.declared.colours.Colour.{Colour}
 use Rattle.cell_words.specs.declared.colours.Colour.TheVariants as colour
@@ -162,8 +163,8 @@ abbrev pub child_in : Option Scanning → Option ℕ
 child_in None = None
 child_in (Some scan) = scan.child
 
--- how many fields of the cell under scan are scanned: those before the next, and the next one itself
--- once its cell was read
+-- how many fields of the cell under scan are scanned: those before the next, and the next one
+-- itself once its cell was read
 abbrev pub scanned_count_at : ℕ → Option ℕ → ℕ
 scanned_count_at next None = next
 scanned_count_at next (Some child) = next + 1

@@ -1,5 +1,6 @@
 -- Paths of a graph whose points are numbers, computed by Warshall's recursion.
--- Source: S. Warshall, "A theorem on Boolean matrices", JACM 1962 (the recursion on the inner points of a path).
+-- Source: S. Warshall, "A theorem on Boolean matrices", JACM 1962 (the recursion on the inner
+-- points of a path).
 use Rattle.std.specs.Prelude.{ℕ, zero, suc, Bool, true, false, ◌==◌, if◌then◌else◌}
 
 -- a path of edges leads from x to y, and all of its inner points are below k

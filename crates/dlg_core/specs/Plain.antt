@@ -1,7 +1,8 @@
--- The plain collector: the one collector event that a collector which does nothing twice takes next.
--- It goes over all cells and all mutators in the order of their numbers.
+-- The plain collector: the one collector event that a collector which does nothing twice takes
+-- next. It goes over all cells and all mutators in the order of their numbers.
 -- Source: this project's.
-use Rattle.std.specs.Prelude.{ℕ, ◌+◌, Bool, true, false, ◌==◌, nat_lt, List, [], ◌∷◌, Option, Some, None, if◌then◌else◌}
+use Rattle.std.specs.Prelude.{ℕ, ◌+◌, Bool, true, false, ◌==◌, nat_lt, List, [], ◌∷◌, Option, Some}
+use Rattle.std.specs.Prelude.{None, if◌then◌else◌}
 use Rattle.cell_words.specs.declared.controls.Stage.{Stage}
 use Rattle.cell_words.specs.declared.controls.Stage.TheVariants as stage
 use Rattle.core_machine.specs.declared.events.Event.{Event}
@@ -23,12 +24,13 @@ least_unanswered i (false ∷ answered) = Some i
 abbrev pub first_unanswered : Collector → Option ℕ
 first_unanswered c = least_unanswered 0 c.answered
 
--- what a handshake wants of a mutator that has not answered: a look where it has the status already,
--- an answer for it where it is out, and else nothing that the collector could do
+-- what a handshake wants of a mutator that has not answered: a look where it has the status
+-- already, an answer for it where it is out, and else nothing that the collector could do
 abbrev pub plain_handshake : State → ℕ → Option Event
 plain_handshake s i =
     if same_status (presence_of s i).status (wanted_of s) then Some (event.Poll i)
-    else (if (presence_of s i).inside then None else Some (event.AnswerOut i (presence_of s i).over))
+    else (if (presence_of s i).inside then None else Some
+    (event.AnswerOut i (presence_of s i).over))
 
 -- the next event of a scan: its child's, or the next field's, or the end
 abbrev pub plain_scan : Scanning → Option ℕ → Event
@@ -55,7 +57,8 @@ plain_work s stage.Idle = event.Post stage.Sync1
 plain_work s stage.Sync1 = event.Post stage.Clear
 plain_work s stage.Clear =
     if nat_lt s.collector.cursor s.cells then event.ClearCell else event.Post stage.Sync2
-plain_work s stage.Sync2 = if s.collector.anchor_marked then event.Post stage.Trace else event.Anchor
+plain_work s stage.Sync2 = if s.collector.anchor_marked then event.Post stage.Trace else
+    event.Anchor
 plain_work s stage.Trace = plain_trace s.collector s.cells s.collector.scan
 plain_work s stage.Sweep =
     if s.control.position == s.cells then event.Post stage.Idle else plain_sweep s.collector.sweep

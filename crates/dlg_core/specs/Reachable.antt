@@ -13,11 +13,13 @@ use Rattle.dlg_core.specs.Paths.{path}
 
 -- It takes the parts of the state that it reads, so a change of a colour, of the control or of the
 -- collector's part leaves it as it is.
-pub data Reach (rows : List (List Field)) (presences : List Presence) (owns : List Own) : ℕ → Type 0 where
+pub data Reach (rows : List (List Field)) (presences : List Presence) (owns : List Own) : ℕ
+    → Type 0 where
   -- the anchor is reachable
   anchor : {c : ℕ} → c ≡ 0 → Reach rows presences owns c
   -- so is what a mutator holds that is in
-  held : {c : ℕ} (i : ℕ) → (presence_in presences i).inside ≡ true → holds (own_in owns i).held c ≡ true
+  held : {c : ℕ} (i : ℕ) → (presence_in presences i).inside ≡ true
+      → holds (own_in owns i).held c ≡ true
       → Reach rows presences owns c
   -- and what a field of a reachable cell names
   named : {c d : ℕ} (f : ℕ) → Reach rows presences owns c → field_in rows c f ≡ field.Cell d

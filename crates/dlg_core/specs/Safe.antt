@@ -1,5 +1,6 @@
 -- What no collector may do to a mutator: safe states.
--- Source: Doligez and Leroy, POPL 1993 (safety of the collector); this project's (null fields of free cells).
+-- Source: Doligez and Leroy, POPL 1993 (safety of the collector); this project's (null fields of
+-- free cells).
 use Rattle.std.specs.Prelude.{ℕ, ◌≡◌, ◌≢◌, List, take}
 use Rattle.cell_words.specs.declared.colours.Colour.TheVariants.{Blue}
 use Rattle.cell_words.specs.declared.fields.Field.TheVariants.{Null}

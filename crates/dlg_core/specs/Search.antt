@@ -1,7 +1,8 @@
--- A search for reachable cells under way: the cells that were found, and those of them whose fields are
--- still to be looked at.
+-- A search for reachable cells under way: the cells that were found, and those of them whose fields
+-- are still to be looked at.
 -- Source: this project's.
-use Rattle.std.specs.Prelude.{ℕ, ◌≡◌, ◌+◌, ◌<◌, ◌≤◌, ◌⊎◌, Bool, true, false, List, [], ◌∷◌, ◌++◌, length, slice_index_or, slice_set, take, if◌then◌else◌}
+use Rattle.std.specs.Prelude.{ℕ, ◌≡◌, ◌+◌, ◌<◌, ◌≤◌, ◌⊎◌, Bool, true, false, List, [], ◌∷◌, ◌++◌}
+use Rattle.std.specs.Prelude.{length, slice_index_or, slice_set, take, if◌then◌else◌}
 use Rattle.std.specs.List.{Contains}
 use Rattle.cell_words.specs.declared.fields.Field.TheVariants.{Cell}
 use Rattle.core_machine.specs.Places.{holds}
@@ -37,18 +38,23 @@ pub record GrowsTo (s : State) (old new : Search) : Type 0 where
   pub size : length new.marks ≡ length old.marks
   pub kept : (c : ℕ) → has_found old c ≡ true → has_found new c ≡ true
   pub waits : (c : ℕ) → Contains old.waiting c → Contains new.waiting c
-  pub new_waits : (c : ℕ) → has_found new c ≡ true → (has_found old c ≡ true) ⊎ Contains new.waiting c
-  pub sound : ((c : ℕ) → has_found old c ≡ true → Reachable s c) → (c : ℕ) → has_found new c ≡ true → Reachable s c
-  pub found : ((c : ℕ) → Contains old.waiting c → has_found old c ≡ true) → (c : ℕ) → Contains new.waiting c → has_found new c ≡ true
+  pub new_waits : (c : ℕ) → has_found new c ≡ true
+      → (has_found old c ≡ true) ⊎ Contains new.waiting c
+  pub sound : ((c : ℕ) → has_found old c ≡ true → Reachable s c) → (c : ℕ) → has_found new c ≡ true
+      → Reachable s c
+  pub found : ((c : ℕ) → Contains old.waiting c → has_found old c ≡ true) → (c : ℕ)
+      → Contains new.waiting c → has_found new c ≡ true
   pub less : left_to_do new ≤ left_to_do old
 
 -- what the first fields of a cell name is found
 abbrev pub FoundNamed : State → ℕ → ℕ → Search → Type 0
-FoundNamed s c count search = (d f : ℕ) → f < count → field_of s c f ≡ Cell d → has_found search d ≡ true
+FoundNamed s c count search = (d f : ℕ) → f < count → field_of s c f ≡ Cell d
+    → has_found search d ≡ true
 
 -- what the first places of mutator i have is found
 abbrev pub FoundHeld : State → ℕ → Search → Type 0
-FoundHeld s i search = (c : ℕ) → (presence_of s i).inside ≡ true → holds (held_of s i) c ≡ true → has_found search c ≡ true
+FoundHeld s i search = (c : ℕ) → (presence_of s i).inside ≡ true → holds (held_of s i) c ≡ true
+    → has_found search c ≡ true
 
 -- every root is found
 pub record FoundRoots (s : State) (search : Search) : Type 0 where
@@ -62,7 +68,8 @@ pub record IsSearch (s : State) (search : Search) : Type 0 where
   pub found : (c : ℕ) → Contains search.waiting c → has_found search c ≡ true
   pub roots : FoundRoots s search
   -- a cell waits, or what it names is found
-  pub closed : (c : ℕ) → has_found search c ≡ true → Contains search.waiting c ⊎ FoundNamed s c 6 search
+  pub closed : (c : ℕ) → has_found search c ≡ true
+      → Contains search.waiting c ⊎ FoundNamed s c 6 search
 
 -- Loops under way.
 

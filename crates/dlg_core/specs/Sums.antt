@@ -1,5 +1,5 @@
--- The books of the heap: cells that are claimed come from the free ones, and cells that are freed go
--- back to them, so at any moment the sums agree.
+-- The books of the heap: cells that are claimed come from the free ones, and cells that are freed
+-- go back to them, so at any moment the sums agree.
 -- Source: this project's.
 use Rattle.std.specs.Prelude.{ℕ, ◌≡◌, ◌≢◌, ◌⊎◌, ◌+◌, ◌<◌, Bool, not, List, take}
 use Rattle.std.specs.List.{Any, sum, sum_by, count_by}
@@ -34,16 +34,19 @@ claims_of s = claims_in s.owns
 
 -- With so many first rows: these and all claims are the cells that are not free and all that were
 -- freed, and each cell's count tells how often that was.
-pub record Balances (first : ℕ) (colours : List Colour) (owns : List Own) (times_freed : List ℕ) (number_freed : ℕ) : Type 0 where
+pub record Balances (first : ℕ) (colours : List Colour) (owns : List Own) (times_freed : List ℕ)
+    (number_freed : ℕ) : Type 0 where
   pub claims : first + claims_in owns ≡ used_in colours + number_freed
   pub frees : number_freed ≡ sum times_freed
 
 abbrev pub IsBalanced : ℕ → State → Type 0
-IsBalanced first s = Balances first s.colours s.owns s.collector.times_freed s.collector.number_freed
+IsBalanced first s = Balances first s.colours s.owns s.collector.times_freed
+    s.collector.number_freed
 
 -- .. in every state that the events pass on their way, as far as they can happen
 abbrev pub StaysBalanced : ℕ → State → List Event → Type 0
-StaysBalanced first s events = (k : ℕ) (t : State) → LeadsTo s (take k events) t → IsBalanced first t
+StaysBalanced first s events = (k : ℕ) (t : State) → LeadsTo s (take k events) t
+    → IsBalanced first t
 
 -- Where the cells come from that are not free.
 
@@ -57,7 +60,8 @@ pub record GetsCell (c : ℕ) (taken : Taken) : Type 0 where
 abbrev pub IsClaimed : List Taken → ℕ → Type 0
 IsClaimed ts c = Any (GetsCell c) ts
 
--- Behind the events every cell that is not free is one of so many first rows, or was claimed in them.
+-- Behind the events every cell that is not free is one of so many first rows, or was claimed in
+-- them.
 abbrev pub StaysClaimed : ℕ → State → List Event → Type 0
 StaysClaimed first s events = (t : State) (c : ℕ) → LeadsTo s events t → colour_of t c ≢ Blue
     → (c < first) ⊎ IsClaimed (taken_from s events) c

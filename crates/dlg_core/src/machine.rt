@@ -2,7 +2,9 @@
 ghost use Rattle.cell_words.specs.declared.fields.Field.{Field};
 ghost use Rattle.core_machine.specs.Takes.{Takes};
 ghost use Rattle.core_machine.specs.Next.{next};
-ghost use Rattle.core_machine.specs.State.{colour_of, field_of, free_count_of, freed_of, greatest_cells, held_of, opening, presence_of, target_of};
+ghost use Rattle.core_machine.specs.State.{colour_of, field_of, free_count_of, freed_of};
+ghost use Rattle.core_machine.specs.State.{greatest_cells, held_of, opening, presence_of};
+ghost use Rattle.core_machine.specs.State.{target_of};
 ghost use Rattle.dlg_core.specs.Collects.{Collects};
 ghost use Rattle.dlg_core.specs.FirstRows.{are_first_rows};
 ghost use Rattle.dlg_core.specs.Runs.{LeadsTo, StopsAt};
@@ -71,7 +73,8 @@ impl Core {
         self.machine.apply(event)
     }
 
-    /// Takes the events one after the other, up to the first that cannot happen. It takes no memory.
+    /// Takes the events one after the other, up to the first that cannot happen. It takes no
+    /// memory.
     pub fn run(&mut self, events: &[Event]) -> Result<(), NotNowAt>
         ensures done { OnOk result (LeadsTo self.old events.now self.new) }
         ensures stopped { IfErr result (λ stop. StopsAt self.old events.now stop.index self.new) }

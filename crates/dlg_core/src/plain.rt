@@ -1,6 +1,7 @@
 //! The plain collector: what a collector takes next that goes over all cells in their order.
 ghost use Rattle.cell_words.specs.declared.controls.Stage.{Stage};
-ghost use Rattle.dlg_core.specs.Plain.{first_unanswered, next_plain_of, plain_handshake, plain_scan, plain_sweep, plain_trace, plain_work};
+ghost use Rattle.dlg_core.specs.Plain.{first_unanswered, next_plain_of, plain_handshake};
+ghost use Rattle.dlg_core.specs.Plain.{plain_scan, plain_sweep, plain_trace, plain_work};
 ghost use Rattle.std.specs.Prelude.{◌≡◌};
 
 use crate::machine::Core;

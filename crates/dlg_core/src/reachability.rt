@@ -1,5 +1,5 @@
-//! Which cells are reachable, found by following fields from the roots. Each cell's fields are looked
-//! at once, so it takes time in proportion to the heap.
+//! Which cells are reachable, found by following fields from the roots. Each cell's fields are
+//! looked at once, so it takes time in proportion to the heap.
 ghost use Rattle.cell_words.specs.declared.fields.Field.{Field};
 ghost use Rattle.dlg_core.specs.Reachable.{Reachable};
 ghost use Rattle.dlg_core.specs.Search.{FoundHeld, FoundNamed, FoundRoots, GrowsTo, IsSearch};

@@ -1,6 +1,7 @@
 //! A search under way: which cells were found, and which of them wait.
 ghost use Rattle.dlg_core.specs.Search.{Search, has_found, with_found};
-ghost use Rattle.std.specs.Prelude.{IfOk, IsNone, IfSome, OnOk, [], false, length, replicate, ◌++◌, ◌<◌, ◌∷◌, ◌≡◌, ◌↔◌};
+ghost use Rattle.std.specs.Prelude.{IfOk, IsNone, IfSome, OnOk, [], false, length, replicate, ◌++◌};
+ghost use Rattle.std.specs.Prelude.{◌<◌, ◌∷◌, ◌≡◌, ◌↔◌};
 
 use crate::NoMemory;
 use std::alloc::Global;

@@ -1,5 +1,5 @@
-//! Laws of the definitions, for any number of cells and any rooms: the contracts of functions that do
-//! nothing. The layers above cite the lemmas of proofs/ that they rest on.
+//! Laws of the definitions, for any number of cells and any rooms: the contracts of functions that
+//! do nothing. The layers above cite the lemmas of proofs/ that they rest on.
 ghost use Rattle.cell_words.specs.declared.fields.Field.TheVariants.{Num};
 ghost use Rattle.cell_words.specs.declared.fields.Field.{Field};
 ghost use Rattle.cell_words.specs.declared.presences.Presence.{Presence};
@@ -12,16 +12,20 @@ ghost use Rattle.core_machine.specs.Next.{can, found_by, maker, after};
 ghost use Rattle.core_machine.specs.Run.{Runs, last};
 ghost use Rattle.core_machine.specs.State.{State, field_of, opening, own_of, presence_of};
 ghost use Rattle.core_machine.specs.Table.{HasWord, Word, index_of, number_in, words_of};
-ghost use Rattle.core_machine.specs.Trail.{collecting_along, collecting_of, own_along, presence_along, roomed, trail_of};
+ghost use Rattle.core_machine.specs.Trail.{collecting_along, collecting_of, own_along};
+ghost use Rattle.core_machine.specs.Trail.{presence_along, roomed, trail_of};
 ghost use Rattle.core_machine.specs.WordOperations.{IsOneOperation, IsValidFound};
-ghost use Rattle.dlg_core.specs.Collects.{AreCollectors, AreOut, AreOver, AreTwoCycles, Collects, DoesNoMore, IsFreedSince, IsGarbage, IsOver, LeavesNoGarbage};
+ghost use Rattle.dlg_core.specs.Collects.{AreCollectors, AreOut, AreOver, AreTwoCycles, Collects};
+ghost use Rattle.dlg_core.specs.Collects.{DoesNoMore, IsFreedSince, IsGarbage, IsOver};
+ghost use Rattle.dlg_core.specs.Collects.{LeavesNoGarbage};
 ghost use Rattle.dlg_core.specs.Consistent.{IsConsistent};
 ghost use Rattle.dlg_core.specs.FirstRows.{are_first_rows, AreRows};
 ghost use Rattle.dlg_core.specs.Reachable.{Reachable, reach};
 ghost use Rattle.dlg_core.specs.Runs.{LeadsTo, events_of};
 ghost use Rattle.dlg_core.specs.Safe.{IsSafe, StaysSafe};
 ghost use Rattle.dlg_core.specs.Sums.{IsBalanced, StaysBalanced, StaysClaimed};
-ghost use Rattle.std.specs.Prelude.{IsTrue, List, Option, Some, None, [], length, slice_index, slice_set, true, ℕ, ◌++◌, ◌<◌, ◌∷◌, ◌≡◌, ◌≢◌, ◌≤◌, ◌↔◌};
+ghost use Rattle.std.specs.Prelude.{IsTrue, List, Option, Some, None, [], length, slice_index};
+ghost use Rattle.std.specs.Prelude.{slice_set, true, ℕ, ◌++◌, ◌<◌, ◌∷◌, ◌≡◌, ◌≢◌, ◌≤◌, ◌↔◌};
 
 /// Every state of every run from an opening is safe, whatever the number of cells, the rooms of the
 /// mutators and the events are.
@@ -31,15 +35,16 @@ pub fn every_run_is_safe()
         → StaysSafe (opening cells rooms first) events }
 {}
 
-/// In every state of every run from an opening the first rows and all claims are the cells that are not
-/// free and all that were freed.
+/// In every state of every run from an opening the first rows and all claims are the cells that are
+/// not free and all that were freed.
 pub fn every_run_is_balanced()
     ensures { (cells : ℕ) (rooms : List ℕ) (first : List (List Field)) (events : List Event)
         → AreRows first → IsTrue (are_first_rows first) → length first ≤ cells
         → StaysBalanced (length first) (opening cells rooms first) events }
 {}
 
-/// Behind every run from an opening a cell that is not free is one of the first rows, or was claimed.
+/// Behind every run from an opening a cell that is not free is one of the first rows, or was
+/// claimed.
 pub fn every_used_cell_was_claimed()
     ensures { (cells : ℕ) (rooms : List ℕ) (first : List (List Field)) (events : List Event)
         → AreRows first → IsTrue (are_first_rows first) → length first ≤ cells
@@ -53,7 +58,8 @@ pub fn garbage_is_freed()
 
 /// Two whole cycles leave no garbage, where every mutator is out and the collector goes on alone.
 pub fn two_cycles_leave_no_garbage()
-    ensures { (s : State) (events : List Event) → IsShaped s → IsConsistent s → AreOut s → AreCollectors events
+    ensures { (s : State) (events : List Event) → IsShaped s → IsConsistent s → AreOut s
+        → AreCollectors events
         → LeavesNoGarbage s events }
 {}
 
@@ -106,7 +112,8 @@ pub fn what_is_found_has_a_word()
 /// A run that tells what its events found is a run of these events, and leads to its last
 /// state.
 pub fn a_run_leads_to_its_last_state()
-    ensures { (s : State) (taken : List Taken) → Runs s taken → LeadsTo s (events_of taken) (last s taken) }
+    ensures { (s : State) (taken : List Taken) → Runs s taken
+        → LeadsTo s (events_of taken) (last s taken) }
 {}
 
 /// A run from a state with the invariant leads to one with it, and so to a safe one.
@@ -117,13 +124,15 @@ pub fn a_run_keeps_the_invariant()
 
 /// .. and where the sums on claims agree, they agree behind it.
 pub fn a_run_keeps_the_balance()
-    ensures { (first : ℕ) (s : State) (taken : List Taken) → IsShaped s → IsConsistent s → Runs s taken
+    ensures { (first : ℕ) (s : State) (taken : List Taken) → IsShaped s → IsConsistent s
+        → Runs s taken
         → IsBalanced first s → IsBalanced first (last s taken) }
 {}
 
 /// Garbage before two whole cycles of a run is freed behind them.
 pub fn a_run_collects()
-    ensures { (s : State) (taken : List Taken) (first between next : List Event) (c : ℕ) → IsShaped s
+    ensures { (s : State) (taken : List Taken) (first between next : List Event) (c : ℕ)
+        → IsShaped s
         → IsConsistent s → Runs s taken → events_of taken ≡ first ++ (between ++ next)
         → AreTwoCycles first between next → IsGarbage s c → IsFreedSince s (last s taken) c }
 {}
@@ -146,24 +155,29 @@ pub fn a_mutator_knows_its_part()
 /// The control and the collector's own part are what the collector's trail leaves.
 pub fn the_collector_knows_its_part()
     ensures { (s : State) (taken : List Taken) → IsShaped s → Runs s taken
-        → collecting_of (last s taken) ≡ collecting_along s.cells (collecting_of s) (trail_of None taken) }
+        → collecting_of (last s taken)
+        ≡ collecting_along s.cells (collecting_of s) (trail_of None taken) }
 {}
 
 /// A run stays a run where the room of a mutator that has no event in it is another one.
 pub fn a_run_is_blind_to_an_unused_room()
-    ensures { (s : State) (i room : ℕ) (taken : List Taken) → trail_of (Some i) taken ≡ [] → Runs s taken
+    ensures { (s : State) (i room : ℕ) (taken : List Taken) → trail_of (Some i) taken ≡ []
+        → Runs s taken
         → Runs (roomed s (slice_set s.rooms i room)) taken
-        × (last (roomed s (slice_set s.rooms i room)) taken ≡ roomed (last s taken) (slice_set s.rooms i room)) }
+        × (last (roomed s (slice_set s.rooms i room)) taken
+        ≡ roomed (last s taken) (slice_set s.rooms i room)) }
 {}
 
 /// The cell that is being wiped is not reachable.
 pub fn a_wiped_cell_is_not_reachable()
-    ensures { (s : State) (wiped : ℕ) → IsShaped s → IsConsistent s → s.collector.sweep ≡ Wiping wiped
+    ensures { (s : State) (wiped : ℕ) → IsShaped s → IsConsistent s → s.collector.sweep
+        ≡ Wiping wiped
         → ¬ (Reachable s s.control.position) }
 {}
 
 /// No event changes a field of a record that is reachable.
 pub fn a_record_never_changes()
-    ensures { (s : State) (e : Event) (c f : ℕ) → IsShaped s → IsConsistent s → can s e ≡ true → Reachable s c
+    ensures { (s : State) (e : Event) (c f : ℕ) → IsShaped s → IsConsistent s → can s e ≡ true
+        → Reachable s c
         → field_of s c 5 ≡ Num 1 → field_of (after s e) c f ≡ field_of s c f }
 {}

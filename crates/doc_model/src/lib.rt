@@ -4,9 +4,9 @@
 //! every version that it ever had. The layer above may rely on the answers of `PlainStore` being
 //! those of the definitions in specs/, on `merge` and `is_legal` being the relations there, and on
 //! the laws of `theorems`: logs that agree on one list of versions make one legal history, a log
-//! goes on with each entry that stands after it, and every version and every draft is a lawful tree.
-//! Names, texts, paths and trees are those of doc_tree. How commands and replies are written as
-//! text is left to others, and so is how clients come to agree.
+//! goes on with each entry that stands after it, and every version and every draft is a lawful
+//! tree. Names, texts, paths and trees are those of doc_tree. How commands and replies are written
+//! as text is left to others, and so is how clients come to agree.
 //!
 //! Reading order: `command`, `log`, `answer`, `store`, `history`, `theorems`.
 #![tactic(auto)]

@@ -474,7 +474,8 @@ module _ {P : Type 0} (opens : ℕ → ℕ → P) (holds : Map → List P → Ty
             elim (at_set l.places u.number j (places.Joined (share_of u)) p place) [
               | inl here ↦
                   subst (λ (q : Place P). PlaceFits opens h new j q) here.1
-                  (subst (λ (n : ℕ). PlaceFits opens h new n (places.Joined (share_of u))) (sym here.0)
+                  (subst (λ (n : ℕ). PlaceFits opens h new n (places.Joined (share_of u)))
+                  (sym here.0)
                   (joined_share l u u.number (share_of u) mine.share, over))
               | inr other ↦ joined_place l u j p (k.each_place j p other.1)
             ];

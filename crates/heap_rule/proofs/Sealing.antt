@@ -200,7 +200,8 @@ module _ (fixed : ℕ
       entries = λ f. entries y f (back y r);
     }
 
-    others_know : (j : ℕ) → j ≢ i → AllKnown (IsKnown fixed t m j) (cells_of s j) (known_in l.known j)
+    others_know : (j : ℕ) → j ≢ i
+        → AllKnown (IsKnown fixed t m j) (cells_of s j) (known_in l.known j)
     others_know j other =
         all_known (IsKnown fixed s l j) (IsKnown fixed t m j) (cells_of s j) (known_in l.known j)
         (λ y w there before. knows_on s t l m fixed j y w
@@ -227,7 +228,8 @@ module _ (fixed : ℕ
     value_plain (field.Num n) is = tt
     value_plain (field.Cell d) is =
         subst (λ (o : Option Term). IsPlain (named_or d o))
-        (sym (cell_term_is fixed s l i (cells_of s i) (known_in l.known i) d (facts.known_all i) is))
+        (sym (cell_term_is fixed s l i (cells_of s i) (known_in l.known i) d
+        (facts.known_all i) is))
         tt
 
     -- .. where it is a record now
@@ -259,7 +261,8 @@ module _ (fixed : ℕ
           ∙ value_is (field_of s x f) (knows_fields f lt)
 
       record_known : (fs : List Field) → ArePayload fs (field_of s x)
-          → IsKnown fixed t m i x (knows.Record (fields_term (cells_of s i) (known_in l.known i) fs))
+          → IsKnown fixed t m i x
+          (knows.Record (fields_term (cells_of s i) (known_in l.known i) fs))
       record_known fs are =
           let at = field_term fs are in
           let terms : fields_term (cells_of s i) (known_in l.known i) fs
@@ -278,7 +281,8 @@ module _ (fixed : ℕ
 
       box_known : (fs : List Field) → l.fresh x ≡ Some i → ArePayload fs (field_of s x)
           → IsKnown fixed t m i x (knows.Fresh fs)
-      box_known fs fresh are = (ap is_box_kind (kind_now ∙ ap kind_field is), fresh, row_known fs are)
+      box_known fs fresh
+          are = (ap is_box_kind (kind_now ∙ ap kind_field is), fresh, row_known fs are)
 
     fits_here : (o : Kind) → of ≡ o
         → TermFits (is_record_kind (field_of t x 5)) m.terms (field_of t x) (m.terms x)
@@ -303,7 +307,8 @@ module _ (fixed : ℕ
     sealed_known kind.Boxed is (knows.Boxed told) h = tt
 
     mine_know : AllKnown (IsKnown fixed t m i) (cells_of s i)
-        (at_cell (known_sealed (cells_of s i) (known_in l.known i) of) (get_or (cells_of s i) place 0)
+        (at_cell (known_sealed (cells_of s i) (known_in l.known i) of)
+        (get_or (cells_of s i) place 0)
         (cells_of s i) (known_in l.known i))
     mine_know =
         let there = cell_there (held_of s i) place in
@@ -321,7 +326,8 @@ module _ (fixed : ℕ
     sealed_facts = record {
       termed = λ y r. elim (cases_eq y x) [
         | inl is ↦ subst
-            (λ (n : ℕ). TermFits (is_record_kind (field_of t n 5)) m.terms (field_of t n) (m.terms n))
+            (λ (n : ℕ). TermFits (is_record_kind (field_of t n 5)) m.terms (field_of t n)
+            (m.terms n))
             (sym is) (fits_here of refl)
         | inr other ↦ fits_on s t l m y (sealed_same y r other) (facts.termed y (back y r))
       ];

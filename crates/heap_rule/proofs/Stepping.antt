@@ -322,7 +322,8 @@ module _ {P : Type 0} (opens : ℕ → ℕ → P) (holds : Map → List P → Ty
         place = mine.place;
         owner = mine.owner;
         share = share_mine l e v passes pass shaped owed.happens
-            (let lt = knows.number in let fit = k.stands.facts.known_fit in let n = knows.mutators in omega (arith, lt, fit, n))
+            (let lt = knows.number in let fit = k.stands.facts.known_fit in
+            let n = knows.mutators in omega (arith, lt, fit, n))
             made (set_here l.passes v.number pass below) mine.share;
       } in (
         w,

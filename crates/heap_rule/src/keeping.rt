@@ -15,7 +15,8 @@ pub trait Keeping {
     ghost fixed: { ℕ → Bool };
 
     // the rule stands on every smaller map
-    ghost shrinks: { (old new : Map) (passes : List Self) → Smaller old new → holds old passes → holds new passes };
+    ghost shrinks: { (old new : Map) (passes : List Self) → Smaller old new → holds old passes
+        → holds new passes };
 }
 
 /// The rule of a client that asks for nothing.

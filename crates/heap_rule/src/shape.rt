@@ -16,5 +16,11 @@ impl Model for HeapShape {
 
     ghost Value = { Shape };
 
-    ghost view = { λ h. record { cells = h.cells; mutators = h.mutators; setting = h.setting; first = h.first.items } };
+    ghost view = { λ h.
+        record {
+          cells = h.cells;
+          mutators = h.mutators;
+          setting = h.setting;
+          first = h.first.items;
+        } };
 }

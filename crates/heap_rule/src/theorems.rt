@@ -22,7 +22,8 @@ use crate::keeping::Keeping;
 /// so.
 pub fn facts_on_lore_stay()
     ensures { (fixed : ℕ → Bool) (s : State) (l : Lore) (e : Event) → IsShaped s → IsConsistent s
-        → Facts fixed s l → can s e ≡ true → Proper fixed s l e → Facts fixed (after s e) (lore_after s l e) }
+        → Facts fixed s l → can s e ≡ true → Proper fixed s l e
+        → Facts fixed (after s e) (lore_after s l e) }
 {}
 
 /// The boxes behind such an event are a smaller map than those before it; behind a write that was
@@ -38,5 +39,6 @@ pub fn boxes_grow_smaller()
 /// mutator's seat has that one's own part and trail, what it holds is reachable, and the colour
 /// word of no reachable cell is that of a free one.
 pub fn a_table_shows_a_safe_run<S, P: Keeping>()
-    ensures { (h : Shape) (s : TableState S (View P)) → Kept P.opening P.holds P.fixed h s → ShowsRun h s }
+    ensures { (h : Shape) (s : TableState S (View P)) → Kept P.opening P.holds P.fixed h s
+        → ShowsRun h s }
 {}

@@ -16,8 +16,10 @@ pub fn stretches_join()
 /// A claim that found the heap full has, in the events of its call, what a `full` in a log must
 /// have.
 pub fn a_refused_claim_found_the_heap_full()
-    ensures { (own : Own) (number cells : ℕ) (off_duty : Bool) (begun ended : ℕ) (events : List Taken)
-        → FindsFull number cells off_duty begun ended events → IsFull cells (marks_from own events) }
+    ensures { (own : Own) (number cells : ℕ) (off_duty : Bool) (begun ended : ℕ)
+        (events : List Taken)
+        → FindsFull number cells off_duty begun ended events
+        → IsFull cells (marks_from own events) }
 {}
 
 /// What a reader of chains tells forwards, it shows.

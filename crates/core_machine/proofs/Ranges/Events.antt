@@ -1,5 +1,6 @@
 -- All events keep the ranges, and the opening has them.
-use Rattle.std.proofs.Common.{◌≡◌, ◌≤◌, Bool, true, false, Some, Result, Ok, Err, refl, sym, ap, subst}
+use Rattle.std.proofs.Common.{◌≡◌, ◌≤◌, Bool, true, false, Some, Result, Ok, Err, refl, sym, ap}
+use Rattle.std.proofs.Common.{subst}
 use Rattle.core_machine.specs.declared.events.Event.{Event}
 use Rattle.core_machine.specs.declared.events.Event.TheVariants as event
 use Rattle.core_machine.specs.InRange.{IsShaped, InRange}
@@ -14,7 +15,8 @@ after_shaped s (event.Begin i) r can = mutators.begin_keeps s r i
 after_shaped s (event.Look i) r can = mutators.look_keeps s r i
 after_shaped s (event.Read i place f) r can = mutators.read_keeps s r i place f
 after_shaped s (event.Mark i place) r can = mutators.mark_keeps s r i place
-after_shaped s (event.Write i place f old new) r can = mutators.write_keeps s r i place f old new can
+after_shaped s
+    (event.Write i place f old new) r can = mutators.write_keeps s r i place f old new can
 after_shaped s (event.Claim i c) r can = mutators.claim_keeps s r i c can
 after_shaped s (event.Fill i place f value) r can = mutators.fill_keeps s r i place f value can
 after_shaped s (event.Seal i place kind) r can = mutators.seal_keeps s r i place kind
@@ -39,7 +41,8 @@ after_shaped s event.Whiten r can = collecting.whiten_keeps s r can
 after_shaped s event.Advance r can = collecting.advance_keeps s r can
 
 -- no event makes or unmakes a cell or a mutator
-pub after_sizes : (s : State) (e : Event) → ((after s e).cells ≡ s.cells) × ((after s e).mutators ≡ s.mutators)
+pub after_sizes : (s : State) (e : Event)
+    → ((after s e).cells ≡ s.cells) × ((after s e).mutators ≡ s.mutators)
 after_sizes s (event.Begin i) = (refl, refl)
 after_sizes s _ = (refl, refl)
 
@@ -56,7 +59,8 @@ when_some true t u is = (refl, cc)
 when_some false t u is = cc
 
 -- whatever a call of one event answers, the ranges stay
-pub takes_in_range : {U E : Type 0} (result : Result U E) (old new : State) (e : Event) → InRange old
+pub takes_in_range : {U E : Type 0} (result : Result U E) (old new : State) (e : Event)
+    → InRange old
     → Takes result old (next old e) new → InRange new
 takes_in_range (Ok done) old new e r is =
     let happens = when_some (can old e) (after old e) new is in
@@ -67,6 +71,7 @@ pub takes_sizes : {U E : Type 0} (result : Result U E) (old new : State) (e : Ev
     → Takes result old (next old e) new → (new.cells ≡ old.cells) × (new.mutators ≡ old.mutators)
 takes_sizes (Ok done) old new e is =
     let happens = when_some (can old e) (after old e) new is in
-    subst (λ (t : State). (t.cells ≡ old.cells) × (t.mutators ≡ old.mutators)) happens.1 (after_sizes old e)
+    subst (λ (t : State). (t.cells ≡ old.cells) × (t.mutators ≡ old.mutators)) happens.1
+    (after_sizes old e)
 takes_sizes (Err refusal) old new e is =
     (ap (λ (t : State). t.cells) is.1, ap (λ (t : State). t.mutators) is.1)

@@ -1,5 +1,7 @@
 -- Lists: what a write leaves, places of held lists, and how many cells are blue.
-use Rattle.std.proofs.Common.{◌≡◌, ℕ, zero, suc, ◌+◌, ◌<◌, ◌≤◌, Bool, true, false, cond, List, [], ◌∷◌, ◌++◌, length, map, take, drop, get_or, set, refl, sym, ap, subst, arith}
+use Rattle.std.proofs.Common.{◌≡◌, ℕ, zero, suc, ◌+◌, ◌<◌, ◌≤◌, Bool, true, false, cond, List, []}
+use Rattle.std.proofs.Common.{◌∷◌, ◌++◌, length, map, take, drop, get_or, set, refl, sym, ap, subst}
+use Rattle.std.proofs.Common.{arith}
 use Rattle.std.specs.List.{count_by}
 use Rattle.std.proofs.lemmas.List.Sums.{sum_by-set}
 use Rattle.cell_words.specs.declared.colours.Colour.{Colour}
@@ -27,7 +29,8 @@ Below n held = (place : ℕ) → cell_at held place < n
 pub below-none : (n : ℕ) → 0 < n → Below n []
 below-none n some place = some
 
-pub below-cons : (n : ℕ) (place : Held) (held : List Held) → place.cell < n → Below n held → Below n (place ∷ held)
+pub below-cons : (n : ℕ) (place : Held) (held : List Held) → place.cell < n → Below n held
+    → Below n (place ∷ held)
 below-cons n place held first rest zero = first
 below-cons n place held first rest (suc k) = rest k
 
@@ -93,4 +96,9 @@ count-set_claimed colours c x within blue other =
 pub count-set_most : (colours : List Colour) (c : ℕ) (x : Colour) → c < length colours
     → count_by is_blue (set colours c x) ≤ count_by is_blue colours + 1
 count-set_most colours c x within =
-    omega (arith, sum_by-set (λ y. weight (is_blue y)) colours c x colour.Blue within, weight-most (is_blue x))
+    omega (
+      arith,
+      sum_by-set (λ y. weight (is_blue y)) colours c x colour.Blue within,
+      weight-most
+          (is_blue x),
+    )

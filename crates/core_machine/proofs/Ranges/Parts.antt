@@ -1,5 +1,6 @@
 -- One part of the state changes, and the ranges stay.
-use Rattle.std.proofs.Common.{◌≡◌, ℕ, ◌+◌, ◌<◌, ◌≤◌, true, List, length, get_or, set, sym, ◌∙◌, subst, arith}
+use Rattle.std.proofs.Common.{◌≡◌, ℕ, ◌+◌, ◌<◌, ◌≤◌, true, List, length, get_or, set, sym, ◌∙◌}
+use Rattle.std.proofs.Common.{subst, arith}
 use Rattle.std.specs.List.{count_by}
 use Rattle.std.proofs.lemmas.List.{length-set}
 use Rattle.cell_words.specs.declared.colours.Colour.{Colour}
@@ -34,8 +35,10 @@ own_kept s r i own below claims = record {
   counts_fit = record {
     each_fits = r.counts_fit.each_fits;
     freed_fits = r.counts_fit.freed_fits;
-    claims_fit = λ j. set_cases (λ o. o.claims + count_by is_blue s.colours ≤ s.cells + s.collector.number_freed)
-        s.owns i j own no_own (λ is within. omega (arith, r.counts_fit.claims_fit i)) (r.counts_fit.claims_fit j);
+    claims_fit = λ j. set_cases
+        (λ o. o.claims + count_by is_blue s.colours ≤ s.cells + s.collector.number_freed)
+        s.owns i j own no_own (λ is within. omega (arith, r.counts_fit.claims_fit i))
+        (r.counts_fit.claims_fit j);
   };
 }
 
@@ -69,7 +72,8 @@ pub colour_kept : (s : State) → IsShaped s → (c : ℕ) (x : Colour) → c < 
     → (is_blue x ≡ true → is_blue (colour_of s c) ≡ true)
     → IsShaped (record s { colours = set s.colours c x })
 colour_kept s r c x within old =
-    let there : c < length s.colours = subst (λ (n : ℕ). c < n) (sym r.cells_fit.colours_fit) within in
+    let there : c < length s.colours = subst (λ (n : ℕ). c < n)
+    (sym r.cells_fit.colours_fit) within in
     let fewer = count-set s.colours c x there old in
     record {
       cells_fit = colours_fit_kept s r c x;
@@ -94,14 +98,16 @@ field_kept s r c f value names =
         colours_fit = r.cells_fit.colours_fit;
         rows_fit = length-set s.rows c row ∙ r.cells_fit.rows_fit;
         freed_fit = r.cells_fit.freed_fit;
-        six_fields = λ d within. set_cases (λ (fields : List Field). length fields ≡ 6) s.rows c d row _
+        six_fields = λ d within. set_cases
+            (λ (fields : List Field). length fields ≡ 6) s.rows c d row _
             (λ is there. length-set (row_in s.rows c) f value
             ∙ r.cells_fit.six_fields c (subst (λ (n : ℕ). c < n) r.cells_fit.rows_fit there))
             (r.cells_fit.six_fields d within);
       };
       mutators_fit = r.mutators_fit;
       names_fit = record {
-        fields_fit = λ d g. set_cases (λ (fields : List Field). NamesBelow s.cells (get_or fields g field.Null))
+        fields_fit = λ d g. set_cases
+            (λ (fields : List Field). NamesBelow s.cells (get_or fields g field.Null))
             s.rows c d row _
             (λ is there. set_cases (NamesBelow s.cells) (row_in s.rows c) f g value field.Null
             (λ same within. names) (r.names_fit.fields_fit c g))

@@ -1,5 +1,7 @@
 -- The opening is in range.
-use Rattle.std.proofs.Common.{◌≡◌, ℕ, zero, suc, ◌+◌, ◌-◌, ◌<◌, ◌≤◌, true, List, [], ◌∷◌, ◌++◌, length, replicate, get_or, refl, sym, ◌∙◌, ap, subst, arith, length-append, Result, Ok, Err, IfOk}
+use Rattle.std.proofs.Common.{◌≡◌, ℕ, zero, suc, ◌+◌, ◌-◌, ◌<◌, ◌≤◌, true, List, [], ◌∷◌, ◌++◌}
+use Rattle.std.proofs.Common.{length, replicate, get_or, refl, sym, ◌∙◌, ap, subst, arith}
+use Rattle.std.proofs.Common.{length-append, Result, Ok, Err, IfOk}
 use Rattle.std.specs.List.{list_all}
 use Rattle.std.proofs.lemmas.Bool.{and_parts, ltb-true}
 use Rattle.std.proofs.lemmas.List.{length-replicate, get_or-replicate}
@@ -7,7 +9,8 @@ use Rattle.std.proofs.lemmas.List.Sums.{count_by-le-length}
 use Rattle.cell_words.specs.declared.colours.Colour.TheVariants as colour
 use Rattle.cell_words.specs.declared.fields.Field.{Field}
 use Rattle.cell_words.specs.declared.fields.Field.TheVariants as field
-use Rattle.core_machine.specs.InRange.{IsShaped, InRange, NamesBelow, RowsFit, names_below, rows_name_below}
+use Rattle.core_machine.specs.InRange.{IsShaped, InRange, NamesBelow, RowsFit, names_below}
+use Rattle.core_machine.specs.InRange.{rows_name_below}
 use Rattle.core_machine.specs.Own.{Own, no_own}
 use Rattle.core_machine.specs.Places.{cell_at}
 use Rattle.core_machine.specs.State.{State, greatest_cells, row_in, field_in, null_row, opening}
@@ -23,7 +26,8 @@ default_in (suc m) (suc i) d = default_in m i d
 abbrev rows_of : ℕ → List (List Field) → List (List Field)
 rows_of m first = first ++ replicate m null_row
 
-rows_six : (m : ℕ) (first : List (List Field)) → ((i : ℕ) → i < length first → length (row_in first i) ≡ 6)
+rows_six : (m : ℕ) (first : List (List Field))
+    → ((i : ℕ) → i < length first → length (row_in first i) ≡ 6)
     → (c : ℕ) → c < length first + m → length (row_in (rows_of m first) c) ≡ 6
 rows_six m [] six c within =
     ap (λ (row : List Field). length row) (get_or-replicate m c null_row [] (omega arith))
@@ -36,7 +40,8 @@ null_rows_fit cells zero c f = tt
 null_rows_fit cells (suc m) zero f = subst (NamesBelow cells) (sym (default_in 6 f field.Null)) tt
 null_rows_fit cells (suc m) (suc c) f = null_rows_fit cells m c f
 
-rows_fit : (cells m : ℕ) (first : List (List Field)) → RowsFit cells first → RowsFit cells (rows_of m first)
+rows_fit : (cells m : ℕ) (first : List (List Field)) → RowsFit cells first
+    → RowsFit cells (rows_of m first)
 rows_fit cells m [] fits c f = null_rows_fit cells m c f
 rows_fit cells m (row ∷ rows) fits zero f = fits 0 f
 rows_fit cells m (row ∷ rows) fits (suc c) f = rows_fit cells m rows (λ d g. fits (suc d) g) c f
@@ -47,27 +52,32 @@ row_below : (cells : ℕ) (row : List Field) → list_all (names_below cells) ro
 row_below cells [] is f = tt
 row_below cells (value ∷ row) is zero = value_below cells value (and_parts _ _ is).0
   where
-    value_below : (cells : ℕ) (value : Field) → names_below cells value ≡ true → NamesBelow cells value
+    value_below : (cells : ℕ) (value : Field) → names_below cells value ≡ true
+        → NamesBelow cells value
     value_below cells field.Null is = tt
     value_below cells (field.Num n) is = tt
     value_below cells (field.Cell c) is = ltb-true c cells is
 row_below cells (value ∷ row) is (suc f) = row_below cells row (and_parts _ _ is).1 f
 
-pub rows_below : (cells : ℕ) (rows : List (List Field)) → rows_name_below cells rows ≡ true → RowsFit cells rows
+pub rows_below : (cells : ℕ) (rows : List (List Field)) → rows_name_below cells rows ≡ true
+    → RowsFit cells rows
 rows_below cells [] is c f = tt
 rows_below cells (row ∷ rows) is zero f = row_below cells row (and_parts _ _ is).0 f
 rows_below cells (row ∷ rows) is (suc c) f = rows_below cells rows (and_parts _ _ is).1 c f
 
 pub opening_shaped : (cells : ℕ) (rooms : List ℕ) (first : List (List Field)) → 0 < cells
-    → length first ≤ cells → ((i : ℕ) → i < length first → length (row_in first i) ≡ 6) → RowsFit cells first
+    → length first ≤ cells → ((i : ℕ) → i < length first → length (row_in first i) ≡ 6)
+    → RowsFit cells first
     → IsShaped (opening cells rooms first)
 opening_shaped cells rooms first some short six fits =
     let white = replicate (length first) colour.White in
     let blue = replicate (cells - length first) colour.Blue in
     let all : length first + (cells - length first) ≡ cells = omega arith in
     let colours : length (white ++ blue) ≡ cells =
-    length-append white blue ∙ ap (λ (n : ℕ). n + length blue) (length-replicate (length first) colour.White)
-    ∙ ap (λ (n : ℕ). length first + n) (length-replicate (cells - length first) colour.Blue) ∙ all in
+    length-append white blue
+    ∙ ap (λ (n : ℕ). n + length blue) (length-replicate (length first) colour.White)
+    ∙ ap (λ (n : ℕ). length first + n) (length-replicate (cells - length first) colour.Blue)
+    ∙ all in
     let rows : length (rows_of (cells - length first) first) ≡ cells =
     length-append first (replicate (cells - length first) null_row)
     ∙ ap (λ (n : ℕ). length first + n) (length-replicate (cells - length first) null_row) ∙ all in
@@ -104,14 +114,17 @@ opening_shaped cells rooms first some short six fits =
       };
     }
 
-pub opening_in_range : (cells : ℕ) (rooms : List ℕ) (first : List (List Field)) → 0 < cells → cells ≤ greatest_cells
-    → length first ≤ cells → ((i : ℕ) → i < length first → length (row_in first i) ≡ 6) → RowsFit cells first
+pub opening_in_range : (cells : ℕ) (rooms : List ℕ) (first : List (List Field)) → 0 < cells
+    → cells ≤ greatest_cells
+    → length first ≤ cells → ((i : ℕ) → i < length first → length (row_in first i) ≡ 6)
+    → RowsFit cells first
     → InRange (opening cells rooms first)
 opening_in_range cells rooms first some few short six fits =
     record { shape = opening_shaped cells rooms first some short six fits; few_cells = few }
 
 -- what a call opens, if it opens it
-pub opened_in_range : {E : Type 0} (result : Result State E) (s : State) → IfOk result (λ t. t ≡ s) → InRange s
+pub opened_in_range : {E : Type 0} (result : Result State E) (s : State) → IfOk result (λ t. t ≡ s)
+    → InRange s
     → IfOk result InRange
 opened_in_range (Ok t) s is r = subst InRange (sym is) r
 opened_in_range (Err e) s is r = tt

@@ -1,6 +1,7 @@
--- Live cells are told by a test on cells. Where two tests hold of the same cells, what is said of live
--- cells by the one is said by the other.
-use Rattle.std.proofs.Common.{◌≡◌, ◌&&◌, ◌||◌, ◌==◌, ◌⊎◌, inl, inr, ℕ, Bool, true, false, not, nat_lt, List, Option, Some, ◌≤◌, sym, subst, ◌∙◌, ap, arith}
+-- Live cells are told by a test on cells. Where two tests hold of the same cells, what is said of
+-- live cells by the one is said by the other.
+use Rattle.std.proofs.Common.{◌≡◌, ◌&&◌, ◌||◌, ◌==◌, ◌⊎◌, inl, inr, ℕ, Bool, true, false, not}
+use Rattle.std.proofs.Common.{nat_lt, List, Option, Some, ◌≤◌, sym, subst, ◌∙◌, ap, arith}
 use Rattle.std.specs.List.{All}
 use Rattle.std.proofs.lemmas.Bool.{cases_lt, and_parts, or_cases, ltb-true, eqb-true}
 use Rattle.std.proofs.lemmas.List.{get_or_past}
@@ -24,7 +25,8 @@ use Rattle.dlg_core.specs.Facts.{is_live, live, unswept, child_in, status_fits}
 use Rattle.core_machine.proofs.Conditions.{same_stage_is}
 
 -- the facts on live cells, by the test
-pub record LiveFacts (test : ℕ → Bool) (rows : List (List Field)) (owns : List Own) (scan : Option Scanning) : Type 0 where
+pub record LiveFacts (test : ℕ → Bool) (rows : List (List Field)) (owns : List Own)
+    (scan : Option Scanning) : Type 0 where
   pub anchor : test 0 ≡ true
   pub held : (i : ℕ) → All (λ place. test place.cell ≡ true) (own_in owns i).held
   pub child : (c : ℕ) → child_in scan ≡ Some c → test c ≡ true
@@ -33,35 +35,47 @@ pub record LiveFacts (test : ℕ → Bool) (rows : List (List Field)) (owns : Li
 
 pub live_facts : (s : State) → IsConsistent s
     → LiveFacts (live s.colours s.control s.collector.sweep) s.rows s.owns s.collector.scan
-live_facts s k = record { anchor = k.cells.anchor_live; held = k.cells.held_live; child = k.cells.child_live; names = k.cells.names_live }
+live_facts s k = record {
+  anchor = k.cells.anchor_live;
+  held = k.cells.held_live;
+  child = k.cells.child_live;
+  names = k.cells.names_live;
+}
 
 -- tests that say the same
-pub live_moves : (one other : ℕ → Bool) (rows : List (List Field)) (owns : List Own) (scan : Option Scanning)
+pub live_moves : (one other : ℕ → Bool) (rows : List (List Field)) (owns : List Own)
+    (scan : Option Scanning)
     → ((c : ℕ) → other c ≡ one c) → LiveFacts one rows owns scan → LiveFacts other rows owns scan
 live_moves one other rows owns scan same k = record {
   anchor = same 0 ∙ k.anchor;
-  held = (λ i. All-weaker (λ p. one p.cell ≡ true) (λ p. other p.cell ≡ true) (λ p h. same p.cell ∙ h) (own_in owns i).held (k.held i));
+  held = (λ i. All-weaker (λ p. one p.cell ≡ true) (λ p. other p.cell ≡ true)
+      (λ p h. same p.cell ∙ h) (own_in owns i).held (k.held i));
   child = (λ c e. same c ∙ k.child c e);
   names = (λ c d f h n. let r = k.names c d f (sym (same c) ∙ h) n in (same d ∙ r.0, r.1));
 }
 
 -- outside the sweep no cell is unswept
-pub not_sweeping : (control : Control) (sweep : Sweeping) (c : ℕ) → same_stage control.stage stage.Sweep ≡ false
+pub not_sweeping : (control : Control) (sweep : Sweeping) (c : ℕ)
+    → same_stage control.stage stage.Sweep ≡ false
     → unswept control sweep c ≡ false
 not_sweeping control sweep c h =
     ap (λ b. b && (nat_lt control.position c || ((c == control.position) && not (is_done sweep)))) h
 
-pub live_outside : (colours : List Colour) (control : Control) (sweep : Sweeping) (c : ℕ) → same_stage control.stage stage.Sweep ≡ false
+pub live_outside : (colours : List Colour) (control : Control) (sweep : Sweeping) (c : ℕ)
+    → same_stage control.stage stage.Sweep ≡ false
     → live colours control sweep c ≡ is_live (colour_in colours c) false
-live_outside colours control sweep c h = ap (is_live (colour_in colours c)) (not_sweeping control sweep c h)
+live_outside colours control sweep c h = ap (is_live (colour_in colours c))
+    (not_sweeping control sweep c h)
 
 -- a stage is not the sweep where it is another
-pub other_stage : (now x : Stage) → now ≡ x → same_stage x stage.Sweep ≡ false → same_stage now stage.Sweep ≡ false
+pub other_stage : (now x : Stage) → now ≡ x → same_stage x stage.Sweep ≡ false
+    → same_stage now stage.Sweep ≡ false
 other_stage now x e h = subst (λ y. same_stage y stage.Sweep ≡ false) (sym e) h
 
 -- a mutator that there is not is in the async status
 pub status_known : (s : State) (i : ℕ) → IsShaped s → IsConsistent s
-    → (status_fits s.control.stage (presence_of s i).status ≡ true) ⊎ ((presence_of s i).status ≡ status.Async)
+    → (status_fits s.control.stage (presence_of s i).status ≡ true)
+    ⊎ ((presence_of s i).status ≡ status.Async)
 status_known s i range k = elim (cases_lt i s.mutators) [
   | inl lt ↦ inl (k.mutators.statuses i lt)
   | inr past ↦ inr (ap (λ p. p.status) (get_or_past s.presences i no_presence

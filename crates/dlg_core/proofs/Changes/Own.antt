@@ -7,7 +7,8 @@ use Rattle.std.specs.Prelude.{slice_set}
 use Rattle.std.specs.List.{All}
 use Rattle.cell_words.specs.declared.controls.Stage.TheVariants as stage
 use Rattle.cell_words.specs.declared.presences.Status.TheVariants.{Async, Sync2}
-use Rattle.core_machine.specs.State.{State, field_in, presence_in, own_in, presence_of, own_of, held_of}
+use Rattle.core_machine.specs.State.{State, field_in, presence_in, own_in, presence_of, own_of}
+use Rattle.core_machine.specs.State.{held_of}
 use Rattle.core_machine.specs.Words.{is_raw_kind}
 use Rattle.core_machine.specs.Own.{Own, spent}
 use Rattle.core_machine.specs.Places.{holds, unmark}
@@ -28,7 +29,8 @@ pub record OwnFits (s : State) (i : ℕ) (own : Own) : Type 0 where
   pub out : (presence_of s i).inside ≡ false → (own.held ≡ []) × (own.mode ≡ None)
   pub marks : marks_count s.control.stage (presence_of s i).status ≡ true
       → All (MarkStands s.colours) own.held
-  pub held_live : All (λ place. live s.colours s.control s.collector.sweep place.cell ≡ true) own.held
+  pub held_live : All
+      (λ place. live s.colours s.control s.collector.sweep place.cell ≡ true) own.held
   pub raw : (c : ℕ) → is_raw_kind (field_in s.rows c 5) ≡ true → holds own.held c ≡ true
       → holds (own_of s i).held c ≡ true
   pub raw_not_black : (presence_of s i).status ≡ Sync2
@@ -38,21 +40,28 @@ pub record OwnFits (s : State) (i : ℕ) (own : Own) : Type 0 where
       → IsNotDue s.presences s.owns s.colours s.rows s.collector.scan set
       → All (λ place. set place.cell ≡ false) own.held
 
-pub own_kept : (s : State) (i : ℕ) (own : Own) → IsConsistent s → OwnFits s i own → IsConsistent (with_own s i own)
+pub own_kept : (s : State) (i : ℕ) (own : Own) → IsConsistent s → OwnFits s i own
+    → IsConsistent (with_own s i own)
 own_kept s i own k fits =
     let before : (c : ℕ) → is_raw_kind (field_in s.rows c 5) ≡ true → (j : ℕ)
-    → holds (own_in (slice_set s.owns i own) j).held c ≡ true → holds (own_in s.owns j).held c ≡ true
-    = (λ c raw j. own_each (λ n o. holds o.held c ≡ true → holds (own_in s.owns n).held c ≡ true) s.owns i own
+    → holds (own_in (slice_set s.owns i own) j).held c ≡ true
+    → holds (own_in s.owns j).held c ≡ true
+    = (λ c raw j. own_each
+    (λ n o. holds o.held c ≡ true → holds (own_in s.owns n).held c ≡ true) s.owns i own
     (fits.raw c raw) (λ n h. h) j) in
     record {
       mutators = record {
         statuses = k.mutators.statuses;
         answered = k.mutators.answered;
-        modes = own_each (λ j o. IsStaleMode (presence_in s.presences j).status o.mode s.control) s.owns i own
+        modes = own_each
+            (λ j o. IsStaleMode (presence_in s.presences j).status o.mode s.control) s.owns i own
             fits.mode k.mutators.modes;
-        out = own_each (λ j o. (presence_in s.presences j).inside ≡ false → (o.held ≡ []) × (o.mode ≡ None)) s.owns i own
+        out = own_each
+            (λ j o. (presence_in s.presences j).inside ≡ false → (o.held ≡ []) × (o.mode ≡ None))
+            s.owns i own
             fits.out k.mutators.out;
-        marks = own_each (λ j o. marks_count s.control.stage (presence_in s.presences j).status ≡ true
+        marks = own_each
+            (λ j o. marks_count s.control.stage (presence_in s.presences j).status ≡ true
             → All (MarkStands s.colours) o.held) s.owns i own
             fits.marks k.mutators.marks;
       };
@@ -61,11 +70,15 @@ own_kept s i own k fits =
         kinds = k.cells.kinds;
         blue_null = k.cells.blue_null;
         anchor_live = k.cells.anchor_live;
-        held_live = own_each (λ j o. All (λ place. live s.colours s.control s.collector.sweep place.cell ≡ true) o.held) s.owns i own
+        held_live = own_each
+            (λ j o. All
+            (λ place. live s.colours s.control s.collector.sweep place.cell ≡ true) o.held) s.owns i
+            own
             fits.held_live k.cells.held_live;
         child_live = k.cells.child_live;
         names_live = k.cells.names_live;
-        raw_once = (λ a b c raw ha hb. k.cells.raw_once a b c raw (before c raw a ha) (before c raw b hb));
+        raw_once = (λ a b c raw ha hb. k.cells.raw_once a b c raw (before c raw a ha)
+            (before c raw b hb));
         raw_not_black = own_each (λ j o. (presence_in s.presences j).status ≡ Sync2
             → All (NoRawBlack s.colours s.rows) o.held)
             s.owns i own fits.raw_not_black k.cells.raw_not_black;
@@ -87,13 +100,17 @@ own_kept s i own k fits =
       sweep = k.sweep;
     }
 
-pub spent_fits : (s : State) (i : ℕ) → IsConsistent s → is_in s i ≡ true → OwnFits s i (spent (own_of s i))
+pub spent_fits : (s : State) (i : ℕ) → IsConsistent s → is_in s i ≡ true
+    → OwnFits s i (spent (own_of s i))
 spent_fits s i k inside = record {
   mode = tt;
   out = (λ o. absurd cc);
   marks = (λ m. none_marked s.colours (held_of s i));
-  held_live = All-map (λ place. live s.colours s.control s.collector.sweep place.cell ≡ true) unmark (held_of s i) (k.cells.held_live i);
+  held_live = All-map (λ place. live s.colours s.control s.collector.sweep place.cell ≡ true) unmark
+      (held_of s i) (k.cells.held_live i);
   raw = (λ c raw h. sym (holds_unmark (held_of s i) c) ∙ h);
-  raw_not_black = (λ sync2. All-map (NoRawBlack s.colours s.rows) unmark (held_of s i) (k.cells.raw_not_black i sync2));
-  due = (λ now async set cut old. All-map (λ place. set place.cell ≡ false) unmark (held_of s i) (old.held i async));
+  raw_not_black = (λ sync2. All-map (NoRawBlack s.colours s.rows) unmark (held_of s i)
+      (k.cells.raw_not_black i sync2));
+  due = (λ now async set cut old. All-map (λ place. set place.cell ≡ false) unmark (held_of s i)
+      (old.held i async));
 }

@@ -12,24 +12,31 @@ abbrev pub with_presence : State → ℕ → Presence → State
 with_presence s i p = record s { presences = slice_set s.presences i p }
 
 -- with the same status for mutator i each status is the same
-pub same_statuses : (s : State) (i : ℕ) (p : Presence) → p.status ≡ (presence_of s i).status → (j : ℕ)
+pub same_statuses : (s : State) (i : ℕ) (p : Presence) → p.status ≡ (presence_of s i).status
+    → (j : ℕ)
     → (presence_of (with_presence s i p) j).status ≡ (presence_of s j).status
 same_statuses s i p same j =
     presence_each (λ n q. q.status ≡ (presence_of s n).status) s.presences i p same (λ n. refl) j
 
-pub presence_kept : (s : State) (i : ℕ) (p : Presence) → IsConsistent s → p.status ≡ (presence_of s i).status
+pub presence_kept : (s : State) (i : ℕ) (p : Presence) → IsConsistent s
+    → p.status ≡ (presence_of s i).status
     → (p.inside ≡ false → ((own_of s i).held ≡ []) × ((own_of s i).mode ≡ None))
     → IsConsistent (with_presence s i p)
 presence_kept s i p k same out =
     let to = same_statuses s i p same in
     record {
       mutators = record {
-        statuses = (λ j lt. subst (λ own. status_fits s.control.stage own ≡ true) (sym (to j)) (k.mutators.statuses j lt));
+        statuses = (λ j lt. subst (λ own. status_fits s.control.stage own ≡ true) (sym (to j))
+            (k.mutators.statuses j lt));
         answered = (λ j lt now has. to j ∙ k.mutators.answered j lt now has);
-        modes = (λ j. subst (λ own. IsStaleMode own (own_in s.owns j).mode s.control) (sym (to j)) (k.mutators.modes j));
-        out = presence_each (λ j q. q.inside ≡ false → ((own_in s.owns j).held ≡ []) × ((own_in s.owns j).mode ≡ None))
+        modes = (λ j. subst (λ own. IsStaleMode own (own_in s.owns j).mode s.control) (sym (to j))
+            (k.mutators.modes j));
+        out = presence_each
+            (λ j q. q.inside ≡ false → ((own_in s.owns j).held ≡ [])
+            × ((own_in s.owns j).mode ≡ None))
             s.presences i p out k.mutators.out;
-        marks = (λ j m. k.mutators.marks j (subst (λ own. marks_count s.control.stage own ≡ true) (to j) m));
+        marks = (λ j m. k.mutators.marks j
+            (subst (λ own. marks_count s.control.stage own ≡ true) (to j) m));
       };
       cells = record {
         anchor_box = k.cells.anchor_box;

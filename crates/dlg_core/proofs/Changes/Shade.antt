@@ -1,8 +1,9 @@
 -- A live cell is shaded: white becomes gray, every other colour stays.
 --
--- Live cells stay as they are, since a live white cell is none that the sweep will free. A set that is
--- cut off after it was cut off before: the cell is not in it and names nothing in it.
-use Rattle.std.proofs.Common.{◌≡◌, ◌≢◌, ◌==◌, ◌&&◌, ◌⊎◌, inl, inr, ℕ, Bool, true, false, not, nat_lt, Option, Some, None, refl, sym, subst, ap, eq-eqb, length, ◌∙◌}
+-- Live cells stay as they are, since a live white cell is none that the sweep will free. A set that
+-- is cut off after it was cut off before: the cell is not in it and names nothing in it.
+use Rattle.std.proofs.Common.{◌≡◌, ◌≢◌, ◌==◌, ◌&&◌, ◌⊎◌, inl, inr, ℕ, Bool, true, false, not}
+use Rattle.std.proofs.Common.{nat_lt, Option, Some, None, refl, sym, subst, ap, eq-eqb, length, ◌∙◌}
 use Rattle.std.specs.Prelude.{slice_set}
 use Rattle.std.proofs.lemmas.Bool.{eqb-true, and_from, cases_lt}
 use Rattle.std.proofs.lemmas.List.Elements.{All-weaker}
@@ -55,14 +56,16 @@ shaded_gray colour.White e = inl refl
 shaded_gray colour.Gray e = inr refl
 shaded_gray _ e = absurd cc
 
-pub shaded_live : (x : Colour) (ahead : Bool) → is_live x ahead ≡ true → is_live (shaded x) ahead ≡ true
+pub shaded_live : (x : Colour) (ahead : Bool) → is_live x ahead ≡ true
+    → is_live (shaded x) ahead ≡ true
 shaded_live colour.Blue ahead h = h
 shaded_live colour.White ahead h = refl
 shaded_live colour.Gray ahead h = h
 shaded_live colour.Black ahead h = h
 
 -- work on a cell goes on in the sweep alone
-pub sweeps : (cells position : ℕ) (sweep : Sweeping) (now : Stage) → StageFits cells position sweep now
+pub sweeps : (cells position : ℕ) (sweep : Sweeping) (now : Stage)
+    → StageFits cells position sweep now
     → sweep ≢ sweeping.Fresh → now ≡ stage.Sweep
 sweeps cells position sweep stage.Idle fits busy = absurd (busy fits.1)
 sweeps cells position sweep stage.Sync1 fits busy = absurd (busy fits.1)
@@ -78,7 +81,8 @@ undone_test sweeping.BlackFound undone = refl
 undone_test sweeping.Done undone = absurd (undone refl)
 
 -- the cell at the position is unswept until it is done
-pub here_unswept : (control : Control) (sweep : Sweeping) → control.stage ≡ stage.Sweep → sweep ≢ sweeping.Done
+pub here_unswept : (control : Control) (sweep : Sweeping) → control.stage ≡ stage.Sweep
+    → sweep ≢ sweeping.Done
     → unswept control sweep control.position ≡ true
 here_unswept control sweep now undone =
     and_from _ _ (subst (λ x. same_stage x stage.Sweep ≡ true) (sym now) refl)
@@ -91,14 +95,17 @@ pub wiped_not_live : (s : State) → IsShaped s → (k : ℕ) → s.collector.sw
     → live s.colours s.control s.collector.sweep s.control.position ≡ false
 wiped_not_live s range k is white =
     let now : s.control.stage ≡ stage.Sweep
-    = sweeps s.cells s.control.position s.collector.sweep s.control.stage range.control_fits.stage_fits (λ e. cc) in
+    = sweeps s.cells s.control.position s.collector.sweep s.control.stage
+    range.control_fits.stage_fits (λ e. cc) in
     let ahead : unswept s.control s.collector.sweep s.control.position ≡ true
     = here_unswept s.control s.collector.sweep now (λ e. cc) in
-    subst (λ x. is_live x (unswept s.control s.collector.sweep s.control.position) ≡ false) (sym white)
+    subst (λ x. is_live x (unswept s.control s.collector.sweep s.control.position) ≡ false)
+    (sym white)
     (ap not ahead)
 
 -- the fields of a cell that is not under scan are open
-pub open_elsewhere : (scan : Option Scanning) (c f : ℕ) → ((x : Scanning) → scan ≡ Some x → c ≢ x.cell)
+pub open_elsewhere : (scan : Option Scanning) (c f : ℕ)
+    → ((x : Scanning) → scan ≡ Some x → c ≢ x.cell)
     → is_open scan c f ≡ true
 open_elsewhere None c f other = refl
 open_elsewhere (Some x) c f other =
@@ -120,8 +127,11 @@ shade_kept s c range k alive clean =
     let white_was : (d : ℕ) → colour_of t d ≡ colour.White → colour_of s d ≡ colour.White
     = colour_each (λ d y. y ≡ colour.White → colour_of s d ≡ colour.White) s.colours c (shaded x)
     (λ e. absurd (shaded_not_white x e)) (λ d h. h) in
-    let white_is : (d : ℕ) → colour_of s d ≡ colour.White → (colour_of t d ≡ colour.White) ⊎ (colour_of t d ≡ colour.Gray)
-    = colour_each (λ d y. colour_of s d ≡ colour.White → (y ≡ colour.White) ⊎ (y ≡ colour.Gray)) s.colours c (shaded x)
+    let white_is : (d : ℕ) → colour_of s d ≡ colour.White
+    → (colour_of t d ≡ colour.White) ⊎ (colour_of t d ≡ colour.Gray)
+    = colour_each
+    (λ d y. colour_of s d ≡ colour.White → (y ≡ colour.White) ⊎ (y ≡ colour.Gray)) s.colours c
+    (shaded x)
     (λ e. inr (ap shaded e)) (λ d h. inl h) in
     let gray_is : (d : ℕ) → colour_of s d ≡ colour.Gray → colour_of t d ≡ colour.Gray
     = colour_each (λ d y. colour_of s d ≡ colour.Gray → y ≡ colour.Gray) s.colours c (shaded x)
@@ -132,11 +142,17 @@ shade_kept s c range k alive clean =
     let black_is : (d : ℕ) → colour_of s d ≡ colour.Black → colour_of t d ≡ colour.Black
     = colour_each (λ d y. colour_of s d ≡ colour.Black → y ≡ colour.Black) s.colours c (shaded x)
     (λ e. ap shaded e) (λ d h. h) in
-    let live_is : (d : ℕ) → live s.colours s.control s.collector.sweep d ≡ true → live t.colours s.control s.collector.sweep d ≡ true
-    = colour_each (λ d y. live s.colours s.control s.collector.sweep d ≡ true → is_live y (unswept s.control s.collector.sweep d) ≡ true)
+    let live_is : (d : ℕ) → live s.colours s.control s.collector.sweep d ≡ true
+    → live t.colours s.control s.collector.sweep d ≡ true
+    = colour_each
+    (λ d y. live s.colours s.control s.collector.sweep d ≡ true
+    → is_live y (unswept s.control s.collector.sweep d) ≡ true)
     s.colours c (shaded x) (shaded_live x (unswept s.control s.collector.sweep c)) (λ d h. h) in
-    let live_was : (d : ℕ) → live t.colours s.control s.collector.sweep d ≡ true → live s.colours s.control s.collector.sweep d ≡ true
-    = colour_each (λ d y. is_live y (unswept s.control s.collector.sweep d) ≡ true → live s.colours s.control s.collector.sweep d ≡ true)
+    let live_was : (d : ℕ) → live t.colours s.control s.collector.sweep d ≡ true
+    → live s.colours s.control s.collector.sweep d ≡ true
+    = colour_each
+    (λ d y. is_live y (unswept s.control s.collector.sweep d) ≡ true
+    → live s.colours s.control s.collector.sweep d ≡ true)
     s.colours c (shaded x) (λ _. alive) (λ d h. h) in
     record {
       mutators = record {
@@ -144,21 +160,28 @@ shade_kept s c range k alive clean =
         answered = k.mutators.answered;
         modes = k.mutators.modes;
         out = k.mutators.out;
-        marks = (λ i m. All-weaker (MarkStands s.colours) (MarkStands t.colours) (λ p h marked. not_white p.cell (h marked)) (own_in s.owns i).held (k.mutators.marks i m));
+        marks = (λ i m. All-weaker (MarkStands s.colours) (MarkStands t.colours)
+            (λ p h marked. not_white p.cell (h marked)) (own_in s.owns i).held
+            (k.mutators.marks i m));
       };
       cells = record {
         anchor_box = k.cells.anchor_box;
         kinds = k.cells.kinds;
         blue_null = (λ d f blue. k.cells.blue_null d f
-            (colour_each (λ e y. y ≡ colour.Blue → colour_of s e ≡ colour.Blue) s.colours c (shaded x) (shaded_blue x) (λ e h. h) d blue));
+            (colour_each (λ e y. y ≡ colour.Blue → colour_of s e ≡ colour.Blue) s.colours c
+            (shaded x) (shaded_blue x) (λ e h. h) d blue));
         anchor_live = live_is 0 k.cells.anchor_live;
-        held_live = (λ i. All-weaker (λ p. live s.colours s.control s.collector.sweep p.cell ≡ true) (λ p. live t.colours s.control s.collector.sweep p.cell ≡ true)
+        held_live = (λ i. All-weaker (λ p. live s.colours s.control s.collector.sweep p.cell ≡ true)
+            (λ p. live t.colours s.control s.collector.sweep p.cell ≡ true)
             (λ p h. live_is p.cell h) (own_in s.owns i).held (k.cells.held_live i));
         child_live = (λ d e. live_is d (k.cells.child_live d e));
-        names_live = (λ d e f h n. let r = k.cells.names_live d e f (live_was d h) n in (live_is e r.0, r.1));
+        names_live = (λ d e f h n. let r = k.cells.names_live d e f
+            (live_was d h) n in (live_is e r.0, r.1));
         raw_once = k.cells.raw_once;
-        raw_not_black = (λ i sync2. All-weaker (NoRawBlack s.colours s.rows) (NoRawBlack t.colours s.rows)
-            (λ p h raw black. h raw (black_was p.cell black)) (own_in s.owns i).held (k.cells.raw_not_black i sync2));
+        raw_not_black = (λ i sync2. All-weaker (NoRawBlack s.colours s.rows)
+            (NoRawBlack t.colours s.rows)
+            (λ p h raw black. h raw (black_was p.cell black)) (own_in s.owns i).held
+            (k.cells.raw_not_black i sync2));
       };
       tracing = record {
         cleared = (λ d h black. k.tracing.cleared d h (black_was d black));
@@ -173,7 +196,9 @@ shade_kept s c range k alive clean =
                 | inr gray ↦ cut.gray d e f gray
                     (open_elsewhere s.collector.scan d f (λ y scans same. absurd
                     (let g = (k.tracing.scans y scans).gray in
-                    let w : colour_of s y.cell ≡ colour.White = subst (λ m. colour_of s m ≡ colour.White) same is in cc))) n
+                    let w : colour_of s y.cell
+                    ≡ colour.White = subst (λ m. colour_of s m ≡ colour.White) same is in cc)))
+                    n
               ]);
             } in
             let old = k.tracing.traced now set before in record {
@@ -191,10 +216,13 @@ shade_kept s c range k alive clean =
         });
       };
       sweep = record {
-        unswept = (λ d ahead gray. colour_each (λ e y. unswept s.control s.collector.sweep e ≡ true → y ≢ colour.Gray) s.colours c (shaded x)
+        unswept = (λ d ahead gray. colour_each
+            (λ e y. unswept s.control s.collector.sweep e ≡ true → y ≢ colour.Gray) s.colours c
+            (shaded x)
             (λ far is. elim (shaded_gray x is) [
               | inl white ↦ let dead : live s.colours s.control s.collector.sweep c ≡ false
-                  = subst (λ y. is_live y (unswept s.control s.collector.sweep c) ≡ false) (sym white) (ap not far) in absurd cc
+                  = subst (λ y. is_live y (unswept s.control s.collector.sweep c) ≡ false)
+                  (sym white) (ap not far) in absurd cc
               | inr same ↦ k.sweep.unswept c far same
             ])
             k.sweep.unswept d ahead gray);
@@ -202,7 +230,9 @@ shade_kept s c range k alive clean =
           white = elim (white_is s.control.position r.white) [
             | inl white ↦ white
             | inr gray ↦ absurd (let dead = wiped_not_live s range n is r.white in
-                let lives = live_was s.control.position (subst (λ y. is_live y (unswept s.control s.collector.sweep s.control.position) ≡ true) (sym gray) refl) in cc)
+                let lives = live_was s.control.position
+                (subst (λ y. is_live y (unswept s.control s.collector.sweep s.control.position)
+                ≡ true) (sym gray) refl) in cc)
           ];
           null = r.null;
         });

@@ -1,5 +1,6 @@
 -- A mutator without a mode gets another status: it answers, or the collector answers for it.
-use Rattle.std.proofs.Common.{◌≡◌, ◌≢◌, ℕ, true, false, [], None, ◌<◌, sym, subst, slice_index_or, Option, Some, arith, ◌≤◌, ◌∙◌}
+use Rattle.std.proofs.Common.{◌≡◌, ◌≢◌, ℕ, true, false, [], None, ◌<◌, sym, subst, slice_index_or}
+use Rattle.std.proofs.Common.{Option, Some, arith, ◌≤◌, ◌∙◌}
 use Rattle.std.specs.List.{All}
 use Rattle.std.proofs.lemmas.List.Elements.{All-weaker}
 use Rattle.cell_words.specs.declared.colours.Colour.TheVariants.{White}
@@ -28,23 +29,33 @@ pub record StatusFits (s : State) (i : ℕ) (new : Status) : Type 0 where
   pub requested : is_handshake s.control.stage ≡ true → new ≡ requested_of s.control.stage
   pub marks : marks_count s.control.stage new ≡ true → All (MarkStands s.colours) (held_of s i)
   pub raw_not_black : new ≡ status.Sync2 → All (NoRawBlack s.colours s.rows) (held_of s i)
-  pub due : s.control.stage ≡ stage.Trace → new ≡ status.Async → All (λ p. colour_of s p.cell ≢ White) (held_of s i)
+  pub due : s.control.stage ≡ stage.Trace → new ≡ status.Async
+      → All (λ p. colour_of s p.cell ≢ White) (held_of s i)
 
-pub status_kept : (s : State) (i : ℕ) (new : Status) → IsConsistent s → StatusFits s i new → IsConsistent (with_status s i new)
+pub status_kept : (s : State) (i : ℕ) (new : Status) → IsConsistent s → StatusFits s i new
+    → IsConsistent (with_status s i new)
 status_kept s i new k fits =
     let p : Presence = record (presence_of s i) { status = new } in
     record {
       mutators = record {
-        statuses = presence_each (λ j q. j < s.mutators → status_fits s.control.stage q.status ≡ true) s.presences i p
+        statuses = presence_each
+            (λ j q. j < s.mutators → status_fits s.control.stage q.status ≡ true) s.presences i p
             (λ lt. fits.fits) k.mutators.statuses;
-        answered = (λ j lt now has. presence_each (λ n q. n < s.mutators → slice_index_or s.collector.answered n true ≡ true
+        answered = (λ j lt now has. presence_each
+            (λ n q. n < s.mutators → slice_index_or s.collector.answered n true ≡ true
             → q.status ≡ requested_of s.control.stage) s.presences i p
-            (λ below done. fits.requested now) (λ n below done. k.mutators.answered n below now done) j lt has);
-        modes = presence_each (λ j q. IsStaleMode q.status (own_in s.owns j).mode s.control) s.presences i p
+            (λ below done. fits.requested now)
+            (λ n below done. k.mutators.answered n below now done) j lt has);
+        modes = presence_each
+            (λ j q. IsStaleMode q.status (own_in s.owns j).mode s.control) s.presences i p
             (subst (λ m. IsStaleMode new m s.control) (sym fits.no_mode) tt) k.mutators.modes;
-        out = presence_each (λ j q. q.inside ≡ false → ((own_in s.owns j).held ≡ []) × ((own_in s.owns j).mode ≡ None)) s.presences i p
+        out = presence_each
+            (λ j q. q.inside ≡ false → ((own_in s.owns j).held ≡ [])
+            × ((own_in s.owns j).mode ≡ None)) s.presences i p
             (k.mutators.out i) k.mutators.out;
-        marks = presence_each (λ j q. marks_count s.control.stage q.status ≡ true → All (MarkStands s.colours) (own_in s.owns j).held)
+        marks = presence_each
+            (λ j q. marks_count s.control.stage q.status ≡ true
+            → All (MarkStands s.colours) (own_in s.owns j).held)
             s.presences i p fits.marks k.mutators.marks;
       };
       cells = record {
@@ -56,7 +67,9 @@ status_kept s i new k fits =
         child_live = k.cells.child_live;
         names_live = k.cells.names_live;
         raw_once = k.cells.raw_once;
-        raw_not_black = presence_each (λ j q. q.status ≡ status.Sync2 → All (NoRawBlack s.colours s.rows) (own_in s.owns j).held)
+        raw_not_black = presence_each
+            (λ j q. q.status ≡ status.Sync2
+            → All (NoRawBlack s.colours s.rows) (own_in s.owns j).held)
             s.presences i p fits.raw_not_black k.cells.raw_not_black;
       };
       tracing = record {
@@ -65,10 +78,14 @@ status_kept s i new k fits =
         traced = (λ now set cut. let old = k.tracing.traced now set cut in record {
           black = old.black;
           scanned = old.scanned;
-          held = presence_each (λ j q. q.status ≡ status.Async → All (λ place. set place.cell ≡ false) (own_in s.owns j).held)
+          held = presence_each
+              (λ j q. q.status ≡ status.Async
+              → All (λ place. set place.cell ≡ false) (own_in s.owns j).held)
               s.presences i p
-              (λ async. All-weaker (λ place. colour_of s place.cell ≢ White) (λ place. set place.cell ≡ false)
-              (λ place dark. not_white_outside s set place.cell cut dark) (held_of s i) (fits.due now async))
+              (λ async. All-weaker (λ place. colour_of s place.cell ≢ White)
+              (λ place. set place.cell ≡ false)
+              (λ place dark. not_white_outside s set place.cell cut dark) (held_of s i)
+              (fits.due now async))
               old.held;
         });
         clean_pass = k.tracing.clean_pass;
@@ -79,8 +96,10 @@ status_kept s i new k fits =
     }
 
 -- a mode is as stale to a control with the same stage and a position that is not less
-pub stale_on : (own : Status) (mode : Option Control) (now later : Control) → later.stage ≡ now.stage
-    → (now.stage ≡ stage.Sweep → now.position ≤ later.position) → IsStaleMode own mode now → IsStaleMode own mode later
+pub stale_on : (own : Status) (mode : Option Control) (now later : Control)
+    → later.stage ≡ now.stage
+    → (now.stage ≡ stage.Sweep → now.position ≤ later.position) → IsStaleMode own mode now
+    → IsStaleMode own mode later
 stale_on own None now later same far k = tt
 stale_on own (Some m) now later same far k = record {
   fits = subst (λ x. mode_fits own m.stage x ≡ true) (sym same) k.fits;

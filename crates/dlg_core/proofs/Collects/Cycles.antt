@@ -1,6 +1,7 @@
--- The theorem: the set is followed from a state in which no sweep goes on; two whole cycles count two
--- cycles that end, and then the set has no cell.
-use Rattle.std.proofs.Common.{◌≡◌, ◌≢◌, inl, inr, ℕ, true, false, get_or, List, [], ◌∷◌, ◌++◌, ◌+◌, ◌≤◌, refl, sym, subst, ap, arith}
+-- The theorem: the set is followed from a state in which no sweep goes on; two whole cycles count
+-- two cycles that end, and then the set has no cell.
+use Rattle.std.proofs.Common.{◌≡◌, ◌≢◌, inl, inr, ℕ, true, false, get_or, List, [], ◌∷◌, ◌++◌, ◌+◌}
+use Rattle.std.proofs.Common.{◌≤◌, refl, sym, subst, ap, arith}
 use Rattle.std.proofs.lemmas.Bool.{cases_lt}
 use Rattle.std.proofs.lemmas.List.{append-nil, get_or_past}
 use Rattle.cell_words.specs.declared.controls.Stage.TheVariants as stage
@@ -33,15 +34,18 @@ cycles_after s (event.Post stage.Trace) = omega arith
 cycles_after s (event.Post stage.Sweep) = omega arith
 cycles_after s _ = omega arith
 
-pub cycles_along : (s : State) (events : List Event) (t : State) → LeadsTo s events t → s.control.cycles ≤ t.control.cycles
+pub cycles_along : (s : State) (events : List Event) (t : State) → LeadsTo s events t
+    → s.control.cycles ≤ t.control.cycles
 cycles_along s [] t leads = let e = ap (λ u. u.control.cycles) leads.ends in omega arith
 cycles_along s (e ∷ events) t leads =
     let one = cycles_after s e in
-    let rest = cycles_along (after s e) events t record { runs = leads.runs.2; ends = leads.ends } in
+    let rest = cycles_along
+    (after s e) events t record { runs = leads.runs.2; ends = leads.ends } in
     omega arith
 
 -- a whole cycle is one more
-pub cycle_counts : (s : State) (events : List Event) (t : State) → IsCycle events → LeadsTo s events t
+pub cycle_counts : (s : State) (events : List Event) (t : State) → IsCycle events
+    → LeadsTo s events t
     → s.control.cycles + 1 ≤ t.control.cycles
 cycle_counts s events t cycle leads =
     let r = leads_apart s (event.Post stage.Sync1 ∷ cycle.between) (event.Post stage.Idle ∷ []) t
@@ -51,13 +55,15 @@ cycle_counts s events t cycle leads =
     omega arith
 
 -- a cycle begins while the collector is idle
-pub cycle_begins : (s : State) (events : List Event) (t : State) → IsCycle events → LeadsTo s events t → s.control.stage ≡ stage.Idle
+pub cycle_begins : (s : State) (events : List Event) (t : State) → IsCycle events
+    → LeadsTo s events t → s.control.stage ≡ stage.Idle
 cycle_begins s events t cycle leads =
     let h = (subst (λ es. LeadsTo s es t) cycle.whole leads).runs.0 in
     (post_sync1_needs s h).now
 
 -- two of them are two more, whatever follows
-pub two_cycles_more : (s : State) (first between next after : List Event) (t : State) → AreTwoCycles first between next
+pub two_cycles_more : (s : State) (first between next after : List Event) (t : State)
+    → AreTwoCycles first between next
     → LeadsTo s (first ++ (between ++ (next ++ after))) t → s.control.cycles + 2 ≤ t.control.cycles
 two_cycles_more s first between next after t cycles leads =
     let a = leads_apart s first (between ++ (next ++ after)) t leads in
@@ -69,22 +75,28 @@ two_cycles_more s first between next after t cycles leads =
     let more = cycles_along d.0 after t d.2 in
     omega arith
 
-pub two_cycles_count : (s : State) (first between next : List Event) (t : State) → AreTwoCycles first between next
+pub two_cycles_count : (s : State) (first between next : List Event) (t : State)
+    → AreTwoCycles first between next
     → LeadsTo s (first ++ (between ++ next)) t → s.control.cycles + 2 ≤ t.control.cycles
 two_cycles_count s first between next t cycles leads =
     two_cycles_more s first between next [] t cycles
     (subst (λ es. LeadsTo s (first ++ (between ++ es)) t) (sym (append-nil next)) leads)
 
 -- who holds a cell is in
-pub inside_of : (s : State) (i c : ℕ) → IsConsistent s → holds (held_of s i) c ≡ true → (presence_of s i).inside ≡ true
+pub inside_of : (s : State) (i c : ℕ) → IsConsistent s → holds (held_of s i) c ≡ true
+    → (presence_of s i).inside ≡ true
 inside_of s i c k h =
-    elim (presence_of s i).inside as (λ b. (presence_of s i).inside ≡ b → (presence_of s i).inside ≡ true) [
+    elim (presence_of s i).inside
+    as (λ b. (presence_of s i).inside ≡ b → (presence_of s i).inside ≡ true) [
       | true ↦ λ e. e
-      | false ↦ λ e. absurd (let none : holds (held_of s i) c ≡ false = ap (λ ps. holds ps c) (k.mutators.out i e).0 in cc)
+      | false ↦ λ e. absurd
+          (let none : holds (held_of s i) c
+          ≡ false = ap (λ ps. holds ps c) (k.mutators.out i e).0 in cc)
     ] refl
 
 -- The start: what is not garbage is reachable or blue, and names no garbage.
-pub followed_from : (s : State) → IsShaped s → IsConsistent s → s.control.stage ≢ stage.Sweep → IsFollowed s s
+pub followed_from : (s : State) → IsShaped s → IsConsistent s → s.control.stage ≢ stage.Sweep
+    → IsFollowed s s
 followed_from s range k other = record {
   grown = (λ c. omega arith);
   apart = record {
@@ -96,7 +108,9 @@ followed_from s range k other = record {
           | inl lt ↦ lt
           | inr past ↦ absurd (
               let none : field_of s c f ≡ field.Null
-              = ap (λ row. get_or row f field.Null) (get_or_past s.rows c [] (let fit = range.cells_fit.rows_fit in omega arith)) in cc)
+              = ap (λ row. get_or row f field.Null)
+              (get_or_past s.rows c []
+              (let fit = range.cells_fit.rows_fit in omega arith)) in cc)
         ];
         not_free = (λ blue. let none = k.cells.blue_null c f blue in cc);
         unreachable = (λ r. left.garbage.unreachable (named f r n));
@@ -115,25 +129,33 @@ followed_from s range k other = record {
 }
 
 -- at the end none is left
-pub freed_then : (old new : State) (c : ℕ) → IsFollowed old new → old.control.cycles + 2 ≤ new.control.cycles → IsGarbage old c
+pub freed_then : (old new : State) (c : ℕ) → IsFollowed old new
+    → old.control.cycles + 2 ≤ new.control.cycles → IsGarbage old c
     → IsFreedSince old new c
 freed_then old new c k two garbage = elim (cases_lt (freed_of old c) (freed_of new c)) [
   | inl lt ↦ lt
-  | inr ge ↦ absurd (let le = k.grown c in k.way.gone two c record { garbage = garbage; unfreed = omega arith })
+  | inr ge ↦ absurd
+      (let le = k.grown c in k.way.gone two c record { garbage = garbage; unfreed = omega arith })
 ]
 
-pub garbage_freed : (old : State) (events : List Event) (new : State) (c : ℕ) → IsShaped old → IsConsistent old
-    → old.control.stage ≢ stage.Sweep → LeadsTo old events new → old.control.cycles + 2 ≤ new.control.cycles
+pub garbage_freed : (old : State) (events : List Event) (new : State) (c : ℕ) → IsShaped old
+    → IsConsistent old
+    → old.control.stage ≢ stage.Sweep → LeadsTo old events new
+    → old.control.cycles + 2 ≤ new.control.cycles
     → IsGarbage old c → IsFreedSince old new c
 garbage_freed old events new c range k other leads two garbage =
     freed_then old new c
-    (along_run (IsFollowed old) (followed_after old) old events new leads range k (followed_from old range k other)) two garbage
+    (along_run (IsFollowed old) (followed_after old) old events new leads range k
+    (followed_from old range k other)) two garbage
 
 pub collects : (s : State) (events : List Event) → IsShaped s → IsConsistent s → Collects s events
-collects s events range k before first between next after old new c split cycles leads both garbage =
-    let idle = cycle_begins old first (leads_apart old first (between ++ next) new both).0 cycles.one
+collects s events range k before first between next after old new c split cycles leads both garbage
+    =
+    let idle = cycle_begins old first
+    (leads_apart old first (between ++ next) new both).0 cycles.one
     (leads_apart old first (between ++ next) new both).1 in
-    garbage_freed old (first ++ (between ++ next)) new c (shaped_along s before old leads range k) (consistent_along s before old leads range k)
+    garbage_freed old (first ++ (between ++ next)) new c (shaped_along s before old leads range k)
+    (consistent_along s before old leads range k)
     (λ e. cc) both (two_cycles_count old first between next new cycles both) garbage
 
 pub kept_collects : (s : State) (events : List Event) → IsKept s → Collects s events

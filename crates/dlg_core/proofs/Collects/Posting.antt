@@ -1,9 +1,12 @@
--- The posts, and what the collector does while it waits: where a phase ends and the next one begins.
+-- The posts, and what the collector does while it waits: where a phase ends and the next one
+-- begins.
 --
--- Post(Sweep)  no cell is gray, so a cell of the set is white or black; every cell is still to be swept.
--- Post(Idle)   no cell is still to be swept: so after the first sweep the set is white, and after the
---              next one it has no cell.
-use Rattle.std.proofs.Common.{◌≡◌, ◌≢◌, ◌⊎◌, inl, inr, ℕ, Bool, true, false, Some, None, ◌+◌, ◌≤◌, refl, sym, subst, ◌∙◌, arith}
+-- Post(Sweep)  no cell is gray, so a cell of the set is white or black; every cell is still to be
+--              swept.
+-- Post(Idle)   no cell is still to be swept: so after the first sweep the set is white, and after
+--              the next one it has no cell.
+use Rattle.std.proofs.Common.{◌≡◌, ◌≢◌, ◌⊎◌, inl, inr, ℕ, Bool, true, false, Some, None, ◌+◌, ◌≤◌}
+use Rattle.std.proofs.Common.{refl, sym, subst, ◌∙◌, arith}
 use Rattle.std.proofs.lemmas.Bool.{cases_lt}
 use Rattle.std.proofs.lemmas.List.{get_or_past}
 use Rattle.cell_words.specs.declared.colours.Colour.{Colour}
@@ -27,16 +30,19 @@ use Rattle.dlg_core.proofs.Collects.Followed.{Follows, IsLeftIn, IsFollowed}
 use Rattle.dlg_core.proofs.Keeps.Post.{all_ahead, none_ahead, no_scan, no_gray_at_end}
 
 -- a colour that is neither blue nor gray
-pub white_or_black : (x : Colour) → x ≢ colour.Blue → x ≢ colour.Gray → (x ≡ colour.White) ⊎ (x ≡ colour.Black)
+pub white_or_black : (x : Colour) → x ≢ colour.Blue → x ≢ colour.Gray
+    → (x ≡ colour.White) ⊎ (x ≡ colour.Black)
 white_or_black colour.Blue b g = absurd (b refl)
 white_or_black colour.White b g = inl refl
 white_or_black colour.Gray b g = absurd (g refl)
 white_or_black colour.Black b g = inr refl
 
 -- The collector goes on to a stage in which it does not sweep.
-pub later_followed : (old s : State) (later : Control) → later.cycles ≡ s.control.cycles → later.stage ≢ stage.Sweep
+pub later_followed : (old s : State) (later : Control) → later.cycles ≡ s.control.cycles
+    → later.stage ≢ stage.Sweep
     → IsFollowed old s
-    → Follows old s.colours s.rows s.owns later s.collector.sweep s.collector.scan s.collector.times_freed
+    → Follows old s.colours s.rows s.owns later s.collector.sweep s.collector.scan
+    s.collector.times_freed
 later_followed old s later cycles other k = record {
   grown = k.grown;
   apart = k.apart;
@@ -49,7 +55,8 @@ later_followed old s later cycles other k = record {
   };
 }
 
-pub sweep_followed : (old s : State) → IsShaped s → IsConsistent s → can s (event.Post stage.Sweep) ≡ true → IsFollowed old s
+pub sweep_followed : (old s : State) → IsShaped s → IsConsistent s
+    → can s (event.Post stage.Sweep) ≡ true → IsFollowed old s
     → IsFollowed old (after s (event.Post stage.Sweep))
 sweep_followed old s range consistent h k =
     let later : Control = record s.control { stage = stage.Sweep; position = 0 } in
@@ -69,7 +76,8 @@ sweep_followed old s range consistent h k =
       };
     }
 
-pub idle_followed : (old s : State) → IsShaped s → IsConsistent s → can s (event.Post stage.Idle) ≡ true → IsFollowed old s
+pub idle_followed : (old s : State) → IsShaped s → IsConsistent s
+    → can s (event.Post stage.Idle) ≡ true → IsFollowed old s
     → IsFollowed old (after s (event.Post stage.Idle))
 idle_followed old s range consistent h k =
     let needs = post_idle_needs s h in
@@ -81,7 +89,8 @@ idle_followed old s range consistent h k =
     = (λ c left. elim (cases_lt c s.cells) [
       | inl lt ↦ none_ahead s.control s.collector.sweep c (omega arith)
       | inr past ↦ absurd (k.apart.not_blue c left
-          (get_or_past s.colours c colour.Blue (let fit = range.cells_fit.colours_fit in omega arith)))
+          (get_or_past s.colours c colour.Blue
+          (let fit = range.cells_fit.colours_fit in omega arith)))
     ]) in
     record {
       grown = k.grown;
@@ -92,10 +101,12 @@ idle_followed old s range consistent h k =
           | inl white ↦ white
           | inr far ↦ absurd (let never = passed c left in let ahead = far.1 in cc)
         ]);
-        no_child = (λ next c child. absurd (elim s.collector.scan as (λ scan. s.collector.scan ≡ scan → child_in scan ≡ Some c → ⊥) [
-          | None ↦ λ is e. cc
-          | Some x ↦ λ is e. no_scan s consistent other x is
-        ] refl child));
+        no_child = (λ next c child. absurd
+            (elim s.collector.scan
+            as (λ scan. s.collector.scan ≡ scan → child_in scan ≡ Some c → ⊥) [
+              | None ↦ λ is e. cc
+              | Some x ↦ λ is e. no_scan s consistent other x is
+            ] refl child));
         ahead = (λ next later. absurd cc);
         gone = (λ far c left. elim (cases_lt s.control.cycles (old.control.cycles + 2)) [
           | inl lt ↦ absurd (
@@ -106,32 +117,45 @@ idle_followed old s range consistent h k =
       };
     }
 
-pub post_followed : (old s : State) (target : Stage) → IsShaped s → IsConsistent s → can s (event.Post target) ≡ true
+pub post_followed : (old s : State) (target : Stage) → IsShaped s → IsConsistent s
+    → can s (event.Post target) ≡ true
     → IsFollowed old s → IsFollowed old (after s (event.Post target))
 post_followed old s stage.Idle range consistent h k = idle_followed old s range consistent h k
-post_followed old s stage.Sync1 range consistent h k = later_followed old s (posted_control s.control stage.Sync1) refl (λ e. cc) k
-post_followed old s stage.Clear range consistent h k = later_followed old s (posted_control s.control stage.Clear) refl (λ e. cc) k
-post_followed old s stage.Sync2 range consistent h k = later_followed old s (posted_control s.control stage.Sync2) refl (λ e. cc) k
-post_followed old s stage.Trace range consistent h k = later_followed old s (posted_control s.control stage.Trace) refl (λ e. cc) k
+post_followed old s stage.Sync1 range consistent h k = later_followed old s
+    (posted_control s.control stage.Sync1) refl (λ e. cc) k
+post_followed old s stage.Clear range consistent h k = later_followed old s
+    (posted_control s.control stage.Clear) refl (λ e. cc) k
+post_followed old s stage.Sync2 range consistent h k = later_followed old s
+    (posted_control s.control stage.Sync2) refl (λ e. cc) k
+post_followed old s stage.Trace range consistent h k = later_followed old s
+    (posted_control s.control stage.Trace) refl (λ e. cc) k
 post_followed old s stage.Sweep range consistent h k = sweep_followed old s range consistent h k
 
 -- Waiting.
 
-pub duty_followed : (old s : State) (on : Bool) → IsFollowed old s → IsFollowed old (after s (event.Duty on))
+pub duty_followed : (old s : State) (on : Bool) → IsFollowed old s
+    → IsFollowed old (after s (event.Duty on))
 duty_followed old s on k = record {
   grown = k.grown;
   apart = k.apart;
-  way = sweep_way (IsLeftIn old s) old.control.cycles s.colours s.control (record s.control { duty = on })
-      s.collector.sweep s.collector.sweep s.collector.scan refl refl (λ c left black far. far) (λ next c left far. far) k.way;
+  way = sweep_way (IsLeftIn old s) old.control.cycles s.colours s.control
+      (record s.control { duty = on })
+      s.collector.sweep s.collector.sweep s.collector.scan refl refl (λ c left black far. far)
+      (λ next c left far. far) k.way;
 }
 
-pub poll_followed : (old s : State) (i : ℕ) → IsFollowed old s → IsFollowed old (after s (event.Poll i))
+pub poll_followed : (old s : State) (i : ℕ) → IsFollowed old s
+    → IsFollowed old (after s (event.Poll i))
 poll_followed old s i k =
-    answered_each (λ d. Follows old s.colours s.rows s.owns s.control d.sweep d.scan d.times_freed) s.collector i
+    answered_each
+    (λ d. Follows old s.colours s.rows s.owns s.control d.sweep d.scan d.times_freed)
+    s.collector i
     (same_status (presence_of s i).status (wanted_of s)) (λ answered. k)
 
 pub answer_out_followed : (old s : State) (i : ℕ) (over : Bool) → IsFollowed old s
     → IsFollowed old (after s (event.AnswerOut i over))
 answer_out_followed old s i over k =
-    answered_each (λ d. Follows old s.colours s.rows s.owns s.control d.sweep d.scan d.times_freed) s.collector i
+    answered_each
+    (λ d. Follows old s.colours s.rows s.owns s.control d.sweep d.scan d.times_freed)
+    s.collector i
     (may_answer_out (wanted_of s) over (presence_of s i)) (λ answered. k)

@@ -5,7 +5,8 @@
 --        no news to a tracing collector: by the colour of the cell that was read a black cell names
 --        it, or a scanned field does, or it is a white cell that is due itself.
 -- Keep   places are copied with their marks, and none is new.
-use Rattle.std.proofs.Common.{◌≡◌, ℕ, Bool, true, false, ◌<◌, inl, inr, length, Option, Some, None, refl, sym, subst, arith, ◌∙◌}
+use Rattle.std.proofs.Common.{◌≡◌, ℕ, Bool, true, false, ◌<◌, inl, inr, length, Option, Some, None}
+use Rattle.std.proofs.Common.{refl, sym, subst, arith, ◌∙◌}
 use Rattle.std.proofs.lemmas.Bool.{and_parts, ltb-true, eqb-true, not-false}
 use Rattle.std.proofs.lemmas.List.Elements.{All-map, All-push}
 use Rattle.cell_words.specs.declared.colours.Colour.TheVariants as colour
@@ -16,7 +17,8 @@ use Rattle.cell_words.specs.declared.presences.Status.TheVariants as status
 use Rattle.core_machine.specs.declared.events.Event.TheVariants as event
 use Rattle.core_machine.specs.declared.progress.Scanning.{Scanning}
 use Rattle.core_machine.specs.Operations.{is_in}
-use Rattle.core_machine.specs.State.{State, presence_of, own_of, held_of, colour_of, field_of, target_of}
+use Rattle.core_machine.specs.State.{State, presence_of, own_of, held_of, colour_of, field_of}
+use Rattle.core_machine.specs.State.{target_of}
 use Rattle.core_machine.specs.Words.{is_raw_kind}
 use Rattle.cell_words.specs.declared.fields.Field.{Field}
 use Rattle.cell_words.specs.declared.fields.Field.TheVariants as field
@@ -30,10 +32,12 @@ use Rattle.dlg_core.specs.Facts.{status_fits, mode_fits, live, is_open, scanned_
 use Rattle.dlg_core.proofs.Changes.Own.{own_kept, OwnFits}
 use Rattle.dlg_core.proofs.Safety.{live_not_blue}
 use Rattle.core_machine.proofs.OneOperation.{inside_there}
-use Rattle.dlg_core.proofs.HeldLists.{holds_unmark, none_marked, holds_more, at_place, all_kept, holds_kept}
+use Rattle.dlg_core.proofs.HeldLists.{holds_unmark, none_marked, holds_more, at_place, all_kept}
+use Rattle.dlg_core.proofs.HeldLists.{holds_kept}
 
 -- a status that fits a stage fits a look at it
-pub look_fits : (now : Stage) (own : Status) → status_fits now own ≡ true → mode_fits own now now ≡ true
+pub look_fits : (now : Stage) (own : Status) → status_fits now own ≡ true
+    → mode_fits own now now ≡ true
 look_fits stage.Idle status.Async h = refl
 look_fits stage.Sync1 status.Async h = refl
 look_fits stage.Sync1 status.Sync1 h = refl
@@ -45,19 +49,25 @@ look_fits stage.Trace status.Sync2 h = refl
 look_fits stage.Sweep status.Async h = refl
 look_fits _ _ h = absurd cc
 
-pub look_keeps : (s : State) (i : ℕ) → IsShaped s → IsConsistent s → can s (event.Look i) ≡ true → IsConsistent (after s (event.Look i))
+pub look_keeps : (s : State) (i : ℕ) → IsShaped s → IsConsistent s → can s (event.Look i) ≡ true
+    → IsConsistent (after s (event.Look i))
 look_keeps s i range k inside =
     own_kept s i (looked (own_of s i) s.control) k record {
       mode = record {
-        fits = look_fits s.control.stage (presence_of s i).status (k.mutators.statuses i (inside_there s range i inside));
+        fits = look_fits s.control.stage (presence_of s i).status
+            (k.mutators.statuses i (inside_there s range i inside));
         position = (λ _ _. omega arith);
       };
       out = (λ o. absurd cc);
       marks = (λ m. none_marked s.colours (held_of s i));
-      held_live = All-map (λ place. live s.colours s.control s.collector.sweep place.cell ≡ true) unmark (held_of s i) (k.cells.held_live i);
+      held_live = All-map
+          (λ place. live s.colours s.control s.collector.sweep place.cell ≡ true) unmark
+          (held_of s i) (k.cells.held_live i);
       raw = (λ c raw h. sym (holds_unmark (held_of s i) c) ∙ h);
-      raw_not_black = (λ sync2. All-map (NoRawBlack s.colours s.rows) unmark (held_of s i) (k.cells.raw_not_black i sync2));
-      due = (λ now async set cut old. All-map (λ place. set place.cell ≡ false) unmark (held_of s i) (old.held i async));
+      raw_not_black = (λ sync2. All-map (NoRawBlack s.colours s.rows) unmark (held_of s i)
+          (k.cells.raw_not_black i sync2));
+      due = (λ now async set cut old. All-map (λ place. set place.cell ≡ false) unmark (held_of s i)
+          (old.held i async));
     }
 
 -- Read.
@@ -86,17 +96,19 @@ shut_is_scanned (Some x) c f h =
 pub named_not_cut : (s : State) (set : ℕ → Bool) (b w f : ℕ)
     → IsCutOff s.colours s.rows s.collector.scan set
     → IsNotDue s.presences s.owns s.colours s.rows s.collector.scan set
-    → live s.colours s.control s.collector.sweep b ≡ true → set b ≡ false → field_of s b f ≡ field.Cell w
+    → live s.colours s.control s.collector.sweep b ≡ true → set b ≡ false
+    → field_of s b f ≡ field.Cell w
     → set w ≡ false
 named_not_cut s set b w f cut old alive here e =
     elim (colour_of s b) as (λ x. colour_of s b ≡ x → set w ≡ false) [
       | colour.Blue ↦ λ is. absurd (live_not_blue (colour_of s b) _ alive is)
       | colour.White ↦ λ is. cut.outside b w f is here e
-      | colour.Gray ↦ λ is. elim (is_open s.collector.scan b f) as (λ o. is_open s.collector.scan b f ≡ o → set w ≡ false) [
-        | true ↦ λ unread. cut.gray b w f is unread e
-        | false ↦ λ shut. let r = shut_is_scanned s.collector.scan b f shut in
-            old.scanned r.0 w f r.1 r.3 (subst (λ c. field_of s c f ≡ field.Cell w) r.2 e)
-      ] refl
+      | colour.Gray ↦ λ is. elim (is_open s.collector.scan b f)
+          as (λ o. is_open s.collector.scan b f ≡ o → set w ≡ false) [
+            | true ↦ λ unread. cut.gray b w f is unread e
+            | false ↦ λ shut. let r = shut_is_scanned s.collector.scan b f shut in
+                old.scanned r.0 w f r.1 r.3 (subst (λ c. field_of s c f ≡ field.Cell w) r.2 e)
+          ] refl
       | colour.Black ↦ λ is. old.black b w f is e
     ] refl
 
@@ -110,15 +122,19 @@ pub holding_fits : (s : State) (i w : ℕ) → IsConsistent s → is_in s i ≡ 
 holding_fits s i w k inside alive whole due = record {
   mode = k.mutators.modes i;
   out = (λ o. absurd cc);
-  marks = (λ m. All-push (MarkStands s.colours) (held_of s i) (found_at w) (k.mutators.marks i m) (λ h. absurd cc));
-  held_live = All-push (λ place. live s.colours s.control s.collector.sweep place.cell ≡ true) (held_of s i) (found_at w) (k.cells.held_live i) alive;
+  marks = (λ m. All-push (MarkStands s.colours) (held_of s i) (found_at w) (k.mutators.marks i m)
+      (λ h. absurd cc));
+  held_live = All-push (λ place. live s.colours s.control s.collector.sweep place.cell ≡ true)
+      (held_of s i) (found_at w) (k.cells.held_live i) alive;
   raw = (λ c raw h. elim (holds_more (held_of s i) w c h) [
     | inl held ↦ held
     | inr same ↦ let sealed : is_raw_kind (field_of s c 5) ≡ false
         = subst (λ n. is_raw_kind (field_of s n 5) ≡ false) same whole in absurd cc
   ]);
-  raw_not_black = (λ sync2. All-push (NoRawBlack s.colours s.rows) (held_of s i) (found_at w) (k.cells.raw_not_black i sync2) (λ h. absurd cc));
-  due = (λ now async set cut old. All-push (λ place. set place.cell ≡ false) (held_of s i) (found_at w) (old.held i async)
+  raw_not_black = (λ sync2. All-push (NoRawBlack s.colours s.rows) (held_of s i) (found_at w)
+      (k.cells.raw_not_black i sync2) (λ h. absurd cc));
+  due = (λ now async set cut old. All-push (λ place. set place.cell ≡ false) (held_of s i)
+      (found_at w) (old.held i async)
       (due now async set cut old));
 }
 
@@ -131,7 +147,8 @@ read_fits s i place f (field.Num n) k inside lt e = same_fits s i k
 read_fits s i place f (field.Cell w) k inside lt e =
     let b = target_of s i place in
     let alive : live s.colours s.control s.collector.sweep b ≡ true
-    = at_place (λ c. live s.colours s.control s.collector.sweep c ≡ true) (held_of s i) place lt (k.cells.held_live i) in
+    = at_place (λ c. live s.colours s.control s.collector.sweep c ≡ true) (held_of s i) place lt
+    (k.cells.held_live i) in
     let named = k.cells.names_live b w f alive e in
     holding_fits s i w k inside named.0 named.1 (λ now async set cut old.
     named_not_cut s set b w f cut old alive
@@ -147,14 +164,19 @@ read_keeps s i place f k h =
 -- Keep.
 
 pub keep_keeps : (s : State) (i count from copies : ℕ) → IsConsistent s
-    → can s (event.Keep i count from copies) ≡ true → IsConsistent (after s (event.Keep i count from copies))
+    → can s (event.Keep i count from copies) ≡ true
+    → IsConsistent (after s (event.Keep i count from copies))
 keep_keeps s i count from copies k h =
     own_kept s i (keeping (own_of s i) count from copies) k record {
       mode = k.mutators.modes i;
       out = (λ o. absurd (let inside = (keep_needs s i count from copies h).inside in cc));
-      marks = (λ m. all_kept (MarkStands s.colours) (held_of s i) count from copies (k.mutators.marks i m));
-      held_live = all_kept (λ place. live s.colours s.control s.collector.sweep place.cell ≡ true) (held_of s i) count from copies (k.cells.held_live i);
+      marks = (λ m. all_kept (MarkStands s.colours) (held_of s i) count from copies
+          (k.mutators.marks i m));
+      held_live = all_kept (λ place. live s.colours s.control s.collector.sweep place.cell ≡ true)
+          (held_of s i) count from copies (k.cells.held_live i);
       raw = (λ c raw held. holds_kept (held_of s i) count from copies c held);
-      raw_not_black = (λ sync2. all_kept (NoRawBlack s.colours s.rows) (held_of s i) count from copies (k.cells.raw_not_black i sync2));
-      due = (λ now async set cut old. all_kept (λ place. set place.cell ≡ false) (held_of s i) count from copies (old.held i async));
+      raw_not_black = (λ sync2. all_kept (NoRawBlack s.colours s.rows)
+          (held_of s i) count from copies (k.cells.raw_not_black i sync2));
+      due = (λ now async set cut old. all_kept (λ place. set place.cell ≡ false)
+          (held_of s i) count from copies (old.held i async));
     }

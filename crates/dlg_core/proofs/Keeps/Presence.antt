@@ -4,7 +4,8 @@
 --        mutator that comes in holds nothing that could be cut off.
 -- End    nothing is held, so nothing is owed.
 -- Over   only who is out ends for good.
-use Rattle.std.proofs.Common.{◌≡◌, ◌==◌, inl, inr, ℕ, Bool, true, false, not, List, [], ◌<◌, length, None, refl, sym, subst, ◌∙◌, ap}
+use Rattle.std.proofs.Common.{◌≡◌, ◌==◌, inl, inr, ℕ, Bool, true, false, not, List, [], ◌<◌, length}
+use Rattle.std.proofs.Common.{None, refl, sym, subst, ◌∙◌, ap}
 use Rattle.std.specs.Prelude.{slice_set}
 use Rattle.std.proofs.lemmas.Bool.{and_parts, or_cases, eqb-true, cases_lt}
 use Rattle.std.proofs.lemmas.List.{get_or-set_same, get_or_past, set_past}
@@ -14,7 +15,8 @@ use Rattle.cell_words.specs.declared.presences.Presence.{Presence}
 use Rattle.cell_words.specs.declared.controls.Stage.TheVariants as stage
 use Rattle.core_machine.specs.declared.events.Event.TheVariants as event
 use Rattle.core_machine.specs.Operations.{may_begin}
-use Rattle.core_machine.specs.State.{State, presence_of, presence_in, own_of, own_in, field_of, no_presence}
+use Rattle.core_machine.specs.State.{State, presence_of, presence_in, own_of, own_in, field_of}
+use Rattle.core_machine.specs.State.{no_presence}
 use Rattle.core_machine.specs.Words.{is_raw_kind}
 use Rattle.core_machine.specs.Next.{can, after}
 use Rattle.core_machine.specs.Own.{Own, no_own, begun, ended}
@@ -32,13 +34,15 @@ pub begins_below : (s : State) (i : ℕ) → may_begin s i ≡ true → i < leng
 begins_below s i h = elim (cases_lt i (length s.presences)) [
   | inl lt ↦ lt
   | inr past ↦
-      let gone : presence_in s.presences i ≡ no_presence = get_or_past s.presences i no_presence past in
+      let gone : presence_in s.presences i
+      ≡ no_presence = get_or_past s.presences i no_presence past in
       let over : not (presence_of s i).over ≡ false = ap (λ p. not p.over) gone in
       absurd (let r = and_parts (not (presence_of s i).inside) (not (presence_of s i).over) h in cc)
 ]
 
 -- while the collector traces the anchor counts as marked
-pub marked_in_trace : (now : Stage) (marked : Bool) → now ≡ stage.Trace → anchor_counts now marked ≡ true
+pub marked_in_trace : (now : Stage) (marked : Bool) → now ≡ stage.Trace
+    → anchor_counts now marked ≡ true
 marked_in_trace now marked e = subst (λ x. anchor_counts x marked ≡ true) (sym e) refl
 
 pub begin_keeps : (s : State) (i : ℕ) → IsConsistent s → can s (event.Begin i) ≡ true
@@ -46,29 +50,39 @@ pub begin_keeps : (s : State) (i : ℕ) → IsConsistent s → can s (event.Begi
 begin_keeps s i k h =
     let p : Presence = record (presence_of s i) { inside = true } in
     let t = with_presence s i p in
-    let here : presence_of t i ≡ p = get_or-set_same s.presences i p no_presence (begins_below s i h) in
+    let here : presence_of t i
+    ≡ p = get_or-set_same s.presences i p no_presence (begins_below s i h) in
     let same = same_statuses s i p refl i in
-    let sealed : is_raw_kind (field_of s 0 5) ≡ false = box_not_raw (field_of s 0 5) k.cells.anchor_box in
+    let sealed : is_raw_kind (field_of s 0 5)
+    ≡ false = box_not_raw (field_of s 0 5) k.cells.anchor_box in
     own_kept t i (begun (own_of s i)) (presence_kept s i p k refl (λ o. absurd cc)) record {
       mode = tt;
-      out = (λ o. absurd (let inside : (presence_of t i).inside ≡ true = ap (λ q. q.inside) here in cc));
-      marks = (λ m. All-cons (MarkStands s.colours) (found_at 0) [] (λ h2. absurd cc) (All-nil (MarkStands s.colours)));
-      held_live = All-cons (λ place. live s.colours s.control s.collector.sweep place.cell ≡ true) (found_at 0) [] k.cells.anchor_live
+      out = (λ o. absurd
+          (let inside : (presence_of t i).inside ≡ true = ap (λ q. q.inside) here in cc));
+      marks = (λ m. All-cons (MarkStands s.colours) (found_at 0) [] (λ h2. absurd cc)
+          (All-nil (MarkStands s.colours)));
+      held_live = All-cons (λ place. live s.colours s.control s.collector.sweep place.cell ≡ true)
+          (found_at 0) [] k.cells.anchor_live
           (All-nil (λ place. live s.colours s.control s.collector.sweep place.cell ≡ true));
       raw = (λ c raw held. absurd (elim (or_cases (0 == c) false held) [
         | inl is ↦ let e : 0 ≡ c = eqb-true 0 c is in
-            let whole : is_raw_kind (field_of s c 5) ≡ false = subst (λ n. is_raw_kind (field_of s n 5) ≡ false) e sealed in cc
+            let whole : is_raw_kind (field_of s c 5)
+            ≡ false = subst (λ n. is_raw_kind (field_of s n 5) ≡ false) e sealed in cc
         | inr other ↦ cc
       ]));
-      raw_not_black = (λ sync2. All-cons (NoRawBlack s.colours s.rows) (found_at 0) [] (λ raw. absurd cc) (All-nil (NoRawBlack s.colours s.rows)));
+      raw_not_black = (λ sync2. All-cons (NoRawBlack s.colours s.rows) (found_at 0) []
+          (λ raw. absurd cc) (All-nil (NoRawBlack s.colours s.rows)));
       due = (λ now async set cut old. All-cons (λ place. set place.cell ≡ false) (found_at 0) []
-          (not_white_outside s set 0 cut (k.tracing.anchor_marked (marked_in_trace s.control.stage s.collector.anchor_marked now)))
+          (not_white_outside s set 0 cut
+          (k.tracing.anchor_marked
+          (marked_in_trace s.control.stage s.collector.anchor_marked now)))
           (All-nil (λ place. set place.cell ≡ false)));
     }
 
 -- a part that holds nothing stands where it was put, or nothing stands there
 pub nothing_at : (owns : List Own) (i : ℕ) (own : Own) → own.held ≡ [] → own.mode ≡ None
-    → ((own_in (slice_set owns i own) i).held ≡ []) × ((own_in (slice_set owns i own) i).mode ≡ None)
+    → ((own_in (slice_set owns i own) i).held ≡ [])
+    × ((own_in (slice_set owns i own) i).mode ≡ None)
 nothing_at owns i own held mode = elim (cases_lt i (length owns)) [
   | inl lt ↦ let e : own_in (slice_set owns i own) i ≡ own = get_or-set_same owns i own no_own lt in
       (ap (λ o. o.held) e ∙ held, ap (λ o. o.mode) e ∙ mode)
@@ -101,4 +115,5 @@ end_keeps s i k inside =
 pub over_keeps : (s : State) (i : ℕ) → IsConsistent s → can s (event.Over i) ≡ true
     → IsConsistent (after s (event.Over i))
 over_keeps s i k h =
-    presence_kept s i (record (presence_of s i) { over = true }) k refl (λ o. k.mutators.out i (come_in_needs s i h).out)
+    presence_kept s i (record (presence_of s i) { over = true }) k refl
+    (λ o. k.mutators.out i (come_in_needs s i h).out)

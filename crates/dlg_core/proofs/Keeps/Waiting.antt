@@ -4,7 +4,8 @@
 -- Poll       who has the requested status is noted as having answered.
 -- AnswerOut  a mutator that is out takes the requested status. It holds nothing and has no mode, so
 --            nothing is owed for it.
-use Rattle.std.proofs.Common.{◌≡◌, ◌≢◌, ℕ, zero, suc, Bool, true, false, List, [], ◌∷◌, ◌<◌, arith, refl, sym, subst, ap, if◌then◌else◌}
+use Rattle.std.proofs.Common.{◌≡◌, ◌≢◌, ℕ, zero, suc, Bool, true, false, List, [], ◌∷◌, ◌<◌, arith}
+use Rattle.std.proofs.Common.{refl, sym, subst, ap, if◌then◌else◌}
 use Rattle.std.specs.Prelude.{slice_set}
 use Rattle.std.proofs.Math.ListN.{set}
 use Rattle.std.specs.List.{All}
@@ -37,7 +38,8 @@ duty_keeps s on k = record {
   mutators = record {
     statuses = k.mutators.statuses;
     answered = k.mutators.answered;
-    modes = (λ i. stale_on (presence_of s i).status (own_in s.owns i).mode s.control (record s.control { duty = on }) refl
+    modes = (λ i. stale_on (presence_of s i).status (own_in s.owns i).mode s.control
+        (record s.control { duty = on }) refl
         (λ _. omega arith) (k.mutators.modes i));
     out = k.mutators.out;
     marks = k.mutators.marks;
@@ -64,29 +66,36 @@ duty_keeps s on k = record {
 -- Poll.
 
 -- who has all answers has them with one answer more
-pub all_with : (answered : List Bool) (i : ℕ) → all_in answered ≡ true → all_in (slice_set answered i true) ≡ true
+pub all_with : (answered : List Bool) (i : ℕ) → all_in answered ≡ true
+    → all_in (slice_set answered i true) ≡ true
 all_with [] i h = refl
 all_with (a ∷ rest) zero h = (and_parts _ _ h).1
 all_with (a ∷ rest) (suc i) h = let r = and_parts _ _ h in and_from a _ r.0 (all_with rest i r.1)
 
 -- mutator i is noted as having answered
 pub noted_kept : (s : State) (i : ℕ) → IsConsistent s
-    → (i < s.mutators → is_handshake s.control.stage ≡ true → (presence_of s i).status ≡ requested_of s.control.stage)
+    → (i < s.mutators → is_handshake s.control.stage ≡ true → (presence_of s i).status
+    ≡ requested_of s.control.stage)
     → IsConsistent (record s { collector = answered_by s.collector i true })
 noted_kept s i k fits =
-    pass_kept s (slice_set s.collector.answered i true) s.collector.anchor_marked s.collector.cursor s.collector.clean s.collector.scan k record {
-      answers = (λ j lt now has. set_each (λ n a. n < s.mutators → a ≡ true → (presence_of s n).status ≡ requested_of s.control.stage)
-          s.collector.answered i true true (λ _ below done. fits below now) (λ n below done. k.mutators.answered n below now done) j lt has);
+    pass_kept s (slice_set s.collector.answered i true) s.collector.anchor_marked s.collector.cursor
+    s.collector.clean s.collector.scan k record {
+      answers = (λ j lt now has. set_each
+          (λ n a. n < s.mutators → a ≡ true → (presence_of s n).status
+          ≡ requested_of s.control.stage)
+          s.collector.answered i true true (λ _ below done. fits below now)
+          (λ n below done. k.mutators.answered n below now done) j lt has);
       child_live = k.cells.child_live;
       tracing = record {
         cleared = k.tracing.cleared;
         anchor_marked = k.tracing.anchor_marked;
         traced = k.tracing.traced;
         clean_pass = k.tracing.clean_pass;
-        pass_waits = (λ now waits. elim (all_in s.collector.answered) as (λ b. all_in s.collector.answered ≡ b → s.collector.cursor ≡ 0) [
-          | true ↦ λ all. absurd (let more = all_with s.collector.answered i all in cc)
-          | false ↦ λ few. k.tracing.pass_waits now few
-        ] refl);
+        pass_waits = (λ now waits. elim (all_in s.collector.answered)
+            as (λ b. all_in s.collector.answered ≡ b → s.collector.cursor ≡ 0) [
+              | true ↦ λ all. absurd (let more = all_with s.collector.answered i all in cc)
+              | false ↦ λ few. k.tracing.pass_waits now few
+            ] refl);
         scans = (λ x e. let r = k.tracing.scans x e in record {
           traces = r.traces;
           answers = all_with s.collector.answered i r.answers;
@@ -101,7 +110,8 @@ poll_keeps s i k =
     elim (same_status (presence_of s i).status (requested_of s.control.stage)) as
     (λ b. same_status (presence_of s i).status (requested_of s.control.stage) ≡ b
     → IsConsistent (record s { collector = answered_by s.collector i b })) [
-      | true ↦ λ h. noted_kept s i k (λ _ _. same_status_is (presence_of s i).status (requested_of s.control.stage) h)
+      | true ↦ λ h. noted_kept s i k
+          (λ _ _. same_status_is (presence_of s i).status (requested_of s.control.stage) h)
       | false ↦ λ h. k
     ] refl
 
@@ -125,19 +135,24 @@ out_fits s i k outside =
       no_mode = (k.mutators.out i outside).1;
       fits = requested_fits s.control.stage;
       requested = (λ h. refl);
-      marks = (λ m. subst (λ ps. All (MarkStands s.colours) ps) (sym nothing) (All-nil (MarkStands s.colours)));
-      raw_not_black = (λ e. subst (λ ps. All (NoRawBlack s.colours s.rows) ps) (sym nothing) (All-nil (NoRawBlack s.colours s.rows)));
-      due = (λ now e. subst (λ ps. All (λ p. colour_of s p.cell ≢ White) ps) (sym nothing) (All-nil (λ p. colour_of s p.cell ≢ White)));
+      marks = (λ m. subst (λ ps. All (MarkStands s.colours) ps) (sym nothing)
+          (All-nil (MarkStands s.colours)));
+      raw_not_black = (λ e. subst (λ ps. All (NoRawBlack s.colours s.rows) ps) (sym nothing)
+          (All-nil (NoRawBlack s.colours s.rows)));
+      due = (λ now e. subst (λ ps. All (λ p. colour_of s p.cell ≢ White) ps) (sym nothing)
+          (All-nil (λ p. colour_of s p.cell ≢ White)));
     }
 
 -- the status that was taken is there
 pub wanted_there : (s : State) (i : ℕ) (new : Status) → IsShaped s → i < s.mutators
     → (presence_of (with_status s i new) i).status ≡ new
 wanted_there s i new range lt =
-    ap (λ p. p.status) (get_or-set_same s.presences i (record (presence_of s i) { status = new }) no_presence
+    ap (λ p. p.status)
+    (get_or-set_same s.presences i (record (presence_of s i) { status = new }) no_presence
     (subst (λ n. i < n) (sym range.mutators_fit.presences_fit) lt))
 
-pub answer_out_keeps : (s : State) (i : ℕ) (over : Bool) → IsShaped s → IsConsistent s → can s (event.AnswerOut i over) ≡ true
+pub answer_out_keeps : (s : State) (i : ℕ) (over : Bool) → IsShaped s → IsConsistent s
+    → can s (event.AnswerOut i over) ≡ true
     → IsConsistent (after s (event.AnswerOut i over))
 answer_out_keeps s i over range k h =
     let found = presence_of s i in
@@ -147,7 +162,8 @@ answer_out_keeps s i over range k h =
       presences = slice_set s.presences i (if b then record found { status = wanted } else found);
       collector = answered_by s.collector i b;
     })) [
-      | false ↦ λ e. subst (λ ps. IsConsistent (record s { presences = ps })) (sym (set-get_or s.presences i no_presence)) k
+      | false ↦ λ e. subst (λ ps. IsConsistent (record s { presences = ps }))
+          (sym (set-get_or s.presences i no_presence)) k
       | true ↦ λ e.
           let a = and_parts _ _ e in
           let b = and_parts _ _ a.0 in

@@ -7,6 +7,8 @@ pub loop-answer-preserved : goal.loop-answer-preserved
 loop-answer-preserved c =
     let within : c.loop-answer.answer-index < length c.loop-answer.answered = omega arith in
     let old = get_or c.loop-answer.answered c.loop-answer.answer-index false in
-    map_over_more (λ (answer : Bool). false) c.args.answered.now c.loop-answer.answered c.loop-answer.answer-index old
+    map_over_more
+    (λ (answer : Bool). false) c.args.answered.now c.loop-answer.answered
+    c.loop-answer.answer-index old
     c.loop-answer-test.true c.loop-answer.invariant
     (get_or_default c.loop-answer.answered c.loop-answer.answer-index false old within)

@@ -4,4 +4,5 @@ use Rattle.core_machine.proofs.places.mark_all_of.Given as goal
 
 abbrev pub invariant-loop-place : goal.invariant-loop-place
 invariant-loop-place l =
-    l.held ≡ map (mark_of l.cell) (take l.place-index l.initial.held) ++ drop l.place-index l.initial.held
+    l.held ≡ map (mark_of l.cell)
+    (take l.place-index l.initial.held) ++ drop l.place-index l.initial.held

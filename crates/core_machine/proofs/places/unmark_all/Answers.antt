@@ -7,4 +7,7 @@ use Rattle.core_machine.proofs.places.unmark_all.Goals as goal
 pub loop-place-preserved : goal.loop-place-preserved
 loop-place-preserved c =
     let within : c.loop-place.place-index < length c.loop-place.held = omega arith in
-    rw (c.unmark.ensures.place) (map_over_more unmark c.args.held.now c.loop-place.held c.loop-place.place-index _ c.loop-place-test.true c.loop-place.invariant (get_or_default c.loop-place.held c.loop-place.place-index _ _ within))
+    rw (c.unmark.ensures.place)
+    (map_over_more unmark c.args.held.now c.loop-place.held c.loop-place.place-index _
+    c.loop-place-test.true c.loop-place.invariant
+    (get_or_default c.loop-place.held c.loop-place.place-index _ _ within))

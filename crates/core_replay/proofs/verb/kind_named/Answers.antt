@@ -5,5 +5,8 @@ use Rattle.core_replay.proofs.verb.kind_named.Goals as goal
 
 pub returns-in-record : goal.returns-in-record
 returns-in-record c =
-    let is : c.args.word.now ≡ codes "record" = text_from_reads c.args.word.now (codes "record") (omega arith) (omega arith, (omega arith, (omega arith, (omega arith, (omega arith, (omega arith, tt)))))) in
+    let is : c.args.word.now
+    ≡ codes "record" = text_from_reads c.args.word.now (codes "record") (omega arith)
+    (omega arith, (omega arith, (omega arith, (omega arith, (omega arith, (omega arith, tt))))))
+    in
     rw is

@@ -4,7 +4,8 @@ use Rattle.core_machine.proofs.mutator_parts.MutatorParts.new.Goals as goal
 
 -- equal parts have equal rooms and equal own parts
 parts_of-replicate : (n : ℕ) (part : Part)
-    → parts_of (replicate n part) ≡ record { rooms = replicate n part.room; owns = replicate n part.own }
+    → parts_of (replicate n part)
+    ≡ record { rooms = replicate n part.room; owns = replicate n part.own }
 parts_of-replicate zero part = refl
 parts_of-replicate (suc n) part =
     ap (λ (parts : Parts). record { rooms = part.room ∷ parts.rooms; owns = part.own ∷ parts.owns })

@@ -6,8 +6,10 @@ use Rattle.core_machine.proofs.mutator_parts.MutatorParts.read.Goals as goal
 
 pub returns : goal.returns
 returns c =
-    let within = subst (λ (p : Parts). c.args.i < length p.owns) (sym c.self.view_is) c.requires.mutator in
+    let within = subst (λ (p : Parts). c.args.i < length p.owns)
+    (sym c.self.view_is) c.requires.mutator in
     rw (← c.self.view_is) (record {
-      parts = told (λ own. having_read own c.args.found) c.self.inside.parts.items c.args.i _ _ within
+      parts = told (λ own. having_read own c.args.found) c.self.inside.parts.items c.args.i _ _
+          within
           c.index_mut-part.ensures.value c.read.ensures.part;
     })

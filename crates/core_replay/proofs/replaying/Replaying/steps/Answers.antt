@@ -4,6 +4,7 @@ use Rattle.core_replay.proofs.replaying.Replaying.steps.Goals as goal
 
 pub returns : goal.returns
 returns c = record {
-  text = written_all c.args.self.now c.loop-numbered.self c.args.steps.now c.loop-numbered.numbered-index
+  text = written_all c.args.self.now c.loop-numbered.self c.args.steps.now
+      c.loop-numbered.numbered-index
       c.loop-numbered.text.items (omega arith) c.loop-numbered.invariant.so_far;
 }

@@ -7,4 +7,5 @@ use Rattle.dlg_core.specs.Plain.{next_plain_of}
 pub returns-in-None-clause-turn : goal.returns-in-None-clause-turn
 returns-in-None-clause-turn c =
     turn_without c.args.self.now
-    (subst (λ (p : Standing). next_plain_of p.core ≡ None) c.self.view_is (sym c.in-None.ensures.event))
+    (subst (λ (p : Standing). next_plain_of p.core ≡ None) c.self.view_is
+    (sym c.in-None.ensures.event))

@@ -11,24 +11,31 @@ returns-in-Err-clause-turn c =
 
 pub returns-in-Err-take-clause-turn : goal.returns-in-Err-take-clause-turn
 returns-in-Err-take-clause-turn c =
-    turn_refused c.args.self.now c.look.new.self c.args.event c.requires.plain c.in_default.ensures.look
+    turn_refused c.args.self.now c.look.new.self c.args.event
+    c.requires.plain c.in_default.ensures.look
     c.in-Err-take.ensures.event.0
     ∙ ap (λ p. Ends (Stopped p)) (sym c.in-Err-take.ensures.event.1)
 
 pub returns-then-posts-clause-turn : goal.returns-then-posts-clause-turn
 returns-then-posts-clause-turn c =
-    turn_taken c.args.self.now c.look.new.self c.take.new.self c.args.event c.requires.plain c.in_default.ensures.look
+    turn_taken c.args.self.now c.look.new.self c.take.new.self c.args.event
+    c.requires.plain c.in_default.ensures.look
     c.in_default-take.ensures.event
-    ∙ ap (λ b. turned b c.look.new.self (Some c.take.new.self)) (sym c.posts.ensures ∙ c.if-posts.true)
+    ∙ ap (λ b. turned b c.look.new.self (Some c.take.new.self))
+    (sym c.posts.ensures ∙ c.if-posts.true)
 
 pub returns-else-posts-clause-turn : goal.returns-else-posts-clause-turn
 returns-else-posts-clause-turn c =
-    turn_taken c.args.self.now c.look.new.self c.take.new.self c.args.event c.requires.plain c.in_default.ensures.look
+    turn_taken c.args.self.now c.look.new.self c.take.new.self c.args.event
+    c.requires.plain c.in_default.ensures.look
     c.in_default-take.ensures.event
-    ∙ ap (λ b. turned b c.look.new.self (Some c.take.new.self)) (sym c.posts.ensures ∙ c.if-posts.false)
+    ∙ ap (λ b. turned b c.look.new.self (Some c.take.new.self))
+    (sym c.posts.ensures ∙ c.if-posts.false)
 
 pub returns-else-posts-clause-falls : goal.returns-else-posts-clause-falls
 returns-else-posts-clause-falls c =
     let replayed = subst (λ (p : Standing). IsReplayed p.core) c.self.view_is c.self.invariant in
-    λ goes_on. turn_falls c.args.self.now c.look.new.self c.take.new.self c.args.event replayed c.requires.plain
-    c.in_default.ensures.look c.in_default-take.ensures.event (sym c.posts.ensures ∙ c.if-posts.false)
+    λ goes_on. turn_falls c.args.self.now c.look.new.self c.take.new.self c.args.event replayed
+    c.requires.plain
+    c.in_default.ensures.look c.in_default-take.ensures.event
+    (sym c.posts.ensures ∙ c.if-posts.false)

@@ -5,5 +5,8 @@ use Rattle.core_replay.proofs.verb.Single.read.Goals as goal
 
 pub returns-in-answer : goal.returns-in-answer
 returns-in-answer c =
-    let is : c.args.word.now ≡ codes "answer" = text_from_reads c.args.word.now (codes "answer") (omega arith) (omega arith, (omega arith, (omega arith, (omega arith, (omega arith, (omega arith, tt)))))) in
+    let is : c.args.word.now
+    ≡ codes "answer" = text_from_reads c.args.word.now (codes "answer") (omega arith)
+    (omega arith, (omega arith, (omega arith, (omega arith, (omega arith, (omega arith, tt))))))
+    in
     rw is

@@ -11,11 +11,20 @@ loop-i-preserved c =
     let kept : IsKept c.args.self.now = subst IsKept c.self.view_is c.self.invariant in
     elim c.match-field.branch [
       | in-Cell+in_ok-add w ↦
-          subst (λ f. NamedSoFar c.args.self.now c.args.cell (c.loop-i.i + 1) c.args.found.now f) (sym (w.found-is ∙ w.in_ok-add.ensures.added))
-          (named_more c.args.self.now c.args.cell c.loop-i.i w.in-Cell.named c.args.found.now c.loop-i.found kept.range.shape
-          c.requires.reachable c.requires.size (sym (c.field.ensures.field ∙ ap (λ s. field_of s c.args.cell c.loop-i.i) c.self.view_is) ∙ w.in-Cell.is) c.loop-i.invariant)
+          subst (λ f. NamedSoFar c.args.self.now c.args.cell (c.loop-i.i + 1) c.args.found.now f)
+          (sym (w.found-is ∙ w.in_ok-add.ensures.added))
+          (named_more c.args.self.now c.args.cell c.loop-i.i w.in-Cell.named c.args.found.now
+          c.loop-i.found kept.range.shape
+          c.requires.reachable c.requires.size
+          (sym (c.field.ensures.field
+          ∙ ap (λ s. field_of s c.args.cell c.loop-i.i) c.self.view_is) ∙ w.in-Cell.is)
+          c.loop-i.invariant)
       | in_default w ↦
-          subst (λ f. NamedSoFar c.args.self.now c.args.cell (c.loop-i.i + 1) c.args.found.now f) (sym w.found-is)
-          (named_pass c.args.self.now c.args.cell c.loop-i.i c.args.found.now c.loop-i.found c.loop-i.invariant
-          (λ d e. w.in_default.not-Cell d (c.field.ensures.field ∙ ap (λ s. field_of s c.args.cell c.loop-i.i) c.self.view_is ∙ e)))
+          subst (λ f. NamedSoFar c.args.self.now c.args.cell (c.loop-i.i + 1) c.args.found.now f)
+          (sym w.found-is)
+          (named_pass c.args.self.now c.args.cell c.loop-i.i c.args.found.now c.loop-i.found
+          c.loop-i.invariant
+          (λ d e. w.in_default.not-Cell d
+          (c.field.ensures.field ∙ ap (λ s. field_of s c.args.cell c.loop-i.i) c.self.view_is
+          ∙ e)))
     ]

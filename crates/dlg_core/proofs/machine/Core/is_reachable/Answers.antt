@@ -6,15 +6,19 @@ use Rattle.dlg_core.proofs.machine.Core.is_reachable.Goals as goal
 
 pub add_named-requires-clause-cell : goal.add_named-requires-clause-cell
 add_named-requires-clause-cell c =
-    next_below c.args.self.now c.loop-next.found c.take.new.self.waiting c.in-Some.next c.loop-next.invariant c.in-Some.ensures.taken
+    next_below c.args.self.now c.loop-next.found c.take.new.self.waiting c.in-Some.next
+    c.loop-next.invariant c.in-Some.ensures.taken
 
 pub add_named-requires-clause-reachable : goal.add_named-requires-clause-reachable
 add_named-requires-clause-reachable c =
-    next_reachable c.args.self.now c.loop-next.found c.take.new.self.waiting c.in-Some.next c.loop-next.invariant c.in-Some.ensures.taken
+    next_reachable c.args.self.now c.loop-next.found c.take.new.self.waiting c.in-Some.next
+    c.loop-next.invariant c.in-Some.ensures.taken
 
 pub loop-next-preserved : goal.loop-next-preserved
-loop-next-preserved c = search_more c.args.self.now c.loop-next.found c.take.new.self c.add_named.new.found c.in-Some.next c.loop-next.invariant
-    c.take.ensures.marks c.in-Some.ensures.taken c.in_ok-add_named.ensures.grows c.in_ok-add_named.ensures.named
+loop-next-preserved c = search_more c.args.self.now c.loop-next.found c.take.new.self
+    c.add_named.new.found c.in-Some.next c.loop-next.invariant
+    c.take.ensures.marks c.in-Some.ensures.taken c.in_ok-add_named.ensures.grows
+    c.in_ok-add_named.ensures.named
 
 pub returns : goal.returns
 returns c =
@@ -24,7 +28,8 @@ returns c =
     record {
       reachable = (
         (λ is. c.loop-next.invariant.sound c.args.cell (sym same ∙ is)),
-        (λ r. same ∙ search_done c.args.self.now c.loop-next.found c.args.cell kept.range.shape kept.consistent c.loop-next.invariant
+        (λ r. same ∙ search_done c.args.self.now c.loop-next.found c.args.cell kept.range.shape
+            kept.consistent c.loop-next.invariant
             (c.in_default.ensures.none.0 refl) r),
       );
     }
