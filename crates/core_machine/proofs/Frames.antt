@@ -245,7 +245,7 @@ knows_after mine now (event.Over i) found k = record
     { inside = k.inside; over = refl; status = k.status }
 knows_after mine now _ found k = k
 
--- .. and after any other
+-- and after any other
 pub knows_else : (s : State) (e : Event) (j : ℕ) (mine : Presence) → maker e ≢ Some j
     → Knows mine (presence_of s j)
     → Knows mine (presence_of (after s e) j)

@@ -79,7 +79,7 @@ cut_at (k ∷ ks) (r ∷ rs) (suc c) same six lt =
           (pack_colour_of x ∷ (map pack_field_of row ++ later.back))));
     }
 
--- .. as they are
+-- as they are
 now_at : (ks : List Colour) (rs : List (List Field)) (c : ℕ) (cut : IsCut ks rs c)
     → cell_words ks rs ≡ cut.front ++
     (pack_colour_of (colour_in ks c) ∷ (map pack_field_of (row_in rs c) ++ cut.back))
@@ -89,7 +89,7 @@ now_at ks rs c cut =
     (set-get_or rs c _))
     ∙ cut.whole (colour_in ks c) (row_in rs c)
 
--- .. with another colour
+-- with another colour
 other_colour : (ks : List Colour) (rs : List (List Field)) (c : ℕ) (x : Colour)
     (cut : IsCut ks rs c)
     → cell_words (set ks c x) rs
@@ -98,7 +98,7 @@ other_colour ks rs c x cut =
     sym (ap (λ (ys : List (List Field)). cell_words (set ks c x) ys) (set-get_or rs c _))
     ∙ cut.whole x (row_in rs c)
 
--- .. with another row
+-- with another row
 other_row : (ks : List Colour) (rs : List (List Field)) (c : ℕ) (row : List Field)
     (cut : IsCut ks rs c)
     → cell_words ks (set rs c row)

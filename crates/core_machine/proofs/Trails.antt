@@ -123,7 +123,7 @@ own_told s i own ts r runs here =
     own_other : (t : State) (e : Event) → maker e ≢ Some i → own_of (after t e) i ≡ own_of t i
     own_other t e differs = by_maker t e (maker e) refl differs
 
--- .. and what it knows of its presence
+-- and what it knows of its presence
 pub presence_told : (s : State) (i : ℕ) (mine : Presence) (ts : List Taken) → IsShaped s → Runs s ts
     → Knows mine (presence_of s i)
     → Knows (presence_along mine (trail_of (Some i) ts)) (presence_of (last s ts) i)

@@ -46,7 +46,7 @@ pub record CollectorFrame (s : State) (e : Event) : Type 0 where
   pub collector : (after s e).collector
       ≡ collector_after s.cells s.control s.collector e (found_by s e)
 
--- .. by its maker
+-- by its maker
 abbrev pub Frame : State → Event → Option ℕ → Type 0
 Frame s e (Some i) = MutatorFrame s e i
 Frame s e None = CollectorFrame s e
@@ -58,7 +58,7 @@ RowsFrame s t (StatusOf i) = t.rows ≡ s.rows
 RowsFrame s t (ColourOf c) = t.rows ≡ s.rows
 RowsFrame s t (FieldOf c f) = (x : Field) × (t.rows ≡ set_field s.rows c f x)
 
--- .. and the colours at one cell
+-- and the colours at one cell
 abbrev pub ColoursFrame : State → State → Word → Type 0
 ColoursFrame s t TheControl = t.colours ≡ s.colours
 ColoursFrame s t (StatusOf i) = t.colours ≡ s.colours

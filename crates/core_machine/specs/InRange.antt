@@ -131,7 +131,7 @@ pub record IsShaped (s : State) : Type 0 where
   pub counts_fit : CountsFit s.cells s.colours s.owns s.control s.collector.sweep
       s.collector.times_freed s.collector.number_freed
 
--- .. and no more cells than a control word can show
+-- and no more cells than a control word can show
 pub record InRange (s : State) : Type 0 where
   pub shape : IsShaped s
   pub few_cells : s.cells ≤ greatest_cells

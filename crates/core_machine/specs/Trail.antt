@@ -34,7 +34,7 @@ abbrev pub own_along : Own → List Taken → Own
 own_along own [] = own
 own_along own (t ∷ ts) = own_along (own_after own t.event t.found) ts
 
--- .. of what a mutator knows of its presence
+-- of what a mutator knows of its presence
 abbrev pub presence_along : Presence → List Taken → Presence
 presence_along presence [] = presence
 presence_along presence (t ∷ ts) = presence_along (presence_after presence t.event t.found) ts
@@ -55,7 +55,7 @@ collecting_after cells c e found =
           found;
     }
 
--- .. in a heap of so many cells
+-- in a heap of so many cells
 abbrev pub collecting_along : ℕ → Collecting → List Taken → Collecting
 collecting_along cells c [] = c
 collecting_along cells c (t ∷ ts) = collecting_along cells

@@ -115,7 +115,7 @@ seen_less cells c colour.Gray none lt = let most = pass_costs cells c.clean c.cu
     none in omega arith
 seen_less cells c colour.Black none lt = passed_less cells c none lt
 
--- .. in a pass that goes on
+-- in a pass that goes on
 pub see_on_less : (cells : ℕ) (c : Collector) (found : Colour) → c.scan ≡ None → c.cursor < cells
     → pass_of cells (seen (restarted c cells) c.cursor found) + 1 ≤ pass_of cells c
 see_on_less cells c found none lt =
@@ -134,7 +134,7 @@ restarts cells c end unclean =
     sym (ap (λ b. if b then record c { cursor = 0; clean = true } else c)
     (and_from (c.cursor == cells) (not c.clean) (eq-eqb c.cursor cells end) (ap not unclean)))
 
--- .. in a pass that starts over
+-- in a pass that starts over
 pub see_again_less : (cells : ℕ) (c : Collector) (found : Colour) → c.scan ≡ None → 0 < cells
     → c.cursor ≡ cells
     → c.clean ≡ false → pass_of cells (seen (restarted c cells) 0 found) + 1 ≤ pass_of cells c

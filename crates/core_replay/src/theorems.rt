@@ -9,7 +9,7 @@ pub fn a_schedule_has_one_text()
         → IsReplayText schedule one → IsReplayText schedule other → one ≡ other }
 {}
 
-/// .. and it has one, if its sizes are such as a core can have.
+/// A schedule has a replay text, if its sizes are such as a core can have.
 pub fn every_schedule_has_a_text()
     ensures { (schedule : ScheduleValue) → IsTrue (are_sizes schedule.sizes)
         → (text : List ℕ) × IsReplayText schedule text }

@@ -32,7 +32,7 @@ names_it c (field.Cell d) h = let same : d
     ≡ c = eqb-true d c h in subst (λ e. field.Cell d ≡ field.Cell e) same refl
 names_it c _ h = absurd cc
 
--- .. and what is found there stands at some place of it
+-- and what is found there stands at some place of it
 stands_in_row : (c : ℕ) (row : List Field) → list_any (names_cell c) row ≡ true
     → (f : ℕ) × (get_or row f field.Null ≡ field.Cell c)
 stands_in_row c [] h = absurd cc
@@ -60,7 +60,7 @@ holds_of_held test c (p ∷ ps) h t = elim (or_cases (p.cell == c) _ h) [
   | inr there ↦ or_later (test p.cell) _ (holds_of_held test c ps there t)
 ]
 
--- .. and a place of which it holds has a held cell
+-- and a place of which it holds has a held cell
 held_where : (test : ℕ → Bool) (places : List Held)
     → list_any (λ place. test place.cell) places ≡ true
     → (c : ℕ) × (holds places c ≡ true) × (test c ≡ true)
@@ -81,7 +81,7 @@ root_at test (p ∷ ps) (o ∷ os) (suc i) c inside h t =
     or_right _ (some_root test ps os) (root_at test ps os i c inside h t)
 root_at test _ _ _ c inside h t = absurd cc
 
--- .. and some root of which it holds is a cell that a mutator which is in holds
+-- and some root of which it holds is a cell that a mutator which is in holds
 root_where : (test : ℕ → Bool) (ps : List Presence) (os : List Own) → some_root test ps os ≡ true
     → (i : ℕ) × (c : ℕ) × ((presence_in ps i).inside ≡ true) × (holds (own_in os i).held c ≡ true)
     × (test c ≡ true)

@@ -29,7 +29,7 @@ set_each P (x ∷ xs) (suc i) y d here old zero = old zero
 set_each P (x ∷ xs) (suc i) y d here old (suc j) =
     set_each (λ k. P (suc k)) xs i y d (λ lt. here (omega arith)) (λ k. old (suc k)) j
 
--- .. where it need hold of the old ones elsewhere alone
+-- where it need hold of the old ones elsewhere alone
 pub set_else : {X : Type 0} (P : ℕ → X → Type 0) (xs : List X) (i : ℕ) (y d : X) → i < length xs
     → P i y → ((j : ℕ) → j ≢ i → P j (get_or xs j d)) → (j : ℕ) → P j (get_or (set xs i y) j d)
 set_else P [] i y d lt here old j = absurd (omega arith)
@@ -46,7 +46,7 @@ pub colour_each : (P : ℕ → Colour → Type 0) (colours : List Colour) (c : �
     → P c x → ((d : ℕ) → P d (colour_in colours d)) → (d : ℕ) → P d (colour_in (set colours c x) d)
 colour_each P colours c x here old d = set_each P colours c x _ (λ lt. here) old d
 
--- .. of a cell that there is, where the old colours matter elsewhere alone
+-- of a cell that there is, where the old colours matter elsewhere alone
 pub colour_else : (P : ℕ → Colour → Type 0) (colours : List Colour) (c : ℕ) (x : Colour)
     → c < length colours
     → P c x → ((d : ℕ) → d ≢ c → P d (colour_in colours d)) → (d : ℕ)

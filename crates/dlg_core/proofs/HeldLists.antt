@@ -18,7 +18,7 @@ pub holds_unmark : (held : List Held) (c : ℕ) → holds (map unmark held) c �
 holds_unmark [] c = refl
 holds_unmark (p ∷ ps) c = ap (λ b. (p.cell == c) || b) (holds_unmark ps c)
 
--- .. and no place is marked then
+-- and no place is marked then
 pub none_marked : (colours : List Colour) (held : List Held)
     → All (MarkStands colours) (map unmark held)
 none_marked colours [] = All-nil (MarkStands colours)

@@ -22,7 +22,7 @@ to_last edge k x p = elim (or_split (path edge k x k) _ p) [
   | inr a ↦ (both_split (path edge k x k) (path edge k k k) a).0
 ]
 
--- .. and so does a path from it
+-- and so does a path from it
 from_last : (edge : ℕ → ℕ → Bool) (k y : ℕ) → path edge (suc k) k y ≡ true → path edge k k y ≡ true
 from_last edge k y q = elim (or_split (path edge k k y) _ q) [
   | inl a ↦ a

@@ -30,7 +30,7 @@ leads_more s es e t u run step =
     = subst (λ v. after v e ≡ u) (sym run.ends) w.1 in
     record { runs = runs_more s es e run.runs here; ends = last_more s es e ∙ there }
 
--- .. which is the next of a list
+-- which is the next of a list
 pub leads_next : (s : State) (es : List Event) (i : ℕ) (d : Event) (t u : State) → i < length es
     → LeadsTo s (take i es) t → next t (get_or es i d) ≡ Some u → LeadsTo s (take (i + 1) es) u
 leads_next s es i d t u lt run step =

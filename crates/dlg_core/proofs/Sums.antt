@@ -55,7 +55,7 @@ pub used_set : (colours : List Colour) (c : ℕ) (x : Colour) → c < length col
     → used_in (set colours c x) + weight (colour_in colours c) ≡ used_in colours + weight x
 used_set colours c x lt = sum_by-set weight colours c x colour.Blue lt
 
--- .. where it is blue as the old one is, or is not as it is not, nothing changes
+-- where it is blue as the old one is, or is not as it is not, nothing changes
 pub used_same : (colours : List Colour) (c : ℕ) (x : Colour)
     → is_used x ≡ is_used (colour_in colours c)
     → used_in (set colours c x) ≡ used_in colours

@@ -33,7 +33,7 @@ along_run P step s (e ∷ events) t leads range k here =
     (after_shaped s e range h)
     (consistent_after s e range k h) (step s e range k h here)
 
--- .. as the invariant does
+-- as the invariant does
 pub shaped_along : (s : State) (events : List Event) (t : State) → LeadsTo s events t → IsShaped s
     → IsConsistent s → IsShaped t
 shaped_along s events t leads range k = along_run IsShaped

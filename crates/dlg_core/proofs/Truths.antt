@@ -20,7 +20,7 @@ pub or_left : (a b : Bool) → a ≡ true → cond a true b ≡ true
 or_left true b h = refl
 or_left false b h = absurd cc
 
--- .. and where its right part does
+-- and where its right part does
 pub or_right : (a b : Bool) → b ≡ true → cond a true b ≡ true
 or_right true b h = refl
 or_right false b h = h

@@ -33,7 +33,7 @@ wiping_not_live s k range consistent is =
     (consistent.sweep.wipes k is).white
     ∙ ap not ahead
 
--- .. so it is not reachable
+-- so it is not reachable
 pub wiping_not_reachable : (s : State) (k : ℕ) → IsShaped s → IsConsistent s → s.collector.sweep
     ≡ sweeping.Wiping k
     → ¬ (Reachable s s.control.position)

@@ -57,7 +57,7 @@ async_fits stage.Idle stage.Sync1 = true
 async_fits stage.Sync1 stage.Sync1 = true
 async_fits _ _ = false
 
--- .. a mutator in sync1
+-- a mutator in sync1
 abbrev pub sync1_fits : Stage → Stage → Bool
 sync1_fits stage.Sync1 stage.Sync1 = true
 sync1_fits stage.Sync1 stage.Clear = true
@@ -67,7 +67,7 @@ sync1_fits stage.Clear stage.Sync2 = true
 sync1_fits stage.Sync2 stage.Sync2 = true
 sync1_fits _ _ = false
 
--- .. a mutator in sync2
+-- a mutator in sync2
 abbrev pub sync2_fits : Stage → Stage → Bool
 sync2_fits stage.Sync2 stage.Sync2 = true
 sync2_fits stage.Sync2 stage.Trace = true

@@ -43,7 +43,7 @@ abbrev pub IsBalanced : ℕ → State → Type 0
 IsBalanced first s = Balances first s.colours s.owns s.collector.times_freed
     s.collector.number_freed
 
--- .. in every state that the events pass on their way, as far as they can happen
+-- in every state that the events pass on their way, as far as they can happen
 abbrev pub StaysBalanced : ℕ → State → List Event → Type 0
 StaysBalanced first s events = (k : ℕ) (t : State) → LeadsTo s (take k events) t
     → IsBalanced first t

@@ -122,7 +122,7 @@ pub fn a_run_keeps_the_invariant()
         → IsShaped (last s taken) × IsConsistent (last s taken) × IsSafe (last s taken) }
 {}
 
-/// .. and where the sums on claims agree, they agree behind it.
+/// Where the sums on claims agree before a run, they agree behind it.
 pub fn a_run_keeps_the_balance()
     ensures { (first : ℕ) (s : State) (taken : List Taken) → IsShaped s → IsConsistent s
         → Runs s taken

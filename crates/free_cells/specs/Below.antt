@@ -17,7 +17,7 @@ module _ (cells : ℕ) (items : List ℕ) (passes : List Counts) where
     -- one that knows what the queue holds knows it exactly
     pub exact : (i : ℕ) (p : Counts) (known : List ℕ) → get_elem? passes i ≡ some p → p.content
         ≡ Some known → items ≡ known
-    -- .. and is the only one in use
+    -- and is the only one in use
     pub only : (i : ℕ) (p : Counts) (known : List ℕ) → get_elem? passes i ≡ some p → p.content
         ≡ Some known
         → (j : ℕ) (q : Counts) → j ≢ i → get_elem? passes j ≡ some q → q ≡ unused

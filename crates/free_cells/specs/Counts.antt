@@ -14,7 +14,7 @@ unused = record { cells = 0; content = None; pushes = 0; pops = 0; puts = 0; tak
 abbrev pub opened : ℕ → Counts
 opened cells = record unused { cells = cells; content = Some [] }
 
--- .. that was filled with so many numbers, from the first on
+-- that was filled with so many numbers, from the first on
 abbrev pub filled : ℕ → ℕ → ℕ → Counts
 filled cells first count =
     record unused { cells = cells; content = Some (range_with_len first count); pushes = count }
@@ -35,7 +35,7 @@ pushed cell counts =
       pushes = counts.pushes + 1;
     }
 
--- .. by a `put`
+-- by a `put`
 abbrev pub put : ℕ → Counts → Counts
 put cell counts = record (pushed cell counts) { puts = counts.puts + 1 }
 

@@ -27,7 +27,7 @@ module _ (fixed : ℕ
   quiet e h rows cells mutators =
       quiet_facts s (after s e) k rows cells fixed l (consistent_after s e shape k h) mutators facts
 
-  -- .. or of mutator i, whose knowledge is written back
+  -- or of mutator i, whose knowledge is written back
   quiet_by : (i : ℕ) (e : Event) → can s e ≡ true → (after s e).rows ≡ s.rows
       → ((j : ℕ) → cells_of (after s e) j ≡ cells_of s j)
       → (after s e).mutators ≡ s.mutators → lore_after s l e ≡ l

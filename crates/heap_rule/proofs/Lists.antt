@@ -43,7 +43,7 @@ reached_held s i x k h = held_in s i x (presence_of s i).inside refl k h
 
 -- What is so of all places.
 
--- .. may be said anew of each cell that the list has
+-- may be said anew of each cell that the list has
 pub all_known : (K L : ℕ → Known → Type 0) (cells : List ℕ) (known : List Known)
     → ((c : ℕ) (k : Known) → has cells c ≡ true → K c k → L c k) → AllKnown K cells known
     → AllKnown L cells known
@@ -82,7 +82,7 @@ all_drop K (suc n) [] (k ∷ known) all = absurd all
 all_drop K (suc n) (c ∷ cells) [] all = absurd all
 all_drop K (suc n) (c ∷ cells) (k ∷ known) all = all_drop K n cells known all.1
 
--- .. is so of the cell at a place
+-- is so of the cell at a place
 pub all_at : (K : ℕ → Known → Type 0) (cells : List ℕ) (known : List Known) (place : ℕ)
     → place < length cells
     → AllKnown K cells known → K (get_or cells place 0) (known_at known place)
@@ -101,7 +101,7 @@ one_changed K L change x c k here step h = elim (cases_eq c x) [
       (step other h)
 ]
 
--- .. and what is known of one cell may change with it
+-- and what is known of one cell may change with it
 pub all_changed : (K L : ℕ → Known → Type 0) (change : Known
     → Known) (x : ℕ) (cells : List ℕ) (known : List Known)
     → ((k : Known) → K x k → L x (change k))

@@ -48,7 +48,7 @@ module _ (s t : State) (i : ℕ) (own : Own) (owns : t.owns ≡ set s.owns i own
       → Reachable s x) below mine (λ j other x h. reached_held s j x k h))
       (λ c d f r e. named f r (sym (ap (λ (rs : List (List Field)). field_in rs c f) rows) ∙ e))
 
--- .. and knows something else
+-- and knows something else
 pub record Made (fixed : ℕ
     → Bool) (s t : State) (l m : Lore) (i : ℕ) (own : Own) (known : List Known) : Type 0 where
   pub owns : t.owns ≡ set s.owns i own

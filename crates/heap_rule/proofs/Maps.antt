@@ -87,7 +87,7 @@ smaller old t m root within still =
           in_map t m y new ∙ sym (within y new) ∙ there;
     }
 
--- .. and that is so where nothing changes of any cell that is still reachable
+-- and that is so where nothing changes of any cell that is still reachable
 pub anchor_in : (fixed : ℕ → Bool) (t : State) (m : Lore) → IsConsistent t → Facts fixed t m
     → In t m 0
 anchor_in fixed t m k

@@ -139,7 +139,7 @@ some_below [] i a h = absurd cc
 some_below (x ∷ xs) zero a h = omega arith
 some_below (x ∷ xs) (suc i) a h = let lt = some_below xs i a h in omega (arith, lt)
 
--- .. of a list with one element more at its end
+-- of a list with one element more at its end
 last_or : {A : Type 0} (xs : List A) (a b : A) (j : ℕ) → get_elem? (xs ++ a ∷ []) j ≡ some b
     → (get_elem? xs j ≡ some b) ⊎ ((j ≡ length xs) × (a ≡ b))
 last_or [] a b zero h = inr (refl, cc)

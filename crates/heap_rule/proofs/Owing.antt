@@ -349,7 +349,7 @@ module _ {P : Type 0} (fixed : ℕ
       ap (λ (c : ℕ). index_of s.mutators (f c)) (target_now place)
       ∙ ap (λ (n : ℕ). index_of n (f (target v place))) mine.mutators
 
-  owes_begin : MayComeIn v
+  pub owes_begin : MayComeIn v
       → Owed fixed s l (event.Begin i) (index_of v.shape.mutators (StatusOf i))
       (left_by (SetBits inside_bit)) (told_by (SetBits inside_bit))
   owes_begin may = record {
@@ -361,7 +361,7 @@ module _ {P : Type 0} (fixed : ℕ
     tells = λ n h. h;
   }
 
-  owes_over : MayComeIn v
+  pub owes_over : MayComeIn v
       → Owed fixed s l (event.Over i) (index_of v.shape.mutators (StatusOf i))
       (left_by (SetBits over_bit)) (told_by (SetBits over_bit))
   owes_over may = record {
@@ -372,7 +372,7 @@ module _ {P : Type 0} (fixed : ℕ
     tells = λ n h. h;
   }
 
-  owes_end : v.presence.inside ≡ true
+  pub owes_end : v.presence.inside ≡ true
       → Owed fixed s l (event.End i) (index_of v.shape.mutators (StatusOf i))
       (left_by (KeepBits all_but_inside)) (told_by (KeepBits all_but_inside))
   owes_end inside = record {
@@ -384,7 +384,7 @@ module _ {P : Type 0} (fixed : ℕ
     tells = λ n h. h;
   }
 
-  owes_look : v.presence.inside ≡ true
+  pub owes_look : v.presence.inside ≡ true
       → Owed fixed s l (event.Look i) (index_of v.shape.mutators TheControl) (left_by Load)
       (told_by Load)
   owes_look inside = record {
@@ -396,7 +396,7 @@ module _ {P : Type 0} (fixed : ℕ
     tells = λ n h. h;
   }
 
-  owes_read : (place f : ℕ) → MayRead v place f
+  pub owes_read : (place f : ℕ) → MayRead v place f
       → Owed fixed s l (event.Read i place f)
       (index_of v.shape.mutators (FieldOf (target v place) f)) (left_by Load) (told_by Load)
   owes_read place f may = record {
@@ -409,7 +409,7 @@ module _ {P : Type 0} (fixed : ℕ
     tells = λ n h. h;
   }
 
-  owes_mark : (place : ℕ) → MayMark v place
+  pub owes_mark : (place : ℕ) → MayMark v place
       → Owed fixed s l (event.Mark i place) (index_of v.shape.mutators (ColourOf (target v place)))
       (left_by (colour_exchange colour.White colour.Gray))
       (told_by (colour_exchange colour.White colour.Gray))
@@ -422,7 +422,7 @@ module _ {P : Type 0} (fixed : ℕ
     tells = λ n h. h;
   }
 
-  owes_write : (place f : ℕ) (old new : Field) → MayWrite fixed v place f old new
+  pub owes_write : (place f : ℕ) (old new : Field) → MayWrite fixed v place f old new
       → Owed fixed s l (event.Write i place f old new)
       (index_of v.shape.mutators (FieldOf (target v place) f))
       (left_by (Exchange (pack_field_of old) (pack_field_of new)))
@@ -445,7 +445,7 @@ module _ {P : Type 0} (fixed : ℕ
     tells = λ n h. h;
   }
 
-  owes_claim : (c : ℕ) → MayClaim v c
+  pub owes_claim : (c : ℕ) → MayClaim v c
       → Owed fixed s l (event.Claim i c) (index_of v.shape.mutators (ColourOf c))
       (left_by (colour_exchange colour.Blue (born_colour v.presence.status v.own.mode c)))
       (told_by (colour_exchange colour.Blue (born_colour v.presence.status v.own.mode c)))
@@ -463,7 +463,7 @@ module _ {P : Type 0} (fixed : ℕ
     tells = λ n h. h;
   }
 
-  owes_fill : (place f : ℕ) (value : Field) → MayFill v place f value
+  pub owes_fill : (place f : ℕ) (value : Field) → MayFill v place f value
       → Owed fixed s l (event.Fill i place f value)
       (index_of v.shape.mutators (FieldOf (target v place) f))
       (left_by (Store (pack_field_of value))) (told_by (Store (pack_field_of value)))
@@ -496,7 +496,7 @@ module _ {P : Type 0} (fixed : ℕ
       (knows_them f lt)))
   terms_now kind.Boxed fields row are knows_them = tt
 
-  owes_seal : (place : ℕ) (of : Kind) → MaySeal v place of
+  pub owes_seal : (place : ℕ) (of : Kind) → MaySeal v place of
       → Owed fixed s l (event.Seal i place of)
       (index_of v.shape.mutators (FieldOf (target v place) 5))
       (left_by (Store (pack_field_of (kind_field of))))
@@ -513,7 +513,7 @@ module _ {P : Type 0} (fixed : ℕ
         tells = λ n h. tt;
       }
 
-  owes_answer : MayAnswer v
+  pub owes_answer : MayAnswer v
       → Owed fixed s l (event.Answer i) (index_of v.shape.mutators (StatusOf i))
       (left_by (Store (pack_presence_of (answered_presence v.presence))))
       (told_by (Store (pack_presence_of (answered_presence v.presence))))
@@ -542,7 +542,7 @@ module _ {P : Type 0} (fixed : ℕ
         tells = λ n h. tt;
       }
 
-  owes_keep : (n from copies : ℕ) → MayKeep v n from copies
+  pub owes_keep : (n from copies : ℕ) → MayKeep v n from copies
       → Owed fixed s l (event.Keep i n from copies) (index_of v.shape.mutators (StatusOf i))
       (left_by Load) (told_by Load)
   owes_keep n from copies may = record {

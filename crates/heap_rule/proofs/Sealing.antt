@@ -232,7 +232,7 @@ module _ (fixed : ℕ
         (facts.known_all i) is))
         tt
 
-    -- .. where it is a record now
+    -- where it is a record now
     module _ (is : of ≡ kind.Record) where
       knows_fields : (f : ℕ) → f < 5
           → IsTermKnown (cells_of s i) (known_in l.known i) (field_of s x f)
@@ -271,7 +271,7 @@ module _ (fixed : ℕ
           (at 3 (omega arith) j) (at 4 (omega arith) j)) in
           (kind_now ∙ ap kind_field is, term_now ∙ sym (ap Some terms))
 
-    -- .. or a box
+    -- or a box
     module _ (is : of ≡ kind.Boxed) where
       box_term : m.terms x ≡ None
       box_term =

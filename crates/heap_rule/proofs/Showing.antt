@@ -1,6 +1,6 @@
 -- What the rule says of any moment, in words of the table alone.
-use Rattle.std.proofs.Common.{◌≡◌, ◌≢◌, ◌<◌, ℕ, Bool, true, List, Option, Some, refl, sym, ◌∙◌, ap}
-use Rattle.std.proofs.Common.{subst, slice_index}
+use Rattle.std.proofs.Common.{◌⊎◌, ◌≡◌, ◌≢◌, ◌<◌, ◌++◌, ℕ, Bool, true, List, [], ◌∷◌, length}
+use Rattle.std.proofs.Common.{Option, Some, refl, sym, ◌∙◌, ap, subst, slice_index}
 use mathlib.Core.Option.{some}
 use lib.ListN.{get_elem?}
 use Rattle.atomic_table.specs.Table as table
@@ -8,22 +8,35 @@ use Rattle.cell_words.specs.Colour.{pack_colour_of}
 use Rattle.cell_words.specs.declared.colours.Colour.{Colour}
 use Rattle.cell_words.specs.declared.colours.Colour.TheVariants as colour
 use Rattle.core_machine.specs.Own.{Own, no_own}
+use Rattle.core_machine.specs.InRange.{IsShaped}
+use Rattle.core_machine.specs.Next.{after}
 use Rattle.core_machine.specs.Places.{holds}
+use Rattle.core_machine.specs.Run.{Runs, last}
 use Rattle.core_machine.specs.State.{State, colour_of, own_of}
 use Rattle.core_machine.specs.Table.{ColourOf, index_of, words_of}
 use Rattle.core_machine.specs.Trail.{own_along, trail_of}
+use Rattle.core_machine.specs.declared.events.Event.{Event}
 use Rattle.core_machine.specs.declared.events.Taken.{Taken}
+use Rattle.core_machine.proofs.Runs.{last_append, runs_shaped}
 use Rattle.core_machine.proofs.Table.{word_read}
 use Rattle.core_machine.proofs.Trails.{own_told}
+use Rattle.dlg_core.specs.Collects.{AreTwoCycles, IsFreedSince, IsGarbage}
+use Rattle.dlg_core.specs.Consistent.{IsConsistent}
 use Rattle.dlg_core.specs.Reachable.{Reachable, held}
+use Rattle.dlg_core.specs.Runs.{LeadsTo, events_of}
+use Rattle.dlg_core.specs.Sums.{IsBalanced, IsClaimed}
+use Rattle.dlg_core.proofs.Along.{runs_balanced, runs_collect, runs_consistent, runs_lead}
+use Rattle.dlg_core.proofs.Along.{taken_again}
+use Rattle.dlg_core.proofs.Claimed.{every_used_claimed}
 use Rattle.dlg_core.proofs.Safety.{consistent_safe}
-use Rattle.dlg_core.proofs.Starts.{same_everywhere}
+use Rattle.dlg_core.proofs.Starts.{opening_consistent, same_everywhere}
+use Rattle.dlg_core.proofs.Sums.{opening_balanced}
 use Rattle.heap_rule.specs.declared.view.Role.{Role}
 use Rattle.heap_rule.specs.declared.view.Role.TheVariants as role
 use Rattle.heap_rule.specs.declared.view.View.{View}
 use Rattle.heap_rule.specs.Boxes.{Map}
-use Rattle.heap_rule.specs.Laws.{SeatShows, ShowsRun}
-use Rattle.heap_rule.specs.Rule.{Kept, Ledger, MutatorFits, SeatFits, Stands}
+use Rattle.heap_rule.specs.Laws.{CollectorShows, SeatShows, ShowsRun}
+use Rattle.heap_rule.specs.Rule.{CollectorFits, Kept, Ledger, MutatorFits, SeatFits, Stands}
 use Rattle.heap_rule.specs.Shape.{Shape, start}
 use Rattle.heap_rule.proofs.Stepping.{core_consistent, core_shaped, opening_shaped}
 
@@ -33,11 +46,19 @@ blue_word colour.White h = absurd cc
 blue_word colour.Gray h = absurd cc
 blue_word colour.Black h = absurd cc
 
+-- a run of two parts is a run, and one from where that leads
+runs_parted : (s : State) (ts us : List Taken) → Runs s (ts ++ us)
+    → Runs s ts × Runs (last s ts) us
+runs_parted s [] us runs = (tt, runs)
+runs_parted s (t ∷ ts) us runs =
+    let rest = runs_parted (after s t.event) ts us runs.2 in
+    ((runs.0, runs.1, rest.0), rest.1)
+
 module _ {P : Type 0} (opens : ℕ → ℕ → P) (holding : Map → List P → Type 0) (fixed : ℕ
     → Bool) (h : Shape) where
   seat_shows : (l : Ledger P) (seat : ℕ) (v : View P) → Stands holding fixed h l
       → MutatorFits h l seat v
-      → SeatShows l.core l.run v
+      → SeatShows l.core l.lore l.passes l.run v
   seat_shows l seat v stands fits =
       let rooms = l.core.rooms in
       let begins : own_of (start h rooms) v.number ≡ no_own = same_everywhere _ v.number no_own in
@@ -48,6 +69,8 @@ module _ {P : Type 0} (opens : ℕ → ℕ → P) (holding : Map → List P → 
       record {
         own = fits.share.own;
         inside = sym fits.share.presence.inside;
+        known = fits.share.known;
+        pass = fits.share.pass;
         trail = fits.share.trail;
         told = sym fits.share.own ∙ told
             ∙ ap (λ (ts : List Taken). own_along no_own ts) fits.share.trail;
@@ -55,8 +78,50 @@ module _ {P : Type 0} (opens : ℕ → ℕ → P) (holding : Map → List P → 
             (subst (λ (o : Own). holds o.held c ≡ true) (sym fits.share.own) there);
       }
 
+  module _ (l : Ledger P) (stands : Stands holding fixed h l) where
+    abbrev from : State
+    from = start h l.core.rooms
+
+    from_consistent : IsConsistent from
+    from_consistent =
+        opening_consistent h.cells l.core.rooms h.first stands.sound.fit stands.sound.first
+
+    sums_agree : IsBalanced (length h.first) l.core
+    sums_agree =
+        subst (IsBalanced (length h.first)) stands.core_is
+        (runs_balanced (length h.first) from l.run (opening_shaped holding fixed h l stands)
+        from_consistent stands.legal (opening_balanced h.cells l.core.rooms h.first))
+
+    used_claimed : (c : ℕ) → colour_of l.core c ≢ colour.Blue
+        → (c < length h.first) ⊎ IsClaimed l.run c
+    used_claimed c used =
+        subst (λ (ts : List Taken). (c < length h.first) ⊎ IsClaimed ts c)
+        (taken_again from l.run stands.legal)
+        (every_used_claimed h.cells l.core.rooms h.first (events_of l.run) stands.sound.rows
+        stands.sound.first stands.sound.fit l.core c
+        (subst (λ (t : State). LeadsTo from (events_of l.run) t) stands.core_is
+        (runs_lead from l.run stands.legal)) used)
+
+    freed_behind : (before cycles : List Taken) (first between next : List Event) (c : ℕ)
+        → l.run ≡ before ++ cycles → events_of cycles ≡ first ++ (between ++ next)
+        → AreTwoCycles first between next → IsGarbage (last from before) c
+        → IsFreedSince (last from before) l.core c
+    freed_behind before cycles first between next c is are two garbage =
+        let parts = runs_parted from before cycles (subst (Runs from) is stands.legal) in
+        let range : IsShaped from = opening_shaped holding fixed h l stands in
+        subst (λ (t : State). IsFreedSince (last from before) t c)
+        (sym (last_append from before cycles) ∙ ap (last from) (sym is) ∙ stands.core_is)
+        (runs_collect (last from before) cycles first between next c
+        (runs_shaped from before range parts.0) (runs_consistent from before range from_consistent
+        parts.0) parts.1 are two garbage)
+
+  collector_shows : (l : Ledger P) (seat : ℕ) (v : View P) → CollectorFits h l seat v
+      → CollectorShows l.core l.run v
+  collector_shows l seat v fits =
+      record { control = fits.control; part = fits.part; trail = fits.trail }
+
   pub shows_run : {S : Type 0} (s : table.State S (View P)) → Kept opens holding fixed h s
-      → ShowsRun h s
+      → ShowsRun holding fixed h s
   shows_run s k =
       let l = k.ledger in
       let shaped = core_shaped holding fixed h l k.stands in
@@ -64,6 +129,8 @@ module _ {P : Type 0} (opens : ℕ → ℕ → P) (holding : Map → List P → 
       let safe = consistent_safe l.core consistent in
       record {
         core = l.core;
+        lore = l.lore;
+        passes = l.passes;
         run = l.run;
         rooms = l.core.rooms;
         words = k.words_are;
@@ -72,11 +139,19 @@ module _ {P : Type 0} (opens : ℕ → ℕ → P) (holding : Map → List P → 
         shaped = shaped;
         consistent = consistent;
         safe = safe;
+        facts = k.stands.facts;
+        kept = k.stands.kept;
         not_free = λ c lt r blue. safe.in_use c r
             (blue_word (colour_of l.core c)
             (sym (word_read l.core shaped (ColourOf c) lt)
             ∙ sym (ap (λ (ws : List ℕ). slice_index ws (index_of l.core.mutators (ColourOf c)))
             k.words_are) ∙ blue));
+        balanced = sums_agree l k.stands;
+        claimed = used_claimed l k.stands;
+        collected = freed_behind l k.stands;
+        collector_seats = λ j v there is.
+            collector_shows l j v
+            (subst (λ (r : Role). SeatFits h l j v r) is (k.each_seat j v there));
         seats = λ j v there is.
             seat_shows l j v k.stands
             (subst (λ (r : Role). SeatFits h l j v r) is (k.each_seat j v there));

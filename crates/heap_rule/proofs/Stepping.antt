@@ -89,7 +89,7 @@ module _ {P : Type 0} (holds : Map → List P → Type 0) (fixed : ℕ → Bool)
     facts = stands.facts;
   }
 
-  -- .. and behind an event
+  -- and behind an event
   pub stands_behind : (e : Event) (passes : List P) → can l.core e ≡ true
       → Proper fixed l.core l.lore e
       → length passes ≡ h.mutators

@@ -225,7 +225,7 @@ module _ (fixed : ℕ
       (l.fresh y) (l.fresh y) i y w
       (λ g. stored_fields y g (λ same e. other same)) refl refl (λ g. refl) is
 
-  -- .. then of the cell that the value names
+  -- then of the cell that the value names
   revealed_known : (y : ℕ) (w : Known) → Then y w
       → KnownAt fixed l.terms (field_of t y) (l.terms y) (fresh y) i y (known_revealed w)
   revealed_known y knows.Nothing is = tt

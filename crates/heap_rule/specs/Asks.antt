@@ -44,7 +44,7 @@ abbrev pub IsRaw : Known → Type 0
 IsRaw (knows.Raw fields) = Unit {0}
 IsRaw _ = ⊥
 
--- .. the fields of a raw cell; nothing of any other
+-- the fields of a raw cell; nothing of any other
 abbrev pub raw_fields : Known → List Field
 raw_fields (knows.Raw fields) = fields
 raw_fields _ = []
@@ -176,6 +176,6 @@ module _ {P : Type 0} where
     pub out : v.presence.inside ≡ false
     pub not_over : v.presence.over ≡ false
 
-  -- .. of the collector's seat
+  -- of the collector's seat
   abbrev pub collector_state : View P → State
   collector_state v = known_state v.shape.cells v.shape.mutators v.control v.part

@@ -1,39 +1,60 @@
 -- What the rule of a heap says of any moment between two steps, in words of the table alone.
 -- Source: this project's.
-use Rattle.std.specs.Prelude.{ℕ, ◌≡◌, ◌≢◌, ◌<◌, Bool, true, List, slice_index, Option, Some}
+use Rattle.std.specs.Prelude.{ℕ, ◌⊎◌, ◌≡◌, ◌≢◌, ◌<◌, ◌++◌, Bool, true, List, length, slice_index}
+use Rattle.std.specs.Prelude.{Option, Some, None}
 use mathlib.Core.Option.{some}
 use lib.ListN.{get_elem?}
 use Rattle.atomic_table.specs.Table as table
 use Rattle.cell_words.specs.Colour.{pack_colour_of}
 use Rattle.cell_words.specs.declared.colours.Colour.TheVariants as colour
+use Rattle.core_machine.specs.declared.events.Event.{Event}
 use Rattle.core_machine.specs.InRange.{IsShaped}
 use Rattle.core_machine.specs.Own.{no_own}
 use Rattle.core_machine.specs.Places.{holds}
 use Rattle.core_machine.specs.Run.{Runs, last}
-use Rattle.core_machine.specs.State.{State, own_of, presence_of}
+use Rattle.core_machine.specs.State.{State, colour_of, own_of, presence_of}
 use Rattle.core_machine.specs.Table.{ColourOf, index_of, words_of}
 use Rattle.core_machine.specs.Trail.{own_along, trail_of}
 use Rattle.core_machine.specs.declared.events.Taken.{Taken}
+use Rattle.dlg_core.specs.Collects.{AreTwoCycles, IsFreedSince, IsGarbage}
 use Rattle.dlg_core.specs.Consistent.{IsConsistent}
 use Rattle.dlg_core.specs.Reachable.{Reachable}
+use Rattle.dlg_core.specs.Runs.{events_of}
 use Rattle.dlg_core.specs.Safe.{IsSafe}
+use Rattle.dlg_core.specs.Sums.{IsBalanced, IsClaimed}
+use Rattle.heap_rule.specs.Boxes.{Map, boxes_of}
+use Rattle.heap_rule.specs.Facts.{Facts}
+use Rattle.heap_rule.specs.Lore.{Lore, known_in}
 use Rattle.heap_rule.specs.declared.view.Role.TheVariants as role
 use Rattle.heap_rule.specs.declared.view.View.{View}
 use Rattle.heap_rule.specs.Shape.{Shape, start}
 
 module _ {P : Type 0} where
-  -- A mutator's seat has that one's own part and trail; the part is what the trail leaves, and what
-  -- it holds is reachable.
-  pub record SeatShows (core : State) (run : List Taken) (v : View P) : Type 0 where
+  -- A mutator's seat has that one's own part, knowledge, pass and trail; the part is what the trail
+  -- leaves, and what it holds is reachable.
+  pub record SeatShows (core : State) (lore : Lore) (passes : List P) (run : List Taken)
+      (v : View P) : Type 0 where
     pub own : own_of core v.number ≡ v.own
     pub inside : (presence_of core v.number).inside ≡ v.presence.inside
+    pub known : known_in lore.known v.number ≡ v.known
+    pub pass : get_elem? passes v.number ≡ some v.pass
     pub trail : trail_of (Some v.number) run ≡ v.trail
     pub told : v.own ≡ own_along no_own v.trail
     pub reached : v.presence.inside ≡ true → (c : ℕ) → holds v.own.held c ≡ true → Reachable core c
 
-  -- The words show a core state, the last one of a run from the opening with each mutator's room.
-  pub record ShowsRun {S : Type 0} (h : Shape) (s : table.State S (View P)) : Type 0 where
+  -- the collector's seat has the control, the collector's part and its trail
+  pub record CollectorShows (core : State) (run : List Taken) (v : View P) : Type 0 where
+    pub control : core.control ≡ v.control
+    pub part : core.collector ≡ v.part
+    pub trail : trail_of None run ≡ v.trail
+
+  -- The words show a core state, the last one of a run from the opening with each mutator's room;
+  -- and what is so of that state and of that run.
+  pub record ShowsRun (holding : Map → List P → Type 0) (fixed : ℕ → Bool) {S : Type 0} (h : Shape)
+      (s : table.State S (View P)) : Type 0 where
     pub core : State
+    pub lore : Lore
+    pub passes : List P
     pub run : List Taken
     pub rooms : List ℕ
     pub words : s.words ≡ words_of core
@@ -42,8 +63,23 @@ module _ {P : Type 0} where
     pub shaped : IsShaped core
     pub consistent : IsConsistent core
     pub safe : IsSafe core
+    pub facts : Facts fixed core lore
+    -- the client's rule on the boxes and the passes
+    pub kept : holding (boxes_of core lore) passes
     -- the colour word of no reachable cell is that of a free one
     pub not_free : (c : ℕ) → c < core.cells → Reachable core c
         → slice_index s.words (index_of core.mutators (ColourOf c)) ≢ pack_colour_of colour.Blue
+    -- first rows and claims are the cells that are not free and all that were freed
+    pub balanced : IsBalanced (length h.first) core
+    -- a cell that is not free is one of the first rows, or was claimed in this run
+    pub claimed : (c : ℕ) → colour_of core c ≢ colour.Blue
+        → (c < length h.first) ⊎ IsClaimed run c
+    -- garbage before two whole cycles at the end of this run has been freed in them
+    pub collected : (before cycles : List Taken) (first between next : List Event) (c : ℕ)
+        → run ≡ before ++ cycles → events_of cycles ≡ first ++ (between ++ next)
+        → AreTwoCycles first between next → IsGarbage (last (start h rooms) before) c
+        → IsFreedSince (last (start h rooms) before) core c
     pub seats : (j : ℕ) (v : View P) → get_elem? s.views j ≡ some v → v.role ≡ role.Mutator
-        → SeatShows core run v
+        → SeatShows core lore passes run v
+    pub collector_seats : (j : ℕ) (v : View P) → get_elem? s.views j ≡ some v
+        → v.role ≡ role.Collector → CollectorShows core run v

@@ -50,7 +50,7 @@ module _ {P : Type 0} where
     pub presence : Knows v.presence (presence_of s v.number)
     pub known : known_in l.known v.number ≡ v.known
 
-  -- .. and the collector's
+  -- and the collector's
   pub record Ours (fixed : ℕ → Bool) (v : View P) (s : State) (l : Lore) : Type 0 where
     pub shown : Shown fixed s l
     pub cells : s.cells ≡ v.shape.cells
@@ -92,7 +92,7 @@ module _ {P : Type 0} where
         ≡ told v e (found_by core e) (learned core lore e)
         (next (learned core lore e) (found_by core e) v.pass)
 
-  -- .. of the collector's
+  -- of the collector's
   pub record AtCollectorStep (fixed : ℕ
       → Bool) (v : View P) (e : Event) (number : ℕ) (w : View P) : Type 0 where
     pub core : State

@@ -36,9 +36,11 @@ pub fn boxes_grow_smaller()
 
 /// Between any two steps, whatever seats there are and in whatever threads: the words of a table
 /// with the rule show a safe core state, which is the last one of a run from the opening. Each
-/// mutator's seat has that one's own part and trail, what it holds is reachable, and the colour
-/// word of no reachable cell is that of a free one.
+/// mutator's seat has that one's own part, knowledge, pass and trail, what it holds is reachable,
+/// and the colour word of no reachable cell is that of a free one. The facts on lore and the
+/// client's rule stand; the sums on claims agree; a cell that is not free is a first row or was
+/// claimed in this run; and garbage before two whole cycles at its end has been freed in them.
 pub fn a_table_shows_a_safe_run<S, P: Keeping>()
     ensures { (h : Shape) (s : TableState S (View P)) → Kept P.opening P.holds P.fixed h s
-        → ShowsRun h s }
+        → ShowsRun P.holds P.fixed h s }
 {}

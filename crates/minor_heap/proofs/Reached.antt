@@ -147,7 +147,7 @@ from_marks records from first marks roots all r = (
   (λ is. (all r).1 (reaches_map records (Contains from) (IsMarked first) (λ s. (roots s).1) r is)),
 )
 
--- .. as a list
+-- as a list
 pub reached_of : (records : List (List MinorField)) (from : List MinorRef) (marks : List Bool)
     → ((r : MinorRef) → IsMarked marks r ↔ Reaches records (Contains from) r)
     → AreReached records from (marked_of 0 marks)

@@ -14,7 +14,7 @@ field_term shared older (field.Num n) = num n
 field_term shared older (field.Minor r) = slice_index_or older r.number null
 field_term shared older (field.Shared place) = slice_index_or shared place null
 
--- .. and of a record
+-- and of a record
 abbrev pub record_term : List Term → List Term → List MinorField → Term
 record_term shared older fields =
     let term : ℕ → Term = λ i. field_term shared older (slice_index_or fields i field.Null) in

@@ -110,7 +110,7 @@ module _ {E : Type 0} (P : E → List Mark → Type 0) where
       subst (λ (ms : List Mark). InTurn P (es ++ e ∷ []) ms) (sym had.is)
       (turns_added es e a had.before had.stretch had.after turns had.meets)
 
-  -- .. or all of it
+  -- or all of it
   pub turns_last : (es : List E) (e : E) (a : List Mark) {b : List Mark} (added : List Mark)
       → b ≡ a ++ added → InTurn P es a
       → P e added → InTurn P (es ++ e ∷ []) b

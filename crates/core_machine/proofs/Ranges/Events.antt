@@ -46,7 +46,7 @@ pub after_sizes : (s : State) (e : Event)
 after_sizes s (event.Begin i) = (refl, refl)
 after_sizes s _ = (refl, refl)
 
--- .. so the ranges stay
+-- so the ranges stay
 pub after_keeps : (s : State) (e : Event) → InRange s → can s e ≡ true → InRange (after s e)
 after_keeps s e r can = record {
   shape = after_shaped s e r.shape can;

@@ -89,7 +89,7 @@ here_unswept control sweep now undone =
     (or_later (nat_lt control.position control.position) _
     (and_from _ _ (eq-eqb control.position control.position refl) (undone_test sweep undone)))
 
--- .. so it is not live where it is white
+-- so it is not live where it is white
 pub wiped_not_live : (s : State) → IsShaped s → (k : ℕ) → s.collector.sweep ≡ sweeping.Wiping k
     → colour_of s s.control.position ≡ colour.White
     → live s.colours s.control s.collector.sweep s.control.position ≡ false

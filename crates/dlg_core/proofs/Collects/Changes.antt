@@ -54,7 +54,7 @@ colour_apart set rows owns colours c x fits k = record {
   not_blue = colour_each (λ d y. set d → y ≢ colour.Blue) colours c x fits k.not_blue;
 }
 
--- .. and in its phase it has the colour that is due.
+-- In its phase a cell of the set has the colour that is due.
 pub colour_way : (set : ℕ → Type 0) (start : ℕ) (colours : List Colour) (control : Control)
     (sweep : Sweeping) (scan : Option Scanning)
     (c : ℕ) (x : Colour)

@@ -63,7 +63,7 @@ beside_followed old s c x out k = record {
       out k.way;
 }
 
--- .. or of any, to what it was
+-- or of any, to what it was
 pub same_followed : (old s : State) (c : ℕ) (x : Colour) → colour_of s c ≡ x → IsFollowed old s
     → IsFollowed old (with_colour s c x)
 same_followed old s c x e k =

@@ -88,13 +88,13 @@ sweep_to_idle _ h = absurd cc
 abbrev pub IsSettled : State → Type 0
 IsSettled s = (i : ℕ) → i < s.mutators → (presence_of s i).status ≡ requested_of s.control.stage
 
--- .. since all have answered
+-- since all have answered
 pub settled_by_answers : (s : State) → IsConsistent s → is_handshake s.control.stage ≡ true
     → all_in s.collector.answered ≡ true → IsSettled s
 settled_by_answers s k now all i lt = k.mutators.answered i lt now
     (one_of_all s.collector.answered i all)
 
--- .. since there is nothing to answer
+-- since there is nothing to answer
 pub settled_at : (now : Stage) (own : Status) → is_handshake now ≡ false
     → status_fits now own ≡ true → own ≡ requested_of now
 settled_at stage.Idle status.Async h fits = refl

@@ -265,7 +265,7 @@ further_kept s x y k is fits =
       };
     }
 
--- .. where it holds no cell
+-- where it holds no cell
 pub passed_fits : (s : State) (x : Scanning) → IsConsistent s → x.child ≡ None
     → ((d : ℕ) → field_of s x.cell x.next ≢ field.Cell d)
     → FurtherFits s x (record x { next = x.next + 1 })
