@@ -2,6 +2,7 @@
 -- successor that these make. A line a kind.
 --
 -- A state and an event have at most one successor, since `next` is a function.
+-- Source: Doligez and Leroy, POPL 1993, and Doligez and Gonthier, POPL 1994; this project's form.
 use Rattle.std.specs.Prelude.{ℕ, Bool, true, false, Option, Some, None}
 use Rattle.core_machine.specs.declared.events.Found.{Found}
 use Rattle.core_machine.specs.declared.events.Found.TheVariants as finds

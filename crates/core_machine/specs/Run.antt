@@ -1,4 +1,5 @@
 -- Runs: events taken one after the other, each with what it found.
+-- Source: this project's.
 use Rattle.std.specs.Prelude.{◌≡◌, true, List, [], ◌∷◌}
 use Rattle.core_machine.specs.declared.events.Taken.{Taken}
 use Rattle.core_machine.specs.Next.{can, found_by, after}

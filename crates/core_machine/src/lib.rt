@@ -1,4 +1,4 @@
-//! The core machine of the collector: its state, its 27 kinds of event, and a struct that takes
+//! The core machine of the collector: its state, its kinds of event, and a struct that takes
 //! them.
 //!
 //! The definitions in specs/ are the subject itself: what the state is made of, when an event can

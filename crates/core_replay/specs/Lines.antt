@@ -1,6 +1,7 @@
 -- One line of a schedule.
 --
 -- The first line that counts gives the sizes of the core, each later one a step.
+-- Source: this project's.
 use Rattle.std.specs.Prelude.{ℕ, IsTrue, not, List, if◌then◌else◌, Option, Some, None, Result, Ok}
 use Rattle.std.specs.Prelude.{Err}
 use Rattle.std.specs.List.{list_all}

@@ -2,6 +2,7 @@
 --
 -- A number is 1 to 19 decimal digits, which may begin with zeros. A value of a field is `-` for
 -- null, `=` before a number below 2^62, or `@` before the number of a cell.
+-- Source: this project's.
 use Rattle.std.specs.Prelude.{ℕ, ◌-◌, ◌^◌, ◌&&◌, List, [], ◌∷◌, length, nat_le, ◌==◌, if◌then◌else◌}
 use Rattle.std.specs.Prelude.{Option, Some, None, Result, Ok, Err}
 use Rattle.cell_words.specs.declared.fields.Field.{Field}

@@ -1,4 +1,5 @@
 -- How the results of a replay's calls stand to the definitions.
+-- Source: this project's.
 use Rattle.std.specs.Prelude.{◌≡◌, Bool, true, false, [], Option, Some, None, Result, Ok, Err}
 use Rattle.std.specs.Prelude.{String, string_bytes}
 use Rattle.std.specs.declared.alloc.Global.{Global}

@@ -1,4 +1,5 @@
 -- How the result of the reader stands to the definition: equal, but for want of memory.
+-- Source: this project's.
 use Rattle.std.specs.Prelude.{◌≡◌, Result, Ok, Err}
 use Rattle.core_replay.specs.ScheduleValue.{ScheduleValue}
 use Rattle.core_replay.specs.declared.fault.ScheduleError.{ScheduleError}

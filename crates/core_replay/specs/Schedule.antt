@@ -2,6 +2,7 @@
 --
 -- Each line ends with a line feed, which the last may lack. Lines are numbered from 1, those that
 -- do not count too. Where no line counts, the first is at fault.
+-- Source: this project's.
 use Rattle.std.specs.Prelude.{ℕ, ◌+◌, List, [], ◌∷◌, ◌==◌, Option, Some, None, Result, Ok, Err}
 use Rattle.std.specs.List.{slice_split}
 use Rattle.core_replay.specs.Lines.{reading_of}

@@ -1,4 +1,5 @@
 -- A schedule as contracts see it.
+-- Source: this project's.
 use Rattle.std.specs.Prelude.{Bool, ◌&&◌, List, nat_le}
 use Rattle.core_replay.specs.declared.line.Numbered.{Numbered}
 use Rattle.core_replay.specs.declared.start.Sizes.{Sizes}

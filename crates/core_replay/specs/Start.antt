@@ -1,4 +1,5 @@
 -- The first line of a schedule that counts: the sizes of the core.
+-- Source: this project's.
 use Rattle.std.specs.Prelude.{ℕ, List, [], ◌∷◌, codes, bytes_eq, nat_le, if◌then◌else◌, Result, Ok}
 use Rattle.std.specs.Prelude.{Err}
 use Rattle.line_words.specs.Cut.{word_of, rest_of, next_word_of, next_rest_of}

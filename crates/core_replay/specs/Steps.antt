@@ -1,6 +1,7 @@
 -- The lines of a schedule behind the first: events, and what else a line may ask for.
 --
 -- Words are looked at from the left to the right, and the first at fault counts.
+-- Source: this project's.
 use Rattle.std.specs.Prelude.{ℕ, Bool, true, false, List, [], ◌∷◌, codes, bytes_eq, if◌then◌else◌}
 use Rattle.std.specs.Prelude.{Option, Some, None, Result, Ok, Err, ok_or}
 use Rattle.cell_words.specs.declared.controls.Stage.{Stage}

@@ -1,4 +1,5 @@
 -- What the type of the core keeps.
+-- Source: this project's.
 use Rattle.core_machine.specs.InRange.{InRange}
 use Rattle.core_machine.specs.State.{State}
 use Rattle.dlg_core.specs.Consistent.{IsConsistent}

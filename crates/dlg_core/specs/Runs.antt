@@ -1,4 +1,5 @@
 -- What a list of events does to a state when they are taken one after the other.
+-- Source: this project's.
 use Rattle.std.specs.Prelude.{ℕ, ◌≡◌, ◌<◌, List, [], ◌∷◌, length, take, None, IfSome}
 use Rattle.std.specs.List.{slice_get}
 use Rattle.core_machine.specs.declared.events.Event.{Event}
