@@ -76,7 +76,7 @@ impl MutatorPart {
         ensures part { self.new ≡ record self.old { own = begun self.old.own } }
     {
         self.held.clear();
-        let _ = self.held.push(Held {
+        self.held.push_reserved(Held {
             cell: 0,
             marked: false,
         });
@@ -97,7 +97,7 @@ impl MutatorPart {
     {
         match found {
             Field::Cell(cell) => {
-                let _ = self.held.push(Held {
+                self.held.push_reserved(Held {
                     cell,
                     marked: false,
                 });
@@ -128,7 +128,7 @@ impl MutatorPart {
     {
         match found {
             Colour::Blue => {
-                let _ = self.held.push(Held {
+                self.held.push_reserved(Held {
                     cell,
                     marked: false,
                 });

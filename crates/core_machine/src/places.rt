@@ -136,10 +136,9 @@ fn lengthen(held: &mut Vec<Held>, len: usize)
     ensures capacity { vec_capacity held.old ≤ vec_capacity held.new }
 {
     while held.len() < len {
-        held.push(Held {
+        held.push_reserved(Held {
             cell: 0,
             marked: false,
-        })
-        .unwrap();
+        });
     }
 }

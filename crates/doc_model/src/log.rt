@@ -85,8 +85,6 @@ impl Log {
         ensures entries { self.new.entries ≡ self.old.entries ++ entry ∷ [] }
         ensures spare { self.old.spare ≤ self.new.spare + 1 }
     {
-        if self.entries.push(entry).is_err() {
-            unreachable!();
-        }
+        self.entries.push_reserved(entry);
     }
 }
