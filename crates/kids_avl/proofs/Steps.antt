@@ -126,7 +126,8 @@ pub put_left_done : (m n k : List ℕ) (x y d e : DocTree) (t l r s new even : E
     → t ≡ entry n d l r → IsBalanced t → IsRising (kids_of t) → name_cmp m n ≡ Less
     → IsPut m y l new → y ≡ x → IsEven (entry k e new s) even → k ≡ n → e ≡ d → s ≡ r
     → IsPut m x t even
-put_left_done m n k x y d e t l r s new even whole balanced rising less put child is name kept side =
+put_left_done m n k x y d e t l r s new even whole balanced rising less put child is name kept
+    side =
     rw whole (put_left_step m n x d l r new even (rw whole at balanced) (rw whole at rising) less
     (rw child at put) (rw (name, kept, side) at is))
 

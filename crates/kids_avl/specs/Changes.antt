@@ -1,5 +1,5 @@
--- What a change makes of a tree of entries: the row of its children, that it is balanced, and how far
--- its height moves.
+-- What a change makes of a tree of entries: the row of its children, that it is balanced, and how
+-- far its height moves.
 -- Source: this project's; the bounds on heights are those of Adelson-Velsky and Landis, 1962.
 use Rattle.std.specs.Prelude.{◌≡◌, ℕ, ◌+◌, ◌≤◌, List}
 use Rattle.doc_tree.specs.Tree.{DocTree, kid, put_child, IsRising}

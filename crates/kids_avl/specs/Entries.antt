@@ -1,5 +1,5 @@
--- Entries: the children of a node as a binary tree, each entry with its name and child between those
--- of smaller and those of greater names.
+-- Entries: the children of a node as a binary tree, each entry with its name and child between
+-- those of smaller and those of greater names.
 -- Source: G. M. Adelson-Velsky and E. M. Landis, 1962 (trees balanced by height).
 use Rattle.std.specs.Prelude.{ℕ, zero, suc, ◌+◌, ◌≤◌, List, [], Option, Some, None, max}
 use Rattle.doc_tree.specs.Tree.{DocTree, Kids, no_kids, kid, empty}
