@@ -1,0 +1,6 @@
+pub mod Ends
+pub mod Heights
+pub mod Lists
+pub mod Steps
+pub mod Turns
+pub mod Spots
