@@ -1,3 +1,4 @@
+pub mod Alone
 pub mod Carried
 pub mod Claiming
 pub mod FactsAfter

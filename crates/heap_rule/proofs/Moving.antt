@@ -27,7 +27,7 @@ use Rattle.heap_rule.specs.declared.view.Share.{Share}
 use Rattle.core_machine.specs.Own.{Own, no_own}
 use Rattle.core_machine.specs.State.{State, field_in, field_of, no_presence, null_row, opening}
 use Rattle.core_machine.specs.State.{opening_collector, opening_presence, own_in, presence_in}
-use Rattle.core_machine.specs.State.{room_in}
+use Rattle.core_machine.specs.State.{presence_of, room_in}
 use Rattle.core_machine.specs.Table.{words_of}
 use Rattle.core_machine.specs.Words.{is_raw_kind}
 use Rattle.dlg_core.specs.FirstRows.{are_first_rows, is_first_row, is_sealed_kind}
@@ -48,7 +48,7 @@ use Rattle.heap_rule.specs.Moves.{given_view, joined_view, spent_view, split_vie
 use Rattle.heap_rule.specs.Opening.{FirstTerms, opening_lore, opening_passes, opening_rooms}
 use Rattle.heap_rule.specs.Opening.{opening_view, passes_from}
 use Rattle.heap_rule.specs.Rule.{CollectorFits, Kept, Ledger, MutatorFits, PlaceFits, share_of}
-use Rattle.heap_rule.specs.Rule.{SeatFits, ShareFits, Stands, unsplit}
+use Rattle.heap_rule.specs.Rule.{IsAlone, SeatFits, ShareFits, Stands, unsplit}
 use Rattle.heap_rule.specs.Shape.{IsSound, Shape, start}
 use Rattle.heap_rule.proofs.Carried.{term_moved}
 
@@ -244,9 +244,19 @@ module _ {P : Type 0} (opens : ℕ → ℕ → P) (holds : Map → List P → Ty
             places = refl;
             control = refl;
             part = ap (λ (n : ℕ). opening_collector h.cells n) (length-replicate h.mutators 1);
+            over_fit = length-replicate h.mutators false;
+            over_so = λ i is. let no = sym (same_everywhere h.mutators i false) ∙ is in absurd cc;
+            alone = tt;
             trail = refl;
           }
       one_seat terms (suc j) v there = absurd cc
+
+  -- where the state is known every mutator is over, and so was split off
+  alone_roomed : (alone : Option State) (s : State) (rooms : List ℕ) (i : ℕ)
+      → (presence_of s i).over ≡ false → IsAlone alone s → IsAlone alone (roomed s rooms)
+  alone_roomed None s rooms i not_over is = tt
+  alone_roomed (Some t) s rooms i not_over
+      is = absurd (let no = sym not_over ∙ (is.1 i).1 in cc)
 
   -- Splitting mutator i off, with so many places of room: it had no event, so the run stays one
   -- with another room of it.
@@ -368,6 +378,10 @@ module _ {P : Type 0} (opens : ℕ → ℕ → P) (holds : Map → List P → Ty
         places = ap (λ (ps : List (Place P)). set ps i places.Away) ours.places;
         control = ours.control;
         part = ours.part;
+        over_fit = ours.over_fit;
+        over_so = ours.over_so;
+        alone = alone_roomed v.alone l.core (set l.core.rooms i room) i (sym fits.presence.over)
+            ours.alone;
         trail = ours.trail;
       } in
       let right = given_fits l i room seat k.stands within fits v ours.shape
@@ -455,6 +469,9 @@ module _ {P : Type 0} (opens : ℕ → ℕ → P) (holds : Map → List P → Ty
             ours.places;
         control = ours.control;
         part = ours.part;
+        over_fit = ours.over_fit;
+        over_so = ours.over_so;
+        alone = ours.alone;
         trail = ours.trail;
       } in
       record {

@@ -35,8 +35,12 @@ use Rattle.heap_rule.specs.declared.view.Role.{Role}
 use Rattle.heap_rule.specs.declared.view.Role.TheVariants as role
 use Rattle.heap_rule.specs.declared.view.View.{View}
 use Rattle.heap_rule.specs.Boxes.{Map}
-use Rattle.heap_rule.specs.Laws.{CollectorShows, SeatShows, ShowsRun}
-use Rattle.heap_rule.specs.Rule.{CollectorFits, Kept, Ledger, MutatorFits, SeatFits, Stands}
+use Rattle.heap_rule.specs.Laws.{CollectorShows, Ended, SeatShows, ShareShows, ShowsRun}
+use Rattle.heap_rule.specs.Rule.{CollectorFits, Kept, Ledger, MutatorFits, PlaceFits, SeatFits}
+use Rattle.heap_rule.specs.Rule.{ShareFits, Stands}
+use Rattle.heap_rule.specs.declared.view.Place.{Place}
+use Rattle.heap_rule.specs.declared.view.Place.TheVariants as places
+use Rattle.heap_rule.specs.declared.view.Share.{Share}
 use Rattle.heap_rule.specs.Shape.{Shape, start}
 use Rattle.heap_rule.proofs.Stepping.{core_consistent, core_shaped, opening_shaped}
 
@@ -56,16 +60,21 @@ runs_parted s (t ∷ ts) us runs =
 
 module _ {P : Type 0} (opens : ℕ → ℕ → P) (holding : Map → List P → Type 0) (fixed : ℕ
     → Bool) (h : Shape) where
+  -- a mutator's own part is what its events leave
+  own_along_run : (l : Ledger P) (i : ℕ) → Stands holding fixed h l
+      → own_of l.core i ≡ own_along no_own (trail_of (Some i) l.run)
+  own_along_run l i stands =
+      let rooms = l.core.rooms in
+      let begins : own_of (start h rooms) i ≡ no_own = same_everywhere _ i no_own in
+      ap (λ (s : State). own_of s i) (sym stands.core_is)
+      ∙ own_told (start h rooms) i no_own l.run
+      (opening_shaped holding fixed h l stands) stands.legal begins
+
   seat_shows : (l : Ledger P) (seat : ℕ) (v : View P) → Stands holding fixed h l
       → MutatorFits h l seat v
       → SeatShows l.core l.lore l.passes l.run v
   seat_shows l seat v stands fits =
-      let rooms = l.core.rooms in
-      let begins : own_of (start h rooms) v.number ≡ no_own = same_everywhere _ v.number no_own in
-      let told : own_of l.core v.number ≡ own_along no_own (trail_of (Some v.number) l.run) =
-      ap (λ (s : State). own_of s v.number) (sym stands.core_is)
-      ∙ own_told (start h rooms) v.number no_own l.run
-      (opening_shaped holding fixed h l stands) stands.legal begins in
+      let told = own_along_run l v.number stands in
       record {
         own = fits.share.own;
         inside = sym fits.share.presence.inside;
@@ -118,7 +127,13 @@ module _ {P : Type 0} (opens : ℕ → ℕ → P) (holding : Map → List P → 
   collector_shows : (l : Ledger P) (seat : ℕ) (v : View P) → CollectorFits h l seat v
       → CollectorShows l.core l.run v
   collector_shows l seat v fits =
-      record { control = fits.control; part = fits.part; trail = fits.trail }
+      record {
+        control = fits.control;
+        part = fits.part;
+        trail = fits.trail;
+        over = fits.over_so;
+        alone = fits.alone;
+      }
 
   pub shows_run : {S : Type 0} (s : table.State S (View P)) → Kept opens holding fixed h s
       → ShowsRun holding fixed h s
@@ -155,4 +170,40 @@ module _ {P : Type 0} (opens : ℕ → ℕ → P) (holding : Map → List P → 
         seats = λ j v there is.
             seat_shows l j v k.stands
             (subst (λ (r : Role). SeatFits h l j v r) is (k.each_seat j v there));
+      }
+
+  share_shows : (l : Ledger P) (i : ℕ) (share : Share P) → Stands holding fixed h l
+      → ShareFits l i share → share.presence.over ≡ true
+      → ShareShows l.core l.passes l.run i share
+  share_shows l i share stands fits over = record {
+    own = fits.own;
+    over = sym fits.presence.over ∙ over;
+    pass = fits.pass;
+    trail = fits.trail;
+    told = sym fits.own ∙ own_along_run l i stands
+        ∙ ap (λ (ts : List Taken). own_along no_own ts) fits.trail;
+  }
+
+  pub shows_end : {S : Type 0} (s : table.State S (View P)) (id : ℕ) (v : View P)
+      → Kept opens holding fixed h s
+      → get_elem? s.views id ≡ some v → v.role ≡ role.Collector → (words : List ℕ) → s.words ≡ words
+      → Ended opens holding fixed h S words v
+  unfolding shows_run
+  shows_end s id v k there is words words_are =
+      let l = k.ledger in
+      let ours : CollectorFits h l id v = subst (λ (r : Role). SeatFits h l id v r) is
+      (k.each_seat id v there) in
+      let place : (i : ℕ) (p : Place P) → get_elem? v.places i ≡ some p
+      → PlaceFits opens h l i p
+      = (λ i p at. k.each_place i p
+      (ap (λ (ps : List (Place P)). get_elem? ps i) ours.places ∙ at)) in
+      record {
+        at = s;
+        words_are = words_are;
+        shows = shows_run s k;
+        collector = collector_shows l id v ours;
+        passes_fit = k.stands.passes_fit;
+        joined = λ i share at. let fits = place i (places.Joined share) at in
+            share_shows l i share k.stands fits.0 fits.1;
+        unsplit = λ i at. let fits = place i places.Unsplit at in (fits.trail, fits.pass);
       }

@@ -2,7 +2,7 @@
 use Rattle.std.proofs.Common.{◌⊎◌, ◌≡◌, ◌≢◌, ◌<◌, ◌≤◌, ◌++◌, ℕ, Bool, true, List, [], ◌∷◌, length}
 use Rattle.std.proofs.Common.{get_or, Option, Some, None}
 use Rattle.std.proofs.Common.{inl, inr, refl, sym, ◌∙◌, ap, subst, arith, slice_index, slice_set}
-use Rattle.std.proofs.Common.{length-set}
+use Rattle.std.proofs.Common.{length-set, false, slice_index_or}
 use Rattle.std.proofs.Math.ListN.{set}
 use Rattle.std.proofs.lemmas.Bool.{cases_eq}
 use Rattle.std.proofs.lemmas.List.{get_or-set_same, get_or-set_other}
@@ -31,8 +31,10 @@ use Rattle.core_machine.specs.WordOperations.{IsPackedAs, left_by, operation_of,
 use Rattle.core_machine.proofs.Frames.{as_large, collector_framed, knows_after, knows_else}
 use Rattle.core_machine.proofs.Frames.{mutator_framed, own_else, own_mine, presence_mine}
 use Rattle.core_machine.proofs.OneOperation.{one_operation}
+use Rattle.core_machine.proofs.Ranges.Events.{after_shaped}
 use Rattle.core_machine.proofs.Runs.{last_snoc, runs_shaped, runs_snoc}
 use Rattle.core_machine.proofs.Trails.{trail_else, trail_mine}
+use Rattle.dlg_core.specs.Collects.{IsOver}
 use Rattle.dlg_core.specs.Consistent.{IsConsistent}
 use Rattle.dlg_core.proofs.Along.{every_run_has_words, runs_consistent}
 use Rattle.dlg_core.proofs.Starts.{opening_consistent}
@@ -55,6 +57,8 @@ use Rattle.heap_rule.specs.Rule.{behind, share_of, told, told_collector, took, u
 use Rattle.heap_rule.specs.Shape.{Shape, start}
 use Rattle.heap_rule.specs.Steps.{AtStep, AtCollectorStep, CollectorOwes, Mine, Ours, Owed, Owes}
 use Rattle.heap_rule.specs.Steps.{Shown, StandsBy}
+use Rattle.heap_rule.proofs.Alone.{all_over, alone_after_so, alone_else, over_else, over_found_long}
+use Rattle.heap_rule.proofs.Alone.{over_found_so}
 use Rattle.heap_rule.proofs.FactsAfter.{facts_after}
 use Rattle.heap_rule.proofs.SmallerAfter.{smaller_after}
 
@@ -217,11 +221,11 @@ module _ {P : Type 0} (opens : ℕ → ℕ → P) (holds : Map → List P → Ty
 
   -- another seat's part stays
   seat_else : (l : Ledger P) (e : Event) (seat : ℕ) (v : View P) (passes : List P)
-      → MutatorFits h l seat v → maker e ≡ Some v.number
+      → MutatorFits h l seat v → maker e ≡ Some v.number → can l.core e ≡ true
       → ((j : ℕ) → j ≢ v.number → get_elem? passes j ≡ get_elem? l.passes j)
       → (j : ℕ) (u : View P) (r : Role) → j ≢ seat → SeatFits h l j u r
       → SeatFits h (behind l e passes) j u r
-  seat_else l e seat v passes mine made still j u role.Mutator other fits =
+  seat_else l e seat v passes mine made happens still j u role.Mutator other fits =
       let apart : u.number ≢ v.number = (λ is. other (sym fits.owner ∙ ap l.owner is
       ∙ mine.owner)) in
       record {
@@ -233,7 +237,7 @@ module _ {P : Type 0} (opens : ℕ → ℕ → P) (holds : Map → List P → Ty
             (λ is. apart (let same : Some v.number ≡ Some u.number = sym made
             ∙ is in cc)) (still u.number apart) fits.share;
       }
-  seat_else l e seat v passes mine made still j u role.Collector other fits =
+  seat_else l e seat v passes mine made happens still j u role.Collector other fits =
       let framed = mutator_framed l.core e v.number made in
       record {
         shape = fits.shape;
@@ -241,10 +245,13 @@ module _ {P : Type 0} (opens : ℕ → ℕ → P) (holds : Map → List P → Ty
         places = fits.places;
         control = framed.control ∙ fits.control;
         part = framed.collector ∙ fits.part;
+        over_fit = fits.over_fit;
+        over_so = over_else l.core e u.over happens fits.over_so;
+        alone = alone_else u.alone l.core e v.number made happens fits.alone;
         trail = trail_else None l.run (took e (found_by l.core e)) (λ is. let no = sym made
             ∙ is in cc) ∙ fits.trail;
       }
-  seat_else l e seat v passes mine made still j u role.Spent other fits = tt
+  seat_else l e seat v passes mine made happens still j u role.Spent other fits = tt
 
   place_else : (l : Ledger P) (e : Event) (seat : ℕ) (v : View P) (passes : List P)
       → MutatorFits h l seat v → maker e ≡ Some v.number
@@ -342,7 +349,7 @@ module _ {P : Type 0} (opens : ℕ → ℕ → P) (holds : Map → List P → Ty
                 (λ (r : Role). SeatFits h (behind l e passes) id w r) (sym is) new in
                 subst (λ (n : ℕ). SeatFits h (behind l e passes) n u u.role) (sym here.0)
                 (subst (λ (x : View P). SeatFits h (behind l e passes) id x x.role) here.1 fits)
-            | inr other ↦ seat_else l e id v passes mine made still j u u.role other.0
+            | inr other ↦ seat_else l e id v passes mine made owed.happens still j u u.role other.0
                 (k.each_seat j u other.1)
           ];
         },
@@ -372,6 +379,8 @@ module _ {P : Type 0} (opens : ℕ → ℕ → P) (holds : Map → List P → Ty
     few = subst (λ (x : Shape). x.cells ≤ greatest_cells) (sym fits.shape) stands.sound.few;
     control = fits.control;
     part = fits.part;
+    over = fits.over_so;
+    alone = fits.alone;
   }
 
   seat_beside : (l : Ledger P) (e : Event) (seat : ℕ) (v : View P) → CollectorFits h l seat v
@@ -414,7 +423,11 @@ module _ {P : Type 0} (opens : ℕ → ℕ → P) (holds : Map → List P → Ty
       let owed = owes l.core l.lore knows in
       let shaped = core_shaped holds fixed h l k.stands in
       let found = found_by l.core e in
-      let w = told_collector v e found in
+      let now = after l.core e in
+      let w = told_collector v e found now in
+      let over_so : (i : ℕ) → slice_index_or w.over i false ≡ true → IsOver now i =
+      over_found_so l.core e v.over knows.shown.words made ours.over_so in
+      let over_fit : length w.over ≡ h.mutators = over_found_long v.over e found ∙ ours.over_fit in
       let framed = collector_framed l.core e made in
       let kept : holds (boxes_of (after l.core e) (lore_after l.core l.lore e)) l.passes =
       shrinks (boxes_of l.core l.lore)
@@ -435,6 +448,13 @@ module _ {P : Type 0} (opens : ℕ → ℕ → P) (holds : Map → List P → Ty
             ∙ ap (λ (c : Control). collector_after v.shape.cells c l.core.collector e found)
             ours.control
             ∙ ap (λ (c : Collector). collector_after v.shape.cells v.control c e found) ours.part;
+        over_fit = over_fit;
+        over_so = over_so;
+        alone =
+            let large = as_large l.core e in
+            alone_after_so v.alone w.over l.core e made
+            (all_over now w.over (over_fit ∙ sym (large.mutators ∙ k.stands.mutators)) over_so
+            (after_shaped l.core e shaped owed.happens).mutators_fit.presences_fit) ours.alone;
         trail = trail_mine None l.run (took e found) made
             ∙ ap (λ (ts : List Taken). ts ++ took e found ∷ []) ours.trail;
       } in (

@@ -1,6 +1,7 @@
 -- What the rule of a heap says of any moment between two steps, in words of the table alone.
 -- Source: this project's.
-use Rattle.std.specs.Prelude.{ℕ, ◌⊎◌, ◌≡◌, ◌≢◌, ◌<◌, ◌++◌, Bool, true, List, length, slice_index}
+use Rattle.std.specs.Prelude.{ℕ, ◌⊎◌, ◌≡◌, ◌≢◌, ◌<◌, ◌++◌, Bool, true, List, [], length, slice_index}
+use Rattle.std.specs.Prelude.{false, slice_index_or}
 use Rattle.std.specs.Prelude.{Option, Some, None}
 use mathlib.Core.Option.{some}
 use lib.ListN.{get_elem?}
@@ -16,7 +17,7 @@ use Rattle.core_machine.specs.State.{State, colour_of, own_of, presence_of}
 use Rattle.core_machine.specs.Table.{ColourOf, index_of, words_of}
 use Rattle.core_machine.specs.Trail.{own_along, trail_of}
 use Rattle.core_machine.specs.declared.events.Taken.{Taken}
-use Rattle.dlg_core.specs.Collects.{AreTwoCycles, IsFreedSince, IsGarbage}
+use Rattle.dlg_core.specs.Collects.{AreTwoCycles, IsFreedSince, IsGarbage, IsOver}
 use Rattle.dlg_core.specs.Consistent.{IsConsistent}
 use Rattle.dlg_core.specs.Reachable.{Reachable}
 use Rattle.dlg_core.specs.Runs.{events_of}
@@ -25,7 +26,10 @@ use Rattle.dlg_core.specs.Sums.{IsBalanced, IsClaimed}
 use Rattle.heap_rule.specs.Boxes.{Map, boxes_of}
 use Rattle.heap_rule.specs.Facts.{Facts}
 use Rattle.heap_rule.specs.Lore.{Lore, known_in}
+use Rattle.heap_rule.specs.Rule.{IsAlone}
 use Rattle.heap_rule.specs.declared.view.Role.TheVariants as role
+use Rattle.heap_rule.specs.declared.view.Place.TheVariants as places
+use Rattle.heap_rule.specs.declared.view.Share.{Share}
 use Rattle.heap_rule.specs.declared.view.View.{View}
 use Rattle.heap_rule.specs.Shape.{Shape, start}
 
@@ -42,11 +46,14 @@ module _ {P : Type 0} where
     pub told : v.own ≡ own_along no_own v.trail
     pub reached : v.presence.inside ≡ true → (c : ℕ) → holds v.own.held c ≡ true → Reachable core c
 
-  -- the collector's seat has the control, the collector's part and its trail
+  -- The collector's seat has the control, the collector's part and its trail; who it found over is,
+  -- and where it knows the state it is this one.
   pub record CollectorShows (core : State) (run : List Taken) (v : View P) : Type 0 where
     pub control : core.control ≡ v.control
     pub part : core.collector ≡ v.part
     pub trail : trail_of None run ≡ v.trail
+    pub over : (i : ℕ) → slice_index_or v.over i false ≡ true → IsOver core i
+    pub alone : IsAlone v.alone core
 
   -- The words show a core state, the last one of a run from the opening with each mutator's room;
   -- and what is so of that state and of that run.
@@ -83,3 +90,28 @@ module _ {P : Type 0} where
         → SeatShows core lore passes run v
     pub collector_seats : (j : ℕ) (v : View P) → get_elem? s.views j ≡ some v
         → v.role ≡ role.Collector → CollectorShows core run v
+
+  -- What a mutator left when its seat was joined: it is over, its own part is what its trail leaves,
+  -- and its pass is the last one.
+  pub record ShareShows (core : State) (passes : List P) (run : List Taken) (i : ℕ)
+      (share : Share P) : Type 0 where
+    pub own : own_of core i ≡ share.own
+    pub over : (presence_of core i).over ≡ true
+    pub pass : get_elem? passes i ≡ some share.pass
+    pub trail : trail_of (Some i) run ≡ share.trail
+    pub told : share.own ≡ own_along no_own share.trail
+
+  -- What a heap shows that is closed with the collector's seat: the words at that moment, the run
+  -- that they come from, and the part of each mutator in it.
+  pub record Ended (opens : ℕ → ℕ → P) (holding : Map → List P → Type 0) (fixed : ℕ → Bool)
+      (h : Shape) (S : Type 0) (words : List ℕ) (v : View P) : Type 0 where
+    pub at : table.State S (View P)
+    pub words_are : at.words ≡ words
+    pub shows : ShowsRun holding fixed h at
+    pub collector : CollectorShows shows.core shows.run v
+    pub passes_fit : length shows.passes ≡ h.mutators
+    pub joined : (i : ℕ) (share : Share P) → get_elem? v.places i ≡ some (places.Joined share)
+        → ShareShows shows.core shows.passes shows.run i share
+    -- who was never split off made no event, and has its opening pass
+    pub unsplit : (i : ℕ) → get_elem? v.places i ≡ some places.Unsplit
+        → (trail_of (Some i) shows.run ≡ []) × (get_elem? shows.passes i ≡ some (opens i h.setting))

@@ -1,6 +1,6 @@
 -- The moves of seats that are no events: a mutator is split off the collector's seat, and joined
 -- again. Source: this project's.
-use Rattle.std.specs.Prelude.{ℕ, List, [], slice_set}
+use Rattle.std.specs.Prelude.{ℕ, List, [], slice_set, None}
 use Rattle.core_machine.specs.Own.{no_own}
 use Rattle.core_machine.specs.State.{opening_collector, opening_control, opening_presence}
 use Rattle.heap_rule.specs.declared.view.Place.TheVariants as places
@@ -31,6 +31,8 @@ module _ {P : Type 0} where
     control = opening_control;
     part = v.part;
     places = [];
+    over = [];
+    alone = None;
     trail = [];
   }
 
@@ -52,5 +54,7 @@ module _ {P : Type 0} where
     control = opening_control;
     part = opening_collector 0 0;
     places = [];
+    over = [];
+    alone = None;
     trail = [];
   }

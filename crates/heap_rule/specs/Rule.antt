@@ -6,13 +6,16 @@
 -- stand, and the client's rule stands on the boxes and the passes.
 -- Source: this project's.
 use Rattle.std.specs.Prelude.{ℕ, ◌≡◌, ◌<◌, ◌++◌, Bool, true, List, [], ◌∷◌, length, slice_set}
-use Rattle.std.specs.Prelude.{Option, Some, None}
+use Rattle.std.specs.Prelude.{Option, Some, None, false, slice_index_or}
+use Rattle.std.specs.List.{list_all}
 use mathlib.Core.Option.{some}
 use lib.ListN.{get_elem?}
 use Rattle.atomic_table.specs.Table as table
 use Rattle.cell_words.specs.declared.controls.Control.{Control}
 use Rattle.core_machine.specs.declared.events.Event.{Event}
+use Rattle.core_machine.specs.declared.events.Event.TheVariants as event
 use Rattle.core_machine.specs.declared.events.Found.{Found}
+use Rattle.core_machine.specs.declared.events.Found.TheVariants as finds
 use Rattle.core_machine.specs.declared.events.Taken.{Taken}
 use Rattle.core_machine.specs.Collector.{collector_after, control_after}
 use Rattle.core_machine.specs.Frames.{Knows}
@@ -22,6 +25,7 @@ use Rattle.core_machine.specs.Run.{Runs, last}
 use Rattle.core_machine.specs.State.{State, opening_presence, own_of, presence_of, room_of}
 use Rattle.core_machine.specs.Table.{words_of}
 use Rattle.core_machine.specs.Trail.{trail_of}
+use Rattle.dlg_core.specs.Collects.{AreOver, IsOver}
 use Rattle.heap_rule.specs.declared.known.Known.{Known}
 use Rattle.heap_rule.specs.declared.known.Learned.{Learned}
 use Rattle.heap_rule.specs.declared.view.Place.{Place}
@@ -51,6 +55,45 @@ pub record Ledger (P : Type 0) : Type 0 where
 -- an event with what it found
 abbrev pub took : Event → Found → Taken
 took e found = record { event = e; found = found }
+
+-- What the collector learns of mutators that are over. A mutator that is over does no more, so who
+-- found them all over knows the state, and its own events alone change it.
+
+-- which mutators were found over
+abbrev pub over_met : List Bool → ℕ → Bool → List Bool
+over_met over i true = slice_set over i true
+over_met over i false = over
+
+abbrev pub over_by : List Bool → ℕ → Found → List Bool
+over_by over i (finds.Presence found) = over_met over i found.over
+over_by over i _ = over
+
+abbrev pub over_found : List Bool → Event → Found → List Bool
+over_found over (event.Poll i) found = over_by over i found
+over_found over (event.AnswerOut i flag) found = over_by over i found
+over_found over _ found = over
+
+-- the state behind an event, where it was known before, and where all were found over
+abbrev pub alone_on : Option State → Event → Option State
+alone_on None e = None
+alone_on (Some s) e = Some (after s e)
+
+abbrev pub alone_met : Option State → Bool → Event → State → Option State
+alone_met None false e now = None
+alone_met None true e now = Some now
+alone_met (Some s) all e now = Some (after s e)
+
+abbrev pub alone_after : Option State → List Bool → Event → State → Option State
+alone_after alone over (event.Poll i) now =
+    alone_met alone (list_all (λ found. found) over) (event.Poll i) now
+alone_after alone over (event.AnswerOut i flag) now =
+    alone_met alone (list_all (λ found. found) over) (event.AnswerOut i flag) now
+alone_after alone over e now = alone_on alone e
+
+-- what is known is the state, and every mutator is over
+abbrev pub IsAlone : Option State → State → Type 0
+IsAlone None core = Unit {0}
+IsAlone (Some s) core = (s ≡ core) × AreOver core
 
 module _ {P : Type 0} where
   -- of the heap alone, whoever has a seat
@@ -115,6 +158,9 @@ module _ {P : Type 0} where
     pub places : l.places ≡ v.places
     pub control : l.core.control ≡ v.control
     pub part : l.core.collector ≡ v.part
+    pub over_fit : length v.over ≡ h.mutators
+    pub over_so : (i : ℕ) → slice_index_or v.over i false ≡ true → IsOver l.core i
+    pub alone : IsAlone v.alone l.core
     pub trail : trail_of None l.run ≡ v.trail
 
   abbrev pub SeatFits : Shape → Ledger P → ℕ → View P → Role → Type 0
@@ -145,11 +191,13 @@ module _ {P : Type 0} where
     trail = v.trail ++ took e found ∷ [];
   }
 
-  -- the collector's
-  abbrev pub told_collector : View P → Event → Found → View P
-  told_collector v e found = record v {
+  -- the collector's, with the state behind the event, which it learns where all were found over
+  abbrev pub told_collector : View P → Event → Found → State → View P
+  told_collector v e found now = record v {
     control = control_after v.control e;
     part = collector_after v.shape.cells v.control v.part e found;
+    over = over_found v.over e found;
+    alone = alone_after v.alone (over_found v.over e found) e now;
     trail = v.trail ++ took e found ∷ [];
   }
 

@@ -1,7 +1,8 @@
 -- One step of a seat: what the seat knows when it makes it, what its maker owes, what the client's
 -- rule asks, and what the step tells.
 -- Source: this project's.
-use Rattle.std.specs.Prelude.{ℕ, ◌≡◌, ◌<◌, ◌≤◌, Bool, true, List, slice_set, None}
+use Rattle.std.specs.Prelude.{ℕ, ◌≡◌, ◌<◌, ◌≤◌, Bool, true, false, List, slice_set, slice_index_or}
+use Rattle.std.specs.Prelude.{None}
 use mathlib.Core.Option.{some}
 use lib.ListN.{get_elem?}
 use Rattle.core_machine.specs.declared.events.Event.{Event}
@@ -12,13 +13,14 @@ use Rattle.core_machine.specs.Next.{after, can, found_by}
 use Rattle.core_machine.specs.State.{State, greatest_cells, own_of, presence_of, room_of}
 use Rattle.core_machine.specs.Table.{index_of}
 use Rattle.core_machine.specs.WordOperations.{IsPackedAs, left_by, operation_of, word_of}
+use Rattle.dlg_core.specs.Collects.{IsOver}
 use Rattle.dlg_core.specs.Consistent.{IsConsistent}
 use Rattle.heap_rule.specs.declared.known.Learned.{Learned}
 use Rattle.heap_rule.specs.declared.view.View.{View}
 use Rattle.heap_rule.specs.Boxes.{Map, boxes_by, boxes_of}
 use Rattle.heap_rule.specs.Facts.{Facts, Proper}
 use Rattle.heap_rule.specs.Lore.{Lore, known_in, learned, lore_after}
-use Rattle.heap_rule.specs.Rule.{told, told_collector}
+use Rattle.heap_rule.specs.Rule.{IsAlone, told, told_collector}
 
 -- What stands of every state that a table shows.
 pub record Shown (fixed : ℕ → Bool) (s : State) (l : Lore) : Type 0 where
@@ -58,6 +60,9 @@ module _ {P : Type 0} where
     pub few : v.shape.cells ≤ greatest_cells
     pub control : s.control ≡ v.control
     pub part : s.collector ≡ v.part
+    -- who was found over is, and where the state is known it is this one
+    pub over : (i : ℕ) → slice_index_or v.over i false ≡ true → IsOver s i
+    pub alone : IsAlone v.alone s
 
   abbrev pub Owes : (ℕ → Bool) → View P → Event → ℕ → (ℕ → ℕ) → (ℕ → ℕ) → Type 0
   Owes fixed v e word f g = (s : State) (l : Lore) → Mine fixed v s l → Owed fixed s l e word f g
@@ -100,7 +105,7 @@ module _ {P : Type 0} where
     pub ours : Ours fixed v core lore
     pub happens : can core e ≡ true
     pub says : IsPackedAs (found_by core e) number
-    pub new : w ≡ told_collector v e (found_by core e)
+    pub new : w ≡ told_collector v e (found_by core e) (after core e)
 
   -- What a client shows where it picks its pass: that its rule stands on the boxes that the event
   -- would leave if nothing became unreachable. Its own law does the rest.

@@ -21,4 +21,5 @@ mod view;
 pub use keeping::{Keeping, NoRule};
 pub use known::{Known, Learned};
 pub use shape::HeapShape;
+pub use std::alloc::AllocError as NoMemory;
 pub use view::{Place, Role, Share, View};

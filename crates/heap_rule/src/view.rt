@@ -1,7 +1,7 @@
 use crate::known::Known;
 use crate::shape::HeapShape;
 use cell_words::{Control, Presence};
-use core_machine::{CollectorPart, OwnPart, Taken};
+use core_machine::{CollectorPart, Machine, OwnPart, Taken};
 use std::collections::LinkedList;
 
 /// Whose seat it is.
@@ -49,6 +49,11 @@ pub struct View<P> {
     pub control: Control,
     pub part: CollectorPart,
     pub places: LinkedList<Place<P>>,
+
+    /// the collector's: by mutator, whether it was found over; and the core state, once all were,
+    /// since from then on no event but the collector's own changes it
+    pub over: LinkedList<bool>,
+    pub alone: Option<Machine>,
 
     /// the seat's own events, with what they found
     pub trail: LinkedList<Taken>,

@@ -1,0 +1,28 @@
+use Rattle.std.proofs.Common.{◌≡◌, ◌<◌, ◌∙◌, ap, subst, sym, ℕ}
+use Rattle.core_machine.specs.WordOperations.{left_by, Store}
+use Rattle.heap_rule.specs.declared.view.View.{View}
+use Rattle.heap_rule.specs.Asks.{told_by}
+use Rattle.heap_rule.specs.Steps.{CollectorOwes}
+use Rattle.heap_rule.proofs.Stepping.{collector_step}
+use Rattle.heap_table.specs.Seats.{HeapId, SeatView, words_many}
+use Rattle.heap_table.proofs.heap.CellHeap.collector_store.Goals as goal
+
+pub store-requires : goal.store-requires
+store-requires g c =
+    let shared = c.self.inside.table.shared in
+    let raw = c.seat.inside.seat in
+    let me : raw.me.0 ≡ c.args.seat.now.me = ap (λ (s : SeatView _). s.me) c.seat.view_is in
+    let at : raw.table_id ≡ shared.table_id = ap (λ (s : SeatView _). s.table) c.seat.view_is
+    ∙ c.requires.seat.0 ∙ ap (λ (h : HeapId). h.table) (sym c.self.view_is) in
+    let many : words_many c.args.self.now.shape ≡ words_many shared.key =
+    ap (λ (h : HeapId). words_many h.shape) (sym c.self.view_is) in (
+      at,
+      subst (λ (n : ℕ). c.args.word < n) (many ∙ sym c.self.invariant.words) c.requires.word,
+      collector_step g.P.Keeping.opening g.P.Keeping.holds g.P.Keeping.fixed shared.key
+          g.P.Keeping.shrinks shared.table_id.slots raw.id raw.me g.E.Intent.event c.args.word
+          (left_by (Store c.args.new)) (told_by (Store c.args.new))
+          (ap (λ (v : View _). v.role) me ∙ c.requires.seat.1)
+          c.requires.made
+          (subst (λ (v : View _). CollectorOwes g.P.Keeping.fixed v g.E.Intent.event c.args.word
+          (left_by (Store c.args.new)) (told_by (Store c.args.new))) (sym me) c.requires.kind),
+    )

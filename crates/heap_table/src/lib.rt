@@ -1,0 +1,23 @@
+//! A collected heap as the words of an atomic table, and the steps of its seats.
+//!
+//! A step is one atomic operation on one word. Its caller says which event it means by it and shows
+//! that its seat may make this event; the step then tells the state in which it happened, and the
+//! seat's view behind it is the view before with this event told.
+//!
+//! The seats' calls, a call an event, stand above: `mutator_events` and `collector_events`.
+//!
+//! Reading order: `rule`, `heap`, `steps`, `mutator_operations`, `collector_operations`.
+#![tactic(auto)]
+
+mod collector_operations;
+mod heap;
+mod moves;
+mod mutator_operations;
+mod rule;
+mod steps;
+
+pub use heap::{CellHeap, HeapSeat};
+pub use heap_rule::NoMemory;
+pub use moves::{Departing, Departure, Returning};
+pub use rule::HeapRule;
+pub use steps::{CollectorStep, Intent, MutatorStep};
