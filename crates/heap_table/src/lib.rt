@@ -13,6 +13,7 @@ mod collector_operations;
 mod heap;
 mod moves;
 mod mutator_operations;
+mod opening;
 mod rule;
 mod steps;
 
