@@ -9,6 +9,7 @@
 //! Reading order: `rule`, `heap`, `steps`, `mutator_operations`, `collector_operations`.
 #![tactic(auto)]
 
+mod closing;
 mod collector_operations;
 mod heap;
 mod moves;
@@ -16,7 +17,9 @@ mod mutator_operations;
 mod opening;
 mod rule;
 mod steps;
+pub mod words;
 
+pub use closing::{Image, Passes};
 pub use heap::{CellHeap, HeapSeat};
 pub use heap_rule::NoMemory;
 pub use moves::{Departing, Departure, Returning};
