@@ -1,19 +1,19 @@
 -- What an event that leaves a cell alone leaves of the facts on it.
-use Rattle.std.proofs.Common.{◌≡◌, ◌<◌, ℕ, Bool, true, false, List, [], ◌∷◌, length, get_or}
-use Rattle.std.proofs.Common.{Option, Some, None, refl, sym, ◌∙◌, ap, subst, arith}
+use Rattle.std.proofs.Common.{◌≡◌, ◌<◌, ℕ, Bool, true, false, List}
+use Rattle.std.proofs.Common.{Option, Some, refl, sym, ◌∙◌, ap, subst, arith}
 use Rattle.cell_words.specs.declared.fields.Field.{Field}
 use Rattle.cell_words.specs.declared.fields.Field.TheVariants as field
 use Rattle.cell_words.specs.Term.{Term, five}
-use Rattle.core_machine.specs.State.{State, field_of, held_of, presence_of}
+use Rattle.core_machine.specs.State.{State, field_of, held_of}
 use Rattle.core_machine.specs.Words.{is_box_kind, is_raw_kind}
 use Rattle.dlg_core.specs.Consistent.{IsConsistent}
-use Rattle.dlg_core.specs.Reachable.{Reachable, Reach, anchor, held, named}
+use Rattle.dlg_core.specs.Reachable.{Reachable, anchor}
 use Rattle.dlg_core.proofs.Computes.{into}
 use Rattle.heap_rule.specs.declared.known.Known.{Known}
 use Rattle.heap_rule.specs.declared.known.Known.TheVariants as knows
-use Rattle.heap_rule.specs.Facts.{AllKnown, Facts, FreshFits, IsPlain, IsKnown, TermFits}
+use Rattle.heap_rule.specs.Facts.{AllKnown, Facts, IsPlain, IsKnown, TermFits}
 use Rattle.heap_rule.specs.Facts.{is_record_kind}
-use Rattle.heap_rule.specs.Knowledge.{ArePayload, AreTold, KnownAt}
+use Rattle.heap_rule.specs.Knowledge.{KnownAt}
 use Rattle.heap_rule.specs.Lore.{Lore, Terms, cells_of, entry_of, five_of, has, known_in, term_of}
 use Rattle.heap_rule.proofs.Lists.{all_known, has_holds, reached_held}
 

@@ -1,8 +1,8 @@
 -- The facts on lore after Claim: a cell that nobody reached is reachable now, raw and fresh for its
 -- maker; of every other nothing changes.
-use Rattle.std.proofs.Common.{◌⊎◌, ◌≡◌, ◌≢◌, ◌<◌, ◌==◌, ◌||◌, ℕ, zero, suc, Bool, true, false, List}
+use Rattle.std.proofs.Common.{◌⊎◌, ◌≡◌, ◌≢◌, ◌<◌, ℕ, zero, suc, Bool, true, List}
 use Rattle.std.proofs.Common.{[], ◌∷◌, ◌++◌}
-use Rattle.std.proofs.Common.{length, get_or, slice_index_or, Option, Some, None, inl, inr, refl}
+use Rattle.std.proofs.Common.{length, slice_index_or, Option, Some, None, inl, inr, refl}
 use Rattle.std.proofs.Common.{sym, ◌∙◌, ap, subst, arith}
 use Rattle.std.proofs.Common.{if◌then◌else◌, length-set}
 use Rattle.std.proofs.Math.ListN.{set}
@@ -22,7 +22,7 @@ use Rattle.core_machine.specs.State.{State, colour_of, field_in, field_of, held_
 use Rattle.core_machine.specs.Words.{is_raw_kind}
 use Rattle.core_machine.proofs.Conditions.{claim_needs}
 use Rattle.dlg_core.specs.Consistent.{IsConsistent}
-use Rattle.dlg_core.specs.Reachable.{Reachable, Reach, anchor, named}
+use Rattle.dlg_core.specs.Reachable.{Reachable, anchor, named}
 use Rattle.dlg_core.proofs.Computes.{into}
 use Rattle.core_machine.proofs.OneOperation.{inside_there}
 use Rattle.dlg_core.proofs.Safety.{consistent_safe}

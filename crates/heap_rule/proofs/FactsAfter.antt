@@ -1,5 +1,5 @@
 -- The facts on lore stay with every event, by kinds.
-use Rattle.std.proofs.Common.{◌≡◌, ℕ, Bool, true, List, refl, sym, subst}
+use Rattle.std.proofs.Common.{◌≡◌, ℕ, Bool, true, refl, sym, subst}
 use Rattle.core_machine.specs.declared.events.Event.{Event}
 use Rattle.core_machine.specs.declared.events.Event.TheVariants as event
 use Rattle.core_machine.specs.InRange.{IsShaped}

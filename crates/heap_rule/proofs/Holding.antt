@@ -1,6 +1,6 @@
 -- The facts on lore after Begin, Keep and End: the maker holds the anchor alone, or fewer cells.
-use Rattle.std.proofs.Common.{◌≡◌, ◌≢◌, ◌<◌, ◌==◌, ℕ, zero, suc, Bool, true, false, List, [], ◌∷◌}
-use Rattle.std.proofs.Common.{◌++◌, map, length, get_or, take, drop}
+use Rattle.std.proofs.Common.{◌≡◌, ◌<◌, ◌==◌, ℕ, zero, suc, Bool, true, false, List, [], ◌∷◌}
+use Rattle.std.proofs.Common.{◌++◌, length, take, drop}
 use Rattle.std.proofs.Common.{not, arith, Option, Some, None, inl, inr, refl, sym, ◌∙◌, ap, subst}
 use Rattle.std.proofs.Common.{if◌then◌else◌, eq-eqb}
 use Rattle.std.proofs.Math.ListN.{set}
@@ -8,17 +8,16 @@ use Rattle.std.proofs.lemmas.Bool.{and_parts, or_cases, cases_eq, ne_eqb, eqb-tr
 use Rattle.std.proofs.lemmas.List.{map-append}
 use Rattle.cell_words.specs.declared.fields.Field.{Field}
 use Rattle.cell_words.specs.declared.fields.Field.TheVariants as field
-use Rattle.core_machine.specs.declared.events.Event.{Event}
 use Rattle.core_machine.specs.declared.events.Event.TheVariants as event
 use Rattle.core_machine.specs.declared.places.Held.{Held}
 use Rattle.core_machine.specs.InRange.{IsShaped}
 use Rattle.core_machine.specs.Next.{can, after}
-use Rattle.core_machine.specs.Operations.{is_in, may_begin}
+use Rattle.core_machine.specs.Operations.{is_in}
 use Rattle.core_machine.specs.Own.{Own, begun, ended, keeping}
-use Rattle.core_machine.specs.Places.{holds, kept}
+use Rattle.core_machine.specs.Places.{kept}
 use Rattle.core_machine.specs.State.{State, field_in, field_of, held_of, own_of, presence_of}
 use Rattle.dlg_core.specs.Consistent.{IsConsistent}
-use Rattle.dlg_core.specs.Reachable.{Reachable, Reach, anchor, held, named}
+use Rattle.dlg_core.specs.Reachable.{Reachable, anchor, held, named}
 use Rattle.dlg_core.proofs.HeldLists.{holds_kept}
 use Rattle.core_machine.proofs.Conditions.{keep_needs}
 use Rattle.core_machine.proofs.OneOperation.{beginner_there, inside_there}
@@ -26,7 +25,7 @@ use Rattle.dlg_core.proofs.Step.{consistent_after}
 use Rattle.heap_rule.specs.declared.known.Known.{Known}
 use Rattle.heap_rule.specs.declared.known.Known.TheVariants as knows
 use Rattle.heap_rule.specs.Facts.{AllKnown, Facts, IsKnown}
-use Rattle.heap_rule.specs.Lore.{Fresh, Lore, cells_in, cells_of, fresh_held, fresh_still, has}
+use Rattle.heap_rule.specs.Lore.{Lore, cells_in, cells_of, fresh_held, fresh_still, has}
 use Rattle.heap_rule.specs.Lore.{known_in, lore_after}
 use Rattle.heap_rule.proofs.Carried.{SameAt, knows_on}
 use Rattle.heap_rule.proofs.Lists.{all_append, all_drop, all_known, all_take, has_holds}

@@ -8,10 +8,10 @@ use Rattle.std.proofs.lemmas.Bool.{cases_eq, ne_eqb}
 use Rattle.std.proofs.lemmas.List.Folds.{list_any_at}
 use Rattle.core_machine.specs.declared.places.Held.{Held}
 use Rattle.core_machine.specs.Places.{holds}
-use Rattle.core_machine.specs.State.{State, presence_of, held_of, own_in}
+use Rattle.core_machine.specs.State.{State, presence_of, held_of}
 use Rattle.dlg_core.proofs.Truths.{or_here, or_later}
 use Rattle.dlg_core.specs.Consistent.{IsConsistent}
-use Rattle.dlg_core.specs.Reachable.{Reachable, Reach, anchor, held, named}
+use Rattle.dlg_core.specs.Reachable.{Reachable, held}
 use Rattle.heap_rule.specs.declared.known.Known.{Known}
 use Rattle.heap_rule.specs.Facts.{AllKnown}
 use Rattle.heap_rule.specs.Lore.{cells_of, has, at_cell, known_at}

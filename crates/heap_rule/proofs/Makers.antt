@@ -1,22 +1,20 @@
 -- Events that change which cells their maker holds and what it knows, and no reachable cell.
-use Rattle.std.proofs.Common.{◌≡◌, ◌≢◌, ◌<◌, ℕ, Bool, true, false, List, [], ◌∷◌, map, length}
-use Rattle.std.proofs.Common.{get_or}
-use Rattle.std.proofs.Common.{Option, Some, None, inl, inr, refl, sym, ◌∙◌, ap, subst, length-set}
+use Rattle.std.proofs.Common.{◌≡◌, ◌≢◌, ◌<◌, ℕ, Bool, true, List, [], length}
+use Rattle.std.proofs.Common.{Some, inl, inr, refl, sym, ◌∙◌, ap, subst, length-set}
 use Rattle.std.proofs.Math.ListN.{set}
 use Rattle.std.proofs.lemmas.Bool.{cases_eq}
 use Rattle.std.proofs.lemmas.List.{get_or-set_same, get_or-set_other}
 use Rattle.cell_words.specs.declared.fields.Field.{Field}
-use Rattle.cell_words.specs.declared.fields.Field.TheVariants as field
 use Rattle.core_machine.specs.Own.{Own, no_own}
 use Rattle.core_machine.specs.Words.{is_raw_kind}
-use Rattle.core_machine.specs.State.{State, field_in, field_of, held_of, own_in}
+use Rattle.core_machine.specs.State.{State, field_in, own_in}
 use Rattle.dlg_core.specs.Consistent.{IsConsistent}
-use Rattle.dlg_core.specs.Reachable.{Reachable, Reach, anchor, held, named}
+use Rattle.dlg_core.specs.Reachable.{Reachable, anchor, named}
 use Rattle.heap_rule.specs.declared.known.Known.{Known}
 use Rattle.heap_rule.specs.Facts.{AllKnown, Facts, IsKnown}
 use Rattle.heap_rule.specs.Lore.{Lore, cells_in, cells_of, has, known_in}
 use Rattle.heap_rule.proofs.Carried.{SameAt, back_from, fits_on, knows_on}
-use Rattle.heap_rule.proofs.Lists.{all_known, has_holds, reached_held}
+use Rattle.heap_rule.proofs.Lists.{all_known, reached_held}
 
 -- mutator i has another own part behind the event, and every other the one that it had
 module _ (s t : State) (i : ℕ) (own : Own) (owns : t.owns ≡ set s.owns i own) where

@@ -1,6 +1,6 @@
 -- Which boxes a map has, and when one map is smaller than another.
-use Rattle.std.proofs.Common.{◌≡◌, ◌<◌, ◌&&◌, ℕ, Bool, true, false, Option, Some, None, is_none}
-use Rattle.std.proofs.Common.{refl, sym, ◌∙◌, ap, subst}
+use Rattle.std.proofs.Common.{◌≡◌, ◌&&◌, ℕ, Bool, true, false, Option, Some, None, is_none}
+use Rattle.std.proofs.Common.{refl, sym, ◌∙◌, ap}
 use Rattle.std.proofs.lemmas.Bool.{and_parts, and_from}
 use Rattle.cell_words.specs.declared.fields.Field.{Field}
 use Rattle.cell_words.specs.declared.fields.Field.TheVariants as field
@@ -12,7 +12,7 @@ use Rattle.dlg_core.proofs.Computes.{reach-complete, reach-sound}
 use Rattle.heap_rule.specs.Boxes.{Map, Payload, Smaller, boxes_of, is_shown, payload_of}
 use Rattle.heap_rule.specs.Boxes.{where_shown}
 use Rattle.heap_rule.specs.Facts.{Facts}
-use Rattle.heap_rule.specs.Lore.{Entry, Plain, Named, Lore, Terms, entry_of, named_or}
+use Rattle.heap_rule.specs.Lore.{Entry, Named, Lore, Terms, entry_of, named_or}
 use Rattle.heap_rule.proofs.Carried.{SameAt}
 
 -- the map has the cell

@@ -1,12 +1,12 @@
 -- The rule at the opening, and that splitting a mutator off and joining it keep it.
-use Rattle.std.proofs.Common.{◌⊎◌, ◌≡◌, ◌≢◌, ◌<◌, ◌≤◌, ◌+◌, ◌-◌, ◌==◌, ℕ, zero, suc, Bool, true}
+use Rattle.std.proofs.Common.{◌⊎◌, ◌≡◌, ◌≢◌, ◌<◌, ◌+◌, ◌-◌, ◌==◌, ℕ, zero, suc, Bool, true}
 use Rattle.std.proofs.Common.{false, List, [], ◌∷◌, ◌++◌, length}
 use Rattle.std.proofs.Common.{Option, Some, None, inl, inr, refl, sym, ◌∙◌, ap, subst, arith}
-use Rattle.std.proofs.Common.{if◌then◌else◌, replicate, get_or, cond, length-set}
+use Rattle.std.proofs.Common.{if◌then◌else◌, replicate, get_or}
 use Rattle.std.proofs.Math.ListN.{set}
-use Rattle.std.proofs.lemmas.Bool.{and_parts, cases_eq, cases_lt, eq-eqb, ne_eqb}
+use Rattle.std.proofs.lemmas.Bool.{and_parts, cases_lt, eq-eqb, ne_eqb}
 use Rattle.std.proofs.lemmas.List.{get_or-set_same, get_or-set_other, get_or_past, length-replicate}
-use mathlib.Core.Option.{some, none}
+use mathlib.Core.Option.{some}
 use lib.ListN.{get_elem?}
 use Rattle.atomic_table.specs.Table as table
 use Rattle.atomic_table.proofs.Lists.{at_set, set_here}
@@ -14,7 +14,6 @@ use Rattle.atomic_table.proofs.Lists as lists
 use Rattle.cell_words.specs.declared.colours.Colour.TheVariants as colour
 use Rattle.cell_words.specs.declared.fields.Field.{Field}
 use Rattle.cell_words.specs.declared.fields.Field.TheVariants as field
-use Rattle.core_machine.specs.declared.places.Held.{Held}
 use Rattle.cell_words.specs.declared.presences.Presence.{Presence}
 use Rattle.core_machine.specs.declared.events.Taken.{Taken}
 use Rattle.core_machine.specs.Frames.{Knows}
@@ -25,12 +24,12 @@ use Rattle.core_machine.proofs.Frames.{as_large}
 use Rattle.core_machine.proofs.Rooms.{last_roomed, opening_roomed, runs_roomed}
 use Rattle.heap_rule.specs.declared.view.Share.{Share}
 use Rattle.core_machine.specs.Own.{Own, no_own}
-use Rattle.core_machine.specs.State.{State, field_in, field_of, no_presence, null_row, opening}
-use Rattle.core_machine.specs.State.{opening_collector, opening_presence, own_in, presence_in}
+use Rattle.core_machine.specs.State.{State, field_in, field_of, no_presence, null_row}
+use Rattle.core_machine.specs.State.{opening_collector, opening_presence, own_in}
 use Rattle.core_machine.specs.State.{presence_of, room_in}
 use Rattle.core_machine.specs.Table.{words_of}
 use Rattle.core_machine.specs.Words.{is_raw_kind}
-use Rattle.dlg_core.specs.FirstRows.{are_first_rows, is_first_row, is_sealed_kind}
+use Rattle.dlg_core.specs.FirstRows.{are_first_rows, is_first_row}
 use Rattle.dlg_core.specs.Reachable.{Reachable}
 use Rattle.dlg_core.proofs.Safety.{consistent_safe}
 use Rattle.dlg_core.proofs.Starts.{back_of, front_of, in_replicate, null_behind, one_of_list}
@@ -43,7 +42,7 @@ use Rattle.heap_rule.specs.declared.view.Role.TheVariants as role
 use Rattle.heap_rule.specs.declared.view.View.{View}
 use Rattle.heap_rule.specs.Boxes.{Map, boxes_of}
 use Rattle.heap_rule.specs.Facts.{AllKnown, Facts, IsKnown, TermFits, is_record_kind}
-use Rattle.heap_rule.specs.Lore.{Lore, Terms, cells_in, cells_of, entry_of, has, known_in}
+use Rattle.heap_rule.specs.Lore.{Terms, cells_in, cells_of, entry_of, known_in}
 use Rattle.heap_rule.specs.Moves.{given_view, joined_view, spent_view, split_view}
 use Rattle.heap_rule.specs.Opening.{FirstTerms, opening_lore, opening_passes, opening_rooms}
 use Rattle.heap_rule.specs.Opening.{opening_view, passes_from}

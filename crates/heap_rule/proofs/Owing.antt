@@ -1,28 +1,22 @@
 -- What a seat knows gives what its event owes: that it can happen, which word it is, and what its
 -- operation leaves there.
-use Rattle.std.proofs.Common.{◌≡◌, ◌≢◌, ◌<◌, ◌≤◌, ◌+◌, ◌==◌, ◌&&◌, ◌||◌, ℕ, Bool, true, false, not}
+use Rattle.std.proofs.Common.{◌≡◌, ◌<◌, ◌≤◌, ◌+◌, ◌==◌, ◌&&◌, ◌||◌, ℕ, Bool, true, false, not}
 use Rattle.std.proofs.Common.{List, [], ◌∷◌, length}
-use Rattle.std.proofs.Common.{Option, Some, None, inl, inr, refl, sym, ◌∙◌, ap, subst, arith}
-use Rattle.std.proofs.Common.{slice_index_or, get_or, nat_lt, nat_le, is_some}
+use Rattle.std.proofs.Common.{None, inl, inr, refl, sym, ◌∙◌, ap, subst, arith}
+use Rattle.std.proofs.Common.{nat_lt, nat_le, is_some}
 use Rattle.std.proofs.lemmas.Bool.{and_parts, and_from, or_cases, eqb-true, lt-ltb, le-leb}
 use Rattle.cell_words.specs.Presence.{pack_presence_of}
-use Rattle.cell_words.specs.declared.controls.Control.{Control}
-use Rattle.cell_words.specs.declared.controls.Stage.{Stage}
 use Rattle.cell_words.specs.declared.controls.Stage.TheVariants as stage
 use Rattle.cell_words.specs.declared.colours.Colour.{Colour}
 use Rattle.cell_words.specs.declared.colours.Colour.TheVariants as colour
 use Rattle.core_machine.specs.declared.events.Event.{Event}
 use Rattle.core_machine.specs.declared.events.Event.TheVariants as event
-use Rattle.core_machine.specs.declared.progress.Sweeping.{Sweeping}
 use Rattle.core_machine.specs.declared.progress.Sweeping.TheVariants as sweeping
-use Rattle.core_machine.specs.Collector.{Collector}
-use Rattle.core_machine.specs.InRange.{IsShaped}
 use Rattle.core_machine.specs.Next.{can, found_by, maker}
 use Rattle.core_machine.specs.State.{State, colour_of}
-use Rattle.core_machine.specs.Sweep.{is_fresh}
 use Rattle.core_machine.specs.Table.{Word, index_of}
 use Rattle.core_machine.specs.WordOperations.{IsPackedAs, Operation, left_by, operation_of, word_of}
-use Rattle.core_machine.specs.Words.{is_gray, same_stage}
+use Rattle.core_machine.specs.Words.{is_gray}
 use Rattle.core_machine.proofs.Conditions.{fresh_is, same_stage_is}
 use Rattle.dlg_core.specs.Consistent.{IsConsistent}
 use Rattle.dlg_core.proofs.Changes.Shade.{here_unswept}
@@ -56,7 +50,7 @@ use Rattle.dlg_core.proofs.Truths.{box_not_raw}
 use Rattle.heap_rule.specs.declared.known.Known.{Known}
 use Rattle.heap_rule.specs.declared.known.Known.TheVariants as knows
 use Rattle.heap_rule.specs.declared.view.View.{View}
-use Rattle.heap_rule.specs.Asks.{Asks, CollectorAsks, IsBox, IsRaw, IsSealedValue, KnowsTerms}
+use Rattle.heap_rule.specs.Asks.{CollectorAsks, IsBox, IsRaw, IsSealedValue, KnowsTerms}
 use Rattle.heap_rule.specs.Asks.{MayAnswer, MayClaim, MayComeIn}
 use Rattle.heap_rule.specs.Asks.{MayFill, MayKeep, MayMark, MayRead, MaySeal, MayWrite}
 use Rattle.heap_rule.specs.Asks.{collector_state, is_sealed, known_of}
@@ -64,7 +58,7 @@ use Rattle.heap_rule.specs.Asks.{known_state, knows_sealed, raw_fields, target, 
 use Rattle.heap_rule.specs.Facts.{AllKnown, IsKnown, IsTermKnown, Proper, SealsTerms}
 use Rattle.heap_rule.specs.Knowledge.{ArePayload}
 use Rattle.heap_rule.specs.Lore.{Lore, cells_in, cells_of, known_in}
-use Rattle.heap_rule.specs.Steps.{Mine, Ours, Owed}
+use Rattle.heap_rule.specs.Steps.{Mine, Owed}
 use Rattle.heap_rule.proofs.Lists.{all_at}
 use Rattle.heap_rule.proofs.Reading.{cell_there}
 use Rattle.std.proofs.lemmas.List.{length-map}

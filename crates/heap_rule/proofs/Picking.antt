@@ -1,8 +1,6 @@
 -- The client's rule behind a step of a mutator: by its own law, from the boxes that the event would
 -- leave if nothing became unreachable.
-use Rattle.std.proofs.Common.{◌≡◌, ℕ, Bool, true, List, sym, subst, slice_set}
-use mathlib.Core.Option.{some}
-use lib.ListN.{get_elem?}
+use Rattle.std.proofs.Common.{◌≡◌, ℕ, Bool, List, sym, subst}
 use Rattle.atomic_table.proofs.Lists.{set_again}
 use Rattle.core_machine.specs.declared.events.Event.{Event}
 use Rattle.core_machine.specs.declared.events.Found.{Found}

@@ -7,7 +7,7 @@ use Rattle.cell_words.specs.declared.fields.Field.{Field}
 use Rattle.core_machine.specs.declared.places.Held.{Held}
 use Rattle.core_machine.specs.Own.{Own}
 use Rattle.core_machine.specs.Places.{unmark, mark_of}
-use Rattle.core_machine.specs.State.{State, field_in, own_of}
+use Rattle.core_machine.specs.State.{State, field_in}
 use Rattle.dlg_core.specs.Consistent.{IsConsistent}
 use Rattle.dlg_core.specs.Reachable.{Reachable, named}
 use Rattle.dlg_core.proofs.Each.{own_each}

@@ -2,7 +2,7 @@
 -- one was found. And after Wipe, whose cell is not reachable.
 use Rattle.std.proofs.Common.{◌⊎◌, ◌≡◌, ◌≢◌, ◌<◌, ◌==◌, ◌||◌, ℕ, zero, suc, Bool, true, false, List}
 use Rattle.std.proofs.Common.{[], ◌∷◌, ◌++◌}
-use Rattle.std.proofs.Common.{map, length, get_or, slice_index_or, Option, Some, None, inl, inr}
+use Rattle.std.proofs.Common.{length, get_or, slice_index_or, Option, Some, None, inl, inr}
 use Rattle.std.proofs.Common.{refl, sym, ◌∙◌, ap, subst, arith}
 use Rattle.std.proofs.Math.ListN.{set}
 use Rattle.std.proofs.lemmas.Bool.{or_cases, eqb-true, eq-eqb}
@@ -16,7 +16,7 @@ use Rattle.core_machine.specs.declared.places.Held.{Held}
 use Rattle.core_machine.specs.InRange.{IsShaped}
 use Rattle.core_machine.specs.Next.{can, after}
 use Rattle.core_machine.specs.Operations.{is_in}
-use Rattle.core_machine.specs.Own.{Own, having_read}
+use Rattle.core_machine.specs.Own.{having_read}
 use Rattle.core_machine.specs.Places.{cell_at, found_at}
 use Rattle.core_machine.specs.State.{State, field_of, held_of, own_of, target_of}
 use Rattle.core_machine.specs.Sweep.{wiped_count}
@@ -28,12 +28,12 @@ use Rattle.dlg_core.specs.Reachable.{Reachable, named}
 use Rattle.core_machine.proofs.OneOperation.{inside_there}
 use Rattle.dlg_core.proofs.Truths.{wipe_is}
 use Rattle.dlg_core.proofs.Step.{consistent_after}
-use Rattle.dlg_core.proofs.Truths.{or_here, or_later, or_left}
+use Rattle.dlg_core.proofs.Truths.{or_here, or_later}
 use Rattle.dlg_core.proofs.Untouched.{wiping_not_reachable}
 use Rattle.heap_rule.specs.declared.known.Known.{Known}
 use Rattle.heap_rule.specs.declared.known.Known.TheVariants as knows
 use Rattle.heap_rule.specs.Facts.{AllKnown, Facts, IsKnown, TermFits, is_record_kind}
-use Rattle.heap_rule.specs.Knowledge.{AreTold, KnownAt}
+use Rattle.heap_rule.specs.Knowledge.{KnownAt}
 use Rattle.heap_rule.specs.Lore.{Entry, Plain, Named, Lore, Terms, at_cell, cells_in, cells_of}
 use Rattle.heap_rule.specs.Lore.{entry_of, five_plain, has}
 use Rattle.heap_rule.specs.Lore.{known_found, known_in, learned_from, learned_of, lore_after, plain}

@@ -1,5 +1,5 @@
 -- The facts on lore after Seal: a raw cell becomes a record with its term, or a fresh box.
-use Rattle.std.proofs.Common.{◌≡◌, ◌≢◌, ◌<◌, ◌==◌, ◌&&◌, ◌||◌, ℕ, Bool, true, false, List, [], ◌∷◌}
+use Rattle.std.proofs.Common.{◌≡◌, ◌≢◌, ◌<◌, ◌==◌, ◌&&◌, ℕ, Bool, true, List, [], ◌∷◌}
 use Rattle.std.proofs.Common.{length, get_or, slice_index_or, Option, Some, None, inl, inr, refl}
 use Rattle.std.proofs.Common.{sym, ◌∙◌, ap, subst, arith}
 use Rattle.std.proofs.Common.{if◌then◌else◌, length-set}
@@ -15,13 +15,13 @@ use Rattle.core_machine.specs.declared.events.Event.TheVariants as event
 use Rattle.core_machine.specs.Conditions.{CanSeal}
 use Rattle.core_machine.specs.InRange.{IsShaped}
 use Rattle.core_machine.specs.Next.{can, after}
-use Rattle.core_machine.specs.State.{State, field_in, field_of, held_of, row_in, set_field}
+use Rattle.core_machine.specs.State.{State, field_of, held_of, row_in}
 use Rattle.core_machine.specs.State.{target_of}
 use Rattle.core_machine.specs.Words.{is_box_kind, is_raw_kind, kind_field}
 use Rattle.core_machine.proofs.Conditions.{seal_needs}
 use Rattle.core_machine.proofs.Frames.{set_field_other}
 use Rattle.dlg_core.specs.Consistent.{IsConsistent}
-use Rattle.dlg_core.specs.Reachable.{Reachable, anchor, named}
+use Rattle.dlg_core.specs.Reachable.{Reachable, named}
 use Rattle.dlg_core.proofs.Each.{field_each}
 use Rattle.core_machine.proofs.OneOperation.{inside_there}
 use Rattle.dlg_core.proofs.Safety.{reachable_live}
@@ -30,13 +30,13 @@ use Rattle.heap_rule.specs.declared.known.Known.{Known}
 use Rattle.heap_rule.specs.declared.known.Known.TheVariants as knows
 use Rattle.heap_rule.specs.Facts.{AllKnown, Facts, IsKnown, IsPlain, IsTermKnown, Proper}
 use Rattle.heap_rule.specs.Facts.{SealsTerms, TermFits, is_record_kind, is_term, knows_term}
-use Rattle.heap_rule.specs.Knowledge.{ArePayload, KnownAt}
-use Rattle.heap_rule.specs.Lore.{Lore, Terms, Plain, at_cell, cell_term, cells_of, entry_of}
+use Rattle.heap_rule.specs.Knowledge.{ArePayload}
+use Rattle.heap_rule.specs.Lore.{Lore, at_cell, cell_term, cells_of, entry_of}
 use Rattle.heap_rule.specs.Lore.{fields_term, five_of, has, known_in}
-use Rattle.heap_rule.specs.Lore.{known_sealed, lore_after, named_or, put, sealed_terms, term_of}
+use Rattle.heap_rule.specs.Lore.{known_sealed, lore_after, named_or, sealed_terms, term_of}
 use Rattle.heap_rule.specs.Lore.{term_or, value_term}
 use Rattle.heap_rule.proofs.Carried.{SameAt, back_from, fits_on, five_moved, knows_on}
-use Rattle.heap_rule.proofs.Claiming.{entry_put, put_here, put_other}
+use Rattle.heap_rule.proofs.Claiming.{put_here, put_other}
 use Rattle.heap_rule.proofs.Lists.{all_changed, all_known, has_holds, reached_held}
 use Rattle.heap_rule.proofs.Reading.{cell_there, has_place}
 

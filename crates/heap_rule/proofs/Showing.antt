@@ -1,6 +1,6 @@
 -- What the rule says of any moment, in words of the table alone.
 use Rattle.std.proofs.Common.{◌⊎◌, ◌≡◌, ◌≢◌, ◌<◌, ◌++◌, ℕ, Bool, true, List, [], ◌∷◌, length}
-use Rattle.std.proofs.Common.{Option, Some, refl, sym, ◌∙◌, ap, subst, slice_index}
+use Rattle.std.proofs.Common.{Some, refl, sym, ◌∙◌, ap, subst, slice_index}
 use mathlib.Core.Option.{some}
 use lib.ListN.{get_elem?}
 use Rattle.atomic_table.specs.Table as table
@@ -13,7 +13,7 @@ use Rattle.core_machine.specs.Next.{after}
 use Rattle.core_machine.specs.Places.{holds}
 use Rattle.core_machine.specs.Run.{Runs, last}
 use Rattle.core_machine.specs.State.{State, colour_of, own_of}
-use Rattle.core_machine.specs.Table.{ColourOf, index_of, words_of}
+use Rattle.core_machine.specs.Table.{ColourOf, index_of}
 use Rattle.core_machine.specs.Trail.{own_along, trail_of}
 use Rattle.core_machine.specs.declared.events.Event.{Event}
 use Rattle.core_machine.specs.declared.events.Taken.{Taken}
@@ -22,7 +22,7 @@ use Rattle.core_machine.proofs.Table.{word_read}
 use Rattle.core_machine.proofs.Trails.{own_told}
 use Rattle.dlg_core.specs.Collects.{AreTwoCycles, IsFreedSince, IsGarbage}
 use Rattle.dlg_core.specs.Consistent.{IsConsistent}
-use Rattle.dlg_core.specs.Reachable.{Reachable, held}
+use Rattle.dlg_core.specs.Reachable.{held}
 use Rattle.dlg_core.specs.Runs.{LeadsTo, events_of}
 use Rattle.dlg_core.specs.Sums.{IsBalanced, IsClaimed}
 use Rattle.dlg_core.proofs.Along.{runs_balanced, runs_collect, runs_consistent, runs_lead}

@@ -2,9 +2,9 @@
 -- unreachable, by kinds.
 use Rattle.std.proofs.Common.{◌≡◌, ◌≢◌, ◌<◌, ◌==◌, ℕ, Bool, true, false, List, [], if◌then◌else◌}
 use Rattle.std.proofs.Common.{Option, Some, None, inl, inr}
-use Rattle.std.proofs.Common.{refl, sym, ◌∙◌, ap, subst, arith}
+use Rattle.std.proofs.Common.{refl, sym, ◌∙◌, ap, subst}
 use Rattle.std.proofs.Math.ListN.{set}
-use Rattle.std.proofs.lemmas.Bool.{cases_eq, eqb-true, eq-eqb, ne_eqb}
+use Rattle.std.proofs.lemmas.Bool.{cases_eq, eqb-true, eq-eqb}
 use Rattle.cell_words.specs.declared.colours.Colour.{Colour}
 use Rattle.cell_words.specs.declared.colours.Colour.TheVariants as colour
 use Rattle.cell_words.specs.declared.fields.Field.{Field}
@@ -22,15 +22,15 @@ use Rattle.core_machine.proofs.Conditions.{claim_needs, fill_needs}
 use Rattle.core_machine.proofs.OneOperation.{inside_there}
 use Rattle.heap_rule.proofs.Sealing.{raw, sealed_same, target_reached}
 use Rattle.std.proofs.lemmas.List.{set-get_or}
-use Rattle.core_machine.specs.Words.{is_box_kind, is_raw_kind, same_field}
+use Rattle.core_machine.specs.Words.{is_box_kind, same_field}
 use Rattle.dlg_core.specs.Consistent.{IsConsistent}
 use Rattle.dlg_core.specs.Reachable.{Reachable}
 use Rattle.dlg_core.proofs.Step.{consistent_after}
-use Rattle.heap_rule.specs.Boxes.{Map, Payload, Smaller, boxes_by, boxes_of, payload_of, revealing}
+use Rattle.heap_rule.specs.Boxes.{Payload, Smaller, boxes_by, boxes_of, payload_of, revealing}
 use Rattle.heap_rule.specs.Boxes.{with_entry, written_if, written_map}
 use Rattle.heap_rule.specs.Facts.{Facts, Proper}
 use Rattle.heap_rule.specs.Lore.{Lore, cells_in, cells_of, claimed_fresh, claimed_terms, entry_of}
-use Rattle.heap_rule.specs.Lore.{known_claimed, known_in, lore_after, put, revealed, revealed_if}
+use Rattle.heap_rule.specs.Lore.{known_claimed, known_in, lore_after, put, revealed_if}
 use Rattle.heap_rule.proofs.Carried.{SameAt}
 use Rattle.heap_rule.proofs.Claiming.{claimed_same, put_here, put_other, unreached}
 use Rattle.heap_rule.proofs.FactsAfter.{facts_after}

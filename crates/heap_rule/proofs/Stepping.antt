@@ -1,12 +1,11 @@
 -- One step of a seat keeps the rule: for every event of a mutator and of the collector alike.
-use Rattle.std.proofs.Common.{◌⊎◌, ◌≡◌, ◌≢◌, ◌<◌, ◌≤◌, ◌++◌, ℕ, Bool, true, List, [], ◌∷◌, length}
-use Rattle.std.proofs.Common.{get_or, Option, Some, None}
+use Rattle.std.proofs.Common.{◌≡◌, ◌≢◌, ◌<◌, ◌≤◌, ◌++◌, ℕ, Bool, true, List, [], ◌∷◌, length}
+use Rattle.std.proofs.Common.{Option, Some, None}
 use Rattle.std.proofs.Common.{inl, inr, refl, sym, ◌∙◌, ap, subst, arith, slice_index, slice_set}
 use Rattle.std.proofs.Common.{length-set, false, slice_index_or}
 use Rattle.std.proofs.Math.ListN.{set}
-use Rattle.std.proofs.lemmas.Bool.{cases_eq}
 use Rattle.std.proofs.lemmas.List.{get_or-set_same, get_or-set_other}
-use mathlib.Core.Option.{some, none}
+use mathlib.Core.Option.{some}
 use lib.ListN.{get_elem?}
 use Rattle.atomic_table.specs.Table as table
 use Rattle.atomic_table.proofs.Lists.{at_set, set_here}
@@ -24,10 +23,8 @@ use Rattle.cell_words.specs.declared.presences.Presence.{Presence}
 use Rattle.core_machine.specs.declared.events.Event.TheVariants as event
 use Rattle.core_machine.specs.Run.{Runs, last}
 use Rattle.core_machine.specs.State.{State, greatest_cells, own_in, own_of, presence_of, room_in}
-use Rattle.core_machine.specs.State.{room_of}
-use Rattle.core_machine.specs.Table.{index_of, words_of}
-use Rattle.core_machine.specs.Trail.{trail_of}
-use Rattle.core_machine.specs.WordOperations.{IsPackedAs, left_by, operation_of, word_of}
+use Rattle.core_machine.specs.Table.{words_of}
+use Rattle.core_machine.specs.WordOperations.{IsPackedAs, left_by, operation_of}
 use Rattle.core_machine.proofs.Frames.{as_large, collector_framed, knows_after, knows_else}
 use Rattle.core_machine.proofs.Frames.{mutator_framed, own_else, own_mine, presence_mine}
 use Rattle.core_machine.proofs.OneOperation.{one_operation}
@@ -48,7 +45,7 @@ use Rattle.heap_rule.specs.declared.view.Role.TheVariants as role
 use Rattle.heap_rule.specs.declared.view.Share.{Share}
 use Rattle.heap_rule.specs.declared.view.View.{View}
 use Rattle.heap_rule.specs.Boxes.{Map, Smaller, boxes_by, boxes_of}
-use Rattle.heap_rule.specs.Facts.{Facts, Proper}
+use Rattle.heap_rule.specs.Facts.{Proper}
 use Rattle.heap_rule.specs.Lore.{Lore, cells_in, cells_of, known_by, known_in, learned, lore_after}
 use Rattle.heap_rule.specs.Lore as lore
 use Rattle.heap_rule.specs.Rule.{Ledger, Stands, ShareFits, PlaceFits, MutatorFits, CollectorFits}

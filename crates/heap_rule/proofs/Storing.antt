@@ -1,28 +1,28 @@
 -- The facts on lore after a payload field of a held cell becomes another value: after Fill, and
 -- after a Write that was made. What the value names is fresh no longer.
-use Rattle.std.proofs.Common.{◌≡◌, ◌≢◌, ◌<◌, ◌==◌, ℕ, Bool, true, false, List, [], ◌∷◌, ◌++◌}
-use Rattle.std.proofs.Common.{length, get_or, slice_index_or, Option, Some, None, inl, inr, refl}
+use Rattle.std.proofs.Common.{◌≡◌, ◌≢◌, ◌<◌, ℕ, Bool, true, false, List, []}
+use Rattle.std.proofs.Common.{length, get_or, Option, Some, None, inl, inr, refl}
 use Rattle.std.proofs.Common.{sym, ◌∙◌, ap, subst, arith}
-use Rattle.std.proofs.Common.{if◌then◌else◌, length-set}
+use Rattle.std.proofs.Common.{length-set}
 use Rattle.std.proofs.Math.ListN.{set}
-use Rattle.std.proofs.lemmas.Bool.{cases_eq, eq-eqb, ne_eqb}
+use Rattle.std.proofs.lemmas.Bool.{cases_eq}
 use Rattle.std.proofs.lemmas.List.{get_or-set_same, get_or-set_other}
 use Rattle.cell_words.specs.declared.fields.Field.{Field}
 use Rattle.cell_words.specs.declared.fields.Field.TheVariants as field
 use Rattle.core_machine.specs.InRange.{IsShaped}
-use Rattle.core_machine.specs.State.{State, field_in, field_of, held_of, row_in, set_field}
+use Rattle.core_machine.specs.State.{State, field_in, field_of, row_in, set_field}
 use Rattle.core_machine.specs.Words.{is_box_kind, is_raw_kind}
 use Rattle.core_machine.proofs.Frames.{set_field_other}
 use Rattle.dlg_core.specs.Consistent.{IsConsistent}
-use Rattle.dlg_core.specs.Reachable.{Reachable, anchor, named}
+use Rattle.dlg_core.specs.Reachable.{Reachable, named}
 use Rattle.dlg_core.proofs.Each.{field_each}
 use Rattle.heap_rule.specs.declared.known.Known.{Known}
 use Rattle.heap_rule.specs.declared.known.Known.TheVariants as knows
 use Rattle.heap_rule.specs.Facts.{AllKnown, Facts, IsKnown, TermFits, is_record_kind}
 use Rattle.heap_rule.specs.Knowledge.{ArePayload, AreTold, KnownAt}
-use Rattle.heap_rule.specs.Lore.{Fresh, Lore, Plain, at_cell, cells_of, entry_of, has, known_in}
+use Rattle.heap_rule.specs.Lore.{Fresh, Lore, at_cell, cells_of, entry_of, has, known_in}
 use Rattle.heap_rule.specs.Lore.{known_named, known_revealed}
-use Rattle.heap_rule.specs.Lore.{known_set, known_stored, put, revealed}
+use Rattle.heap_rule.specs.Lore.{known_set, known_stored, revealed}
 use Rattle.heap_rule.proofs.Carried.{back_from, known_moved, term_moved}
 use Rattle.heap_rule.proofs.Claiming.{put_here, put_other}
 use Rattle.heap_rule.proofs.Lists.{all_changed, all_known, reached_held}

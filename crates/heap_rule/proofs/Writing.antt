@@ -1,6 +1,5 @@
 -- The facts on lore after Fill and Write.
-use Rattle.std.proofs.Common.{◌≡◌, ◌<◌, ℕ, Bool, true, false, List, [], ◌∷◌, length, Option, Some}
-use Rattle.std.proofs.Common.{None}
+use Rattle.std.proofs.Common.{◌≡◌, ℕ, Bool, true, false, List, []}
 use Rattle.std.proofs.Common.{refl, sym, ◌∙◌, ap, subst, arith, if◌then◌else◌}
 use Rattle.std.proofs.Math.ListN.{set}
 use Rattle.std.proofs.lemmas.Bool.{eqb-true}
@@ -12,9 +11,9 @@ use Rattle.core_machine.specs.InRange.{IsShaped}
 use Rattle.core_machine.specs.Mutation.{names_own}
 use Rattle.core_machine.specs.Next.{can, after}
 use Rattle.core_machine.specs.Own.{spent}
-use Rattle.core_machine.specs.State.{State, field_in, field_of, held_of, is_raw_value, own_of}
+use Rattle.core_machine.specs.State.{State, field_of, held_of, is_raw_value, own_of}
 use Rattle.core_machine.specs.State.{row_in, set_field, target_of}
-use Rattle.core_machine.specs.Words.{is_box_kind, is_raw_kind, same_field, written}
+use Rattle.core_machine.specs.Words.{is_box_kind, is_raw_kind, same_field}
 use Rattle.core_machine.proofs.Conditions.{fill_needs, write_needs}
 use Rattle.dlg_core.specs.Consistent.{IsConsistent}
 use Rattle.core_machine.proofs.OneOperation.{inside_there}

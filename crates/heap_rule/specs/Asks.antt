@@ -1,14 +1,10 @@
 -- What a seat needs to know for each kind of event, and which operation on which word it makes:
 -- said of its view alone.
 -- Source: this project's.
-use Rattle.std.specs.Prelude.{ℕ, ◌≡◌, ◌≢◌, ◌<◌, ◌≤◌, ◌+◌, ◌==◌, ◌&&◌, ◌||◌, Bool, true, false, not}
+use Rattle.std.specs.Prelude.{ℕ, ◌≡◌, ◌<◌, ◌≤◌, ◌+◌, ◌==◌, ◌&&◌, ◌||◌, Bool, true, false, not}
 use Rattle.std.specs.Prelude.{List, [], ◌∷◌, length}
 use Rattle.std.specs.Prelude.{slice_index_or, is_some}
-use Rattle.cell_words.specs.Colour.{pack_colour_of}
-use Rattle.cell_words.specs.Field.{pack_field_of}
 use Rattle.cell_words.specs.Modes.{next_status_of}
-use Rattle.cell_words.specs.Presence.{pack_presence_of}
-use Rattle.cell_words.specs.declared.colours.Colour.TheVariants as colour
 use Rattle.cell_words.specs.declared.controls.Control.{Control}
 use Rattle.cell_words.specs.declared.fields.Field.{Field}
 use Rattle.cell_words.specs.declared.fields.Field.TheVariants as field
@@ -18,7 +14,7 @@ use Rattle.cell_words.specs.declared.presences.Status.TheVariants as status
 use Rattle.core_machine.specs.Collector.{Collector}
 use Rattle.core_machine.specs.Places.{all_marked, cell_at, marks_stand, names_rightly}
 use Rattle.core_machine.specs.State.{State}
-use Rattle.core_machine.specs.Table.{Word, ColourOf, FieldOf, index_of}
+use Rattle.core_machine.specs.Table.{Word, index_of}
 use Rattle.core_machine.specs.WordOperations.{Operation, Load, Store, Exchange, SetBits, KeepBits}
 use Rattle.core_machine.specs.WordOperations.{left_by}
 use Rattle.core_machine.specs.Words.{barrier_in, is_cell, marks_some, requests, same_status}

@@ -12,7 +12,7 @@ use Rattle.cell_words.specs.declared.fields.Kind.TheVariants as kind
 use Rattle.cell_words.specs.Term.{Term}
 use Rattle.core_machine.specs.declared.events.Event.{Event}
 use Rattle.core_machine.specs.declared.events.Event.TheVariants as event
-use Rattle.core_machine.specs.State.{State, field_in, field_of, target_of}
+use Rattle.core_machine.specs.State.{State, field_of, target_of}
 use Rattle.core_machine.specs.Words.{is_raw_kind}
 use Rattle.dlg_core.specs.Reachable.{Reachable}
 use Rattle.heap_rule.specs.declared.known.Known.{Known}

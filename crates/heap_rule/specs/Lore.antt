@@ -1,7 +1,7 @@
 -- Lore: what is so of a heap's cells beyond its words. The terms of its records, for whom a cell is
 -- fresh, and what each mutator knows of the cells that it holds. It changes with the events alone.
 -- Source: this project's.
-use Rattle.std.specs.Prelude.{ℕ, ◌≡◌, ◌==◌, Bool, true, false, List, [], ◌∷◌, ◌++◌}
+use Rattle.std.specs.Prelude.{ℕ, ◌==◌, Bool, true, false, List, [], ◌∷◌, ◌++◌}
 use Rattle.std.specs.Prelude.{slice_index_or, slice_set, map, take, drop, Option, Some, None}
 use Rattle.std.specs.Prelude.{if◌then◌else◌}
 use Rattle.std.specs.List.{list_any}
@@ -19,8 +19,7 @@ use Rattle.core_machine.specs.declared.events.Found.TheVariants as finds
 use Rattle.core_machine.specs.declared.places.Held.{Held}
 use Rattle.core_machine.specs.Next.{found_by, maker}
 use Rattle.core_machine.specs.Places.{kept}
-use Rattle.core_machine.specs.State.{State, colour_of, field_in, field_of, held_of, target_of}
-use Rattle.core_machine.specs.State.{null_row}
+use Rattle.core_machine.specs.State.{State, colour_of, field_of, held_of, target_of}
 use Rattle.core_machine.specs.Words.{is_box_kind, same_field}
 use Rattle.heap_rule.specs.declared.known.Known.{Known}
 use Rattle.heap_rule.specs.declared.known.Known.TheVariants as knows

@@ -1,6 +1,6 @@
 -- The moves of seats that are no events: a mutator is split off the collector's seat, and joined
 -- again. Source: this project's.
-use Rattle.std.specs.Prelude.{ℕ, List, [], slice_set, None}
+use Rattle.std.specs.Prelude.{ℕ, [], slice_set, None}
 use Rattle.core_machine.specs.Own.{no_own}
 use Rattle.core_machine.specs.State.{opening_collector, opening_control, opening_presence}
 use Rattle.heap_rule.specs.declared.view.Place.TheVariants as places

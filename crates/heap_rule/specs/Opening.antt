@@ -1,6 +1,6 @@
 -- What a heap opens with: the first rows and their terms, the opening passes, and the collector's
 -- seat. Source: this project's.
-use Rattle.std.specs.Prelude.{ℕ, zero, suc, ◌≡◌, ◌+◌, List, [], ◌∷◌, replicate, None, false}
+use Rattle.std.specs.Prelude.{ℕ, zero, suc, ◌+◌, List, [], ◌∷◌, replicate, None, false}
 use Rattle.cell_words.specs.declared.fields.Field.{Field}
 use Rattle.core_machine.specs.Own.{no_own}
 use Rattle.core_machine.specs.State.{field_in, opening_collector, opening_control, opening_presence}

@@ -11,7 +11,6 @@ use Rattle.std.specs.List.{list_all}
 use mathlib.Core.Option.{some}
 use lib.ListN.{get_elem?}
 use Rattle.atomic_table.specs.Table as table
-use Rattle.cell_words.specs.declared.controls.Control.{Control}
 use Rattle.core_machine.specs.declared.events.Event.{Event}
 use Rattle.core_machine.specs.declared.events.Event.TheVariants as event
 use Rattle.core_machine.specs.declared.events.Found.{Found}
@@ -26,7 +25,6 @@ use Rattle.core_machine.specs.State.{State, opening_presence, own_of, presence_o
 use Rattle.core_machine.specs.Table.{words_of}
 use Rattle.core_machine.specs.Trail.{trail_of}
 use Rattle.dlg_core.specs.Collects.{AreOver, IsOver}
-use Rattle.heap_rule.specs.declared.known.Known.{Known}
 use Rattle.heap_rule.specs.declared.known.Learned.{Learned}
 use Rattle.heap_rule.specs.declared.view.Place.{Place}
 use Rattle.heap_rule.specs.declared.view.Place.TheVariants as places

@@ -1,6 +1,6 @@
 -- What is fixed of a heap when it is made, and the state that it opens in.
 -- Source: this project's.
-use Rattle.std.specs.Prelude.{ℕ, ◌≡◌, ◌≤◌, List, length, IsTrue}
+use Rattle.std.specs.Prelude.{ℕ, ◌≤◌, List, length, IsTrue}
 use Rattle.cell_words.specs.declared.fields.Field.{Field}
 use Rattle.core_machine.specs.State.{State, opening, greatest_cells}
 use Rattle.dlg_core.specs.FirstRows.{are_first_rows, AreRows}

@@ -2,7 +2,6 @@
 -- rule asks, and what the step tells.
 -- Source: this project's.
 use Rattle.std.specs.Prelude.{ℕ, ◌≡◌, ◌<◌, ◌≤◌, Bool, true, false, List, slice_set, slice_index_or}
-use Rattle.std.specs.Prelude.{None}
 use mathlib.Core.Option.{some}
 use lib.ListN.{get_elem?}
 use Rattle.core_machine.specs.declared.events.Event.{Event}

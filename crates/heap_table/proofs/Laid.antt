@@ -6,12 +6,12 @@ use Rattle.std.proofs.Common.{true, Bool, ◌^◌, subst}
 use Rattle.std.proofs.lemmas.Bool.{and_parts, ltb-true}
 use Rattle.std.specs.Prelude.{All}
 use Rattle.atomic_table.specs.Table as table
-use Rattle.cell_words.specs.Field.{IsValidField, pack_field_of}
+use Rattle.cell_words.specs.Field.{IsValidField}
 use Rattle.cell_words.specs.Presence.{pack_presence_of}
 use Rattle.cell_words.specs.declared.colours.Colour.TheVariants as colour
 use Rattle.cell_words.specs.declared.fields.Field.{Field}
 use Rattle.cell_words.specs.declared.fields.Field.TheVariants as field
-use Rattle.core_machine.specs.State.{State, greatest_cells, null_row, opening_presence}
+use Rattle.core_machine.specs.State.{greatest_cells, null_row, opening_presence}
 use Rattle.core_machine.specs.Table.{cell_words, words_of}
 use Rattle.core_machine.proofs.Table.{table_long}
 use Rattle.dlg_core.specs.FirstRows.{are_first_rows, is_first_row, is_first_value}
@@ -20,7 +20,7 @@ use Rattle.dlg_core.proofs.Throughout.{rows_shaped}
 use Rattle.heap_rule.specs.Boxes.{Map}
 use Rattle.heap_rule.specs.Opening.{opening_rooms, opening_view}
 use Rattle.heap_rule.specs.Rule.{Kept}
-use Rattle.heap_rule.specs.Shape.{IsSound, Shape, start}
+use Rattle.heap_rule.specs.Shape.{IsSound, Shape}
 use Rattle.heap_rule.proofs.Moving.{opens_kept}
 use Rattle.heap_table.specs.Opening.{Opens, opening_state, opening_words, row_words, rows_words}
 use Rattle.heap_table.specs.Seats.{words_many}

@@ -1,4 +1,4 @@
-use Rattle.std.proofs.Common.{◌≡◌, ◌<◌, ◌+◌, ◌*◌, ◌∙◌, ap, length, subst, sym, slice_index, ℕ}
+use Rattle.std.proofs.Common.{◌≡◌, ◌<◌, ◌+◌, ◌*◌, ◌∙◌, ap, length, subst, sym, slice_index}
 use Rattle.cell_words.specs.Colour.{IsColourWord}
 use Rattle.core_machine.specs.State.{colour_of}
 use Rattle.heap_table.specs.Images.{ImageView, IsImage}

@@ -1,6 +1,6 @@
-use Rattle.std.proofs.Common.{◌≡◌, ◌∙◌, ap, subst, sym, slice_index, ℕ}
+use Rattle.std.proofs.Common.{◌∙◌, subst, sym}
 use Rattle.cell_words.specs.Control.{IsControlWord}
-use Rattle.heap_table.specs.Images.{ImageView, IsImage}
+use Rattle.heap_table.specs.Images.{IsImage}
 use Rattle.heap_table.proofs.Shown.{control_there, control_word, shows_control}
 use Rattle.heap_table.proofs.closing.Image.control.Goals as goal
 

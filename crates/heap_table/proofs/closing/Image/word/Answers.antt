@@ -1,4 +1,4 @@
-use Rattle.std.proofs.Common.{◌≡◌, ◌∙◌, ap, get_or, sym, slice_index, List, ℕ}
+use Rattle.std.proofs.Common.{◌∙◌, ap, slice_index}
 use Rattle.heap_table.specs.Images.{ImageView}
 use Rattle.heap_table.proofs.Shown.{read_there}
 use Rattle.heap_table.proofs.closing.Image.word.Goals as goal

@@ -1,4 +1,4 @@
-use Rattle.std.proofs.Common.{◌≡◌, ◌∙◌, ap, subst, sym, ℕ, List, []}
+use Rattle.std.proofs.Common.{◌≡◌, ◌∙◌, ap, subst}
 use Rattle.std.specs.Mem.Slots.{slots_items}
 use Rattle.heap_rule.specs.Laws.{Ended}
 use Rattle.heap_rule.specs.Shape.{Shape}

@@ -1,10 +1,10 @@
-use Rattle.std.proofs.Common.{◌≡◌, ◌≤◌, ◌∙◌, ap, subst, sym, ℕ, [], length, arith, List}
+use Rattle.std.proofs.Common.{◌≡◌, ◌∙◌, ap, subst, sym, ℕ, [], length, arith, List}
 use Rattle.atomic_table.specs.Table as table
 use Rattle.heap_rule.specs.Opening.{opening_view}
 use Rattle.heap_rule.specs.Rule.{Kept}
 use Rattle.heap_rule.specs.Shape.{IsSound, Shape}
 use Rattle.heap_table.specs.Opening.{opening_words}
-use Rattle.heap_table.specs.Seats.{IsHeap, words_many}
+use Rattle.heap_table.specs.Seats.{words_many}
 use Rattle.heap_table.proofs.Laid.{opening_long, opens_with, rows_valid}
 use Rattle.heap_table.proofs.heap.CellHeap.open.Goals as goal
 

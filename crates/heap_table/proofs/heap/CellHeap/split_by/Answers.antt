@@ -1,11 +1,6 @@
-use Rattle.std.proofs.Common.{◌≡◌, ◌<◌, ◌∙◌, ap, subst, sym, ℕ, arith}
-use mathlib.Core.Option.{some}
+use Rattle.std.proofs.Common.{◌≡◌, ◌<◌, ◌∙◌, ap, subst, sym, arith}
 use lib.ListN.{get_elem?}
-use Rattle.atomic_table.specs.Table.{Splits}
 use Rattle.heap_rule.specs.declared.view.View.{View}
-use Rattle.heap_rule.specs.declared.view.Place.TheVariants as places
-use Rattle.heap_rule.specs.Moves.{given_view, split_view}
-use Rattle.heap_rule.specs.Rule.{Kept}
 use Rattle.heap_rule.specs.Shape.{Shape}
 use Rattle.heap_rule.proofs.Moving.{splits}
 use Rattle.heap_table.specs.Seats.{HeapId, SeatView}
