@@ -1,7 +1,7 @@
 -- What a step of a mutator's seat found, from the number that its operation told; and that the step
 -- is the event with this found.
 use Rattle.std.proofs.Common.{◌≡◌, ◌≢◌, ◌<◌, ◌≤◌, ◌+◌, ◌^◌, ℕ, Bool, true, false}
-use Rattle.std.proofs.Common.{List, sym, ◌∙◌, ap, subst, arith}
+use Rattle.std.proofs.Common.{◌⊎◌, inl, inr, List, sym, ◌∙◌, ap, subst, arith}
 use Rattle.std.proofs.lemmas.Bool.{ne_eqb}
 use Rattle.cell_words.specs.Colour.{IsColourWord, pack_colour_of}
 use Rattle.std.proofs.lemmas.Nat.{mul-le}
@@ -14,6 +14,7 @@ use Rattle.core_machine.specs.declared.progress.Sweeping.TheVariants as sweeping
 use Rattle.cell_words.specs.Field.{IsFieldWord, IsValidField, pack_field_of}
 use Rattle.cell_words.specs.Presence.{IsPresenceWord, is_valid_presence, pack_presence_of}
 use Rattle.cell_words.specs.declared.colours.Colour.{Colour}
+use Rattle.cell_words.specs.declared.colours.Colour.TheVariants as colour
 use Rattle.cell_words.specs.declared.controls.Control.{Control}
 use Rattle.cell_words.specs.declared.fields.Field.{Field}
 use Rattle.cell_words.specs.declared.presences.Presence.{Presence}
@@ -27,7 +28,7 @@ use Rattle.core_machine.specs.Own.{Own}
 use Rattle.core_machine.specs.State.{State, colour_of, field_of, greatest_cells, presence_of}
 use Rattle.core_machine.specs.State.{target_of}
 use Rattle.core_machine.specs.WordOperations.{IsValidFound}
-use Rattle.core_machine.specs.Words.{same_field}
+use Rattle.core_machine.specs.Words.{is_blue, same_field}
 use Rattle.core_machine.proofs.HasWords.{found_valid}
 use Rattle.core_machine.proofs.WordOperations.{same_packed}
 use Rattle.heap_rule.specs.declared.known.Learned.{Learned}
@@ -256,3 +257,15 @@ module _ {P : Type 0} (holds : Map → List P → Type 0) (fixed : ℕ → Bool)
       ap (λ (x : Field). same_field x old) (is there valid at.says)
       ∙ sym (same_packed there old)
       ∙ ne_eqb (pack_field_of there) (pack_field_of old) (λ same. other (sym at.says ∙ same))
+
+-- a colour that is none of the others is not blue
+pub not_blue : (found : Colour)
+    → (found ≡ colour.White) ⊎ ((found ≡ colour.Gray) ⊎ (found ≡ colour.Black))
+    → is_blue found ≡ false
+not_blue found is = elim is [
+  | inl white ↦ ap is_blue white
+  | inr rest ↦ elim rest [
+    | inl gray ↦ ap is_blue gray
+    | inr black ↦ ap is_blue black
+  ]
+]

@@ -122,3 +122,8 @@ copied_is all count from copies n first left is =
     (take count all ++ take n (drop from all) ++ drop (count + n) all)) (sym is)
     ∙ take-paste all count (drop from all) n first left
     ∙ ap (λ (m : ℕ). cells_kept all count from m) is
+
+-- as many as the cells that the seat has
+pub held_many : (held : List Held) (among : List ℕ) → cells_in held ≡ among
+    → length among ≡ length held
+held_many held among is = ap (λ (cells : List ℕ). length cells) (sym is) ∙ cells_many held

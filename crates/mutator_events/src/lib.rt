@@ -16,9 +16,13 @@ mod cells;
 mod choice;
 mod coming;
 mod looking;
+mod making;
+mod places;
+mod reading;
 mod seat;
 mod values;
 mod words;
+mod writing;
 
 pub use choice::Choice;
 pub use heap_table::NoMemory;

@@ -9,10 +9,13 @@ ghost use Rattle.cell_words.specs.declared.controls.Control.{Control};
 ghost use Rattle.cell_words.specs.declared.fields.Field.{Field};
 ghost use Rattle.cell_words.specs.declared.presences.Presence.{Presence};
 ghost use Rattle.core_machine.specs.Table.{ColourOf, FieldOf, StatusOf, index_of};
+ghost use Rattle.core_machine.specs.Words.{born_colour, kind_field};
 ghost use Rattle.heap_table.specs.Seats.{words_many};
 
+use cell_words::modes::claim_colour;
 use cell_words::{
-    Colour, Control, Field, Presence, unpack_colour, unpack_control, unpack_field, unpack_presence,
+    Colour, Control, Field, Kind, Presence, Status, unpack_colour, unpack_control, unpack_field,
+    unpack_presence,
 };
 use heap_rule::Keeping;
 use heap_table::CellHeap;
@@ -47,6 +50,27 @@ pub(crate) fn field_word<P: Keeping>(heap: &CellHeap<P>, cell: u32, field: usize
     ensures below { result < words_many heap.now.shape }
 {
     1 + heap.mutators() as usize + 7 * cell as usize + 1 + field
+}
+
+/// The colour that a new cell gets, by what the last look found.
+pub(crate) fn born_colour(status: Status, mode: Option<Control>, cell: u32) -> Colour
+    ensures colour { result ≡ born_colour status mode cell }
+{
+    match mode {
+        None => Colour::White,
+        Some(mode) => claim_colour(status, mode, cell),
+    }
+}
+
+/// What field 5 of a sealed cell is.
+pub(crate) fn kind_field(kind: Kind) -> Field
+    ensures field { result ≡ kind_field kind }
+    ensures valid { IsValidField result }
+{
+    match kind {
+        Kind::Record => Field::Num(1),
+        Kind::Boxed => Field::Num(2),
+    }
 }
 
 /// The control that a word is.
