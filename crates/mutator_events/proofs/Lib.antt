@@ -1,0 +1,5 @@
+pub mod Calls
+pub mod HeldCells
+pub mod Founds
+pub mod Keeping
+pub mod Owed

@@ -1,0 +1,133 @@
+use Rattle.std.proofs.Common.{◌≡◌, ◌≢◌, ◌∙◌, ◌+◌, ◌≤◌, ◌<◌, ℕ, Bool, true, false, List, [], ◌∷◌, ◌++◌}
+use Rattle.std.proofs.Common.{None, Some, length, refl, sym, ap, subst, arith}
+use Rattle.cell_words.specs.declared.colours.Colour.{Colour}
+use Rattle.cell_words.specs.declared.colours.Colour.TheVariants as colour
+use Rattle.cell_words.specs.declared.presences.Status.{Status}
+use Rattle.cell_words.specs.declared.fields.Field.{Field}
+use Rattle.core_machine.specs.declared.events.Event.TheVariants as event
+use Rattle.core_machine.specs.declared.events.Found.TheVariants as finds
+use Rattle.core_machine.specs.Table.{ColourOf, FieldOf, StatusOf, index_of}
+use Rattle.core_machine.specs.WordOperations.{Exchange, Load, Store}
+use Rattle.core_machine.specs.Words.{is_blue, kind_field, same_field}
+use Rattle.cell_words.specs.Field.{pack_field_of}
+use Rattle.cell_words.specs.Presence.{pack_presence_of}
+use Rattle.core_machine.specs.WordOperations.{answered_presence, colour_exchange}
+use Rattle.heap_rule.specs.Asks.{MayAnswer, MayClaim, MayFill, MayKeep, MayMark, MayRead, MaySeal}
+use Rattle.heap_rule.specs.Asks.{MayWrite, target}
+use Rattle.cell_words.specs.Colour.{pack_colour_of}
+use Rattle.heap_rule.specs.Shape.{Shape}
+use Rattle.heap_rule.specs.Lore.{nothing_learned}
+use Rattle.heap_rule.specs.Steps.{Picks, same_pass}
+use Rattle.heap_rule.proofs.Owing.{owes_answer, owes_keep, owes_mark, owes_read, owes_seal}
+use Rattle.heap_table.specs.Seats.{HeapId, SeatView}
+use Rattle.mutator_events.specs.Events.{AtEvent}
+use Rattle.mutator_events.specs.Seats.{IsMutator}
+use Rattle.mutator_events.specs.Values.{cells_kept, cells_read, field_at, value_found}
+use Rattle.mutator_events.proofs.Calls.{after_answer, after_claim, after_fill, after_keep, after_mark}
+use Rattle.mutator_events.proofs.Calls.{after_miss, after_read, after_seal, after_write, claims_more}
+use Rattle.mutator_events.proofs.Calls.{seat_told, seat_told_with}
+use Rattle.mutator_events.proofs.Founds.{claim_word, not_blue, other_field, read_word}
+use Rattle.mutator_events.proofs.Founds.{write_word}
+use Rattle.mutator_events.proofs.HeldCells.{held_many}
+use Rattle.mutator_events.proofs.Owed.{claim_owed, fill_owed, fill_picked, owed_as, picked_as}
+use Rattle.mutator_events.proofs.Owed.{still_as, write_owed, write_picked}
+use Rattle.mutator_events.proofs.seat.MutSeat.claim.Goals as goal
+
+pub mutator_exchange-number-requires-clause-made : goal.mutator_exchange-number-requires-clause-made
+mutator_exchange-number-requires-clause-made g c =
+    ap (λ (n : ℕ). Some n) (sym c.self.invariant.0.number_is)
+
+pub mutator_exchange-number-requires-clause-kind : goal.mutator_exchange-number-requires-clause-kind
+mutator_exchange-number-requires-clause-kind g c =
+    let me = c.self.inside.seat.me in
+    let may = subst (λ (s : SeatView _). MayClaim s.me c.args.cell) (sym c.self.view_is) c.requires.may in
+    claim_owed g.P.Keeping.fixed me c.self.inside.number c.self.invariant.0.number_is
+    c.args.cell c.colour_word-word.result c.pack_colour-blue.result c.pack_colour-new.result
+    c.self.inside.status c.self.inside.mode
+    (ap (λ (h : Shape). index_of h.mutators (ColourOf c.args.cell))
+    (ap (λ (s : SeatView _). s.me.shape) c.self.view_is ∙ c.requires.seat.1)
+    ∙ sym c.colour_word-word.ensures.word)
+    (c.self.invariant.0.status_is (sym c.self.invariant.0.inside_is ∙ may.inside))
+    c.self.invariant.0.mode_is c.pack_colour-blue.ensures.word
+    (c.pack_colour-new.ensures.word
+    ∙ ap (λ (x : Colour). pack_colour_of x) c.born_colour-born.ensures.colour) may
+
+pub mutator_exchange-number-requires-clause-rule : goal.mutator_exchange-number-requires-clause-rule
+mutator_exchange-number-requires-clause-rule g c =
+    still_as g.P.Keeping.fixed c.self.inside.seat.me c.self.inside.number
+    c.self.invariant.0.number_is g.P.Keeping.holds g.P.Keeping.shrinks
+    (event.Claim c.self.inside.number c.args.cell) (λ s l. refl)
+
+pub colour_of-found-requires : goal.colour_of-found-requires
+colour_of-found-requires g c =
+    claim_word g.P.Keeping.holds g.P.Keeping.fixed same_pass c.self.inside.seat.me
+    c.mutator_exchange-number.new.seat.me c.self.inside.number c.mutator_exchange-number.result c.args.cell c.mutator_exchange-number.ensures.step
+
+pub overflow_add-self : goal.overflow_add-self
+overflow_add-self g c =
+    let fits = claims_more g.P.Keeping.holds g.P.Keeping.fixed c.self.inside.seat.me
+    c.mutator_exchange-number.new.seat.me c.self.inside.number c.mutator_exchange-number.result
+    c.self.inside.room c.self.inside.held.items c.self.inside.mode c.self.inside.inside
+    c.self.inside.status c.self.inside.claims c.self.invariant.0
+    (event.Claim c.self.inside.number c.args.cell) c.mutator_exchange-number.ensures.step in
+    omega (arith, fits)
+
+pub invariant_of-self : goal.invariant_of-self
+invariant_of-self g c =
+    let may = subst (λ (s : SeatView _). MayClaim s.me c.args.cell) (sym c.self.view_is) c.requires.may in
+    let seat = c.self.inside in (
+      subst (λ (cells : List ℕ). IsMutator c.mutator_exchange-number.new.seat.me seat.number seat.room cells None
+          seat.inside seat.status (seat.claims + 1)) (sym c.push_reserved.ensures.items)
+          (after_claim g.P.Keeping.holds g.P.Keeping.fixed c.self.inside.seat.me
+          c.mutator_exchange-number.new.seat.me c.self.inside.number c.mutator_exchange-number.result
+          c.self.inside.room c.self.inside.held.items c.self.inside.mode c.self.inside.inside
+          c.self.inside.status c.self.inside.claims c.self.invariant.0
+          c.args.cell c.colour_of-found.result c.colour_of-found.ensures.colour may c.mutator_exchange-number.ensures.step c.in-Blue.is).keeps,
+      omega (arith, c.self.invariant.1, c.push_reserved.ensures.capacity),
+    )
+
+pub invariant_of-self-in-White : goal.invariant_of-self-in-White
+invariant_of-self-in-White g c = (
+  (after_miss g.P.Keeping.holds g.P.Keeping.fixed c.self.inside.seat.me
+      c.mutator_exchange-number.new.seat.me c.self.inside.number c.mutator_exchange-number.result
+      c.self.inside.room c.self.inside.held.items c.self.inside.mode c.self.inside.inside
+      c.self.inside.status c.self.inside.claims c.self.invariant.0
+      c.args.cell c.colour_of-found.result c.colour_of-found.ensures.colour c.mutator_exchange-number.ensures.step (not_blue c.colour_of-found.result c.in-White.is)).keeps,
+  c.self.invariant.1,
+)
+
+pub returns-in-Blue : goal.returns-in-Blue
+returns-in-Blue g c =
+    let may = subst (λ (s : SeatView _). MayClaim s.me c.args.cell) (sym c.self.view_is) c.requires.may in
+    record {
+      told = (
+        colour.Blue,
+        refl,
+        seat_told c.self.inside.seat c.args.self.now c.mutator_exchange-number.new.seat
+            (λ v. event.Claim v.number c.args.cell) (λ v. finds.Colour colour.Blue) c.self.view_is
+            c.mutator_exchange-number.ensures.same
+            (after_claim g.P.Keeping.holds g.P.Keeping.fixed c.self.inside.seat.me
+            c.mutator_exchange-number.new.seat.me c.self.inside.number c.mutator_exchange-number.result
+            c.self.inside.room c.self.inside.held.items c.self.inside.mode c.self.inside.inside
+            c.self.inside.status c.self.inside.claims c.self.invariant.0
+            c.args.cell c.colour_of-found.result c.colour_of-found.ensures.colour may c.mutator_exchange-number.ensures.step c.in-Blue.is).view,
+      );
+    }
+
+pub returns-in-White : goal.returns-in-White
+returns-in-White g c =
+    let other = not_blue c.colour_of-found.result c.in-White.is in
+    record {
+      told = (
+        c.colour_of-found.result,
+        sym other,
+        seat_told c.self.inside.seat c.args.self.now c.mutator_exchange-number.new.seat
+            (λ v. event.Claim v.number c.args.cell)
+            (λ v. finds.Colour c.colour_of-found.result) c.self.view_is c.mutator_exchange-number.ensures.same
+            (after_miss g.P.Keeping.holds g.P.Keeping.fixed c.self.inside.seat.me
+            c.mutator_exchange-number.new.seat.me c.self.inside.number c.mutator_exchange-number.result
+            c.self.inside.room c.self.inside.held.items c.self.inside.mode c.self.inside.inside
+            c.self.inside.status c.self.inside.claims c.self.invariant.0
+            c.args.cell c.colour_of-found.result c.colour_of-found.ensures.colour c.mutator_exchange-number.ensures.step other).view,
+      );
+    }

@@ -1,0 +1,89 @@
+use Rattle.std.proofs.Common.{◌≡◌, ◌≢◌, ◌∙◌, ◌+◌, ◌≤◌, ◌<◌, ℕ, Bool, true, false, List, [], ◌∷◌, ◌++◌}
+use Rattle.std.proofs.Common.{None, Some, length, refl, sym, ap, subst, arith}
+use Rattle.cell_words.specs.declared.colours.Colour.{Colour}
+use Rattle.cell_words.specs.declared.colours.Colour.TheVariants as colour
+use Rattle.cell_words.specs.declared.presences.Status.{Status}
+use Rattle.cell_words.specs.declared.fields.Field.{Field}
+use Rattle.core_machine.specs.declared.events.Event.TheVariants as event
+use Rattle.core_machine.specs.declared.events.Found.TheVariants as finds
+use Rattle.core_machine.specs.Table.{ColourOf, FieldOf, StatusOf, index_of}
+use Rattle.core_machine.specs.WordOperations.{Exchange, Load, Store}
+use Rattle.core_machine.specs.Words.{is_blue, kind_field, same_field}
+use Rattle.cell_words.specs.Field.{pack_field_of}
+use Rattle.cell_words.specs.Presence.{pack_presence_of}
+use Rattle.core_machine.specs.WordOperations.{answered_presence, colour_exchange}
+use Rattle.heap_rule.specs.Asks.{MayAnswer, MayClaim, MayFill, MayKeep, MayMark, MayRead, MaySeal}
+use Rattle.heap_rule.specs.Asks.{MayWrite, target}
+use Rattle.heap_rule.specs.Lore.{nothing_learned}
+use Rattle.heap_rule.specs.Steps.{Picks, same_pass}
+use Rattle.heap_rule.proofs.Owing.{owes_answer, owes_keep, owes_mark, owes_read, owes_seal}
+use Rattle.heap_table.specs.Seats.{HeapId, SeatView}
+use Rattle.mutator_events.specs.Events.{AtEvent}
+use Rattle.mutator_events.specs.Seats.{IsMutator}
+use Rattle.mutator_events.specs.Values.{cells_kept, cells_read, field_at, value_found}
+use Rattle.mutator_events.proofs.Calls.{after_answer, after_claim, after_fill, after_keep, after_mark}
+use Rattle.mutator_events.proofs.Calls.{after_miss, after_read, after_seal, after_write, claims_more}
+use Rattle.mutator_events.proofs.Calls.{seat_told, seat_told_with}
+use Rattle.mutator_events.proofs.Founds.{claim_word, not_blue, other_field, read_word}
+use Rattle.mutator_events.proofs.Founds.{write_word}
+use Rattle.mutator_events.proofs.HeldCells.{held_many}
+use Rattle.mutator_events.proofs.Owed.{claim_owed, fill_owed, fill_picked, owed_as, picked_as}
+use Rattle.mutator_events.proofs.Owed.{still_as, write_owed, write_picked}
+use Rattle.mutator_events.proofs.seat.MutSeat.fill.Goals as goal
+
+pub mutator_store-requires-clause-made : goal.mutator_store-requires-clause-made
+mutator_store-requires-clause-made g c =
+    ap (λ (n : ℕ). Some n) (sym c.self.invariant.0.number_is)
+
+pub mutator_store-requires-clause-kind : goal.mutator_store-requires-clause-kind
+mutator_store-requires-clause-kind g c =
+    let me = c.self.inside.seat.me in
+    let may = subst (λ (s : SeatView _). MayFill s.me c.args.place c.args.field (field_at s.me.own.held c.args.value)) (sym c.self.view_is) c.requires.may in
+    fill_owed g.P.Keeping.fixed me c.self.inside.number c.self.invariant.0.number_is
+    c.args.place c.args.field (field_at me.own.held c.args.value) c.stands_for-value.result
+    c.field_at-word.result c.pack_field-new.result
+    (c.stands_for-value.ensures.field
+    ∙ ap (λ (s : SeatView _). field_at s.me.own.held c.args.value) (sym c.self.view_is))
+    (ap (λ (s : SeatView _). index_of s.me.shape.mutators (FieldOf (target s.me c.args.place) c.args.field))
+    c.self.view_is ∙ sym c.field_at-word.ensures.word)
+    c.pack_field-new.ensures.word may
+
+pub mutator_store-requires-clause-rule : goal.mutator_store-requires-clause-rule
+mutator_store-requires-clause-rule g c =
+    fill_picked g.P.Keeping.fixed c.self.inside.seat.me c.self.inside.number
+    c.self.invariant.0.number_is g.P.Keeping.holds g.P.Keeping.shrinks g.C.Choice.next
+    c.args.place c.args.field (field_at c.self.inside.seat.me.own.held c.args.value) c.stands_for-value.result
+    (c.stands_for-value.ensures.field
+    ∙ ap (λ (s : SeatView _). field_at s.me.own.held c.args.value) (sym c.self.view_is))
+    (subst (λ (s : SeatView _). Picks g.P.Keeping.holds g.P.Keeping.fixed g.C.Choice.next s.me (event.Fill s.me.number c.args.place c.args.field (field_at s.me.own.held c.args.value))) (sym c.self.view_is) c.requires.rule)
+
+pub invariant_of-self : goal.invariant_of-self
+invariant_of-self g c = (
+  (after_fill g.P.Keeping.holds g.P.Keeping.fixed g.C.Choice.next c.self.inside.seat.me
+      c.mutator_store.new.seat.me c.self.inside.number c.pack_field-new.result
+      c.self.inside.room c.self.inside.held.items c.self.inside.mode c.self.inside.inside
+      c.self.inside.status c.self.inside.claims c.self.invariant.0
+      c.args.place c.args.field (field_at c.self.inside.seat.me.own.held c.args.value)
+      c.stands_for-value.result
+      (c.stands_for-value.ensures.field
+      ∙ ap (λ (s : SeatView _). field_at s.me.own.held c.args.value) (sym c.self.view_is))
+      c.mutator_store.ensures.step).keeps,
+  c.self.invariant.1,
+)
+
+pub returns : goal.returns
+returns g c = record {
+  told = seat_told_with c.self.inside.seat c.args.self.now c.mutator_store.new.seat
+      (λ v. event.Fill v.number c.args.place c.args.field (field_at v.own.held c.args.value))
+      finds.Stored (λ p. g.C.Choice.next nothing_learned finds.Stored p) c.self.view_is
+      c.mutator_store.ensures.same
+      (after_fill g.P.Keeping.holds g.P.Keeping.fixed g.C.Choice.next c.self.inside.seat.me
+      c.mutator_store.new.seat.me c.self.inside.number c.pack_field-new.result
+      c.self.inside.room c.self.inside.held.items c.self.inside.mode c.self.inside.inside
+      c.self.inside.status c.self.inside.claims c.self.invariant.0
+      c.args.place c.args.field (field_at c.self.inside.seat.me.own.held c.args.value)
+      c.stands_for-value.result
+      (c.stands_for-value.ensures.field
+      ∙ ap (λ (s : SeatView _). field_at s.me.own.held c.args.value) (sym c.self.view_is))
+      c.mutator_store.ensures.step).event.new;
+}

@@ -1,0 +1,81 @@
+use Rattle.std.proofs.Common.{◌≡◌, ◌≢◌, ◌∙◌, ◌+◌, ◌≤◌, ◌<◌, ℕ, Bool, true, false, List, [], ◌∷◌, ◌++◌}
+use Rattle.std.proofs.Common.{None, Some, length, refl, sym, ap, subst, arith}
+use Rattle.cell_words.specs.declared.colours.Colour.{Colour}
+use Rattle.cell_words.specs.declared.colours.Colour.TheVariants as colour
+use Rattle.cell_words.specs.declared.presences.Status.{Status}
+use Rattle.cell_words.specs.declared.fields.Field.{Field}
+use Rattle.core_machine.specs.declared.events.Event.TheVariants as event
+use Rattle.core_machine.specs.declared.events.Found.TheVariants as finds
+use Rattle.core_machine.specs.Table.{ColourOf, FieldOf, StatusOf, index_of}
+use Rattle.core_machine.specs.WordOperations.{Exchange, Load, Store}
+use Rattle.core_machine.specs.Words.{is_blue, kind_field, same_field}
+use Rattle.cell_words.specs.Field.{pack_field_of}
+use Rattle.cell_words.specs.Presence.{pack_presence_of}
+use Rattle.core_machine.specs.WordOperations.{answered_presence, colour_exchange}
+use Rattle.heap_rule.specs.Asks.{MayAnswer, MayClaim, MayFill, MayKeep, MayMark, MayRead, MaySeal}
+use Rattle.heap_rule.specs.Asks.{MayWrite, target}
+use Rattle.heap_rule.specs.Lore.{nothing_learned}
+use Rattle.heap_rule.specs.Steps.{Picks, same_pass}
+use Rattle.heap_rule.proofs.Owing.{owes_answer, owes_keep, owes_mark, owes_read, owes_seal}
+use Rattle.heap_table.specs.Seats.{HeapId, SeatView}
+use Rattle.mutator_events.specs.Events.{AtEvent}
+use Rattle.mutator_events.specs.Seats.{IsMutator}
+use Rattle.mutator_events.specs.Values.{cells_kept, cells_read, field_at, value_found}
+use Rattle.mutator_events.proofs.Calls.{after_answer, after_claim, after_fill, after_keep, after_mark}
+use Rattle.mutator_events.proofs.Calls.{after_miss, after_read, after_seal, after_write, claims_more}
+use Rattle.mutator_events.proofs.Calls.{seat_told, seat_told_with}
+use Rattle.mutator_events.proofs.Founds.{claim_word, not_blue, other_field, read_word}
+use Rattle.mutator_events.proofs.Founds.{write_word}
+use Rattle.mutator_events.proofs.HeldCells.{held_many}
+use Rattle.mutator_events.proofs.Owed.{claim_owed, fill_owed, fill_picked, owed_as, picked_as}
+use Rattle.mutator_events.proofs.Owed.{still_as, write_owed, write_picked}
+use Rattle.mutator_events.proofs.seat.MutSeat.keep.Goals as goal
+
+pub mutator_load-requires-clause-made : goal.mutator_load-requires-clause-made
+mutator_load-requires-clause-made g c =
+    ap (λ (n : ℕ). Some n) (sym c.self.invariant.0.number_is)
+
+pub mutator_load-requires-clause-kind : goal.mutator_load-requires-clause-kind
+mutator_load-requires-clause-kind g c =
+    let me = c.self.inside.seat.me in
+    let may = subst (λ (s : SeatView _). MayKeep s.me c.args.n c.args.place c.args.count) (sym c.self.view_is) c.requires.may in
+    owed_as g.P.Keeping.fixed me c.self.inside.number c.self.invariant.0.number_is
+    (λ n. event.Keep n c.args.n c.args.place c.args.count) (StatusOf me.number)
+    c.status_word-word.result Load Load
+    (ap (λ (n : ℕ). 1 + n) c.self.invariant.0.number_is ∙ sym c.status_word-word.ensures.word)
+    refl
+    (λ s l mine. owes_keep g.P.Keeping.fixed me s l mine c.args.n c.args.place c.args.count may)
+
+pub mutator_load-requires-clause-rule : goal.mutator_load-requires-clause-rule
+mutator_load-requires-clause-rule g c =
+    still_as g.P.Keeping.fixed c.self.inside.seat.me c.self.inside.number
+    c.self.invariant.0.number_is g.P.Keeping.holds g.P.Keeping.shrinks
+    (event.Keep c.self.inside.number c.args.n c.args.place c.args.count) (λ s l. refl)
+
+pub invariant_of-self : goal.invariant_of-self
+invariant_of-self g c =
+    let may = subst (λ (s : SeatView _). MayKeep s.me c.args.n c.args.place c.args.count) (sym c.self.view_is) c.requires.may in
+    let seat = c.self.inside in (
+      subst (λ (cells : List ℕ). IsMutator c.mutator_load.new.seat.me seat.number seat.room cells seat.mode
+          seat.inside seat.status seat.claims) (sym c.keep_cells.ensures.cells)
+          (after_keep g.P.Keeping.holds g.P.Keeping.fixed c.self.inside.seat.me
+          c.mutator_load.new.seat.me c.self.inside.number c.mutator_load.result
+          c.self.inside.room c.self.inside.held.items c.self.inside.mode c.self.inside.inside
+          c.self.inside.status c.self.inside.claims c.self.invariant.0
+          c.args.n c.args.place c.args.count may c.mutator_load.ensures.step).keeps,
+      omega (arith, c.self.invariant.1, c.keep_cells.ensures.capacity),
+    )
+
+pub returns : goal.returns
+returns g c =
+    let may = subst (λ (s : SeatView _). MayKeep s.me c.args.n c.args.place c.args.count) (sym c.self.view_is) c.requires.may in
+    record {
+      told = seat_told c.self.inside.seat c.args.self.now c.mutator_load.new.seat
+          (λ v. event.Keep v.number c.args.n c.args.place c.args.count)
+          (λ v. finds.Presence v.presence) c.self.view_is c.mutator_load.ensures.same
+          (after_keep g.P.Keeping.holds g.P.Keeping.fixed c.self.inside.seat.me
+          c.mutator_load.new.seat.me c.self.inside.number c.mutator_load.result
+          c.self.inside.room c.self.inside.held.items c.self.inside.mode c.self.inside.inside
+          c.self.inside.status c.self.inside.claims c.self.invariant.0
+          c.args.n c.args.place c.args.count may c.mutator_load.ensures.step).view;
+    }

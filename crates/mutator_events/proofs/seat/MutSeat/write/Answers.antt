@@ -1,0 +1,149 @@
+use Rattle.std.proofs.Common.{◌≡◌, ◌≢◌, ◌∙◌, ◌+◌, ◌≤◌, ◌<◌, ℕ, Bool, true, false, List, [], ◌∷◌, ◌++◌}
+use Rattle.std.proofs.Common.{None, Some, length, refl, sym, ap, subst, arith}
+use Rattle.cell_words.specs.declared.colours.Colour.{Colour}
+use Rattle.cell_words.specs.declared.colours.Colour.TheVariants as colour
+use Rattle.cell_words.specs.declared.presences.Status.{Status}
+use Rattle.cell_words.specs.declared.fields.Field.{Field}
+use Rattle.core_machine.specs.declared.events.Event.TheVariants as event
+use Rattle.core_machine.specs.declared.events.Found.TheVariants as finds
+use Rattle.core_machine.specs.Table.{ColourOf, FieldOf, StatusOf, index_of}
+use Rattle.core_machine.specs.WordOperations.{Exchange, Load, Store}
+use Rattle.core_machine.specs.Words.{is_blue, kind_field, same_field}
+use Rattle.cell_words.specs.Field.{pack_field_of}
+use Rattle.cell_words.specs.Presence.{pack_presence_of}
+use Rattle.core_machine.specs.WordOperations.{answered_presence, colour_exchange}
+use Rattle.heap_rule.specs.Asks.{MayAnswer, MayClaim, MayFill, MayKeep, MayMark, MayRead, MaySeal}
+use Rattle.heap_rule.specs.Asks.{MayWrite, target}
+use Rattle.heap_rule.specs.Lore.{nothing_learned}
+use Rattle.heap_rule.specs.Steps.{Picks, same_pass}
+use Rattle.heap_rule.proofs.Owing.{owes_answer, owes_keep, owes_mark, owes_read, owes_seal}
+use Rattle.heap_table.specs.Seats.{HeapId, SeatView}
+use Rattle.mutator_events.specs.Events.{AtEvent}
+use Rattle.mutator_events.specs.Seats.{IsMutator}
+use Rattle.mutator_events.specs.Values.{cells_kept, cells_read, field_at, value_found}
+use Rattle.mutator_events.proofs.Calls.{after_answer, after_claim, after_fill, after_keep, after_mark}
+use Rattle.mutator_events.proofs.Calls.{after_miss, after_read, after_seal, after_write, claims_more}
+use Rattle.mutator_events.proofs.Calls.{seat_told, seat_told_with}
+use Rattle.mutator_events.proofs.Founds.{claim_word, not_blue, other_field, read_word}
+use Rattle.mutator_events.proofs.Founds.{write_word}
+use Rattle.mutator_events.proofs.HeldCells.{held_many}
+use Rattle.mutator_events.proofs.Owed.{claim_owed, fill_owed, fill_picked, owed_as, picked_as}
+use Rattle.mutator_events.proofs.Owed.{still_as, write_owed, write_picked}
+use Rattle.mutator_events.proofs.seat.MutSeat.write.Goals.{then-number-expected, else-number-expected}
+use Rattle.mutator_events.proofs.seat.MutSeat.write.Goals as goal
+
+pub mutator_exchange-number-requires-clause-made : goal.mutator_exchange-number-requires-clause-made
+mutator_exchange-number-requires-clause-made g c =
+    ap (λ (n : ℕ). Some n) (sym c.self.invariant.0.number_is)
+
+pub mutator_exchange-number-requires-clause-kind : goal.mutator_exchange-number-requires-clause-kind
+mutator_exchange-number-requires-clause-kind g c =
+    let may = subst (λ (s : SeatView _). MayWrite g.P.Keeping.fixed s.me c.args.place c.args.field (field_at s.me.own.held c.args.old) (field_at s.me.own.held c.args.new)) (sym c.self.view_is) c.requires.may in
+    write_owed g.P.Keeping.fixed c.self.inside.seat.me c.self.inside.number
+    c.self.invariant.0.number_is
+    c.args.place c.args.field (field_at c.self.inside.seat.me.own.held c.args.old)
+    (field_at c.self.inside.seat.me.own.held c.args.new) c.stands_for-old.result c.stands_for-new.result
+    c.field_at-word.result c.pack_field-expected.result c.pack_field-written.result
+    (c.stands_for-old.ensures.field
+    ∙ ap (λ (s : SeatView _). field_at s.me.own.held c.args.old) (sym c.self.view_is))
+    (c.stands_for-new.ensures.field
+    ∙ ap (λ (s : SeatView _). field_at s.me.own.held c.args.new) (sym c.self.view_is))
+    (ap (λ (s : SeatView _). index_of s.me.shape.mutators (FieldOf (target s.me c.args.place) c.args.field))
+    c.self.view_is ∙ sym c.field_at-word.ensures.word)
+    c.pack_field-expected.ensures.word c.pack_field-written.ensures.word may
+
+pub mutator_exchange-number-requires-clause-rule : goal.mutator_exchange-number-requires-clause-rule
+mutator_exchange-number-requires-clause-rule g c =
+    write_picked g.P.Keeping.fixed c.self.inside.seat.me c.self.inside.number
+    c.self.invariant.0.number_is g.P.Keeping.holds g.P.Keeping.shrinks g.C.Choice.next
+    c.args.place c.args.field (field_at c.self.inside.seat.me.own.held c.args.old)
+    (field_at c.self.inside.seat.me.own.held c.args.new) c.stands_for-old.result c.stands_for-new.result
+    (c.stands_for-old.ensures.field
+    ∙ ap (λ (s : SeatView _). field_at s.me.own.held c.args.old) (sym c.self.view_is))
+    (c.stands_for-new.ensures.field
+    ∙ ap (λ (s : SeatView _). field_at s.me.own.held c.args.new) (sym c.self.view_is))
+    (subst (λ (s : SeatView _). Picks g.P.Keeping.holds g.P.Keeping.fixed g.C.Choice.next s.me (event.Write s.me.number c.args.place c.args.field (field_at s.me.own.held c.args.old) (field_at s.me.own.held c.args.new))) (sym c.self.view_is) c.requires.rule)
+
+pub field_of-found-requires : goal.field_of-found-requires
+field_of-found-requires g c =
+    write_word g.P.Keeping.holds g.P.Keeping.fixed g.C.Choice.next c.self.inside.seat.me
+    c.mutator_exchange-number.new.seat.me c.self.inside.number c.mutator_exchange-number.result c.args.place c.args.field
+    c.stands_for-old.result c.stands_for-new.result c.mutator_exchange-number.ensures.step
+
+pub invariant_of-self : goal.invariant_of-self
+invariant_of-self g c = (
+  (after_write g.P.Keeping.holds g.P.Keeping.fixed g.C.Choice.next c.self.inside.seat.me
+      c.mutator_exchange-number.new.seat.me c.self.inside.number c.mutator_exchange-number.result
+      c.self.inside.room c.self.inside.held.items c.self.inside.mode c.self.inside.inside
+      c.self.inside.status c.self.inside.claims c.self.invariant.0
+      c.args.place c.args.field (field_at c.self.inside.seat.me.own.held c.args.old)
+      (field_at c.self.inside.seat.me.own.held c.args.new) c.stands_for-old.result c.stands_for-new.result c.field_of-found.result
+      (c.stands_for-old.ensures.field
+      ∙ ap (λ (s : SeatView _). field_at s.me.own.held c.args.old) (sym c.self.view_is))
+      (c.stands_for-new.ensures.field
+      ∙ ap (λ (s : SeatView _). field_at s.me.own.held c.args.new) (sym c.self.view_is))
+      c.field_of-found.ensures.field c.mutator_exchange-number.ensures.step).keeps,
+  c.self.invariant.1,
+)
+
+pub returns-clause-made : goal.returns-clause-made
+returns-clause-made g c =
+    let step = c.mutator_exchange-number in
+    let there = after_write g.P.Keeping.holds g.P.Keeping.fixed g.C.Choice.next c.self.inside.seat.me
+    c.mutator_exchange-number.new.seat.me c.self.inside.number c.mutator_exchange-number.result
+    c.self.inside.room c.self.inside.held.items c.self.inside.mode c.self.inside.inside
+    c.self.inside.status c.self.inside.claims c.self.invariant.0
+    c.args.place c.args.field (field_at c.self.inside.seat.me.own.held c.args.old)
+    (field_at c.self.inside.seat.me.own.held c.args.new) c.stands_for-old.result c.stands_for-new.result c.field_of-found.result
+    (c.stands_for-old.ensures.field
+    ∙ ap (λ (s : SeatView _). field_at s.me.own.held c.args.old) (sym c.self.view_is))
+    (c.stands_for-new.ensures.field
+    ∙ ap (λ (s : SeatView _). field_at s.me.own.held c.args.new) (sym c.self.view_is))
+    c.field_of-found.ensures.field c.mutator_exchange-number.ensures.step in
+    let here = subst (λ (s : SeatView _). AtEvent g.P.Keeping.holds g.P.Keeping.fixed s.me
+    (event.Write s.me.number c.args.place c.args.field (field_at s.me.own.held c.args.old) (field_at s.me.own.held c.args.new)) g.C.Choice.next
+    (finds.Field c.field_of-found.result) step.new.seat.me) c.self.view_is there.event in
+    elim c.if-number-expected.branch [
+      | then-number-expected w ↦
+          rw w.result-is
+          (subst (λ (x : Field). AtEvent g.P.Keeping.holds g.P.Keeping.fixed c.args.self.now.me
+          (event.Write c.args.self.now.me.number c.args.place c.args.field (field_at c.args.self.now.me.own.held c.args.old) (field_at c.args.self.now.me.own.held c.args.new)) g.C.Choice.next
+          (finds.Field x) step.new.seat.me)
+          (c.field_of-found.ensures.field c.stands_for-old.result c.stands_for-old.ensures.valid
+          (sym (w.if-number-expected.true ∙ c.pack_field-expected.ensures.word))
+          ∙ c.stands_for-old.ensures.field) here)
+      | else-number-expected w ↦ rw w.result-is tt
+    ]
+
+pub returns-clause-moved : goal.returns-clause-moved
+returns-clause-moved g c =
+    let step = c.mutator_exchange-number in
+    let there = after_write g.P.Keeping.holds g.P.Keeping.fixed g.C.Choice.next c.self.inside.seat.me
+    c.mutator_exchange-number.new.seat.me c.self.inside.number c.mutator_exchange-number.result
+    c.self.inside.room c.self.inside.held.items c.self.inside.mode c.self.inside.inside
+    c.self.inside.status c.self.inside.claims c.self.invariant.0
+    c.args.place c.args.field (field_at c.self.inside.seat.me.own.held c.args.old)
+    (field_at c.self.inside.seat.me.own.held c.args.new) c.stands_for-old.result c.stands_for-new.result c.field_of-found.result
+    (c.stands_for-old.ensures.field
+    ∙ ap (λ (s : SeatView _). field_at s.me.own.held c.args.old) (sym c.self.view_is))
+    (c.stands_for-new.ensures.field
+    ∙ ap (λ (s : SeatView _). field_at s.me.own.held c.args.new) (sym c.self.view_is))
+    c.field_of-found.ensures.field c.mutator_exchange-number.ensures.step in
+    let here = subst (λ (s : SeatView _). AtEvent g.P.Keeping.holds g.P.Keeping.fixed s.me
+    (event.Write s.me.number c.args.place c.args.field (field_at s.me.own.held c.args.old) (field_at s.me.own.held c.args.new)) g.C.Choice.next
+    (finds.Field c.field_of-found.result) step.new.seat.me) c.self.view_is there.event in
+    elim c.if-number-expected.branch [
+      | then-number-expected w ↦ rw w.result-is tt
+      | else-number-expected w ↦
+          rw w.result-is (
+            ap (λ (x : Field). same_field c.field_of-found.result x)
+                (sym c.stands_for-old.ensures.field)
+                ∙ other_field g.P.Keeping.holds g.P.Keeping.fixed g.C.Choice.next
+                c.self.inside.seat.me step.new.seat.me c.self.inside.number step.result
+                c.args.place c.args.field c.stands_for-old.result c.stands_for-new.result c.field_of-found.result
+                c.field_of-found.ensures.field step.ensures.step
+                (λ same. w.if-number-expected.false
+                (same ∙ sym c.pack_field-expected.ensures.word)),
+            here,
+          )
+    ]

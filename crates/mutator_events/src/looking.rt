@@ -1,0 +1,28 @@
+//! One look at the control.
+ghost use Rattle.std.specs.Prelude.{◌≡◌, true};
+ghost use Rattle.core_machine.specs.declared.events.Event.TheVariants as event;
+ghost use Rattle.core_machine.specs.declared.events.Found.TheVariants as finds;
+ghost use Rattle.heap_table.specs.Seats.{IsSeatOf};
+ghost use Rattle.mutator_events.specs.Events.{tells};
+
+use crate::seat::MutSeat;
+use crate::words::{CONTROL, control_of};
+use cell_words::Control;
+use core_machine::Event;
+use heap_rule::Keeping;
+use heap_table::CellHeap;
+use std::marker::Brand;
+
+impl<P: Keeping> MutSeat<P> {
+    /// Loads the control: the mode of what it does next, and stale from then on. All marks are gone.
+    pub fn look(&mut self, heap: &CellHeap<P>) -> Control
+        requires seat { IsSeatOf heap.now self.old }
+        requires inside { self.old.me.presence.inside ≡ true }
+        ensures told { self.new ≡ tells self.old (event.Look self.old.me.number) (finds.Control result) }
+    {
+        let found = heap.mutator_load::<Brand>(&mut self.seat, Event::Look(self.number), CONTROL);
+        let control = control_of(found);
+        self.mode = Some(control);
+        control
+    }
+}

@@ -1,0 +1,66 @@
+//! Writing a field of a box.
+ghost use Rattle.std.specs.Prelude.{◌≡◌, IfErr, OnOk, false};
+ghost use Rattle.core_machine.specs.Words.{same_field};
+ghost use Rattle.core_machine.specs.declared.events.Event.TheVariants as event;
+ghost use Rattle.core_machine.specs.declared.events.Found.TheVariants as finds;
+ghost use Rattle.heap_rule.specs.Asks.{MayWrite};
+ghost use Rattle.heap_rule.specs.Steps.{Picks};
+ghost use Rattle.heap_table.specs.Seats.{IsSeatOf};
+ghost use Rattle.mutator_events.specs.Events.{AtEvent};
+ghost use Rattle.mutator_events.specs.Values.{field_at};
+
+use crate::choice::Choice;
+use crate::seat::MutSeat;
+use crate::values::{Moved, Value};
+use crate::words::field_of;
+use cell_words::pack_field;
+use core_machine::Event;
+use heap_rule::Keeping;
+use heap_table::CellHeap;
+use std::marker::Brand;
+
+impl<P: Keeping> MutSeat<P> {
+    /// Exchanges a field of the box at a place for `new`, where it holds `old`. The look and all
+    /// marks are used up in either case. One compare and exchange on the field.
+    pub fn write<C: Choice<P>>(
+        &mut self,
+        heap: &CellHeap<P>,
+        place: usize,
+        field: usize,
+        old: Value,
+        new: Value,
+    ) -> Result<(), Moved>
+        requires seat { IsSeatOf heap.now self.old }
+        requires may { MayWrite P.fixed self.old.me place field (field_at self.old.me.own.held old) (field_at self.old.me.own.held new) }
+        requires rule { Picks P.holds P.fixed C.next self.old.me (event.Write self.old.me.number place field
+            (field_at self.old.me.own.held old) (field_at self.old.me.own.held new)) }
+        ensures table { self.new.table ≡ self.old.table }
+        ensures made { OnOk result (AtEvent P.holds P.fixed self.old.me (event.Write self.old.me.number place field
+            (field_at self.old.me.own.held old) (field_at self.old.me.own.held new)) C.next
+            (finds.Field (field_at self.old.me.own.held old)) self.new.me) }
+        ensures moved { IfErr result (λ moved. (same_field moved.found (field_at self.old.me.own.held old) ≡ false)
+            × AtEvent P.holds P.fixed self.old.me (event.Write self.old.me.number place field
+            (field_at self.old.me.own.held old) (field_at self.old.me.own.held new)) C.next
+            (finds.Field moved.found) self.new.me) }
+    {
+        let word = self.field_at(heap, place, field);
+        let old = self.stands_for(old);
+        let new = self.stands_for(new);
+        let expected = pack_field(old);
+        let written = pack_field(new);
+        let number = heap.mutator_exchange::<Brand>(
+            &mut self.seat,
+            Event::Write(self.number, place, field, old, new),
+            word,
+            expected,
+            written,
+        );
+        let found = field_of(number);
+        self.mode = None;
+        if number == expected {
+            Ok(())
+        } else {
+            Err(Moved { found })
+        }
+    }
+}
