@@ -1,0 +1,5 @@
+mod Changes
+mod Kept
+mod Made
+mod Owed
+mod Within
