@@ -7,7 +7,6 @@ use Rattle.cell_heap.proofs.Made.{Made}
 use Rattle.cell_heap.proofs.Within.{within_after}
 use Rattle.cell_words.specs.declared.controls.Control.{Control}
 use Rattle.core_machine.specs.declared.events.Event.{Event}
-use Rattle.core_machine.specs.declared.events.Found.{Found}
 use Rattle.core_machine.specs.Collector.{collector_after, control_after}
 use Rattle.core_machine.specs.Next.{found_by, maker}
 use Rattle.heap_rule.specs.declared.view.View.{View}
@@ -16,12 +15,12 @@ use Rattle.heap_table.specs.Seats.{SeatView}
 module _ {P : Type 0} {fixed : ℕ → Bool} {old inside new : SeatView P} {e : Event} {number : ℕ}
     {cells mutators : ℕ} {control : Control} {progress : Progress} where
   -- by the new control and the new progress, which the event's change of the view makes
-  pub kept : Made fixed old inside new e number
+  pub kept : (m : Made fixed old inside new e number)
       → IsCollector inside.me cells mutators control progress → maker e ≡ None
       → (next : Control) → control_after control e ≡ next
       → (further : Progress)
-      → ((found : Found) → progress_of (collector_after inside.me.shape.cells inside.me.control inside.me.part e found)
-      ≡ further)
+      → progress_of (collector_after inside.me.shape.cells inside.me.control inside.me.part e
+      (found_by m.step.core e)) ≡ further
       → IsCollector new.me cells mutators next further
   kept m is made next goes further moves =
       let told = m.step.new in
@@ -31,7 +30,7 @@ module _ {P : Type 0} {fixed : ℕ → Bool} {old inside new : SeatView P} {e : 
       ap (λ (x : View P). x.control) told
       ∙ ap (λ (x : Control). control_after x e) is.control_is ∙ goes in
       let progress_is : progress_of new.me.part ≡ further =
-      ap (λ (x : View P). progress_of x.part) told ∙ moves (found_by m.step.core e) in
+      ap (λ (x : View P). progress_of x.part) told ∙ moves in
       record {
         role_is = ap (λ (x : View P). x.role) told ∙ is.role_is;
         cells_are = cells_are;

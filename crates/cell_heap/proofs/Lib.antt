@@ -1,3 +1,4 @@
+mod Answering
 mod Changes
 mod Kept
 mod Made

@@ -2,6 +2,8 @@
 -- word lies. A call speaks of the seat that it was given; its fields have the same one, opened.
 use Rattle.std.proofs.Common.{◌≡◌, ◌<◌, ◌+◌, ℕ, Bool, true, None, sym, ◌∙◌, ap, subst, arith}
 use Rattle.core_machine.specs.declared.events.Event.{Event}
+use Rattle.core_machine.specs.declared.events.Event.TheVariants as event
+use Rattle.std.proofs.lemmas.Bool.{and_parts, ltb-true}
 use Rattle.core_machine.specs.Next.{can, maker}
 use Rattle.core_machine.specs.Table.{ColourOf, FieldOf, index_of}
 use Rattle.core_machine.specs.WordOperations.{Operation, left_by, operation_of, word_of}
@@ -25,6 +27,12 @@ module _ {P : Type 0} where
       subst
       (λ (x : ℕ × Operation). CollectorOwes fixed inside.me e x.0 (left_by x.1) (told_by x.1))
       (λ t. (at t, by t)) (collector_asks fixed inside.me e made happens)
+
+  -- the condition, of the seat opened
+  pub allowed : (old inside : SeatView P) (e : Event) → inside ≡ old
+      → can (collector_state old.me) e ≡ true → can (collector_state inside.me) e ≡ true
+  allowed old inside e is h =
+      subst (λ (s : SeatView P). can (collector_state s.me) e ≡ true) (sym is) h
 
   -- the seat is one of the heap, and the collector's
   pub seated : (heap : HeapId) (old inside : SeatView P) → inside ≡ old → IsSeatOf heap old
@@ -53,3 +61,17 @@ pub field_below : (shape : Shape) (c f word : ℕ)
     → word ≡ index_of shape.mutators (FieldOf c f) → c < shape.cells → f < 6
     → word < words_many shape
 field_below shape c f word is lt six = omega (arith, is, lt, six)
+
+module _ {P : Type 0} (heap : HeapId) (old : SeatView P) where
+  pub polled_below : (i word : ℕ) → word ≡ 1 + i → IsSeatOf heap old
+      → can (collector_state old.me) (event.Poll i) ≡ true → word < words_many heap.shape
+  polled_below i word is of h =
+      subst (λ (shape : Shape). word < words_many shape) of.1
+      (status_below old.me.shape i word is (ltb-true i old.me.shape.mutators (and_parts _ _ h).1))
+
+  pub answered_below : (i : ℕ) (over : Bool) (word : ℕ) → word ≡ 1 + i → IsSeatOf heap old
+      → can (collector_state old.me) (event.AnswerOut i over) ≡ true → word < words_many heap.shape
+  answered_below i over word is of h =
+      subst (λ (shape : Shape). word < words_many shape) of.1
+      (status_below old.me.shape i word is
+      (ltb-true i old.me.shape.mutators (and_parts _ _ (and_parts _ _ h).0).1))

@@ -2,11 +2,16 @@
 -- Source: this project's.
 use Rattle.std.specs.Prelude.{ℕ, ◌≡◌, Bool, true, Some}
 use Rattle.cell_words.specs.declared.colours.Colour.{Colour}
+use Rattle.cell_words.specs.declared.presences.Presence.{Presence}
+use Rattle.cell_words.specs.Modes.{requested_of}
+use Rattle.cell_words.specs.Presence.{is_valid_presence}
 use Rattle.core_machine.specs.declared.events.Event.{Event}
+use Rattle.core_machine.specs.declared.events.Event.TheVariants as event
 use Rattle.core_machine.specs.declared.events.Found.{Found}
 use Rattle.core_machine.specs.declared.events.Found.TheVariants as finds
 use Rattle.core_machine.specs.Next.{after, can, found_by}
 use Rattle.core_machine.specs.State.{State}
+use Rattle.core_machine.specs.Words.{may_answer_out}
 use Rattle.heap_rule.specs.declared.view.View.{View}
 use Rattle.heap_rule.specs.Asks.{collector_state}
 use Rattle.heap_rule.specs.Lore.{Lore}
@@ -42,3 +47,13 @@ module _ {P : Type 0} where
     pub happens : can core e ≡ true
     pub found_is : found_by core e ≡ found
     pub new : w ≡ told_collector v e found (after core e)
+
+  -- An answer for a mutator that is out. It was made where that was out, over or not as given, with
+  -- the status before the requested one.
+  pub record AnswersOut (fixed : ℕ → Bool) (v : View P) (i : ℕ) (over answers : Bool)
+      (w : View P) : Type 0 where
+    pub found : Presence
+    pub valid : is_valid_presence found ≡ true
+    pub known : FindsKnown v (event.AnswerOut i over) (finds.Presence found)
+    pub told : AtCollectorEvent fixed v (event.AnswerOut i over) (finds.Presence found) w
+    pub answered : answers ≡ may_answer_out (requested_of v.control.stage) over found

@@ -12,6 +12,7 @@ mod handshakes;
 mod progress;
 mod seat;
 mod sweep;
+mod tracing;
 mod words;
 
 pub use seat::ColSeat;

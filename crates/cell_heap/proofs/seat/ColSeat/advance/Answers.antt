@@ -22,7 +22,7 @@ pub invariant_of-self : goal.invariant_of-self
 invariant_of-self g c =
     kept (made c.self.view_is c.collector_store.ensures.same c.collector_store.ensures.step)
     c.self.invariant refl _ refl _
-    (λ found. ap (λ (p : Progress). record p { sweep = sweeping.Fresh })
+    (ap (λ (p : Progress). record p { sweep = sweeping.Fresh })
     c.self.invariant.progress_is)
 
 pub returns : goal.returns

@@ -19,7 +19,7 @@ collector_store-requires-clause-kind g c =
 pub invariant_of-self : goal.invariant_of-self
 invariant_of-self g c =
     kept (made c.self.view_is c.collector_store.ensures.same c.collector_store.ensures.step)
-    c.self.invariant refl _ refl _ (λ found. c.self.invariant.progress_is)
+    c.self.invariant refl _ refl _ c.self.invariant.progress_is
 
 pub returns : goal.returns
 returns g c = record {

@@ -20,7 +20,7 @@ pub invariant_of-self : goal.invariant_of-self
 invariant_of-self g c =
     kept (made c.self.view_is c.collector_store.ensures.same c.collector_store.ensures.step)
     c.self.invariant refl c.posted-control.result (sym c.posted-control.ensures.control)
-    c.post.new.self (λ found. posts c.self.inside.seat.me.part c.args.stage c.self.inside.progress
+    c.post.new.self (posts c.self.inside.seat.me.part c.args.stage c.self.inside.progress
     c.post.new.self c.self.invariant.progress_is c.post.ensures.posted)
 
 pub returns : goal.returns
