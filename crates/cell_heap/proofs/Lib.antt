@@ -1,0 +1,6 @@
+mod Answering
+mod Changes
+mod Kept
+mod Made
+mod Owed
+mod Within

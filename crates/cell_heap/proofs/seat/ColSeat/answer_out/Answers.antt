@@ -1,0 +1,52 @@
+use Rattle.std.proofs.Common.{◌≡◌, refl, sym, ◌∙◌, ap}
+use Rattle.cell_heap.proofs.Answering.{answers_out, exchanges_out}
+use Rattle.cell_heap.proofs.Made.{at_event, finds_valid, knows, made}
+use Rattle.cell_heap.proofs.Owed.{answered_below, owes}
+use Rattle.cell_words.specs.Modes.{requested_of}
+use Rattle.cell_words.specs.declared.controls.Control.{Control}
+use Rattle.cell_words.specs.declared.presences.Status.{Status}
+use Rattle.core_machine.specs.State.{presence_of}
+use Rattle.core_machine.specs.WordOperations.{Exchange}
+use Rattle.core_machine.specs.Words.{may_answer_out}
+use Rattle.core_machine.specs.declared.events.Event.TheVariants as event
+use Rattle.core_machine.specs.declared.events.Found.TheVariants as finds
+use Rattle.heap_table.specs.Seats.{SeatView}
+use Rattle.cell_heap.proofs.seat.ColSeat.answer_out.Goals as goal
+
+pub collector_exchange-found-requires-clause-word : goal.collector_exchange-found-requires-clause-word
+collector_exchange-found-requires-clause-word g c =
+    answered_below c.args.heap.now c.args.self.now c.args.mutator c.args.over
+    c.status_word-word.result (c.status_word-word.ensures.index 0) c.requires.seat c.requires.can
+
+pub collector_exchange-found-requires-clause-kind : goal.collector_exchange-found-requires-clause-kind
+collector_exchange-found-requires-clause-kind g c =
+    owes g.P.Keeping.fixed c.args.self.now c.self.inside.seat
+    (event.AnswerOut c.args.mutator c.args.over) c.status_word-word.result
+    (Exchange c.pack_presence-old.result c.pack_presence-new.result) c.self.view_is refl
+    c.requires.can (sym (c.status_word-word.ensures.index 0))
+    (exchanges_out c.self.inside.seat.me.control c.self.inside.control c.requested-wanted.result
+    c.status_before-before.result c.args.over c.pack_presence-old.result c.pack_presence-new.result
+    c.self.invariant.control_is c.requested-wanted.ensures.status
+    c.status_before-before.ensures.status c.pack_presence-old.ensures.word
+    c.pack_presence-new.ensures.word)
+
+pub returns-clause-told : goal.returns-clause-told
+returns-clause-told g c =
+    let step = c.collector_exchange-found.ensures.step in
+    let found = presence_of step.core c.args.mutator in
+    let wanted : c.requested-wanted.result ≡ requested_of c.args.self.now.me.control.stage =
+    c.requested-wanted.ensures.status
+    ∙ ap (λ (x : Control). requested_of x.stage) (sym c.self.invariant.control_is)
+    ∙ ap (λ (s : SeatView _). requested_of s.me.control.stage) c.self.view_is in
+    record {
+      found = found;
+      valid = finds_valid (made c.self.view_is c.collector_exchange-found.ensures.same step);
+      known = knows (made c.self.view_is c.collector_exchange-found.ensures.same step)
+          (finds.Presence found) refl;
+      told = at_event (made c.self.view_is c.collector_exchange-found.ensures.same step)
+          (finds.Presence found) refl;
+      answered = answers_out found c.requested-wanted.result c.status_before-before.result
+          c.args.over c.collector_exchange-found.result c.pack_presence-old.result
+          step.says c.status_before-before.ensures.status c.pack_presence-old.ensures.word
+          ∙ ap (λ (s : Status). may_answer_out s c.args.over found) wanted;
+    }

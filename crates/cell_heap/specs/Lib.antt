@@ -1,0 +1,3 @@
+pub mod Collecting
+pub mod Progress
+pub mod Telling

@@ -1,0 +1,59 @@
+-- What a call of the collector's seat tells.
+-- Source: this project's.
+use Rattle.std.specs.Prelude.{ℕ, ◌≡◌, Bool, true, Some}
+use Rattle.cell_words.specs.declared.colours.Colour.{Colour}
+use Rattle.cell_words.specs.declared.presences.Presence.{Presence}
+use Rattle.cell_words.specs.Modes.{requested_of}
+use Rattle.cell_words.specs.Presence.{is_valid_presence}
+use Rattle.core_machine.specs.declared.events.Event.{Event}
+use Rattle.core_machine.specs.declared.events.Event.TheVariants as event
+use Rattle.core_machine.specs.declared.events.Found.{Found}
+use Rattle.core_machine.specs.declared.events.Found.TheVariants as finds
+use Rattle.core_machine.specs.Next.{after, can, found_by}
+use Rattle.core_machine.specs.State.{State}
+use Rattle.core_machine.specs.Words.{may_answer_out}
+use Rattle.heap_rule.specs.declared.view.View.{View}
+use Rattle.heap_rule.specs.Asks.{collector_state}
+use Rattle.heap_rule.specs.Lore.{Lore}
+use Rattle.heap_rule.specs.Rule.{told_collector}
+use Rattle.heap_rule.specs.Steps.{Ours}
+use Rattle.heap_table.specs.Seats.{SeatView}
+
+module _ {P : Type 0} where
+  -- The seat is told an event with what it found. The state behind it is of no account but where a
+  -- presence was found, so any stands here.
+  abbrev pub collector_tells : SeatView P → Event → Found → SeatView P
+  collector_tells seat e found = record seat {
+    me = told_collector seat.me e found (collector_state seat.me);
+  }
+
+  -- Where the collector knows the state, the event finds what is there.
+  abbrev pub FindsKnown : View P → Event → Found → Type 0
+  FindsKnown v e found = (s : State) → v.alone ≡ Some s → found_by s e ≡ found
+
+  -- An event that finds a colour, which its call does not give.
+  pub record TellsColour (old : SeatView P) (e : Event) (new : SeatView P) : Type 0 where
+    pub found : Colour
+    pub known : FindsKnown old.me e (finds.Colour found)
+    pub told : new ≡ collector_tells old e (finds.Colour found)
+
+  -- A look at a mutator's presence, with the state in which it happened: behind it the collector
+  -- may know that all are over, and then knows the state.
+  pub record AtCollectorEvent (fixed : ℕ → Bool) (v : View P) (e : Event) (found : Found)
+      (w : View P) : Type 0 where
+    pub core : State
+    pub lore : Lore
+    pub ours : Ours fixed v core lore
+    pub happens : can core e ≡ true
+    pub found_is : found_by core e ≡ found
+    pub new : w ≡ told_collector v e found (after core e)
+
+  -- An answer for a mutator that is out. It was made where that was out, over or not as given, with
+  -- the status before the requested one.
+  pub record AnswersOut (fixed : ℕ → Bool) (v : View P) (i : ℕ) (over answers : Bool)
+      (w : View P) : Type 0 where
+    pub found : Presence
+    pub valid : is_valid_presence found ≡ true
+    pub known : FindsKnown v (event.AnswerOut i over) (finds.Presence found)
+    pub told : AtCollectorEvent fixed v (event.AnswerOut i over) (finds.Presence found) w
+    pub answered : answers ≡ may_answer_out (requested_of v.control.stage) over found
