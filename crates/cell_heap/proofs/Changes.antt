@@ -80,5 +80,5 @@ sees c known cells cell found k progress further many is same moved =
     ap (λ (n : ℕ). progress_of (seen (restarted c n) cell found)) many
     ∙ ap (λ (x : Colour). progress_of (seen (restarted c cells) cell x)) is
     ∙ seeing (restarted c cells) (restarted (part_of (progress_of c)) cells) cell k
-      (restarts c cells)
+    (restarts c cells)
     ∙ ap (changed (λ part. seen (restarted part cells) cell k)) same ∙ sym moved

@@ -9,10 +9,13 @@
 #![tactic(auto)]
 
 mod handshakes;
+mod moves;
 mod progress;
 mod seat;
 mod sweep;
 mod tracing;
 mod words;
 
+pub use heap_table::{CellHeap, Image, NoMemory, Passes};
+pub use mutator_events::{Choice, HeldRoom, Moved, MutSeat, Value};
 pub use seat::ColSeat;

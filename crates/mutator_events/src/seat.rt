@@ -1,5 +1,6 @@
 //! The seat of a mutator, and its readers.
 ghost use Rattle.std.specs.Prelude.{◌≡◌, ◌<◌, ◌≤◌, ◌+◌, IfOk, length, true};
+ghost use Rattle.heap_rule.specs.declared.view.Role.TheVariants as role;
 ghost use Rattle.mutator_events.specs.Seats.{IsGiven};
 
 use crate::NoMemory;
@@ -96,6 +97,7 @@ impl<P: Keeping> MutSeat<P> {
     /// The seat of the heap, as it is joined to the collector's.
     pub fn into_seat(self) -> HeapSeat<P>
         ensures seat { result ≡ self }
+        ensures role { result.me.role ≡ role.Mutator }
     {
         self.seat
     }
