@@ -1,8 +1,10 @@
 -- What each call of a mutator's seat owes at its step, from the condition of the call: said with the
 -- numbers that the seat has at run time.
-use Rattle.std.proofs.Common.{◌≡◌, ℕ, Bool, List, Option, sym, ◌∙◌, ap, subst}
+use Rattle.std.proofs.Common.{◌≡◌, ℕ, Bool, true, false, List, Option, sym, ◌∙◌, ap, subst}
 use Rattle.cell_words.specs.Colour.{pack_colour_of}
 use Rattle.cell_words.specs.Field.{pack_field_of}
+use Rattle.cell_words.specs.Modes.{next_status_of}
+use Rattle.cell_words.specs.Presence.{pack_presence_of}
 use Rattle.cell_words.specs.declared.colours.Colour.TheVariants as colour
 use Rattle.cell_words.specs.declared.controls.Control.{Control}
 use Rattle.cell_words.specs.declared.fields.Field.{Field}
@@ -11,16 +13,19 @@ use Rattle.core_machine.specs.declared.events.Event.{Event}
 use Rattle.core_machine.specs.declared.events.Event.TheVariants as event
 use Rattle.core_machine.specs.declared.events.Found.{Found}
 use Rattle.core_machine.specs.State.{State}
-use Rattle.core_machine.specs.Table.{Word, ColourOf, FieldOf, index_of}
+use Rattle.core_machine.specs.Table.{Word, ColourOf, FieldOf, StatusOf, index_of}
 use Rattle.core_machine.specs.WordOperations.{Operation, Exchange, Store, colour_exchange, left_by}
+use Rattle.core_machine.specs.WordOperations.{answered_presence}
 use Rattle.core_machine.specs.Words.{born_colour}
 use Rattle.heap_rule.specs.declared.known.Learned.{Learned}
 use Rattle.heap_rule.specs.declared.view.View.{View}
-use Rattle.heap_rule.specs.Asks.{Asks, MayClaim, MayFill, MayWrite, target, told_by}
+use Rattle.heap_rule.specs.Asks.{Asks, MayAnswer, MayClaim, MayFill, MayMark, MayWrite}
+use Rattle.heap_rule.specs.Asks.{target, told_by}
 use Rattle.heap_rule.specs.Boxes.{Map, Smaller, boxes_by, boxes_of}
 use Rattle.heap_rule.specs.Lore.{Lore}
 use Rattle.heap_rule.specs.Steps.{Owes, Picks, StandsBy, same_pass}
-use Rattle.heap_rule.proofs.Owing.{owes_claim, owes_fill, owes_write}
+use Rattle.heap_rule.proofs.Owing.{owes_answer, owes_claim, owes_fill, owes_mark}
+use Rattle.heap_rule.proofs.Owing.{owes_write}
 use Rattle.heap_rule.proofs.Picking.{stands_by, stands_still}
 
 module _ {P : Type 0} (fixed : ℕ → Bool) (v : View P) (i : ℕ) (number : v.number ≡ i) where
@@ -74,6 +79,36 @@ module _ {P : Type 0} (fixed : ℕ → Bool) (v : View P) (i : ℕ) (number : v.
       (λ s l mine. owes_write fixed v s l mine place f old_run new_run
       (subst (λ (x : Field). MayWrite fixed v place f x new_run) (sym old_is)
       (subst (λ (x : Field). MayWrite fixed v place f old x) (sym new_is) may)))
+
+  -- the word of an answer
+  pub answer_owed : (at word : ℕ) (status next : Status) → index_of v.shape.mutators (StatusOf v.number) ≡ at
+      → v.presence.status ≡ status → v.presence.over ≡ false → next ≡ next_status_of status
+      → word ≡ pack_presence_of (record { status = next; inside = true; over = false })
+      → MayAnswer v
+      → Owes fixed v (event.Answer i) at (left_by (Store word)) (told_by (Store word))
+  answer_owed at word status next there status_is over next_is packed may =
+      let left : pack_presence_of (answered_presence v.presence) ≡ word =
+      (λ t. pack_presence_of record {
+        status = (ap (λ (s : Status). next_status_of s) status_is ∙ sym next_is) t;
+        inside = may.inside t;
+        over = over t;
+      })
+      ∙ sym packed in
+      owed_as (λ n. event.Answer n) (StatusOf v.number) at
+      (Store (pack_presence_of (answered_presence v.presence))) (Store word) there
+      (ap (λ (n : ℕ). Store n) left) (λ s l mine. owes_answer fixed v s l mine may)
+
+  -- the two words of a mark
+  pub mark_owed : (place at from to : ℕ)
+      → index_of v.shape.mutators (ColourOf (target v place)) ≡ at
+      → from ≡ pack_colour_of colour.White → to ≡ pack_colour_of colour.Gray → MayMark v place
+      → Owes fixed v (event.Mark i place) at (left_by (Exchange from to))
+      (told_by (Exchange from to))
+  mark_owed place at from to there first second may =
+      owed_as (λ n. event.Mark n place) (ColourOf (target v place)) at
+      (colour_exchange colour.White colour.Gray) (Exchange from to) there
+      (λ t. Exchange (sym first t) (sym second t))
+      (λ s l mine. owes_mark fixed v s l mine place may)
 
   -- the two words of a claim
   pub claim_owed : (c : ℕ) (at from to : ℕ) (status : Status) (mode : Option Control)

@@ -1,13 +1,15 @@
-//! One look at the control.
+//! One look at the control, and the answer to the handshake that it saw.
 ghost use Rattle.std.specs.Prelude.{◌≡◌, true};
 ghost use Rattle.core_machine.specs.declared.events.Event.TheVariants as event;
 ghost use Rattle.core_machine.specs.declared.events.Found.TheVariants as finds;
+ghost use Rattle.heap_rule.specs.Asks.{MayAnswer};
 ghost use Rattle.heap_table.specs.Seats.{IsSeatOf};
 ghost use Rattle.mutator_events.specs.Events.{tells};
 
 use crate::seat::MutSeat;
-use crate::words::{CONTROL, control_of};
-use cell_words::Control;
+use crate::words::{CONTROL, control_of, status_word};
+use cell_words::modes::next_status;
+use cell_words::{Control, Presence, pack_presence};
 use core_machine::Event;
 use heap_rule::Keeping;
 use heap_table::CellHeap;
@@ -24,5 +26,24 @@ impl<P: Keeping> MutSeat<P> {
         let control = control_of(found);
         self.mode = Some(control);
         control
+    }
+
+    /// Answers the handshake that its last look saw, by the next status. Before the third answer of
+    /// a cycle all places are marked. One store to its status word.
+    pub fn answer(&mut self, heap: &CellHeap<P>)
+        requires seat { IsSeatOf heap.now self.old }
+        requires may { MayAnswer self.old.me }
+        ensures told { self.new ≡ tells self.old (event.Answer self.old.me.number) finds.Stored }
+    {
+        let word = status_word(heap, self.number);
+        let status = next_status(self.status);
+        let new = pack_presence(Presence {
+            status,
+            inside: true,
+            over: false,
+        });
+        heap.mutator_store::<Brand>(&mut self.seat, Event::Answer(self.number), word, new);
+        self.mode = None;
+        self.status = status;
     }
 }

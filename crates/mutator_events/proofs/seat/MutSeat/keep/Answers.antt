@@ -1,34 +1,17 @@
-use Rattle.std.proofs.Common.{◌≡◌, ◌≢◌, ◌∙◌, ◌+◌, ◌≤◌, ◌<◌, ℕ, Bool, true, false, List, [], ◌∷◌, ◌++◌}
-use Rattle.std.proofs.Common.{None, Some, length, refl, sym, ap, subst, arith}
-use Rattle.cell_words.specs.declared.colours.Colour.{Colour}
-use Rattle.cell_words.specs.declared.colours.Colour.TheVariants as colour
-use Rattle.cell_words.specs.declared.presences.Status.{Status}
-use Rattle.cell_words.specs.declared.fields.Field.{Field}
+use Rattle.std.proofs.Common.{◌∙◌, ◌+◌, ℕ, List}
+use Rattle.std.proofs.Common.{Some, refl, sym, ap, subst, arith}
 use Rattle.core_machine.specs.declared.events.Event.TheVariants as event
 use Rattle.core_machine.specs.declared.events.Found.TheVariants as finds
-use Rattle.core_machine.specs.Table.{ColourOf, FieldOf, StatusOf, index_of}
-use Rattle.core_machine.specs.WordOperations.{Exchange, Load, Store}
-use Rattle.core_machine.specs.Words.{is_blue, kind_field, same_field}
-use Rattle.cell_words.specs.Field.{pack_field_of}
-use Rattle.cell_words.specs.Presence.{pack_presence_of}
-use Rattle.core_machine.specs.WordOperations.{answered_presence, colour_exchange}
-use Rattle.heap_rule.specs.Asks.{MayAnswer, MayClaim, MayFill, MayKeep, MayMark, MayRead, MaySeal}
-use Rattle.heap_rule.specs.Asks.{MayWrite, target}
-use Rattle.heap_rule.specs.Lore.{nothing_learned}
-use Rattle.heap_rule.specs.Steps.{Picks, same_pass}
-use Rattle.heap_rule.proofs.Owing.{owes_answer, owes_keep, owes_mark, owes_read, owes_seal}
-use Rattle.heap_table.specs.Seats.{HeapId, SeatView}
-use Rattle.mutator_events.specs.Events.{AtEvent}
+use Rattle.core_machine.specs.Table.{StatusOf}
+use Rattle.core_machine.specs.WordOperations.{Load}
+use Rattle.heap_rule.specs.Asks.{MayKeep}
+use Rattle.heap_rule.proofs.Owing.{owes_keep}
+use Rattle.heap_table.specs.Seats.{SeatView}
 use Rattle.mutator_events.specs.Seats.{IsMutator}
-use Rattle.mutator_events.specs.Values.{cells_kept, cells_read, field_at, value_found}
-use Rattle.mutator_events.proofs.Calls.{after_answer, after_claim, after_fill, after_keep, after_mark}
-use Rattle.mutator_events.proofs.Calls.{after_miss, after_read, after_seal, after_write, claims_more}
-use Rattle.mutator_events.proofs.Calls.{seat_told, seat_told_with}
-use Rattle.mutator_events.proofs.Founds.{claim_word, not_blue, other_field, read_word}
-use Rattle.mutator_events.proofs.Founds.{write_word}
-use Rattle.mutator_events.proofs.HeldCells.{held_many}
-use Rattle.mutator_events.proofs.Owed.{claim_owed, fill_owed, fill_picked, owed_as, picked_as}
-use Rattle.mutator_events.proofs.Owed.{still_as, write_owed, write_picked}
+use Rattle.mutator_events.proofs.Calls.{after_keep}
+use Rattle.mutator_events.proofs.Calls.{seat_told}
+use Rattle.mutator_events.proofs.Owed.{owed_as}
+use Rattle.mutator_events.proofs.Owed.{still_as}
 use Rattle.mutator_events.proofs.seat.MutSeat.keep.Goals as goal
 
 pub mutator_load-requires-clause-made : goal.mutator_load-requires-clause-made
