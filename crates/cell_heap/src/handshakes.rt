@@ -24,19 +24,19 @@ fn posted(control: Control, stage: Stage) -> Control
     requires { control.cycles < 4294967295 }
     ensures control { result ≡ posted_control control stage }
 {
-    match stage {
-        Stage::Idle => Control {
-            stage,
-            position: 0,
-            cycles: control.cycles + 1,
-            ..control
-        },
-        Stage::Sweep => Control {
-            stage,
-            position: 0,
-            ..control
-        },
-        Stage::Sync1 | Stage::Clear | Stage::Sync2 | Stage::Trace => Control { stage, ..control },
+    let position = match stage {
+        Stage::Idle | Stage::Sweep => 0,
+        Stage::Sync1 | Stage::Clear | Stage::Sync2 | Stage::Trace => control.position,
+    };
+    let cycles = match stage {
+        Stage::Idle => control.cycles + 1,
+        Stage::Sync1 | Stage::Clear | Stage::Sync2 | Stage::Trace | Stage::Sweep => control.cycles,
+    };
+    Control {
+        stage,
+        position,
+        cycles,
+        ..control
     }
 }
 
