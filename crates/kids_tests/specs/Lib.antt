@@ -1,0 +1,3 @@
+pub mod EntriesCode
+pub mod Memory
+pub mod Row
