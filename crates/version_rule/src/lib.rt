@@ -1,0 +1,2 @@
+//! The rule of versions.
+#![tactic(auto)]
