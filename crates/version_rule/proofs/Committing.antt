@@ -21,7 +21,7 @@ use Rattle.version_rule.specs.Versions.{IsLinked, IsVersion, IsNext}
 use Rattle.version_rule.proofs.Cutting.{some_is, written_else, written_here}
 use Rattle.version_rule.proofs.Made.{versions_more}
 use Rattle.version_rule.proofs.Passing.{fits_at, in_step_at, made_of}
-use Rattle.version_rule.proofs.Smaller.{named_inj, not_anchor, num_inj, one_number, same_entry}
+use Rattle.version_rule.specs.Shrinks.{named_inj, not_anchor, num_inj, one_number, same_entry}
 use Rattle.version_rule.proofs.Trees.{tree_last, tree_still}
 
 module _ (is_tree : Term → Type 0) (tree_of : Term → DocTree) (map : Map) (passes : List Pass)

@@ -12,7 +12,7 @@ use Rattle.version_rule.specs.Pass.{Pass}
 use Rattle.version_rule.specs.Versions.{HasLatest, HasNumber, HoldsVersions, IsCut, IsInStep}
 use Rattle.version_rule.specs.Versions.{IsLinked, IsVersion}
 use Rattle.version_rule.proofs.Passing.{version_of}
-use Rattle.version_rule.proofs.Smaller.{not_anchor, num_inj}
+use Rattle.version_rule.specs.Shrinks.{not_anchor, num_inj}
 
 abbrev payload_in : Payload → Option Payload → Payload
 payload_in d None = d

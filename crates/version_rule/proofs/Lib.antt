@@ -2,5 +2,4 @@ pub mod Committing
 pub mod Cutting
 pub mod Made
 pub mod Passing
-pub mod Smaller
 pub mod Trees

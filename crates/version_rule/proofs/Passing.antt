@@ -14,7 +14,7 @@ use Rattle.version_rule.specs.Fits.{Fits, HasTree}
 use Rattle.version_rule.specs.Pass.{Commit, Pass, Reading, commit_numbers, cutting, reading, seeing}
 use Rattle.version_rule.specs.Versions.{HasNumber, HoldsVersions, IsInStep, IsVersion}
 use Rattle.version_rule.proofs.Made.{versions_kept}
-use Rattle.version_rule.proofs.Smaller.{not_anchor, num_inj, same_entry}
+use Rattle.version_rule.specs.Shrinks.{not_anchor, num_inj, same_entry}
 use Rattle.version_rule.proofs.Trees.{fits_cutting, fits_reading, fits_seeing}
 
 -- what is so of all is so of the one at a place
