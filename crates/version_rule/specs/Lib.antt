@@ -1,5 +1,7 @@
 pub mod Fits
+pub mod Knowing
 pub mod Pass
 pub mod Shrinks
 pub mod Spelling
+pub mod Told
 pub mod Versions
