@@ -1,6 +1,7 @@
 pub mod Committing
 pub mod Cutting
 pub mod Made
+pub mod Openings
 pub mod Passing
 pub mod Reading
 pub mod States

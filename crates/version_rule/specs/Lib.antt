@@ -1,5 +1,6 @@
 pub mod Fits
 pub mod Knowing
+pub mod Opening
 pub mod Pass
 pub mod Shrinks
 pub mod Spelling
