@@ -1,3 +1,4 @@
+pub mod AfterSteps
 pub mod Committing
 pub mod Cutting
 pub mod Made

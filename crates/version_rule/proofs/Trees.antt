@@ -6,7 +6,7 @@ use Rattle.std.proofs.lemmas.List.Elements.{All-push, All-weaker, All-take, All-
 use Rattle.std.proofs.lemmas.List.{take_at}
 use Rattle.doc_tree.specs.Tree.{DocTree, empty}
 use Rattle.doc_model.specs.Store.{tree_at}
-use Rattle.version_rule.specs.Fits.{Fits, HasTree, IsMade, Narrows}
+use Rattle.version_rule.specs.Fits.{Fits, Grows, HasTree, IsMade, Narrows}
 use Rattle.version_rule.specs.Pass.{Commit, Pass, Reading, committed, cutting, reading, seeing}
 
 -- A longer list has the trees of the shorter one.
@@ -141,4 +141,58 @@ committed_narrows n before made p low trees fits = record {
   reads = fits.reads;
   commits = all_front (IsMade trees) p.commits
       record { number = n; before = before; made = made } fits.commits;
+}
+
+-- So a pass grows at each step.
+
+max_least : (a b : ℕ) → a ≤ max a b
+max_least a b = omega arith
+
+pub grows_still : (p : Pass) → Grows p p
+grows_still p = record {
+  narrows = λ trees fits. fits;
+  keep = refl;
+  seen = omega arith;
+  cut = omega arith;
+}
+
+pub grows_on : (p q r : Pass) → Grows p q → Grows q r → Grows p r
+grows_on p q r a b = record {
+  narrows = λ trees fits. a.narrows trees (b.narrows trees fits);
+  keep = b.keep ∙ a.keep;
+  seen = let x = a.seen in let y = b.seen in omega (arith, x, y);
+  cut = let x = a.cut in let y = b.cut in omega (arith, x, y);
+}
+
+pub seeing_grows : (n : ℕ) (p : Pass) → Grows p (seeing n p)
+seeing_grows n p = record {
+  narrows = seeing_narrows n p;
+  keep = refl;
+  seen = max_least p.seen n;
+  cut = omega arith;
+}
+
+pub cutting_grows : (n : ℕ) (p : Pass) → Grows p (cutting n p)
+cutting_grows n p = record {
+  narrows = cutting_narrows n p;
+  keep = refl;
+  seen = max_least p.seen n;
+  cut = max_least p.cut n;
+}
+
+pub reading_grows : (n : ℕ) (t : DocTree) (p : Pass) → Grows p (reading n t p)
+reading_grows n t p = record {
+  narrows = reading_narrows n t p;
+  keep = refl;
+  seen = max_least p.seen n;
+  cut = omega arith;
+}
+
+pub committed_grows : (n : ℕ) (before made : DocTree) (p : Pass) → p.seen ≤ n
+    → Grows p (committed n before made p)
+committed_grows n before made p low = record {
+  narrows = committed_narrows n before made p low;
+  keep = refl;
+  seen = low;
+  cut = omega arith;
 }

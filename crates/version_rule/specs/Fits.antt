@@ -36,3 +36,10 @@ pub record HasVersions (passes : List Pass) (trees : List DocTree) : Type 0 wher
 -- whatever list fits the pass after, fitted the pass before
 abbrev pub Narrows : Pass → Pass → Type 0
 Narrows before after = (trees : List DocTree) → Fits trees after → Fits trees before
+
+-- what every step of a mutator leaves of its pass
+pub record Grows (before after : Pass) : Type 0 where
+  pub narrows : Narrows before after
+  pub keep : after.keep ≡ before.keep
+  pub seen : before.seen ≤ after.seen
+  pub cut : before.cut ≤ after.cut

@@ -2,6 +2,7 @@ pub mod Fits
 pub mod Knowing
 pub mod Opening
 pub mod Pass
+pub mod Shows
 pub mod Shrinks
 pub mod Spelling
 pub mod Told

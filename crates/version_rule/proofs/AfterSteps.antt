@@ -1,0 +1,253 @@
+-- What a seat shows after a step on versions.
+use Rattle.std.proofs.Common.{◌≡◌, ◌≢◌, ◌<◌, ◌≤◌, ◌+◌, ◌-◌, ◌⊎◌, ◌==◌, ℕ, zero, suc, Bool, true, false}
+use Rattle.std.proofs.Common.{List, [], ◌∷◌, ◌++◌, length, map, max, get_or, slice_index_or, if◌then◌else◌}
+use Rattle.std.proofs.Common.{Option, Some, None, inl, inr, refl, sym, ◌∙◌, ap, subst, arith}
+use Rattle.std.proofs.lemmas.List.{get_or_push, length-map, length_push}
+use mathlib.Core.Option.{some}
+use lib.ListN.{get_elem?}
+use Rattle.cell_words.specs.declared.fields.Field.{Field}
+use Rattle.cell_words.specs.declared.fields.Field.TheVariants as field
+use Rattle.cell_words.specs.Field.{pack_field_of}
+use Rattle.cell_words.specs.Term.{IsFive, Term, null, num}
+use Rattle.core_machine.specs.declared.events.Event.{Event}
+use Rattle.core_machine.specs.declared.events.Event.TheVariants as event
+use Rattle.core_machine.specs.declared.events.Found.{Found}
+use Rattle.core_machine.specs.declared.events.Found.TheVariants as finds
+use Rattle.core_machine.specs.declared.places.Held.{Held}
+use Rattle.core_machine.specs.Next.{can, found_by}
+use Rattle.core_machine.specs.Own.{Own, having_read_by}
+use Rattle.core_machine.specs.Places.{found_at}
+use Rattle.core_machine.specs.State.{State, field_of, target_of}
+use Rattle.core_machine.specs.WordOperations.{IsPackedAs}
+use Rattle.core_machine.specs.Words.{same_field}
+use Rattle.dlg_core.proofs.Keeps.Write.{same_field_is}
+use Rattle.doc_tree.specs.Tree.{DocTree}
+use Rattle.heap_rule.specs.Asks.{known_of, target}
+use Rattle.heap_rule.specs.Boxes.{boxes_of}
+use Rattle.heap_rule.specs.Facts.{AllKnown, IsKnown}
+use Rattle.heap_rule.specs.Lore.{Lore, at_cell, cells_in, cells_of, known_at, known_read, learned}
+use Rattle.heap_rule.specs.Rule.{told}
+use Rattle.heap_rule.specs.Steps.{AtStep, Mine, same_pass}
+use Rattle.heap_rule.specs.declared.known.Known.{Known}
+use Rattle.heap_rule.specs.declared.known.Known.TheVariants as knows
+use Rattle.heap_rule.specs.declared.known.Learned.{Learned}
+use Rattle.heap_rule.specs.declared.view.View.{View}
+use Rattle.version_rule.specs.Knowing.{IsVersionKnown, KnowsVersion, latest_seen, link_cut, link_seen}
+use Rattle.version_rule.specs.Knowing.{number_told, root_told, tree_read}
+use Rattle.version_rule.specs.Pass.{Pass, cutting, reading, seeing}
+use Rattle.version_rule.specs.Shows.{HoldsFound, ShowsCut, ShowsLatest, ShowsLink, ShowsNumber}
+use Rattle.version_rule.specs.Shows.{ShowsOlder, ShowsRoot}
+use Rattle.version_rule.specs.Versions.{HoldsVersions, is_fixed}
+use Rattle.version_rule.proofs.Reading.{here_known, number_known, root_known, tells_latest}
+use Rattle.version_rule.proofs.Reading.{tells_link, tells_number, tells_root}
+
+-- As much is known as there are places.
+
+as_many : (K : ℕ → Known → Type 0) (cells : List ℕ) (known : List Known) → AllKnown K cells known
+    → length known ≡ length cells
+as_many K [] [] all = refl
+as_many K [] (k ∷ known) all = absurd all
+as_many K (c ∷ cells) [] all = absurd all
+as_many K (c ∷ cells) (k ∷ known) all = ap suc (as_many K cells known all.1)
+
+at_cell_many : (change : Known → Known) (c : ℕ) (cells : List ℕ) (known : List Known)
+    → length known ≡ length cells → length (at_cell change c cells known) ≡ length known
+at_cell_many change c [] known same = refl
+at_cell_many change c (d ∷ cells) [] same = refl
+at_cell_many change c (d ∷ cells) (k ∷ known) same =
+    ap suc (at_cell_many change c cells known (let e : length known ≡ length cells =
+    omega (arith, same) in e))
+
+known_many : (v : View Pass) (s : State) (l : Lore) → Mine is_fixed v s l
+    → length v.known ≡ length v.own.held
+known_many v s l mine =
+    as_many (IsKnown is_fixed s l v.number) (cells_in v.own.held) v.known
+    (subst (λ (o : Own). AllKnown (IsKnown is_fixed s l v.number) (cells_in o.held) v.known)
+    mine.own
+    (subst (λ (ws : List Known). AllKnown (IsKnown is_fixed s l v.number) (cells_of s v.number) ws)
+    mine.known (mine.shown.facts.known_all v.number)))
+    ∙ length-map v.own.held (λ (p : Held). p.cell)
+
+-- A cell that a read found is held and known at the next place.
+module _ (v w : View Pass) (s : State) (l : Lore) (mine : Mine is_fixed v s l) (place f : ℕ)
+    (found : Found) (tells : Learned) (pass : Pass)
+    (new : w ≡ told v (event.Read v.number place f) found tells pass) where
+  found_held : (cell word : ℕ) → found ≡ finds.Field (field.Cell cell) → IsPackedAs found word
+      → HoldsFound v w word cell
+  found_held cell word is packed = record {
+    word_is = subst (λ (x : Found). IsPackedAs x word) is packed;
+    held = ap (λ (u : View Pass). u.own.held) new
+        ∙ ap (λ (x : Found). (having_read_by v.own x).held) is;
+  }
+
+  found_known : (cell : ℕ) → found ≡ finds.Field (field.Cell cell)
+      → known_of w (length v.own.held) ≡ tells.found
+  found_known cell is =
+      let change = λ (x : Found).
+      known_at (known_read (cells_in v.own.held) v.known place tells x) (length v.own.held) in
+      let many = known_many v s l mine in
+      let cells : length v.known ≡ length (cells_in v.own.held) =
+      many ∙ sym (length-map v.own.held (λ (p : Held). p.cell)) in
+      let before = at_cell (Rattle.heap_rule.specs.Lore.told tells.here)
+      (slice_index_or (cells_in v.own.held) place 0) (cells_in v.own.held) v.known in
+      ap (λ (u : View Pass). known_of u (length v.own.held)) new
+      ∙ ap change is
+      ∙ get_or_push before tells.found knows.Nothing (length v.own.held)
+      (at_cell_many (Rattle.heap_rule.specs.Lore.told tells.here)
+      (slice_index_or (cells_in v.own.held) place 0) (cells_in v.own.held) v.known cells ∙ many)
+
+  found_there : (cell word : ℕ) → HoldsFound v w word cell → length v.own.held < length w.own.held
+  found_there cell word holds =
+      let more = length_push v.own.held (found_at cell) in
+      let is : length w.own.held ≡ length (v.own.held ++ found_at cell ∷ []) =
+      ap (λ (ps : List Held). length ps) holds.held in omega (arith, more, is)
+
+  found_version : (cell word n : ℕ) (root : Term) → found ≡ finds.Field (field.Cell cell)
+      → HoldsFound v w word cell → IsVersionKnown tells.found n root
+      → KnowsVersion w (length v.own.held) n root
+  found_version cell word n root is holds known = record {
+    there = found_there cell word holds;
+    known = subst (λ (k : Known). IsVersionKnown k n root) (sym (found_known cell is)) known;
+  }
+
+  other_held : (value : Field) → found ≡ finds.Field value
+      → (having_read_by v.own (finds.Field value)).held ≡ v.own.held → w.own.held ≡ v.own.held
+  other_held value is same =
+      ap (λ (u : View Pass). u.own.held) new
+      ∙ ap (λ (x : Found). (having_read_by v.own x).held) is ∙ same
+
+module _ (is_tree : Term → Type 0) (tree_of : Term → DocTree)
+    (is_record : (t : Term) → is_tree t → IsFive t) (v w : View Pass) (place word : ℕ) where
+  pub shows_latest : target v place ≡ 0
+      → AtStep (HoldsVersions is_tree tree_of) is_fixed v (event.Read v.number place 0) latest_seen
+      word w
+      → ShowsLatest is_tree v w word
+  shows_latest anchor step =
+      let e = event.Read v.number place 0 in
+      let s = step.core in
+      let l = step.lore in
+      let tells = learned s l e in
+      let found = found_by s e in
+      let is = tells_latest is_tree tree_of is_record v s l step.passes step.mine step.kept
+      step.pass place anchor in
+      let holds = found_held v w s l step.mine place 0 found tells
+      (latest_seen tells found v.pass) step.new is.cell word is.found_is step.says in
+      let pass : w.pass ≡ seeing is.number v.pass =
+      ap (λ (u : View Pass). u.pass) step.new
+      ∙ ap (λ (n : ℕ). seeing n v.pass)
+      (number_known tells.found is.number is.root is.known) in
+      record {
+        cell = is.cell;
+        found = holds;
+        number = is.number;
+        root = is.root;
+        known = found_version v w s l step.mine place 0 found tells
+            (latest_seen tells found v.pass) step.new is.cell word is.number is.root is.found_is
+            holds is.known;
+        spells = is.spells;
+        not_below = is.not_below;
+        pass = pass;
+        seen = ap (λ (p : Pass). p.seen) pass
+            ∙ (let le = is.not_below in let e : max v.pass.seen is.number ≡ is.number =
+            omega (arith, le) in e);
+      }
+
+  module _ (n : ℕ) (root : Term) (knows : KnowsVersion v place n root) where
+    pub shows_number : AtStep (HoldsVersions is_tree tree_of) is_fixed v
+        (event.Read v.number place 0) same_pass word w
+        → ShowsNumber v w word n
+    shows_number step =
+        let e = event.Read v.number place 0 in
+        let s = step.core in
+        let l = step.lore in
+        let is = tells_number is_tree tree_of is_record v s l step.passes step.mine step.kept
+        step.pass place n root knows in
+        record {
+          word_is = subst (λ (x : Found). IsPackedAs x word) is step.says;
+          held = other_held v w s l step.mine place 0 (found_by s e) (learned s l e) v.pass
+              step.new (field.Num n) is refl;
+          pass = ap (λ (u : View Pass). u.pass) step.new;
+        }
+
+    pub shows_root : AtStep (HoldsVersions is_tree tree_of) is_fixed v
+        (event.Read v.number place 1) (tree_read tree_of) word w
+        → ShowsRoot is_tree tree_of v w word n root
+    shows_root step =
+        let e = event.Read v.number place 1 in
+        let s = step.core in
+        let l = step.lore in
+        let tells = learned s l e in
+        let found = found_by s e in
+        let is = tells_root is_tree tree_of is_record v s l step.passes step.mine step.kept
+        step.pass place n root knows in
+        record {
+          cell = is.cell;
+          found = found_held v w s l step.mine place 1 found tells
+              (tree_read tree_of tells found v.pass) step.new is.cell word is.found_is step.says;
+          known = found_known v w s l step.mine place 1 found tells
+              (tree_read tree_of tells found v.pass) step.new is.cell is.found_is ∙ is.known;
+          spells = is.spells;
+          pass = ap (λ (u : View Pass). u.pass) step.new
+              ∙ ap (λ (m : ℕ). reading m (tree_of (root_told tells.here)) v.pass)
+              (number_known tells.here n root is.here)
+              ∙ ap (λ (t : Term). reading n (tree_of t) v.pass)
+              (root_known tells.here n root is.here);
+        }
+
+    -- a read of the link, by the pass that is picked
+    link_shown : (next : Learned → Found → Pass → Pass) (pass_then : Pass)
+        → ((tells : Learned) → IsVersionKnown tells.here n root
+        → next tells (finds.Field field.Null) v.pass ≡ pass_then)
+        → ((tells : Learned) (cell : ℕ)
+        → next tells (finds.Field (field.Cell cell)) v.pass ≡ v.pass)
+        → AtStep (HoldsVersions is_tree tree_of) is_fixed v (event.Read v.number place 2) next
+        word w
+        → ShowsLink is_tree v w word n pass_then
+    link_shown next pass_then at_null at_cell step =
+        let e = event.Read v.number place 2 in
+        let s = step.core in
+        let l = step.lore in
+        let tells = learned s l e in
+        let found = found_by s e in
+        let here = here_known is_tree tree_of is_record v s l step.passes step.mine step.kept
+        step.pass place n root knows 2 in
+        elim (tells_link is_tree tree_of is_record v s l step.passes step.mine step.kept
+        step.pass place n root knows) [
+          | inl none ↦ inl record {
+              word_is = subst (λ (x : Found). IsPackedAs x word) none step.says;
+              held = other_held v w s l step.mine place 2 found tells (next tells found v.pass)
+                  step.new field.Null none refl;
+              pass = ap (λ (u : View Pass). u.pass) step.new
+                  ∙ ap (λ (x : Found). next tells x v.pass) none ∙ at_null tells here;
+            }
+          | inr is ↦ inr record {
+              cell = is.cell;
+              found = found_held v w s l step.mine place 2 found tells (next tells found v.pass)
+                  step.new is.cell word is.found_is step.says;
+              older = is.older;
+              before = is.before;
+              root = is.root;
+              known = found_version v w s l step.mine place 2 found tells
+                  (next tells found v.pass) step.new is.cell word is.older is.root is.found_is
+                  (found_held v w s l step.mine place 2 found tells (next tells found v.pass)
+                  step.new is.cell word is.found_is step.says) is.known;
+              spells = is.spells;
+              pass = ap (λ (u : View Pass). u.pass) step.new
+                  ∙ ap (λ (x : Found). next tells x v.pass) is.found_is
+                  ∙ at_cell tells is.cell;
+            }
+        ]
+
+    pub shows_link_seen : AtStep (HoldsVersions is_tree tree_of) is_fixed v
+        (event.Read v.number place 2) link_seen word w
+        → ShowsLink is_tree v w word n (seeing (n + v.pass.keep - 1) v.pass)
+    shows_link_seen = link_shown link_seen (seeing (n + v.pass.keep - 1) v.pass)
+        (λ tells here. ap (λ (m : ℕ). seeing (m + v.pass.keep - 1) v.pass)
+        (number_known tells.here n root here)) (λ tells cell. refl)
+
+    pub shows_link_cut : AtStep (HoldsVersions is_tree tree_of) is_fixed v
+        (event.Read v.number place 2) link_cut word w
+        → ShowsLink is_tree v w word n (cutting n v.pass)
+    shows_link_cut = link_shown link_cut (cutting n v.pass)
+        (λ tells here. ap (λ (m : ℕ). cutting m v.pass) (number_known tells.here n root here))
+        (λ tells cell. refl)
