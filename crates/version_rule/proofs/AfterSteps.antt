@@ -2,6 +2,7 @@
 use Rattle.std.proofs.Common.{◌≡◌, ◌≢◌, ◌<◌, ◌≤◌, ◌+◌, ◌-◌, ◌⊎◌, ◌==◌, ℕ, zero, suc, Bool, true, false}
 use Rattle.std.proofs.Common.{List, [], ◌∷◌, ◌++◌, length, map, max, get_or, slice_index_or, if◌then◌else◌}
 use Rattle.std.proofs.Common.{Option, Some, None, inl, inr, refl, sym, ◌∙◌, ap, subst, arith}
+use Rattle.std.proofs.lemmas.Bool.{eq-eqb}
 use Rattle.std.proofs.lemmas.List.{get_or_push, length-map, length_push}
 use mathlib.Core.Option.{some}
 use lib.ListN.{get_elem?}
@@ -20,10 +21,11 @@ use Rattle.core_machine.specs.Places.{found_at}
 use Rattle.core_machine.specs.State.{State, field_of, target_of}
 use Rattle.core_machine.specs.WordOperations.{IsPackedAs}
 use Rattle.core_machine.specs.Words.{same_field}
+use Rattle.core_machine.proofs.WordOperations.{same_packed}
 use Rattle.dlg_core.proofs.Keeps.Write.{same_field_is}
 use Rattle.doc_tree.specs.Tree.{DocTree}
 use Rattle.heap_rule.specs.Asks.{known_of, target}
-use Rattle.heap_rule.specs.Boxes.{boxes_of}
+use Rattle.heap_rule.specs.Boxes.{Map, boxes_of}
 use Rattle.heap_rule.specs.Facts.{AllKnown, IsKnown}
 use Rattle.heap_rule.specs.Lore.{Lore, at_cell, cells_in, cells_of, known_at, known_read, learned}
 use Rattle.heap_rule.specs.Rule.{told}
@@ -33,12 +35,15 @@ use Rattle.heap_rule.specs.declared.known.Known.TheVariants as knows
 use Rattle.heap_rule.specs.declared.known.Learned.{Learned}
 use Rattle.heap_rule.specs.declared.view.View.{View}
 use Rattle.version_rule.specs.Knowing.{IsVersionKnown, KnowsVersion, latest_seen, link_cut, link_seen}
-use Rattle.version_rule.specs.Knowing.{number_told, root_told, tree_read}
+use Rattle.version_rule.specs.Knowing.{MayCommit, link_taken, made_or_seen, next_made, number_told}
+use Rattle.version_rule.specs.Knowing.{root_told, tree_read}
 use Rattle.version_rule.specs.Pass.{Pass, cutting, reading, seeing}
-use Rattle.version_rule.specs.Shows.{HoldsFound, ShowsCut, ShowsLatest, ShowsLink, ShowsNumber}
+use Rattle.version_rule.specs.Shows.{HoldsFound, ShowsCommit, ShowsCut, ShowsLatest, ShowsLink, ShowsNumber}
 use Rattle.version_rule.specs.Shows.{ShowsOlder, ShowsRoot}
 use Rattle.version_rule.specs.Versions.{HoldsVersions, is_fixed}
 use Rattle.version_rule.proofs.Reading.{here_known, number_known, root_known, tells_latest}
+use Rattle.version_rule.proofs.States.{target_now}
+use Rattle.version_rule.proofs.Writing.{low_now}
 use Rattle.version_rule.proofs.Reading.{tells_link, tells_number, tells_root}
 
 -- As much is known as there are places.
@@ -251,3 +256,56 @@ module _ (is_tree : Term → Type 0) (tree_of : Term → DocTree)
     shows_link_cut = link_shown link_cut (cutting n v.pass)
         (λ tells here. ap (λ (m : ℕ). cutting m v.pass) (number_known tells.here n root here))
         (λ tells cell. refl)
+
+-- After a write of the anchor's field.
+module _ (is_tree : Term → Type 0) (tree_of : Term → DocTree)
+    (is_record : (t : Term) → is_tree t → IsFive t) (v w : View Pass) (word : ℕ)
+    (place latest box root number : ℕ) (before made : Term)
+    (may : MayCommit is_tree v place latest box root number before made) where
+  abbrev over : Field
+  over = field.Cell (target v latest)
+
+  abbrev write : Event
+  write = event.Write v.number place 0 over (field.Cell (target v box))
+
+  abbrev picked : Learned → Found → Pass → Pass
+  picked = next_made over number (tree_of before) (tree_of made)
+
+  module _ (step : AtStep (HoldsVersions is_tree tree_of) is_fixed v write picked word w) where
+    abbrev value : Field
+    value = field_of step.core (target_of step.core v.number place) 0
+
+    is_anchor : target_of step.core v.number place ≡ 0
+    is_anchor = target_now v step.core step.lore step.mine place ∙ may.anchor
+
+    by_made : (b : Bool) → same_field value over ≡ b
+        → ShowsCommit v w word (target v latest) number (tree_of before) (tree_of made)
+    by_made true is = inl record {
+      word_is = sym (ap pack_field_of (same_field_is value over is)) ∙ step.says;
+      pass = ap (λ (u : View Pass). u.pass) step.new
+          ∙ ap (λ (b : Bool). made_or_seen b number (tree_of before) (tree_of made) v.pass) is;
+      low = low_now is_tree tree_of is_record v step.core step.lore step.passes step.mine step.kept
+          step.pass place latest box root number before made may
+          (sym (ap (λ (x : ℕ). field_of step.core x 0) is_anchor)
+          ∙ same_field_is value over is);
+    }
+    by_made false is = inr record {
+      word_other = λ e.
+          let same : pack_field_of value ≡ pack_field_of over = step.says ∙ sym e in
+          let clash : false ≡ true = sym is ∙ sym (same_packed value over)
+          ∙ eq-eqb (pack_field_of value) (pack_field_of over) same in cc;
+      pass = ap (λ (u : View Pass). u.pass) step.new
+          ∙ ap (λ (b : Bool). made_or_seen b number (tree_of before) (tree_of made) v.pass) is;
+    }
+
+    pub shows_commit : ShowsCommit v w word (target v latest) number (tree_of before)
+        (tree_of made)
+    shows_commit = by_made (same_field value over) refl
+
+-- and of a version's link
+pub shows_taken : (holding : Map → List Pass → Type 0) (v w : View Pass)
+    (word place number : ℕ) (old new : Field)
+    → AtStep holding is_fixed v (event.Write v.number place 2 old new) (link_taken number) word w
+    → w.pass ≡ cutting number v.pass
+shows_taken holding v w word place number old new step =
+    ap (λ (u : View Pass). u.pass) step.new

@@ -159,6 +159,22 @@ module _ (is_tree : Term → Type 0) (tree_of : Term → DocTree)
         same_entry (boxes_of s l) 0 0 (payload_of s l 0) h.latest.anchor (in_map s l 0 in_is)
         h.latest.there
 
+    names_now : field_of s 0 0 ≡ field.Cell c → h.latest.anchor 0 ≡ Named c
+    names_now named =
+        sym anchor_entry ∙ ap (entry_of l.terms) named
+        ∙ ap (named_or c) (no_term s l facts c old_seen.in_is.reached old_seen.in_is.box)
+
+    -- where the anchor names the version's box, none is newer
+    pub low_now : field_of s 0 0 ≡ field.Cell c → v.pass.seen ≤ number
+    low_now named =
+        let same : h.latest.cell ≡ c =
+        named_inj h.latest.cell c (sym h.latest.names ∙ names_now named) in
+        let latest_is = one_number (boxes_of s l) c (length h.trees - 1) (number - 1)
+        (subst (λ (y : ℕ). HasNumber (boxes_of s l) y (length h.trees - 1)) same
+        h.latest.version) old_number in
+        let fits = fits_at is_tree tree_of (boxes_of s l) passes h v.number v.pass at in
+        let lt = fits.seen in let later = may.later in omega (arith, lt, latest_is, later)
+
     -- the write was made: the anchor named the version's box
     made_stands : field_of s 0 0 ≡ field.Cell c
         → HoldsVersions is_tree tree_of
@@ -168,9 +184,7 @@ module _ (is_tree : Term → Type 0) (tree_of : Term → DocTree)
     made_stands named =
         let entry : entry_of l.terms (field.Cell z) ≡ Named z =
         ap (named_or z) (no_term s l facts z new_reached fresh_known.0) in
-        let names : h.latest.anchor 0 ≡ Named c =
-        sym anchor_entry ∙ ap (entry_of l.terms) named
-        ∙ ap (named_or c) (no_term s l facts c old_seen.in_is.reached old_seen.in_is.box) in
+        let names = names_now named in
         let follows : number ≡ (number - 1) + 1 = (let le = may.later in omega (arith, le)) in
         subst (λ (m : Map). HoldsVersions is_tree tree_of
         (written_map m 0 0 (entry_of l.terms (field.Cell z)))
