@@ -2,6 +2,7 @@
 #![tactic(auto)]
 
 mod spelling;
+pub mod theorems;
 mod versions;
 
 pub use spelling::Spelling;

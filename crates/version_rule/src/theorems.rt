@@ -1,0 +1,113 @@
+//! Laws of the rule of versions, for any spelling of trees: the contracts of functions that do
+//! nothing.
+ghost use Rattle.std.specs.Prelude.{List, ℕ, ◌≡◌, ◌≤◌, ◌+◌, ◌-◌};
+ghost use Rattle.cell_words.specs.Term.{Term};
+ghost use Rattle.cell_words.specs.declared.fields.Field.TheVariants as field;
+ghost use Rattle.core_machine.specs.declared.events.Event.TheVariants as event;
+ghost use Rattle.heap_rule.specs.Asks.{target};
+ghost use Rattle.heap_rule.specs.Boxes.{boxes_of};
+ghost use Rattle.heap_rule.specs.Opening.{FirstTerms, opening_lore, opening_passes, opening_rooms};
+ghost use Rattle.heap_rule.specs.Shape.{Shape, start};
+ghost use Rattle.heap_rule.specs.Steps.{AtStep, Picks, same_pass};
+ghost use Rattle.heap_rule.specs.declared.view.View.{View};
+ghost use Rattle.version_rule.specs.Knowing.{KnowsVersion, MayCommit, MayCut, latest_seen};
+ghost use Rattle.version_rule.specs.Knowing.{link_cut, link_seen, link_taken, next_made, tree_read};
+ghost use Rattle.version_rule.specs.Opening.{OpensVersions, first_rows, first_terms};
+ghost use Rattle.version_rule.specs.Pass.{Pass, cutting, opening_pass, seeing};
+ghost use Rattle.version_rule.specs.Shows.{ShowsCommit, ShowsLatest, ShowsLink, ShowsNumber};
+ghost use Rattle.version_rule.specs.Shows.{ShowsRoot};
+ghost use Rattle.version_rule.specs.Versions.{HoldsVersions, is_fixed};
+
+use crate::spelling::Spelling;
+
+/// A heap whose first rows are the anchor, version 0 and the root of the empty tree, with at most
+/// 64 mutators and a setting from 1 to 100, opens with the rule.
+pub fn versions_open<S: Spelling>()
+    ensures terms { FirstTerms first_rows first_terms }
+    ensures holds { (h : Shape) → OpensVersions h → HoldsVersions S.is_tree S.tree_of
+        (boxes_of (start h (opening_rooms h.mutators)) (opening_lore first_terms h.mutators))
+        (opening_passes opening_pass h) }
+{}
+
+/// The rule stands behind each read of the anchor or of a version that the mutator knows, with the
+/// pass that is picked there.
+pub fn reads_keep_versions<S: Spelling>()
+    ensures latest { (v : View Pass) (place : ℕ) → target v place ≡ 0
+        → Picks (HoldsVersions S.is_tree S.tree_of) is_fixed latest_seen v
+        (event.Read v.number place 0) }
+    ensures tree { (v : View Pass) (place number : ℕ) (root : Term)
+        → KnowsVersion v place number root
+        → Picks (HoldsVersions S.is_tree S.tree_of) is_fixed (tree_read S.tree_of) v
+        (event.Read v.number place 1) }
+    ensures link_seen { (v : View Pass) (place number : ℕ) (root : Term)
+        → KnowsVersion v place number root → 1 ≤ number
+        → Picks (HoldsVersions S.is_tree S.tree_of) is_fixed link_seen v
+        (event.Read v.number place 2) }
+    ensures link_cut { (v : View Pass) (place number : ℕ) (root : Term)
+        → KnowsVersion v place number root
+        → Picks (HoldsVersions S.is_tree S.tree_of) is_fixed link_cut v
+        (event.Read v.number place 2) }
+{}
+
+/// What such a read tells. The latest version is not below any that the mutator knew of; a root is
+/// a record that spells the version's tree; a link is the version one below, or null.
+pub fn reads_tell_versions<S: Spelling>()
+    ensures latest { (v w : View Pass) (place word : ℕ) → target v place ≡ 0
+        → AtStep (HoldsVersions S.is_tree S.tree_of) is_fixed v (event.Read v.number place 0)
+        latest_seen word w
+        → ShowsLatest S.is_tree v w word }
+    ensures number { (v w : View Pass) (place word number : ℕ) (root : Term)
+        → KnowsVersion v place number root
+        → AtStep (HoldsVersions S.is_tree S.tree_of) is_fixed v (event.Read v.number place 0)
+        same_pass word w
+        → ShowsNumber v w word number }
+    ensures root { (v w : View Pass) (place word number : ℕ) (root : Term)
+        → KnowsVersion v place number root
+        → AtStep (HoldsVersions S.is_tree S.tree_of) is_fixed v (event.Read v.number place 1)
+        (tree_read S.tree_of) word w
+        → ShowsRoot S.is_tree S.tree_of v w word number root }
+    ensures link_seen { (v w : View Pass) (place word number : ℕ) (root : Term)
+        → KnowsVersion v place number root
+        → AtStep (HoldsVersions S.is_tree S.tree_of) is_fixed v (event.Read v.number place 2)
+        link_seen word w
+        → ShowsLink S.is_tree v w word number (seeing (number + v.pass.keep - 1) v.pass) }
+    ensures link_cut { (v w : View Pass) (place word number : ℕ) (root : Term)
+        → KnowsVersion v place number root
+        → AtStep (HoldsVersions S.is_tree S.tree_of) is_fixed v (event.Read v.number place 2)
+        link_cut word w
+        → ShowsLink S.is_tree v w word number (cutting number v.pass) }
+{}
+
+/// A commit is one write of the anchor's field, from the box of a version to a fresh box over it.
+/// The rule stands whether the write was made or not; made, the pass has the commit, and else it
+/// knows that a version with this number is there.
+pub fn a_commit_keeps_versions<S: Spelling>()
+    ensures keeps { (v : View Pass) (place latest box root number : ℕ) (before made : Term)
+        → MayCommit S.is_tree v place latest box root number before made
+        → Picks (HoldsVersions S.is_tree S.tree_of) is_fixed
+        (next_made (field.Cell (target v latest)) number (S.tree_of before) (S.tree_of made)) v
+        (event.Write v.number place 0 (field.Cell (target v latest))
+        (field.Cell (target v box))) }
+    ensures shows { (v w : View Pass) (place latest box root number word : ℕ)
+        (before made : Term) → MayCommit S.is_tree v place latest box root number before made
+        → AtStep (HoldsVersions S.is_tree S.tree_of) is_fixed v
+        (event.Write v.number place 0 (field.Cell (target v latest)) (field.Cell (target v box)))
+        (next_made (field.Cell (target v latest)) number (S.tree_of before) (S.tree_of made)) word
+        w
+        → ShowsCommit v w word (target v latest) number (S.tree_of before) (S.tree_of made) }
+{}
+
+/// A trim is one write of a version's link, from the version before it to null, once as many
+/// versions as stay are made from it on. The rule stands whether the write was made or not, and
+/// the pass knows that the link is cut.
+pub fn a_trim_keeps_versions<S: Spelling>()
+    ensures keeps { (v : View Pass) (place older number : ℕ) (root before : Term)
+        → MayCut v place older number root before
+        → Picks (HoldsVersions S.is_tree S.tree_of) is_fixed (link_taken number) v
+        (event.Write v.number place 2 (field.Cell (target v older)) field.Null) }
+    ensures shows { (v w : View Pass) (place older number word : ℕ)
+        → AtStep (HoldsVersions S.is_tree S.tree_of) is_fixed v
+        (event.Write v.number place 2 (field.Cell (target v older)) field.Null)
+        (link_taken number) word w
+        → w.pass ≡ cutting number v.pass }
+{}
