@@ -1,21 +1,19 @@
 -- What a seat shows after a step on versions.
-use Rattle.std.proofs.Common.{◌≡◌, ◌≢◌, ◌<◌, ◌≤◌, ◌+◌, ◌-◌, ◌⊎◌, ◌==◌, ℕ, zero, suc, Bool, true, false}
-use Rattle.std.proofs.Common.{List, [], ◌∷◌, ◌++◌, length, map, max, get_or, slice_index_or, if◌then◌else◌}
-use Rattle.std.proofs.Common.{Option, Some, None, inl, inr, refl, sym, ◌∙◌, ap, subst, arith}
+use Rattle.std.proofs.Common.{◌≡◌, ◌<◌, ◌+◌, ◌-◌, ℕ, suc, Bool, true, false}
+use Rattle.std.proofs.Common.{List, [], ◌∷◌, ◌++◌, length, max, slice_index_or}
+use Rattle.std.proofs.Common.{inl, inr, refl, sym, ◌∙◌, ap, subst, arith}
 use Rattle.std.proofs.lemmas.Bool.{eq-eqb}
 use Rattle.std.proofs.lemmas.List.{get_or_push, length-map, length_push}
-use mathlib.Core.Option.{some}
-use lib.ListN.{get_elem?}
 use Rattle.cell_words.specs.declared.fields.Field.{Field}
 use Rattle.cell_words.specs.declared.fields.Field.TheVariants as field
 use Rattle.cell_words.specs.Field.{pack_field_of}
-use Rattle.cell_words.specs.Term.{IsFive, Term, null, num}
+use Rattle.cell_words.specs.Term.{IsFive, Term}
 use Rattle.core_machine.specs.declared.events.Event.{Event}
 use Rattle.core_machine.specs.declared.events.Event.TheVariants as event
 use Rattle.core_machine.specs.declared.events.Found.{Found}
 use Rattle.core_machine.specs.declared.events.Found.TheVariants as finds
 use Rattle.core_machine.specs.declared.places.Held.{Held}
-use Rattle.core_machine.specs.Next.{can, found_by}
+use Rattle.core_machine.specs.Next.{found_by}
 use Rattle.core_machine.specs.Own.{Own, having_read_by}
 use Rattle.core_machine.specs.Places.{found_at}
 use Rattle.core_machine.specs.State.{State, field_of, target_of}
@@ -25,7 +23,7 @@ use Rattle.core_machine.proofs.WordOperations.{same_packed}
 use Rattle.dlg_core.proofs.Keeps.Write.{same_field_is}
 use Rattle.doc_tree.specs.Tree.{DocTree}
 use Rattle.heap_rule.specs.Asks.{known_of, target}
-use Rattle.heap_rule.specs.Boxes.{Map, boxes_of}
+use Rattle.heap_rule.specs.Boxes.{Map}
 use Rattle.heap_rule.specs.Facts.{AllKnown, IsKnown}
 use Rattle.heap_rule.specs.Lore.{Lore, at_cell, cells_in, cells_of, known_at, known_read, learned}
 use Rattle.heap_rule.specs.Rule.{told}
@@ -34,12 +32,13 @@ use Rattle.heap_rule.specs.declared.known.Known.{Known}
 use Rattle.heap_rule.specs.declared.known.Known.TheVariants as knows
 use Rattle.heap_rule.specs.declared.known.Learned.{Learned}
 use Rattle.heap_rule.specs.declared.view.View.{View}
-use Rattle.version_rule.specs.Knowing.{IsVersionKnown, KnowsVersion, latest_seen, link_cut, link_seen}
-use Rattle.version_rule.specs.Knowing.{MayCommit, link_taken, made_or_seen, next_made, number_told}
+use Rattle.version_rule.specs.Knowing.{IsVersionKnown, KnowsVersion, latest_seen, link_cut}
+use Rattle.version_rule.specs.Knowing.{link_seen}
+use Rattle.version_rule.specs.Knowing.{MayCommit, link_taken, made_or_seen, next_made}
 use Rattle.version_rule.specs.Knowing.{root_told, tree_read}
 use Rattle.version_rule.specs.Pass.{Pass, cutting, reading, seeing}
-use Rattle.version_rule.specs.Shows.{HoldsFound, ShowsCommit, ShowsCut, ShowsLatest, ShowsLink, ShowsNumber}
-use Rattle.version_rule.specs.Shows.{ShowsOlder, ShowsRoot}
+use Rattle.version_rule.specs.Shows.{HoldsFound, ShowsCommit, ShowsLatest, ShowsLink, ShowsNumber}
+use Rattle.version_rule.specs.Shows.{ShowsRoot}
 use Rattle.version_rule.specs.Versions.{HoldsVersions, is_fixed}
 use Rattle.version_rule.proofs.Reading.{here_known, number_known, root_known, tells_latest}
 use Rattle.version_rule.proofs.States.{target_now}
@@ -219,28 +218,28 @@ module _ (is_tree : Term → Type 0) (tree_of : Term → DocTree)
         elim (tells_link is_tree tree_of is_record v s l step.passes step.mine step.kept
         step.pass place n root knows) [
           | inl none ↦ inl record {
-              word_is = subst (λ (x : Found). IsPackedAs x word) none step.says;
-              held = other_held v w s l step.mine place 2 found tells (next tells found v.pass)
-                  step.new field.Null none refl;
-              pass = ap (λ (u : View Pass). u.pass) step.new
-                  ∙ ap (λ (x : Found). next tells x v.pass) none ∙ at_null tells here;
-            }
+            word_is = subst (λ (x : Found). IsPackedAs x word) none step.says;
+            held = other_held v w s l step.mine place 2 found tells (next tells found v.pass)
+                step.new field.Null none refl;
+            pass = ap (λ (u : View Pass). u.pass) step.new
+                ∙ ap (λ (x : Found). next tells x v.pass) none ∙ at_null tells here;
+          }
           | inr is ↦ inr record {
-              cell = is.cell;
-              found = found_held v w s l step.mine place 2 found tells (next tells found v.pass)
-                  step.new is.cell word is.found_is step.says;
-              older = is.older;
-              before = is.before;
-              root = is.root;
-              known = found_version v w s l step.mine place 2 found tells
-                  (next tells found v.pass) step.new is.cell word is.older is.root is.found_is
-                  (found_held v w s l step.mine place 2 found tells (next tells found v.pass)
-                  step.new is.cell word is.found_is step.says) is.known;
-              spells = is.spells;
-              pass = ap (λ (u : View Pass). u.pass) step.new
-                  ∙ ap (λ (x : Found). next tells x v.pass) is.found_is
-                  ∙ at_cell tells is.cell;
-            }
+            cell = is.cell;
+            found = found_held v w s l step.mine place 2 found tells (next tells found v.pass)
+                step.new is.cell word is.found_is step.says;
+            older = is.older;
+            before = is.before;
+            root = is.root;
+            known = found_version v w s l step.mine place 2 found tells
+                (next tells found v.pass) step.new is.cell word is.older is.root is.found_is
+                (found_held v w s l step.mine place 2 found tells (next tells found v.pass)
+                step.new is.cell word is.found_is step.says) is.known;
+            spells = is.spells;
+            pass = ap (λ (u : View Pass). u.pass) step.new
+                ∙ ap (λ (x : Found). next tells x v.pass) is.found_is
+                ∙ at_cell tells is.cell;
+          }
         ]
 
     pub shows_link_seen : AtStep (HoldsVersions is_tree tree_of) is_fixed v

@@ -1,7 +1,7 @@
 -- The rule where the next version is made: the anchor's field goes from the box of the latest
 -- version to a box that was in no map before.
 use Rattle.std.proofs.Common.{◌≡◌, ◌≢◌, ℕ, ◌+◌, ◌-◌, ◌<◌, ◌≤◌, ◌⊎◌, List, [], ◌∷◌, ◌++◌, length}
-use Rattle.std.proofs.Common.{All, Some, None, Option, set, length-set}
+use Rattle.std.proofs.Common.{Some, None, set, length-set}
 use Rattle.std.proofs.Common.{inl, inr, refl, sym, ◌∙◌, ap, subst, arith}
 use Rattle.std.proofs.lemmas.Bool.{cases_eq}
 use Rattle.std.proofs.lemmas.List.{length_push}
@@ -11,17 +11,17 @@ use lib.ListN.{get_elem?}
 use Rattle.cell_words.specs.Term.{Term, null, num}
 use Rattle.doc_model.specs.Store.{tree_at}
 use Rattle.doc_tree.specs.Tree.{DocTree}
-use Rattle.heap_rule.specs.Boxes.{Map, Payload, with_entry, written_map}
+use Rattle.heap_rule.specs.Boxes.{Map, Payload, written_map}
 use Rattle.heap_rule.specs.Lore.{Entry, Named, Plain, put}
 use Rattle.heap_rule.proofs.Claiming.{put_here, put_other}
-use Rattle.version_rule.specs.Fits.{Fits, HasTree}
+use Rattle.version_rule.specs.Fits.{Fits}
 use Rattle.version_rule.specs.Pass.{Commit, Pass, Reading, committed}
 use Rattle.version_rule.specs.Versions.{HasLatest, HasNumber, HoldsVersions, IsCut, IsInStep}
 use Rattle.version_rule.specs.Versions.{IsLinked, IsVersion, IsNext}
 use Rattle.version_rule.proofs.Cutting.{some_is, written_else, written_here}
 use Rattle.version_rule.proofs.Made.{versions_more}
 use Rattle.version_rule.proofs.Passing.{fits_at, in_step_at, made_of}
-use Rattle.version_rule.specs.Shrinks.{named_inj, not_anchor, num_inj, one_number, same_entry}
+use Rattle.version_rule.specs.Shrinks.{named_inj, not_anchor, one_number, same_entry}
 use Rattle.version_rule.proofs.Trees.{tree_last, tree_still}
 
 module _ (is_tree : Term → Type 0) (tree_of : Term → DocTree) (map : Map) (passes : List Pass)
@@ -100,14 +100,17 @@ module _ (is_tree : Term → Type 0) (tree_of : Term → DocTree) (map : Map) (p
         same_entry new 0 0 (put h.latest.anchor 0 (Named z)) has.box anchor_here there
         ∙ has.number_is in cc)
     | inr one ↦ elim (cases_eq y z) [
-        | inl same ↦ inl (same, one_number new z v n
-            (subst (λ (x : ℕ). HasNumber new x v) same has) next_here)
-        | inr other ↦ inr record {
-            box = has.box;
-            there = sym (else_same y one other) ∙ has.there;
-            number_is = has.number_is;
-          }
-      ]
+      | inl same ↦ inl (
+        same,
+        one_number new z v n
+            (subst (λ (x : ℕ). HasNumber new x v) same has) next_here,
+      )
+      | inr other ↦ inr record {
+        box = has.box;
+        there = sym (else_same y one other) ∙ has.there;
+        number_is = has.number_is;
+      }
+    ]
   ]
 
   number_below : (y v : ℕ) → HasNumber map y v → v < n
@@ -136,9 +139,9 @@ module _ (is_tree : Term → Type 0) (tree_of : Term → DocTree) (map : Map) (p
   link_still number link (inl cut) = inl record {
     none = cut.none;
     due = elim cut.due [
-        | inl first ↦ inl first
-        | inr le ↦ inr (let more = grown in omega (arith, le, more))
-      ];
+      | inl first ↦ inl first
+      | inr le ↦ inr (let more = grown in omega (arith, le, more))
+    ];
   }
   link_still number link (inr linked) = inr record {
     cell = linked.cell;
@@ -190,15 +193,15 @@ module _ (is_tree : Term → Type 0) (tree_of : Term → DocTree) (map : Map) (p
       → new x ≡ Some q → q 0 ≡ Plain (num p.cut) → q 2 ≡ Plain null
   cut_still p fits step x q at is = elim (number_before x p.cut
       record { box = q; there = at; number_is = is }) [
-    | inl here ↦ absurd (
-        let cut = step.cut_seen in let lt = fits.seen in let count = count_is in
-        let same = here.1 in omega (arith, cut, lt, count, same))
-    | inr before ↦
-        let there : map x ≡ Some q =
-        sym (else_same x (not_anchor map (length h.trees - 1) x p.cut h.latest before)
-        (there_before x before.box before.there)) ∙ at in
-        step.cut_is x q there is
-  ]
+        | inl here ↦ absurd (
+            let cut = step.cut_seen in let lt = fits.seen in let count = count_is in
+            let same = here.1 in omega (arith, cut, lt, count, same))
+        | inr before ↦
+            let there : map x ≡ Some q =
+            sym (else_same x (not_anchor map (length h.trees - 1) x p.cut h.latest before)
+            (there_before x before.box before.there)) ∙ at in
+            step.cut_is x q there is
+      ]
 
   in_step_still : (p : Pass) → Fits h.trees p → IsInStep h.keep map p → IsInStep h.keep new p
   in_step_still p fits step = record {
@@ -257,23 +260,23 @@ module _ (is_tree : Term → Type 0) (tree_of : Term → DocTree) (map : Map) (p
           (λ k d lt. in_step_still _ (h.versions.fits k d lt) (h.in_step k d lt));
       latest = latest_new;
       boxes = λ x q one there. elim (cases_eq x z) [
-          | inl same ↦
-              subst (λ (b : Payload). IsVersion is_tree tree_of h.keep trees new b)
-              (some_is box q (sym box_here
-              ∙ subst (λ (y : ℕ). new y ≡ Some q) same there)) version_new
-          | inr other ↦
-              version_still q (h.boxes x q one (sym (else_same x one other) ∙ there))
-        ];
+        | inl same ↦
+            subst (λ (b : Payload). IsVersion is_tree tree_of h.keep trees new b)
+            (some_is box q (sym box_here
+            ∙ subst (λ (y : ℕ). new y ≡ Some q) same there)) version_new
+        | inr other ↦
+            version_still q (h.boxes x q one (sym (else_same x one other) ∙ there))
+      ];
       apart = λ x y v a b. elim (number_before x v a) [
-          | inl here ↦ elim (number_before y v b) [
-              | inl there ↦ here.0 ∙ sym there.0
-              | inr old ↦ absurd (let lt = number_below y v old in let e = here.1 in
-                  omega (arith, lt, e))
-            ]
-          | inr older ↦ elim (number_before y v b) [
-              | inl there ↦ absurd (let lt = number_below x v older in let e = there.1 in
-                  omega (arith, lt, e))
-              | inr old ↦ h.apart x y v older old
-            ]
-        ];
+        | inl here ↦ elim (number_before y v b) [
+          | inl there ↦ here.0 ∙ sym there.0
+          | inr old ↦ absurd (let lt = number_below y v old in let e = here.1 in
+              omega (arith, lt, e))
+        ]
+        | inr older ↦ elim (number_before y v b) [
+          | inl there ↦ absurd (let lt = number_below x v older in let e = there.1 in
+              omega (arith, lt, e))
+          | inr old ↦ h.apart x y v older old
+        ]
+      ];
     }

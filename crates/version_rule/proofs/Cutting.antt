@@ -1,12 +1,12 @@
 -- The rule where the link of a version is cut.
-use Rattle.std.proofs.Common.{◌≡◌, ◌≢◌, ℕ, ◌+◌, ◌-◌, ◌<◌, ◌≤◌, ◌⊎◌, List, length, All, Some, None}
-use Rattle.std.proofs.Common.{Option, Bool, inl, inr, refl, sym, ◌∙◌, ap, subst, arith}
+use Rattle.std.proofs.Common.{◌≡◌, ◌≢◌, ℕ, ◌+◌, ◌-◌, ◌≤◌, ◌⊎◌, List, length, Some, None}
+use Rattle.std.proofs.Common.{Option, inl, inr, refl, sym, ◌∙◌, ap, subst, arith}
 use Rattle.std.proofs.lemmas.Bool.{cases_eq}
 use Rattle.std.proofs.lemmas.List.Elements.{All-weaker}
 use Rattle.cell_words.specs.Term.{Term, null, num}
 use Rattle.doc_tree.specs.Tree.{DocTree}
 use Rattle.heap_rule.specs.Boxes.{Map, Payload, with_entry, written_map}
-use Rattle.heap_rule.specs.Lore.{Entry, Named, Plain, put}
+use Rattle.heap_rule.specs.Lore.{Entry, Plain, put}
 use Rattle.heap_rule.proofs.Claiming.{put_here, put_other}
 use Rattle.version_rule.specs.Pass.{Pass}
 use Rattle.version_rule.specs.Versions.{HasLatest, HasNumber, HoldsVersions, IsCut, IsInStep}
@@ -39,36 +39,36 @@ module _ (map : Map) (x n : ℕ) (box : Payload) (there : map x ≡ Some box)
   number_still : (y u : ℕ) → HasNumber map y u → HasNumber new y u
   number_still y u has = elim (cases_eq y x) [
     | inl same ↦ subst (λ (c : ℕ). HasNumber new c u) (sym same) record {
-        box = put box 2 (Plain null);
-        there = written_here map x 2 (Plain null) box there;
-        number_is =
-            let here : map x ≡ Some has.box =
-            subst (λ (c : ℕ). map c ≡ Some has.box) same has.there in
-            ap (λ (p : Payload). p 0) (some_is box has.box (sym there ∙ here)) ∙ has.number_is;
-      }
+      box = put box 2 (Plain null);
+      there = written_here map x 2 (Plain null) box there;
+      number_is =
+          let here : map x ≡ Some has.box =
+          subst (λ (c : ℕ). map c ≡ Some has.box) same has.there in
+          ap (λ (p : Payload). p 0) (some_is box has.box (sym there ∙ here)) ∙ has.number_is;
+    }
     | inr other ↦ record {
-        box = has.box;
-        there = written_else map x 2 (Plain null) box there y other ∙ has.there;
-        number_is = has.number_is;
-      }
+      box = has.box;
+      there = written_else map x 2 (Plain null) box there y other ∙ has.there;
+      number_is = has.number_is;
+    }
   ]
 
   number_before : (y u : ℕ) → HasNumber new y u → HasNumber map y u
   number_before y u has = elim (cases_eq y x) [
     | inl same ↦ subst (λ (c : ℕ). HasNumber map c u) (sym same) record {
-        box = box;
-        there = there;
-        number_is =
-            let here : new x ≡ Some has.box =
-            subst (λ (c : ℕ). new c ≡ Some has.box) same has.there in
-            ap (λ (p : Payload). p 0) (some_is (put box 2 (Plain null)) has.box
-            (sym (written_here map x 2 (Plain null) box there) ∙ here)) ∙ has.number_is;
-      }
+      box = box;
+      there = there;
+      number_is =
+          let here : new x ≡ Some has.box =
+          subst (λ (c : ℕ). new c ≡ Some has.box) same has.there in
+          ap (λ (p : Payload). p 0) (some_is (put box 2 (Plain null)) has.box
+          (sym (written_here map x 2 (Plain null) box there) ∙ here)) ∙ has.number_is;
+    }
     | inr other ↦ record {
-        box = has.box;
-        there = sym (written_else map x 2 (Plain null) box there y other) ∙ has.there;
-        number_is = has.number_is;
-      }
+      box = has.box;
+      there = sym (written_else map x 2 (Plain null) box there y other) ∙ has.there;
+      number_is = has.number_is;
+    }
   ]
 
   latest_still : (u : ℕ) → HasLatest map u → HasLatest new u
@@ -92,13 +92,13 @@ module _ (map : Map) (x n : ℕ) (box : Payload) (there : map x ≡ Some box)
     commits_seen = step.commits_seen;
     cut_seen = step.cut_seen;
     cut_is = λ y q at says. elim (cases_eq y x) [
-        | inl same ↦
-            let here : new x ≡ Some q = subst (λ (c : ℕ). new c ≡ Some q) same at in
-            ap (λ (p : Payload). p 2) (sym (some_is (put box 2 (Plain null)) q
-            (sym (written_here map x 2 (Plain null) box there) ∙ here)))
-        | inr other ↦ step.cut_is y q
-            (sym (written_else map x 2 (Plain null) box there y other) ∙ at) says
-      ];
+      | inl same ↦
+          let here : new x ≡ Some q = subst (λ (c : ℕ). new c ≡ Some q) same at in
+          ap (λ (p : Payload). p 2) (sym (some_is (put box 2 (Plain null)) q
+          (sym (written_here map x 2 (Plain null) box there) ∙ here)))
+      | inr other ↦ step.cut_is y q
+          (sym (written_else map x 2 (Plain null) box there y other) ∙ at) says
+    ];
   }
 
   module _ (is_tree : Term → Type 0) (tree_of : Term → DocTree) where
@@ -162,17 +162,17 @@ module _ (map : Map) (x n : ℕ) (box : Payload) (there : map x ≡ Some box)
           passes h.in_step;
       latest = latest_still (length h.trees - 1) h.latest;
       boxes = λ y q apart at. elim (cases_eq y x) [
-          | inl same ↦
-              let here : new x ≡ Some q = subst (λ (c : ℕ). new c ≡ Some q) same at in
-              subst (λ (p : Payload). IsVersion is_tree tree_of h.keep h.trees new p)
-              (some_is (put box 2 (Plain null)) q
-              (sym (written_here map x 2 (Plain null) box there) ∙ here))
-              (version_cut h.keep h.trees due
-              (version_of is_tree tree_of map passes h x box n there is))
-          | inr other ↦
-              let before : map y ≡ Some q =
-              sym (written_else map x 2 (Plain null) box there y other) ∙ at in
-              version_still h.keep h.trees q (h.boxes y q apart before)
-        ];
+        | inl same ↦
+            let here : new x ≡ Some q = subst (λ (c : ℕ). new c ≡ Some q) same at in
+            subst (λ (p : Payload). IsVersion is_tree tree_of h.keep h.trees new p)
+            (some_is (put box 2 (Plain null)) q
+            (sym (written_here map x 2 (Plain null) box there) ∙ here))
+            (version_cut h.keep h.trees due
+            (version_of is_tree tree_of map passes h x box n there is))
+        | inr other ↦
+            let before : map y ≡ Some q =
+            sym (written_else map x 2 (Plain null) box there y other) ∙ at in
+            version_still h.keep h.trees q (h.boxes y q apart before)
+      ];
       apart = λ y z u a b. h.apart y z u (number_before y u a) (number_before z u b);
     }

@@ -1,16 +1,16 @@
 -- The numbers of the commits of all passes, as one pass makes the next version.
-use Rattle.std.proofs.Common.{◌≡◌, ℕ, zero, suc, ◌+◌, ◌-◌, ◌<◌, ◌≤◌, List, [], ◌∷◌}
-use Rattle.std.proofs.Common.{◌++◌, length, map, flat_map, set, All, IsPermutation, refl, sym, ◌∙◌, ap, subst, arith}
-use Rattle.std.proofs.lemmas.List.{append-nil, append_assoc, length_push, map-append}
+use Rattle.std.proofs.Common.{◌≡◌, ℕ, zero, suc, ◌+◌, ◌-◌, ◌≤◌, List, [], ◌∷◌}
+use Rattle.std.proofs.Common.{◌++◌, length, flat_map, set, IsPermutation, refl, sym, ◌∙◌, ap, subst}
+use Rattle.std.proofs.Common.{arith}
+use Rattle.std.proofs.lemmas.List.{append_assoc, length_push, map-append}
 use Rattle.std.proofs.lemmas.List.Elements.{All-set, All-weaker}
 use Rattle.std.proofs.lemmas.List.Sorted.{IsPermutation-append_comm, IsPermutation-append_left}
-use Rattle.std.proofs.lemmas.List.Sorted.{IsPermutation-append_right, IsPermutation-refl}
+use Rattle.std.proofs.lemmas.List.Sorted.{IsPermutation-append_right}
 use Rattle.std.proofs.lemmas.List.Sorted.{IsPermutation-trans, length_permutation}
 use mathlib.Core.Option.{some, some-injective, some-ne-none}
 use lib.ListN.{get_elem?}
 use Rattle.doc_tree.specs.Tree.{DocTree}
 use Rattle.doc_model.specs.Agreement.{EachOnce, rising}
-use Rattle.doc_model.specs.Store.{tree_at}
 use Rattle.version_rule.specs.Fits.{Fits, HasTree, HasVersions}
 use Rattle.version_rule.specs.Pass.{Pass, commit_numbers, committed}
 use Rattle.version_rule.proofs.Trees.{fits_committed, fits_more, has_last, has_still, tree_still}

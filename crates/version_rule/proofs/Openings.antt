@@ -1,8 +1,7 @@
 -- The rule holds where a store of versions opens.
-use Rattle.std.proofs.Common.{◌≡◌, ◌≢◌, ◌<◌, ◌≤◌, ◌+◌, ◌-◌, ◌⊎◌, ◌==◌, ℕ, zero, suc, Bool, true, false}
-use Rattle.std.proofs.Common.{List, [], ◌∷◌, ◌++◌, length, get_or, replicate, flat_map, All, Option}
-use Rattle.std.proofs.Common.{Some, None, inl, inr, refl, sym, ◌∙◌, ap, subst, arith, IsPermutation}
-use Rattle.std.proofs.lemmas.Bool.{cases_eq, ne_eqb}
+use Rattle.std.proofs.Common.{◌≡◌, ◌<◌, ◌≤◌, ◌+◌, ◌-◌, ◌⊎◌, ℕ, zero, suc, true, false}
+use Rattle.std.proofs.Common.{List, [], ◌∷◌, length, get_or, replicate, flat_map, All}
+use Rattle.std.proofs.Common.{Some, None, inl, inr, refl, sym, ◌∙◌, ap, subst, arith}
 use Rattle.std.proofs.lemmas.List.Elements.{All-cons, All-nil}
 use Rattle.std.proofs.lemmas.List.Sorted.{IsPermutation-refl}
 use Rattle.cell_words.specs.declared.fields.Field.{Field}
@@ -10,23 +9,23 @@ use Rattle.cell_words.specs.declared.fields.Field.TheVariants as field
 use Rattle.cell_words.specs.Term.{Term, null, num}
 use Rattle.core_machine.specs.State.{State, field_in, field_of, null_row, opening}
 use Rattle.core_machine.specs.Words.{is_box_kind}
-use Rattle.dlg_core.specs.Reachable.{Reachable, anchor, named}
+use Rattle.dlg_core.specs.Reachable.{anchor, named}
 use Rattle.doc_model.specs.Agreement.{EachOnce}
 use Rattle.doc_tree.specs.Tree.{DocTree, empty}
 use Rattle.heap_rule.specs.Boxes.{Map, Payload, boxes_of, payload_of}
-use Rattle.heap_rule.specs.Facts.{IsPlain, TermFits, is_record_kind}
-use Rattle.heap_rule.specs.Lore.{Entry, Lore, Named, Plain, Terms, entry_of, put}
+use Rattle.heap_rule.specs.Facts.{IsPlain}
+use Rattle.heap_rule.specs.Lore.{Lore, Named, Plain, entry_of}
 use Rattle.heap_rule.specs.Opening.{FirstTerms, opening_lore, opening_passes, opening_rooms}
 use Rattle.heap_rule.specs.Opening.{passes_from}
 use Rattle.heap_rule.specs.Shape.{Shape, start}
 use Rattle.heap_rule.proofs.Claiming.{put_other}
 use Rattle.heap_rule.proofs.Maps.{In, in_map, of_map}
-use Rattle.version_rule.specs.Fits.{Fits, HasTree, HasVersions, IsMade}
+use Rattle.version_rule.specs.Fits.{Fits, HasTree, IsMade}
 use Rattle.version_rule.specs.Opening.{OpensVersions, first_rows, first_terms}
 use Rattle.version_rule.specs.Pass.{Commit, Pass, Reading, commit_numbers, opening_pass}
-use Rattle.version_rule.specs.Shrinks.{num_inj, same_entry}
+use Rattle.version_rule.specs.Shrinks.{same_entry}
 use Rattle.version_rule.specs.Spelling.{bare_root}
-use Rattle.version_rule.specs.Versions.{HasLatest, HasNumber, HoldsVersions, IsCut, IsInStep}
+use Rattle.version_rule.specs.Versions.{HasNumber, HoldsVersions, IsInStep}
 use Rattle.version_rule.specs.Versions.{IsVersion}
 use Rattle.version_rule.proofs.Cutting.{some_is}
 
@@ -192,13 +191,13 @@ module _ (is_tree : Term → Type 0) (tree_of : Term → DocTree) (bare : is_tre
         others = others;
       };
       boxes = λ x q other at. elim (in_is x q at) [
-          | inl zero_is ↦ absurd (other zero_is)
-          | inr is ↦
-              let same : Some (payload_of s l 1) ≡ Some q =
-              sym version_there ∙ subst (λ (z : ℕ). map z ≡ Some q) is at in
-              subst (λ (p : Payload). IsVersion is_tree tree_of setting (empty ∷ []) map p)
-              (some_is (payload_of s l 1) q same) (version_zero setting)
-        ];
+        | inl zero_is ↦ absurd (other zero_is)
+        | inr is ↦
+            let same : Some (payload_of s l 1) ≡ Some q =
+            sym version_there ∙ subst (λ (z : ℕ). map z ≡ Some q) is at in
+            subst (λ (p : Payload). IsVersion is_tree tree_of setting (empty ∷ []) map p)
+            (some_is (payload_of s l 1) q same) (version_zero setting)
+      ];
       apart = λ x y u a b. number_at x u a ∙ sym (number_at y u b);
     }
 

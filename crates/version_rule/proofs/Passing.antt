@@ -1,7 +1,7 @@
 -- The rule where one pass changes and no box does.
-use Rattle.std.proofs.Common.{◌≡◌, ◌≢◌, ℕ, zero, suc, ◌+◌, ◌-◌, ◌<◌, ◌≤◌, ◌⊎◌, List, [], ◌∷◌}
-use Rattle.std.proofs.Common.{length, All, Some, None, Option, max, set, length-set}
-use Rattle.std.proofs.Common.{inl, inr, refl, sym, ◌∙◌, ap, subst, arith}
+use Rattle.std.proofs.Common.{◌≡◌, ℕ, zero, suc, ◌-◌, ◌<◌, ◌≤◌, List, [], ◌∷◌}
+use Rattle.std.proofs.Common.{length, All, Some, max, set, length-set}
+use Rattle.std.proofs.Common.{inl, inr, refl, sym, ◌∙◌, subst, arith}
 use Rattle.std.proofs.lemmas.Bool.{cases_lt}
 use Rattle.std.proofs.lemmas.List.Elements.{All-head, All-push, All-set, All-tail, All-weaker}
 use mathlib.Core.Option.{some, some-injective, some-ne-none}
@@ -9,10 +9,10 @@ use lib.ListN.{get_elem?}
 use Rattle.cell_words.specs.Term.{Term, null, num}
 use Rattle.doc_tree.specs.Tree.{DocTree}
 use Rattle.heap_rule.specs.Boxes.{Map, Payload}
-use Rattle.heap_rule.specs.Lore.{Entry, Named, Plain}
+use Rattle.heap_rule.specs.Lore.{Plain}
 use Rattle.version_rule.specs.Fits.{Fits, HasTree}
 use Rattle.version_rule.specs.Pass.{Commit, Pass, Reading, commit_numbers, cutting, reading, seeing}
-use Rattle.version_rule.specs.Versions.{HasNumber, HoldsVersions, IsInStep, IsVersion}
+use Rattle.version_rule.specs.Versions.{HoldsVersions, IsInStep, IsVersion}
 use Rattle.version_rule.proofs.Made.{versions_kept}
 use Rattle.version_rule.specs.Shrinks.{not_anchor, num_inj, same_entry}
 use Rattle.version_rule.proofs.Trees.{fits_cutting, fits_reading, fits_seeing}

@@ -1,7 +1,7 @@
 -- Reads of the anchor and of versions: what they tell, and that the rule stands with the pass that
 -- is picked.
-use Rattle.std.proofs.Common.{◌≡◌, ◌≢◌, ◌<◌, ◌≤◌, ◌+◌, ◌-◌, ◌⊎◌, ℕ, List, length, Option, Some, None}
-use Rattle.std.proofs.Common.{slice_index_or, slice_set, inl, inr, refl, sym, ◌∙◌, ap, subst, arith}
+use Rattle.std.proofs.Common.{◌≡◌, ◌<◌, ◌≤◌, ◌+◌, ◌-◌, ◌⊎◌, ℕ, List, length, Option, Some}
+use Rattle.std.proofs.Common.{slice_set, inl, inr, refl, sym, ◌∙◌, ap, subst, arith}
 use mathlib.Core.Option.{some}
 use lib.ListN.{get_elem?}
 use Rattle.atomic_table.proofs.Lists.{set_again}
@@ -9,31 +9,29 @@ use Rattle.cell_words.specs.declared.fields.Field.{Field}
 use Rattle.cell_words.specs.declared.fields.Field.TheVariants as field
 use Rattle.cell_words.specs.Term.{IsFive, Term, null, num, number}
 use Rattle.core_machine.specs.declared.events.Event.TheVariants as event
-use Rattle.core_machine.specs.declared.events.Found.{Found}
 use Rattle.core_machine.specs.declared.events.Found.TheVariants as finds
-use Rattle.core_machine.specs.Next.{can, found_by}
+use Rattle.core_machine.specs.Next.{found_by}
 use Rattle.core_machine.specs.State.{State, field_of, target_of}
 use Rattle.doc_model.specs.Store.{tree_at}
 use Rattle.doc_tree.specs.Tree.{DocTree}
 use Rattle.heap_rule.specs.Asks.{target}
-use Rattle.heap_rule.specs.Boxes.{Map, Payload, boxes_of, payload_of}
-use Rattle.heap_rule.specs.Lore.{Entry, Lore, Named, Plain, entry_of, five_plain, learned}
+use Rattle.heap_rule.specs.Boxes.{boxes_of, payload_of}
+use Rattle.heap_rule.specs.Lore.{Lore, Named, Plain, entry_of, five_plain, learned}
 use Rattle.heap_rule.specs.Lore.{learned_from, learned_of, plain}
 use Rattle.heap_rule.specs.Steps.{Mine, Picks}
 use Rattle.heap_rule.specs.declared.known.Known.{Known}
-use Rattle.heap_rule.specs.declared.known.Known.TheVariants as knows
 use Rattle.heap_rule.specs.declared.known.Learned.{Learned}
 use Rattle.heap_rule.specs.declared.view.View.{View}
 use Rattle.heap_rule.proofs.Maps.{entry_names, in_map, of_map}
 use Rattle.version_rule.specs.Fits.{HasTree}
 use Rattle.version_rule.specs.Knowing.{IsVersionKnown, KnowsVersion, latest_seen, link_cut}
 use Rattle.version_rule.specs.Knowing.{link_seen, number_told, root_told, term_or_null, tree_read}
-use Rattle.version_rule.specs.Pass.{Pass, cutting, reading, seeing}
-use Rattle.version_rule.specs.Shrinks.{named_inj, not_anchor, num_inj, one_number, same_entry}
+use Rattle.version_rule.specs.Pass.{Pass}
+use Rattle.version_rule.specs.Shrinks.{not_anchor, num_inj, same_entry}
 use Rattle.version_rule.specs.Told.{TellsLatest, TellsLink, TellsOlder, TellsRoot}
-use Rattle.version_rule.specs.Versions.{HasNumber, HoldsVersions, IsCut, IsLinked, IsVersion}
+use Rattle.version_rule.specs.Versions.{HasNumber, HoldsVersions, IsLinked, IsVersion}
 use Rattle.version_rule.specs.Versions.{is_fixed}
-use Rattle.version_rule.proofs.Passing.{cut_stands, fits_at, in_step_at, made_of, read_stands}
+use Rattle.version_rule.proofs.Passing.{cut_stands, fits_at, in_step_at, read_stands}
 use Rattle.version_rule.proofs.Passing.{seen_stands, version_of}
 use Rattle.version_rule.proofs.States.{Seen, learned_box, learned_record, null_word, number_seen}
 use Rattle.version_rule.proofs.States.{number_word, record_word, target_now, version_seen}
@@ -250,9 +248,9 @@ module _ (is_tree : Term → Type 0) (tree_of : Term → DocTree)
     pub due : payload_of s l x 2 ≡ Plain null → (n ≡ 0) ⊎ (n + h.keep ≤ length h.trees)
     due none = elim whole.link [
       | inl cut ↦ elim cut.due [
-          | inl first ↦ inl (sym whole_number ∙ first)
-          | inr le ↦ inr (subst (λ (m : ℕ). m + h.keep ≤ length h.trees) whole_number le)
-        ]
+        | inl first ↦ inl (sym whole_number ∙ first)
+        | inr le ↦ inr (subst (λ (m : ℕ). m + h.keep ≤ length h.trees) whole_number le)
+      ]
       | inr link ↦ absurd (let e : Named link.cell ≡ Plain null = sym link.names ∙ none in cc)
     ]
 

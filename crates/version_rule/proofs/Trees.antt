@@ -1,8 +1,8 @@
 -- What a pass says of the list of versions, as the pass or the list grows.
-use Rattle.std.proofs.Common.{◌≡◌, ℕ, ◌+◌, ◌-◌, ◌<◌, ◌≤◌, List, [], ◌∷◌, ◌++◌, length, get_or}
-use Rattle.std.proofs.Common.{All, max, refl, sym, ◌∙◌, ap, subst, arith}
+use Rattle.std.proofs.Common.{◌≡◌, ℕ, ◌-◌, ◌<◌, ◌≤◌, List, [], ◌∷◌, ◌++◌, length}
+use Rattle.std.proofs.Common.{All, max, refl, sym, ◌∙◌, ap, arith}
 use Rattle.std.proofs.lemmas.List.{get_or_append_left, length_push, get_or_push}
-use Rattle.std.proofs.lemmas.List.Elements.{All-push, All-weaker, All-take, All-same, All-append}
+use Rattle.std.proofs.lemmas.List.Elements.{All-push, All-weaker, All-take, All-same}
 use Rattle.std.proofs.lemmas.List.{take_at}
 use Rattle.doc_tree.specs.Tree.{DocTree, empty}
 use Rattle.doc_model.specs.Store.{tree_at}

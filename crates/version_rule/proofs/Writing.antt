@@ -1,6 +1,6 @@
 -- Writes: of the anchor's field by a commit, and of a version's link by a trim. The rule stands with
 -- the pass that is picked, whether the write was made or not.
-use Rattle.std.proofs.Common.{◌≡◌, ◌≢◌, ◌<◌, ◌≤◌, ◌+◌, ◌-◌, ◌⊎◌, ◌&&◌, ℕ, Bool, true, false, List}
+use Rattle.std.proofs.Common.{◌≡◌, ◌≢◌, ◌<◌, ◌≤◌, ◌+◌, ◌-◌, ◌&&◌, ℕ, Bool, true, false, List}
 use Rattle.std.proofs.Common.{[], ◌∷◌, length, Option, Some, None, is_none, slice_set, inl, inr}
 use Rattle.std.proofs.Common.{refl, sym, ◌∙◌, ap, subst, arith}
 use Rattle.std.proofs.lemmas.Bool.{cases_eq, eq-eqb}
@@ -8,38 +8,35 @@ use mathlib.Core.Option.{some}
 use lib.ListN.{get_elem?}
 use Rattle.cell_words.specs.declared.fields.Field.{Field}
 use Rattle.cell_words.specs.declared.fields.Field.TheVariants as field
-use Rattle.cell_words.specs.Term.{IsFive, Term, null, num}
+use Rattle.cell_words.specs.Term.{IsFive, Term, null}
 use Rattle.core_machine.specs.declared.events.Event.TheVariants as event
-use Rattle.core_machine.specs.declared.events.Found.TheVariants as finds
 use Rattle.core_machine.specs.State.{State, field_of, target_of}
 use Rattle.core_machine.specs.Words.{is_box_kind, same_field}
 use Rattle.dlg_core.specs.Reachable.{Reachable, reach}
 use Rattle.dlg_core.proofs.Keeps.Write.{same_field_is}
 use Rattle.doc_model.specs.Store.{tree_at}
 use Rattle.doc_tree.specs.Tree.{DocTree}
-use Rattle.heap_rule.specs.Asks.{known_of, target}
-use Rattle.heap_rule.specs.Boxes.{Map, Payload, boxes_of, is_shown, payload_of, revealing}
+use Rattle.heap_rule.specs.Asks.{target}
+use Rattle.heap_rule.specs.Boxes.{Map, Payload, boxes_of, payload_of, revealing}
 use Rattle.heap_rule.specs.Boxes.{where_shown, written_if, written_map}
 use Rattle.heap_rule.specs.Facts.{Facts, IsKnown}
-use Rattle.heap_rule.specs.Knowledge.{ArePayload}
 use Rattle.heap_rule.specs.Lore.{Entry, Lore, Named, Plain, entry_of, named_or, put}
 use Rattle.heap_rule.specs.Steps.{Mine, Picks}
 use Rattle.heap_rule.specs.declared.known.Known.{Known}
 use Rattle.heap_rule.specs.declared.known.Known.TheVariants as knows
 use Rattle.heap_rule.specs.declared.view.View.{View}
 use Rattle.heap_rule.proofs.Claiming.{put_here, put_other}
-use Rattle.heap_rule.proofs.Maps.{In, entry_names, in_map, of_map}
-use Rattle.version_rule.specs.Knowing.{KnowsVersion, MayCommit, MayCut, link_taken, made_or_seen}
+use Rattle.heap_rule.proofs.Maps.{entry_names, in_map, of_map}
+use Rattle.version_rule.specs.Knowing.{MayCommit, MayCut, link_taken, made_or_seen}
 use Rattle.version_rule.specs.Knowing.{next_made}
 use Rattle.version_rule.specs.Pass.{Pass, committed, cutting, seeing}
 use Rattle.version_rule.specs.Shrinks.{named_inj, num_inj, one_number, same_entry}
-use Rattle.version_rule.specs.Versions.{HasNumber, HoldsVersions, IsCut, IsLinked, IsNext}
-use Rattle.version_rule.specs.Versions.{IsVersion, is_fixed}
+use Rattle.version_rule.specs.Versions.{HasNumber, HoldsVersions, IsNext}
+use Rattle.version_rule.specs.Versions.{is_fixed}
 use Rattle.version_rule.proofs.Committing.{commits}
 use Rattle.version_rule.proofs.Cutting.{cuts, written_here}
 use Rattle.version_rule.proofs.Passing.{cut_stands, fits_at, in_step_at, made_of, seen_stands}
-use Rattle.version_rule.proofs.Passing.{version_of}
-use Rattle.version_rule.proofs.Reading.{Version, due, version_at, version_held, whole}
+use Rattle.version_rule.proofs.Reading.{Version, version_at, version_held, whole}
 use Rattle.version_rule.proofs.States.{Seen, knows_place, no_term, not_some, number_seen}
 use Rattle.version_rule.proofs.States.{reached_place, target_now, version_seen}
 
@@ -87,7 +84,6 @@ module _ (is_tree : Term → Type 0) (tree_of : Term → DocTree)
     (passes : List Pass) (mine : Mine is_fixed v s l)
     (h : HoldsVersions is_tree tree_of (boxes_of s l) passes)
     (at : get_elem? passes v.number ≡ some v.pass) where
-
   -- A commit.
 
   module _ (place latest box root number : ℕ) (before made : Term)

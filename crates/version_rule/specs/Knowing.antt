@@ -94,8 +94,8 @@ pub record MayCommit (is_tree : Term → Type 0) (v : View Pass) (place latest b
 -- and to cut the link of a version: that one, the one before it, and that as many as stay have been
 -- made from it on
 pub record MayCut (v : View Pass) (place older : ℕ) (number : ℕ) (root before : Term) : Type 0
-    where
-  pub held : KnowsVersion v place number root
-  pub linked : KnowsVersion v older (number - 1) before
-  pub later : 1 ≤ number
-  pub due : number + v.pass.keep ≤ v.pass.seen + 1
+  where
+    pub held : KnowsVersion v place number root
+    pub linked : KnowsVersion v older (number - 1) before
+    pub later : 1 ≤ number
+    pub due : number + v.pass.keep ≤ v.pass.seen + 1

@@ -1,8 +1,7 @@
 -- What a seat shows after a step on versions: the word that the step found, what is held and known,
 -- and the pass.
 -- Source: this project's.
-use Rattle.std.specs.Prelude.{ℕ, ◌≡◌, ◌≢◌, ◌≤◌, ◌+◌, ◌-◌, ◌⊎◌, List, [], ◌∷◌, ◌++◌, length}
-use Rattle.cell_words.specs.declared.fields.Field.{Field}
+use Rattle.std.specs.Prelude.{ℕ, ◌≡◌, ◌≢◌, ◌≤◌, ◌+◌, ◌⊎◌, [], ◌∷◌, ◌++◌, length}
 use Rattle.cell_words.specs.declared.fields.Field.TheVariants as field
 use Rattle.cell_words.specs.Field.{pack_field_of}
 use Rattle.cell_words.specs.Term.{Term}
@@ -12,7 +11,7 @@ use Rattle.heap_rule.specs.Asks.{known_of}
 use Rattle.heap_rule.specs.declared.known.Known.TheVariants as knows
 use Rattle.heap_rule.specs.declared.view.View.{View}
 use Rattle.version_rule.specs.Knowing.{KnowsVersion}
-use Rattle.version_rule.specs.Pass.{Pass, committed, cutting, reading, seeing}
+use Rattle.version_rule.specs.Pass.{Pass, committed, reading, seeing}
 
 -- the word is that of a cell, which is held at one more place
 pub record HoldsFound (v w : View Pass) (word cell : ℕ) : Type 0 where
@@ -69,10 +68,10 @@ ShowsLink is_tree v w word number pass_then =
 
 -- after a write of the anchor's field over a version: the commit is made
 pub record ShowsMade (v w : View Pass) (word over number : ℕ) (before made : DocTree) : Type 0
-    where
-  pub word_is : pack_field_of (field.Cell over) ≡ word
-  pub pass : w.pass ≡ committed number before made v.pass
-  pub low : v.pass.seen ≤ number
+  where
+    pub word_is : pack_field_of (field.Cell over) ≡ word
+    pub pass : w.pass ≡ committed number before made v.pass
+    pub low : v.pass.seen ≤ number
 
 -- or another was the latest, and one with this number is there
 pub record ShowsMoved (v w : View Pass) (word over number : ℕ) : Type 0 where

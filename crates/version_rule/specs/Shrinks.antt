@@ -1,8 +1,8 @@
 -- The rule of versions on maps: what its parts say, and that it stands on every smaller map.
-use Rattle.std.proofs.Common.{◌≡◌, ◌≢◌, ℕ, ◌+◌, ◌-◌, ◌<◌, ◌≤◌, ◌⊎◌, List, length, All, Some, None}
-use Rattle.std.proofs.Common.{Option, inl, inr, refl, sym, ◌∙◌, ap, subst, arith}
+use Rattle.std.proofs.Common.{◌≡◌, ◌≢◌, ℕ, ◌-◌, ◌<◌, ◌⊎◌, List, length, Some, None}
+use Rattle.std.proofs.Common.{Option, inl, inr, sym, ◌∙◌, ap, subst, arith}
 use Rattle.std.proofs.lemmas.List.Elements.{All-weaker}
-use Rattle.cell_words.specs.Term.{Term, null, num}
+use Rattle.cell_words.specs.Term.{Term, num}
 use Rattle.doc_tree.specs.Tree.{DocTree}
 use Rattle.heap_rule.specs.Boxes.{Map, Payload, Smaller}
 use Rattle.heap_rule.specs.Lore.{Entry, Named, Plain}

@@ -1,6 +1,5 @@
 -- The root of version 0.
 -- Source: this project's.
-use Rattle.std.specs.Prelude.{ℕ, ◌≡◌}
 use Rattle.cell_words.specs.Term.{Term, five, null, num}
 
 -- a node without text and without children: null for either, 1 node, 0 high

@@ -70,17 +70,17 @@ pub record IsNext (is_tree : Term → Type 0) (number : ℕ) (root : Term) (olde
 module _ (is_tree : Term → Type 0) (tree_of : Term → DocTree) where
   -- a version's box: its number, its tree and its link, and nothing else
   pub record IsVersion (keep : ℕ) (trees : List DocTree) (map : Map) (box : Payload) : Type 0
-      where
-    pub number : ℕ
-    pub number_is : box 0 ≡ Plain (num number)
-    pub made : number < length trees
-    pub root : Term
-    pub root_is : box 1 ≡ Plain root
-    pub spells : is_tree root
-    pub tree : tree_of root ≡ tree_at trees number
-    pub link : IsCut keep (length trees) number (box 2) ⊎ IsLinked map number (box 2)
-    pub fourth : box 3 ≡ Plain null
-    pub fifth : box 4 ≡ Plain null
+    where
+      pub number : ℕ
+      pub number_is : box 0 ≡ Plain (num number)
+      pub made : number < length trees
+      pub root : Term
+      pub root_is : box 1 ≡ Plain root
+      pub spells : is_tree root
+      pub tree : tree_of root ≡ tree_at trees number
+      pub link : IsCut keep (length trees) number (box 2) ⊎ IsLinked map number (box 2)
+      pub fourth : box 3 ≡ Plain null
+      pub fifth : box 4 ≡ Plain null
 
   pub record HoldsVersions (map : Map) (passes : List Pass) : Type 0 where
     -- how many versions stay, and the trees of all that were made
