@@ -6,5 +6,6 @@ pub mod Openings
 pub mod Passing
 pub mod Reading
 pub mod States
+pub mod Staying
 pub mod Trees
 pub mod Writing

@@ -59,7 +59,8 @@ module _ (is_tree : Term → Type 0) (tree_of : Term → DocTree)
     (passes : List Pass) (mine : Mine is_fixed v s l)
     (h : HoldsVersions is_tree tree_of (boxes_of s l) passes)
     (at : get_elem? passes v.number ≡ some v.pass) where
-  pub version_at : (x n : ℕ) → HasNumber (boxes_of s l) x n → Version is_tree tree_of h.trees s l x n
+  pub version_at : (x n : ℕ) → HasNumber (boxes_of s l) x n
+      → Version is_tree tree_of h.trees s l x n
   version_at x n has =
       let version = version_of is_tree tree_of (boxes_of s l) passes h x has.box n has.there
       has.number_is in

@@ -1,5 +1,5 @@
--- Writes: of the anchor's field by a commit, and of a version's link by a trim. The rule stands with
--- the pass that is picked, whether the write was made or not.
+-- Writes: of the anchor's field by a commit, and of a version's link by a trim. The rule stands
+-- with the pass that is picked, whether the write was made or not.
 use Rattle.std.proofs.Common.{◌≡◌, ◌≢◌, ◌<◌, ◌≤◌, ◌+◌, ◌-◌, ◌&&◌, ℕ, Bool, true, false, List}
 use Rattle.std.proofs.Common.{[], ◌∷◌, length, Option, Some, None, is_none, slice_set, inl, inr}
 use Rattle.std.proofs.Common.{refl, sym, ◌∙◌, ap, subst, arith}

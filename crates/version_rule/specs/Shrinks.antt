@@ -109,9 +109,9 @@ module _ (old new : Map) (smaller : Smaller old new) where
       fifth = is.fifth;
     }
 
-    pub shrinks : (passes : List Pass) → HoldsVersions is_tree tree_of old passes
+    stands_still : (passes : List Pass) → HoldsVersions is_tree tree_of old passes
         → HoldsVersions is_tree tree_of new passes
-    shrinks passes h = record {
+    stands_still passes h = record {
       keep = h.keep;
       trees = h.trees;
       keeps_some = h.keeps_some;
@@ -125,3 +125,10 @@ module _ (old new : Map) (smaller : Smaller old new) where
           version_still h.keep h.trees x p at (h.boxes x p other (smaller.within x p at));
       apart = λ x y u a b. h.apart x y u (number_before x u a) (number_before y u b);
     }
+
+-- the law of the rule
+pub shrinks : (is_tree : Term → Type 0) (tree_of : Term → DocTree) (old new : Map)
+    (passes : List Pass) → Smaller old new → HoldsVersions is_tree tree_of old passes
+    → HoldsVersions is_tree tree_of new passes
+shrinks is_tree tree_of old new passes smaller kept =
+    stands_still old new smaller is_tree tree_of passes kept

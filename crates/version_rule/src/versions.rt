@@ -29,6 +29,5 @@ impl<S: Spelling> Keeping for Versions<S> {
 
     ghost fixed = { is_fixed };
 
-    ghost shrinks = { λ old new passes smaller kept. is_kept old new smaller S.is_tree S.tree_of passes
-        kept };
+    ghost shrinks = { is_kept S.is_tree S.tree_of };
 }
