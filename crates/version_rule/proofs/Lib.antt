@@ -8,4 +8,5 @@ pub mod Reading
 pub mod States
 pub mod Staying
 pub mod Trees
+pub mod Tying
 pub mod Writing

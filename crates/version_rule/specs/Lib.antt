@@ -6,5 +6,6 @@ pub mod Pass
 pub mod Shows
 pub mod Shrinks
 pub mod Spelling
+pub mod Tied
 pub mod Told
 pub mod Versions
