@@ -26,6 +26,7 @@ use Rattle.heap_rule.proofs.Lists.{all_at, reached_held}
 use Rattle.heap_rule.proofs.Maps.{In, in_map}
 use Rattle.heap_rule.proofs.Reading.{cell_there, has_place}
 use Rattle.heap_rule.proofs.Writing.{box_no_record}
+use Rattle.version_rule.proofs.Seats.{knows_place, reached_place}
 use Rattle.version_rule.specs.Knowing.{KnowsVersion}
 use Rattle.version_rule.specs.Pass.{Pass}
 use Rattle.version_rule.specs.Versions.{HasNumber, is_fixed}
@@ -141,39 +142,16 @@ number_seen s l x number root seen = record {
 -- What a seat knows.
 
 module _ (v : View Pass) (s : State) (l : Lore) (mine : Mine is_fixed v s l) where
-  pub target_now : (place : ℕ) → target_of s v.number place ≡ target v place
-  target_now place = ap (λ (o : Own). cell_at o.held place) mine.own
-
-  pub knows_place : (place : ℕ) → place < length v.own.held
-      → IsKnown is_fixed s l v.number (target v place) (known_of v place)
-  knows_place place lt =
-      let all : AllKnown (IsKnown is_fixed s l v.number) (cells_in v.own.held) v.known =
-      subst (λ (o : Own). AllKnown (IsKnown is_fixed s l v.number) (cells_in o.held) v.known)
-      mine.own
-      (subst (λ (ws : List Known). AllKnown (IsKnown is_fixed s l v.number) (cells_of s v.number)
-      ws) mine.known (mine.shown.facts.known_all v.number)) in
-      subst (λ (c : ℕ). IsKnown is_fixed s l v.number c (known_of v place))
-      (cell_there v.own.held place)
-      (all_at (IsKnown is_fixed s l v.number) (cells_in v.own.held) v.known place
-      (subst (λ (n : ℕ). place < n) (sym (length-map v.own.held (λ (p : Held). p.cell))) lt) all)
-
-  pub reached_place : (place : ℕ) → place < length v.own.held → Reachable s (target v place)
-  reached_place place lt =
-      subst (λ (c : ℕ). Reachable s c) (target_now place)
-      (reached_held s v.number (target_of s v.number place) mine.shown.consistent
-      (has_place s v.number place
-      (subst (λ (o : Own). place < length o.held) (sym mine.own) lt)))
-
   pub version_seen : (place number : ℕ) (root : Term) → KnowsVersion v place number root
       → Seen s l (target v place) number root
   version_seen place number root has =
       let k = has.known in
       let is : IsKnown is_fixed s l v.number (target v place) (knows.Boxed k.told) =
       subst (λ (w : Known). IsKnown is_fixed s l v.number (target v place) w) k.is
-      (knows_place place has.there) in
+      (knows_place v s l mine place has.there) in
       record {
         other = is.0;
-        in_is = record { reached = reached_place place has.there; box = is.1; old = is.2 };
+        in_is = record { reached = reached_place v s l mine place has.there; box = is.1; old = is.2 };
         number_is = is.3 0 (num number) (omega arith) refl k.number_is;
         root_is = is.3 1 root (omega arith) refl k.root_is;
       }
