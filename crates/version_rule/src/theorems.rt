@@ -1,24 +1,38 @@
 //! Laws of the rule of versions, for any spelling of trees: the contracts of functions that do
 //! nothing.
-ghost use Rattle.std.specs.Prelude.{List, ℕ, ◌≡◌, ◌≤◌, ◌+◌, ◌-◌};
+ghost use Rattle.std.specs.Prelude.{List, length, map as mapped, min, ℕ, ◌≡◌, ◌≤◌, ◌+◌, ◌-◌};
+ghost use Rattle.std.specs.List.{AllZip};
+ghost use mathlib.Core.Option.{some};
+ghost use lib.ListN.{get_elem?};
 ghost use Rattle.cell_words.specs.Term.{Term};
+ghost use Rattle.cell_words.specs.declared.fields.Field.{Field};
 ghost use Rattle.cell_words.specs.declared.fields.Field.TheVariants as field;
 ghost use Rattle.core_machine.specs.declared.events.Event.TheVariants as event;
+ghost use Rattle.doc_model.specs.Agreement.{Agree, rising};
+ghost use Rattle.doc_model.specs.Answers.{Limits};
+ghost use Rattle.doc_model.specs.ClientLog.{ClientLog};
+ghost use Rattle.doc_tree.specs.Tree.{DocTree};
 ghost use Rattle.heap_rule.specs.Asks.{target};
-ghost use Rattle.heap_rule.specs.Boxes.{boxes_of};
+ghost use Rattle.heap_rule.specs.Boxes.{Map, boxes_of};
 ghost use Rattle.heap_rule.specs.Opening.{FirstTerms, opening_lore, opening_passes, opening_rooms};
 ghost use Rattle.heap_rule.specs.Shape.{Shape, start};
 ghost use Rattle.heap_rule.specs.Steps.{AtStep, Picks, same_pass};
 ghost use Rattle.heap_rule.specs.declared.view.View.{View};
+ghost use Rattle.version_rule.specs.Chains.{Chain};
+ghost use Rattle.version_rule.specs.Fits.{Grows};
 ghost use Rattle.version_rule.specs.Knowing.{KnowsVersion, MayCommit, MayCut, latest_seen};
 ghost use Rattle.version_rule.specs.Knowing.{link_cut, link_seen, link_taken, next_made, tree_read};
 ghost use Rattle.version_rule.specs.Opening.{OpensVersions, first_rows, first_terms};
-ghost use Rattle.version_rule.specs.Pass.{Pass, cutting, opening_pass, seeing};
+ghost use Rattle.version_rule.specs.Pass.{Pass, committed, cutting, opening_pass, reading};
+ghost use Rattle.version_rule.specs.Pass.{seeing};
+ghost use Rattle.version_rule.specs.Settled.{NamesSettled};
 ghost use Rattle.version_rule.specs.Shows.{ShowsCommit, ShowsLatest, ShowsLink, ShowsNumber};
 ghost use Rattle.version_rule.specs.Shows.{ShowsRoot};
+ghost use Rattle.version_rule.specs.Tied.{Tied};
 ghost use Rattle.version_rule.specs.Versions.{HoldsVersions, is_fixed};
 
 use crate::spelling::Spelling;
+use heap_rule::Keeping;
 
 /// A heap whose first rows are the anchor, version 0 and the root of the empty tree, with at most
 /// 64 mutators and a setting from 1 to 100, opens with the rule.
@@ -110,4 +124,43 @@ pub fn a_trim_keeps_versions<S: Spelling>()
         (event.Write v.number place 2 (field.Cell (target v older)) field.Null)
         (link_taken number) word w
         → w.pass ≡ cutting number v.pass }
+{}
+
+/// Whatever a mutator picks at a step on versions, its pass grows: a list of versions that fits it
+/// then fitted it before, how many versions stay is the same, and what was seen and cut never falls.
+pub fn passes_grow()
+    ensures seeing { (number : ℕ) (pass : Pass) → Grows pass (seeing number pass) }
+    ensures reading { (number : ℕ) (tree : DocTree) (pass : Pass)
+        → Grows pass (reading number tree pass) }
+    ensures cutting { (number : ℕ) (pass : Pass) → Grows pass (cutting number pass) }
+    ensures committed { (number : ℕ) (before made : DocTree) (pass : Pass) → pass.seen ≤ number
+        → Grows pass (committed number before made pass) }
+    ensures on { (first second third : Pass) → Grows first second → Grows second third
+        → Grows first third }
+{}
+
+/// A fill of a raw cell with null, with a number or with a cell that is known as a record or as a
+/// box that is not fresh keeps any client's rule, with the pass as it is.
+pub fn a_settled_fill_keeps_any_rule<P: Keeping>()
+    ensures { (v : View P) (place f : ℕ) (value : Field) → NamesSettled v value
+        → Picks P.holds P.fixed same_pass v (event.Fill v.number place f value) }
+{}
+
+/// Where some pass has cut the link of the oldest version that stays, as many versions as the
+/// setting says, or all that there are, stand in one chain from the latest on, and the chain ends.
+pub fn as_many_versions_stay<S: Spelling>()
+    ensures { (map : Map) (passes : List Pass) (h : HoldsVersions S.is_tree S.tree_of map passes)
+        (i : ℕ) (pass : Pass) → get_elem? passes i ≡ some pass
+        → length h.trees ≤ pass.cut + h.keep
+        → Chain map h.latest.cell (length h.trees - 1) (min (length h.trees) h.keep) }
+{}
+
+/// Logs that are tied to the passes, each to one, agree on the versions of the rule. So merged they
+/// are a history of one store, whose versions are these.
+pub fn tied_logs_agree<S: Spelling>()
+    ensures { (l : Limits) (map : Map) (passes : List Pass) (logs : List ClientLog)
+        (h : HoldsVersions S.is_tree S.tree_of map passes)
+        → AllZip (Tied l) passes logs
+        → mapped (λ (g : ClientLog). g.client) logs ≡ rising 0 (length logs)
+        → Agree l h.trees logs }
 {}
