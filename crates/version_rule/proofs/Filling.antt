@@ -1,10 +1,8 @@
 -- Fills of a raw cell with a value that names no fresh box: the boxes are as they were, and any
 -- client's rule stands with the pass as it is.
-use Rattle.std.proofs.Common.{◌≡◌, ◌≢◌, ◌<◌, ◌&&◌, ℕ, Bool, true, false, List, length, Option, Some}
+use Rattle.std.proofs.Common.{◌≡◌, ◌≢◌, ◌&&◌, ℕ, Bool, List, Option}
 use Rattle.std.proofs.Common.{None, is_none, inl, inr, refl, sym, ◌∙◌, ap, subst}
 use Rattle.std.proofs.lemmas.Bool.{cases_eq}
-use mathlib.Core.Option.{some}
-use lib.ListN.{get_elem?}
 use Rattle.atomic_table.proofs.Lists.{set_again}
 use Rattle.cell_words.specs.declared.fields.Field.{Field}
 use Rattle.cell_words.specs.declared.fields.Field.TheVariants as field
@@ -12,7 +10,7 @@ use Rattle.core_machine.specs.declared.events.Event.TheVariants as event
 use Rattle.core_machine.specs.State.{State, field_of}
 use Rattle.core_machine.specs.Words.{is_box_kind}
 use Rattle.dlg_core.specs.Reachable.{reach}
-use Rattle.heap_rule.specs.Asks.{known_of, target}
+use Rattle.heap_rule.specs.Asks.{known_of}
 use Rattle.heap_rule.specs.Boxes.{Map, Payload, boxes_of, payload_of, revealing, where_shown}
 use Rattle.heap_rule.specs.Facts.{IsKnown}
 use Rattle.heap_rule.specs.Lore.{Lore, put}
@@ -46,7 +44,8 @@ module _ (s : State) (l : Lore) (c : ℕ) where
       ∙ sym (ap (λ (f : Field). where_shown (reach s c && (is_box_kind f
       && is_none (l.fresh c))) (payload_of s l c)) kind)
 
-  same_from : revealed_at c ≡ boxes_of s l c → boxes_of s (revealing l (field.Cell c)) ≡ boxes_of s l
+  same_from : revealed_at c ≡ boxes_of s l c
+      → boxes_of s (revealing l (field.Cell c)) ≡ boxes_of s l
   same_from here = λ i x. same_at x i
     where
       same_at : (x : ℕ) → revealed_at x ≡ boxes_of s l x

@@ -1,30 +1,24 @@
 -- The boxes of a state, and what a seat knows of them: from words to maps and back.
-use Rattle.std.proofs.Common.{◌≡◌, ◌≢◌, ◌<◌, ◌==◌, ℕ, Bool, true, false, List, length}
+use Rattle.std.proofs.Common.{◌≡◌, ◌≢◌, ◌==◌, ℕ, Bool, true, false}
 use Rattle.std.proofs.Common.{Option, Some, None, refl, sym, ◌∙◌, ap, subst}
 use Rattle.std.proofs.Common.{arith}
 use Rattle.std.proofs.lemmas.Bool.{ne_eqb}
-use Rattle.std.proofs.lemmas.List.{length-map}
 use Rattle.cell_words.specs.declared.fields.Field.{Field}
 use Rattle.cell_words.specs.declared.fields.Field.TheVariants as field
 use Rattle.cell_words.specs.Term.{IsFive, Term, null, num}
-use Rattle.core_machine.specs.declared.places.Held.{Held}
-use Rattle.core_machine.specs.Own.{Own}
-use Rattle.core_machine.specs.Places.{cell_at}
-use Rattle.core_machine.specs.State.{State, field_of, target_of}
+use Rattle.core_machine.specs.State.{State, field_of}
 use Rattle.core_machine.specs.Words.{is_box_kind}
 use Rattle.dlg_core.specs.Reachable.{Reachable, named}
-use Rattle.heap_rule.specs.Asks.{known_of, target}
+use Rattle.heap_rule.specs.Asks.{target}
 use Rattle.heap_rule.specs.Boxes.{boxes_of, payload_of}
-use Rattle.heap_rule.specs.Facts.{AllKnown, Facts, IsKnown, TermFits, is_record_kind}
-use Rattle.heap_rule.specs.Lore.{Lore, Plain, cells_in, cells_of, entry_of, five_of}
+use Rattle.heap_rule.specs.Facts.{Facts, IsKnown, TermFits, is_record_kind}
+use Rattle.heap_rule.specs.Lore.{Lore, Plain, entry_of, five_of}
 use Rattle.heap_rule.specs.Lore.{five_plain, has, learned_of, named_or, told_of}
 use Rattle.heap_rule.specs.Steps.{Mine}
 use Rattle.heap_rule.specs.declared.known.Known.{Known}
 use Rattle.heap_rule.specs.declared.known.Known.TheVariants as knows
 use Rattle.heap_rule.specs.declared.view.View.{View}
-use Rattle.heap_rule.proofs.Lists.{all_at, reached_held}
 use Rattle.heap_rule.proofs.Maps.{In, in_map}
-use Rattle.heap_rule.proofs.Reading.{cell_there, has_place}
 use Rattle.heap_rule.proofs.Writing.{box_no_record}
 use Rattle.version_rule.proofs.Seats.{knows_place, reached_place}
 use Rattle.version_rule.specs.Knowing.{KnowsVersion}
@@ -151,7 +145,11 @@ module _ (v : View Pass) (s : State) (l : Lore) (mine : Mine is_fixed v s l) whe
       (knows_place v s l mine place has.there) in
       record {
         other = is.0;
-        in_is = record { reached = reached_place v s l mine place has.there; box = is.1; old = is.2 };
+        in_is = record {
+          reached = reached_place v s l mine place has.there;
+          box = is.1;
+          old = is.2;
+        };
         number_is = is.3 0 (num number) (omega arith) refl k.number_is;
         root_is = is.3 1 root (omega arith) refl k.root_is;
       }

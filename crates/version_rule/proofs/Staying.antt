@@ -2,14 +2,14 @@
 --
 -- Above the floor, the lowest number that stays, no link is due, so each leads to the version one
 -- below. At the floor it is cut: there is none below version 0, or a trim has cut it.
-use Rattle.std.proofs.Common.{◌≡◌, ◌≢◌, ◌<◌, ◌≤◌, ◌+◌, ◌-◌, ◌⊎◌, ℕ, zero, suc, List, length, min}
-use Rattle.std.proofs.Common.{Some, inl, inr, refl, sym, ◌∙◌, ap, subst, arith}
-use Rattle.std.proofs.lemmas.Bool.{cases_eq, cases_lt}
+use Rattle.std.proofs.Common.{◌≡◌, ◌≢◌, ◌<◌, ◌≤◌, ◌+◌, ◌-◌, ℕ, zero, suc, List, length, min}
+use Rattle.std.proofs.Common.{inl, inr, sym, ◌∙◌, ap, subst, arith}
+use Rattle.std.proofs.lemmas.Bool.{cases_eq}
 use mathlib.Core.Option.{some}
 use lib.ListN.{get_elem?}
 use Rattle.cell_words.specs.Term.{Term, null, num}
 use Rattle.doc_tree.specs.Tree.{DocTree}
-use Rattle.heap_rule.specs.Boxes.{Map, Payload}
+use Rattle.heap_rule.specs.Boxes.{Map}
 use Rattle.heap_rule.specs.Lore.{Named, Plain}
 use Rattle.version_rule.specs.Chains.{Chain, last, more}
 use Rattle.version_rule.specs.Pass.{Pass}
@@ -36,9 +36,9 @@ module _ (is_tree : Term → Type 0) (tree_of : Term → DocTree) (map : Map) (p
     unfolding floor
     linked above = elim version.link [
       | inl cut ↦ elim cut.due [
-          | inl first ↦ absurd (let same = same_number in omega (arith, above, same, first))
-          | inr le ↦ absurd (let same = same_number in omega (arith, above, same, le))
-        ]
+        | inl first ↦ absurd (let same = same_number in omega (arith, above, same, first))
+        | inr le ↦ absurd (let same = same_number in omega (arith, above, same, le))
+      ]
       | inr link ↦ subst (λ (n : ℕ). IsLinked map n (has.box 2)) same_number link
     ]
 
@@ -55,10 +55,10 @@ module _ (is_tree : Term → Type 0) (tree_of : Term → DocTree) (map : Map) (p
     unfolding floor
     cut_at_floor is low = elim (cases_eq number 0) [
       | inl zero_is ↦ elim version.link [
-          | inl cut ↦ cut.none
-          | inr link ↦ absurd (let before = link.before in let same = same_number in
-              omega (arith, before, same, zero_is))
-        ]
+        | inl cut ↦ cut.none
+        | inr link ↦ absurd (let before = link.before in let same = same_number in
+            omega (arith, before, same, zero_is))
+      ]
       | inr later ↦
           let step = in_step_at is_tree tree_of map passes h i p at in
           let same : p.cut ≡ number = omega (arith, is, low, later, trimmed) in

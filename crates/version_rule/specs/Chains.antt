@@ -1,7 +1,7 @@
 -- The versions that stay: from a version on, each linked to the one before it, down to the one
 -- whose link is cut.
 -- Source: this project's.
-use Rattle.std.specs.Prelude.{ℕ, ◌≡◌, ◌+◌, ◌-◌, min, Some}
+use Rattle.std.specs.Prelude.{ℕ, ◌≡◌, ◌+◌, Some}
 use Rattle.cell_words.specs.Term.{null, num}
 use Rattle.heap_rule.specs.Boxes.{Map, Payload}
 use Rattle.heap_rule.specs.Lore.{Named, Plain}

@@ -127,7 +127,8 @@ pub fn a_trim_keeps_versions<S: Spelling>()
 {}
 
 /// Whatever a mutator picks at a step on versions, its pass grows: a list of versions that fits it
-/// then fitted it before, how many versions stay is the same, and what was seen and cut never falls.
+/// then fitted it before, how many versions stay is the same, and what was seen and cut never
+/// falls.
 pub fn passes_grow()
     ensures seeing { (number : ℕ) (pass : Pass) → Grows pass (seeing number pass) }
     ensures reading { (number : ℕ) (tree : DocTree) (pass : Pass)
