@@ -21,6 +21,7 @@ use Rattle.version_rule.specs.Versions.{IsLinked, IsVersion, IsNext}
 use Rattle.version_rule.proofs.Cutting.{some_is, written_else, written_here}
 use Rattle.version_rule.proofs.Made.{versions_more}
 use Rattle.version_rule.proofs.Passing.{fits_at, in_step_at, made_of}
+use Rattle.version_rule.specs.Shrinks.{in_step_on, link_on, version_on}
 use Rattle.version_rule.specs.Shrinks.{named_inj, not_anchor, one_number, same_entry}
 use Rattle.version_rule.proofs.Trees.{tree_last, tree_still}
 
@@ -143,29 +144,15 @@ module _ (is_tree : Term → Type 0) (tree_of : Term → DocTree) (map : Map) (p
       | inr le ↦ inr (let more = grown in omega (arith, le, more))
     ];
   }
-  link_still number link (inr linked) = inr record {
-    cell = linked.cell;
-    names = linked.names;
-    older = linked.older;
-    before = linked.before;
-    version = number_still linked.cell linked.older linked.version;
-  }
+  link_still number link (inr linked) = inr (link_on map new number link linked
+      (number_still linked.cell linked.older linked.version))
 
   version_still : (p : Payload) → IsVersion is_tree tree_of h.keep h.trees map p
       → IsVersion is_tree tree_of h.keep trees new p
   unfolding trees
-  version_still p v = record {
-    number = v.number;
-    number_is = v.number_is;
-    made = let lt = v.made in let more = grown in omega (arith, lt, more);
-    root = v.root;
-    root_is = v.root_is;
-    spells = v.spells;
-    tree = v.tree ∙ sym (tree_still h.trees (tree_of root) v.number v.made);
-    link = link_still v.number (p 2) v.link;
-    fourth = v.fourth;
-    fifth = v.fifth;
-  }
+  version_still p v = version_on is_tree tree_of h.keep h.trees trees map new p v
+      (let lt = v.made in let more = grown in omega (arith, lt, more))
+      (tree_still h.trees (tree_of root) v.number v.made) (link_still v.number (p 2) v.link)
 
   version_new : IsVersion is_tree tree_of h.keep trees new box
   unfolding trees
@@ -204,14 +191,7 @@ module _ (is_tree : Term → Type 0) (tree_of : Term → DocTree) (map : Map) (p
       ]
 
   in_step_still : (p : Pass) → Fits h.trees p → IsInStep h.keep map p → IsInStep h.keep new p
-  in_step_still p fits step = record {
-    keeps = step.keeps;
-    few = step.few;
-    reads_seen = step.reads_seen;
-    commits_seen = step.commits_seen;
-    cut_seen = step.cut_seen;
-    cut_is = cut_still p fits step;
-  }
+  in_step_still p fits step = in_step_on h.keep map new p step (cut_still p fits step)
 
   module _ (i : ℕ) (p : Pass) (at : get_elem? passes i ≡ some p)
       (few : length p.commits < 100_000) (before : DocTree)

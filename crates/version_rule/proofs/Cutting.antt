@@ -12,6 +12,7 @@ use Rattle.version_rule.specs.Pass.{Pass}
 use Rattle.version_rule.specs.Versions.{HasLatest, HasNumber, HoldsVersions, IsCut, IsInStep}
 use Rattle.version_rule.specs.Versions.{IsLinked, IsVersion}
 use Rattle.version_rule.proofs.Passing.{version_of}
+use Rattle.version_rule.specs.Shrinks.{in_step_on, link_on, version_on}
 use Rattle.version_rule.specs.Shrinks.{not_anchor, num_inj}
 
 abbrev payload_in : Payload → Option Payload → Payload
@@ -85,50 +86,29 @@ module _ (map : Map) (x n : ℕ) (box : Payload) (there : map x ≡ Some box)
       }
 
   in_step_still : (keep : ℕ) (p : Pass) → IsInStep keep map p → IsInStep keep new p
-  in_step_still keep p step = record {
-    keeps = step.keeps;
-    few = step.few;
-    reads_seen = step.reads_seen;
-    commits_seen = step.commits_seen;
-    cut_seen = step.cut_seen;
-    cut_is = λ y q at says. elim (cases_eq y x) [
-      | inl same ↦
-          let here : new x ≡ Some q = subst (λ (c : ℕ). new c ≡ Some q) same at in
-          ap (λ (p : Payload). p 2) (sym (some_is (put box 2 (Plain null)) q
-          (sym (written_here map x 2 (Plain null) box there) ∙ here)))
-      | inr other ↦ step.cut_is y q
-          (sym (written_else map x 2 (Plain null) box there y other) ∙ at) says
-    ];
-  }
+  in_step_still keep p step = in_step_on keep map new p step
+      (λ y q at says. elim (cases_eq y x) [
+        | inl same ↦
+            let here : new x ≡ Some q = subst (λ (c : ℕ). new c ≡ Some q) same at in
+            ap (λ (p : Payload). p 2) (sym (some_is (put box 2 (Plain null)) q
+            (sym (written_here map x 2 (Plain null) box there) ∙ here)))
+        | inr other ↦ step.cut_is y q
+            (sym (written_else map x 2 (Plain null) box there y other) ∙ at) says
+      ])
 
   module _ (is_tree : Term → Type 0) (tree_of : Term → DocTree) where
     link_still : (keep count number : ℕ) (link : Entry)
         → IsCut keep count number link ⊎ IsLinked map number link
         → IsCut keep count number link ⊎ IsLinked new number link
     link_still keep count number link (inl cut) = inl cut
-    link_still keep count number link (inr linked) = inr record {
-      cell = linked.cell;
-      names = linked.names;
-      older = linked.older;
-      before = linked.before;
-      version = number_still linked.cell linked.older linked.version;
-    }
+    link_still keep count number link (inr linked) = inr (link_on map new number link linked
+        (number_still linked.cell linked.older linked.version))
 
     version_still : (keep : ℕ) (trees : List DocTree) (p : Payload)
         → IsVersion is_tree tree_of keep trees map p
         → IsVersion is_tree tree_of keep trees new p
-    version_still keep trees p v = record {
-      number = v.number;
-      number_is = v.number_is;
-      made = v.made;
-      root = v.root;
-      root_is = v.root_is;
-      spells = v.spells;
-      tree = v.tree;
-      link = link_still keep (length trees) v.number (p 2) v.link;
-      fourth = v.fourth;
-      fifth = v.fifth;
-    }
+    version_still keep trees p v = version_on is_tree tree_of keep trees trees map new p v v.made
+        refl (link_still keep (length trees) v.number (p 2) v.link)
 
     version_cut : (keep : ℕ) (trees : List DocTree) → n + keep ≤ length trees
         → IsVersion is_tree tree_of keep trees map box

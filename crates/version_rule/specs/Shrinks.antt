@@ -1,8 +1,9 @@
 -- The rule of versions on maps: what its parts say, and that it stands on every smaller map.
-use Rattle.std.proofs.Common.{◌≡◌, ◌≢◌, ℕ, ◌-◌, ◌<◌, ◌⊎◌, List, length, Some, None}
+use Rattle.std.proofs.Common.{refl, ◌≡◌, ◌≢◌, ℕ, ◌-◌, ◌<◌, ◌⊎◌, List, length, Some, None}
 use Rattle.std.proofs.Common.{Option, inl, inr, sym, ◌∙◌, ap, subst, arith}
 use Rattle.std.proofs.lemmas.List.Elements.{All-weaker}
-use Rattle.cell_words.specs.Term.{Term, num}
+use Rattle.cell_words.specs.Term.{Term, null, num}
+use Rattle.doc_model.specs.Store.{tree_at}
 use Rattle.doc_tree.specs.Tree.{DocTree}
 use Rattle.heap_rule.specs.Boxes.{Map, Payload, Smaller}
 use Rattle.heap_rule.specs.Lore.{Entry, Named, Plain}
@@ -39,6 +40,50 @@ not_anchor map n x u latest has is =
     ∙ has.number_is in
     cc
 
+-- What is said of one map may be said of another.
+
+pub link_on : (old new : Map) (number : ℕ) (link : Entry) (is : IsLinked old number link)
+    → HasNumber new is.cell is.older → IsLinked new number link
+link_on old new number link is version = record {
+  cell = is.cell;
+  names = is.names;
+  older = is.older;
+  before = is.before;
+  version = version;
+}
+
+pub in_step_on : (keep : ℕ) (old new : Map) (p : Pass) → IsInStep keep old p
+    → ((cell : ℕ) (box : Payload) → new cell ≡ Some box → box 0 ≡ Plain (num p.cut)
+    → box 2 ≡ Plain null)
+    → IsInStep keep new p
+in_step_on keep old new p is cut = record {
+  keeps = is.keeps;
+  few = is.few;
+  reads_seen = is.reads_seen;
+  commits_seen = is.commits_seen;
+  cut_seen = is.cut_seen;
+  cut_is = cut;
+}
+
+pub version_on : (is_tree : Term → Type 0) (tree_of : Term → DocTree) (keep : ℕ)
+    (trees further : List DocTree) (old new : Map) (p : Payload)
+    (v : IsVersion is_tree tree_of keep trees old p)
+    → v.number < length further → tree_at further v.number ≡ tree_at trees v.number
+    → IsCut keep (length further) v.number (p 2) ⊎ IsLinked new v.number (p 2)
+    → IsVersion is_tree tree_of keep further new p
+version_on is_tree tree_of keep trees further old new p v made tree link = record {
+  number = v.number;
+  number_is = v.number_is;
+  made = made;
+  root = v.root;
+  root_is = v.root_is;
+  spells = v.spells;
+  tree = v.tree ∙ sym tree;
+  link = link;
+  fourth = v.fourth;
+  fifth = v.fifth;
+}
+
 module _ (old new : Map) (smaller : Smaller old new) where
   number_before : (x u : ℕ) → HasNumber new x u → HasNumber old x u
   number_before x u has = record {
@@ -71,43 +116,23 @@ module _ (old new : Map) (smaller : Smaller old new) where
       }
 
   in_step_still : (keep : ℕ) (p : Pass) → IsInStep keep old p → IsInStep keep new p
-  in_step_still keep p is = record {
-    keeps = is.keeps;
-    few = is.few;
-    reads_seen = is.reads_seen;
-    commits_seen = is.commits_seen;
-    cut_seen = is.cut_seen;
-    cut_is = λ x q at. is.cut_is x q (smaller.within x q at);
-  }
+  in_step_still keep p is = in_step_on keep old new p is
+      (λ x q at. is.cut_is x q (smaller.within x q at))
 
   module _ (is_tree : Term → Type 0) (tree_of : Term → DocTree) where
     link_still : (keep count number x : ℕ) (p : Payload) → new x ≡ Some p
         → IsCut keep count number (p 2) ⊎ IsLinked old number (p 2)
         → IsCut keep count number (p 2) ⊎ IsLinked new number (p 2)
     link_still keep count number x p at (inl cut) = inl cut
-    link_still keep count number x p at (inr link) = inr record {
-      cell = link.cell;
-      names = link.names;
-      older = link.older;
-      before = link.before;
-      version = number_still x link.cell 2 link.older p at (omega arith) link.names link.version;
-    }
+    link_still keep count number x p at (inr link) = inr (link_on old new number (p 2) link
+        (number_still x link.cell 2 link.older p at (omega arith) link.names link.version))
 
     version_still : (keep : ℕ) (trees : List DocTree) (x : ℕ) (p : Payload) → new x ≡ Some p
         → IsVersion is_tree tree_of keep trees old p
         → IsVersion is_tree tree_of keep trees new p
-    version_still keep trees x p at is = record {
-      number = is.number;
-      number_is = is.number_is;
-      made = is.made;
-      root = is.root;
-      root_is = is.root_is;
-      spells = is.spells;
-      tree = is.tree;
-      link = link_still keep (length trees) is.number x p at is.link;
-      fourth = is.fourth;
-      fifth = is.fifth;
-    }
+    version_still keep trees x p at is =
+        version_on is_tree tree_of keep trees trees old new p is is.made refl
+        (link_still keep (length trees) is.number x p at is.link)
 
     stands_still : (passes : List Pass) → HoldsVersions is_tree tree_of old passes
         → HoldsVersions is_tree tree_of new passes
