@@ -1,9 +1,9 @@
 -- What a seat shows after a step on versions.
-use Rattle.std.proofs.Common.{◌≡◌, ◌<◌, ◌+◌, ◌-◌, ℕ, suc, Bool, true, false}
+use Rattle.std.proofs.Common.{◌≡◌, ◌+◌, ◌-◌, ℕ, suc, Bool, true, false}
 use Rattle.std.proofs.Common.{List, [], ◌∷◌, ◌++◌, length, max, slice_index_or}
 use Rattle.std.proofs.Common.{inl, inr, refl, sym, ◌∙◌, ap, subst, arith}
 use Rattle.std.proofs.lemmas.Bool.{eq-eqb}
-use Rattle.std.proofs.lemmas.List.{get_or_push, length-map, length_push}
+use Rattle.std.proofs.lemmas.List.{append_assoc, get_or_push, length-map, length_push}
 use Rattle.cell_words.specs.declared.fields.Field.{Field}
 use Rattle.cell_words.specs.declared.fields.Field.TheVariants as field
 use Rattle.cell_words.specs.Field.{pack_field_of}
@@ -15,7 +15,8 @@ use Rattle.core_machine.specs.declared.events.Found.TheVariants as finds
 use Rattle.core_machine.specs.declared.places.Held.{Held}
 use Rattle.core_machine.specs.Next.{found_by}
 use Rattle.core_machine.specs.Own.{Own, having_read_by}
-use Rattle.core_machine.specs.Places.{found_at}
+use Rattle.core_machine.specs.declared.events.Taken.{Taken}
+use Rattle.core_machine.specs.Places.{found_at, no_place}
 use Rattle.core_machine.specs.State.{State, field_of, target_of}
 use Rattle.core_machine.specs.WordOperations.{IsPackedAs}
 use Rattle.core_machine.specs.Words.{same_field}
@@ -26,18 +27,20 @@ use Rattle.heap_rule.specs.Asks.{known_of, target}
 use Rattle.heap_rule.specs.Boxes.{Map}
 use Rattle.heap_rule.specs.Facts.{AllKnown, IsKnown}
 use Rattle.heap_rule.specs.Lore.{Lore, at_cell, cells_in, cells_of, known_at, known_read, learned}
-use Rattle.heap_rule.specs.Rule.{told}
+use Rattle.heap_rule.specs.Rule.{told, took}
 use Rattle.heap_rule.specs.Steps.{AtStep, Mine, same_pass}
 use Rattle.heap_rule.specs.declared.known.Known.{Known}
 use Rattle.heap_rule.specs.declared.known.Known.TheVariants as knows
 use Rattle.heap_rule.specs.declared.known.Learned.{Learned}
 use Rattle.heap_rule.specs.declared.view.View.{View}
+use Rattle.trails.specs.Asks.{here, nothing}
 use Rattle.version_rule.specs.Knowing.{IsVersionKnown, KnowsVersion, latest_seen, link_cut}
 use Rattle.version_rule.specs.Knowing.{link_seen}
 use Rattle.version_rule.specs.Knowing.{MayCommit, link_taken, made_or_seen, next_made}
 use Rattle.version_rule.specs.Knowing.{root_told, tree_read}
 use Rattle.version_rule.specs.Pass.{Pass, cutting, reading, seeing}
-use Rattle.version_rule.specs.Shows.{HoldsFound, ShowsCommit, ShowsLatest, ShowsLink, ShowsNumber}
+use Rattle.version_rule.specs.Shows.{HasRead, ReadsLatest, ShowsCommit, ShowsLatest, ShowsLink}
+use Rattle.version_rule.specs.Shows.{ShowsNumber}
 use Rattle.version_rule.specs.Shows.{ShowsRoot}
 use Rattle.version_rule.specs.Versions.{HoldsVersions, is_fixed}
 use Rattle.version_rule.proofs.Reading.{here_known, number_known, root_known, tells_latest}
@@ -76,12 +79,13 @@ known_many v s l mine =
 module _ (v w : View Pass) (s : State) (l : Lore) (mine : Mine is_fixed v s l) (place f : ℕ)
     (found : Found) (tells : Learned) (pass : Pass)
     (new : w ≡ told v (event.Read v.number place f) found tells pass) where
-  found_held : (cell word : ℕ) → found ≡ finds.Field (field.Cell cell) → IsPackedAs found word
-      → HoldsFound v w word cell
-  found_held cell word is packed = record {
+  has_read : (word : ℕ) (value : Field) → found ≡ finds.Field value → IsPackedAs found word
+      → HasRead v w place f word value
+  has_read word value is packed = record {
     word_is = subst (λ (x : Found). IsPackedAs x word) is packed;
-    held = ap (λ (u : View Pass). u.own.held) new
-        ∙ ap (λ (x : Found). (having_read_by v.own x).held) is;
+    own = ap (λ (u : View Pass). u.own) new ∙ ap (having_read_by v.own) is;
+    trail = ap (λ (u : View Pass). u.trail) new
+        ∙ ap (λ (x : Found). v.trail ++ took (event.Read v.number place f) x ∷ []) is;
   }
 
   found_known : (cell : ℕ) → found ≡ finds.Field (field.Cell cell)
@@ -100,32 +104,25 @@ module _ (v w : View Pass) (s : State) (l : Lore) (mine : Mine is_fixed v s l) (
       (at_cell_many (Rattle.heap_rule.specs.Lore.told tells.here)
       (slice_index_or (cells_in v.own.held) place 0) (cells_in v.own.held) v.known cells ∙ many)
 
-  found_there : (cell word : ℕ) → HoldsFound v w word cell → length v.own.held < length w.own.held
-  found_there cell word holds =
-      let more = length_push v.own.held (found_at cell) in
-      let is : length w.own.held ≡ length (v.own.held ++ found_at cell ∷ []) =
-      ap (λ (ps : List Held). length ps) holds.held in omega (arith, more, is)
-
-  found_version : (cell word n : ℕ) (root : Term) → found ≡ finds.Field (field.Cell cell)
-      → HoldsFound v w word cell → IsVersionKnown tells.found n root
+  found_version : (cell n : ℕ) (root : Term) → found ≡ finds.Field (field.Cell cell)
+      → IsVersionKnown tells.found n root
       → KnowsVersion w (length v.own.held) n root
-  found_version cell word n root is holds known = record {
-    there = found_there cell word holds;
+  found_version cell n root is known = record {
+    there =
+        let more = length_push v.own.held (found_at cell) in
+        let longer : length w.own.held ≡ length (v.own.held ++ found_at cell ∷ []) =
+        ap (λ (u : View Pass). length u.own.held) new
+        ∙ ap (λ (x : Found). length (having_read_by v.own x).held) is in
+        omega (arith, more, longer);
     known = subst (λ (k : Known). IsVersionKnown k n root) (sym (found_known cell is)) known;
   }
-
-  other_held : (value : Field) → found ≡ finds.Field value
-      → (having_read_by v.own (finds.Field value)).held ≡ v.own.held → w.own.held ≡ v.own.held
-  other_held value is same =
-      ap (λ (u : View Pass). u.own.held) new
-      ∙ ap (λ (x : Found). (having_read_by v.own x).held) is ∙ same
 
 module _ (is_tree : Term → Type 0) (tree_of : Term → DocTree)
     (is_record : (t : Term) → is_tree t → IsFive t) (v w : View Pass) (place word : ℕ) where
   pub shows_latest : target v place ≡ 0
       → AtStep (HoldsVersions is_tree tree_of) is_fixed v (event.Read v.number place 0) latest_seen
       word w
-      → ShowsLatest is_tree v w word
+      → ShowsLatest is_tree v w place word
   shows_latest anchor step =
       let e = event.Read v.number place 0 in
       let s = step.core in
@@ -134,20 +131,19 @@ module _ (is_tree : Term → Type 0) (tree_of : Term → DocTree)
       let found = found_by s e in
       let is = tells_latest is_tree tree_of is_record v s l step.passes step.mine step.kept
       step.pass place anchor in
-      let holds = found_held v w s l step.mine place 0 found tells
-      (latest_seen tells found v.pass) step.new is.cell word is.found_is step.says in
       let pass : w.pass ≡ seeing is.number v.pass =
       ap (λ (u : View Pass). u.pass) step.new
       ∙ ap (λ (n : ℕ). seeing n v.pass)
       (number_known tells.found is.number is.root is.known) in
       record {
         cell = is.cell;
-        found = holds;
+        read = has_read v w s l step.mine place 0 found tells (latest_seen tells found v.pass)
+            step.new word (field.Cell is.cell) is.found_is step.says;
         number = is.number;
         root = is.root;
         known = found_version v w s l step.mine place 0 found tells
-            (latest_seen tells found v.pass) step.new is.cell word is.number is.root is.found_is
-            holds is.known;
+            (latest_seen tells found v.pass) step.new is.cell is.number is.root is.found_is
+            is.known;
         spells = is.spells;
         not_below = is.not_below;
         pass = pass;
@@ -159,7 +155,7 @@ module _ (is_tree : Term → Type 0) (tree_of : Term → DocTree)
   module _ (n : ℕ) (root : Term) (knows : KnowsVersion v place n root) where
     pub shows_number : AtStep (HoldsVersions is_tree tree_of) is_fixed v
         (event.Read v.number place 0) same_pass word w
-        → ShowsNumber v w word n
+        → ShowsNumber v w place word n
     shows_number step =
         let e = event.Read v.number place 0 in
         let s = step.core in
@@ -167,15 +163,14 @@ module _ (is_tree : Term → Type 0) (tree_of : Term → DocTree)
         let is = tells_number is_tree tree_of is_record v s l step.passes step.mine step.kept
         step.pass place n root knows in
         record {
-          word_is = subst (λ (x : Found). IsPackedAs x word) is step.says;
-          held = other_held v w s l step.mine place 0 (found_by s e) (learned s l e) v.pass
-              step.new (field.Num n) is refl;
+          read = has_read v w s l step.mine place 0 (found_by s e) (learned s l e) v.pass step.new
+              word (field.Num n) is step.says;
           pass = ap (λ (u : View Pass). u.pass) step.new;
         }
 
     pub shows_root : AtStep (HoldsVersions is_tree tree_of) is_fixed v
         (event.Read v.number place 1) (tree_read tree_of) word w
-        → ShowsRoot is_tree tree_of v w word n root
+        → ShowsRoot is_tree tree_of v w place word n root
     shows_root step =
         let e = event.Read v.number place 1 in
         let s = step.core in
@@ -186,8 +181,9 @@ module _ (is_tree : Term → Type 0) (tree_of : Term → DocTree)
         step.pass place n root knows in
         record {
           cell = is.cell;
-          found = found_held v w s l step.mine place 1 found tells
-              (tree_read tree_of tells found v.pass) step.new is.cell word is.found_is step.says;
+          read = has_read v w s l step.mine place 1 found tells
+              (tree_read tree_of tells found v.pass) step.new word (field.Cell is.cell) is.found_is
+              step.says;
           known = found_known v w s l step.mine place 1 found tells
               (tree_read tree_of tells found v.pass) step.new is.cell is.found_is ∙ is.known;
           spells = is.spells;
@@ -206,7 +202,7 @@ module _ (is_tree : Term → Type 0) (tree_of : Term → DocTree)
         → next tells (finds.Field (field.Cell cell)) v.pass ≡ v.pass)
         → AtStep (HoldsVersions is_tree tree_of) is_fixed v (event.Read v.number place 2) next
         word w
-        → ShowsLink is_tree v w word n pass_then
+        → ShowsLink is_tree v w place word n pass_then
     link_shown next pass_then at_null at_cell step =
         let e = event.Read v.number place 2 in
         let s = step.core in
@@ -218,23 +214,20 @@ module _ (is_tree : Term → Type 0) (tree_of : Term → DocTree)
         elim (tells_link is_tree tree_of is_record v s l step.passes step.mine step.kept
         step.pass place n root knows) [
           | inl none ↦ inl record {
-            word_is = subst (λ (x : Found). IsPackedAs x word) none step.says;
-            held = other_held v w s l step.mine place 2 found tells (next tells found v.pass)
-                step.new field.Null none refl;
+            read = has_read v w s l step.mine place 2 found tells (next tells found v.pass) step.new
+                word field.Null none step.says;
             pass = ap (λ (u : View Pass). u.pass) step.new
                 ∙ ap (λ (x : Found). next tells x v.pass) none ∙ at_null tells here;
           }
           | inr is ↦ inr record {
             cell = is.cell;
-            found = found_held v w s l step.mine place 2 found tells (next tells found v.pass)
-                step.new is.cell word is.found_is step.says;
+            read = has_read v w s l step.mine place 2 found tells (next tells found v.pass) step.new
+                word (field.Cell is.cell) is.found_is step.says;
             older = is.older;
             before = is.before;
             root = is.root;
-            known = found_version v w s l step.mine place 2 found tells
-                (next tells found v.pass) step.new is.cell word is.older is.root is.found_is
-                (found_held v w s l step.mine place 2 found tells (next tells found v.pass)
-                step.new is.cell word is.found_is step.says) is.known;
+            known = found_version v w s l step.mine place 2 found tells (next tells found v.pass)
+                step.new is.cell is.older is.root is.found_is is.known;
             spells = is.spells;
             pass = ap (λ (u : View Pass). u.pass) step.new
                 ∙ ap (λ (x : Found). next tells x v.pass) is.found_is
@@ -244,14 +237,14 @@ module _ (is_tree : Term → Type 0) (tree_of : Term → DocTree)
 
     pub shows_link_seen : AtStep (HoldsVersions is_tree tree_of) is_fixed v
         (event.Read v.number place 2) link_seen word w
-        → ShowsLink is_tree v w word n (seeing (n + v.pass.keep - 1) v.pass)
+        → ShowsLink is_tree v w place word n (seeing (n + v.pass.keep - 1) v.pass)
     shows_link_seen = link_shown link_seen (seeing (n + v.pass.keep - 1) v.pass)
         (λ tells here. ap (λ (m : ℕ). seeing (m + v.pass.keep - 1) v.pass)
         (number_known tells.here n root here)) (λ tells cell. refl)
 
     pub shows_link_cut : AtStep (HoldsVersions is_tree tree_of) is_fixed v
         (event.Read v.number place 2) link_cut word w
-        → ShowsLink is_tree v w word n (cutting n v.pass)
+        → ShowsLink is_tree v w place word n (cutting n v.pass)
     shows_link_cut = link_shown link_cut (cutting n v.pass)
         (λ tells here. ap (λ (m : ℕ). cutting m v.pass) (number_known tells.here n root here))
         (λ tells cell. refl)
@@ -308,3 +301,26 @@ pub shows_taken : (holding : Map → List Pass → Type 0) (v w : View Pass)
     → w.pass ≡ cutting number v.pass
 shows_taken holding v w word place number old new step =
     ap (λ (u : View Pass). u.pass) step.new
+
+-- a read of the anchor, and one of the number of the version that it found
+pub reads_latest : (is_tree : Term → Type 0) (v w x : View Pass) (place word other : ℕ)
+    → target v place ≡ 0 → (first : ShowsLatest is_tree v w place word)
+    → ShowsNumber w x (length v.own.held) other first.number
+    → ReadsLatest v x first.cell first.number
+reads_latest is_tree v w x place word other anchor first second =
+    let one = took (event.Read v.number place 0) (finds.Field (field.Cell first.cell)) in
+    let two = took (event.Read w.number (length v.own.held) 0)
+    (finds.Field (field.Num first.number)) in
+    record {
+      added = one ∷ two ∷ [];
+      trail = second.read.trail ∙ ap (λ (ts : List Taken). ts ++ two ∷ []) first.read.trail
+          ∙ append_assoc v.trail (one ∷ []) (two ∷ []);
+      shown = here (anchor, refl, refl) (here (
+        ap (λ (p : Held). p.cell)
+            (get_or_push v.own.held (found_at first.cell) no_place (length v.own.held) refl),
+        refl,
+        refl,
+      ) nothing);
+      pass = second.pass ∙ first.pass;
+      seen = ap (λ (p : Pass). p.seen) second.pass ∙ first.seen;
+    }

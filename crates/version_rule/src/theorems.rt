@@ -26,7 +26,8 @@ ghost use Rattle.version_rule.specs.Opening.{OpensVersions, first_rows, first_te
 ghost use Rattle.version_rule.specs.Pass.{Pass, committed, cutting, opening_pass, reading};
 ghost use Rattle.version_rule.specs.Pass.{seeing};
 ghost use Rattle.version_rule.specs.Settled.{NamesSettled};
-ghost use Rattle.version_rule.specs.Shows.{ShowsCommit, ShowsLatest, ShowsLink, ShowsNumber};
+ghost use Rattle.version_rule.specs.Shows.{ReadsLatest, ShowsCommit, ShowsLatest, ShowsLink};
+ghost use Rattle.version_rule.specs.Shows.{ShowsNumber};
 ghost use Rattle.version_rule.specs.Shows.{ShowsRoot};
 ghost use Rattle.version_rule.specs.Tied.{Tied};
 ghost use Rattle.version_rule.specs.Versions.{HoldsVersions, is_fixed};
@@ -69,27 +70,36 @@ pub fn reads_tell_versions<S: Spelling>()
     ensures latest { (v w : View Pass) (place word : ℕ) → target v place ≡ 0
         → AtStep (HoldsVersions S.is_tree S.tree_of) is_fixed v (event.Read v.number place 0)
         latest_seen word w
-        → ShowsLatest S.is_tree v w word }
+        → ShowsLatest S.is_tree v w place word }
     ensures number { (v w : View Pass) (place word number : ℕ) (root : Term)
         → KnowsVersion v place number root
         → AtStep (HoldsVersions S.is_tree S.tree_of) is_fixed v (event.Read v.number place 0)
         same_pass word w
-        → ShowsNumber v w word number }
+        → ShowsNumber v w place word number }
     ensures root { (v w : View Pass) (place word number : ℕ) (root : Term)
         → KnowsVersion v place number root
         → AtStep (HoldsVersions S.is_tree S.tree_of) is_fixed v (event.Read v.number place 1)
         (tree_read S.tree_of) word w
-        → ShowsRoot S.is_tree S.tree_of v w word number root }
+        → ShowsRoot S.is_tree S.tree_of v w place word number root }
     ensures link_seen { (v w : View Pass) (place word number : ℕ) (root : Term)
         → KnowsVersion v place number root
         → AtStep (HoldsVersions S.is_tree S.tree_of) is_fixed v (event.Read v.number place 2)
         link_seen word w
-        → ShowsLink S.is_tree v w word number (seeing (number + v.pass.keep - 1) v.pass) }
+        → ShowsLink S.is_tree v w place word number (seeing (number + v.pass.keep - 1) v.pass) }
     ensures link_cut { (v w : View Pass) (place word number : ℕ) (root : Term)
         → KnowsVersion v place number root
         → AtStep (HoldsVersions S.is_tree S.tree_of) is_fixed v (event.Read v.number place 2)
         link_cut word w
-        → ShowsLink S.is_tree v w word number (cutting number v.pass) }
+        → ShowsLink S.is_tree v w place word number (cutting number v.pass) }
+{}
+
+/// A read of the anchor and then one of the number of the version that it found show both in the
+/// trail, each with its cell, and the pass has seen that version.
+pub fn the_latest_is_read<S: Spelling>()
+    ensures { (v w x : View Pass) (place word other : ℕ) → target v place ≡ 0
+        → (first : ShowsLatest S.is_tree v w place word)
+        → ShowsNumber w x (length v.own.held) other first.number
+        → ReadsLatest v x first.cell first.number }
 {}
 
 /// A commit is one write of the anchor's field, from the box of a version to a fresh box over it.
