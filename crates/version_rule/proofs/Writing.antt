@@ -237,8 +237,8 @@ module _ (is_tree : Term → Type 0) (tree_of : Term → DocTree)
 
   -- The cut of a link.
 
-  module _ (place older number : ℕ) (root before : Term)
-      (may : MayCut v place older number root before) where
+  module _ (place older newer number newest : ℕ) (root before top : Term)
+      (may : MayCut v place older newer number newest root before top) where
     abbrev x : ℕ
     x = target_of s v.number place
 
@@ -256,9 +256,12 @@ module _ (is_tree : Term → Type 0) (tree_of : Term → DocTree)
     due_now : number + h.keep ≤ length h.trees
     due_now =
         let step = in_step_at is_tree tree_of (boxes_of s l) passes h v.number v.pass at in
-        let fits = fits_at is_tree tree_of (boxes_of s l) passes h v.number v.pass at in
-        let keep = step.keeps in let lt = fits.seen in let due = may.due in
-        omega (arith, keep, lt, due)
+        let top_number = number_seen s l (target v newer) newest top
+        (version_seen v s l mine newer newest top may.made) in
+        let made = made_of is_tree tree_of (boxes_of s l) passes h (target v newer)
+        top_number.box newest top_number.there top_number.number_is in
+        let keep = step.keeps in let due = may.due in
+        omega (arith, keep, made, due)
 
     -- the write was made
     cut_stands_here : HoldsVersions is_tree tree_of
@@ -320,10 +323,10 @@ module _ (is_tree : Term → Type 0) (tree_of : Term → DocTree)
       commit_stands is_tree tree_of is_record v s l passes mine h at place latest box root number
       before made may (target_of s v.number place) (target_now v s l mine place ∙ may.anchor)
 
-  pub cut_picks : (place older number : ℕ) (root before : Term)
-      → MayCut v place older number root before
+  pub cut_picks : (place older newer number newest : ℕ) (root before top : Term)
+      → MayCut v place older newer number newest root before top
       → Picks (HoldsVersions is_tree tree_of) is_fixed (link_taken number) v
       (event.Write v.number place 2 (field.Cell (target v older)) field.Null)
-  cut_picks place older number root before may s l passes mine happens proper at h =
-      taken_stands is_tree tree_of is_record v s l passes mine h at place older number root before
-      may
+  cut_picks place older newer number newest root before top may s l passes mine happens proper at
+      h = taken_stands is_tree tree_of is_record v s l passes mine h at place older newer number
+      newest root before top may

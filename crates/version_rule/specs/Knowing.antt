@@ -91,11 +91,12 @@ pub record MayCommit (is_tree : Term → Type 0) (v : View Pass) (place latest b
   pub spells : is_tree made
   pub few : length v.pass.commits < 100_000
 
--- and to cut the link of a version: that one, the one before it, and that as many as stay have been
--- made from it on
-pub record MayCut (v : View Pass) (place older : ℕ) (number : ℕ) (root before : Term) : Type 0
-  where
-    pub held : KnowsVersion v place number root
-    pub linked : KnowsVersion v older (number - 1) before
-    pub later : 1 ≤ number
-    pub due : number + v.pass.keep ≤ v.pass.seen + 1
+-- And to cut the link of a version: that one, the one before it, and one that shows that as many as
+-- stay were made from it on.
+pub record MayCut (v : View Pass) (place older newer : ℕ) (number last : ℕ)
+    (root before top : Term) : Type 0 where
+  pub held : KnowsVersion v place number root
+  pub linked : KnowsVersion v older (number - 1) before
+  pub made : KnowsVersion v newer last top
+  pub later : 1 ≤ number
+  pub due : number + v.pass.keep ≤ last + 1

@@ -125,8 +125,8 @@ pub fn a_commit_keeps_versions<S: Spelling>()
 /// versions as stay are made from it on. The rule stands whether the write was made or not, and
 /// the pass knows that the link is cut.
 pub fn a_trim_keeps_versions<S: Spelling>()
-    ensures keeps { (v : View Pass) (place older number : ℕ) (root before : Term)
-        → MayCut v place older number root before
+    ensures keeps { (v : View Pass) (place older newer number newest : ℕ)
+        (root before top : Term) → MayCut v place older newer number newest root before top
         → Picks (HoldsVersions S.is_tree S.tree_of) is_fixed (link_taken number) v
         (event.Write v.number place 2 (field.Cell (target v older)) field.Null) }
     ensures shows { (v w : View Pass) (place older number word : ℕ)

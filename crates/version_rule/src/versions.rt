@@ -8,6 +8,7 @@ use std::marker::{Model, PhantomData};
 
 /// The rule of versions, over a spelling of trees. As a pass it shows what one mutator made of
 /// versions and knows of them; no code makes a value of it.
+#[derive(Drop)]
 pub struct Versions<S: Spelling> {
     spelling: PhantomData<S>,
 }
