@@ -1,0 +1,158 @@
+-- The rule where the link of a version is cut.
+use Rattle.std.proofs.Common.{◌≡◌, ◌≢◌, ℕ, ◌+◌, ◌-◌, ◌≤◌, ◌⊎◌, List, length, Some, None}
+use Rattle.std.proofs.Common.{Option, inl, inr, refl, sym, ◌∙◌, ap, subst, arith}
+use Rattle.std.proofs.lemmas.Bool.{cases_eq}
+use Rattle.std.proofs.lemmas.List.Elements.{All-weaker}
+use Rattle.cell_words.specs.Term.{Term, null, num}
+use Rattle.doc_tree.specs.Tree.{DocTree}
+use Rattle.heap_rule.specs.Boxes.{Map, Payload, with_entry, written_map}
+use Rattle.heap_rule.specs.Lore.{Entry, Plain, put}
+use Rattle.heap_rule.proofs.Claiming.{put_here, put_other}
+use Rattle.version_rule.specs.Pass.{Pass}
+use Rattle.version_rule.specs.Versions.{HasLatest, HasNumber, HoldsVersions, IsCut, IsInStep}
+use Rattle.version_rule.specs.Versions.{IsLinked, IsVersion}
+use Rattle.version_rule.proofs.Passing.{version_of}
+use Rattle.version_rule.specs.Shrinks.{in_step_on, link_on, version_on}
+use Rattle.version_rule.specs.Shrinks.{not_anchor, num_inj}
+
+abbrev payload_in : Payload → Option Payload → Payload
+payload_in d None = d
+payload_in d (Some p) = p
+
+pub some_is : (p q : Payload) → Some p ≡ Some q → p ≡ q
+some_is p q e = ap (payload_in p) e
+
+-- One field of one box of a map changes.
+module _ (map : Map) (x f : ℕ) (entry : Entry) (box : Payload) (there : map x ≡ Some box) where
+  pub written_here : written_map map x f entry x ≡ Some (put box f entry)
+  written_here = put_here map x (with_entry (map x) f entry)
+      ∙ ap (λ (o : Option Payload). with_entry o f entry) there
+
+  pub written_else : (y : ℕ) → y ≢ x → written_map map x f entry y ≡ map y
+  written_else y other = put_other map x (with_entry (map x) f entry) y other
+
+-- The link of a version's box becomes null.
+module _ (map : Map) (x n : ℕ) (box : Payload) (there : map x ≡ Some box)
+    (is : box 0 ≡ Plain (num n)) where
+  abbrev new : Map
+  new = written_map map x 2 (Plain null)
+
+  number_still : (y u : ℕ) → HasNumber map y u → HasNumber new y u
+  number_still y u has = elim (cases_eq y x) [
+    | inl same ↦ subst (λ (c : ℕ). HasNumber new c u) (sym same) record {
+      box = put box 2 (Plain null);
+      there = written_here map x 2 (Plain null) box there;
+      number_is =
+          let here : map x ≡ Some has.box =
+          subst (λ (c : ℕ). map c ≡ Some has.box) same has.there in
+          ap (λ (p : Payload). p 0) (some_is box has.box (sym there ∙ here)) ∙ has.number_is;
+    }
+    | inr other ↦ record {
+      box = has.box;
+      there = written_else map x 2 (Plain null) box there y other ∙ has.there;
+      number_is = has.number_is;
+    }
+  ]
+
+  number_before : (y u : ℕ) → HasNumber new y u → HasNumber map y u
+  number_before y u has = elim (cases_eq y x) [
+    | inl same ↦ subst (λ (c : ℕ). HasNumber map c u) (sym same) record {
+      box = box;
+      there = there;
+      number_is =
+          let here : new x ≡ Some has.box =
+          subst (λ (c : ℕ). new c ≡ Some has.box) same has.there in
+          ap (λ (p : Payload). p 0) (some_is (put box 2 (Plain null)) has.box
+          (sym (written_here map x 2 (Plain null) box there) ∙ here)) ∙ has.number_is;
+    }
+    | inr other ↦ record {
+      box = has.box;
+      there = sym (written_else map x 2 (Plain null) box there y other) ∙ has.there;
+      number_is = has.number_is;
+    }
+  ]
+
+  latest_still : (u : ℕ) → HasLatest map u → HasLatest new u
+  latest_still u latest =
+      let apart : 0 ≢ x = (λ e. not_anchor map u x n latest
+      record { box = box; there = there; number_is = is } (sym e)) in
+      record {
+        anchor = latest.anchor;
+        there = written_else map x 2 (Plain null) box there 0 apart ∙ latest.there;
+        cell = latest.cell;
+        names = latest.names;
+        version = number_still latest.cell u latest.version;
+        others = latest.others;
+      }
+
+  in_step_still : (keep : ℕ) (p : Pass) → IsInStep keep map p → IsInStep keep new p
+  in_step_still keep p step = in_step_on keep map new p step
+      (λ y q at says. elim (cases_eq y x) [
+        | inl same ↦
+            let here : new x ≡ Some q = subst (λ (c : ℕ). new c ≡ Some q) same at in
+            ap (λ (p : Payload). p 2) (sym (some_is (put box 2 (Plain null)) q
+            (sym (written_here map x 2 (Plain null) box there) ∙ here)))
+        | inr other ↦ step.cut_is y q
+            (sym (written_else map x 2 (Plain null) box there y other) ∙ at) says
+      ])
+
+  module _ (is_tree : Term → Type 0) (tree_of : Term → DocTree) where
+    link_still : (keep count number : ℕ) (link : Entry)
+        → IsCut keep count number link ⊎ IsLinked map number link
+        → IsCut keep count number link ⊎ IsLinked new number link
+    link_still keep count number link (inl cut) = inl cut
+    link_still keep count number link (inr linked) = inr (link_on map new number link linked
+        (number_still linked.cell linked.older linked.version))
+
+    version_still : (keep : ℕ) (trees : List DocTree) (p : Payload)
+        → IsVersion is_tree tree_of keep trees map p
+        → IsVersion is_tree tree_of keep trees new p
+    version_still keep trees p v = version_on is_tree tree_of keep trees trees map new p v v.made
+        refl (link_still keep (length trees) v.number (p 2) v.link)
+
+    version_cut : (keep : ℕ) (trees : List DocTree) → n + keep ≤ length trees
+        → IsVersion is_tree tree_of keep trees map box
+        → IsVersion is_tree tree_of keep trees new (put box 2 (Plain null))
+    version_cut keep trees due v = record {
+      number = v.number;
+      number_is = v.number_is;
+      made = v.made;
+      root = v.root;
+      root_is = v.root_is;
+      spells = v.spells;
+      tree = v.tree;
+      link =
+          let same : v.number ≡ n = num_inj v.number n (sym v.number_is ∙ is) in
+          inl record { none = refl; due = inr (omega (arith, same, due)) };
+      fourth = v.fourth;
+      fifth = v.fifth;
+    }
+
+    pub cuts : (passes : List Pass) (h : HoldsVersions is_tree tree_of map passes)
+        → n + h.keep ≤ length h.trees
+        → HoldsVersions is_tree tree_of new passes
+    cuts passes h due = record {
+      keep = h.keep;
+      trees = h.trees;
+      keeps_some = h.keeps_some;
+      keeps_few = h.keeps_few;
+      few = h.few;
+      versions = h.versions;
+      in_step = All-weaker (IsInStep h.keep map) (IsInStep h.keep new) (in_step_still h.keep)
+          passes h.in_step;
+      latest = latest_still (length h.trees - 1) h.latest;
+      boxes = λ y q apart at. elim (cases_eq y x) [
+        | inl same ↦
+            let here : new x ≡ Some q = subst (λ (c : ℕ). new c ≡ Some q) same at in
+            subst (λ (p : Payload). IsVersion is_tree tree_of h.keep h.trees new p)
+            (some_is (put box 2 (Plain null)) q
+            (sym (written_here map x 2 (Plain null) box there) ∙ here))
+            (version_cut h.keep h.trees due
+            (version_of is_tree tree_of map passes h x box n there is))
+        | inr other ↦
+            let before : map y ≡ Some q =
+            sym (written_else map x 2 (Plain null) box there y other) ∙ at in
+            version_still h.keep h.trees q (h.boxes y q apart before)
+      ];
+      apart = λ y z u a b. h.apart y z u (number_before y u a) (number_before z u b);
+    }

@@ -1,0 +1,12 @@
+pub mod Chains
+pub mod Fits
+pub mod Knowing
+pub mod Opening
+pub mod Pass
+pub mod Settled
+pub mod Shows
+pub mod Shrinks
+pub mod Spelling
+pub mod Tied
+pub mod Told
+pub mod Versions
