@@ -40,7 +40,8 @@ past_six s c f shape past = elim (cases_lt c s.cells) [
 
 -- the kind field names no cell
 box_kind : (f : Field) (d : ℕ) → is_box_kind f ≡ true → f ≡ field.Cell d → ⊥
-box_kind f d is e = let clash : is_box_kind (field.Cell d) ≡ true = ap is_box_kind (sym e) ∙ is in cc
+box_kind f d is e =
+    let clash : is_box_kind (field.Cell d) ≡ true = ap is_box_kind (sym e) ∙ is in cc
 
 record_kind : (f : Field) (d : ℕ) → is_record_kind f ≡ true → f ≡ field.Cell d → ⊥
 record_kind f d is e =
@@ -56,7 +57,8 @@ module _ (map : Map) where
   next_among _ _ c d q (last box there number none) first at names =
       absurd (let clash : Plain null ≡ Named d = sym none
       ∙ same_entry map c 2 box q there at ∙ names in cc)
-  next_among _ _ c d q (last box there number none) (later among) at names = absurd (none_there among)
+  next_among _ _ c d q (last box there number none) (later among) at names =
+      absurd (none_there among)
     where
       none_there : Among c [] → ⊥
       none_there h = elim h [ ]
