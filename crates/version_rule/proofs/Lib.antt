@@ -5,6 +5,7 @@ pub mod Filling
 pub mod Made
 pub mod Openings
 pub mod Passing
+pub mod Reached
 pub mod Reading
 pub mod Seats
 pub mod States

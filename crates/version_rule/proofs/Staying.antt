@@ -2,7 +2,8 @@
 --
 -- Above the floor, the lowest number that stays, no link is due, so each leads to the version one
 -- below. At the floor it is cut: there is none below version 0, or a trim has cut it.
-use Rattle.std.proofs.Common.{◌≡◌, ◌≢◌, ◌<◌, ◌≤◌, ◌+◌, ◌-◌, ℕ, zero, suc, List, length, min}
+use Rattle.std.proofs.Common.{refl, [], ◌∷◌, ◌≡◌, ◌≢◌, ◌<◌, ◌≤◌, ◌+◌, ◌-◌, ℕ, zero, suc, List}
+use Rattle.std.proofs.Common.{length, min}
 use Rattle.std.proofs.Common.{inl, inr, sym, ◌∙◌, ap, subst, arith}
 use Rattle.std.proofs.lemmas.Bool.{cases_eq}
 use mathlib.Core.Option.{some}
@@ -11,7 +12,7 @@ use Rattle.cell_words.specs.Term.{Term, null, num}
 use Rattle.doc_tree.specs.Tree.{DocTree}
 use Rattle.heap_rule.specs.Boxes.{Map}
 use Rattle.heap_rule.specs.Lore.{Named, Plain}
-use Rattle.version_rule.specs.Chains.{Chain, last, more}
+use Rattle.version_rule.specs.Chains.{Chain, Stays, last, more}
 use Rattle.version_rule.specs.Pass.{Pass}
 use Rattle.version_rule.specs.Shrinks.{num_inj}
 use Rattle.version_rule.specs.Versions.{HasNumber, HoldsVersions, IsLinked, IsVersion}
@@ -67,25 +68,30 @@ module _ (is_tree : Term → Type 0) (tree_of : Term → DocTree) (map : Map) (p
     ]
 
   chain_from : (d cell number : ℕ) → HasNumber map cell number → number ≡ floor + d
-      → p.cut ≤ number → Chain map cell number (d + 1)
-  chain_from zero cell number has is low =
-      last has.box has.there has.number_is
-      (cut_at_floor cell number has (let e : number ≡ floor = omega (arith, is) in e) low)
+      → p.cut ≤ number → Stays map cell number (d + 1)
+  chain_from zero cell number has is low = record {
+    cells = [];
+    chain = last has.box has.there has.number_is
+        (cut_at_floor cell number has (let e : number ≡ floor = omega (arith, is) in e) low);
+    many = refl;
+  }
   chain_from (suc d) cell number has is low =
       let above : floor < number = omega (arith, is) in
       let link = linked cell number has above in
       let apart = not_cut_here cell number has above in
       let before = link.before in
-      let rest : Chain map link.cell link.older (d + 1) =
+      let rest : Stays map link.cell link.older (d + 1) =
       chain_from d link.cell link.older link.version (omega (arith, is, before))
       (omega (arith, low, apart, before)) in
-      subst (λ (n : ℕ). Chain map cell n (suc d + 1)) (sym before)
-      (subst (λ (k : ℕ). Chain map cell (link.older + 1) k)
-      (let e : (d + 1) + 1 ≡ suc d + 1 = omega arith in e)
-      (more has.box has.there
-      (has.number_is ∙ ap (λ (n : ℕ). Plain (num n)) before) link.names rest))
+      record {
+        cells = link.cell ∷ rest.cells;
+        chain = subst (λ (n : ℕ). Chain map (cell ∷ link.cell ∷ rest.cells) n) (sym before)
+            (more {cells = rest.cells} has.box has.there
+            (has.number_is ∙ ap (λ (n : ℕ). Plain (num n)) before) link.names rest.chain);
+        many = let tail = rest.many in omega (arith, tail);
+      }
 
-  pub chain_stays : Chain map h.latest.cell (length h.trees - 1) (min (length h.trees) h.keep)
+  pub chain_stays : Stays map h.latest.cell (length h.trees - 1) (min (length h.trees) h.keep)
   unfolding floor
   chain_stays =
       let made = h.versions.made in
@@ -96,6 +102,6 @@ module _ (is_tree : Term → Type 0) (tree_of : Term → DocTree) (map : Map) (p
       let cut = step.cut_seen in
       let many : (length h.trees - 1 - floor) + 1 ≡ min (length h.trees) h.keep =
       omega (arith, made, least) in
-      subst (λ (k : ℕ). Chain map h.latest.cell (length h.trees - 1) k) many
+      subst (λ (k : ℕ). Stays map h.latest.cell (length h.trees - 1) k) many
       (chain_from (length h.trees - 1 - floor) h.latest.cell (length h.trees - 1)
       h.latest.version (omega (arith, made, least)) (omega (arith, seen, cut)))

@@ -1,5 +1,6 @@
 //! Laws of the rule of versions, for any spelling of trees: the contracts of functions that do
 //! nothing.
+ghost use Rattle.std.specs.Prelude.{Some, false, ◌∷◌, ◌⊎◌};
 ghost use Rattle.std.specs.Prelude.{List, length, map as mapped, min, ℕ, ◌≡◌, ◌≤◌, ◌+◌, ◌-◌};
 ghost use Rattle.std.specs.List.{AllZip};
 ghost use mathlib.Core.Option.{some};
@@ -7,18 +8,22 @@ ghost use lib.ListN.{get_elem?};
 ghost use Rattle.cell_words.specs.Term.{Term};
 ghost use Rattle.cell_words.specs.declared.fields.Field.{Field};
 ghost use Rattle.cell_words.specs.declared.fields.Field.TheVariants as field;
+ghost use Rattle.core_machine.specs.InRange.{IsShaped};
+ghost use Rattle.core_machine.specs.State.{State, presence_of};
 ghost use Rattle.core_machine.specs.declared.events.Event.TheVariants as event;
 ghost use Rattle.doc_model.specs.Agreement.{Agree, rising};
 ghost use Rattle.doc_model.specs.Answers.{Limits};
 ghost use Rattle.doc_model.specs.ClientLog.{ClientLog};
 ghost use Rattle.doc_tree.specs.Tree.{DocTree};
 ghost use Rattle.heap_rule.specs.Asks.{target};
-ghost use Rattle.heap_rule.specs.Boxes.{Map, boxes_of};
+ghost use Rattle.heap_rule.specs.Boxes.{Map, Payload, boxes_of};
+ghost use Rattle.heap_rule.specs.Facts.{Facts};
+ghost use Rattle.heap_rule.specs.Lore.{Lore};
 ghost use Rattle.heap_rule.specs.Opening.{FirstTerms, opening_lore, opening_passes, opening_rooms};
 ghost use Rattle.heap_rule.specs.Shape.{Shape, start};
 ghost use Rattle.heap_rule.specs.Steps.{AtStep, Picks, same_pass};
 ghost use Rattle.heap_rule.specs.declared.view.View.{View};
-ghost use Rattle.version_rule.specs.Chains.{Chain};
+ghost use Rattle.version_rule.specs.Chains.{Among, Stays};
 ghost use Rattle.version_rule.specs.Fits.{Grows};
 ghost use Rattle.version_rule.specs.Knowing.{KnowsVersion, MayCommit, MayCut, latest_seen};
 ghost use Rattle.version_rule.specs.Knowing.{link_cut, link_seen, link_taken, next_made, tree_read};
@@ -159,11 +164,18 @@ pub fn a_settled_fill_keeps_any_rule<P: Keeping>()
 
 /// Where some pass has cut the link of the oldest version that stays, as many versions as the
 /// setting says, or all that there are, stand in one chain from the latest on, and the chain ends.
+/// Where nobody is in, these and the anchor are all boxes that there are.
 pub fn as_many_versions_stay<S: Spelling>()
-    ensures { (map : Map) (passes : List Pass) (h : HoldsVersions S.is_tree S.tree_of map passes)
-        (i : ℕ) (pass : Pass) → get_elem? passes i ≡ some pass
-        → length h.trees ≤ pass.cut + h.keep
-        → Chain map h.latest.cell (length h.trees - 1) (min (length h.trees) h.keep) }
+    ensures stay { (map : Map) (passes : List Pass)
+        (h : HoldsVersions S.is_tree S.tree_of map passes) (i : ℕ) (pass : Pass)
+        → get_elem? passes i ≡ some pass → length h.trees ≤ pass.cut + h.keep
+        → Stays map h.latest.cell (length h.trees - 1) (min (length h.trees) h.keep) }
+    ensures only { (s : State) (l : Lore) (passes : List Pass)
+        (h : HoldsVersions S.is_tree S.tree_of (boxes_of s l) passes) (number count : ℕ)
+        (stays : Stays (boxes_of s l) h.latest.cell number count) → IsShaped s
+        → Facts is_fixed s l → ((i : ℕ) → (presence_of s i).inside ≡ false)
+        → (x : ℕ) (box : Payload) → boxes_of s l x ≡ Some box
+        → (x ≡ 0) ⊎ Among x (h.latest.cell ∷ stays.cells) }
 {}
 
 /// Logs that are tied to the passes, each to one, agree on the versions of the rule. So merged they
