@@ -1,9 +1,9 @@
 //! Entries in memory, as a pool for kids_avl. An entry is named by its place among all that were
 //! made, and a child is a number.
 ghost use Rattle.std.specs.Prelude.{◌≡◌, ◌+◌, ◌-◌, ◌≤◌, ◌<◌, ◌++◌, ◌∷◌, [], IfOk, length};
-ghost use Rattle.doc_tree.specs.Tree.{name_cmp, IsRising};
-ghost use Rattle.kids_avl.specs.Entries.{entry, name_of, child_of, left_of, right_of, kids_of};
-ghost use Rattle.kids_avl.specs.Entries.{height_of, IsBalanced, IsEntry};
+ghost use Rattle.doc_tree.specs.Tree.{IsRising};
+ghost use Rattle.kids_avl.specs.Entries.{entry, name_of, kids_of};
+ghost use Rattle.kids_avl.specs.Entries.{height_of, IsBalanced};
 ghost use Rattle.kids_avl.specs.Pool.{under, Stand, Later};
 ghost use Rattle.kids_tests.specs.Memory.{tree_at, HasEntry, leaf, says, IsNumber, whose, places};
 ghost use Rattle.kids_tests.specs.Memory.{spare, made, Tells};
