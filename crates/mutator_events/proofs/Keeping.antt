@@ -30,8 +30,24 @@ use Rattle.mutator_events.specs.Seats.{IsMutator}
 use Rattle.mutator_events.specs.Values.{cells_kept, cells_read}
 use Rattle.mutator_events.proofs.HeldCells.{cells_kept_are, kept_below, kept_many, read_below, read_many}
 
-module _ {P : Type 0} (v : View P) (number room : ℕ) (held : List ℕ) (mode : Option Control)
-    (inside : Bool) (status : Status) (claims : ℕ)
+-- what a read holds, and that it leaves mode and claims
+read_own : (own : Own) (found : Field) → (cells_in (having_read own found).held
+    ≡ cells_read (cells_in own.held) found) × ((having_read own found).mode ≡ own.mode)
+    × ((having_read own found).claims ≡ own.claims)
+read_own own field.Null = (refl, refl, refl)
+read_own own (field.Num n) = (refl, refl, refl)
+read_own own (field.Cell c) = (cells_more own.held c, refl, refl)
+
+-- a claim of a cell that was not blue leaves the own part
+missed_own : (own : Own) (c : ℕ) (found : Colour) → is_blue found ≡ false
+    → having_claimed own c found ≡ own
+missed_own own c colour.Blue other = let no = other in absurd cc
+missed_own own c colour.White other = refl
+missed_own own c colour.Gray other = refl
+missed_own own c colour.Black other = refl
+
+module _ {P : Type 0} {v : View P} {number room : ℕ} {held : List ℕ} {mode : Option Control}
+    {inside : Bool} {status : Status} {claims : ℕ}
     (m : IsMutator v number room held mode inside status claims) (i : ℕ) (k : Learned) (p : P) where
   -- who has come in holds the anchor alone
   pub begin_keeps : (found : Presence) → v.presence.over ≡ false → 0 < v.shape.cells
@@ -107,14 +123,6 @@ module _ {P : Type 0} (v : View P) (number room : ℕ) (held : List ℕ) (mode :
     status_is = m.status_is;
     not_over = m.not_over;
   }
-
-  -- what a read holds, and that it leaves mode and claims
-  read_own : (own : Own) (found : Field) → (cells_in (having_read own found).held
-      ≡ cells_read (cells_in own.held) found) × ((having_read own found).mode ≡ own.mode)
-      × ((having_read own found).claims ≡ own.claims)
-  read_own own field.Null = (refl, refl, refl)
-  read_own own (field.Num n) = (refl, refl, refl)
-  read_own own (field.Cell c) = (cells_more own.held c, refl, refl)
 
   pub read_keeps : (place f : ℕ) (found : Field) → NamesBelow v.shape.cells found
       → length held < room
@@ -192,14 +200,6 @@ module _ {P : Type 0} (v : View P) (number room : ℕ) (held : List ℕ) (mode :
     status_is = m.status_is;
     not_over = m.not_over;
   }
-
-  -- a claim of a cell that was not blue leaves the own part
-  missed_own : (own : Own) (c : ℕ) (found : Colour) → is_blue found ≡ false
-      → having_claimed own c found ≡ own
-  missed_own own c colour.Blue other = let no = other in absurd cc
-  missed_own own c colour.White other = refl
-  missed_own own c colour.Gray other = refl
-  missed_own own c colour.Black other = refl
 
   pub missed_keeps : (c : ℕ) (found : Colour) → is_blue found ≡ false
       → IsMutator (told v (event.Claim i c) (finds.Colour found) k p) number room held mode inside

@@ -20,11 +20,8 @@ mutator_store-requires-clause-made g c =
 
 pub mutator_store-requires-clause-kind : goal.mutator_store-requires-clause-kind
 mutator_store-requires-clause-kind g c =
-    let me = c.self.inside.seat.me in
     let may = subst (λ (s : SeatView _). MayFill s.me c.args.place c.args.field (field_at s.me.own.held c.args.value)) (sym c.self.view_is) c.requires.may in
-    fill_owed g.P.Keeping.fixed me c.self.inside.number c.self.invariant.0.number_is
-    c.args.place c.args.field (field_at me.own.held c.args.value) c.stands_for-value.result
-    c.field_at-word.result c.pack_field-new.result
+    fill_owed g.P.Keeping.fixed c.self.invariant.0 c.args.place c.args.field
     (c.stands_for-value.ensures.field
     ∙ ap (λ (s : SeatView _). field_at s.me.own.held c.args.value) (sym c.self.view_is))
     (ap (λ (s : SeatView _). index_of s.me.shape.mutators (FieldOf (target s.me c.args.place) c.args.field))
@@ -33,21 +30,14 @@ mutator_store-requires-clause-kind g c =
 
 pub mutator_store-requires-clause-rule : goal.mutator_store-requires-clause-rule
 mutator_store-requires-clause-rule g c =
-    fill_picked g.P.Keeping.fixed c.self.inside.seat.me c.self.inside.number
-    c.self.invariant.0.number_is g.P.Keeping.holds g.P.Keeping.shrinks g.C.Choice.next
-    c.args.place c.args.field (field_at c.self.inside.seat.me.own.held c.args.value) c.stands_for-value.result
+    fill_picked g.P.Keeping.fixed c.self.invariant.0 g.P.Keeping.holds g.P.Keeping.shrinks g.C.Choice.next c.args.place c.args.field
     (c.stands_for-value.ensures.field
     ∙ ap (λ (s : SeatView _). field_at s.me.own.held c.args.value) (sym c.self.view_is))
     (subst (λ (s : SeatView _). Picks g.P.Keeping.holds g.P.Keeping.fixed g.C.Choice.next s.me (event.Fill s.me.number c.args.place c.args.field (field_at s.me.own.held c.args.value))) (sym c.self.view_is) c.requires.rule)
 
 pub invariant_of-self : goal.invariant_of-self
 invariant_of-self g c = (
-  (after_fill g.P.Keeping.holds g.P.Keeping.fixed g.C.Choice.next c.self.inside.seat.me
-      c.mutator_store.new.seat.me c.self.inside.number c.pack_field-new.result
-      c.self.inside.room c.self.inside.held.items c.self.inside.mode c.self.inside.inside
-      c.self.inside.status c.self.inside.claims c.self.invariant.0
-      c.args.place c.args.field (field_at c.self.inside.seat.me.own.held c.args.value)
-      c.stands_for-value.result
+  (after_fill c.self.invariant.0 c.args.place c.args.field
       (c.stands_for-value.ensures.field
       ∙ ap (λ (s : SeatView _). field_at s.me.own.held c.args.value) (sym c.self.view_is))
       c.mutator_store.ensures.step).keeps,
@@ -55,18 +45,13 @@ invariant_of-self g c = (
 )
 
 pub returns : goal.returns
-returns g c = record {
-  told = seat_told_with c.self.inside.seat c.args.self.now c.mutator_store.new.seat
-      (λ v. event.Fill v.number c.args.place c.args.field (field_at v.own.held c.args.value))
-      finds.Stored (λ p. g.C.Choice.next nothing_learned finds.Stored p) c.self.view_is
-      c.mutator_store.ensures.same
-      (after_fill g.P.Keeping.holds g.P.Keeping.fixed g.C.Choice.next c.self.inside.seat.me
-      c.mutator_store.new.seat.me c.self.inside.number c.pack_field-new.result
-      c.self.inside.room c.self.inside.held.items c.self.inside.mode c.self.inside.inside
-      c.self.inside.status c.self.inside.claims c.self.invariant.0
-      c.args.place c.args.field (field_at c.self.inside.seat.me.own.held c.args.value)
-      c.stands_for-value.result
-      (c.stands_for-value.ensures.field
-      ∙ ap (λ (s : SeatView _). field_at s.me.own.held c.args.value) (sym c.self.view_is))
-      c.mutator_store.ensures.step).event.new;
-}
+returns g c =
+    record {
+      told = seat_told_with c.mutator_store.new.seat
+          (λ v. event.Fill v.number c.args.place c.args.field (field_at v.own.held c.args.value))
+          finds.Stored (λ p. g.C.Choice.next nothing_learned finds.Stored p) c.self.view_is
+          c.mutator_store.ensures.same (after_fill c.self.invariant.0 c.args.place c.args.field
+          (c.stands_for-value.ensures.field
+          ∙ ap (λ (s : SeatView _). field_at s.me.own.held c.args.value) (sym c.self.view_is))
+          c.mutator_store.ensures.step).event.new;
+    }

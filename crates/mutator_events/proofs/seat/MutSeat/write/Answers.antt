@@ -13,8 +13,10 @@ use Rattle.mutator_events.specs.Values.{field_at}
 use Rattle.mutator_events.proofs.Calls.{after_write}
 use Rattle.mutator_events.proofs.Founds.{other_field}
 use Rattle.mutator_events.proofs.Founds.{write_word}
-use Rattle.mutator_events.proofs.Owed.{write_owed, write_picked}
-use Rattle.mutator_events.proofs.seat.MutSeat.write.Goals.{then-number-expected, else-number-expected}
+use Rattle.mutator_events.proofs.Owed.{write_owed}
+use Rattle.mutator_events.proofs.Owed.{write_picked}
+use Rattle.mutator_events.proofs.seat.MutSeat.write.Goals.{then-number-expected}
+use Rattle.mutator_events.proofs.seat.MutSeat.write.Goals.{else-number-expected}
 use Rattle.mutator_events.proofs.seat.MutSeat.write.Goals as goal
 
 pub mutator_exchange-number-requires-clause-made : goal.mutator_exchange-number-requires-clause-made
@@ -24,11 +26,7 @@ mutator_exchange-number-requires-clause-made g c =
 pub mutator_exchange-number-requires-clause-kind : goal.mutator_exchange-number-requires-clause-kind
 mutator_exchange-number-requires-clause-kind g c =
     let may = subst (λ (s : SeatView _). MayWrite g.P.Keeping.fixed s.me c.args.place c.args.field (field_at s.me.own.held c.args.old) (field_at s.me.own.held c.args.new)) (sym c.self.view_is) c.requires.may in
-    write_owed g.P.Keeping.fixed c.self.inside.seat.me c.self.inside.number
-    c.self.invariant.0.number_is
-    c.args.place c.args.field (field_at c.self.inside.seat.me.own.held c.args.old)
-    (field_at c.self.inside.seat.me.own.held c.args.new) c.stands_for-old.result c.stands_for-new.result
-    c.field_at-word.result c.pack_field-expected.result c.pack_field-written.result
+    write_owed g.P.Keeping.fixed c.self.invariant.0 c.args.place c.args.field
     (c.stands_for-old.ensures.field
     ∙ ap (λ (s : SeatView _). field_at s.me.own.held c.args.old) (sym c.self.view_is))
     (c.stands_for-new.ensures.field
@@ -39,10 +37,7 @@ mutator_exchange-number-requires-clause-kind g c =
 
 pub mutator_exchange-number-requires-clause-rule : goal.mutator_exchange-number-requires-clause-rule
 mutator_exchange-number-requires-clause-rule g c =
-    write_picked g.P.Keeping.fixed c.self.inside.seat.me c.self.inside.number
-    c.self.invariant.0.number_is g.P.Keeping.holds g.P.Keeping.shrinks g.C.Choice.next
-    c.args.place c.args.field (field_at c.self.inside.seat.me.own.held c.args.old)
-    (field_at c.self.inside.seat.me.own.held c.args.new) c.stands_for-old.result c.stands_for-new.result
+    write_picked g.P.Keeping.fixed c.self.invariant.0 g.P.Keeping.holds g.P.Keeping.shrinks g.C.Choice.next c.args.place c.args.field
     (c.stands_for-old.ensures.field
     ∙ ap (λ (s : SeatView _). field_at s.me.own.held c.args.old) (sym c.self.view_is))
     (c.stands_for-new.ensures.field
@@ -51,18 +46,11 @@ mutator_exchange-number-requires-clause-rule g c =
 
 pub field_of-found-requires : goal.field_of-found-requires
 field_of-found-requires g c =
-    write_word g.P.Keeping.holds g.P.Keeping.fixed g.C.Choice.next c.self.inside.seat.me
-    c.mutator_exchange-number.new.seat.me c.self.inside.number c.mutator_exchange-number.result c.args.place c.args.field
-    c.stands_for-old.result c.stands_for-new.result c.mutator_exchange-number.ensures.step
+    write_word c.mutator_exchange-number.ensures.step
 
 pub invariant_of-self : goal.invariant_of-self
 invariant_of-self g c = (
-  (after_write g.P.Keeping.holds g.P.Keeping.fixed g.C.Choice.next c.self.inside.seat.me
-      c.mutator_exchange-number.new.seat.me c.self.inside.number c.mutator_exchange-number.result
-      c.self.inside.room c.self.inside.held.items c.self.inside.mode c.self.inside.inside
-      c.self.inside.status c.self.inside.claims c.self.invariant.0
-      c.args.place c.args.field (field_at c.self.inside.seat.me.own.held c.args.old)
-      (field_at c.self.inside.seat.me.own.held c.args.new) c.stands_for-old.result c.stands_for-new.result c.field_of-found.result
+  (after_write c.self.invariant.0 c.args.place c.args.field c.field_of-found.result
       (c.stands_for-old.ensures.field
       ∙ ap (λ (s : SeatView _). field_at s.me.own.held c.args.old) (sym c.self.view_is))
       (c.stands_for-new.ensures.field
@@ -73,27 +61,20 @@ invariant_of-self g c = (
 
 pub returns-clause-made : goal.returns-clause-made
 returns-clause-made g c =
-    let step = c.mutator_exchange-number in
-    let there = after_write g.P.Keeping.holds g.P.Keeping.fixed g.C.Choice.next c.self.inside.seat.me
-    c.mutator_exchange-number.new.seat.me c.self.inside.number c.mutator_exchange-number.result
-    c.self.inside.room c.self.inside.held.items c.self.inside.mode c.self.inside.inside
-    c.self.inside.status c.self.inside.claims c.self.invariant.0
-    c.args.place c.args.field (field_at c.self.inside.seat.me.own.held c.args.old)
-    (field_at c.self.inside.seat.me.own.held c.args.new) c.stands_for-old.result c.stands_for-new.result c.field_of-found.result
+    let here = subst (λ (s : SeatView _). AtEvent g.P.Keeping.holds g.P.Keeping.fixed s.me
+    (event.Write s.me.number c.args.place c.args.field (field_at s.me.own.held c.args.old) (field_at s.me.own.held c.args.new)) g.C.Choice.next
+    (finds.Field c.field_of-found.result) c.mutator_exchange-number.new.seat.me) c.self.view_is
+    (after_write c.self.invariant.0 c.args.place c.args.field c.field_of-found.result
     (c.stands_for-old.ensures.field
     ∙ ap (λ (s : SeatView _). field_at s.me.own.held c.args.old) (sym c.self.view_is))
     (c.stands_for-new.ensures.field
     ∙ ap (λ (s : SeatView _). field_at s.me.own.held c.args.new) (sym c.self.view_is))
-    c.field_of-found.ensures.field c.mutator_exchange-number.ensures.step in
-    let here = subst (λ (s : SeatView _). AtEvent g.P.Keeping.holds g.P.Keeping.fixed s.me
-    (event.Write s.me.number c.args.place c.args.field (field_at s.me.own.held c.args.old) (field_at s.me.own.held c.args.new)) g.C.Choice.next
-    (finds.Field c.field_of-found.result) step.new.seat.me) c.self.view_is there.event in
+    c.field_of-found.ensures.field c.mutator_exchange-number.ensures.step).event in
     elim c.if-number-expected.branch [
       | then-number-expected w ↦
           rw w.result-is
           (subst (λ (x : Field). AtEvent g.P.Keeping.holds g.P.Keeping.fixed c.args.self.now.me
-          (event.Write c.args.self.now.me.number c.args.place c.args.field (field_at c.args.self.now.me.own.held c.args.old) (field_at c.args.self.now.me.own.held c.args.new)) g.C.Choice.next
-          (finds.Field x) step.new.seat.me)
+          (event.Write c.args.self.now.me.number c.args.place c.args.field (field_at c.args.self.now.me.own.held c.args.old) (field_at c.args.self.now.me.own.held c.args.new)) g.C.Choice.next (finds.Field x) c.mutator_exchange-number.new.seat.me)
           (c.field_of-found.ensures.field c.stands_for-old.result c.stands_for-old.ensures.valid
           (sym (w.if-number-expected.true ∙ c.pack_field-expected.ensures.word))
           ∙ c.stands_for-old.ensures.field) here)
@@ -102,33 +83,22 @@ returns-clause-made g c =
 
 pub returns-clause-moved : goal.returns-clause-moved
 returns-clause-moved g c =
-    let step = c.mutator_exchange-number in
-    let there = after_write g.P.Keeping.holds g.P.Keeping.fixed g.C.Choice.next c.self.inside.seat.me
-    c.mutator_exchange-number.new.seat.me c.self.inside.number c.mutator_exchange-number.result
-    c.self.inside.room c.self.inside.held.items c.self.inside.mode c.self.inside.inside
-    c.self.inside.status c.self.inside.claims c.self.invariant.0
-    c.args.place c.args.field (field_at c.self.inside.seat.me.own.held c.args.old)
-    (field_at c.self.inside.seat.me.own.held c.args.new) c.stands_for-old.result c.stands_for-new.result c.field_of-found.result
+    let here = subst (λ (s : SeatView _). AtEvent g.P.Keeping.holds g.P.Keeping.fixed s.me
+    (event.Write s.me.number c.args.place c.args.field (field_at s.me.own.held c.args.old) (field_at s.me.own.held c.args.new)) g.C.Choice.next
+    (finds.Field c.field_of-found.result) c.mutator_exchange-number.new.seat.me) c.self.view_is
+    (after_write c.self.invariant.0 c.args.place c.args.field c.field_of-found.result
     (c.stands_for-old.ensures.field
     ∙ ap (λ (s : SeatView _). field_at s.me.own.held c.args.old) (sym c.self.view_is))
     (c.stands_for-new.ensures.field
     ∙ ap (λ (s : SeatView _). field_at s.me.own.held c.args.new) (sym c.self.view_is))
-    c.field_of-found.ensures.field c.mutator_exchange-number.ensures.step in
-    let here = subst (λ (s : SeatView _). AtEvent g.P.Keeping.holds g.P.Keeping.fixed s.me
-    (event.Write s.me.number c.args.place c.args.field (field_at s.me.own.held c.args.old) (field_at s.me.own.held c.args.new)) g.C.Choice.next
-    (finds.Field c.field_of-found.result) step.new.seat.me) c.self.view_is there.event in
+    c.field_of-found.ensures.field c.mutator_exchange-number.ensures.step).event in
     elim c.if-number-expected.branch [
       | then-number-expected w ↦ rw w.result-is tt
       | else-number-expected w ↦
           rw w.result-is (
-            ap (λ (x : Field). same_field c.field_of-found.result x)
-                (sym c.stands_for-old.ensures.field)
-                ∙ other_field g.P.Keeping.holds g.P.Keeping.fixed g.C.Choice.next
-                c.self.inside.seat.me step.new.seat.me c.self.inside.number step.result
-                c.args.place c.args.field c.stands_for-old.result c.stands_for-new.result c.field_of-found.result
-                c.field_of-found.ensures.field step.ensures.step
-                (λ same. w.if-number-expected.false
-                (same ∙ sym c.pack_field-expected.ensures.word)),
+            ap (λ (x : Field). same_field c.field_of-found.result x) (sym c.stands_for-old.ensures.field)
+                ∙ other_field c.field_of-found.ensures.field c.mutator_exchange-number.ensures.step
+                (λ same. w.if-number-expected.false (same ∙ sym c.pack_field-expected.ensures.word)),
             here,
           )
     ]
