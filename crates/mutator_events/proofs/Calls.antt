@@ -137,7 +137,7 @@ module _ {P : Type 0} {holds : Map → List P → Type 0} {fixed : ℕ → Bool}
       let found = finds.Presence (record v.presence { status = own }) in (
         own,
         behind (at_event (event.Over v.number) found here (over_found here)).new
-            (over_keeps m v.number nothing_learned v.pass found (sym m.inside_is ∙ may.out)),
+            (over_keeps m v.number nothing_learned v.pass found (sym m.presence.inside_is ∙ may.out)),
       )
 
   pub after_end : v.presence.inside ≡ true
@@ -156,7 +156,7 @@ module _ {P : Type 0} {holds : Map → List P → Type 0} {fixed : ℕ → Bool}
       (cells_kept held n from copies) mode inside status claims
   after_keep n from copies may at =
       let here = renumbered i (λ k. event.Keep k n from copies) m.number_is at in
-      let many = held_many v.own.held held m.held_is in
+      let many = held_many v.own.held held m.own.held_is in
       behind (at_event (event.Keep v.number n from copies) (finds.Presence v.presence) here
       (keep_found n from copies may.inside here)).new
       (keep_keeps m v.number nothing_learned v.pass n from copies (finds.Presence v.presence)
@@ -199,7 +199,7 @@ module _ {P : Type 0} {holds : Map → List P → Type 0} {fixed : ℕ → Bool}
       inside status (claims + 1)
   after_claim c found is may at blue =
       let here = renumbered i (λ n. event.Claim n c) m.number_is at in
-      let many = held_many v.own.held held m.held_is in
+      let many = held_many v.own.held held m.own.held_is in
       behind (at_event (event.Claim v.number c) (finds.Colour colour.Blue) here
       (claim_found c found is here ∙ ap (λ (x : Colour). finds.Colour x) blue)).new
       (claim_keeps m v.number nothing_learned v.pass c may.cell
@@ -218,7 +218,7 @@ module _ {P : Type 0} {holds : Map → List P → Type 0} {fixed : ℕ → Bool}
 
   -- one claim more may be counted
   pub claims_more : (e : Event) → AtStep holds fixed v e same_pass number w → claims + 1 < 2 ^ 64
-  claims_more e at = let fits = claims_fit e at in omega (arith, fits, m.claims_is)
+  claims_more e at = let fits = claims_fit e at in omega (arith, fits, m.own.claims_is)
 
   module _ {next : Learned → Found → P → P} where
     pub after_read : (place f : ℕ) (field : Field)
@@ -228,7 +228,7 @@ module _ {P : Type 0} {holds : Map → List P → Type 0} {fixed : ℕ → Bool}
         (cells_read held field) mode inside status claims
     after_read place f field is may at =
         let here = renumbered i (λ n. event.Read n place f) m.number_is at in
-        let many = held_many v.own.held held m.held_is in
+        let many = held_many v.own.held held m.own.held_is in
         seen (at_event (event.Read v.number place f) (finds.Field field) here
         (read_found place f field is here))
         (λ k p. read_keeps m v.number k p place f field (read_named place f field here is)

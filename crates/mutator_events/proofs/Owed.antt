@@ -46,7 +46,7 @@ module _ {P : Type 0} (fixed : ℕ → Bool) {v : View P} {i room : ℕ} {held :
 
   -- who is in knows its status, and that it is not over
   in_now : v.presence.inside ≡ true → inside ≡ true
-  in_now is = sym m.inside_is ∙ is
+  in_now is = sym m.presence.inside_is ∙ is
 
   -- The calls whose operands are words that the seat makes.
 
@@ -91,10 +91,10 @@ module _ {P : Type 0} (fixed : ℕ → Bool) {v : View P} {i room : ℕ} {held :
   answer_owed {at} {word} {next} there next_is packed may =
       let left : pack_presence_of (answered_presence v.presence) ≡ word =
       (λ t. pack_presence_of record {
-        status = (ap (λ (s : Status). next_status_of s) (m.status_is (in_now may.inside))
+        status = (ap (λ (s : Status). next_status_of s) (m.presence.status_is (in_now may.inside))
             ∙ sym next_is) t;
         inside = may.inside t;
-        over = m.not_over (in_now may.inside) t;
+        over = m.presence.not_over (in_now may.inside) t;
       })
       ∙ sym packed in
       owed_as (λ n. event.Answer n) (StatusOf v.number)
@@ -117,13 +117,13 @@ module _ {P : Type 0} (fixed : ℕ → Bool) {v : View P} {i room : ℕ} {held :
       → MayClaim v c
       → Owes fixed v (event.Claim i c) at (left_by (Exchange from to)) (told_by (Exchange from to))
   claim_owed {at} {from} {to} c there first second may =
-      let status_is = m.status_is (in_now may.inside) in
+      let status_is = m.presence.status_is (in_now may.inside) in
       owed_as (λ n. event.Claim n c) (ColourOf c)
       (colour_exchange colour.Blue (born_colour v.presence.status v.own.mode c)) (Exchange from to)
       there
       (λ t. Exchange (sym first t)
       ((ap (λ (s : Status). pack_colour_of (born_colour s v.own.mode c)) status_is
-      ∙ ap (λ (o : Option Control). pack_colour_of (born_colour status o c)) m.mode_is
+      ∙ ap (λ (o : Option Control). pack_colour_of (born_colour status o c)) m.own.mode_is
       ∙ sym second) t))
       (λ s l mine. owes_claim fixed v s l mine c may)
 

@@ -21,7 +21,7 @@ use heap_table::CellHeap;
 use std::marker::Brand;
 
 impl<P: Keeping> MutSeat<P> {
-    /// Makes the cell at a place gray, if it is white, and marks all places that hold it. One compare
+    /// Makes a white cell at a place gray, and marks all places that hold it. One compare
     /// and exchange on the cell's colour.
     pub fn mark(&mut self, heap: &CellHeap<P>, place: usize)
         requires seat { IsSeatOf heap.now self.old }

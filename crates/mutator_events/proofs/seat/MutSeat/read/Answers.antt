@@ -52,7 +52,7 @@ invariant_of-self g c =
 pub returns-clause-told : goal.returns-clause-told
 returns-clause-told g c =
     let may = subst (λ (s : SeatView _). MayRead s.me c.args.place c.args.field) (sym c.self.view_is) c.requires.may in
-    let many = held_many c.self.inside.seat.me.own.held c.self.inside.held.items c.self.invariant.0.held_is
+    let many = held_many c.self.inside.seat.me.own.held c.self.inside.held.items c.self.invariant.0.own.held_is
     ∙ ap (λ (s : SeatView _). length s.me.own.held) c.self.view_is in (
       c.field_of-found.result,
       c.hold_found.ensures.value ∙ ap (λ (n : ℕ). value_found n c.field_of-found.result) many,
