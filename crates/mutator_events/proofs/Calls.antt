@@ -41,6 +41,20 @@ use Rattle.mutator_events.proofs.Keeping.{fill_keeps, keep_keeps, look_keeps, ma
 use Rattle.mutator_events.proofs.Keeping.{missed_keeps, over_keeps, read_keeps, seal_keeps}
 use Rattle.mutator_events.proofs.Keeping.{write_keeps}
 
+-- What a clause says of the seat as its caller has it is so of the seat within, and back.
+
+pub within : {P : Type 0} {seat now : SeatView P} (C : View P → Type 0) → seat ≡ now → C now.me
+    → C seat.me
+within C is h = subst (λ (s : SeatView _). C s.me) (sym is) h
+
+pub without : {P : Type 0} {seat now : SeatView P} (C : View P → Type 0) → seat ≡ now → C seat.me
+    → C now.me
+without C is h = subst (λ (s : SeatView _). C s.me) is h
+
+pub same_within : {P A : Type 0} {seat now : SeatView P} {x : A} (f : View P → A) → seat ≡ now
+    → x ≡ f now.me → x ≡ f seat.me
+same_within f is same = same ∙ ap (λ (s : SeatView _). f s.me) (sym is)
+
 -- the seat is told what its view is
 pub seat_told : {P : Type 0} {seat now : SeatView P} (new : SeatView P) (make : View P → Event)
     (found : View P → Found) → seat ≡ now → new.table ≡ seat.table

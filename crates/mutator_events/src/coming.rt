@@ -52,7 +52,8 @@ impl<P: Keeping> MutSeat<P> {
     pub fn end(&mut self, heap: &CellHeap<P>)
         requires seat { IsSeatOf heap.now self.old }
         requires inside { self.old.me.presence.inside ≡ true }
-        ensures told { self.new ≡ tells self.old (event.End self.old.me.number) (finds.Presence self.old.me.presence) }
+        ensures told { self.new ≡ tells self.old (event.End self.old.me.number)
+            (finds.Presence self.old.me.presence) }
     {
         let word = status_word(heap, self.number);
         let _ = heap.mutator_keep_bits::<Brand>(

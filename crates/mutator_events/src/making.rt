@@ -8,7 +8,7 @@ ghost use Rattle.heap_rule.specs.Asks.{MayClaim, MayFill, MaySeal};
 ghost use Rattle.heap_rule.specs.Lore.{nothing_learned};
 ghost use Rattle.heap_rule.specs.Steps.{Picks};
 ghost use Rattle.heap_table.specs.Seats.{IsSeatOf};
-ghost use Rattle.mutator_events.specs.Events.{tells, tells_with};
+ghost use Rattle.mutator_events.specs.Events.{fill_of, tells, tells_with};
 ghost use Rattle.mutator_events.specs.Values.{field_at};
 
 use crate::choice::Choice;
@@ -63,10 +63,8 @@ impl<P: Keeping> MutSeat<P> {
     )
         requires seat { IsSeatOf heap.now self.old }
         requires may { MayFill self.old.me place field (field_at self.old.me.own.held value) }
-        requires rule { Picks P.holds P.fixed C.next self.old.me
-            (event.Fill self.old.me.number place field (field_at self.old.me.own.held value)) }
-        ensures told { self.new ≡ tells_with self.old
-            (event.Fill self.old.me.number place field (field_at self.old.me.own.held value)) finds.Stored
+        requires rule { Picks P.holds P.fixed C.next self.old.me (fill_of self.old.me place field value) }
+        ensures told { self.new ≡ tells_with self.old (fill_of self.old.me place field value) finds.Stored
             (C.next nothing_learned finds.Stored self.old.me.pass) }
     {
         let word = self.field_at(heap, place, field);

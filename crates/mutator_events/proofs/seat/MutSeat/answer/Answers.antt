@@ -4,10 +4,10 @@ use Rattle.cell_words.specs.declared.presences.Status.{Status}
 use Rattle.core_machine.specs.declared.events.Event.TheVariants as event
 use Rattle.core_machine.specs.declared.events.Found.TheVariants as finds
 use Rattle.heap_rule.specs.Asks.{MayAnswer}
-use Rattle.heap_table.specs.Seats.{SeatView}
 use Rattle.mutator_events.specs.Seats.{IsMutator}
 use Rattle.mutator_events.proofs.Calls.{after_answer}
 use Rattle.mutator_events.proofs.Calls.{seat_told}
+use Rattle.mutator_events.proofs.Calls.{within}
 use Rattle.mutator_events.proofs.Owed.{answer_owed}
 use Rattle.mutator_events.proofs.Owed.{still_as}
 use Rattle.mutator_events.proofs.seat.MutSeat.answer.Goals as goal
@@ -18,13 +18,14 @@ mutator_store-requires-clause-made g c =
 
 pub mutator_store-requires-clause-kind : goal.mutator_store-requires-clause-kind
 mutator_store-requires-clause-kind g c =
-    let may = subst (λ (s : SeatView _). MayAnswer s.me) (sym c.self.view_is) c.requires.may in
+    let may = within (λ v. MayAnswer v) c.self.view_is c.requires.may in
     answer_owed g.P.Keeping.fixed c.self.invariant.0 (ap (λ (n : ℕ). 1 + n) c.self.invariant.0.number_is ∙ sym c.status_word-word.ensures.word)
     c.next_status-status.ensures.status c.pack_presence-new.ensures.word may
 
 pub mutator_store-requires-clause-rule : goal.mutator_store-requires-clause-rule
 mutator_store-requires-clause-rule g c =
-    still_as g.P.Keeping.fixed c.self.invariant.0 g.P.Keeping.holds g.P.Keeping.shrinks (event.Answer c.self.inside.number) (λ s l. refl)
+    still_as g.P.Keeping.fixed c.self.invariant.0 g.P.Keeping.holds g.P.Keeping.shrinks
+    (event.Answer c.self.inside.number) (λ s l. refl)
 
 pub invariant_of-self : goal.invariant_of-self
 invariant_of-self g c =

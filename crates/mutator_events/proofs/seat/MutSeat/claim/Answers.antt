@@ -13,6 +13,7 @@ use Rattle.mutator_events.specs.Seats.{IsMutator}
 use Rattle.mutator_events.proofs.Calls.{after_claim}
 use Rattle.mutator_events.proofs.Calls.{after_miss}
 use Rattle.mutator_events.proofs.Calls.{claims_more, seat_told}
+use Rattle.mutator_events.proofs.Calls.{within}
 use Rattle.mutator_events.proofs.Founds.{claim_word, not_blue}
 use Rattle.mutator_events.proofs.Owed.{claim_owed}
 use Rattle.mutator_events.proofs.Owed.{still_as}
@@ -24,7 +25,7 @@ mutator_exchange-number-requires-clause-made g c =
 
 pub mutator_exchange-number-requires-clause-kind : goal.mutator_exchange-number-requires-clause-kind
 mutator_exchange-number-requires-clause-kind g c =
-    let may = subst (λ (s : SeatView _). MayClaim s.me c.args.cell) (sym c.self.view_is) c.requires.may in
+    let may = within (λ v. MayClaim v c.args.cell) c.self.view_is c.requires.may in
     claim_owed g.P.Keeping.fixed c.self.invariant.0 c.args.cell
     (ap (λ (h : Shape). index_of h.mutators (ColourOf c.args.cell))
     (ap (λ (s : SeatView _). s.me.shape) c.self.view_is ∙ c.requires.seat.1)
@@ -35,7 +36,8 @@ mutator_exchange-number-requires-clause-kind g c =
 
 pub mutator_exchange-number-requires-clause-rule : goal.mutator_exchange-number-requires-clause-rule
 mutator_exchange-number-requires-clause-rule g c =
-    still_as g.P.Keeping.fixed c.self.invariant.0 g.P.Keeping.holds g.P.Keeping.shrinks (event.Claim c.self.inside.number c.args.cell) (λ s l. refl)
+    still_as g.P.Keeping.fixed c.self.invariant.0 g.P.Keeping.holds g.P.Keeping.shrinks
+    (event.Claim c.self.inside.number c.args.cell) (λ s l. refl)
 
 pub colour_of-found-requires : goal.colour_of-found-requires
 colour_of-found-requires g c =
@@ -43,34 +45,40 @@ colour_of-found-requires g c =
 
 pub overflow_add-self : goal.overflow_add-self
 overflow_add-self g c =
-    let fits = claims_more c.self.invariant.0 (event.Claim c.self.inside.number c.args.cell) c.mutator_exchange-number.ensures.step in
+    let fits = claims_more c.self.invariant.0 (event.Claim c.self.inside.number c.args.cell)
+    c.mutator_exchange-number.ensures.step in
     omega (arith, fits)
 
 pub invariant_of-self : goal.invariant_of-self
 invariant_of-self g c =
-    let may = subst (λ (s : SeatView _). MayClaim s.me c.args.cell) (sym c.self.view_is) c.requires.may in
+    let may = within (λ v. MayClaim v c.args.cell) c.self.view_is c.requires.may in
     let seat = c.self.inside in (
       subst (λ (cells : List ℕ). IsMutator c.mutator_exchange-number.new.seat.me seat.number seat.room cells None
           seat.inside seat.status (seat.claims + 1)) (sym c.push_reserved.ensures.items)
-          (after_claim c.self.invariant.0 c.args.cell c.colour_of-found.result c.colour_of-found.ensures.colour may c.mutator_exchange-number.ensures.step c.in-Blue.is).keeps,
+          (after_claim c.self.invariant.0 c.args.cell c.colour_of-found.result
+          c.colour_of-found.ensures.colour may c.mutator_exchange-number.ensures.step c.in-Blue.is).keeps,
       omega (arith, c.self.invariant.1, c.push_reserved.ensures.capacity),
     )
 
 pub invariant_of-self-in-White : goal.invariant_of-self-in-White
 invariant_of-self-in-White g c =
-    let other = not_blue c.colour_of-found.result c.in-White.is in
-    ((after_miss c.self.invariant.0 c.args.cell c.colour_of-found.result c.colour_of-found.ensures.colour c.mutator_exchange-number.ensures.step other).keeps, c.self.invariant.1)
+    let other = not_blue c.colour_of-found.result c.in-White.is in (
+      (after_miss c.self.invariant.0 c.args.cell c.colour_of-found.result
+          c.colour_of-found.ensures.colour c.mutator_exchange-number.ensures.step other).keeps,
+      c.self.invariant.1,
+    )
 
 pub returns-in-Blue : goal.returns-in-Blue
 returns-in-Blue g c =
-    let may = subst (λ (s : SeatView _). MayClaim s.me c.args.cell) (sym c.self.view_is) c.requires.may in
+    let may = within (λ v. MayClaim v c.args.cell) c.self.view_is c.requires.may in
     record {
       told = (
         colour.Blue,
         refl,
         seat_told c.mutator_exchange-number.new.seat (λ v. event.Claim v.number c.args.cell)
             (λ v. finds.Colour colour.Blue) c.self.view_is c.mutator_exchange-number.ensures.same
-            (after_claim c.self.invariant.0 c.args.cell c.colour_of-found.result c.colour_of-found.ensures.colour may c.mutator_exchange-number.ensures.step c.in-Blue.is).view,
+            (after_claim c.self.invariant.0 c.args.cell c.colour_of-found.result
+            c.colour_of-found.ensures.colour may c.mutator_exchange-number.ensures.step c.in-Blue.is).view,
       );
     }
 
@@ -83,6 +91,7 @@ returns-in-White g c =
         sym other,
         seat_told c.mutator_exchange-number.new.seat (λ v. event.Claim v.number c.args.cell)
             (λ v. finds.Colour c.colour_of-found.result) c.self.view_is c.mutator_exchange-number.ensures.same
-            (after_miss c.self.invariant.0 c.args.cell c.colour_of-found.result c.colour_of-found.ensures.colour c.mutator_exchange-number.ensures.step other).view,
+            (after_miss c.self.invariant.0 c.args.cell c.colour_of-found.result
+            c.colour_of-found.ensures.colour c.mutator_exchange-number.ensures.step other).view,
       );
     }

@@ -5,10 +5,10 @@ use Rattle.core_machine.specs.declared.events.Found.TheVariants as finds
 use Rattle.core_machine.specs.Table.{StatusOf}
 use Rattle.core_machine.specs.WordOperations.{KeepBits, all_but_inside}
 use Rattle.heap_rule.proofs.Owing.{owes_end}
-use Rattle.heap_table.specs.Seats.{SeatView}
 use Rattle.mutator_events.specs.Seats.{IsMutator}
 use Rattle.mutator_events.proofs.Calls.{after_end}
 use Rattle.mutator_events.proofs.Calls.{seat_told}
+use Rattle.mutator_events.proofs.Calls.{within}
 use Rattle.mutator_events.proofs.Owed.{owed_as, still_as}
 use Rattle.mutator_events.proofs.seat.MutSeat.end.Goals as goal
 
@@ -18,18 +18,19 @@ mutator_keep_bits-requires-clause-made g c =
 
 pub mutator_keep_bits-requires-clause-kind : goal.mutator_keep_bits-requires-clause-kind
 mutator_keep_bits-requires-clause-kind g c =
-    let may = subst (λ (s : SeatView _). s.me.presence.inside ≡ true) (sym c.self.view_is) c.requires.inside in
+    let may = within (λ v. v.presence.inside ≡ true) c.self.view_is c.requires.inside in
     owed_as g.P.Keeping.fixed c.self.invariant.0 (λ n. event.End n) (StatusOf c.self.inside.seat.me.number)
     (KeepBits all_but_inside) (KeepBits all_but_inside) (ap (λ (n : ℕ). 1 + n) c.self.invariant.0.number_is ∙ sym c.status_word-word.ensures.word) refl
     (λ s l mine. owes_end g.P.Keeping.fixed c.self.inside.seat.me s l mine may)
 
 pub mutator_keep_bits-requires-clause-rule : goal.mutator_keep_bits-requires-clause-rule
 mutator_keep_bits-requires-clause-rule g c =
-    still_as g.P.Keeping.fixed c.self.invariant.0 g.P.Keeping.holds g.P.Keeping.shrinks (event.End c.self.inside.number) (λ s l. refl)
+    still_as g.P.Keeping.fixed c.self.invariant.0 g.P.Keeping.holds g.P.Keeping.shrinks
+    (event.End c.self.inside.number) (λ s l. refl)
 
 pub invariant_of-self : goal.invariant_of-self
 invariant_of-self g c =
-    let may = subst (λ (s : SeatView _). s.me.presence.inside ≡ true) (sym c.self.view_is) c.requires.inside in
+    let may = within (λ v. v.presence.inside ≡ true) c.self.view_is c.requires.inside in
     let seat = c.self.inside in (
       subst (λ (cells : List ℕ). IsMutator c.mutator_keep_bits.new.seat.me seat.number seat.room cells None false
           seat.status seat.claims) (sym c.clear.ensures.items) (after_end c.self.invariant.0 may c.mutator_keep_bits.ensures.step).keeps,
@@ -38,7 +39,7 @@ invariant_of-self g c =
 
 pub returns : goal.returns
 returns g c =
-    let may = subst (λ (s : SeatView _). s.me.presence.inside ≡ true) (sym c.self.view_is) c.requires.inside in
+    let may = within (λ v. v.presence.inside ≡ true) c.self.view_is c.requires.inside in
     record {
       told = seat_told c.mutator_keep_bits.new.seat (λ v. event.End v.number)
           (λ v. finds.Presence v.presence) c.self.view_is c.mutator_keep_bits.ensures.same
