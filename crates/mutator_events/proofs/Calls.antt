@@ -151,7 +151,8 @@ module _ {P : Type 0} {holds : Map → List P → Type 0} {fixed : ℕ → Bool}
       let found = finds.Presence (record v.presence { status = own }) in (
         own,
         behind (at_event (event.Over v.number) found here (over_found here)).new
-            (over_keeps m v.number nothing_learned v.pass found (sym m.presence.inside_is ∙ may.out)),
+            (over_keeps m v.number nothing_learned v.pass found
+            (sym m.presence.inside_is ∙ may.out)),
       )
 
   pub after_end : v.presence.inside ≡ true

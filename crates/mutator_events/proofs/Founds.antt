@@ -184,7 +184,8 @@ module _ {P : Type 0} {holds : Map → List P → Type 0} {fixed : ℕ → Bool}
       let r = in_range fixed v s at.lore at.mine in
       let counts = r.shape.counts_fit in
       let valid = found_valid s (event.Look 0) r at.mine.shown.words in
-      let many = mul-le s.control.cycles s.cells 4000000000 greatest_cells valid.cycles r.few_cells in
+      let many = mul-le s.control.cycles s.cells 4000000000 greatest_cells valid.cycles
+      r.few_cells in
       let own = ap (λ (o : Own). o.claims) at.mine.own in
       let swept = swept_low s.control.position s.collector.sweep in
       let position = stage_low s.control.stage in
@@ -204,8 +205,11 @@ module _ {P : Type 0} {holds : Map → List P → Type 0} {fixed : ℕ → Bool}
 
   pub read_word : {i place f : ℕ} → AtStep holds fixed v (event.Read i place f) next number w
       → IsFieldWord number
-  read_word {i} {place} {f} at =
-      (field_of at.core (target_of at.core i place) f, there_valid (event.Read i place f) at, at.says)
+  read_word {i} {place} {f} at = (
+    field_of at.core (target_of at.core i place) f,
+    there_valid (event.Read i place f) at,
+    at.says,
+  )
 
   pub read_found : {i : ℕ} (place f : ℕ) (field : Field)
       → ((other : Field) → IsValidField other → pack_field_of other ≡ number → field ≡ other)

@@ -30,7 +30,8 @@ use Rattle.heap_rule.proofs.Quiet.{cells_marked, cells_unmarked}
 use Rattle.heap_rule.proofs.Reading.{cells_more}
 use Rattle.mutator_events.specs.Seats.{HasOwn, HasPresence, IsMutator}
 use Rattle.mutator_events.specs.Values.{cells_kept, cells_read}
-use Rattle.mutator_events.proofs.HeldCells.{cells_kept_are, kept_below, kept_many, read_below, read_many}
+use Rattle.mutator_events.proofs.HeldCells.{cells_kept_are, kept_below, kept_many, read_below}
+use Rattle.mutator_events.proofs.HeldCells.{read_many}
 
 -- what a read holds, and that it leaves mode and claims
 read_own : (own : Own) (found : Field) → (cells_in (having_read own found).held

@@ -1,6 +1,6 @@
--- What each call of a mutator's seat owes at its step, from the condition of the call: said with the
--- numbers that the seat has at run time.
-use Rattle.std.proofs.Common.{◌≡◌, ℕ, Bool, true, false, List, Option, sym, ◌∙◌, ap, subst}
+-- What each call of a mutator's seat owes at its step, from the condition of the call: said with
+-- the numbers that the seat has at run time.
+use Rattle.std.proofs.Common.{◌≡◌, ◌+◌, ℕ, Bool, true, false, List, Option, refl, sym, ◌∙◌, ap, subst}
 use Rattle.cell_words.specs.Colour.{pack_colour_of}
 use Rattle.cell_words.specs.Field.{pack_field_of}
 use Rattle.cell_words.specs.Modes.{next_status_of}
@@ -44,6 +44,14 @@ module _ {P : Type 0} (fixed : ℕ → Bool) {v : View P} {i room : ℕ} {held :
       (subst (λ (o : Operation). Owes fixed v (make v.number) (index_of v.shape.mutators word)
       (left_by o) (told_by o)) same owes))
 
+  -- an event on its own status word
+  pub status_owed : {at : ℕ} (make : ℕ → Event) (o : Operation) → at ≡ 1 + i
+      → Asks fixed v (make v.number) (StatusOf v.number) o
+      → Owes fixed v (make i) at (left_by o) (told_by o)
+  status_owed make o there owes =
+      owed_as make (StatusOf v.number) o o
+      (ap (λ (n : ℕ). 1 + n) m.number_is ∙ sym there) refl owes
+
   -- who is in knows its status, and that it is not over
   in_now : v.presence.inside ≡ true → inside ≡ true
   in_now is = sym m.presence.inside_is ∙ is
@@ -66,7 +74,8 @@ module _ {P : Type 0} (fixed : ℕ → Bool) {v : View P} {i room : ℕ} {held :
       → from ≡ pack_field_of old_run → to ≡ pack_field_of new_run → MayWrite fixed v place f old new
       → Owes fixed v (event.Write i place f old_run new_run) at (left_by (Exchange from to))
       (told_by (Exchange from to))
-  write_owed {old} {new} {old_run} {new_run} {at} {from} {to} place f old_is new_is there first second may =
+  write_owed {old} {new} {old_run} {new_run} {at} {from} {to} place f old_is new_is there first
+      second may =
       owed_as (λ n. event.Write n place f old_run new_run) (FieldOf (target v place) f)
       (Exchange (pack_field_of old_run) (pack_field_of new_run)) (Exchange from to) there
       (λ t. Exchange (sym first t) (sym second t))
@@ -84,7 +93,7 @@ module _ {P : Type 0} (fixed : ℕ → Bool) {v : View P} {i room : ℕ} {held :
       (ap (λ (n : ℕ). Store n) (sym packed)) (λ s l mine. owes_seal fixed v s l mine place of may)
 
   pub answer_owed : {at word : ℕ} {next : Status}
-      → index_of v.shape.mutators (StatusOf v.number) ≡ at → next ≡ next_status_of status
+      → at ≡ 1 + i → next ≡ next_status_of status
       → word ≡ pack_presence_of (record { status = next; inside = true; over = false })
       → MayAnswer v
       → Owes fixed v (event.Answer i) at (left_by (Store word)) (told_by (Store word))
@@ -98,7 +107,8 @@ module _ {P : Type 0} (fixed : ℕ → Bool) {v : View P} {i room : ℕ} {held :
       })
       ∙ sym packed in
       owed_as (λ n. event.Answer n) (StatusOf v.number)
-      (Store (pack_presence_of (answered_presence v.presence))) (Store word) there
+      (Store (pack_presence_of (answered_presence v.presence))) (Store word)
+      (ap (λ (n : ℕ). 1 + n) m.number_is ∙ sym there)
       (ap (λ (n : ℕ). Store n) left) (λ s l mine. owes_answer fixed v s l mine may)
 
   pub mark_owed : {at from to : ℕ} (place : ℕ)

@@ -30,7 +30,8 @@ impl<P: Keeping> MutSeat<P> {
     pub fn begin(&mut self, heap: &CellHeap<P>)
         requires seat { IsSeatOf heap.now self.old }
         requires may { MayComeIn self.old.me }
-        ensures told { (status : Status) × (self.new ≡ tells self.old (event.Begin self.old.me.number)
+        ensures told { (status : Status)
+            × (self.new ≡ tells self.old (event.Begin self.old.me.number)
             (finds.Presence (record self.old.me.presence { status = status }))) }
     {
         let word = status_word(heap, self.number);
@@ -71,7 +72,8 @@ impl<P: Keeping> MutSeat<P> {
     pub fn over(&mut self, heap: &CellHeap<P>)
         requires seat { IsSeatOf heap.now self.old }
         requires may { MayComeIn self.old.me }
-        ensures told { (status : Status) × (self.new ≡ tells self.old (event.Over self.old.me.number)
+        ensures told { (status : Status)
+            × (self.new ≡ tells self.old (event.Over self.old.me.number)
             (finds.Presence (record self.old.me.presence { status = status }))) }
     {
         let word = status_word(heap, self.number);

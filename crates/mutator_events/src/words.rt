@@ -88,8 +88,8 @@ pub(crate) fn control_of(word: u64) -> Control
 /// The presence that a word is.
 pub(crate) fn presence_of(word: u64) -> Presence
     requires { IsPresenceWord word }
-    ensures presence { (other : Presence) → IsTrue (is_valid_presence other) → pack_presence_of other ≡ word
-        → result ≡ other }
+    ensures presence { (other : Presence) → IsTrue (is_valid_presence other)
+        → pack_presence_of other ≡ word → result ≡ other }
 {
     match unpack_presence(word) {
         Some(presence) => presence,

@@ -27,7 +27,8 @@ impl<P: Keeping> MutSeat<P> {
         requires seat { IsSeatOf heap.now self.old }
         requires may { MayMark self.old.me place }
         ensures told { (found : Colour)
-            × (self.new ≡ tells self.old (event.Mark self.old.me.number place) (finds.Colour found)) }
+            × (self.new ≡ tells self.old (event.Mark self.old.me.number place)
+            (finds.Colour found)) }
     {
         let word = self.colour_at(heap, place);
         let white = pack_colour(Colour::White);

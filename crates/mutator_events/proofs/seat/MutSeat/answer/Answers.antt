@@ -1,4 +1,4 @@
-use Rattle.std.proofs.Common.{◌∙◌, ◌+◌, ℕ}
+use Rattle.std.proofs.Common.{ℕ}
 use Rattle.std.proofs.Common.{None, Some, refl, sym, ap, subst}
 use Rattle.cell_words.specs.declared.presences.Status.{Status}
 use Rattle.core_machine.specs.declared.events.Event.TheVariants as event
@@ -19,7 +19,7 @@ mutator_store-requires-clause-made g c =
 pub mutator_store-requires-clause-kind : goal.mutator_store-requires-clause-kind
 mutator_store-requires-clause-kind g c =
     let may = within (λ v. MayAnswer v) c.self.view_is c.requires.may in
-    answer_owed g.P.Keeping.fixed c.self.invariant.0 (ap (λ (n : ℕ). 1 + n) c.self.invariant.0.number_is ∙ sym c.status_word-word.ensures.word)
+    answer_owed g.P.Keeping.fixed c.self.invariant.0 c.status_word-word.ensures.word
     c.next_status-status.ensures.status c.pack_presence-new.ensures.word may
 
 pub mutator_store-requires-clause-rule : goal.mutator_store-requires-clause-rule

@@ -1,8 +1,7 @@
-use Rattle.std.proofs.Common.{◌≡◌, ◌∙◌, ◌+◌, ℕ, true, List, [], ◌∷◌, ◌++◌}
+use Rattle.std.proofs.Common.{◌≡◌, ◌∙◌, ℕ, true, List, [], ◌∷◌, ◌++◌}
 use Rattle.std.proofs.Common.{None, Some, refl, sym, ap, subst, arith}
 use Rattle.core_machine.specs.declared.events.Event.TheVariants as event
 use Rattle.core_machine.specs.declared.events.Found.TheVariants as finds
-use Rattle.core_machine.specs.Table.{StatusOf}
 use Rattle.core_machine.specs.WordOperations.{SetBits, inside_bit}
 use Rattle.heap_rule.specs.Asks.{MayComeIn}
 use Rattle.heap_rule.proofs.Owing.{owes_begin}
@@ -11,7 +10,7 @@ use Rattle.mutator_events.proofs.Calls.{after_begin}
 use Rattle.mutator_events.proofs.Calls.{seat_told}
 use Rattle.mutator_events.proofs.Calls.{within}
 use Rattle.mutator_events.proofs.Founds.{begin_word}
-use Rattle.mutator_events.proofs.Owed.{owed_as, still_as}
+use Rattle.mutator_events.proofs.Owed.{status_owed, still_as}
 use Rattle.mutator_events.proofs.seat.MutSeat.begin.Goals as goal
 
 pub mutator_set_bits-found-requires-clause-made : goal.mutator_set_bits-found-requires-clause-made
@@ -21,8 +20,8 @@ mutator_set_bits-found-requires-clause-made g c =
 pub mutator_set_bits-found-requires-clause-kind : goal.mutator_set_bits-found-requires-clause-kind
 mutator_set_bits-found-requires-clause-kind g c =
     let may = within (λ v. MayComeIn v) c.self.view_is c.requires.may in
-    owed_as g.P.Keeping.fixed c.self.invariant.0 (λ n. event.Begin n) (StatusOf c.self.inside.seat.me.number)
-    (SetBits inside_bit) (SetBits inside_bit) (ap (λ (n : ℕ). 1 + n) c.self.invariant.0.number_is ∙ sym c.status_word-word.ensures.word) refl
+    status_owed g.P.Keeping.fixed c.self.invariant.0 (λ n. event.Begin n) (SetBits inside_bit)
+    c.status_word-word.ensures.word
     (λ s l mine. owes_begin g.P.Keeping.fixed c.self.inside.seat.me s l mine may)
 
 pub mutator_set_bits-found-requires-clause-rule : goal.mutator_set_bits-found-requires-clause-rule
@@ -40,8 +39,11 @@ invariant_of-self g c =
     let seat = c.self.inside in
     let items : c.push_reserved.new.self.items ≡ 0 ∷ [] = c.push_reserved.ensures.items
     ∙ ap (λ (cells : List ℕ). cells ++ 0 ∷ []) c.clear.ensures.items in (
-      subst (λ (cells : List ℕ). IsMutator c.mutator_set_bits-found.new.seat.me seat.number seat.room cells None true
-          c.presence_of-presence.result.status seat.claims) (sym items) (after_begin c.self.invariant.0 c.presence_of-presence.result c.presence_of-presence.ensures.presence may
+      subst (λ (cells : List ℕ). IsMutator c.mutator_set_bits-found.new.seat.me seat.number
+          seat.room cells None true
+          c.presence_of-presence.result.status seat.claims) (sym items)
+          (after_begin c.self.invariant.0 c.presence_of-presence.result
+          c.presence_of-presence.ensures.presence may
           c.mutator_set_bits-found.ensures.step).keeps,
       omega (arith, c.self.invariant.1, c.clear.ensures.capacity, c.push_reserved.ensures.capacity),
     )
@@ -52,9 +54,12 @@ returns g c =
     record {
       told = (
         c.presence_of-presence.result.status,
-        seat_told c.mutator_set_bits-found.new.seat (λ v. event.Begin v.number)
-            (λ v. finds.Presence (record v.presence { status = c.presence_of-presence.result.status })) c.self.view_is c.mutator_set_bits-found.ensures.same
-            (after_begin c.self.invariant.0 c.presence_of-presence.result c.presence_of-presence.ensures.presence may
+        seat_told c.mutator_set_bits-found.new.seat
+            (λ v. event.Begin v.number)
+            (λ v. finds.Presence (record v.presence { status = c.presence_of-presence.result.status }))
+            c.self.view_is c.mutator_set_bits-found.ensures.same
+            (after_begin c.self.invariant.0 c.presence_of-presence.result
+            c.presence_of-presence.ensures.presence may
             c.mutator_set_bits-found.ensures.step).view,
       );
     }

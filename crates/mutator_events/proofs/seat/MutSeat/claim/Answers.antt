@@ -53,7 +53,8 @@ pub invariant_of-self : goal.invariant_of-self
 invariant_of-self g c =
     let may = within (λ v. MayClaim v c.args.cell) c.self.view_is c.requires.may in
     let seat = c.self.inside in (
-      subst (λ (cells : List ℕ). IsMutator c.mutator_exchange-number.new.seat.me seat.number seat.room cells None
+      subst (λ (cells : List ℕ). IsMutator c.mutator_exchange-number.new.seat.me seat.number
+          seat.room cells None
           seat.inside seat.status (seat.claims + 1)) (sym c.push_reserved.ensures.items)
           (after_claim c.self.invariant.0 c.args.cell c.colour_of-found.result
           c.colour_of-found.ensures.colour may c.mutator_exchange-number.ensures.step c.in-Blue.is).keeps,
@@ -75,7 +76,8 @@ returns-in-Blue g c =
       told = (
         colour.Blue,
         refl,
-        seat_told c.mutator_exchange-number.new.seat (λ v. event.Claim v.number c.args.cell)
+        seat_told c.mutator_exchange-number.new.seat
+            (λ v. event.Claim v.number c.args.cell)
             (λ v. finds.Colour colour.Blue) c.self.view_is c.mutator_exchange-number.ensures.same
             (after_claim c.self.invariant.0 c.args.cell c.colour_of-found.result
             c.colour_of-found.ensures.colour may c.mutator_exchange-number.ensures.step c.in-Blue.is).view,
@@ -89,8 +91,10 @@ returns-in-White g c =
       told = (
         c.colour_of-found.result,
         sym other,
-        seat_told c.mutator_exchange-number.new.seat (λ v. event.Claim v.number c.args.cell)
-            (λ v. finds.Colour c.colour_of-found.result) c.self.view_is c.mutator_exchange-number.ensures.same
+        seat_told c.mutator_exchange-number.new.seat
+            (λ v. event.Claim v.number c.args.cell)
+            (λ v. finds.Colour c.colour_of-found.result) c.self.view_is
+            c.mutator_exchange-number.ensures.same
             (after_miss c.self.invariant.0 c.args.cell c.colour_of-found.result
             c.colour_of-found.ensures.colour c.mutator_exchange-number.ensures.step other).view,
       );

@@ -1,15 +1,14 @@
-use Rattle.std.proofs.Common.{◌≡◌, ◌∙◌, ◌+◌, ℕ, true, false, List}
+use Rattle.std.proofs.Common.{◌≡◌, ℕ, true, false, List}
 use Rattle.std.proofs.Common.{None, Some, refl, sym, ap, subst, arith}
 use Rattle.core_machine.specs.declared.events.Event.TheVariants as event
 use Rattle.core_machine.specs.declared.events.Found.TheVariants as finds
-use Rattle.core_machine.specs.Table.{StatusOf}
 use Rattle.core_machine.specs.WordOperations.{KeepBits, all_but_inside}
 use Rattle.heap_rule.proofs.Owing.{owes_end}
 use Rattle.mutator_events.specs.Seats.{IsMutator}
 use Rattle.mutator_events.proofs.Calls.{after_end}
 use Rattle.mutator_events.proofs.Calls.{seat_told}
 use Rattle.mutator_events.proofs.Calls.{within}
-use Rattle.mutator_events.proofs.Owed.{owed_as, still_as}
+use Rattle.mutator_events.proofs.Owed.{status_owed, still_as}
 use Rattle.mutator_events.proofs.seat.MutSeat.end.Goals as goal
 
 pub mutator_keep_bits-requires-clause-made : goal.mutator_keep_bits-requires-clause-made
@@ -19,8 +18,8 @@ mutator_keep_bits-requires-clause-made g c =
 pub mutator_keep_bits-requires-clause-kind : goal.mutator_keep_bits-requires-clause-kind
 mutator_keep_bits-requires-clause-kind g c =
     let may = within (λ v. v.presence.inside ≡ true) c.self.view_is c.requires.inside in
-    owed_as g.P.Keeping.fixed c.self.invariant.0 (λ n. event.End n) (StatusOf c.self.inside.seat.me.number)
-    (KeepBits all_but_inside) (KeepBits all_but_inside) (ap (λ (n : ℕ). 1 + n) c.self.invariant.0.number_is ∙ sym c.status_word-word.ensures.word) refl
+    status_owed g.P.Keeping.fixed c.self.invariant.0 (λ n. event.End n) (KeepBits all_but_inside)
+    c.status_word-word.ensures.word
     (λ s l mine. owes_end g.P.Keeping.fixed c.self.inside.seat.me s l mine may)
 
 pub mutator_keep_bits-requires-clause-rule : goal.mutator_keep_bits-requires-clause-rule
@@ -32,8 +31,10 @@ pub invariant_of-self : goal.invariant_of-self
 invariant_of-self g c =
     let may = within (λ v. v.presence.inside ≡ true) c.self.view_is c.requires.inside in
     let seat = c.self.inside in (
-      subst (λ (cells : List ℕ). IsMutator c.mutator_keep_bits.new.seat.me seat.number seat.room cells None false
-          seat.status seat.claims) (sym c.clear.ensures.items) (after_end c.self.invariant.0 may c.mutator_keep_bits.ensures.step).keeps,
+      subst (λ (cells : List ℕ). IsMutator c.mutator_keep_bits.new.seat.me seat.number seat.room
+          cells None false
+          seat.status seat.claims) (sym c.clear.ensures.items)
+          (after_end c.self.invariant.0 may c.mutator_keep_bits.ensures.step).keeps,
       omega (arith, c.self.invariant.1, c.clear.ensures.capacity),
     )
 

@@ -20,20 +20,24 @@ mutator_store-requires-clause-made g c =
 
 pub mutator_store-requires-clause-kind : goal.mutator_store-requires-clause-kind
 mutator_store-requires-clause-kind g c =
-    let may = within (λ v. MayFill v c.args.place c.args.field (field_at v.own.held c.args.value)) c.self.view_is c.requires.may in
+    let may = within (λ v. MayFill v c.args.place c.args.field (field_at v.own.held c.args.value))
+    c.self.view_is c.requires.may in
     fill_owed g.P.Keeping.fixed c.self.invariant.0 c.args.place c.args.field
     (same_within (λ v. field_at v.own.held c.args.value) c.self.view_is
     c.stands_for-value.ensures.field)
-    (sym (same_within (λ v. index_of v.shape.mutators (FieldOf (target v c.args.place) c.args.field))
+    (sym (same_within (λ v. index_of v.shape.mutators
+    (FieldOf (target v c.args.place) c.args.field))
     c.self.view_is c.field_at-word.ensures.word))
     c.pack_field-new.ensures.word may
 
 pub mutator_store-requires-clause-rule : goal.mutator_store-requires-clause-rule
 mutator_store-requires-clause-rule g c =
-    fill_picked g.P.Keeping.fixed c.self.invariant.0 g.P.Keeping.holds g.P.Keeping.shrinks g.C.Choice.next c.args.place c.args.field
+    fill_picked g.P.Keeping.fixed c.self.invariant.0 g.P.Keeping.holds g.P.Keeping.shrinks
+    g.C.Choice.next c.args.place c.args.field
     (same_within (λ v. field_at v.own.held c.args.value) c.self.view_is
     c.stands_for-value.ensures.field)
-    (within (λ v. Picks g.P.Keeping.holds g.P.Keeping.fixed g.C.Choice.next v (fill_of v c.args.place c.args.field c.args.value)) c.self.view_is c.requires.rule)
+    (within (λ v. Picks g.P.Keeping.holds g.P.Keeping.fixed g.C.Choice.next v
+    (fill_of v c.args.place c.args.field c.args.value)) c.self.view_is c.requires.rule)
 
 pub invariant_of-self : goal.invariant_of-self
 invariant_of-self g c = (

@@ -42,7 +42,8 @@ pub returns : goal.returns
 returns g c =
     record {
       told = seat_told c.mutator_load-found.new.seat (λ v. event.Look v.number)
-          (λ v. finds.Control c.control_of-control.result) c.self.view_is c.mutator_load-found.ensures.same
+          (λ v. finds.Control c.control_of-control.result) c.self.view_is
+          c.mutator_load-found.ensures.same
           (after_look c.self.invariant.0 c.control_of-control.result
           c.control_of-control.ensures.control c.mutator_load-found.ensures.step).view;
     }

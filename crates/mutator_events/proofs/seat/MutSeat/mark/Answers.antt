@@ -30,8 +30,10 @@ mutator_exchange-requires-clause-rule g c =
     (event.Mark c.self.inside.number c.args.place) (λ s l. refl)
 
 pub invariant_of-self : goal.invariant_of-self
-invariant_of-self g c =
-    ((after_mark c.self.invariant.0 c.args.place c.mutator_exchange.ensures.step).1.keeps, c.self.invariant.1)
+invariant_of-self g c = (
+  (after_mark c.self.invariant.0 c.args.place c.mutator_exchange.ensures.step).1.keeps,
+  c.self.invariant.1,
+)
 
 pub returns : goal.returns
 returns g c =

@@ -29,14 +29,17 @@ mutator_load-number-requires-clause-kind g c =
     let me = c.self.inside.seat.me in
     owed_as g.P.Keeping.fixed c.self.invariant.0 (λ n. event.Read n c.args.place c.args.field)
     (FieldOf (target me c.args.place) c.args.field) Load Load
-    (sym (same_within (λ v. index_of v.shape.mutators (FieldOf (target v c.args.place) c.args.field))
+    (sym (same_within (λ v. index_of v.shape.mutators
+    (FieldOf (target v c.args.place) c.args.field))
     c.self.view_is c.field_at-word.ensures.word))
     refl (λ s l mine. owes_read g.P.Keeping.fixed me s l mine c.args.place c.args.field may)
 
 pub mutator_load-number-requires-clause-rule : goal.mutator_load-number-requires-clause-rule
 mutator_load-number-requires-clause-rule g c =
-    picked_as g.P.Keeping.fixed c.self.invariant.0 g.P.Keeping.holds g.P.Keeping.shrinks g.C.Choice.next (λ n. event.Read n c.args.place c.args.field)
-    (within (λ v. Picks g.P.Keeping.holds g.P.Keeping.fixed g.C.Choice.next v (event.Read v.number c.args.place c.args.field)) c.self.view_is c.requires.rule)
+    picked_as g.P.Keeping.fixed c.self.invariant.0 g.P.Keeping.holds g.P.Keeping.shrinks
+    g.C.Choice.next (λ n. event.Read n c.args.place c.args.field)
+    (within (λ v. Picks g.P.Keeping.holds g.P.Keeping.fixed g.C.Choice.next v
+    (event.Read v.number c.args.place c.args.field)) c.self.view_is c.requires.rule)
 
 pub field_of-found-requires : goal.field_of-found-requires
 field_of-found-requires g c =
@@ -46,8 +49,10 @@ pub invariant_of-self : goal.invariant_of-self
 invariant_of-self g c =
     let may = within (λ v. MayRead v c.args.place c.args.field) c.self.view_is c.requires.may in
     let seat = c.self.inside in (
-      subst (λ (cells : List ℕ). IsMutator c.mutator_load-number.new.seat.me seat.number seat.room cells seat.mode
-          seat.inside seat.status seat.claims) (sym c.hold_found.ensures.cells) (after_read c.self.invariant.0 c.args.place c.args.field c.field_of-found.result
+      subst (λ (cells : List ℕ). IsMutator c.mutator_load-number.new.seat.me seat.number seat.room
+          cells seat.mode
+          seat.inside seat.status seat.claims) (sym c.hold_found.ensures.cells)
+          (after_read c.self.invariant.0 c.args.place c.args.field c.field_of-found.result
           c.field_of-found.ensures.field may c.mutator_load-number.ensures.step).keeps,
       omega (arith, c.self.invariant.1, c.hold_found.ensures.capacity),
     )
@@ -55,12 +60,15 @@ invariant_of-self g c =
 pub returns-clause-told : goal.returns-clause-told
 returns-clause-told g c =
     let may = within (λ v. MayRead v c.args.place c.args.field) c.self.view_is c.requires.may in
-    let many = held_many c.self.inside.seat.me.own.held c.self.inside.held.items c.self.invariant.0.own.held_is
+    let many = held_many c.self.inside.seat.me.own.held c.self.inside.held.items
+    c.self.invariant.0.own.held_is
     ∙ ap (λ (s : SeatView _). length s.me.own.held) c.self.view_is in (
       c.field_of-found.result,
       c.hold_found.ensures.value ∙ ap (λ (n : ℕ). value_found n c.field_of-found.result) many,
       without (λ v. AtEvent g.P.Keeping.holds g.P.Keeping.fixed v
-          (event.Read v.number c.args.place c.args.field) g.C.Choice.next (finds.Field c.field_of-found.result)
-          c.mutator_load-number.new.seat.me) c.self.view_is (after_read c.self.invariant.0 c.args.place c.args.field c.field_of-found.result
+          (event.Read v.number c.args.place c.args.field) g.C.Choice.next
+          (finds.Field c.field_of-found.result)
+          c.mutator_load-number.new.seat.me) c.self.view_is
+          (after_read c.self.invariant.0 c.args.place c.args.field c.field_of-found.result
           c.field_of-found.ensures.field may c.mutator_load-number.ensures.step).event,
     )

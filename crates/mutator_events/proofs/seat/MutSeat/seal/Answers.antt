@@ -32,8 +32,10 @@ mutator_store-requires-clause-rule g c =
     (event.Seal c.self.inside.number c.args.place c.args.kind) (λ s l. refl)
 
 pub invariant_of-self : goal.invariant_of-self
-invariant_of-self g c =
-    ((after_seal c.self.invariant.0 c.args.place c.args.kind c.mutator_store.ensures.step).keeps, c.self.invariant.1)
+invariant_of-self g c = (
+  (after_seal c.self.invariant.0 c.args.place c.args.kind c.mutator_store.ensures.step).keeps,
+  c.self.invariant.1,
+)
 
 pub returns : goal.returns
 returns g c =

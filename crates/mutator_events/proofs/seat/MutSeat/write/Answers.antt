@@ -13,8 +13,7 @@ use Rattle.mutator_events.proofs.Calls.{same_within}
 use Rattle.mutator_events.proofs.Calls.{within, without}
 use Rattle.mutator_events.proofs.Founds.{other_field}
 use Rattle.mutator_events.proofs.Founds.{write_word}
-use Rattle.mutator_events.proofs.Owed.{write_owed}
-use Rattle.mutator_events.proofs.Owed.{write_picked}
+use Rattle.mutator_events.proofs.Owed.{write_owed, write_picked}
 use Rattle.mutator_events.proofs.seat.MutSeat.write.Goals.{then-number-expected}
 use Rattle.mutator_events.proofs.seat.MutSeat.write.Goals.{else-number-expected}
 use Rattle.mutator_events.proofs.seat.MutSeat.write.Goals as goal
@@ -25,24 +24,29 @@ mutator_exchange-number-requires-clause-made g c =
 
 pub mutator_exchange-number-requires-clause-kind : goal.mutator_exchange-number-requires-clause-kind
 mutator_exchange-number-requires-clause-kind g c =
-    let may = within (λ v. MayWrite g.P.Keeping.fixed v c.args.place c.args.field (field_at v.own.held c.args.old) (field_at v.own.held c.args.new)) c.self.view_is c.requires.may in
+    let may = within (λ v. MayWrite g.P.Keeping.fixed v c.args.place c.args.field
+    (field_at v.own.held c.args.old) (field_at v.own.held c.args.new)) c.self.view_is
+    c.requires.may in
     write_owed g.P.Keeping.fixed c.self.invariant.0 c.args.place c.args.field
     (same_within (λ v. field_at v.own.held c.args.old) c.self.view_is
     c.stands_for-old.ensures.field)
     (same_within (λ v. field_at v.own.held c.args.new) c.self.view_is
     c.stands_for-new.ensures.field)
-    (sym (same_within (λ v. index_of v.shape.mutators (FieldOf (target v c.args.place) c.args.field))
+    (sym (same_within (λ v. index_of v.shape.mutators
+    (FieldOf (target v c.args.place) c.args.field))
     c.self.view_is c.field_at-word.ensures.word))
     c.pack_field-expected.ensures.word c.pack_field-written.ensures.word may
 
 pub mutator_exchange-number-requires-clause-rule : goal.mutator_exchange-number-requires-clause-rule
 mutator_exchange-number-requires-clause-rule g c =
-    write_picked g.P.Keeping.fixed c.self.invariant.0 g.P.Keeping.holds g.P.Keeping.shrinks g.C.Choice.next c.args.place c.args.field
+    write_picked g.P.Keeping.fixed c.self.invariant.0 g.P.Keeping.holds g.P.Keeping.shrinks
+    g.C.Choice.next c.args.place c.args.field
     (same_within (λ v. field_at v.own.held c.args.old) c.self.view_is
     c.stands_for-old.ensures.field)
     (same_within (λ v. field_at v.own.held c.args.new) c.self.view_is
     c.stands_for-new.ensures.field)
-    (within (λ v. Picks g.P.Keeping.holds g.P.Keeping.fixed g.C.Choice.next v (write_of v c.args.place c.args.field c.args.old c.args.new)) c.self.view_is c.requires.rule)
+    (within (λ v. Picks g.P.Keeping.holds g.P.Keeping.fixed g.C.Choice.next v
+    (write_of v c.args.place c.args.field c.args.old c.args.new)) c.self.view_is c.requires.rule)
 
 pub field_of-found-requires : goal.field_of-found-requires
 field_of-found-requires g c =
@@ -74,7 +78,8 @@ returns-clause-made g c =
       | then-number-expected w ↦
           rw w.result-is
           (subst (λ (x : Field). AtEvent g.P.Keeping.holds g.P.Keeping.fixed c.args.self.now.me
-          (write_of c.args.self.now.me c.args.place c.args.field c.args.old c.args.new) g.C.Choice.next (finds.Field x) c.mutator_exchange-number.new.seat.me)
+          (write_of c.args.self.now.me c.args.place c.args.field c.args.old c.args.new)
+          g.C.Choice.next (finds.Field x) c.mutator_exchange-number.new.seat.me)
           (c.field_of-found.ensures.field c.stands_for-old.result c.stands_for-old.ensures.valid
           (sym (w.if-number-expected.true ∙ c.pack_field-expected.ensures.word))
           ∙ c.stands_for-old.ensures.field) here)
@@ -96,7 +101,8 @@ returns-clause-moved g c =
       | then-number-expected w ↦ rw w.result-is tt
       | else-number-expected w ↦
           rw w.result-is (
-            ap (λ (x : Field). same_field c.field_of-found.result x) (sym c.stands_for-old.ensures.field)
+            ap (λ (x : Field). same_field c.field_of-found.result x)
+                (sym c.stands_for-old.ensures.field)
                 ∙ other_field c.field_of-found.ensures.field c.mutator_exchange-number.ensures.step
                 (λ same. w.if-number-expected.false (same ∙ sym c.pack_field-expected.ensures.word)),
             here,
