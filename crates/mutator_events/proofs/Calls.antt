@@ -1,7 +1,7 @@
 -- Behind each call of a mutator's seat: the view is the one before, told the event and what it
 -- found, and the run-time parts that the call leaves say of it what they ought to.
 use Rattle.std.proofs.Common.{◌≡◌, ◌<◌, ◌+◌, ◌^◌, ℕ, Bool, true, false, List, [], ◌∷◌, ◌++◌}
-use Rattle.std.proofs.Common.{length, refl, sym, ◌∙◌, ap, subst, arith, Option, Some, None}
+use Rattle.std.proofs.Common.{refl, sym, ◌∙◌, ap, subst, arith, Option, Some, None}
 use Rattle.cell_words.specs.Colour.{pack_colour_of}
 use Rattle.cell_words.specs.Control.{IsValidControl, pack_control_of}
 use Rattle.cell_words.specs.Field.{IsValidField, pack_field_of}
@@ -31,9 +31,9 @@ use Rattle.heap_table.specs.Seats.{SeatView}
 use Rattle.mutator_events.specs.Events.{AtEvent, tells, tells_with}
 use Rattle.mutator_events.specs.Seats.{IsMutator}
 use Rattle.mutator_events.specs.Values.{cells_kept, cells_read}
-use Rattle.mutator_events.proofs.Founds.{at_event, begin_found, begin_status, claim_found}
+use Rattle.mutator_events.proofs.Founds.{at_event, begin_found, claim_found}
 use Rattle.mutator_events.proofs.Founds.{claims_fit, end_found, keep_found, look_found, over_found}
-use Rattle.mutator_events.proofs.Founds.{read_found, read_named, renumbered, there_valid}
+use Rattle.mutator_events.proofs.Founds.{read_found, read_named, renumbered}
 use Rattle.mutator_events.proofs.Founds.{write_found}
 use Rattle.mutator_events.proofs.HeldCells.{held_many}
 use Rattle.mutator_events.proofs.Keeping.{answer_keeps, begin_keeps, claim_keeps, end_keeps}
@@ -41,268 +41,237 @@ use Rattle.mutator_events.proofs.Keeping.{fill_keeps, keep_keeps, look_keeps, ma
 use Rattle.mutator_events.proofs.Keeping.{missed_keeps, over_keeps, read_keeps, seal_keeps}
 use Rattle.mutator_events.proofs.Keeping.{write_keeps}
 
+-- What a clause says of the seat as its caller has it is so of the seat within, and back.
+
+pub within : {P : Type 0} {seat now : SeatView P} (C : View P → Type 0) → seat ≡ now → C now.me
+    → C seat.me
+within C is h = subst (λ (s : SeatView _). C s.me) (sym is) h
+
+pub without : {P : Type 0} {seat now : SeatView P} (C : View P → Type 0) → seat ≡ now → C seat.me
+    → C now.me
+without C is h = subst (λ (s : SeatView _). C s.me) is h
+
+pub same_within : {P A : Type 0} {seat now : SeatView P} {x : A} (f : View P → A) → seat ≡ now
+    → x ≡ f now.me → x ≡ f seat.me
+same_within f is same = same ∙ ap (λ (s : SeatView _). f s.me) (sym is)
+
 -- the seat is told what its view is
-pub seat_told : {P : Type 0} (seat now new : SeatView P) (make : View P → Event)
+pub seat_told : {P : Type 0} {seat now : SeatView P} (new : SeatView P) (make : View P → Event)
     (found : View P → Found) → seat ≡ now → new.table ≡ seat.table
     → new.me ≡ told seat.me (make seat.me) (found seat.me) nothing_learned seat.me.pass
     → new ≡ tells now (make now.me) (found now.me)
-seat_told seat now new make found is table me =
+seat_told new make found is table me =
     (λ t. record { table = table t; me = me t })
     ∙ ap (λ (s : SeatView _). tells s (make s.me) (found s.me)) is
 
-module _ {P : Type 0} (holds : Map → List P → Type 0) (fixed : ℕ → Bool) (v w : View P)
-    (i number room : ℕ) (held : List ℕ) (mode : Option Control) (inside : Bool) (status : Status)
-    (claims : ℕ) (m : IsMutator v i room held mode inside status claims) where
-  -- what the view is behind a call, and what is kept
-  pub record Behind (e : Event) (found : Found) (cells : List ℕ) (looked : Option Control)
-      (is_in : Bool) (own : Status) (many : ℕ) : Type 0 where
-    pub view : w ≡ told v e found nothing_learned v.pass
-    pub keeps : IsMutator w i room cells looked is_in own many
+-- and where a pass was picked
+pub seat_told_with : {P : Type 0} {seat now : SeatView P} (new : SeatView P)
+    (make : View P → Event) (found : Found) (pass : P → P) → seat ≡ now → new.table ≡ seat.table
+    → new.me ≡ told seat.me (make seat.me) found nothing_learned (pass seat.me.pass)
+    → new ≡ tells_with now (make now.me) found (pass now.me.pass)
+seat_told_with new make found pass is table me =
+    (λ t. record { table = table t; me = me t })
+    ∙ ap (λ (s : SeatView _). tells_with s (make s.me) found (pass s.me.pass)) is
 
-  behind : (e : Event) (found : Found) (cells : List ℕ) (looked : Option Control) (is_in : Bool)
-      (own : Status) (many : ℕ) → w ≡ told v e found nothing_learned v.pass
-      → IsMutator (told v e found nothing_learned v.pass) i room cells looked is_in own many
-      → Behind e found cells looked is_in own many
-  behind e found cells looked is_in own many view keeps = record {
+-- The view w behind an event, and what the seat has at run time.
+pub record Behind {P : Type 0} (v w : View P) (e : Event) (found : Found) (i room : ℕ)
+    (held : List ℕ) (mode : Option Control) (inside : Bool) (status : Status)
+    (claims : ℕ) : Type 0 where
+  pub view : w ≡ told v e found nothing_learned v.pass
+  pub keeps : IsMutator w i room held mode inside status claims
+
+-- The same where the client picks its pass, and the state at the step is shown.
+pub record Seen {P : Type 0} (holds : Map → List P → Type 0) (fixed : ℕ → Bool)
+    (next : Learned → Found → P → P) (v w : View P) (e : Event) (found : Found) (i room : ℕ)
+    (held : List ℕ) (mode : Option Control) (inside : Bool) (status : Status)
+    (claims : ℕ) : Type 0 where
+  pub event : AtEvent holds fixed v e next found w
+  pub keeps : IsMutator w i room held mode inside status claims
+
+module _ {P : Type 0} {v w : View P} {e : Event} {found : Found} {i room : ℕ} {held : List ℕ}
+    {mode : Option Control} {inside : Bool} {status : Status} {claims : ℕ} where
+  behind : w ≡ told v e found nothing_learned v.pass
+      → IsMutator (told v e found nothing_learned v.pass) i room held mode inside status claims
+      → Behind v w e found i room held mode inside status claims
+  behind view keeps = record {
     view = view;
-    keeps = subst (λ (u : View P). IsMutator u i room cells looked is_in own many) (sym view) keeps;
+    keeps = subst (λ (u : View P). IsMutator u i room held mode inside status claims) (sym view)
+        keeps;
   }
 
+module _ {P : Type 0} {holds : Map → List P → Type 0} {fixed : ℕ → Bool}
+    {next : Learned → Found → P → P} {v w : View P} {e : Event} {found : Found} {i room : ℕ}
+    {held : List ℕ} {mode : Option Control} {inside : Bool} {status : Status} {claims : ℕ} where
+  seen : AtEvent holds fixed v e next found w
+      → ((k : Learned) (p : P) → IsMutator (told v e found k p) i room held mode inside status
+      claims)
+      → Seen holds fixed next v w e found i room held mode inside status claims
+  seen at keeps = record {
+    event = at;
+    keeps = subst (λ (u : View P). IsMutator u i room held mode inside status claims) (sym at.new)
+        (keeps _ _);
+  }
+
+module _ {P : Type 0} {holds : Map → List P → Type 0} {fixed : ℕ → Bool} {v w : View P}
+    {i number room : ℕ} {held : List ℕ} {mode : Option Control} {inside : Bool} {status : Status}
+    {claims : ℕ} (m : IsMutator v i room held mode inside status claims) where
   pub after_look : (control : Control)
       → ((other : Control) → IsValidControl other → pack_control_of other ≡ number
       → control ≡ other)
       → AtStep holds fixed v (event.Look i) same_pass number w
-      → Behind (event.Look v.number) (finds.Control control) held (Some control) inside status claims
+      → Behind v w (event.Look v.number) (finds.Control control) i room held (Some control) inside
+      status claims
   after_look control is at =
-      let here = renumbered holds fixed same_pass v w i number (λ n. event.Look n) m.number_is at in
-      behind (event.Look v.number) (finds.Control control) held (Some control) inside status claims
-      (at_event holds fixed same_pass v w v.number number (event.Look v.number)
-      (finds.Control control) here
-      (look_found holds fixed same_pass v w v.number number control is here)).new
-      (look_keeps v i room held mode inside status claims m v.number nothing_learned v.pass control)
+      let here = renumbered i (λ n. event.Look n) m.number_is at in
+      behind (at_event (event.Look v.number) (finds.Control control) here
+      (look_found control is here)).new
+      (look_keeps m v.number nothing_learned v.pass control)
 
   pub after_begin : (presence : Presence)
       → ((other : Presence) → is_valid_presence other ≡ true → pack_presence_of other ≡ number
-      → presence ≡ other) → MayComeIn v
-      → AtStep holds fixed v (event.Begin i) same_pass number w
-      → Behind (event.Begin v.number)
-      (finds.Presence (record v.presence { status = presence.status })) (0 ∷ []) None true
+      → presence ≡ other)
+      → MayComeIn v → AtStep holds fixed v (event.Begin i) same_pass number w
+      → Behind v w (event.Begin v.number)
+      (finds.Presence (record v.presence { status = presence.status })) i room (0 ∷ []) None true
       presence.status claims
   after_begin presence is may at =
-      let here = renumbered holds fixed same_pass v w i number (λ n. event.Begin n) m.number_is at in
-      let found = begin_found holds fixed same_pass v w v.number number presence is here in
-      behind (event.Begin v.number) (finds.Presence (record v.presence { status = presence.status }))
-      (0 ∷ []) None true presence.status claims
-      (at_event holds fixed same_pass v w v.number number (event.Begin v.number)
-      (finds.Presence (record v.presence { status = presence.status })) here
-      (begin_status holds fixed same_pass v w v.number number presence here found
-      (is (presence_of here.core v.number)
-      (there_valid holds fixed same_pass v w v.number number (event.Begin v.number) here)
-      here.says))).new
-      (begin_keeps v i room held mode inside status claims m v.number nothing_learned v.pass
-      (record v.presence { status = presence.status }) may.not_over
-      (subst (λ (n : ℕ). 0 < n) here.mine.cells
-      here.mine.shown.shaped.cells_fit.some_cells))
+      let here = renumbered i (λ n. event.Begin n) m.number_is at in
+      let found = record v.presence { status = presence.status } in
+      behind (at_event (event.Begin v.number) (finds.Presence found) here
+      (begin_found presence is here)).new
+      (begin_keeps m v.number nothing_learned v.pass found may.not_over
+      (subst (λ (n : ℕ). 0 < n) here.mine.cells here.mine.shown.shaped.cells_fit.some_cells))
 
-  pub after_over : (at : AtStep holds fixed v (event.Over i) same_pass number w) → MayComeIn v
-      → (own : Status) × Behind (event.Over v.number)
-      (finds.Presence (record v.presence { status = own })) held mode inside status claims
-  after_over at may =
-      let here = renumbered holds fixed same_pass v w i number (λ n. event.Over n) m.number_is at in
+  pub after_over : MayComeIn v → (at : AtStep holds fixed v (event.Over i) same_pass number w)
+      → (own : Status) × Behind v w (event.Over v.number)
+      (finds.Presence (record v.presence { status = own })) i room held mode inside status claims
+  after_over may at =
+      let here = renumbered i (λ n. event.Over n) m.number_is at in
       let own = (presence_of here.core v.number).status in
       let found = finds.Presence (record v.presence { status = own }) in (
         own,
-        behind (event.Over v.number) found held mode inside status claims
-            (at_event holds fixed same_pass v w v.number number (event.Over v.number) found here
-            (over_found holds fixed same_pass v w v.number number here)).new
-            (over_keeps v i room held mode inside status claims m v.number nothing_learned v.pass found
-            (sym m.inside_is ∙ may.out)),
+        behind (at_event (event.Over v.number) found here (over_found here)).new
+            (over_keeps m v.number nothing_learned v.pass found
+            (sym m.presence.inside_is ∙ may.out)),
       )
 
   pub after_end : v.presence.inside ≡ true
       → AtStep holds fixed v (event.End i) same_pass number w
-      → Behind (event.End v.number) (finds.Presence v.presence) [] None false status claims
+      → Behind v w (event.End v.number) (finds.Presence v.presence) i room [] None false status
+      claims
   after_end is_in at =
-      let here = renumbered holds fixed same_pass v w i number (λ n. event.End n) m.number_is at in
-      behind (event.End v.number) (finds.Presence v.presence) [] None false status claims
-      (at_event holds fixed same_pass v w v.number number (event.End v.number)
-      (finds.Presence v.presence) here
-      (end_found holds fixed same_pass v w v.number number is_in here)).new
-      (end_keeps v i room held mode inside status claims m v.number nothing_learned v.pass
-      (finds.Presence v.presence))
+      let here = renumbered i (λ n. event.End n) m.number_is at in
+      behind (at_event (event.End v.number) (finds.Presence v.presence) here
+      (end_found is_in here)).new
+      (end_keeps m v.number nothing_learned v.pass (finds.Presence v.presence))
 
   pub after_keep : (n from copies : ℕ) → MayKeep v n from copies
       → AtStep holds fixed v (event.Keep i n from copies) same_pass number w
-      → Behind (event.Keep v.number n from copies) (finds.Presence v.presence)
+      → Behind v w (event.Keep v.number n from copies) (finds.Presence v.presence) i room
       (cells_kept held n from copies) mode inside status claims
   after_keep n from copies may at =
-      let here = renumbered holds fixed same_pass v w i number (λ k. event.Keep k n from copies)
-      m.number_is at in
-      let many = held_many v.own.held held m.held_is in
-      behind (event.Keep v.number n from copies) (finds.Presence v.presence)
-      (cells_kept held n from copies) mode inside status claims
-      (at_event holds fixed same_pass v w v.number number (event.Keep v.number n from copies)
-      (finds.Presence v.presence) here
-      (keep_found holds fixed same_pass v w v.number number n from copies may.inside here)).new
-      (keep_keeps v i room held mode inside status claims m v.number nothing_learned v.pass n from
-      copies (finds.Presence v.presence) (omega (arith, many, may.kept))
-      (omega (arith, many, may.copied))
+      let here = renumbered i (λ k. event.Keep k n from copies) m.number_is at in
+      let many = held_many v.own.held held m.own.held_is in
+      behind (at_event (event.Keep v.number n from copies) (finds.Presence v.presence) here
+      (keep_found n from copies may.inside here)).new
+      (keep_keeps m v.number nothing_learned v.pass n from copies (finds.Presence v.presence)
+      (omega (arith, many, may.kept)) (omega (arith, many, may.copied))
       (omega (arith, may.room, m.room_is)))
 
   pub after_seal : (place : ℕ) (of : Kind)
       → AtStep holds fixed v (event.Seal i place of) same_pass number w
-      → Behind (event.Seal v.number place of) finds.Stored held mode inside status claims
+      → Behind v w (event.Seal v.number place of) finds.Stored i room held mode inside status claims
   after_seal place of at =
-      let here = renumbered holds fixed same_pass v w i number (λ n. event.Seal n place of)
-      m.number_is at in
-      behind (event.Seal v.number place of) finds.Stored held mode inside status claims
-      (at_event holds fixed same_pass v w v.number number (event.Seal v.number place of)
-      finds.Stored here refl).new
-      (seal_keeps v i room held mode inside status claims m v.number nothing_learned v.pass place of
-      finds.Stored)
+      let here = renumbered i (λ n. event.Seal n place of) m.number_is at in
+      behind (at_event (event.Seal v.number place of) finds.Stored here refl).new
+      (seal_keeps m v.number nothing_learned v.pass place of finds.Stored)
+
+  pub after_mark : (place : ℕ) → AtStep holds fixed v (event.Mark i place) same_pass number w
+      → (found : Colour) × Behind v w (event.Mark v.number place) (finds.Colour found) i room held
+      mode inside status claims
+  after_mark place at =
+      let here = renumbered i (λ n. event.Mark n place) m.number_is at in
+      let found = colour_of here.core (target_of here.core v.number place) in (
+        found,
+        behind (at_event (event.Mark v.number place) (finds.Colour found) here refl).new
+            (mark_keeps m v.number nothing_learned v.pass place (finds.Colour found)),
+      )
+
+  pub after_answer : AtStep holds fixed v (event.Answer i) same_pass number w
+      → Behind v w (event.Answer v.number) finds.Stored i room held None inside
+      (next_status_of status) claims
+  after_answer at =
+      let here = renumbered i (λ n. event.Answer n) m.number_is at in
+      behind (at_event (event.Answer v.number) finds.Stored here refl).new
+      (answer_keeps m v.number nothing_learned v.pass finds.Stored)
+
+  -- A claim: of a blue cell, and of another.
 
   pub after_claim : (c : ℕ) (found : Colour)
       → ((other : Colour) → pack_colour_of other ≡ number → found ≡ other) → MayClaim v c
       → AtStep holds fixed v (event.Claim i c) same_pass number w → found ≡ colour.Blue
-      → Behind (event.Claim v.number c) (finds.Colour colour.Blue) (held ++ c ∷ []) None inside
-      status (claims + 1)
+      → Behind v w (event.Claim v.number c) (finds.Colour colour.Blue) i room (held ++ c ∷ []) None
+      inside status (claims + 1)
   after_claim c found is may at blue =
-      let here = renumbered holds fixed same_pass v w i number (λ n. event.Claim n c) m.number_is at
-      in
-      behind (event.Claim v.number c) (finds.Colour colour.Blue) (held ++ c ∷ []) None inside status
-      (claims + 1)
-      (at_event holds fixed same_pass v w v.number number (event.Claim v.number c)
-      (finds.Colour colour.Blue) here
-      (claim_found holds fixed same_pass v w v.number number c found is here
-      ∙ ap (λ (x : Colour). finds.Colour x) blue)).new
-      (claim_keeps v i room held mode inside status claims m v.number nothing_learned v.pass c
-      may.cell (free may.room))
-    where
-      free : length v.own.held < v.room → length held < room
-      free lt = let many = held_many v.own.held held m.held_is in omega (arith, many, lt, m.room_is)
+      let here = renumbered i (λ n. event.Claim n c) m.number_is at in
+      let many = held_many v.own.held held m.own.held_is in
+      behind (at_event (event.Claim v.number c) (finds.Colour colour.Blue) here
+      (claim_found c found is here ∙ ap (λ (x : Colour). finds.Colour x) blue)).new
+      (claim_keeps m v.number nothing_learned v.pass c may.cell
+      (omega (arith, many, may.room, m.room_is)))
 
   pub after_miss : (c : ℕ) (found : Colour)
       → ((other : Colour) → pack_colour_of other ≡ number → found ≡ other)
       → AtStep holds fixed v (event.Claim i c) same_pass number w → is_blue found ≡ false
-      → Behind (event.Claim v.number c) (finds.Colour found) held mode inside status claims
+      → Behind v w (event.Claim v.number c) (finds.Colour found) i room held mode inside status
+      claims
   after_miss c found is at other =
-      let here = renumbered holds fixed same_pass v w i number (λ n. event.Claim n c) m.number_is at
-      in
-      behind (event.Claim v.number c) (finds.Colour found) held mode inside status claims
-      (at_event holds fixed same_pass v w v.number number (event.Claim v.number c)
-      (finds.Colour found) here
-      (claim_found holds fixed same_pass v w v.number number c found is here)).new
-      (missed_keeps v i room held mode inside status claims m v.number nothing_learned v.pass c
-      found other)
+      let here = renumbered i (λ n. event.Claim n c) m.number_is at in
+      behind (at_event (event.Claim v.number c) (finds.Colour found) here
+      (claim_found c found is here)).new
+      (missed_keeps m v.number nothing_learned v.pass c found other)
 
   -- one claim more may be counted
   pub claims_more : (e : Event) → AtStep holds fixed v e same_pass number w → claims + 1 < 2 ^ 64
-  claims_more e at =
-      let fits = claims_fit holds fixed same_pass v w i number e at in
-      omega (arith, fits, m.claims_is)
+  claims_more e at = let fits = claims_fit e at in omega (arith, fits, m.own.claims_is)
 
-  pub after_mark : (place : ℕ)
-      → AtStep holds fixed v (event.Mark i place) same_pass number w
-      → (found : Colour) × Behind (event.Mark v.number place) (finds.Colour found) held mode inside
-      status claims
-  after_mark place at =
-      let here = renumbered holds fixed same_pass v w i number (λ n. event.Mark n place) m.number_is
-      at in
-      let found = colour_of here.core (target_of here.core v.number place) in (
-        found,
-        behind (event.Mark v.number place) (finds.Colour found) held mode inside status claims
-            (at_event holds fixed same_pass v w v.number number (event.Mark v.number place)
-            (finds.Colour found) here refl).new
-            (mark_keeps v i room held mode inside status claims m v.number nothing_learned v.pass place
-            (finds.Colour found)),
-      )
+  module _ {next : Learned → Found → P → P} where
+    pub after_read : (place f : ℕ) (field : Field)
+        → ((other : Field) → IsValidField other → pack_field_of other ≡ number → field ≡ other)
+        → MayRead v place f → AtStep holds fixed v (event.Read i place f) next number w
+        → Seen holds fixed next v w (event.Read v.number place f) (finds.Field field) i room
+        (cells_read held field) mode inside status claims
+    after_read place f field is may at =
+        let here = renumbered i (λ n. event.Read n place f) m.number_is at in
+        let many = held_many v.own.held held m.own.held_is in
+        seen (at_event (event.Read v.number place f) (finds.Field field) here
+        (read_found place f field is here))
+        (λ k p. read_keeps m v.number k p place f field (read_named place f field here is)
+        (omega (arith, many, may.room, m.room_is)))
 
-  pub after_answer : AtStep holds fixed v (event.Answer i) same_pass number w
-      → Behind (event.Answer v.number) finds.Stored held None inside (next_status_of status) claims
-  after_answer at =
-      let here = renumbered holds fixed same_pass v w i number (λ n. event.Answer n) m.number_is at
-      in
-      behind (event.Answer v.number) finds.Stored held None inside (next_status_of status) claims
-      (at_event holds fixed same_pass v w v.number number (event.Answer v.number) finds.Stored here
-      refl).new
-      (answer_keeps v i room held mode inside status claims m v.number nothing_learned v.pass
-      finds.Stored)
+    pub after_write : {old new old_run new_run : Field} (place f : ℕ) (field : Field)
+        → old_run ≡ old → new_run ≡ new
+        → ((other : Field) → IsValidField other → pack_field_of other ≡ number → field ≡ other)
+        → AtStep holds fixed v (event.Write i place f old_run new_run) next number w
+        → Seen holds fixed next v w (event.Write v.number place f old new) (finds.Field field) i
+        room held None inside status claims
+    after_write {old} {new} {old_run} {new_run} place f field old_is new_is is at =
+        let there = subst (λ (x : Field). AtStep holds fixed v (event.Write i place f old x) next
+        number w) new_is
+        (subst (λ (x : Field). AtStep holds fixed v (event.Write i place f x new_run) next number w)
+        old_is at) in
+        let here = renumbered i (λ n. event.Write n place f old new) m.number_is there in
+        seen (at_event (event.Write v.number place f old new) (finds.Field field) here
+        (write_found place f old new field is here))
+        (λ k p. write_keeps m v.number k p place f old new (finds.Field field))
 
--- Where the client picks its pass, and the state at the step is shown.
-
-module _ {P : Type 0} (holds : Map → List P → Type 0) (fixed : ℕ → Bool)
-    (next : Learned → Found → P → P) (v w : View P) (i number room : ℕ) (held : List ℕ)
-    (mode : Option Control) (inside : Bool) (status : Status) (claims : ℕ)
-    (m : IsMutator v i room held mode inside status claims) where
-  pub record Seen (e : Event) (found : Found) (cells : List ℕ) (looked : Option Control)
-      : Type 0 where
-    pub event : AtEvent holds fixed v e next found w
-    pub keeps : IsMutator w i room cells looked inside status claims
-
-  seen : (e : Event) (found : Found) (cells : List ℕ) (looked : Option Control)
-      → AtEvent holds fixed v e next found w
-      → ((k : Learned) (p : P) → IsMutator (told v e found k p) i room cells looked inside status
-      claims)
-      → Seen e found cells looked
-  seen e found cells looked at keeps = record {
-    event = at;
-    keeps = subst (λ (u : View P). IsMutator u i room cells looked inside status claims)
-        (sym at.new) (keeps _ _);
-  }
-
-  pub after_read : (place f : ℕ) (field : Field)
-      → ((other : Field) → IsValidField other → pack_field_of other ≡ number → field ≡ other)
-      → MayRead v place f → AtStep holds fixed v (event.Read i place f) next number w
-      → Seen (event.Read v.number place f) (finds.Field field) (cells_read held field) mode
-  after_read place f field is may at =
-      let here = renumbered holds fixed next v w i number (λ n. event.Read n place f) m.number_is at
-      in
-      let many = held_many v.own.held held m.held_is in
-      seen (event.Read v.number place f) (finds.Field field) (cells_read held field) mode
-      (at_event holds fixed next v w v.number number (event.Read v.number place f)
-      (finds.Field field) here (read_found holds fixed next v w v.number number place f field is here))
-      (λ k p. read_keeps v i room held mode inside status claims m v.number k p place f field
-      (read_named holds fixed next v w v.number number place f field here is)
-      (omega (arith, many, may.room, m.room_is)))
-
-  pub after_write : (place f : ℕ) (old new old_run new_run field : Field) → old_run ≡ old
-      → new_run ≡ new
-      → ((other : Field) → IsValidField other → pack_field_of other ≡ number → field ≡ other)
-      → AtStep holds fixed v (event.Write i place f old_run new_run) next number w
-      → Seen (event.Write v.number place f old new) (finds.Field field) held None
-  after_write place f old new old_run new_run field old_is new_is is at =
-      let there = subst (λ (x : Field). AtStep holds fixed v (event.Write i place f old x) next
-      number w) new_is
-      (subst (λ (x : Field). AtStep holds fixed v (event.Write i place f x new_run) next number w)
-      old_is at) in
-      let here = renumbered holds fixed next v w i number (λ n. event.Write n place f old new)
-      m.number_is there in
-      seen (event.Write v.number place f old new) (finds.Field field) held None
-      (at_event holds fixed next v w v.number number (event.Write v.number place f old new)
-      (finds.Field field) here
-      (write_found holds fixed next v w v.number number place f old new field is here))
-      (λ k p. write_keeps v i room held mode inside status claims m v.number k p place f old new
-      (finds.Field field))
-
-  pub after_fill : (place f : ℕ) (value at_run : Field) → at_run ≡ value
-      → AtStep holds fixed v (event.Fill i place f at_run) next number w
-      → Seen (event.Fill v.number place f value) finds.Stored held mode
-  after_fill place f value at_run is at =
-      let there = subst (λ (x : Field). AtStep holds fixed v (event.Fill i place f x) next number w)
-      is at in
-      let here = renumbered holds fixed next v w i number (λ n. event.Fill n place f value)
-      m.number_is there in
-      seen (event.Fill v.number place f value) finds.Stored held mode
-      (at_event holds fixed next v w v.number number (event.Fill v.number place f value)
-      finds.Stored here refl)
-      (λ k p. fill_keeps v i room held mode inside status claims m v.number k p place f value
-      finds.Stored)
-
--- the seat, where a pass was picked
-pub seat_told_with : {P : Type 0} (seat now new : SeatView P) (make : View P → Event)
-    (found : Found) (pass : P → P) → seat ≡ now → new.table ≡ seat.table
-    → new.me ≡ told seat.me (make seat.me) found nothing_learned (pass seat.me.pass)
-    → new ≡ tells_with now (make now.me) found (pass now.me.pass)
-seat_told_with seat now new make found pass is table me =
-    (λ t. record { table = table t; me = me t })
-    ∙ ap (λ (s : SeatView _). tells_with s (make s.me) found (pass s.me.pass)) is
+    pub after_fill : {value at_run : Field} (place f : ℕ) → at_run ≡ value
+        → AtStep holds fixed v (event.Fill i place f at_run) next number w
+        → Seen holds fixed next v w (event.Fill v.number place f value) finds.Stored i room held
+        mode inside status claims
+    after_fill {value} place f is at =
+        let there = subst (λ (x : Field). AtStep holds fixed v (event.Fill i place f x) next number
+        w) is at in
+        let here = renumbered i (λ n. event.Fill n place f value) m.number_is there in
+        seen (at_event (event.Fill v.number place f value) finds.Stored here refl)
+        (λ k p. fill_keeps m v.number k p place f value finds.Stored)

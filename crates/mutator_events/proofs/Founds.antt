@@ -61,8 +61,28 @@ stage_low stage.Sync2 = omega arith
 stage_low stage.Trace = omega arith
 stage_low stage.Sweep = omega arith
 
-module _ {P : Type 0} (holds : Map → List P → Type 0) (fixed : ℕ → Bool)
-    (next : Learned → Found → P → P) (v w : View P) (i number : ℕ) where
+-- what a mutator knows of its presence: all but the status
+known_presence : {P : Type 0} (fixed : ℕ → Bool) (v : View P) (s : State) (l : Lore)
+    → Mine fixed v s l
+    → presence_of s v.number ≡ record v.presence { status = (presence_of s v.number).status }
+known_presence fixed v s l mine = λ t. record {
+  status = (presence_of s v.number).status;
+  inside = sym mine.presence.inside t;
+  over = sym mine.presence.over t;
+}
+
+-- and while it is in all of it
+inside_presence : {P : Type 0} (fixed : ℕ → Bool) (v : View P) (s : State) (l : Lore)
+    → Mine fixed v s l → v.presence.inside ≡ true → presence_of s v.number ≡ v.presence
+inside_presence fixed v s l mine inside = λ t. record {
+  status = sym (mine.presence.status inside) t;
+  inside = sym mine.presence.inside t;
+  over = sym mine.presence.over t;
+}
+
+module _ {P : Type 0} {holds : Map → List P → Type 0} {fixed : ℕ → Bool}
+    {next : Learned → Found → P → P} {v w : View P} {number : ℕ} where
+  -- what was found has a word
   pub there_valid : (e : Event) (at : AtStep holds fixed v e next number w)
       → IsValidFound (found_by at.core e)
   there_valid e at =
@@ -85,93 +105,72 @@ module _ {P : Type 0} (holds : Map → List P → Type 0) (fixed : ℕ → Bool)
   }
 
   -- the maker's number at run time is the view's
-  pub renumbered : (make : ℕ → Event) → v.number ≡ i → AtStep holds fixed v (make i) next number w
+  pub renumbered : (i : ℕ) (make : ℕ → Event) → v.number ≡ i
+      → AtStep holds fixed v (make i) next number w
       → AtStep holds fixed v (make v.number) next number w
-  renumbered make is at = subst (λ (n : ℕ). AtStep holds fixed v (make n) next number w) (sym is) at
+  renumbered i make is at = subst (λ (n : ℕ). AtStep holds fixed v (make n) next number w)
+      (sym is) at
 
   -- Controls.
 
-  pub look_word : AtStep holds fixed v (event.Look i) next number w → IsControlWord number
-  look_word at = (at.core.control, there_valid (event.Look i) at, at.says)
+  pub look_word : {i : ℕ} → AtStep holds fixed v (event.Look i) next number w
+      → IsControlWord number
+  look_word {i} at = (at.core.control, there_valid (event.Look i) at, at.says)
 
-  pub look_found : (control : Control)
+  pub look_found : {i : ℕ} (control : Control)
       → ((other : Control) → IsValidControl other → pack_control_of other ≡ number
       → control ≡ other)
       → (at : AtStep holds fixed v (event.Look i) next number w)
       → found_by at.core (event.Look i) ≡ finds.Control control
-  look_found control is at =
+  look_found {i} control is at =
       ap (λ (c : Control). finds.Control c)
       (sym (is at.core.control (there_valid (event.Look i) at) at.says))
 
   -- Presences.
 
-  pub begin_word : AtStep holds fixed v (event.Begin i) next number w → IsPresenceWord number
-  begin_word at = (presence_of at.core i, there_valid (event.Begin i) at, at.says)
+  pub begin_word : {i : ℕ} → AtStep holds fixed v (event.Begin i) next number w
+      → IsPresenceWord number
+  begin_word {i} at = (presence_of at.core i, there_valid (event.Begin i) at, at.says)
 
   pub begin_found : (presence : Presence)
       → ((other : Presence) → is_valid_presence other ≡ true → pack_presence_of other ≡ number
       → presence ≡ other)
-      → (at : AtStep holds fixed v (event.Begin i) next number w)
-      → found_by at.core (event.Begin i) ≡ finds.Presence presence
-  begin_found presence is at =
-      ap (λ (p : Presence). finds.Presence p)
-      (sym (is (presence_of at.core i) (there_valid (event.Begin i) at) at.says))
-
-  -- what a mutator knows of its presence: all but the status
-  known_presence : (s : State) (l : Lore) → Mine fixed v s l
-      → presence_of s v.number
-      ≡ record v.presence { status = (presence_of s v.number).status }
-  known_presence s l mine = λ t. record {
-    status = (presence_of s v.number).status;
-    inside = sym mine.presence.inside t;
-    over = sym mine.presence.over t;
-  }
-
-  -- and while it is in all of it
-  inside_presence : (s : State) (l : Lore) → Mine fixed v s l → v.presence.inside ≡ true
-      → presence_of s v.number ≡ v.presence
-  inside_presence s l mine inside = λ t. record {
-    status = sym (mine.presence.status inside) t;
-    inside = sym mine.presence.inside t;
-    over = sym mine.presence.over t;
-  }
-
-  pub begin_status : (presence : Presence)
       → (at : AtStep holds fixed v (event.Begin v.number) next number w)
-      → found_by at.core (event.Begin v.number) ≡ finds.Presence presence
-      → presence ≡ presence_of at.core v.number
       → found_by at.core (event.Begin v.number)
       ≡ finds.Presence (record v.presence { status = presence.status })
-  begin_status presence at is same =
+  begin_found presence is at =
       ap (λ (p : Presence). finds.Presence p)
-      (known_presence at.core at.lore at.mine
-      ∙ ap (λ (p : Presence). record v.presence { status = p.status }) (sym same))
+      (known_presence fixed v at.core at.lore at.mine
+      ∙ ap (λ (p : Presence). record v.presence { status = p.status })
+      (sym (is (presence_of at.core v.number) (there_valid (event.Begin v.number) at) at.says)))
 
   pub over_found : (at : AtStep holds fixed v (event.Over v.number) next number w)
       → found_by at.core (event.Over v.number)
       ≡ finds.Presence (record v.presence { status = (presence_of at.core v.number).status })
   over_found at =
-      ap (λ (p : Presence). finds.Presence p) (known_presence at.core at.lore at.mine)
+      ap (λ (p : Presence). finds.Presence p) (known_presence fixed v at.core at.lore at.mine)
 
   pub end_found : v.presence.inside ≡ true
       → (at : AtStep holds fixed v (event.End v.number) next number w)
       → found_by at.core (event.End v.number) ≡ finds.Presence v.presence
   end_found inside at =
-      ap (λ (p : Presence). finds.Presence p) (inside_presence at.core at.lore at.mine inside)
+      ap (λ (p : Presence). finds.Presence p)
+      (inside_presence fixed v at.core at.lore at.mine inside)
 
   pub keep_found : (n from copies : ℕ) → v.presence.inside ≡ true
       → (at : AtStep holds fixed v (event.Keep v.number n from copies) next number w)
       → found_by at.core (event.Keep v.number n from copies) ≡ finds.Presence v.presence
   keep_found n from copies inside at =
-      ap (λ (p : Presence). finds.Presence p) (inside_presence at.core at.lore at.mine inside)
+      ap (λ (p : Presence). finds.Presence p)
+      (inside_presence fixed v at.core at.lore at.mine inside)
 
   -- Colours.
 
-  pub claim_word : (c : ℕ) → AtStep holds fixed v (event.Claim i c) next number w
+  pub claim_word : {i c : ℕ} → AtStep holds fixed v (event.Claim i c) next number w
       → IsColourWord number
-  claim_word c at = (colour_of at.core c, at.says)
+  claim_word {i} {c} at = (colour_of at.core c, at.says)
 
-  pub claim_found : (c : ℕ) (colour : Colour)
+  pub claim_found : {i : ℕ} (c : ℕ) (colour : Colour)
       → ((other : Colour) → pack_colour_of other ≡ number → colour ≡ other)
       → (at : AtStep holds fixed v (event.Claim i c) next number w)
       → found_by at.core (event.Claim i c) ≡ finds.Colour colour
@@ -184,8 +183,9 @@ module _ {P : Type 0} (holds : Map → List P → Type 0) (fixed : ℕ → Bool)
       let s = at.core in
       let r = in_range fixed v s at.lore at.mine in
       let counts = r.shape.counts_fit in
-      let valid = found_valid s (event.Look i) r at.mine.shown.words in
-      let many = mul-le s.control.cycles s.cells 4000000000 greatest_cells valid.cycles r.few_cells in
+      let valid = found_valid s (event.Look 0) r at.mine.shown.words in
+      let many = mul-le s.control.cycles s.cells 4000000000 greatest_cells valid.cycles
+      r.few_cells in
       let own = ap (λ (o : Own). o.claims) at.mine.own in
       let swept = swept_low s.control.position s.collector.sweep in
       let position = stage_low s.control.stage in
@@ -203,55 +203,58 @@ module _ {P : Type 0} (holds : Map → List P → Type 0) (fixed : ℕ → Bool)
 
   -- Fields.
 
-  pub read_word : (place f : ℕ) → AtStep holds fixed v (event.Read i place f) next number w
+  pub read_word : {i place f : ℕ} → AtStep holds fixed v (event.Read i place f) next number w
       → IsFieldWord number
-  read_word place f at =
-      (field_of at.core (target_of at.core i place) f, there_valid (event.Read i place f) at, at.says)
+  read_word {i} {place} {f} at = (
+    field_of at.core (target_of at.core i place) f,
+    there_valid (event.Read i place f) at,
+    at.says,
+  )
 
-  pub read_found : (place f : ℕ) (field : Field)
+  pub read_found : {i : ℕ} (place f : ℕ) (field : Field)
       → ((other : Field) → IsValidField other → pack_field_of other ≡ number → field ≡ other)
       → (at : AtStep holds fixed v (event.Read i place f) next number w)
       → found_by at.core (event.Read i place f) ≡ finds.Field field
-  read_found place f field is at =
+  read_found {i} place f field is at =
       ap (λ (x : Field). finds.Field x)
       (sym (is (field_of at.core (target_of at.core i place) f)
       (there_valid (event.Read i place f) at) at.says))
 
   -- it names a cell of the heap, or none
-  pub read_named : (place f : ℕ) (field : Field)
+  pub read_named : {i : ℕ} (place f : ℕ) (field : Field)
       → (at : AtStep holds fixed v (event.Read i place f) next number w)
       → ((other : Field) → IsValidField other → pack_field_of other ≡ number → field ≡ other)
       → NamesBelow v.shape.cells field
-  read_named place f field at is =
+  read_named {i} place f field at is =
       let there = field_of at.core (target_of at.core i place) f in
       subst (λ (x : Field). NamesBelow v.shape.cells x)
       (sym (is there (there_valid (event.Read i place f) at) at.says))
       (subst (λ (n : ℕ). NamesBelow n there) at.mine.cells
       (at.mine.shown.shaped.names_fit.fields_fit (target_of at.core i place) f))
 
-  pub write_word : (place f : ℕ) (old new : Field)
+  pub write_word : {i place f : ℕ} {old new : Field}
       → AtStep holds fixed v (event.Write i place f old new) next number w → IsFieldWord number
-  write_word place f old new at = (
+  write_word {i} {place} {f} {old} {new} at = (
     field_of at.core (target_of at.core i place) f,
     there_valid (event.Write i place f old new) at,
     at.says,
   )
 
-  pub write_found : (place f : ℕ) (old new field : Field)
+  pub write_found : {i : ℕ} (place f : ℕ) (old new field : Field)
       → ((other : Field) → IsValidField other → pack_field_of other ≡ number → field ≡ other)
       → (at : AtStep holds fixed v (event.Write i place f old new) next number w)
       → found_by at.core (event.Write i place f old new) ≡ finds.Field field
-  write_found place f old new field is at =
+  write_found {i} place f old new field is at =
       ap (λ (x : Field). finds.Field x)
       (sym (is (field_of at.core (target_of at.core i place) f)
       (there_valid (event.Write i place f old new) at) at.says))
 
   -- the words of another field are other ones
-  pub other_field : (place f : ℕ) (old new field : Field)
+  pub other_field : {i place f : ℕ} {old new field : Field}
       → ((other : Field) → IsValidField other → pack_field_of other ≡ number → field ≡ other)
       → (at : AtStep holds fixed v (event.Write i place f old new) next number w)
       → number ≢ pack_field_of old → same_field field old ≡ false
-  other_field place f old new field is at other =
+  other_field {i} {place} {f} {old} {new} {field} is at other =
       let there = field_of at.core (target_of at.core i place) f in
       let valid = there_valid (event.Write i place f old new) at in
       ap (λ (x : Field). same_field x old) (is there valid at.says)

@@ -1,7 +1,7 @@
 -- What the run-time parts of a mutator's seat say of its view stands behind each event of it, with
 -- the parts that the call leaves.
 use Rattle.std.proofs.Common.{◌≡◌, ◌<◌, ◌≤◌, ◌+◌, ℕ, Bool, true, false, List, [], ◌∷◌, ◌++◌}
-use Rattle.std.proofs.Common.{length, refl, sym, ◌∙◌, ap, arith, Option, Some, None}
+use Rattle.std.proofs.Common.{length, refl, sym, ◌∙◌, ap, subst, arith, Option, Some, None}
 use Rattle.std.proofs.lemmas.List.{length-append}
 use Rattle.std.proofs.lemmas.List.Elements.{All-nil, All-cons, All-push}
 use Rattle.cell_words.specs.Modes.{next_status_of}
@@ -16,286 +16,208 @@ use Rattle.cell_words.specs.declared.presences.Status.{Status}
 use Rattle.core_machine.specs.declared.events.Event.TheVariants as event
 use Rattle.core_machine.specs.declared.events.Found.{Found}
 use Rattle.core_machine.specs.declared.events.Found.TheVariants as finds
+use Rattle.core_machine.specs.declared.events.Taken.{Taken}
 use Rattle.core_machine.specs.InRange.{NamesBelow}
 use Rattle.core_machine.specs.Own.{Own, having_claimed, having_read}
 use Rattle.core_machine.specs.Places.{cell_at}
 use Rattle.core_machine.specs.Words.{is_blue}
+use Rattle.heap_rule.specs.declared.known.Known.{Known}
 use Rattle.heap_rule.specs.declared.known.Learned.{Learned}
 use Rattle.heap_rule.specs.declared.view.View.{View}
 use Rattle.heap_rule.specs.Lore.{cells_in}
 use Rattle.heap_rule.specs.Rule.{told}
 use Rattle.heap_rule.proofs.Quiet.{cells_marked, cells_unmarked}
 use Rattle.heap_rule.proofs.Reading.{cells_more}
-use Rattle.mutator_events.specs.Seats.{IsMutator}
+use Rattle.mutator_events.specs.Seats.{HasOwn, HasPresence, IsMutator}
 use Rattle.mutator_events.specs.Values.{cells_kept, cells_read}
-use Rattle.mutator_events.proofs.HeldCells.{cells_kept_are, kept_below, kept_many, read_below, read_many}
+use Rattle.mutator_events.proofs.HeldCells.{cells_kept_are, kept_below, kept_many, read_below}
+use Rattle.mutator_events.proofs.HeldCells.{read_many}
 
-module _ {P : Type 0} (v : View P) (number room : ℕ) (held : List ℕ) (mode : Option Control)
-    (inside : Bool) (status : Status) (claims : ℕ)
-    (m : IsMutator v number room held mode inside status claims) (i : ℕ) (k : Learned) (p : P) where
-  -- who has come in holds the anchor alone
-  pub begin_keeps : (found : Presence) → v.presence.over ≡ false → 0 < v.shape.cells
-      → IsMutator (told v (event.Begin i) (finds.Presence found) k p) number room (0 ∷ []) None true
-      found.status claims
-  begin_keeps found over some = record {
+-- what a read holds, and that it leaves mode and claims
+read_own : (own : Own) (found : Field) → (cells_in (having_read own found).held
+    ≡ cells_read (cells_in own.held) found) × ((having_read own found).mode ≡ own.mode)
+    × ((having_read own found).claims ≡ own.claims)
+read_own own field.Null = (refl, refl, refl)
+read_own own (field.Num n) = (refl, refl, refl)
+read_own own (field.Cell c) = (cells_more own.held c, refl, refl)
+
+-- a claim of a cell that was not blue leaves the own part
+missed_own : (own : Own) (c : ℕ) (found : Colour) → is_blue found ≡ false
+    → having_claimed own c found ≡ own
+missed_own own c colour.Blue other = let no = other in absurd cc
+missed_own own c colour.White other = refl
+missed_own own c colour.Gray other = refl
+missed_own own c colour.Black other = refl
+
+module _ {P : Type 0} {v : View P} {number room : ℕ} {held : List ℕ} {mode : Option Control}
+    {inside : Bool} {status : Status} {claims : ℕ}
+    (m : IsMutator v number room held mode inside status claims) where
+  -- whatever an event tells, shape, role, number and room stay
+  told_keeps : {own : Own} {presence : Presence} {known : List Known} {pass : P}
+      {trail : List Taken} {cells : List ℕ} {looked : Option Control} {is_in : Bool}
+      {answered : Status} {many : ℕ} → HasOwn v.shape.cells room own cells looked many
+      → HasPresence presence is_in answered
+      → IsMutator (record v {
+        own = own;
+        presence = presence;
+        known = known;
+        pass = pass;
+        trail = trail;
+      }) number room cells looked is_in answered many
+  told_keeps own presence = record {
     role_is = m.role_is;
     number_is = m.number_is;
     number_below = m.number_below;
     room_is = m.room_is;
     some_room = m.some_room;
-    held_is = refl;
-    held_below = All-cons (λ c. c < v.shape.cells) 0 [] some (All-nil (λ c. c < v.shape.cells));
-    held_fits = m.some_room;
-    mode_is = refl;
-    claims_is = m.claims_is;
-    inside_is = refl;
-    status_is = λ is. refl;
-    not_over = λ is. over;
+    own = own;
+    presence = presence;
   }
 
-  pub end_keeps : (found : Found)
-      → IsMutator (told v (event.End i) found k p) number room [] None false status claims
-  end_keeps found = record {
-    role_is = m.role_is;
-    number_is = m.number_is;
-    number_below = m.number_below;
-    room_is = m.room_is;
-    some_room = m.some_room;
-    held_is = refl;
-    held_below = All-nil (λ c. c < v.shape.cells);
-    held_fits = omega arith;
-    mode_is = refl;
-    claims_is = m.claims_is;
-    inside_is = refl;
-    status_is = λ is. let no = is in absurd cc;
-    not_over = λ is. let no = is in absurd cc;
+  -- the same cells, with other marks and another mode
+  own_moved : {own : Own} (looked : Option Control) → cells_in own.held ≡ cells_in v.own.held
+      → own.mode ≡ looked → own.claims ≡ v.own.claims
+      → HasOwn v.shape.cells room own held looked claims
+  own_moved looked cells mode_is claims_is = record {
+    held_is = cells ∙ m.own.held_is;
+    held_below = m.own.held_below;
+    held_fits = m.own.held_fits;
+    mode_is = mode_is;
+    claims_is = claims_is ∙ m.own.claims_is;
   }
 
-  pub over_keeps : (found : Found) → inside ≡ false
-      → IsMutator (told v (event.Over i) found k p) number room held mode inside status claims
-  over_keeps found out = record {
-    role_is = m.role_is;
-    number_is = m.number_is;
-    number_below = m.number_below;
-    room_is = m.room_is;
-    some_room = m.some_room;
-    held_is = m.held_is;
-    held_below = m.held_below;
-    held_fits = m.held_fits;
-    mode_is = m.mode_is;
-    claims_is = m.claims_is;
-    inside_is = m.inside_is;
-    status_is = m.status_is;
-    not_over = λ is. let no = sym out ∙ is in absurd cc;
-  }
+  module _ (i : ℕ) (k : Learned) (p : P) where
+    -- who has come in holds the anchor alone
+    pub begin_keeps : (found : Presence) → v.presence.over ≡ false → 0 < v.shape.cells
+        → IsMutator (told v (event.Begin i) (finds.Presence found) k p) number room (0 ∷ []) None
+        true found.status claims
+    begin_keeps found over some = told_keeps
+        record {
+          held_is = refl;
+          held_below = All-cons (λ c. c < v.shape.cells) 0 [] some
+              (All-nil (λ c. c < v.shape.cells));
+          held_fits = m.some_room;
+          mode_is = refl;
+          claims_is = m.own.claims_is;
+        }
+        record { inside_is = refl; status_is = λ is. refl; not_over = λ is. over }
 
-  pub look_keeps : (control : Control)
-      → IsMutator (told v (event.Look i) (finds.Control control) k p) number room held
-      (Some control) inside status claims
-  look_keeps control = record {
-    role_is = m.role_is;
-    number_is = m.number_is;
-    number_below = m.number_below;
-    room_is = m.room_is;
-    some_room = m.some_room;
-    held_is = cells_unmarked v.own.held ∙ m.held_is;
-    held_below = m.held_below;
-    held_fits = m.held_fits;
-    mode_is = refl;
-    claims_is = m.claims_is;
-    inside_is = m.inside_is;
-    status_is = m.status_is;
-    not_over = m.not_over;
-  }
+    pub end_keeps : (found : Found)
+        → IsMutator (told v (event.End i) found k p) number room [] None false status claims
+    end_keeps found = told_keeps
+        record {
+          held_is = refl;
+          held_below = All-nil (λ c. c < v.shape.cells);
+          held_fits = omega arith;
+          mode_is = refl;
+          claims_is = m.own.claims_is;
+        }
+        record {
+          inside_is = refl;
+          status_is = λ is. let no = is in absurd cc;
+          not_over = λ is. let no = is in absurd cc;
+        }
 
-  -- what a read holds, and that it leaves mode and claims
-  read_own : (own : Own) (found : Field) → (cells_in (having_read own found).held
-      ≡ cells_read (cells_in own.held) found) × ((having_read own found).mode ≡ own.mode)
-      × ((having_read own found).claims ≡ own.claims)
-  read_own own field.Null = (refl, refl, refl)
-  read_own own (field.Num n) = (refl, refl, refl)
-  read_own own (field.Cell c) = (cells_more own.held c, refl, refl)
+    pub over_keeps : (found : Found) → inside ≡ false
+        → IsMutator (told v (event.Over i) found k p) number room held mode inside status claims
+    over_keeps found out = told_keeps m.own
+        record {
+          inside_is = m.presence.inside_is;
+          status_is = m.presence.status_is;
+          not_over = λ is. let no = sym out ∙ is in absurd cc;
+        }
 
-  pub read_keeps : (place f : ℕ) (found : Field) → NamesBelow v.shape.cells found
-      → length held < room
-      → IsMutator (told v (event.Read i place f) (finds.Field found) k p) number room
-      (cells_read held found) mode inside status claims
-  read_keeps place f found named free = record {
-    role_is = m.role_is;
-    number_is = m.number_is;
-    number_below = m.number_below;
-    room_is = m.room_is;
-    some_room = m.some_room;
-    held_is = (read_own v.own found).0
-        ∙ ap (λ (cells : List ℕ). cells_read cells found) m.held_is;
-    held_below = read_below v.shape.cells held found named m.held_below;
-    held_fits = read_many held found room free;
-    mode_is = (read_own v.own found).1 ∙ m.mode_is;
-    claims_is = (read_own v.own found).2 ∙ m.claims_is;
-    inside_is = m.inside_is;
-    status_is = m.status_is;
-    not_over = m.not_over;
-  }
+    pub look_keeps : (control : Control)
+        → IsMutator (told v (event.Look i) (finds.Control control) k p) number room held
+        (Some control) inside status claims
+    look_keeps control =
+        told_keeps (own_moved (Some control) (cells_unmarked v.own.held) refl refl) m.presence
 
-  pub mark_keeps : (place : ℕ) (found : Found)
-      → IsMutator (told v (event.Mark i place) found k p) number room held mode inside status claims
-  mark_keeps place found = record {
-    role_is = m.role_is;
-    number_is = m.number_is;
-    number_below = m.number_below;
-    room_is = m.room_is;
-    some_room = m.some_room;
-    held_is = cells_marked (cell_at v.own.held place) v.own.held ∙ m.held_is;
-    held_below = m.held_below;
-    held_fits = m.held_fits;
-    mode_is = m.mode_is;
-    claims_is = m.claims_is;
-    inside_is = m.inside_is;
-    status_is = m.status_is;
-    not_over = m.not_over;
-  }
+    pub read_keeps : (place f : ℕ) (found : Field) → NamesBelow v.shape.cells found
+        → length held < room
+        → IsMutator (told v (event.Read i place f) (finds.Field found) k p) number room
+        (cells_read held found) mode inside status claims
+    read_keeps place f found named free =
+        let parts = read_own v.own found in
+        told_keeps
+        record {
+          held_is = parts.0 ∙ ap (λ (cells : List ℕ). cells_read cells found) m.own.held_is;
+          held_below = read_below v.shape.cells held found named m.own.held_below;
+          held_fits = read_many held found room free;
+          mode_is = parts.1 ∙ m.own.mode_is;
+          claims_is = parts.2 ∙ m.own.claims_is;
+        }
+        m.presence
 
-  pub write_keeps : (place f : ℕ) (old new : Field) (found : Found)
-      → IsMutator (told v (event.Write i place f old new) found k p) number room held None inside
-      status claims
-  write_keeps place f old new found = record {
-    role_is = m.role_is;
-    number_is = m.number_is;
-    number_below = m.number_below;
-    room_is = m.room_is;
-    some_room = m.some_room;
-    held_is = cells_unmarked v.own.held ∙ m.held_is;
-    held_below = m.held_below;
-    held_fits = m.held_fits;
-    mode_is = refl;
-    claims_is = m.claims_is;
-    inside_is = m.inside_is;
-    status_is = m.status_is;
-    not_over = m.not_over;
-  }
+    pub mark_keeps : (place : ℕ) (found : Found)
+        → IsMutator (told v (event.Mark i place) found k p) number room held mode inside status
+        claims
+    mark_keeps place found =
+        told_keeps
+        (own_moved mode (cells_marked (cell_at v.own.held place) v.own.held) m.own.mode_is refl)
+        m.presence
 
-  pub claim_keeps : (c : ℕ) → c < v.shape.cells → length held < room
-      → IsMutator (told v (event.Claim i c) (finds.Colour colour.Blue) k p) number room
-      (held ++ c ∷ []) None inside status (claims + 1)
-  claim_keeps c below free = record {
-    role_is = m.role_is;
-    number_is = m.number_is;
-    number_below = m.number_below;
-    room_is = m.room_is;
-    some_room = m.some_room;
-    held_is = cells_more v.own.held c ∙ ap (λ (cells : List ℕ). cells ++ c ∷ []) m.held_is;
-    held_below = All-push (λ c. c < v.shape.cells) held c m.held_below below;
-    held_fits = omega (arith, free, length-append held (c ∷ []));
-    mode_is = refl;
-    claims_is = ap (λ (n : ℕ). n + 1) m.claims_is;
-    inside_is = m.inside_is;
-    status_is = m.status_is;
-    not_over = m.not_over;
-  }
+    pub write_keeps : (place f : ℕ) (old new : Field) (found : Found)
+        → IsMutator (told v (event.Write i place f old new) found k p) number room held None inside
+        status claims
+    write_keeps place f old new found =
+        told_keeps (own_moved None (cells_unmarked v.own.held) refl refl) m.presence
 
-  -- a claim of a cell that was not blue leaves the own part
-  missed_own : (own : Own) (c : ℕ) (found : Colour) → is_blue found ≡ false
-      → having_claimed own c found ≡ own
-  missed_own own c colour.Blue other = let no = other in absurd cc
-  missed_own own c colour.White other = refl
-  missed_own own c colour.Gray other = refl
-  missed_own own c colour.Black other = refl
+    pub claim_keeps : (c : ℕ) → c < v.shape.cells → length held < room
+        → IsMutator (told v (event.Claim i c) (finds.Colour colour.Blue) k p) number room
+        (held ++ c ∷ []) None inside status (claims + 1)
+    claim_keeps c below free = told_keeps
+        record {
+          held_is = cells_more v.own.held c
+              ∙ ap (λ (cells : List ℕ). cells ++ c ∷ []) m.own.held_is;
+          held_below = All-push (λ c. c < v.shape.cells) held c m.own.held_below below;
+          held_fits = omega (arith, free, length-append held (c ∷ []));
+          mode_is = refl;
+          claims_is = ap (λ (n : ℕ). n + 1) m.own.claims_is;
+        }
+        m.presence
 
-  pub missed_keeps : (c : ℕ) (found : Colour) → is_blue found ≡ false
-      → IsMutator (told v (event.Claim i c) (finds.Colour found) k p) number room held mode inside
-      status claims
-  missed_keeps c found other =
-      let same = missed_own v.own c found other in
-      record {
-        role_is = m.role_is;
-        number_is = m.number_is;
-        number_below = m.number_below;
-        room_is = m.room_is;
-        some_room = m.some_room;
-        held_is = ap (λ (own : Own). cells_in own.held) same ∙ m.held_is;
-        held_below = m.held_below;
-        held_fits = m.held_fits;
-        mode_is = ap (λ (own : Own). own.mode) same ∙ m.mode_is;
-        claims_is = ap (λ (own : Own). own.claims) same ∙ m.claims_is;
-        inside_is = m.inside_is;
-        status_is = m.status_is;
-        not_over = m.not_over;
-      }
+    pub missed_keeps : (c : ℕ) (found : Colour) → is_blue found ≡ false
+        → IsMutator (told v (event.Claim i c) (finds.Colour found) k p) number room held mode
+        inside status claims
+    missed_keeps c found other =
+        told_keeps
+        (subst (λ (own : Own). HasOwn v.shape.cells room own held mode claims)
+        (sym (missed_own v.own c found other)) m.own)
+        m.presence
 
-  pub fill_keeps : (place f : ℕ) (value : Field) (found : Found)
-      → IsMutator (told v (event.Fill i place f value) found k p) number room held mode inside
-      status claims
-  fill_keeps place f value found = record {
-    role_is = m.role_is;
-    number_is = m.number_is;
-    number_below = m.number_below;
-    room_is = m.room_is;
-    some_room = m.some_room;
-    held_is = m.held_is;
-    held_below = m.held_below;
-    held_fits = m.held_fits;
-    mode_is = m.mode_is;
-    claims_is = m.claims_is;
-    inside_is = m.inside_is;
-    status_is = m.status_is;
-    not_over = m.not_over;
-  }
+    pub fill_keeps : (place f : ℕ) (value : Field) (found : Found)
+        → IsMutator (told v (event.Fill i place f value) found k p) number room held mode inside
+        status claims
+    fill_keeps place f value found = told_keeps m.own m.presence
 
-  pub seal_keeps : (place : ℕ) (of : Kind) (found : Found)
-      → IsMutator (told v (event.Seal i place of) found k p) number room held mode inside status
-      claims
-  seal_keeps place of found = record {
-    role_is = m.role_is;
-    number_is = m.number_is;
-    number_below = m.number_below;
-    room_is = m.room_is;
-    some_room = m.some_room;
-    held_is = m.held_is;
-    held_below = m.held_below;
-    held_fits = m.held_fits;
-    mode_is = m.mode_is;
-    claims_is = m.claims_is;
-    inside_is = m.inside_is;
-    status_is = m.status_is;
-    not_over = m.not_over;
-  }
+    pub seal_keeps : (place : ℕ) (of : Kind) (found : Found)
+        → IsMutator (told v (event.Seal i place of) found k p) number room held mode inside status
+        claims
+    seal_keeps place of found = told_keeps m.own m.presence
 
-  pub answer_keeps : (found : Found)
-      → IsMutator (told v (event.Answer i) found k p) number room held None inside
-      (next_status_of status) claims
-  answer_keeps found = record {
-    role_is = m.role_is;
-    number_is = m.number_is;
-    number_below = m.number_below;
-    room_is = m.room_is;
-    some_room = m.some_room;
-    held_is = cells_unmarked v.own.held ∙ m.held_is;
-    held_below = m.held_below;
-    held_fits = m.held_fits;
-    mode_is = refl;
-    claims_is = m.claims_is;
-    inside_is = m.inside_is;
-    status_is = λ is. ap (λ (x : Status). next_status_of x) (m.status_is is);
-    not_over = m.not_over;
-  }
+    pub answer_keeps : (found : Found)
+        → IsMutator (told v (event.Answer i) found k p) number room held None inside
+        (next_status_of status) claims
+    answer_keeps found = told_keeps
+        (own_moved None (cells_unmarked v.own.held) refl refl)
+        record {
+          inside_is = m.presence.inside_is;
+          status_is = λ is. ap (λ (x : Status). next_status_of x) (m.presence.status_is is);
+          not_over = m.presence.not_over;
+        }
 
-  pub keep_keeps : (n from copies : ℕ) (found : Found) → n ≤ length held
-      → from + copies ≤ length held → n + copies ≤ room
-      → IsMutator (told v (event.Keep i n from copies) found k p) number room
-      (cells_kept held n from copies) mode inside status claims
-  keep_keeps n from copies found first second fits = record {
-    role_is = m.role_is;
-    number_is = m.number_is;
-    number_below = m.number_below;
-    room_is = m.room_is;
-    some_room = m.some_room;
-    held_is = cells_kept_are v.own.held n from copies
-        ∙ ap (λ (cells : List ℕ). cells_kept cells n from copies) m.held_is;
-    held_below = kept_below (λ c. c < v.shape.cells) held n from copies m.held_below;
-    held_fits = omega (arith, fits, kept_many held n from copies first second);
-    mode_is = m.mode_is;
-    claims_is = m.claims_is;
-    inside_is = m.inside_is;
-    status_is = m.status_is;
-    not_over = m.not_over;
-  }
+    pub keep_keeps : (n from copies : ℕ) (found : Found) → n ≤ length held
+        → from + copies ≤ length held → n + copies ≤ room
+        → IsMutator (told v (event.Keep i n from copies) found k p) number room
+        (cells_kept held n from copies) mode inside status claims
+    keep_keeps n from copies found first second fits = told_keeps
+        record {
+          held_is = cells_kept_are v.own.held n from copies
+              ∙ ap (λ (cells : List ℕ). cells_kept cells n from copies) m.own.held_is;
+          held_below = kept_below (λ c. c < v.shape.cells) held n from copies m.own.held_below;
+          held_fits = omega (arith, fits, kept_many held n from copies first second);
+          mode_is = m.own.mode_is;
+          claims_is = m.own.claims_is;
+        }
+        m.presence

@@ -5,6 +5,7 @@ use Rattle.std.specs.Prelude.{ℕ, ◌≡◌, Bool, true, List}
 use mathlib.Core.Option.{some}
 use lib.ListN.{get_elem?}
 use Rattle.core_machine.specs.declared.events.Event.{Event}
+use Rattle.core_machine.specs.declared.events.Event.TheVariants as event
 use Rattle.core_machine.specs.declared.events.Found.{Found}
 use Rattle.core_machine.specs.Next.{can, found_by}
 use Rattle.core_machine.specs.State.{State}
@@ -15,6 +16,8 @@ use Rattle.heap_rule.specs.Lore.{Lore, learned, nothing_learned}
 use Rattle.heap_rule.specs.Rule.{told}
 use Rattle.heap_rule.specs.Steps.{Mine}
 use Rattle.heap_table.specs.Seats.{SeatView}
+use Rattle.mutator_events.specs.declared.values.Value.{Value}
+use Rattle.mutator_events.specs.Values.{field_at}
 
 module _ {P : Type 0} where
   -- The state, the lore and the passes at the step of an event: the client's rule stood on them,
@@ -38,3 +41,11 @@ module _ {P : Type 0} where
   -- and after one that picked a pass
   abbrev pub tells_with : SeatView P → Event → Found → P → SeatView P
   tells_with seat e found pass = record seat { me = told seat.me e found nothing_learned pass }
+
+  -- the events whose operands are values, as they stand for fields in this view
+  abbrev pub fill_of : View P → ℕ → ℕ → Value → Event
+  fill_of v place f value = event.Fill v.number place f (field_at v.own.held value)
+
+  abbrev pub write_of : View P → ℕ → ℕ → Value → Value → Event
+  write_of v place f old new =
+      event.Write v.number place f (field_at v.own.held old) (field_at v.own.held new)

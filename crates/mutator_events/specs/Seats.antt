@@ -2,11 +2,28 @@
 -- Source: this project's.
 use Rattle.std.specs.Prelude.{ℕ, ◌≡◌, ◌<◌, ◌≤◌, Bool, true, false, List, length, All, Option}
 use Rattle.cell_words.specs.declared.controls.Control.{Control}
+use Rattle.cell_words.specs.declared.presences.Presence.{Presence}
 use Rattle.cell_words.specs.declared.presences.Status.{Status}
+use Rattle.core_machine.specs.Own.{Own}
 use Rattle.heap_rule.specs.declared.view.Role.TheVariants as role
 use Rattle.heap_rule.specs.declared.view.View.{View}
 use Rattle.heap_rule.specs.Lore.{cells_in}
 use Rattle.heap_rule.specs.Moves.{given_view}
+
+-- the part that no word shows: its cells are cells of the heap, and no more than it has room for
+pub record HasOwn (cells room : ℕ) (own : Own) (held : List ℕ) (mode : Option Control)
+    (claims : ℕ) : Type 0 where
+  pub held_is : cells_in own.held ≡ held
+  pub held_below : All (λ c. c < cells) held
+  pub held_fits : length held ≤ room
+  pub mode_is : own.mode ≡ mode
+  pub claims_is : own.claims ≡ claims
+
+-- the presence: the status while it is in, since the collector may answer for it while it is out
+pub record HasPresence (presence : Presence) (inside : Bool) (status : Status) : Type 0 where
+  pub inside_is : presence.inside ≡ inside
+  pub status_is : inside ≡ true → presence.status ≡ status
+  pub not_over : inside ≡ true → presence.over ≡ false
 
 module _ {P : Type 0} where
   pub record IsMutator (me : View P) (number room : ℕ) (held : List ℕ) (mode : Option Control)
@@ -16,15 +33,8 @@ module _ {P : Type 0} where
     pub number_below : number < me.shape.mutators
     pub room_is : me.room ≡ room
     pub some_room : 1 ≤ room
-    pub held_is : cells_in me.own.held ≡ held
-    pub held_below : All (λ c. c < me.shape.cells) held
-    pub held_fits : length held ≤ room
-    pub mode_is : me.own.mode ≡ mode
-    pub claims_is : me.own.claims ≡ claims
-    pub inside_is : me.presence.inside ≡ inside
-    -- while it is in, since the collector may answer for it while it is out
-    pub status_is : inside ≡ true → me.presence.status ≡ status
-    pub not_over : inside ≡ true → me.presence.over ≡ false
+    pub own : HasOwn me.shape.cells room me.own held mode claims
+    pub presence : HasPresence me.presence inside status
 
   -- the view is what a mutator's seat is given when it is split off
   abbrev pub IsGiven : (ℕ → ℕ → P) → ℕ → ℕ → View P → Type 0

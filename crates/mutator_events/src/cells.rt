@@ -1,5 +1,6 @@
 //! The cells of a held list, place by place, as the seat has them. Their memory is reserved.
-ghost use Rattle.std.specs.Prelude.{length, slice_index_or, take, vec_capacity, IsTrue, ◌≡◌, ◌+◌, ◌<◌, ◌≤◌};
+ghost use Rattle.std.specs.Prelude.{◌≡◌, ◌+◌, ◌<◌, ◌≤◌, IsTrue};
+ghost use Rattle.std.specs.Prelude.{length, slice_index_or, take, vec_capacity};
 ghost use Rattle.cell_words.specs.Field.{IsValidField};
 ghost use Rattle.mutator_events.specs.Values.{cells_kept, cells_read, field_among, is_small};
 ghost use Rattle.mutator_events.specs.Values.{value_found};

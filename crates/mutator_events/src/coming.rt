@@ -30,7 +30,8 @@ impl<P: Keeping> MutSeat<P> {
     pub fn begin(&mut self, heap: &CellHeap<P>)
         requires seat { IsSeatOf heap.now self.old }
         requires may { MayComeIn self.old.me }
-        ensures told { (status : Status) × (self.new ≡ tells self.old (event.Begin self.old.me.number)
+        ensures told { (status : Status)
+            × (self.new ≡ tells self.old (event.Begin self.old.me.number)
             (finds.Presence (record self.old.me.presence { status = status }))) }
     {
         let word = status_word(heap, self.number);
@@ -52,7 +53,8 @@ impl<P: Keeping> MutSeat<P> {
     pub fn end(&mut self, heap: &CellHeap<P>)
         requires seat { IsSeatOf heap.now self.old }
         requires inside { self.old.me.presence.inside ≡ true }
-        ensures told { self.new ≡ tells self.old (event.End self.old.me.number) (finds.Presence self.old.me.presence) }
+        ensures told { self.new ≡ tells self.old (event.End self.old.me.number)
+            (finds.Presence self.old.me.presence) }
     {
         let word = status_word(heap, self.number);
         let _ = heap.mutator_keep_bits::<Brand>(
@@ -70,7 +72,8 @@ impl<P: Keeping> MutSeat<P> {
     pub fn over(&mut self, heap: &CellHeap<P>)
         requires seat { IsSeatOf heap.now self.old }
         requires may { MayComeIn self.old.me }
-        ensures told { (status : Status) × (self.new ≡ tells self.old (event.Over self.old.me.number)
+        ensures told { (status : Status)
+            × (self.new ≡ tells self.old (event.Over self.old.me.number)
             (finds.Presence (record self.old.me.presence { status = status }))) }
     {
         let word = status_word(heap, self.number);

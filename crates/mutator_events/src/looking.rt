@@ -16,11 +16,13 @@ use heap_table::CellHeap;
 use std::marker::Brand;
 
 impl<P: Keeping> MutSeat<P> {
-    /// Loads the control: the mode of what it does next, and stale from then on. All marks are gone.
+    /// Loads the control: the mode of what it does next, and stale from then on. No place is marked
+    /// behind it.
     pub fn look(&mut self, heap: &CellHeap<P>) -> Control
         requires seat { IsSeatOf heap.now self.old }
         requires inside { self.old.me.presence.inside ≡ true }
-        ensures told { self.new ≡ tells self.old (event.Look self.old.me.number) (finds.Control result) }
+        ensures told { self.new
+            ≡ tells self.old (event.Look self.old.me.number) (finds.Control result) }
     {
         let found = heap.mutator_load::<Brand>(&mut self.seat, Event::Look(self.number), CONTROL);
         let control = control_of(found);

@@ -8,7 +8,7 @@ ghost use Rattle.heap_rule.specs.Asks.{MayClaim, MayFill, MaySeal};
 ghost use Rattle.heap_rule.specs.Lore.{nothing_learned};
 ghost use Rattle.heap_rule.specs.Steps.{Picks};
 ghost use Rattle.heap_table.specs.Seats.{IsSeatOf};
-ghost use Rattle.mutator_events.specs.Events.{tells, tells_with};
+ghost use Rattle.mutator_events.specs.Events.{fill_of, tells, tells_with};
 ghost use Rattle.mutator_events.specs.Values.{field_at};
 
 use crate::choice::Choice;
@@ -28,7 +28,8 @@ impl<P: Keeping> MutSeat<P> {
         requires seat { IsSeatOf heap.now self.old }
         requires may { MayClaim self.old.me cell }
         ensures told { (found : Colour) × (result ≡ is_blue found)
-            × (self.new ≡ tells self.old (event.Claim self.old.me.number cell) (finds.Colour found)) }
+            × (self.new ≡ tells self.old (event.Claim self.old.me.number cell)
+            (finds.Colour found)) }
     {
         let word = colour_word(heap, cell);
         let born = born_colour(self.status, self.mode, cell);
@@ -64,9 +65,9 @@ impl<P: Keeping> MutSeat<P> {
         requires seat { IsSeatOf heap.now self.old }
         requires may { MayFill self.old.me place field (field_at self.old.me.own.held value) }
         requires rule { Picks P.holds P.fixed C.next self.old.me
-            (event.Fill self.old.me.number place field (field_at self.old.me.own.held value)) }
-        ensures told { self.new ≡ tells_with self.old
-            (event.Fill self.old.me.number place field (field_at self.old.me.own.held value)) finds.Stored
+            (fill_of self.old.me place field value) }
+        ensures told { self.new
+            ≡ tells_with self.old (fill_of self.old.me place field value) finds.Stored
             (C.next nothing_learned finds.Stored self.old.me.pass) }
     {
         let word = self.field_at(heap, place, field);
@@ -84,7 +85,8 @@ impl<P: Keeping> MutSeat<P> {
     pub fn seal(&mut self, heap: &CellHeap<P>, place: usize, kind: Kind)
         requires seat { IsSeatOf heap.now self.old }
         requires may { MaySeal self.old.me place kind }
-        ensures told { self.new ≡ tells self.old (event.Seal self.old.me.number place kind) finds.Stored }
+        ensures told { self.new
+            ≡ tells self.old (event.Seal self.old.me.number place kind) finds.Stored }
     {
         let word = self.field_at(heap, place, 5);
         let field = kind_field(kind);

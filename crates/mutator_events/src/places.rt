@@ -27,7 +27,8 @@ impl<P: Keeping> MutSeat<P> {
 
     /// What a value stands for.
     pub(crate) fn stands_for(&self, value: Value) -> Field
-        requires names { names_rightly self.now.me.own.held (field_at self.now.me.own.held value) ≡ true }
+        requires names { names_rightly self.now.me.own.held (field_at self.now.me.own.held value)
+            ≡ true }
         ensures field { result ≡ field_at self.now.me.own.held value }
         ensures valid { IsValidField result }
     {
@@ -38,7 +39,8 @@ impl<P: Keeping> MutSeat<P> {
     pub(crate) fn colour_at(&self, heap: &CellHeap<P>, place: usize) -> usize
         requires seat { IsSeatOf heap.now self.now }
         requires there { place < length self.now.me.own.held }
-        ensures word { result ≡ index_of self.now.me.shape.mutators (ColourOf (target self.now.me place)) }
+        ensures word { result
+            ≡ index_of self.now.me.shape.mutators (ColourOf (target self.now.me place)) }
         ensures below { result < words_many heap.now.shape }
     {
         let cell = self.cell(place);
@@ -50,7 +52,8 @@ impl<P: Keeping> MutSeat<P> {
         requires seat { IsSeatOf heap.now self.now }
         requires there { place < length self.now.me.own.held }
         requires field { field < 6 }
-        ensures word { result ≡ index_of self.now.me.shape.mutators (FieldOf (target self.now.me place) field) }
+        ensures word { result
+            ≡ index_of self.now.me.shape.mutators (FieldOf (target self.now.me place) field) }
         ensures below { result < words_many heap.now.shape }
     {
         let cell = self.cell(place);

@@ -24,10 +24,12 @@ impl<P: Keeping> MutSeat<P> {
     pub fn read<C: Choice<P>>(&mut self, heap: &CellHeap<P>, place: usize, field: usize) -> Value
         requires seat { IsSeatOf heap.now self.old }
         requires may { MayRead self.old.me place field }
-        requires rule { Picks P.holds P.fixed C.next self.old.me (event.Read self.old.me.number place field) }
+        requires rule { Picks P.holds P.fixed C.next self.old.me
+            (event.Read self.old.me.number place field) }
         ensures table { self.new.table ≡ self.old.table }
         ensures told { (found : Field) × (result ≡ value_found (length self.old.me.own.held) found)
-            × AtEvent P.holds P.fixed self.old.me (event.Read self.old.me.number place field) C.next (finds.Field found) self.new.me }
+            × AtEvent P.holds P.fixed self.old.me (event.Read self.old.me.number place field) C.next
+            (finds.Field found) self.new.me }
     {
         let word = self.field_at(heap, place, field);
         let number = heap.mutator_load::<Brand>(
@@ -39,8 +41,8 @@ impl<P: Keeping> MutSeat<P> {
         hold_found(&mut self.held, found)
     }
 
-    /// Keeps the first `n` places, and behind them the `count` cells that stood from `place` on. One
-    /// load of its status word, which it throws away.
+    /// Keeps the first `n` places, and behind them the `count` cells that stood from `place` on.
+    /// One load of its status word, which it throws away.
     pub fn keep(&mut self, heap: &CellHeap<P>, n: usize, place: usize, count: usize)
         requires seat { IsSeatOf heap.now self.old }
         requires may { MayKeep self.old.me n place count }

@@ -25,7 +25,8 @@ impl Model for HeldRoom {
 
     ghost view = { λ r. r.places };
 
-    ghost invariant = { λ r. (r.cells.items ≡ []) × (1 ≤ r.places) × (r.places ≤ vec_capacity r.cells) };
+    ghost invariant = { λ r. (r.cells.items ≡ []) × (1 ≤ r.places)
+        × (r.places ≤ vec_capacity r.cells) };
 }
 
 impl HeldRoom {

@@ -76,7 +76,8 @@ pub(crate) fn kind_field(kind: Kind) -> Field
 /// The control that a word is.
 pub(crate) fn control_of(word: u64) -> Control
     requires { IsControlWord word }
-    ensures control { (other : Control) → IsValidControl other → pack_control_of other ≡ word → result ≡ other }
+    ensures control { (other : Control) → IsValidControl other → pack_control_of other ≡ word
+        → result ≡ other }
 {
     match unpack_control(word) {
         Some(control) => control,
@@ -87,7 +88,8 @@ pub(crate) fn control_of(word: u64) -> Control
 /// The presence that a word is.
 pub(crate) fn presence_of(word: u64) -> Presence
     requires { IsPresenceWord word }
-    ensures presence { (other : Presence) → IsTrue (is_valid_presence other) → pack_presence_of other ≡ word → result ≡ other }
+    ensures presence { (other : Presence) → IsTrue (is_valid_presence other)
+        → pack_presence_of other ≡ word → result ≡ other }
 {
     match unpack_presence(word) {
         Some(presence) => presence,
@@ -109,7 +111,8 @@ pub(crate) fn colour_of(word: u64) -> Colour
 /// The field that a word is.
 pub(crate) fn field_of(word: u64) -> Field
     requires { IsFieldWord word }
-    ensures field { (other : Field) → IsValidField other → pack_field_of other ≡ word → result ≡ other }
+    ensures field { (other : Field) → IsValidField other → pack_field_of other ≡ word
+        → result ≡ other }
 {
     match unpack_field(word) {
         Some(field) => field,

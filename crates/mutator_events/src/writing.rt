@@ -7,7 +7,7 @@ ghost use Rattle.core_machine.specs.declared.events.Found.TheVariants as finds;
 ghost use Rattle.heap_rule.specs.Asks.{MayMark, MayWrite};
 ghost use Rattle.heap_rule.specs.Steps.{Picks};
 ghost use Rattle.heap_table.specs.Seats.{IsSeatOf};
-ghost use Rattle.mutator_events.specs.Events.{AtEvent, tells};
+ghost use Rattle.mutator_events.specs.Events.{AtEvent, tells, write_of};
 ghost use Rattle.mutator_events.specs.Values.{field_at};
 
 use crate::choice::Choice;
@@ -21,12 +21,14 @@ use heap_table::CellHeap;
 use std::marker::Brand;
 
 impl<P: Keeping> MutSeat<P> {
-    /// Makes the cell at a place gray, if it is white, and marks all places that hold it. One compare
+    /// Makes a white cell at a place gray, and marks all places that hold it. One compare
     /// and exchange on the cell's colour.
     pub fn mark(&mut self, heap: &CellHeap<P>, place: usize)
         requires seat { IsSeatOf heap.now self.old }
         requires may { MayMark self.old.me place }
-        ensures told { (found : Colour) × (self.new ≡ tells self.old (event.Mark self.old.me.number place) (finds.Colour found)) }
+        ensures told { (found : Colour)
+            × (self.new ≡ tells self.old (event.Mark self.old.me.number place)
+            (finds.Colour found)) }
     {
         let word = self.colour_at(heap, place);
         let white = pack_colour(Colour::White);
@@ -51,16 +53,17 @@ impl<P: Keeping> MutSeat<P> {
         new: Value,
     ) -> Result<(), Moved>
         requires seat { IsSeatOf heap.now self.old }
-        requires may { MayWrite P.fixed self.old.me place field (field_at self.old.me.own.held old) (field_at self.old.me.own.held new) }
-        requires rule { Picks P.holds P.fixed C.next self.old.me (event.Write self.old.me.number place field
-            (field_at self.old.me.own.held old) (field_at self.old.me.own.held new)) }
+        requires may { MayWrite P.fixed self.old.me place field
+            (field_at self.old.me.own.held old) (field_at self.old.me.own.held new) }
+        requires rule { Picks P.holds P.fixed C.next self.old.me
+            (write_of self.old.me place field old new) }
         ensures table { self.new.table ≡ self.old.table }
-        ensures made { OnOk result (AtEvent P.holds P.fixed self.old.me (event.Write self.old.me.number place field
-            (field_at self.old.me.own.held old) (field_at self.old.me.own.held new)) C.next
+        ensures made { OnOk result (AtEvent P.holds P.fixed self.old.me
+            (write_of self.old.me place field old new) C.next
             (finds.Field (field_at self.old.me.own.held old)) self.new.me) }
-        ensures moved { IfErr result (λ moved. (same_field moved.found (field_at self.old.me.own.held old) ≡ false)
-            × AtEvent P.holds P.fixed self.old.me (event.Write self.old.me.number place field
-            (field_at self.old.me.own.held old) (field_at self.old.me.own.held new)) C.next
+        ensures moved { IfErr result (λ moved.
+            (same_field moved.found (field_at self.old.me.own.held old) ≡ false)
+            × AtEvent P.holds P.fixed self.old.me (write_of self.old.me place field old new) C.next
             (finds.Field moved.found) self.new.me) }
     {
         let word = self.field_at(heap, place, field);

@@ -1,13 +1,13 @@
-use Rattle.std.proofs.Common.{◌∙◌, ◌+◌, ℕ}
+use Rattle.std.proofs.Common.{ℕ}
 use Rattle.std.proofs.Common.{None, Some, refl, sym, ap, subst}
 use Rattle.cell_words.specs.declared.presences.Status.{Status}
 use Rattle.core_machine.specs.declared.events.Event.TheVariants as event
 use Rattle.core_machine.specs.declared.events.Found.TheVariants as finds
 use Rattle.heap_rule.specs.Asks.{MayAnswer}
-use Rattle.heap_table.specs.Seats.{SeatView}
 use Rattle.mutator_events.specs.Seats.{IsMutator}
 use Rattle.mutator_events.proofs.Calls.{after_answer}
 use Rattle.mutator_events.proofs.Calls.{seat_told}
+use Rattle.mutator_events.proofs.Calls.{within}
 use Rattle.mutator_events.proofs.Owed.{answer_owed}
 use Rattle.mutator_events.proofs.Owed.{still_as}
 use Rattle.mutator_events.proofs.seat.MutSeat.answer.Goals as goal
@@ -18,19 +18,13 @@ mutator_store-requires-clause-made g c =
 
 pub mutator_store-requires-clause-kind : goal.mutator_store-requires-clause-kind
 mutator_store-requires-clause-kind g c =
-    let may = subst (λ (s : SeatView _). MayAnswer s.me) (sym c.self.view_is) c.requires.may in
-    let in_now = sym c.self.invariant.0.inside_is ∙ may.inside in
-    answer_owed g.P.Keeping.fixed c.self.inside.seat.me c.self.inside.number
-    c.self.invariant.0.number_is c.status_word-word.result c.pack_presence-new.result
-    c.self.inside.status c.next_status-status.result
-    (ap (λ (n : ℕ). 1 + n) c.self.invariant.0.number_is ∙ sym c.status_word-word.ensures.word)
-    (c.self.invariant.0.status_is in_now) (c.self.invariant.0.not_over in_now)
+    let may = within (λ v. MayAnswer v) c.self.view_is c.requires.may in
+    answer_owed g.P.Keeping.fixed c.self.invariant.0 c.status_word-word.ensures.word
     c.next_status-status.ensures.status c.pack_presence-new.ensures.word may
 
 pub mutator_store-requires-clause-rule : goal.mutator_store-requires-clause-rule
 mutator_store-requires-clause-rule g c =
-    still_as g.P.Keeping.fixed c.self.inside.seat.me c.self.inside.number
-    c.self.invariant.0.number_is g.P.Keeping.holds g.P.Keeping.shrinks
+    still_as g.P.Keeping.fixed c.self.invariant.0 g.P.Keeping.holds g.P.Keeping.shrinks
     (event.Answer c.self.inside.number) (λ s l. refl)
 
 pub invariant_of-self : goal.invariant_of-self
@@ -38,22 +32,14 @@ invariant_of-self g c =
     let seat = c.self.inside in (
       subst (λ (status : Status). IsMutator c.mutator_store.new.seat.me seat.number seat.room
           seat.held.items None seat.inside status seat.claims) (sym c.next_status-status.ensures.status)
-          (after_answer g.P.Keeping.holds g.P.Keeping.fixed c.self.inside.seat.me
-          c.mutator_store.new.seat.me c.self.inside.number c.pack_presence-new.result
-          c.self.inside.room c.self.inside.held.items c.self.inside.mode c.self.inside.inside
-          c.self.inside.status c.self.inside.claims c.self.invariant.0
-          c.mutator_store.ensures.step).keeps,
+          (after_answer c.self.invariant.0 c.mutator_store.ensures.step).keeps,
       c.self.invariant.1,
     )
 
 pub returns : goal.returns
-returns g c = record {
-  told = seat_told c.self.inside.seat c.args.self.now c.mutator_store.new.seat
-      (λ v. event.Answer v.number) (λ v. finds.Stored) c.self.view_is
-      c.mutator_store.ensures.same
-      (after_answer g.P.Keeping.holds g.P.Keeping.fixed c.self.inside.seat.me
-      c.mutator_store.new.seat.me c.self.inside.number c.pack_presence-new.result
-      c.self.inside.room c.self.inside.held.items c.self.inside.mode c.self.inside.inside
-      c.self.inside.status c.self.inside.claims c.self.invariant.0
-      c.mutator_store.ensures.step).view;
-}
+returns g c =
+    record {
+      told = seat_told c.mutator_store.new.seat (λ v. event.Answer v.number)
+          (λ v. finds.Stored) c.self.view_is c.mutator_store.ensures.same
+          (after_answer c.self.invariant.0 c.mutator_store.ensures.step).view;
+    }

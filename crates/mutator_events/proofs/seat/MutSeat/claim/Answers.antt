@@ -1,19 +1,19 @@
 use Rattle.std.proofs.Common.{◌∙◌, ◌+◌, ℕ, List}
 use Rattle.std.proofs.Common.{None, Some, refl, sym, ap, subst, arith}
+use Rattle.cell_words.specs.Colour.{pack_colour_of}
 use Rattle.cell_words.specs.declared.colours.Colour.{Colour}
 use Rattle.cell_words.specs.declared.colours.Colour.TheVariants as colour
 use Rattle.core_machine.specs.declared.events.Event.TheVariants as event
 use Rattle.core_machine.specs.declared.events.Found.TheVariants as finds
 use Rattle.core_machine.specs.Table.{ColourOf, index_of}
 use Rattle.heap_rule.specs.Asks.{MayClaim}
-use Rattle.cell_words.specs.Colour.{pack_colour_of}
 use Rattle.heap_rule.specs.Shape.{Shape}
-use Rattle.heap_rule.specs.Steps.{same_pass}
 use Rattle.heap_table.specs.Seats.{SeatView}
 use Rattle.mutator_events.specs.Seats.{IsMutator}
 use Rattle.mutator_events.proofs.Calls.{after_claim}
-use Rattle.mutator_events.proofs.Calls.{after_miss, claims_more}
-use Rattle.mutator_events.proofs.Calls.{seat_told}
+use Rattle.mutator_events.proofs.Calls.{after_miss}
+use Rattle.mutator_events.proofs.Calls.{claims_more, seat_told}
+use Rattle.mutator_events.proofs.Calls.{within}
 use Rattle.mutator_events.proofs.Founds.{claim_word, not_blue}
 use Rattle.mutator_events.proofs.Owed.{claim_owed}
 use Rattle.mutator_events.proofs.Owed.{still_as}
@@ -25,78 +25,62 @@ mutator_exchange-number-requires-clause-made g c =
 
 pub mutator_exchange-number-requires-clause-kind : goal.mutator_exchange-number-requires-clause-kind
 mutator_exchange-number-requires-clause-kind g c =
-    let me = c.self.inside.seat.me in
-    let may = subst (λ (s : SeatView _). MayClaim s.me c.args.cell) (sym c.self.view_is) c.requires.may in
-    claim_owed g.P.Keeping.fixed me c.self.inside.number c.self.invariant.0.number_is
-    c.args.cell c.colour_word-word.result c.pack_colour-blue.result c.pack_colour-new.result
-    c.self.inside.status c.self.inside.mode
+    let may = within (λ v. MayClaim v c.args.cell) c.self.view_is c.requires.may in
+    claim_owed g.P.Keeping.fixed c.self.invariant.0 c.args.cell
     (ap (λ (h : Shape). index_of h.mutators (ColourOf c.args.cell))
     (ap (λ (s : SeatView _). s.me.shape) c.self.view_is ∙ c.requires.seat.1)
     ∙ sym c.colour_word-word.ensures.word)
-    (c.self.invariant.0.status_is (sym c.self.invariant.0.inside_is ∙ may.inside))
-    c.self.invariant.0.mode_is c.pack_colour-blue.ensures.word
+    c.pack_colour-blue.ensures.word
     (c.pack_colour-new.ensures.word
     ∙ ap (λ (x : Colour). pack_colour_of x) c.born_colour-born.ensures.colour) may
 
 pub mutator_exchange-number-requires-clause-rule : goal.mutator_exchange-number-requires-clause-rule
 mutator_exchange-number-requires-clause-rule g c =
-    still_as g.P.Keeping.fixed c.self.inside.seat.me c.self.inside.number
-    c.self.invariant.0.number_is g.P.Keeping.holds g.P.Keeping.shrinks
+    still_as g.P.Keeping.fixed c.self.invariant.0 g.P.Keeping.holds g.P.Keeping.shrinks
     (event.Claim c.self.inside.number c.args.cell) (λ s l. refl)
 
 pub colour_of-found-requires : goal.colour_of-found-requires
 colour_of-found-requires g c =
-    claim_word g.P.Keeping.holds g.P.Keeping.fixed same_pass c.self.inside.seat.me
-    c.mutator_exchange-number.new.seat.me c.self.inside.number c.mutator_exchange-number.result c.args.cell c.mutator_exchange-number.ensures.step
+    claim_word c.mutator_exchange-number.ensures.step
 
 pub overflow_add-self : goal.overflow_add-self
 overflow_add-self g c =
-    let fits = claims_more g.P.Keeping.holds g.P.Keeping.fixed c.self.inside.seat.me
-    c.mutator_exchange-number.new.seat.me c.self.inside.number c.mutator_exchange-number.result
-    c.self.inside.room c.self.inside.held.items c.self.inside.mode c.self.inside.inside
-    c.self.inside.status c.self.inside.claims c.self.invariant.0
-    (event.Claim c.self.inside.number c.args.cell) c.mutator_exchange-number.ensures.step in
+    let fits = claims_more c.self.invariant.0 (event.Claim c.self.inside.number c.args.cell)
+    c.mutator_exchange-number.ensures.step in
     omega (arith, fits)
 
 pub invariant_of-self : goal.invariant_of-self
 invariant_of-self g c =
-    let may = subst (λ (s : SeatView _). MayClaim s.me c.args.cell) (sym c.self.view_is) c.requires.may in
+    let may = within (λ v. MayClaim v c.args.cell) c.self.view_is c.requires.may in
     let seat = c.self.inside in (
-      subst (λ (cells : List ℕ). IsMutator c.mutator_exchange-number.new.seat.me seat.number seat.room cells None
+      subst (λ (cells : List ℕ). IsMutator c.mutator_exchange-number.new.seat.me seat.number
+          seat.room cells None
           seat.inside seat.status (seat.claims + 1)) (sym c.push_reserved.ensures.items)
-          (after_claim g.P.Keeping.holds g.P.Keeping.fixed c.self.inside.seat.me
-          c.mutator_exchange-number.new.seat.me c.self.inside.number c.mutator_exchange-number.result
-          c.self.inside.room c.self.inside.held.items c.self.inside.mode c.self.inside.inside
-          c.self.inside.status c.self.inside.claims c.self.invariant.0
-          c.args.cell c.colour_of-found.result c.colour_of-found.ensures.colour may c.mutator_exchange-number.ensures.step c.in-Blue.is).keeps,
+          (after_claim c.self.invariant.0 c.args.cell c.colour_of-found.result
+          c.colour_of-found.ensures.colour may c.mutator_exchange-number.ensures.step c.in-Blue.is).keeps,
       omega (arith, c.self.invariant.1, c.push_reserved.ensures.capacity),
     )
 
 pub invariant_of-self-in-White : goal.invariant_of-self-in-White
-invariant_of-self-in-White g c = (
-  (after_miss g.P.Keeping.holds g.P.Keeping.fixed c.self.inside.seat.me
-      c.mutator_exchange-number.new.seat.me c.self.inside.number c.mutator_exchange-number.result
-      c.self.inside.room c.self.inside.held.items c.self.inside.mode c.self.inside.inside
-      c.self.inside.status c.self.inside.claims c.self.invariant.0
-      c.args.cell c.colour_of-found.result c.colour_of-found.ensures.colour c.mutator_exchange-number.ensures.step (not_blue c.colour_of-found.result c.in-White.is)).keeps,
-  c.self.invariant.1,
-)
+invariant_of-self-in-White g c =
+    let other = not_blue c.colour_of-found.result c.in-White.is in (
+      (after_miss c.self.invariant.0 c.args.cell c.colour_of-found.result
+          c.colour_of-found.ensures.colour c.mutator_exchange-number.ensures.step other).keeps,
+      c.self.invariant.1,
+    )
 
 pub returns-in-Blue : goal.returns-in-Blue
 returns-in-Blue g c =
-    let may = subst (λ (s : SeatView _). MayClaim s.me c.args.cell) (sym c.self.view_is) c.requires.may in
+    let may = within (λ v. MayClaim v c.args.cell) c.self.view_is c.requires.may in
     record {
       told = (
         colour.Blue,
         refl,
-        seat_told c.self.inside.seat c.args.self.now c.mutator_exchange-number.new.seat
-            (λ v. event.Claim v.number c.args.cell) (λ v. finds.Colour colour.Blue) c.self.view_is
-            c.mutator_exchange-number.ensures.same
-            (after_claim g.P.Keeping.holds g.P.Keeping.fixed c.self.inside.seat.me
-            c.mutator_exchange-number.new.seat.me c.self.inside.number c.mutator_exchange-number.result
-            c.self.inside.room c.self.inside.held.items c.self.inside.mode c.self.inside.inside
-            c.self.inside.status c.self.inside.claims c.self.invariant.0
-            c.args.cell c.colour_of-found.result c.colour_of-found.ensures.colour may c.mutator_exchange-number.ensures.step c.in-Blue.is).view,
+        seat_told c.mutator_exchange-number.new.seat
+            (λ v. event.Claim v.number c.args.cell)
+            (λ v. finds.Colour colour.Blue) c.self.view_is c.mutator_exchange-number.ensures.same
+            (after_claim c.self.invariant.0 c.args.cell c.colour_of-found.result
+            c.colour_of-found.ensures.colour may c.mutator_exchange-number.ensures.step c.in-Blue.is).view,
       );
     }
 
@@ -107,13 +91,11 @@ returns-in-White g c =
       told = (
         c.colour_of-found.result,
         sym other,
-        seat_told c.self.inside.seat c.args.self.now c.mutator_exchange-number.new.seat
+        seat_told c.mutator_exchange-number.new.seat
             (λ v. event.Claim v.number c.args.cell)
-            (λ v. finds.Colour c.colour_of-found.result) c.self.view_is c.mutator_exchange-number.ensures.same
-            (after_miss g.P.Keeping.holds g.P.Keeping.fixed c.self.inside.seat.me
-            c.mutator_exchange-number.new.seat.me c.self.inside.number c.mutator_exchange-number.result
-            c.self.inside.room c.self.inside.held.items c.self.inside.mode c.self.inside.inside
-            c.self.inside.status c.self.inside.claims c.self.invariant.0
-            c.args.cell c.colour_of-found.result c.colour_of-found.ensures.colour c.mutator_exchange-number.ensures.step other).view,
+            (λ v. finds.Colour c.colour_of-found.result) c.self.view_is
+            c.mutator_exchange-number.ensures.same
+            (after_miss c.self.invariant.0 c.args.cell c.colour_of-found.result
+            c.colour_of-found.ensures.colour c.mutator_exchange-number.ensures.step other).view,
       );
     }

@@ -1,16 +1,16 @@
-use Rattle.std.proofs.Common.{◌∙◌, ℕ}
-use Rattle.std.proofs.Common.{Some, sym, ap, subst}
-use Rattle.core_machine.specs.declared.events.Event.TheVariants as event
+use Rattle.std.proofs.Common.{ℕ}
+use Rattle.std.proofs.Common.{Some, sym, ap}
 use Rattle.core_machine.specs.declared.events.Found.TheVariants as finds
 use Rattle.core_machine.specs.Table.{FieldOf, index_of}
 use Rattle.heap_rule.specs.Asks.{MayFill}
 use Rattle.heap_rule.specs.Asks.{target}
 use Rattle.heap_rule.specs.Lore.{nothing_learned}
 use Rattle.heap_rule.specs.Steps.{Picks}
-use Rattle.heap_table.specs.Seats.{SeatView}
+use Rattle.mutator_events.specs.Events.{fill_of}
 use Rattle.mutator_events.specs.Values.{field_at}
 use Rattle.mutator_events.proofs.Calls.{after_fill}
-use Rattle.mutator_events.proofs.Calls.{seat_told_with}
+use Rattle.mutator_events.proofs.Calls.{same_within, seat_told_with}
+use Rattle.mutator_events.proofs.Calls.{within}
 use Rattle.mutator_events.proofs.Owed.{fill_owed, fill_picked}
 use Rattle.mutator_events.proofs.seat.MutSeat.fill.Goals as goal
 
@@ -20,53 +20,42 @@ mutator_store-requires-clause-made g c =
 
 pub mutator_store-requires-clause-kind : goal.mutator_store-requires-clause-kind
 mutator_store-requires-clause-kind g c =
-    let me = c.self.inside.seat.me in
-    let may = subst (λ (s : SeatView _). MayFill s.me c.args.place c.args.field (field_at s.me.own.held c.args.value)) (sym c.self.view_is) c.requires.may in
-    fill_owed g.P.Keeping.fixed me c.self.inside.number c.self.invariant.0.number_is
-    c.args.place c.args.field (field_at me.own.held c.args.value) c.stands_for-value.result
-    c.field_at-word.result c.pack_field-new.result
-    (c.stands_for-value.ensures.field
-    ∙ ap (λ (s : SeatView _). field_at s.me.own.held c.args.value) (sym c.self.view_is))
-    (ap (λ (s : SeatView _). index_of s.me.shape.mutators (FieldOf (target s.me c.args.place) c.args.field))
-    c.self.view_is ∙ sym c.field_at-word.ensures.word)
+    let may = within (λ v. MayFill v c.args.place c.args.field (field_at v.own.held c.args.value))
+    c.self.view_is c.requires.may in
+    fill_owed g.P.Keeping.fixed c.self.invariant.0 c.args.place c.args.field
+    (same_within (λ v. field_at v.own.held c.args.value) c.self.view_is
+    c.stands_for-value.ensures.field)
+    (sym (same_within (λ v. index_of v.shape.mutators
+    (FieldOf (target v c.args.place) c.args.field))
+    c.self.view_is c.field_at-word.ensures.word))
     c.pack_field-new.ensures.word may
 
 pub mutator_store-requires-clause-rule : goal.mutator_store-requires-clause-rule
 mutator_store-requires-clause-rule g c =
-    fill_picked g.P.Keeping.fixed c.self.inside.seat.me c.self.inside.number
-    c.self.invariant.0.number_is g.P.Keeping.holds g.P.Keeping.shrinks g.C.Choice.next
-    c.args.place c.args.field (field_at c.self.inside.seat.me.own.held c.args.value) c.stands_for-value.result
-    (c.stands_for-value.ensures.field
-    ∙ ap (λ (s : SeatView _). field_at s.me.own.held c.args.value) (sym c.self.view_is))
-    (subst (λ (s : SeatView _). Picks g.P.Keeping.holds g.P.Keeping.fixed g.C.Choice.next s.me (event.Fill s.me.number c.args.place c.args.field (field_at s.me.own.held c.args.value))) (sym c.self.view_is) c.requires.rule)
+    fill_picked g.P.Keeping.fixed c.self.invariant.0 g.P.Keeping.holds g.P.Keeping.shrinks
+    g.C.Choice.next c.args.place c.args.field
+    (same_within (λ v. field_at v.own.held c.args.value) c.self.view_is
+    c.stands_for-value.ensures.field)
+    (within (λ v. Picks g.P.Keeping.holds g.P.Keeping.fixed g.C.Choice.next v
+    (fill_of v c.args.place c.args.field c.args.value)) c.self.view_is c.requires.rule)
 
 pub invariant_of-self : goal.invariant_of-self
 invariant_of-self g c = (
-  (after_fill g.P.Keeping.holds g.P.Keeping.fixed g.C.Choice.next c.self.inside.seat.me
-      c.mutator_store.new.seat.me c.self.inside.number c.pack_field-new.result
-      c.self.inside.room c.self.inside.held.items c.self.inside.mode c.self.inside.inside
-      c.self.inside.status c.self.inside.claims c.self.invariant.0
-      c.args.place c.args.field (field_at c.self.inside.seat.me.own.held c.args.value)
-      c.stands_for-value.result
-      (c.stands_for-value.ensures.field
-      ∙ ap (λ (s : SeatView _). field_at s.me.own.held c.args.value) (sym c.self.view_is))
+  (after_fill c.self.invariant.0 c.args.place c.args.field
+      (same_within (λ v. field_at v.own.held c.args.value) c.self.view_is
+      c.stands_for-value.ensures.field)
       c.mutator_store.ensures.step).keeps,
   c.self.invariant.1,
 )
 
 pub returns : goal.returns
-returns g c = record {
-  told = seat_told_with c.self.inside.seat c.args.self.now c.mutator_store.new.seat
-      (λ v. event.Fill v.number c.args.place c.args.field (field_at v.own.held c.args.value))
-      finds.Stored (λ p. g.C.Choice.next nothing_learned finds.Stored p) c.self.view_is
-      c.mutator_store.ensures.same
-      (after_fill g.P.Keeping.holds g.P.Keeping.fixed g.C.Choice.next c.self.inside.seat.me
-      c.mutator_store.new.seat.me c.self.inside.number c.pack_field-new.result
-      c.self.inside.room c.self.inside.held.items c.self.inside.mode c.self.inside.inside
-      c.self.inside.status c.self.inside.claims c.self.invariant.0
-      c.args.place c.args.field (field_at c.self.inside.seat.me.own.held c.args.value)
-      c.stands_for-value.result
-      (c.stands_for-value.ensures.field
-      ∙ ap (λ (s : SeatView _). field_at s.me.own.held c.args.value) (sym c.self.view_is))
-      c.mutator_store.ensures.step).event.new;
-}
+returns g c =
+    record {
+      told = seat_told_with c.mutator_store.new.seat
+          (λ v. fill_of v c.args.place c.args.field c.args.value)
+          finds.Stored (λ p. g.C.Choice.next nothing_learned finds.Stored p) c.self.view_is
+          c.mutator_store.ensures.same (after_fill c.self.invariant.0 c.args.place c.args.field
+          (same_within (λ v. field_at v.own.held c.args.value) c.self.view_is
+          c.stands_for-value.ensures.field)
+          c.mutator_store.ensures.step).event.new;
+    }

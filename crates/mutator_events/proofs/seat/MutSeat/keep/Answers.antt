@@ -1,17 +1,15 @@
-use Rattle.std.proofs.Common.{◌∙◌, ◌+◌, ℕ, List}
+use Rattle.std.proofs.Common.{ℕ, List}
 use Rattle.std.proofs.Common.{Some, refl, sym, ap, subst, arith}
 use Rattle.core_machine.specs.declared.events.Event.TheVariants as event
 use Rattle.core_machine.specs.declared.events.Found.TheVariants as finds
-use Rattle.core_machine.specs.Table.{StatusOf}
 use Rattle.core_machine.specs.WordOperations.{Load}
 use Rattle.heap_rule.specs.Asks.{MayKeep}
 use Rattle.heap_rule.proofs.Owing.{owes_keep}
-use Rattle.heap_table.specs.Seats.{SeatView}
 use Rattle.mutator_events.specs.Seats.{IsMutator}
 use Rattle.mutator_events.proofs.Calls.{after_keep}
 use Rattle.mutator_events.proofs.Calls.{seat_told}
-use Rattle.mutator_events.proofs.Owed.{owed_as}
-use Rattle.mutator_events.proofs.Owed.{still_as}
+use Rattle.mutator_events.proofs.Calls.{within}
+use Rattle.mutator_events.proofs.Owed.{status_owed, still_as}
 use Rattle.mutator_events.proofs.seat.MutSeat.keep.Goals as goal
 
 pub mutator_load-requires-clause-made : goal.mutator_load-requires-clause-made
@@ -20,45 +18,40 @@ mutator_load-requires-clause-made g c =
 
 pub mutator_load-requires-clause-kind : goal.mutator_load-requires-clause-kind
 mutator_load-requires-clause-kind g c =
+    let may = within (λ v. MayKeep v c.args.n c.args.place c.args.count) c.self.view_is
+    c.requires.may in
     let me = c.self.inside.seat.me in
-    let may = subst (λ (s : SeatView _). MayKeep s.me c.args.n c.args.place c.args.count) (sym c.self.view_is) c.requires.may in
-    owed_as g.P.Keeping.fixed me c.self.inside.number c.self.invariant.0.number_is
-    (λ n. event.Keep n c.args.n c.args.place c.args.count) (StatusOf me.number)
-    c.status_word-word.result Load Load
-    (ap (λ (n : ℕ). 1 + n) c.self.invariant.0.number_is ∙ sym c.status_word-word.ensures.word)
-    refl
+    status_owed g.P.Keeping.fixed c.self.invariant.0
+    (λ n. event.Keep n c.args.n c.args.place c.args.count) Load
+    c.status_word-word.ensures.word
     (λ s l mine. owes_keep g.P.Keeping.fixed me s l mine c.args.n c.args.place c.args.count may)
 
 pub mutator_load-requires-clause-rule : goal.mutator_load-requires-clause-rule
 mutator_load-requires-clause-rule g c =
-    still_as g.P.Keeping.fixed c.self.inside.seat.me c.self.inside.number
-    c.self.invariant.0.number_is g.P.Keeping.holds g.P.Keeping.shrinks
+    still_as g.P.Keeping.fixed c.self.invariant.0 g.P.Keeping.holds g.P.Keeping.shrinks
     (event.Keep c.self.inside.number c.args.n c.args.place c.args.count) (λ s l. refl)
 
 pub invariant_of-self : goal.invariant_of-self
 invariant_of-self g c =
-    let may = subst (λ (s : SeatView _). MayKeep s.me c.args.n c.args.place c.args.count) (sym c.self.view_is) c.requires.may in
+    let may = within (λ v. MayKeep v c.args.n c.args.place c.args.count) c.self.view_is
+    c.requires.may in
     let seat = c.self.inside in (
-      subst (λ (cells : List ℕ). IsMutator c.mutator_load.new.seat.me seat.number seat.room cells seat.mode
+      subst (λ (cells : List ℕ). IsMutator c.mutator_load.new.seat.me seat.number seat.room cells
+          seat.mode
           seat.inside seat.status seat.claims) (sym c.keep_cells.ensures.cells)
-          (after_keep g.P.Keeping.holds g.P.Keeping.fixed c.self.inside.seat.me
-          c.mutator_load.new.seat.me c.self.inside.number c.mutator_load.result
-          c.self.inside.room c.self.inside.held.items c.self.inside.mode c.self.inside.inside
-          c.self.inside.status c.self.inside.claims c.self.invariant.0
-          c.args.n c.args.place c.args.count may c.mutator_load.ensures.step).keeps,
+          (after_keep c.self.invariant.0 c.args.n c.args.place c.args.count may
+          c.mutator_load.ensures.step).keeps,
       omega (arith, c.self.invariant.1, c.keep_cells.ensures.capacity),
     )
 
 pub returns : goal.returns
 returns g c =
-    let may = subst (λ (s : SeatView _). MayKeep s.me c.args.n c.args.place c.args.count) (sym c.self.view_is) c.requires.may in
+    let may = within (λ v. MayKeep v c.args.n c.args.place c.args.count) c.self.view_is
+    c.requires.may in
     record {
-      told = seat_told c.self.inside.seat c.args.self.now c.mutator_load.new.seat
+      told = seat_told c.mutator_load.new.seat
           (λ v. event.Keep v.number c.args.n c.args.place c.args.count)
           (λ v. finds.Presence v.presence) c.self.view_is c.mutator_load.ensures.same
-          (after_keep g.P.Keeping.holds g.P.Keeping.fixed c.self.inside.seat.me
-          c.mutator_load.new.seat.me c.self.inside.number c.mutator_load.result
-          c.self.inside.room c.self.inside.held.items c.self.inside.mode c.self.inside.inside
-          c.self.inside.status c.self.inside.claims c.self.invariant.0
-          c.args.n c.args.place c.args.count may c.mutator_load.ensures.step).view;
+          (after_keep c.self.invariant.0 c.args.n c.args.place c.args.count may
+          c.mutator_load.ensures.step).view;
     }

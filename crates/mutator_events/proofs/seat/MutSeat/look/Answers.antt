@@ -1,12 +1,13 @@
-use Rattle.std.proofs.Common.{◌≡◌, ℕ, true, Some, refl, sym, ap, subst}
+use Rattle.std.proofs.Common.{◌≡◌, ℕ, true}
+use Rattle.std.proofs.Common.{Some, refl, sym, ap}
 use Rattle.core_machine.specs.declared.events.Event.TheVariants as event
 use Rattle.core_machine.specs.declared.events.Found.TheVariants as finds
 use Rattle.core_machine.specs.Table.{TheControl}
 use Rattle.core_machine.specs.WordOperations.{Load}
-use Rattle.heap_rule.specs.Steps.{same_pass}
 use Rattle.heap_rule.proofs.Owing.{owes_look}
-use Rattle.heap_table.specs.Seats.{SeatView}
-use Rattle.mutator_events.proofs.Calls.{after_look, seat_told}
+use Rattle.mutator_events.proofs.Calls.{after_look}
+use Rattle.mutator_events.proofs.Calls.{seat_told}
+use Rattle.mutator_events.proofs.Calls.{within}
 use Rattle.mutator_events.proofs.Founds.{look_word}
 use Rattle.mutator_events.proofs.Owed.{owed_as, still_as}
 use Rattle.mutator_events.proofs.seat.MutSeat.look.Goals as goal
@@ -17,43 +18,32 @@ mutator_load-found-requires-clause-made g c =
 
 pub mutator_load-found-requires-clause-kind : goal.mutator_load-found-requires-clause-kind
 mutator_load-found-requires-clause-kind g c =
-    let me = c.self.inside.seat.me in
-    let inside = subst (λ (s : SeatView _). s.me.presence.inside
-    ≡ true) (sym c.self.view_is) c.requires.inside in
-    owed_as g.P.Keeping.fixed me c.self.inside.number c.self.invariant.0.number_is
-    (λ n. event.Look n) TheControl 0 Load Load refl refl
-    (λ s l mine. owes_look g.P.Keeping.fixed me s l mine inside)
+    let may = within (λ v. v.presence.inside ≡ true) c.self.view_is c.requires.inside in
+    owed_as g.P.Keeping.fixed c.self.invariant.0 (λ n. event.Look n) TheControl Load Load refl refl
+    (λ s l mine. owes_look g.P.Keeping.fixed c.self.inside.seat.me s l mine may)
 
 pub mutator_load-found-requires-clause-rule : goal.mutator_load-found-requires-clause-rule
 mutator_load-found-requires-clause-rule g c =
-    still_as g.P.Keeping.fixed c.self.inside.seat.me c.self.inside.number
-    c.self.invariant.0.number_is g.P.Keeping.holds g.P.Keeping.shrinks
+    still_as g.P.Keeping.fixed c.self.invariant.0 g.P.Keeping.holds g.P.Keeping.shrinks
     (event.Look c.self.inside.number) (λ s l. refl)
 
 pub control_of-control-requires : goal.control_of-control-requires
 control_of-control-requires g c =
-    look_word g.P.Keeping.holds g.P.Keeping.fixed same_pass c.self.inside.seat.me
-    c.mutator_load-found.new.seat.me c.self.inside.number c.mutator_load-found.result
-    c.mutator_load-found.ensures.step
+    look_word c.mutator_load-found.ensures.step
 
 pub invariant_of-self : goal.invariant_of-self
 invariant_of-self g c = (
-  (after_look g.P.Keeping.holds g.P.Keeping.fixed c.self.inside.seat.me
-      c.mutator_load-found.new.seat.me c.self.inside.number c.mutator_load-found.result
-      c.self.inside.room c.self.inside.held.items c.self.inside.mode c.self.inside.inside
-      c.self.inside.status c.self.inside.claims c.self.invariant.0 c.control_of-control.result
+  (after_look c.self.invariant.0 c.control_of-control.result
       c.control_of-control.ensures.control c.mutator_load-found.ensures.step).keeps,
   c.self.invariant.1,
 )
 
 pub returns : goal.returns
-returns g c = record {
-  told = seat_told c.self.inside.seat c.args.self.now c.mutator_load-found.new.seat
-      (λ v. event.Look v.number) (λ v. finds.Control c.control_of-control.result) c.self.view_is
-      c.mutator_load-found.ensures.same
-      (after_look g.P.Keeping.holds g.P.Keeping.fixed c.self.inside.seat.me
-      c.mutator_load-found.new.seat.me c.self.inside.number c.mutator_load-found.result
-      c.self.inside.room c.self.inside.held.items c.self.inside.mode c.self.inside.inside
-      c.self.inside.status c.self.inside.claims c.self.invariant.0 c.control_of-control.result
-      c.control_of-control.ensures.control c.mutator_load-found.ensures.step).view;
-}
+returns g c =
+    record {
+      told = seat_told c.mutator_load-found.new.seat (λ v. event.Look v.number)
+          (λ v. finds.Control c.control_of-control.result) c.self.view_is
+          c.mutator_load-found.ensures.same
+          (after_look c.self.invariant.0 c.control_of-control.result
+          c.control_of-control.ensures.control c.mutator_load-found.ensures.step).view;
+    }

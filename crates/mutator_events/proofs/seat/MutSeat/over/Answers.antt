@@ -1,13 +1,15 @@
-use Rattle.std.proofs.Common.{◌∙◌, ◌+◌, ℕ, Some, refl, sym, ap, subst}
+use Rattle.std.proofs.Common.{ℕ}
+use Rattle.std.proofs.Common.{Some, refl, sym, ap}
 use Rattle.core_machine.specs.declared.events.Event.TheVariants as event
 use Rattle.core_machine.specs.declared.events.Found.TheVariants as finds
-use Rattle.core_machine.specs.Table.{StatusOf}
-use Rattle.core_machine.specs.WordOperations.{SetBits, over_bit}
+use Rattle.core_machine.specs.WordOperations.{SetBits}
+use Rattle.core_machine.specs.WordOperations.{over_bit}
 use Rattle.heap_rule.specs.Asks.{MayComeIn}
 use Rattle.heap_rule.proofs.Owing.{owes_over}
-use Rattle.heap_table.specs.Seats.{SeatView}
-use Rattle.mutator_events.proofs.Calls.{after_over, seat_told}
-use Rattle.mutator_events.proofs.Owed.{owed_as, still_as}
+use Rattle.mutator_events.proofs.Calls.{after_over}
+use Rattle.mutator_events.proofs.Calls.{seat_told}
+use Rattle.mutator_events.proofs.Calls.{within}
+use Rattle.mutator_events.proofs.Owed.{status_owed, still_as}
 use Rattle.mutator_events.proofs.seat.MutSeat.over.Goals as goal
 
 pub mutator_set_bits-requires-clause-made : goal.mutator_set_bits-requires-clause-made
@@ -16,45 +18,33 @@ mutator_set_bits-requires-clause-made g c =
 
 pub mutator_set_bits-requires-clause-kind : goal.mutator_set_bits-requires-clause-kind
 mutator_set_bits-requires-clause-kind g c =
-    let me = c.self.inside.seat.me in
-    let may = subst (λ (s : SeatView _). MayComeIn s.me) (sym c.self.view_is) c.requires.may in
-    owed_as g.P.Keeping.fixed me c.self.inside.number c.self.invariant.0.number_is
-    (λ n. event.Over n) (StatusOf me.number) c.status_word-word.result (SetBits over_bit) (SetBits over_bit)
-    (ap (λ (n : ℕ). 1 + n) c.self.invariant.0.number_is ∙ sym c.status_word-word.ensures.word) refl
-    (λ s l mine. owes_over g.P.Keeping.fixed me s l mine may)
+    let may = within (λ v. MayComeIn v) c.self.view_is c.requires.may in
+    status_owed g.P.Keeping.fixed c.self.invariant.0 (λ n. event.Over n) (SetBits over_bit)
+    c.status_word-word.ensures.word
+    (λ s l mine. owes_over g.P.Keeping.fixed c.self.inside.seat.me s l mine may)
 
 pub mutator_set_bits-requires-clause-rule : goal.mutator_set_bits-requires-clause-rule
 mutator_set_bits-requires-clause-rule g c =
-    still_as g.P.Keeping.fixed c.self.inside.seat.me c.self.inside.number
-    c.self.invariant.0.number_is g.P.Keeping.holds g.P.Keeping.shrinks
+    still_as g.P.Keeping.fixed c.self.invariant.0 g.P.Keeping.holds g.P.Keeping.shrinks
     (event.Over c.self.inside.number) (λ s l. refl)
 
 pub invariant_of-self : goal.invariant_of-self
 invariant_of-self g c =
-    let may = subst (λ (s : SeatView _). MayComeIn s.me) (sym c.self.view_is) c.requires.may in (
-      (after_over g.P.Keeping.holds g.P.Keeping.fixed c.self.inside.seat.me
-          c.mutator_set_bits.new.seat.me c.self.inside.number c.mutator_set_bits.result
-          c.self.inside.room c.self.inside.held.items c.self.inside.mode c.self.inside.inside
-          c.self.inside.status c.self.inside.claims c.self.invariant.0
-          c.mutator_set_bits.ensures.step may).1.keeps,
+    let may = within (λ v. MayComeIn v) c.self.view_is c.requires.may in (
+      (after_over c.self.invariant.0 may c.mutator_set_bits.ensures.step).1.keeps,
       c.self.invariant.1,
     )
 
 pub returns : goal.returns
 returns g c =
-    let may = subst (λ (s : SeatView _). MayComeIn s.me) (sym c.self.view_is) c.requires.may in
-    let after =
-    after_over g.P.Keeping.holds g.P.Keeping.fixed c.self.inside.seat.me
-    c.mutator_set_bits.new.seat.me c.self.inside.number c.mutator_set_bits.result
-    c.self.inside.room c.self.inside.held.items c.self.inside.mode c.self.inside.inside
-    c.self.inside.status c.self.inside.claims c.self.invariant.0
-    c.mutator_set_bits.ensures.step may in
+    let may = within (λ v. MayComeIn v) c.self.view_is c.requires.may in
+    let after = after_over c.self.invariant.0 may c.mutator_set_bits.ensures.step in
     record {
       told = (
         after.0,
-        seat_told c.self.inside.seat c.args.self.now c.mutator_set_bits.new.seat
-            (λ v. event.Over v.number)
+        seat_told c.mutator_set_bits.new.seat (λ v. event.Over v.number)
             (λ v. finds.Presence (record v.presence { status = after.0 })) c.self.view_is
-            c.mutator_set_bits.ensures.same after.1.view,
+            c.mutator_set_bits.ensures.same
+            after.1.view,
       );
     }

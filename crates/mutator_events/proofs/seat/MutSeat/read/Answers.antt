@@ -4,8 +4,7 @@ use Rattle.core_machine.specs.declared.events.Event.TheVariants as event
 use Rattle.core_machine.specs.declared.events.Found.TheVariants as finds
 use Rattle.core_machine.specs.Table.{FieldOf, index_of}
 use Rattle.core_machine.specs.WordOperations.{Load}
-use Rattle.heap_rule.specs.Asks.{MayRead}
-use Rattle.heap_rule.specs.Asks.{target}
+use Rattle.heap_rule.specs.Asks.{MayRead, target}
 use Rattle.heap_rule.specs.Steps.{Picks}
 use Rattle.heap_rule.proofs.Owing.{owes_read}
 use Rattle.heap_table.specs.Seats.{SeatView}
@@ -13,6 +12,8 @@ use Rattle.mutator_events.specs.Events.{AtEvent}
 use Rattle.mutator_events.specs.Seats.{IsMutator}
 use Rattle.mutator_events.specs.Values.{value_found}
 use Rattle.mutator_events.proofs.Calls.{after_read}
+use Rattle.mutator_events.proofs.Calls.{same_within}
+use Rattle.mutator_events.proofs.Calls.{within, without}
 use Rattle.mutator_events.proofs.Founds.{read_word}
 use Rattle.mutator_events.proofs.HeldCells.{held_many}
 use Rattle.mutator_events.proofs.Owed.{owed_as, picked_as}
@@ -24,59 +25,50 @@ mutator_load-number-requires-clause-made g c =
 
 pub mutator_load-number-requires-clause-kind : goal.mutator_load-number-requires-clause-kind
 mutator_load-number-requires-clause-kind g c =
+    let may = within (λ v. MayRead v c.args.place c.args.field) c.self.view_is c.requires.may in
     let me = c.self.inside.seat.me in
-    let may = subst (λ (s : SeatView _). MayRead s.me c.args.place c.args.field) (sym c.self.view_is) c.requires.may in
-    owed_as g.P.Keeping.fixed me c.self.inside.number c.self.invariant.0.number_is
-    (λ n. event.Read n c.args.place c.args.field) (FieldOf (target me c.args.place) c.args.field)
-    c.field_at-word.result Load Load
-    (ap (λ (s : SeatView _). index_of s.me.shape.mutators (FieldOf (target s.me c.args.place) c.args.field))
-    c.self.view_is ∙ sym c.field_at-word.ensures.word)
-    refl
-    (λ s l mine. owes_read g.P.Keeping.fixed me s l mine c.args.place c.args.field may)
+    owed_as g.P.Keeping.fixed c.self.invariant.0 (λ n. event.Read n c.args.place c.args.field)
+    (FieldOf (target me c.args.place) c.args.field) Load Load
+    (sym (same_within (λ v. index_of v.shape.mutators
+    (FieldOf (target v c.args.place) c.args.field))
+    c.self.view_is c.field_at-word.ensures.word))
+    refl (λ s l mine. owes_read g.P.Keeping.fixed me s l mine c.args.place c.args.field may)
 
 pub mutator_load-number-requires-clause-rule : goal.mutator_load-number-requires-clause-rule
 mutator_load-number-requires-clause-rule g c =
-    picked_as g.P.Keeping.fixed c.self.inside.seat.me c.self.inside.number
-    c.self.invariant.0.number_is g.P.Keeping.holds g.P.Keeping.shrinks g.C.Choice.next
-    (λ n. event.Read n c.args.place c.args.field)
-    (subst (λ (s : SeatView _). Picks g.P.Keeping.holds g.P.Keeping.fixed g.C.Choice.next s.me (event.Read s.me.number c.args.place c.args.field)) (sym c.self.view_is) c.requires.rule)
+    picked_as g.P.Keeping.fixed c.self.invariant.0 g.P.Keeping.holds g.P.Keeping.shrinks
+    g.C.Choice.next (λ n. event.Read n c.args.place c.args.field)
+    (within (λ v. Picks g.P.Keeping.holds g.P.Keeping.fixed g.C.Choice.next v
+    (event.Read v.number c.args.place c.args.field)) c.self.view_is c.requires.rule)
 
 pub field_of-found-requires : goal.field_of-found-requires
 field_of-found-requires g c =
-    read_word g.P.Keeping.holds g.P.Keeping.fixed g.C.Choice.next c.self.inside.seat.me
-    c.mutator_load-number.new.seat.me c.self.inside.number c.mutator_load-number.result c.args.place c.args.field
-    c.mutator_load-number.ensures.step
+    read_word c.mutator_load-number.ensures.step
 
 pub invariant_of-self : goal.invariant_of-self
 invariant_of-self g c =
-    let may = subst (λ (s : SeatView _). MayRead s.me c.args.place c.args.field) (sym c.self.view_is) c.requires.may in
+    let may = within (λ v. MayRead v c.args.place c.args.field) c.self.view_is c.requires.may in
     let seat = c.self.inside in (
-      subst (λ (cells : List ℕ). IsMutator c.mutator_load-number.new.seat.me seat.number seat.room cells seat.mode
+      subst (λ (cells : List ℕ). IsMutator c.mutator_load-number.new.seat.me seat.number seat.room
+          cells seat.mode
           seat.inside seat.status seat.claims) (sym c.hold_found.ensures.cells)
-          (after_read g.P.Keeping.holds g.P.Keeping.fixed g.C.Choice.next c.self.inside.seat.me
-          c.mutator_load-number.new.seat.me c.self.inside.number c.mutator_load-number.result
-          c.self.inside.room c.self.inside.held.items c.self.inside.mode c.self.inside.inside
-          c.self.inside.status c.self.inside.claims c.self.invariant.0
-          c.args.place c.args.field c.field_of-found.result c.field_of-found.ensures.field may
-          c.mutator_load-number.ensures.step).keeps,
+          (after_read c.self.invariant.0 c.args.place c.args.field c.field_of-found.result
+          c.field_of-found.ensures.field may c.mutator_load-number.ensures.step).keeps,
       omega (arith, c.self.invariant.1, c.hold_found.ensures.capacity),
     )
 
 pub returns-clause-told : goal.returns-clause-told
 returns-clause-told g c =
-    let may = subst (λ (s : SeatView _). MayRead s.me c.args.place c.args.field) (sym c.self.view_is) c.requires.may in
+    let may = within (λ v. MayRead v c.args.place c.args.field) c.self.view_is c.requires.may in
     let many = held_many c.self.inside.seat.me.own.held c.self.inside.held.items
-    c.self.invariant.0.held_is in (
+    c.self.invariant.0.own.held_is
+    ∙ ap (λ (s : SeatView _). length s.me.own.held) c.self.view_is in (
       c.field_of-found.result,
-      c.hold_found.ensures.value ∙ ap (λ (n : ℕ). value_found n c.field_of-found.result) (many
-          ∙ ap (λ (s : SeatView _). length s.me.own.held) c.self.view_is),
-      subst (λ (s : SeatView _). AtEvent g.P.Keeping.holds g.P.Keeping.fixed s.me
-          (event.Read s.me.number c.args.place c.args.field) g.C.Choice.next
-          (finds.Field c.field_of-found.result) c.mutator_load-number.new.seat.me) c.self.view_is
-          (after_read g.P.Keeping.holds g.P.Keeping.fixed g.C.Choice.next c.self.inside.seat.me
-          c.mutator_load-number.new.seat.me c.self.inside.number c.mutator_load-number.result
-          c.self.inside.room c.self.inside.held.items c.self.inside.mode c.self.inside.inside
-          c.self.inside.status c.self.inside.claims c.self.invariant.0
-          c.args.place c.args.field c.field_of-found.result c.field_of-found.ensures.field may
-          c.mutator_load-number.ensures.step).event,
+      c.hold_found.ensures.value ∙ ap (λ (n : ℕ). value_found n c.field_of-found.result) many,
+      without (λ v. AtEvent g.P.Keeping.holds g.P.Keeping.fixed v
+          (event.Read v.number c.args.place c.args.field) g.C.Choice.next
+          (finds.Field c.field_of-found.result)
+          c.mutator_load-number.new.seat.me) c.self.view_is
+          (after_read c.self.invariant.0 c.args.place c.args.field c.field_of-found.result
+          c.field_of-found.ensures.field may c.mutator_load-number.ensures.step).event,
     )
