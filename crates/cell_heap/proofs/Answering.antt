@@ -69,5 +69,5 @@ exchanges_out known control wanted before over old new is asked earlier first se
     ap (λ (s : Status). answer_out_exchange s over)
     (ap (λ (x : Control). requested_of x.stage) is ∙ sym asked)
     ∙ (λ j. Exchange
-      ((ap (λ (s : Status). pack_presence_of (out_with s over)) (sym earlier) ∙ sym first) j)
-      (sym second j))
+    ((ap (λ (s : Status). pack_presence_of (out_with s over)) (sym earlier) ∙ sym first) j)
+    (sym second j))

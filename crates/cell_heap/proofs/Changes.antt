@@ -1,6 +1,6 @@
 -- What the code keeps at hand changes as the collector's own part does.
-use Rattle.std.proofs.Common.{◌≡◌, ◌==◌, ◌&&◌, ℕ, Bool, true, false, not, Some, refl, sym}
-use Rattle.std.proofs.Common.{◌∙◌, ap, if◌then◌else◌}
+use Rattle.std.proofs.Common.{◌≡◌, ◌==◌, ◌&&◌, ℕ, Bool, true, false, not, Option, Some, None}
+use Rattle.std.proofs.Common.{refl, sym, ◌∙◌, ap, if◌then◌else◌}
 use Rattle.cell_heap.specs.declared.progress.Progress.{Progress}
 use Rattle.cell_heap.specs.Progress.{changed, part_of, progress_of}
 use Rattle.cell_words.specs.Control.{pack_control_of}
@@ -9,9 +9,13 @@ use Rattle.cell_words.specs.declared.colours.Colour.TheVariants as colour
 use Rattle.cell_words.specs.declared.controls.Control.{Control}
 use Rattle.cell_words.specs.declared.controls.Stage.{Stage}
 use Rattle.cell_words.specs.declared.controls.Stage.TheVariants as stage
+use Rattle.cell_words.specs.declared.fields.Field.{Field}
 use Rattle.core_machine.specs.declared.events.Event.{Event}
-use Rattle.core_machine.specs.Collector.{Collector, answered_by, control_after, passed, posted}
-use Rattle.core_machine.specs.Collector.{restarted, scanning_from, seen}
+use Rattle.core_machine.specs.declared.progress.Scanning.{Scanning}
+use Rattle.core_machine.specs.declared.progress.Sweeping.{Sweeping}
+use Rattle.core_machine.specs.Collector.{Collector, answered_by, control_after, on_scan, passed}
+use Rattle.core_machine.specs.Collector.{posted, restarted, scan_shaded, scanned, scanning_from, seen}
+use Rattle.core_machine.specs.Tracing.{may_scan, may_shade, scan_or_none}
 use Rattle.core_machine.specs.WordOperations.{Store}
 
 -- the control that is stored
@@ -80,5 +84,54 @@ sees c known cells cell found k progress further many is same moved =
     ap (λ (n : ℕ). progress_of (seen (restarted c n) cell found)) many
     ∙ ap (λ (x : Colour). progress_of (seen (restarted c cells) cell x)) is
     ∙ seeing (restarted c cells) (restarted (part_of (progress_of c)) cells) cell k
-      (restarts c cells)
+    (restarts c cells)
     ∙ ap (changed (λ part. seen (restarted part cells) cell k)) same ∙ sym moved
+
+-- The scan. One that goes on is there.
+
+pub scans_at : (c : Collector) (progress : Progress) (scan : Scanning) → progress_of c ≡ progress
+    → scan ≡ scan_or_none progress.scan → scan_or_none c.scan ≡ scan
+scans_at c progress scan is at = ap (λ (p : Progress). scan_or_none p.scan) is ∙ sym at
+
+on_scanning : (change : Scanning → Scanning) (scan : Option Scanning)
+    → (scan ≡ None → ⊥) → on_scan change scan ≡ Some (change (scan_or_none scan))
+on_scanning change None there = absurd (there refl)
+on_scanning change (Some scan) there = refl
+
+scan_goes_on : (c : Collector) (progress : Progress) (scan further : Scanning)
+    (change : Scanning → Scanning) → (c.scan ≡ None → ⊥) → progress_of c ≡ progress
+    → scan ≡ scan_or_none progress.scan → further ≡ change scan
+    → progress_of (record c { scan = on_scan change c.scan })
+    ≡ record progress { scan = Some further }
+scan_goes_on c progress scan further change there is at moved =
+    (λ j. record (is j) {
+      scan = (on_scanning change c.scan there
+          ∙ ap (λ (x : Scanning). Some (change x)) (scans_at c progress scan is at)
+          ∙ ap Some (sym moved)) j;
+    })
+
+pub scans : (c : Collector) (progress : Progress) (scan further : Scanning) (found field : Field)
+    → may_scan c.scan ≡ true → progress_of c ≡ progress → scan ≡ scan_or_none progress.scan
+    → found ≡ field → further ≡ scanned scan field
+    → progress_of (record c { scan = on_scan (λ s. scanned s found) c.scan })
+    ≡ record progress { scan = Some further }
+scans c progress scan further found field may is at same moved =
+    scan_goes_on c progress scan further (λ s. scanned s found)
+    (λ no. let false_is = rw no at may in cc) is at
+    (moved ∙ ap (scanned scan) (sym same))
+
+pub shades : (c : Collector) (progress : Progress) (scan further : Scanning)
+    → may_shade c.scan ≡ true → progress_of c ≡ progress → scan ≡ scan_or_none progress.scan
+    → further ≡ scan_shaded scan
+    → progress_of (record c { scan = on_scan scan_shaded c.scan })
+    ≡ record progress { scan = Some further }
+shades c progress scan further may is at moved =
+    scan_goes_on c progress scan further scan_shaded
+    (λ no. let false_is = rw no at may in cc) is at moved
+
+-- The sweep.
+
+pub sweeps : (c : Collector) (progress : Progress) (sweep further : Sweeping) → sweep ≡ further
+    → progress_of c ≡ progress
+    → progress_of (record c { sweep = sweep }) ≡ record progress { sweep = further }
+sweeps c progress sweep further goes is = (λ j. record (is j) { sweep = goes j })

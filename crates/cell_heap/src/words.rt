@@ -8,9 +8,7 @@ ghost use Rattle.cell_words.specs.declared.fields.Field.{Field};
 ghost use Rattle.cell_words.specs.declared.presences.Presence.{Presence};
 ghost use Rattle.core_machine.specs.Table.{ColourOf, FieldOf, StatusOf, index_of};
 
-use cell_words::{
-    Colour, Field, Presence, unpack_colour, unpack_field, unpack_presence,
-};
+use cell_words::{Colour, Field, Presence, unpack_colour, unpack_field, unpack_presence};
 
 /// The control's word.
 pub(crate) const CONTROL: usize = 0;
