@@ -11,7 +11,7 @@ use core_machine::{Scanning, Sweeping};
 
 /// What the code keeps at hand of the collector's own part: what its next operation depends on, and
 /// the count of freed cells.
-#[derive(Clone, Copy, Debug, PartialEq, Eq)]
+#[derive(Clone, Copy)]
 pub(crate) struct Progress {
     /// the cell that clearing, or this pass of tracing, has come to
     pub cursor: u32,
