@@ -2,6 +2,7 @@
 use Rattle.std.proofs.Common.{◌≡◌, ◌==◌, ◌&&◌, ℕ, Bool, true, false, not, Option, Some, None}
 use Rattle.std.proofs.Common.{refl, sym, ◌∙◌, ap, if◌then◌else◌}
 use Rattle.cell_heap.specs.declared.progress.Progress.{Progress}
+use Rattle.cell_heap.specs.Collecting.{IsCollector}
 use Rattle.cell_heap.specs.Progress.{changed, part_of, progress_of}
 use Rattle.cell_words.specs.Control.{pack_control_of}
 use Rattle.cell_words.specs.declared.colours.Colour.{Colour}
@@ -17,6 +18,8 @@ use Rattle.core_machine.specs.Collector.{Collector, answered_by, control_after, 
 use Rattle.core_machine.specs.Collector.{posted, restarted, scan_shaded, scanned, scanning_from, seen}
 use Rattle.core_machine.specs.Tracing.{may_scan, may_shade, scan_or_none}
 use Rattle.core_machine.specs.WordOperations.{Store}
+use Rattle.cell_heap.proofs.AtHand.{scan_is}
+use Rattle.heap_rule.specs.declared.view.View.{View}
 
 -- the control that is stored
 pub stores_control : (e : Event) (known control next : Control) (word : ℕ) → known ≡ control
@@ -34,12 +37,6 @@ posting c stage.Clear = refl
 posting c stage.Sync2 = refl
 posting c stage.Trace = refl
 posting c stage.Sweep = refl
-
-pub posts : (c : Collector) (target : Stage) (progress further : Progress)
-    → progress_of c ≡ progress → further ≡ changed (λ part. posted part target) progress
-    → progress_of (posted c target) ≡ further
-posts c target progress further is moved =
-    posting c target ∙ ap (changed (λ part. posted part target)) is ∙ sym moved
 
 -- an answer to a handshake
 pub answers : (c : Collector) (i : ℕ) (b : Bool) → progress_of (answered_by c i b) ≡ progress_of c
@@ -76,62 +73,54 @@ seeing c d cell colour.Gray same =
     ap (λ (p : Progress). record p { clean = false; scan = Some (scanning_from cell) }) same
 seeing c d cell colour.Black same = passes c d cell same
 
-pub sees : (c : Collector) (known cells cell : ℕ) (found k : Colour) (progress further : Progress)
-    → known ≡ cells → found ≡ k → progress_of c ≡ progress
-    → further ≡ changed (λ part. seen (restarted part cells) cell k) progress
-    → progress_of (seen (restarted c known) cell found) ≡ further
-sees c known cells cell found k progress further many is same moved =
-    ap (λ (n : ℕ). progress_of (seen (restarted c n) cell found)) many
-    ∙ ap (λ (x : Colour). progress_of (seen (restarted c cells) cell x)) is
-    ∙ seeing (restarted c cells) (restarted (part_of (progress_of c)) cells) cell k
-    (restarts c cells)
-    ∙ ap (changed (λ part. seen (restarted part cells) cell k)) same ∙ sym moved
-
--- The scan. One that goes on is there.
-
-pub scans_at : (c : Collector) (progress : Progress) (scan : Scanning) → progress_of c ≡ progress
-    → scan ≡ scan_or_none progress.scan → scan_or_none c.scan ≡ scan
-scans_at c progress scan is at = ap (λ (p : Progress). scan_or_none p.scan) is ∙ sym at
-
-on_scanning : (change : Scanning → Scanning) (scan : Option Scanning)
-    → (scan ≡ None → ⊥) → on_scan change scan ≡ Some (change (scan_or_none scan))
+on_scanning : (change : Scanning → Scanning) (scan : Option Scanning) → (scan ≡ None → ⊥)
+    → on_scan change scan ≡ Some (change (scan_or_none scan))
 on_scanning change None there = absurd (there refl)
 on_scanning change (Some scan) there = refl
 
-scan_goes_on : (c : Collector) (progress : Progress) (scan further : Scanning)
-    (change : Scanning → Scanning) → (c.scan ≡ None → ⊥) → progress_of c ≡ progress
-    → scan ≡ scan_or_none progress.scan → further ≡ change scan
-    → progress_of (record c { scan = on_scan change c.scan })
-    ≡ record progress { scan = Some further }
-scan_goes_on c progress scan further change there is at moved =
-    (λ j. record (is j) {
-      scan = (on_scanning change c.scan there
-          ∙ ap (λ (x : Scanning). Some (change x)) (scans_at c progress scan is at)
-          ∙ ap Some (sym moved)) j;
-    })
+-- By the numbers that the seat has at hand.
+module _ {P : Type 0} {v : View P} {cells mutators : ℕ} {control : Control} {progress : Progress}
+    (is : IsCollector v cells mutators control progress) where
+  pub posts : (target : Stage) {further : Progress}
+      → further ≡ changed (λ part. posted part target) progress
+      → progress_of (posted v.part target) ≡ further
+  posts target moved =
+      posting v.part target ∙ ap (changed (λ part. posted part target)) is.progress_is ∙ sym moved
 
-pub scans : (c : Collector) (progress : Progress) (scan further : Scanning) (found field : Field)
-    → may_scan c.scan ≡ true → progress_of c ≡ progress → scan ≡ scan_or_none progress.scan
-    → found ≡ field → further ≡ scanned scan field
-    → progress_of (record c { scan = on_scan (λ s. scanned s found) c.scan })
-    ≡ record progress { scan = Some further }
-scans c progress scan further found field may is at same moved =
-    scan_goes_on c progress scan further (λ s. scanned s found)
-    (λ no. let false_is = rw no at may in cc) is at
-    (moved ∙ ap (scanned scan) (sym same))
+  pub sees : (cell : ℕ) {found k : Colour} {further : Progress} → found ≡ k
+      → further ≡ changed (λ part. seen (restarted part cells) cell k) progress
+      → progress_of (seen (restarted v.part v.shape.cells) cell found) ≡ further
+  sees cell {found} {k} same moved =
+      (λ j. progress_of (seen (restarted v.part (is.cells_are j)) cell (same j)))
+      ∙ seeing (restarted v.part cells) (restarted (part_of (progress_of v.part)) cells) cell k
+      (restarts v.part cells)
+      ∙ ap (changed (λ part. seen (restarted part cells) cell k)) is.progress_is ∙ sym moved
 
-pub shades : (c : Collector) (progress : Progress) (scan further : Scanning)
-    → may_shade c.scan ≡ true → progress_of c ≡ progress → scan ≡ scan_or_none progress.scan
-    → further ≡ scan_shaded scan
-    → progress_of (record c { scan = on_scan scan_shaded c.scan })
-    ≡ record progress { scan = Some further }
-shades c progress scan further may is at moved =
-    scan_goes_on c progress scan further scan_shaded
-    (λ no. let false_is = rw no at may in cc) is at moved
+  scan_goes_on : (change : Scanning → Scanning) {scan further : Scanning}
+      → (v.part.scan ≡ None → ⊥) → scan ≡ scan_or_none progress.scan → further ≡ change scan
+      → progress_of (record v.part { scan = on_scan change v.part.scan })
+      ≡ record progress { scan = Some further }
+  scan_goes_on change there at moved = (λ j. record (is.progress_is j) {
+    scan = (on_scanning change v.part.scan there
+        ∙ ap (λ (x : Scanning). Some (change x)) (scan_is is at) ∙ ap Some (sym moved)) j;
+  })
 
--- The sweep.
+  -- a scan that may go on is there
+  pub scans : {scan further : Scanning} {found field : Field} → may_scan v.part.scan ≡ true
+      → scan ≡ scan_or_none progress.scan → found ≡ field → further ≡ scanned scan field
+      → progress_of (record v.part { scan = on_scan (λ s. scanned s found) v.part.scan })
+      ≡ record progress { scan = Some further }
+  scans {scan} {further} {found} may at same moved =
+      scan_goes_on (λ s. scanned s found) (λ no. let none = rw no at may in cc) at
+      (moved ∙ ap (scanned scan) (sym same))
 
-pub sweeps : (c : Collector) (progress : Progress) (sweep further : Sweeping) → sweep ≡ further
-    → progress_of c ≡ progress
-    → progress_of (record c { sweep = sweep }) ≡ record progress { sweep = further }
-sweeps c progress sweep further goes is = (λ j. record (is j) { sweep = goes j })
+  pub shades : {scan further : Scanning} → may_shade v.part.scan ≡ true
+      → scan ≡ scan_or_none progress.scan → further ≡ scan_shaded scan
+      → progress_of (record v.part { scan = on_scan scan_shaded v.part.scan })
+      ≡ record progress { scan = Some further }
+  shades may at moved =
+      scan_goes_on scan_shaded (λ no. let none = rw no at may in cc) at moved
+
+  pub sweeps : {sweep further : Sweeping} → sweep ≡ further
+      → progress_of (record v.part { sweep = sweep }) ≡ record progress { sweep = further }
+  sweeps goes = (λ j. record (is.progress_is j) { sweep = goes j })

@@ -118,12 +118,12 @@ module _ (cells mutators : ℕ) (control : Control) (part : Collector) where
 
 module _ {P : Type 0} where
   -- the event that the condition allows, by the operation and on the word that the table has for it
-  pub owes : (fixed : ℕ → Bool) (old inside : SeatView P) (e : Event) (word : ℕ) (o : Operation)
+  pub owes : {old inside : SeatView P} (fixed : ℕ → Bool) (e : Event) (word : ℕ) (o : Operation)
       → inside ≡ old → maker e ≡ None → can (collector_state old.me) e ≡ true
       → index_of inside.me.shape.mutators (word_of (collector_state inside.me) e) ≡ word
       → operation_of (collector_state inside.me) e ≡ o
       → CollectorOwes fixed inside.me e word (left_by o) (told_by o)
-  owes fixed old inside e word o is made allowed at by =
+  owes {old} {inside} fixed e word o is made allowed at by =
       let happens : can (collector_state inside.me) e ≡ true =
       subst (λ (s : SeatView P). can (collector_state s.me) e ≡ true) (sym is) allowed in
       subst
@@ -131,19 +131,19 @@ module _ {P : Type 0} where
       (λ t. (at t, by t)) (collector_asks fixed inside.me e made happens)
 
   -- the condition, of the seat opened
-  pub allowed : (old inside : SeatView P) (e : Event) → inside ≡ old
+  pub allowed : {old inside : SeatView P} (e : Event) → inside ≡ old
       → can (collector_state old.me) e ≡ true → can (collector_state inside.me) e ≡ true
-  allowed old inside e is h =
+  allowed e is h =
       subst (λ (s : SeatView P). can (collector_state s.me) e ≡ true) (sym is) h
 
   -- and its word lies in the table
-  pub below : {cells mutators : ℕ} {control : Control} {progress : Progress} (heap : HeapId)
-      (old inside : SeatView P) (e : Event) (word : ℕ) → inside ≡ old → IsSeatOf heap old
+  pub below : {cells mutators : ℕ} {control : Control} {progress : Progress} {old inside : SeatView P}
+      (heap : HeapId) (e : Event) {word : ℕ} → inside ≡ old → IsSeatOf heap old
       → IsCollector inside.me cells mutators control progress → maker e ≡ None
       → can (collector_state old.me) e ≡ true
       → index_of inside.me.shape.mutators (word_of (collector_state inside.me) e) ≡ word
       → word < words_many heap.shape
-  below {cells} {mutators} {control} {progress} heap old inside e word is of at_hand made h at =
+  below {cells} {mutators} {control} {progress} {old} {inside} heap e is of at_hand made h at =
       let shape : inside.me.shape ≡ heap.shape =
       ap (λ (s : SeatView P). s.me.shape) is ∙ of.1 in
       let within : IsWithin inside.me.shape.cells inside.me.control (progress_of inside.me.part) =
@@ -155,20 +155,8 @@ module _ {P : Type 0} where
       in_table inside.me.shape.cells inside.me.shape.mutators inside.me.control inside.me.part
       (word_of (collector_state inside.me) e)
       (there inside.me.shape.cells inside.me.shape.mutators inside.me.control inside.me.part e made
-      within (allowed old inside e is h)) in
+      within (allowed e is h)) in
       subst (λ (x : ℕ × Shape). x.0 < words_many x.1) (λ j. (at j, shape j)) lies
-
--- Where a word lies, by the numbers at hand.
-
-pub colour_at : (had mutators cell here word : ℕ) → had ≡ mutators → cell ≡ here
-    → word ≡ index_of mutators (ColourOf here) → index_of had (ColourOf cell) ≡ word
-colour_at had mutators cell here word many at is =
-    (λ j. index_of (many j) (ColourOf (at j))) ∙ sym is
-
-pub field_at : (had mutators cell here f g word : ℕ) → had ≡ mutators → cell ≡ here → f ≡ g
-    → word ≡ index_of mutators (FieldOf here g) → index_of had (FieldOf cell f) ≡ word
-field_at had mutators cell here f g word many at of is =
-    (λ j. index_of (many j) (FieldOf (at j) (of j))) ∙ sym is
 
 -- The operations.
 

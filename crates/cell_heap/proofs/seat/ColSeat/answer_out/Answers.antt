@@ -15,13 +15,13 @@ use Rattle.cell_heap.proofs.seat.ColSeat.answer_out.Goals as goal
 
 pub collector_exchange-found-requires-clause-word : goal.collector_exchange-found-requires-clause-word
 collector_exchange-found-requires-clause-word g c =
-    below c.args.heap.now c.args.self.now c.self.inside.seat (event.AnswerOut c.args.mutator c.args.over)
-    c.status_word-word.result c.self.view_is c.requires.seat c.self.invariant refl c.requires.can
+    below c.args.heap.now (event.AnswerOut c.args.mutator c.args.over) c.self.view_is
+    c.requires.seat c.self.invariant refl c.requires.can
     (sym (c.status_word-word.ensures.index 0))
 
 pub collector_exchange-found-requires-clause-kind : goal.collector_exchange-found-requires-clause-kind
 collector_exchange-found-requires-clause-kind g c =
-    owes g.P.Keeping.fixed c.args.self.now c.self.inside.seat
+    owes g.P.Keeping.fixed
     (event.AnswerOut c.args.mutator c.args.over) c.status_word-word.result
     (Exchange c.pack_presence-old.result c.pack_presence-new.result) c.self.view_is refl
     c.requires.can (sym (c.status_word-word.ensures.index 0))

@@ -1,12 +1,11 @@
 use Rattle.std.proofs.Common.{ap, refl, sym, ◌∙◌}
 use Rattle.cell_heap.specs.declared.progress.Progress.{Progress}
-use Rattle.cell_words.specs.declared.controls.Control.{Control}
-use Rattle.core_machine.specs.Sweep.{wiped_count}
 use Rattle.core_machine.specs.Collector.{wiped}
+use Rattle.cell_heap.proofs.AtHand.{at_wiped}
 use Rattle.cell_heap.proofs.Changes.{sweeps}
 use Rattle.cell_heap.proofs.Kept.{kept}
 use Rattle.cell_heap.proofs.Made.{made, tells}
-use Rattle.cell_heap.proofs.Owed.{below, field_at, owes, stores}
+use Rattle.cell_heap.proofs.Owed.{below, owes, stores}
 use Rattle.core_machine.specs.WordOperations.{Store}
 use Rattle.core_machine.specs.declared.events.Event.TheVariants as event
 use Rattle.core_machine.specs.declared.events.Found.TheVariants as finds
@@ -14,32 +13,31 @@ use Rattle.cell_heap.proofs.seat.ColSeat.wipe.Goals as goal
 
 pub collector_store-requires-clause-word : goal.collector_store-requires-clause-word
 collector_store-requires-clause-word g c =
-    below c.args.heap.now c.args.self.now c.self.inside.seat event.Wipe
-    c.field_word-word.result c.self.view_is c.requires.seat c.self.invariant refl c.requires.can
-    (field_at c.self.inside.seat.me.shape.mutators c.self.inside.mutators c.self.inside.seat.me.control.position c.self.inside.control.position _ c.wiped_count-field.result
-    c.field_word-word.result c.self.invariant.mutators_are (ap (λ (x : Control). x.position) c.self.invariant.control_is) (ap (λ (p : Progress). wiped_count p.sweep) c.self.invariant.progress_is ∙ sym c.wiped_count-field.ensures.count)
+    below c.args.heap.now event.Wipe c.self.view_is c.requires.seat c.self.invariant refl
+    c.requires.can
+    (at_wiped c.self.invariant c.wiped_count-field.ensures.count
     c.field_word-word.ensures.index)
 
 pub collector_store-requires-clause-kind : goal.collector_store-requires-clause-kind
 collector_store-requires-clause-kind g c =
-    owes g.P.Keeping.fixed c.args.self.now c.self.inside.seat event.Wipe c.field_word-word.result
-    (Store c.pack_field-null.result) c.self.view_is refl c.requires.can
-    (field_at c.self.inside.seat.me.shape.mutators c.self.inside.mutators c.self.inside.seat.me.control.position c.self.inside.control.position _ c.wiped_count-field.result
-    c.field_word-word.result c.self.invariant.mutators_are (ap (λ (x : Control). x.position) c.self.invariant.control_is) (ap (λ (p : Progress). wiped_count p.sweep) c.self.invariant.progress_is ∙ sym c.wiped_count-field.ensures.count)
+    owes g.P.Keeping.fixed event.Wipe c.field_word-word.result (Store c.pack_field-null.result)
+    c.self.view_is refl c.requires.can
+    (at_wiped c.self.invariant c.wiped_count-field.ensures.count
     c.field_word-word.ensures.index)
     (stores c.pack_field-null.result _ c.pack_field-null.ensures.word)
 
 pub invariant_of-self : goal.invariant_of-self
 invariant_of-self g c =
     let step = c.collector_store.ensures.step in
-    kept (made c.self.view_is c.collector_store.ensures.same step) c.self.invariant refl _ refl
-    _ (sweeps c.self.inside.seat.me.part c.self.inside.progress _ c.wiped-further.result
-    (ap (λ (p : Progress). wiped p.sweep) c.self.invariant.progress_is
-    ∙ sym c.wiped-further.ensures.sweep) c.self.invariant.progress_is)
+    let m = made c.self.view_is c.collector_store.ensures.same step in
+    kept m c.self.invariant refl _ refl _
+    (sweeps c.self.invariant (ap (λ (p : Progress). wiped p.sweep) c.self.invariant.progress_is
+    ∙ sym c.wiped-further.ensures.sweep))
 
 pub returns : goal.returns
 returns g c =
     let step = c.collector_store.ensures.step in
+    let m = made c.self.view_is c.collector_store.ensures.same step in
     record {
-      told = tells (made c.self.view_is c.collector_store.ensures.same step) finds.Stored step.new;
+      told = tells m finds.Stored step.new;
     }
