@@ -15,7 +15,8 @@ use Rattle.core_machine.specs.declared.events.Event.{Event}
 use Rattle.core_machine.specs.declared.progress.Scanning.{Scanning}
 use Rattle.core_machine.specs.declared.progress.Sweeping.{Sweeping}
 use Rattle.core_machine.specs.Collector.{Collector, answered_by, control_after, on_scan, passed}
-use Rattle.core_machine.specs.Collector.{posted, restarted, scan_shaded, scanned, scanning_from, seen}
+use Rattle.core_machine.specs.Collector.{posted, restarted, scan_shaded, scanned, scanning_from}
+use Rattle.core_machine.specs.Collector.{seen}
 use Rattle.core_machine.specs.Tracing.{may_scan, may_shade, scan_or_none}
 use Rattle.core_machine.specs.WordOperations.{Store}
 use Rattle.cell_heap.proofs.AtHand.{scan_is}

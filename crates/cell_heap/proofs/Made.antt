@@ -27,7 +27,7 @@ finds_no_gray s found h is =
     ap is_gray (sym is) ∙ not-true (is_gray (colour_of s s.control.position)) (and_parts _ _ h).1
 
 module _ {P : Type 0} where
-  -- The operation was made: the seat that the call was given, the same opened, and the one after it.
+  -- The operation was made: the seat that the call was given, the same opened, and the one behind.
   pub record Made (fixed : ℕ → Bool) (old inside new : SeatView P) (e : Event)
       (number : ℕ) : Type 0 where
     pub is : inside ≡ old

@@ -137,8 +137,9 @@ module _ {P : Type 0} where
       subst (λ (s : SeatView P). can (collector_state s.me) e ≡ true) (sym is) h
 
   -- and its word lies in the table
-  pub below : {cells mutators : ℕ} {control : Control} {progress : Progress} {old inside : SeatView P}
-      (heap : HeapId) (e : Event) {word : ℕ} → inside ≡ old → IsSeatOf heap old
+  pub below : {cells mutators : ℕ} {control : Control} {progress : Progress}
+      {old inside : SeatView P} (heap : HeapId) (e : Event) {word : ℕ} → inside ≡ old
+      → IsSeatOf heap old
       → IsCollector inside.me cells mutators control progress → maker e ≡ None
       → can (collector_state old.me) e ≡ true
       → index_of inside.me.shape.mutators (word_of (collector_state inside.me) e) ≡ word

@@ -44,7 +44,8 @@ impl Progress {
     /// come to it. A pass that met gray and has come to the end starts over.
     pub fn see(&mut self, cells: u32, cell: u32, colour: Colour)
         requires below { cell < cells }
-        ensures seen { self.new ≡ changed (λ part. seen (restarted part cells) cell colour) self.old }
+        ensures seen { self.new
+            ≡ changed (λ part. seen (restarted part cells) cell colour) self.old }
     {
         if self.cursor == cells && !self.clean {
             self.cursor = 0;

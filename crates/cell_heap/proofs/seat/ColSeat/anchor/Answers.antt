@@ -16,7 +16,8 @@ collector_exchange-requires-clause-word g c =
 
 pub collector_exchange-requires-clause-kind : goal.collector_exchange-requires-clause-kind
 collector_exchange-requires-clause-kind g c =
-    owes g.P.Keeping.fixed event.Anchor c.colour_word-word.result (Exchange c.pack_colour-old.result c.pack_colour-new.result)
+    owes g.P.Keeping.fixed event.Anchor c.colour_word-word.result
+    (Exchange c.pack_colour-old.result c.pack_colour-new.result)
     c.self.view_is refl c.requires.can
     (at_cell c.self.invariant 0 c.colour_word-word.ensures.index)
     (exchanges c.pack_colour-old.result c.pack_colour-new.result _ _

@@ -17,7 +17,8 @@ collector_store-requires-clause-word g c =
 
 pub collector_store-requires-clause-kind : goal.collector_store-requires-clause-kind
 collector_store-requires-clause-kind g c =
-    owes g.P.Keeping.fixed event.Blacken c.colour_word-word.result (Store c.pack_colour-black.result)
+    owes g.P.Keeping.fixed event.Blacken c.colour_word-word.result
+    (Store c.pack_colour-black.result)
     c.self.view_is refl c.requires.can
     (at_scanned c.self.invariant c.scan_or_none-scan.ensures.scan c.colour_word-word.ensures.index)
     (stores c.pack_colour-black.result _ c.pack_colour-black.ensures.word)

@@ -17,7 +17,8 @@ collector_exchange-requires-clause-word g c =
 
 pub collector_exchange-requires-clause-kind : goal.collector_exchange-requires-clause-kind
 collector_exchange-requires-clause-kind g c =
-    owes g.P.Keeping.fixed event.ClearCell c.colour_word-word.result (Exchange c.pack_colour-old.result c.pack_colour-new.result)
+    owes g.P.Keeping.fixed event.ClearCell c.colour_word-word.result
+    (Exchange c.pack_colour-old.result c.pack_colour-new.result)
     c.self.view_is refl c.requires.can
     (at_cursor c.self.invariant c.colour_word-word.ensures.index)
     (exchanges c.pack_colour-old.result c.pack_colour-new.result _ _

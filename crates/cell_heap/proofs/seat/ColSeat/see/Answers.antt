@@ -11,7 +11,8 @@ use Rattle.cell_heap.proofs.seat.ColSeat.see.Goals as goal
 
 pub collector_load-found-requires-clause-word : goal.collector_load-found-requires-clause-word
 collector_load-found-requires-clause-word g c =
-    below c.args.heap.now (event.See c.args.cell) c.self.view_is c.requires.seat c.self.invariant refl
+    below c.args.heap.now (event.See c.args.cell) c.self.view_is c.requires.seat
+    c.self.invariant refl
     c.requires.can
     (at_cell c.self.invariant c.args.cell c.colour_word-word.ensures.index)
 

@@ -18,7 +18,8 @@ collector_exchange-requires-clause-word g c =
 
 pub collector_exchange-requires-clause-kind : goal.collector_exchange-requires-clause-kind
 collector_exchange-requires-clause-kind g c =
-    owes g.P.Keeping.fixed event.Shade c.colour_word-word.result (Exchange c.pack_colour-old.result c.pack_colour-new.result)
+    owes g.P.Keeping.fixed event.Shade c.colour_word-word.result
+    (Exchange c.pack_colour-old.result c.pack_colour-new.result)
     c.self.view_is refl c.requires.can
     (at_child c.self.invariant c.scan_or_none-scan.ensures.scan
     c.child_or_anchor-child.ensures.child c.colour_word-word.ensures.index)
