@@ -7,7 +7,8 @@ use Rattle.cell_words.specs.declared.presences.Status.{Status}
 use Rattle.cell_words.specs.declared.presences.Status.TheVariants as status
 use Rattle.cell_words.specs.Modes.{requested_of}
 use Rattle.cell_words.specs.declared.controls.Control.{Control}
-use Rattle.core_machine.specs.WordOperations.{Exchange, answer_out_exchange, out_with, status_before}
+use Rattle.core_machine.specs.WordOperations.{Exchange, answer_out_exchange, out_with}
+use Rattle.core_machine.specs.WordOperations.{status_before}
 use Rattle.core_machine.specs.Words.{may_answer_out}
 
 abbrev IsExchanged : Status → Status → Bool → Bool → Bool → Type 0

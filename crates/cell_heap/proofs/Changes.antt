@@ -1,7 +1,8 @@
 -- What the code keeps at hand changes as the collector's own part does.
-use Rattle.std.proofs.Common.{◌≡◌, ◌==◌, ◌&&◌, ℕ, Bool, true, false, not, Some, refl, sym}
-use Rattle.std.proofs.Common.{◌∙◌, ap, if◌then◌else◌}
+use Rattle.std.proofs.Common.{◌≡◌, ◌==◌, ◌&&◌, ℕ, Bool, true, false, not, Option, Some, None}
+use Rattle.std.proofs.Common.{refl, sym, ◌∙◌, ap, if◌then◌else◌}
 use Rattle.cell_heap.specs.declared.progress.Progress.{Progress}
+use Rattle.cell_heap.specs.Collecting.{IsCollector}
 use Rattle.cell_heap.specs.Progress.{changed, part_of, progress_of}
 use Rattle.cell_words.specs.Control.{pack_control_of}
 use Rattle.cell_words.specs.declared.colours.Colour.{Colour}
@@ -9,10 +10,17 @@ use Rattle.cell_words.specs.declared.colours.Colour.TheVariants as colour
 use Rattle.cell_words.specs.declared.controls.Control.{Control}
 use Rattle.cell_words.specs.declared.controls.Stage.{Stage}
 use Rattle.cell_words.specs.declared.controls.Stage.TheVariants as stage
+use Rattle.cell_words.specs.declared.fields.Field.{Field}
 use Rattle.core_machine.specs.declared.events.Event.{Event}
-use Rattle.core_machine.specs.Collector.{Collector, answered_by, control_after, passed, posted}
-use Rattle.core_machine.specs.Collector.{restarted, scanning_from, seen}
+use Rattle.core_machine.specs.declared.progress.Scanning.{Scanning}
+use Rattle.core_machine.specs.declared.progress.Sweeping.{Sweeping}
+use Rattle.core_machine.specs.Collector.{Collector, answered_by, control_after, on_scan, passed}
+use Rattle.core_machine.specs.Collector.{posted, restarted, scan_shaded, scanned, scanning_from}
+use Rattle.core_machine.specs.Collector.{seen}
+use Rattle.core_machine.specs.Tracing.{may_scan, may_shade, scan_or_none}
 use Rattle.core_machine.specs.WordOperations.{Store}
+use Rattle.cell_heap.proofs.AtHand.{scan_is}
+use Rattle.heap_rule.specs.declared.view.View.{View}
 
 -- the control that is stored
 pub stores_control : (e : Event) (known control next : Control) (word : ℕ) → known ≡ control
@@ -30,12 +38,6 @@ posting c stage.Clear = refl
 posting c stage.Sync2 = refl
 posting c stage.Trace = refl
 posting c stage.Sweep = refl
-
-pub posts : (c : Collector) (target : Stage) (progress further : Progress)
-    → progress_of c ≡ progress → further ≡ changed (λ part. posted part target) progress
-    → progress_of (posted c target) ≡ further
-posts c target progress further is moved =
-    posting c target ∙ ap (changed (λ part. posted part target)) is ∙ sym moved
 
 -- an answer to a handshake
 pub answers : (c : Collector) (i : ℕ) (b : Bool) → progress_of (answered_by c i b) ≡ progress_of c
@@ -72,13 +74,54 @@ seeing c d cell colour.Gray same =
     ap (λ (p : Progress). record p { clean = false; scan = Some (scanning_from cell) }) same
 seeing c d cell colour.Black same = passes c d cell same
 
-pub sees : (c : Collector) (known cells cell : ℕ) (found k : Colour) (progress further : Progress)
-    → known ≡ cells → found ≡ k → progress_of c ≡ progress
-    → further ≡ changed (λ part. seen (restarted part cells) cell k) progress
-    → progress_of (seen (restarted c known) cell found) ≡ further
-sees c known cells cell found k progress further many is same moved =
-    ap (λ (n : ℕ). progress_of (seen (restarted c n) cell found)) many
-    ∙ ap (λ (x : Colour). progress_of (seen (restarted c cells) cell x)) is
-    ∙ seeing (restarted c cells) (restarted (part_of (progress_of c)) cells) cell k
-    (restarts c cells)
-    ∙ ap (changed (λ part. seen (restarted part cells) cell k)) same ∙ sym moved
+on_scanning : (change : Scanning → Scanning) (scan : Option Scanning) → (scan ≡ None → ⊥)
+    → on_scan change scan ≡ Some (change (scan_or_none scan))
+on_scanning change None there = absurd (there refl)
+on_scanning change (Some scan) there = refl
+
+-- By the numbers that the seat has at hand.
+module _ {P : Type 0} {v : View P} {cells mutators : ℕ} {control : Control} {progress : Progress}
+    (is : IsCollector v cells mutators control progress) where
+  pub posts : (target : Stage) {further : Progress}
+      → further ≡ changed (λ part. posted part target) progress
+      → progress_of (posted v.part target) ≡ further
+  posts target moved =
+      posting v.part target ∙ ap (changed (λ part. posted part target)) is.progress_is ∙ sym moved
+
+  pub sees : (cell : ℕ) {found k : Colour} {further : Progress} → found ≡ k
+      → further ≡ changed (λ part. seen (restarted part cells) cell k) progress
+      → progress_of (seen (restarted v.part v.shape.cells) cell found) ≡ further
+  sees cell {found} {k} same moved =
+      (λ j. progress_of (seen (restarted v.part (is.cells_are j)) cell (same j)))
+      ∙ seeing (restarted v.part cells) (restarted (part_of (progress_of v.part)) cells) cell k
+      (restarts v.part cells)
+      ∙ ap (changed (λ part. seen (restarted part cells) cell k)) is.progress_is ∙ sym moved
+
+  scan_goes_on : (change : Scanning → Scanning) {scan further : Scanning}
+      → (v.part.scan ≡ None → ⊥) → scan ≡ scan_or_none progress.scan → further ≡ change scan
+      → progress_of (record v.part { scan = on_scan change v.part.scan })
+      ≡ record progress { scan = Some further }
+  scan_goes_on change there at moved = (λ j. record (is.progress_is j) {
+    scan = (on_scanning change v.part.scan there
+        ∙ ap (λ (x : Scanning). Some (change x)) (scan_is is at) ∙ ap Some (sym moved)) j;
+  })
+
+  -- a scan that may go on is there
+  pub scans : {scan further : Scanning} {found field : Field} → may_scan v.part.scan ≡ true
+      → scan ≡ scan_or_none progress.scan → found ≡ field → further ≡ scanned scan field
+      → progress_of (record v.part { scan = on_scan (λ s. scanned s found) v.part.scan })
+      ≡ record progress { scan = Some further }
+  scans {scan} {further} {found} may at same moved =
+      scan_goes_on (λ s. scanned s found) (λ no. let none = rw no at may in cc) at
+      (moved ∙ ap (scanned scan) (sym same))
+
+  pub shades : {scan further : Scanning} → may_shade v.part.scan ≡ true
+      → scan ≡ scan_or_none progress.scan → further ≡ scan_shaded scan
+      → progress_of (record v.part { scan = on_scan scan_shaded v.part.scan })
+      ≡ record progress { scan = Some further }
+  shades may at moved =
+      scan_goes_on scan_shaded (λ no. let none = rw no at may in cc) at moved
+
+  pub sweeps : {sweep further : Sweeping} → sweep ≡ further
+      → progress_of (record v.part { sweep = sweep }) ≡ record progress { sweep = further }
+  sweeps goes = (λ j. record (is.progress_is j) { sweep = goes j })

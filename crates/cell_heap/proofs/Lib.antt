@@ -1,4 +1,5 @@
 mod Answering
+mod AtHand
 mod Changes
 mod Kept
 mod Made

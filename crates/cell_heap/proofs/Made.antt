@@ -1,12 +1,17 @@
 -- What a step of the collector's seat tells, in words of the seat that the call was given.
-use Rattle.std.proofs.Common.{◌≡◌, ◌≤◌, ℕ, Bool, sym, ◌∙◌, ap, subst}
+use Rattle.std.proofs.Common.{◌≡◌, ◌≤◌, ℕ, Bool, true, false, sym, ◌∙◌, ap, subst}
+use Rattle.std.proofs.lemmas.Bool.{and_parts, not-true}
 use Rattle.cell_heap.specs.Telling.{AtCollectorEvent, FindsKnown, collector_tells}
 use Rattle.cell_words.specs.declared.colours.Colour.{Colour}
+use Rattle.cell_words.specs.declared.fields.Field.{Field}
+use Rattle.core_machine.specs.InRange.{NamesBelow}
+use Rattle.core_machine.specs.declared.events.Event.TheVariants as event
+use Rattle.core_machine.specs.Words.{is_gray}
 use Rattle.core_machine.specs.declared.events.Event.{Event}
 use Rattle.core_machine.specs.declared.events.Found.{Found}
 use Rattle.core_machine.specs.declared.events.Found.TheVariants as finds
-use Rattle.core_machine.specs.Next.{after, found_by}
-use Rattle.core_machine.specs.State.{greatest_cells}
+use Rattle.core_machine.specs.Next.{after, can, found_by}
+use Rattle.core_machine.specs.State.{State, colour_of, greatest_cells}
 use Rattle.core_machine.specs.WordOperations.{IsValidFound}
 use Rattle.core_machine.proofs.HasWords.{found_valid}
 use Rattle.heap_rule.specs.Asks.{collector_state}
@@ -15,8 +20,14 @@ use Rattle.heap_rule.specs.Steps.{AtCollectorStep}
 use Rattle.heap_rule.proofs.Alone.{alone_found}
 use Rattle.heap_table.specs.Seats.{SeatView}
 
+-- the sweep does not look at a gray cell
+pub finds_no_gray : (s : State) (found : Colour) → can s event.SweepLook ≡ true
+    → colour_of s s.control.position ≡ found → is_gray found ≡ false
+finds_no_gray s found h is =
+    ap is_gray (sym is) ∙ not-true (is_gray (colour_of s s.control.position)) (and_parts _ _ h).1
+
 module _ {P : Type 0} where
-  -- The operation was made: the seat that the call was given, the same opened, and the one after it.
+  -- The operation was made: the seat that the call was given, the same opened, and the one behind.
   pub record Made (fixed : ℕ → Bool) (old inside new : SeatView P) (e : Event)
       (number : ℕ) : Type 0 where
     pub is : inside ≡ old
@@ -42,6 +53,14 @@ module _ {P : Type 0} where
         tells (finds.Colour k) (told ∙ ap (λ (x : Colour).
         told_collector inside.me e (finds.Colour x) (collector_state inside.me)) is)
 
+    -- or a field
+    pub tells_field : (found x : Field) → found ≡ x
+        → new.me ≡ told_collector inside.me e (finds.Field found) (collector_state inside.me)
+        → new ≡ collector_tells old e (finds.Field x)
+    tells_field found x is told =
+        tells (finds.Field x) (told ∙ ap (λ (y : Field).
+        told_collector inside.me e (finds.Field y) (collector_state inside.me)) is)
+
     -- a look at a presence, with the state at the step
     pub at_event : (found : Found) → found_by m.step.core e ≡ found
         → AtCollectorEvent fixed old.me e found new.me
@@ -65,6 +84,14 @@ module _ {P : Type 0} where
           shape = at.ours.shown.shaped;
           few_cells = subst (λ (n : ℕ). n ≤ greatest_cells) (sym at.ours.cells) at.ours.few;
         } at.ours.shown.words
+
+    -- a field that was found names a cell that there is
+    pub finds_below : (x y : Field) → NamesBelow m.step.core.cells x → x ≡ y
+        → NamesBelow old.me.shape.cells y
+    finds_below x y names same =
+        subst (λ (z : ℕ × Field). NamesBelow z.0 z.1)
+        (λ j. ((m.step.ours.cells ∙ ap (λ (s : SeatView P). s.me.shape.cells) m.is) j, same j))
+        names
 
     -- what was found is what the collector knows to be there, where it knows the state
     pub knows : (found : Found) → found_by m.step.core e ≡ found → FindsKnown old.me e found

@@ -89,7 +89,8 @@ module _ {P : Type 0} {fixed : ℕ → Bool} {v w : View P} {e : Event} {number 
       ∙ ap (λ (x : View P). x.control) (sym at.new) in
       let part : t.collector ≡ w.part =
       framed.collector
-      ∙ (λ j. collector_after (at.ours.cells j) (at.ours.control j) (at.ours.part j) e (found_by s e))
+      ∙ (λ j. collector_after (at.ours.cells j) (at.ours.control j) (at.ours.part j) e
+      (found_by s e))
       ∙ ap (λ (x : View P). x.part) (sym at.new) in
       subst (λ (x : State). IsWithin x.cells x.control (progress_of x.collector))
       (λ j. known_state (cells j) t.mutators (control j) (part j))

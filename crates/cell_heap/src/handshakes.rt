@@ -1,6 +1,7 @@
 //! The calls that store the control, and those that wait for the mutators' answers.
 ghost use Rattle.std.specs.Prelude.{◌≡◌, ◌<◌, true};
-ghost use Rattle.cell_heap.specs.Telling.{AnswersOut, AtCollectorEvent, FindsKnown, collector_tells};
+ghost use Rattle.cell_heap.specs.Telling.{AnswersOut, AtCollectorEvent, FindsKnown};
+ghost use Rattle.cell_heap.specs.Telling.{collector_tells};
 ghost use Rattle.cell_words.specs.Presence.{is_valid_presence};
 ghost use Rattle.core_machine.specs.Collector.{posted_control};
 ghost use Rattle.core_machine.specs.Next.{can};
@@ -85,7 +86,8 @@ impl<P: Keeping> ColSeat<P> {
         requires seat { IsSeatOf heap.now self.old }
         requires can { can (collector_state self.old.me) (event.Poll mutator) ≡ true }
         ensures table { self.new.table ≡ self.old.table }
-        ensures told { AtCollectorEvent P.fixed self.old.me (event.Poll mutator) (finds.Presence result) self.new.me }
+        ensures told { AtCollectorEvent P.fixed self.old.me (event.Poll mutator)
+            (finds.Presence result) self.new.me }
         ensures known { FindsKnown self.old.me (event.Poll mutator) (finds.Presence result) }
         ensures valid { is_valid_presence result ≡ true }
     {

@@ -11,7 +11,7 @@ use core_machine::{Scanning, Sweeping};
 
 /// What the code keeps at hand of the collector's own part: what its next operation depends on, and
 /// the count of freed cells.
-#[derive(Clone, Copy, Debug, PartialEq, Eq)]
+#[derive(Clone, Copy)]
 pub(crate) struct Progress {
     /// the cell that clearing, or this pass of tracing, has come to
     pub cursor: u32,
@@ -44,7 +44,8 @@ impl Progress {
     /// come to it. A pass that met gray and has come to the end starts over.
     pub fn see(&mut self, cells: u32, cell: u32, colour: Colour)
         requires below { cell < cells }
-        ensures seen { self.new ≡ changed (λ part. seen (restarted part cells) cell colour) self.old }
+        ensures seen { self.new
+            ≡ changed (λ part. seen (restarted part cells) cell colour) self.old }
     {
         if self.cursor == cells && !self.clean {
             self.cursor = 0;

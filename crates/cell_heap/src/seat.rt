@@ -39,7 +39,8 @@ impl<P: Keeping> Model for ColSeat<P> {
 impl<P: Keeping> ColSeat<P> {
     /// The collector's seat, of a heap that was opened just now.
     pub fn of(heap: &CellHeap<P>, seat: HeapSeat<P>) -> ColSeat<P>
-        requires opening { seat ≡ record { table = heap.now.table; me = opening_view P.opening heap.now.shape } }
+        requires opening { seat
+            ≡ record { table = heap.now.table; me = opening_view P.opening heap.now.shape } }
         requires some_cells { 0 < heap.now.shape.cells }
         requires few_cells { heap.now.shape.cells ≤ greatest_cells }
         ensures seat { result ≡ seat }

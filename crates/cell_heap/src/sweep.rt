@@ -29,7 +29,8 @@ impl<P: Keeping> ColSeat<P> {
         let word = colour_word(self.mutators, self.control.position);
         let found = heap.collector_load::<Brand>(&mut self.seat, Event::SweepLook, word);
         let colour = colour_in(found);
-        self.progress.sweep = sweep_of(colour);
+        let sweep = sweep_of(colour);
+        self.progress.sweep = sweep;
         colour
     }
 

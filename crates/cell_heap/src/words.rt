@@ -49,7 +49,8 @@ pub(crate) fn colour_in(word: u64) -> Colour
 /// The field that a word is.
 pub(crate) fn field_in(word: u64) -> Field
     requires field { IsFieldWord word }
-    ensures field { (field : Field) → IsValidField field → pack_field_of field ≡ word → field ≡ result }
+    ensures field { (field : Field) → IsValidField field → pack_field_of field ≡ word
+        → field ≡ result }
 {
     match unpack_field(word) {
         Some(field) => field,

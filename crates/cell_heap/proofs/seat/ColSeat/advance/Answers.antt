@@ -12,7 +12,7 @@ use Rattle.cell_heap.proofs.seat.ColSeat.advance.Goals as goal
 
 pub collector_store-requires-clause-kind : goal.collector_store-requires-clause-kind
 collector_store-requires-clause-kind g c =
-    owes g.P.Keeping.fixed c.args.self.now c.self.inside.seat event.Advance 0
+    owes g.P.Keeping.fixed event.Advance 0
     (Store c.pack_control-word.result) c.self.view_is refl c.requires.can refl
     (stores_control event.Advance c.self.inside.seat.me.control c.self.inside.control
     _ c.pack_control-word.result c.self.invariant.control_is

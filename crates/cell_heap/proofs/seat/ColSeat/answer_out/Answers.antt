@@ -1,7 +1,7 @@
 use Rattle.std.proofs.Common.{◌≡◌, refl, sym, ◌∙◌, ap}
 use Rattle.cell_heap.proofs.Answering.{answers_out, exchanges_out}
 use Rattle.cell_heap.proofs.Made.{at_event, finds_valid, knows, made}
-use Rattle.cell_heap.proofs.Owed.{answered_below, owes}
+use Rattle.cell_heap.proofs.Owed.{below, owes}
 use Rattle.cell_words.specs.Modes.{requested_of}
 use Rattle.cell_words.specs.declared.controls.Control.{Control}
 use Rattle.cell_words.specs.declared.presences.Status.{Status}
@@ -15,12 +15,13 @@ use Rattle.cell_heap.proofs.seat.ColSeat.answer_out.Goals as goal
 
 pub collector_exchange-found-requires-clause-word : goal.collector_exchange-found-requires-clause-word
 collector_exchange-found-requires-clause-word g c =
-    answered_below c.args.heap.now c.args.self.now c.args.mutator c.args.over
-    c.status_word-word.result (c.status_word-word.ensures.index 0) c.requires.seat c.requires.can
+    below c.args.heap.now (event.AnswerOut c.args.mutator c.args.over) c.self.view_is
+    c.requires.seat c.self.invariant refl c.requires.can
+    (sym (c.status_word-word.ensures.index 0))
 
 pub collector_exchange-found-requires-clause-kind : goal.collector_exchange-found-requires-clause-kind
 collector_exchange-found-requires-clause-kind g c =
-    owes g.P.Keeping.fixed c.args.self.now c.self.inside.seat
+    owes g.P.Keeping.fixed
     (event.AnswerOut c.args.mutator c.args.over) c.status_word-word.result
     (Exchange c.pack_presence-old.result c.pack_presence-new.result) c.self.view_is refl
     c.requires.can (sym (c.status_word-word.ensures.index 0))

@@ -10,7 +10,7 @@ use Rattle.cell_heap.proofs.seat.ColSeat.post.Goals as goal
 
 pub collector_store-requires-clause-kind : goal.collector_store-requires-clause-kind
 collector_store-requires-clause-kind g c =
-    owes g.P.Keeping.fixed c.args.self.now c.self.inside.seat (event.Post c.args.stage) 0
+    owes g.P.Keeping.fixed (event.Post c.args.stage) 0
     (Store c.pack_control-word.result) c.self.view_is refl c.requires.can refl
     (stores_control (event.Post c.args.stage) c.self.inside.seat.me.control c.self.inside.control
     c.posted-control.result c.pack_control-word.result c.self.invariant.control_is
@@ -19,9 +19,8 @@ collector_store-requires-clause-kind g c =
 pub invariant_of-self : goal.invariant_of-self
 invariant_of-self g c =
     kept (made c.self.view_is c.collector_store.ensures.same c.collector_store.ensures.step)
-    c.self.invariant refl c.posted-control.result (sym c.posted-control.ensures.control)
-    c.post.new.self (posts c.self.inside.seat.me.part c.args.stage c.self.inside.progress
-    c.post.new.self c.self.invariant.progress_is c.post.ensures.posted)
+    c.self.invariant refl _ (sym c.posted-control.ensures.control) _
+    (posts c.self.invariant c.args.stage c.post.ensures.posted)
 
 pub returns : goal.returns
 returns g c = record {

@@ -1,0 +1,67 @@
+-- Where the words of the collector's events lie, by the numbers that its seat has at hand.
+use Rattle.std.proofs.Common.{◌≡◌, ℕ, sym, ◌∙◌, ap}
+use Rattle.cell_heap.specs.declared.progress.Progress.{Progress}
+use Rattle.cell_heap.specs.Collecting.{IsCollector}
+use Rattle.cell_words.specs.declared.controls.Control.{Control}
+use Rattle.core_machine.specs.declared.progress.Scanning.{Scanning}
+use Rattle.core_machine.specs.Sweep.{wiped_count}
+use Rattle.core_machine.specs.Table.{ColourOf, FieldOf, index_of}
+use Rattle.core_machine.specs.Tracing.{child_or_anchor, scan_or_none}
+use Rattle.heap_rule.specs.declared.view.View.{View}
+
+module _ {P : Type 0} {v : View P} {cells mutators : ℕ} {control : Control} {progress : Progress}
+    (is : IsCollector v cells mutators control progress) where
+  colour_at : {cell here word : ℕ} → cell ≡ here → word ≡ index_of mutators (ColourOf here)
+      → index_of v.shape.mutators (ColourOf cell) ≡ word
+  colour_at at lies = (λ j. index_of (is.mutators_are j) (ColourOf (at j))) ∙ sym lies
+
+  field_at : {cell here f g word : ℕ} → cell ≡ here → f ≡ g
+      → word ≡ index_of mutators (FieldOf here g)
+      → index_of v.shape.mutators (FieldOf cell f) ≡ word
+  field_at at of lies = (λ j. index_of (is.mutators_are j) (FieldOf (at j) (of j))) ∙ sym lies
+
+  pub scan_is : {scan : Scanning} → scan ≡ scan_or_none progress.scan
+      → scan_or_none v.part.scan ≡ scan
+  scan_is at = ap (λ (p : Progress). scan_or_none p.scan) is.progress_is ∙ sym at
+
+  position_is : v.control.position ≡ control.position
+  position_is = ap (λ (x : Control). x.position) is.control_is
+
+  pub at_cell : (cell : ℕ) {word : ℕ} → word ≡ index_of mutators (ColourOf cell)
+      → index_of v.shape.mutators (ColourOf cell) ≡ word
+  at_cell cell lies = colour_at (λ j. cell) lies
+
+  pub at_cursor : {word : ℕ} → word ≡ index_of mutators (ColourOf progress.cursor)
+      → index_of v.shape.mutators (ColourOf v.part.cursor) ≡ word
+  at_cursor lies = colour_at (ap (λ (p : Progress). p.cursor) is.progress_is) lies
+
+  pub at_position : {word : ℕ} → word ≡ index_of mutators (ColourOf control.position)
+      → index_of v.shape.mutators (ColourOf v.control.position) ≡ word
+  at_position lies = colour_at position_is lies
+
+  pub at_wiped : {count word : ℕ} → count ≡ wiped_count progress.sweep
+      → word ≡ index_of mutators (FieldOf control.position count)
+      → index_of v.shape.mutators (FieldOf v.control.position (wiped_count v.part.sweep)) ≡ word
+  at_wiped at lies =
+      field_at position_is
+      (ap (λ (p : Progress). wiped_count p.sweep) is.progress_is ∙ sym at) lies
+
+  pub at_scanned : {scan : Scanning} {word : ℕ} → scan ≡ scan_or_none progress.scan
+      → word ≡ index_of mutators (ColourOf scan.cell)
+      → index_of v.shape.mutators (ColourOf (scan_or_none v.part.scan).cell) ≡ word
+  at_scanned at lies = colour_at (ap (λ (s : Scanning). s.cell) (scan_is at)) lies
+
+  pub at_child : {scan : Scanning} {child word : ℕ} → scan ≡ scan_or_none progress.scan
+      → child ≡ child_or_anchor scan.child → word ≡ index_of mutators (ColourOf child)
+      → index_of v.shape.mutators (ColourOf (child_or_anchor (scan_or_none v.part.scan).child))
+      ≡ word
+  at_child at of lies =
+      colour_at (ap (λ (s : Scanning). child_or_anchor s.child) (scan_is at) ∙ sym of) lies
+
+  pub at_next : {scan : Scanning} {word : ℕ} → scan ≡ scan_or_none progress.scan
+      → word ≡ index_of mutators (FieldOf scan.cell scan.next)
+      → index_of v.shape.mutators
+      (FieldOf (scan_or_none v.part.scan).cell (scan_or_none v.part.scan).next) ≡ word
+  at_next at lies =
+      field_at (ap (λ (s : Scanning). s.cell) (scan_is at))
+      (ap (λ (s : Scanning). s.next) (scan_is at)) lies

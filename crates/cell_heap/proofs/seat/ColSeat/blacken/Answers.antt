@@ -1,0 +1,39 @@
+use Rattle.std.proofs.Common.{None, ap, refl}
+use Rattle.cell_heap.specs.declared.progress.Progress.{Progress}
+use Rattle.cell_heap.proofs.AtHand.{at_scanned}
+use Rattle.cell_heap.proofs.Kept.{kept}
+use Rattle.cell_heap.proofs.Made.{made, tells}
+use Rattle.cell_heap.proofs.Owed.{below, owes, stores}
+use Rattle.core_machine.specs.WordOperations.{Store}
+use Rattle.core_machine.specs.declared.events.Event.TheVariants as event
+use Rattle.core_machine.specs.declared.events.Found.TheVariants as finds
+use Rattle.cell_heap.proofs.seat.ColSeat.blacken.Goals as goal
+
+pub collector_store-requires-clause-word : goal.collector_store-requires-clause-word
+collector_store-requires-clause-word g c =
+    below c.args.heap.now event.Blacken c.self.view_is c.requires.seat c.self.invariant refl
+    c.requires.can
+    (at_scanned c.self.invariant c.scan_or_none-scan.ensures.scan c.colour_word-word.ensures.index)
+
+pub collector_store-requires-clause-kind : goal.collector_store-requires-clause-kind
+collector_store-requires-clause-kind g c =
+    owes g.P.Keeping.fixed event.Blacken c.colour_word-word.result
+    (Store c.pack_colour-black.result)
+    c.self.view_is refl c.requires.can
+    (at_scanned c.self.invariant c.scan_or_none-scan.ensures.scan c.colour_word-word.ensures.index)
+    (stores c.pack_colour-black.result _ c.pack_colour-black.ensures.word)
+
+pub invariant_of-self : goal.invariant_of-self
+invariant_of-self g c =
+    let step = c.collector_store.ensures.step in
+    let m = made c.self.view_is c.collector_store.ensures.same step in
+    kept m c.self.invariant refl _ refl _
+    (ap (λ (p : Progress). record p { scan = None }) c.self.invariant.progress_is)
+
+pub returns : goal.returns
+returns g c =
+    let step = c.collector_store.ensures.step in
+    let m = made c.self.view_is c.collector_store.ensures.same step in
+    record {
+      told = tells m finds.Stored step.new;
+    }
