@@ -1,0 +1,4 @@
+pub mod Pool
+pub mod Shapes
+pub mod Texts
+pub mod Words

@@ -1,0 +1,10 @@
+//! Trees of documents spelled by records.
+#![tactic(auto)]
+
+mod pool;
+mod reads;
+mod texts;
+mod words;
+
+pub use crate::pool::{Part, RecordPool};
+pub use doc_tree::NoMemory;
