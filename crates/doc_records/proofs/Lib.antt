@@ -1,3 +1,5 @@
 pub mod Chains
 pub mod Fields
 pub mod Letters
+pub mod Spelled
+pub mod Spellings

@@ -1,4 +1,5 @@
 pub mod Pool
 pub mod Shapes
 pub mod Texts
+pub mod Trees
 pub mod Words

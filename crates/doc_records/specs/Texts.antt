@@ -45,15 +45,16 @@ pub record IsName (t : Term) : Type 0 where
   pub spells : SpellsText t (text_of t)
   pub name : is_name (text_of t) ≡ true
 
--- the words of these bytes, where there are at most so many words
-abbrev pub words_from : ℕ → List ℕ → List ℕ
-words_from zero bytes = []
-words_from (suc n) [] = []
-words_from (suc n) (b ∷ bytes) = word_of 7 (b ∷ bytes) ∷ words_from n (drop 7 (b ∷ bytes))
+-- the words of these bytes, where so many of them belong to a word before
+abbrev pub words_past : ℕ → List ℕ → List ℕ
+words_past n [] = []
+words_past zero (b ∷ bytes) = word_of 7 (b ∷ bytes) ∷ words_past 6 bytes
+words_past (suc n) (b ∷ bytes) = words_past n bytes
 
+-- the words that hold a byte
 abbrev pub words_of : List ℕ → List ℕ
-words_of bytes = words_from (length bytes) bytes
+words_of bytes = words_past 0 bytes
 
--- reads that gave the words of these bytes
+-- reads that gave these words, in order
 abbrev pub text_asks : List ℕ → List Ask
 text_asks bytes = map (λ word. gave (field.Num word)) (words_of bytes)

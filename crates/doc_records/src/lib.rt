@@ -1,6 +1,7 @@
 //! Trees of documents spelled by records.
 #![tactic(auto)]
 
+mod nodes;
 mod pool;
 mod reads;
 mod texts;
