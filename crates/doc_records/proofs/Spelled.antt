@@ -155,3 +155,24 @@ text_spelled (five a b c d e) bytes spells are =
     let behind = text_spelled e (drop 21 bytes) spells.1 (bytes_drop 21 bytes are) in
     rw (spells.0.count, spells.0.first, spells.0.second, spells.0.third, first, second, third,
     behind) (three_cuts bytes)
+
+-- a text that is made
+pub drop_least : (n : ℕ) (bytes : List ℕ) → drop (min n (length bytes)) bytes ≡ drop n bytes
+drop_least zero bytes =
+    let none : min 0 (length bytes) ≡ 0 = omega arith in ap (λ n. drop n bytes) none
+drop_least (suc n) [] = let none : min (suc n) 0 ≡ 0 = omega arith in rw none refl
+drop_least (suc n) (b ∷ bytes) =
+    let less : min (suc n) (suc (length bytes)) ≡ suc (min n (length bytes)) = omega arith in
+    rw less (drop_least n bytes)
+
+pub text_made : (t next : Term) (bytes : List ℕ) → 0 < length bytes
+    → t ≡ five (num (length bytes)) (num (word_of 7 bytes)) (num (word_of 7 (drop 7 bytes)))
+    (num (word_of 7 (drop 14 bytes))) next
+    → SpellsText next (drop 21 bytes) → SpellsText t bytes
+text_made t next bytes some is spells =
+    subst (λ u. SpellsText u bytes) (sym is)
+    (record { some = some; count = refl; first = refl; second = refl; third = refl }, spells)
+
+pub cells_made : (bytes : List ℕ) → 0 < length bytes
+    → (length bytes + 20) / 21 ≡ (length (drop 21 bytes) + 20) / 21 + 1
+cells_made bytes some = omega (arith, some, length-drop 21 bytes)

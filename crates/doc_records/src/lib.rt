@@ -6,6 +6,7 @@ mod pool;
 mod reads;
 mod texts;
 mod words;
+mod writes;
 
 pub use crate::pool::{Part, RecordPool};
 pub use doc_tree::NoMemory;
