@@ -12,6 +12,13 @@ pushed zero w old some = absurd (omega (arith, some))
 pushed (suc n) w old some =
     rw (one_less n) (append_assoc old ((w % 256) ∷ []) (bytes_of n (w / 256)))
 
+pub bytes_none : (w : ℕ) → bytes_of 0 w ≡ []
+bytes_none w = refl
+
+pub bytes_step : (n w : ℕ) → 0 < n → bytes_of n w ≡ (w % 256) ∷ bytes_of (n - 1) (w / 256)
+bytes_step zero w some = absurd (omega (arith, some))
+bytes_step (suc n) w some = rw (one_less n) refl
+
 pub word_none : (n : ℕ) → word_of n [] ≡ 0
 word_none zero = refl
 word_none (suc n) = refl

@@ -1,5 +1,6 @@
 pub mod Chains
 pub mod Fields
 pub mod Letters
+pub mod Names
 pub mod Spelled
 pub mod Spellings

@@ -1,3 +1,4 @@
+pub mod Orders
 pub mod Pool
 pub mod Shapes
 pub mod Texts

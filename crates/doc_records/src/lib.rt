@@ -2,6 +2,7 @@
 #![tactic(auto)]
 
 mod nodes;
+mod orders;
 mod pool;
 mod reads;
 mod texts;

@@ -13,15 +13,15 @@ use doc_tree::NoMemory;
 
 // The numbers in a cell: how many bytes there are from it on, and three words.
 #[derive(Clone, Copy)]
-struct Cell {
-    count: u64,
-    first: u64,
-    second: u64,
-    third: u64,
+pub(crate) struct Cell {
+    pub(crate) count: u64,
+    pub(crate) first: u64,
+    pub(crate) second: u64,
+    pub(crate) third: u64,
 }
 
 #[tactic(auto, using(crate::proofs::Chains::cell))]
-fn read_cell<R: RecordPool>(records: &mut R, at: R::At) -> Cell
+pub(crate) fn read_cell<R: RecordPool>(records: &mut R, at: R::At) -> Cell
     requires stands { (R.shown records.old).stands (R.shown records.old).held at }
     requires five { IsFive ((R.shown records.old).term at) }
     requires place { (R.shown records.old).held < (R.shown records.old).room }
@@ -49,7 +49,7 @@ fn read_cell<R: RecordPool>(records: &mut R, at: R::At) -> Cell
 }
 
 // How many bytes a word has, where there are so many from its cell on and so many before it.
-fn bytes_in(count: u64, before: u64) -> usize
+pub(crate) fn bytes_in(count: u64, before: u64) -> usize
     ensures { result ≡ min 7 (count - before) }
 {
     count.saturating_sub(before).min(7) as usize
