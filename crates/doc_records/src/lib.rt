@@ -9,5 +9,7 @@ mod texts;
 mod words;
 mod writes;
 
+pub use crate::nodes::{count, empty_node, height, text_of};
 pub use crate::pool::{Part, RecordPool};
+pub use crate::writes::{make_text, with_text};
 pub use doc_tree::NoMemory;

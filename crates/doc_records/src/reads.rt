@@ -1,7 +1,7 @@
 //! Reading one field of a record: what every reader above is made of.
 //!
 //! Each of these tells one thing of the trail, so that a caller's own clause is their composition.
-ghost use Rattle.std.specs.Prelude.{◌≡◌, ◌+◌, ◌≤◌, ◌<◌, true};
+ghost use Rattle.std.specs.Prelude.{◌≡◌, ◌+◌, ◌≤◌, ◌<◌, ◌^◌, true};
 ghost use Rattle.cell_words.specs.Term.{part, number, IsFive};
 ghost use Rattle.trails.specs.Telling.{Tells};
 ghost use Rattle.doc_records.specs.Pool.{Later, Stands, part_term, places_of, is_shared};
@@ -17,6 +17,7 @@ pub(crate) fn read_word<R: RecordPool>(records: &mut R, at: R::At, index: usize)
     requires place { (R.shown records.old).held < (R.shown records.old).room }
     requires num { IsNum (part index ((R.shown records.old).term at)) }
     ensures number { result ≡ number (part index ((R.shown records.old).term at)) }
+    ensures fits { result < 2 ^ 62 }
     ensures later { Later (R.shown records.old) (R.shown records.new) }
     ensures held { (R.shown records.new).held ≡ (R.shown records.old).held }
     ensures records { (R.shown records.new).records ≡ (R.shown records.old).records }
@@ -38,6 +39,7 @@ pub(crate) fn read_number<R: RecordPool>(records: &mut R, at: R::At, index: usiz
     requires place { (R.shown records.old).held < (R.shown records.old).room }
     requires num { IsNum (part index ((R.shown records.old).term at)) }
     ensures number { result ≡ number (part index ((R.shown records.old).term at)) }
+    ensures fits { result < 2 ^ 62 }
     ensures later { Later (R.shown records.old) (R.shown records.new) }
     ensures held { (R.shown records.new).held ≡ (R.shown records.old).held }
     ensures records { (R.shown records.new).records ≡ (R.shown records.old).records }
