@@ -36,3 +36,9 @@ abbrev pub ask_text : Term → List Ask → List Ask
 ask_text null rest = rest
 ask_text (num n) rest = rest
 ask_text (five a b c d e) rest = ask_cell (five a b c d e) (ask_text e rest)
+
+-- the names of entries, in their order
+abbrev pub ask_names : Term → List Ask → List Ask
+ask_names null rest = rest
+ask_names (num n) rest = rest
+ask_names (five a b c d e) rest = ask_names c (ask_text a (ask_names d rest))

@@ -58,3 +58,8 @@ words_of bytes = words_past 0 bytes
 -- reads that gave these words, in order
 abbrev pub text_asks : List ℕ → List Ask
 text_asks bytes = map (λ word. gave (field.Num word)) (words_of bytes)
+
+-- and of one name after another
+abbrev pub name_asks : List (List ℕ) → List Ask
+name_asks [] = []
+name_asks (name ∷ names) = text_asks name ++ name_asks names

@@ -1,6 +1,7 @@
 //! Trees of documents spelled by records.
 #![tactic(auto)]
 
+mod listing;
 mod nodes;
 mod orders;
 mod pool;
@@ -9,6 +10,7 @@ mod texts;
 mod words;
 mod writes;
 
+pub use crate::listing::names;
 pub use crate::nodes::{count, empty_node, height, text_of};
 pub use crate::pool::{Part, RecordPool};
 pub use crate::writes::{make_text, with_text};

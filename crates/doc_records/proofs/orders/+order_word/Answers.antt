@@ -1,5 +1,5 @@
 use Rattle.std.proofs.Common.{◌<◌, sym, ◌∙◌, arith}
-use Rattle.doc_records.proofs.Names.{same_byte}
+use Rattle.doc_records.proofs.Bytewise.{same_byte}
 use Rattle.doc_records.proofs.orders.+order_word.Goals as goal
 
 pub returns-in-Equal : goal.returns-in-Equal
