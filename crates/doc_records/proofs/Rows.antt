@@ -1,12 +1,16 @@
 -- The entries of a node, one by one: what each is, and their names in order.
 use Rattle.std.proofs.Common.{◌≡◌, ℕ, ◌+◌, ◌≤◌, List, [], ◌∷◌, ◌++◌, refl, ap, sym, ◌∙◌, arith}
-use Rattle.std.proofs.Common.{true, append_assoc, Result, Ok, Err, OnOk, subst}
+use Rattle.std.proofs.Common.{true, append_assoc, Some, Result, Ok, Err, OnOk, subst}
 use Rattle.std.proofs.lemmas.List.{append-nil}
 use Rattle.std.proofs.lemmas.Bool.Decides.{nat_tests}
 use Rattle.cell_words.specs.Term.{Term, null, num, five, part, IsFive}
-use Rattle.doc_tree.specs.Tree.{Kids, no_kids, kid, kid_count, names_of}
+use Rattle.std.specs.declared.cmp.Ordering.TheVariants.{Less, Equal, Greater}
+use Rattle.doc_tree.specs.Tree.{Kids, no_kids, kid, kid_count, names_of, name_cmp, child, IsRising}
 use Rattle.doc_tree.proofs.Joined.{count_join, names_join}
-use Rattle.kids_avl.specs.Entries.{Entries, entry, kids_of}
+use Rattle.kids_avl.specs.Entries.{Entries, entry, kids_of, height_of, IsBalanced}
+use Rattle.kids_avl.proofs.Heights.{at_most_eleven, left_lower, right_lower}
+use Rattle.kids_avl.proofs.Lists.{child_less, child_equal, child_greater}
+use Rattle.kids_avl.proofs.Lists.{rising_before, rising_after}
 use Rattle.trails.specs.Asks.{Ask, Shows}
 use Rattle.trails.specs.Marks.{Mark}
 use Rattle.trails.specs.Telling.{Due, Tells, Keeps}
@@ -112,6 +116,81 @@ pub node_few : (t : Term) → IsTreeNode t → kid_count (kids_of (entries_of (p
 node_few t is =
     omega (arith, is.lawful.nodes.here.few, ap kid_count (node_kids t is.node))
 
+pub node_rising : (t : Term) → IsTreeNode t → IsRising (kids_of (entries_of (part 1 t)))
+node_rising t is = subst IsRising (node_kids t is.node) is.lawful.nodes.here.rising
+
+-- entries are a balanced tree, and so not high
+balanced : (t : Term) → AreEntries t → IsBalanced (entries_of t)
+balanced null is = tt
+balanced (num n) is = absurd is
+balanced (five a b c d e) is =
+    (is.left_near, is.right_near, balanced c is.left, balanced d is.right)
+
+pub node_high : (t : Term) → IsTreeNode t → height_of (entries_of (part 1 t)) ≤ 11
+node_high t is =
+    at_most_eleven (entries_of (part 1 t)) (balanced (part 1 t) (node_entries t is.node))
+    (node_few t is)
+
+-- the child of an entry, and of a name by its order against the entry's
+pub entry_child : (t : Term) → IsFive t → AreEntries t → IsNode (part 1 t)
+entry_child null this is = absurd this
+entry_child (num n) this is = absurd this
+entry_child (five a b c d e) this is = is.child
+
+pub no_child : (t : Term) → null ≡ t → IsNode t → ⊥
+no_child t is node = subst IsNode (sym is) node
+
+pub num_child : (n : ℕ) (t : Term) → num n ≡ t → IsNode t → ⊥
+num_child n t is node = subst IsNode (sym is) node
+
+pub find_less : (m : List ℕ) (t : Term) → IsFive t → IsRising (kids_of (entries_of t))
+    → name_cmp m (text_of (part 0 t)) ≡ Less
+    → child m (kids_of (entries_of t)) ≡ child m (kids_of (entries_of (part 2 t)))
+find_less m null this rising less = absurd this
+find_less m (num n) this rising less = absurd this
+find_less m (five a b c d e) this rising less =
+    child_less m (entries_of (five a b c d e)) rising less
+
+pub find_equal : (m : List ℕ) (t : Term) → IsFive t → IsRising (kids_of (entries_of t))
+    → name_cmp m (text_of (part 0 t)) ≡ Equal
+    → child m (kids_of (entries_of t)) ≡ Some (tree_of (part 1 t))
+find_equal m null this rising equal = absurd this
+find_equal m (num n) this rising equal = absurd this
+find_equal m (five a b c d e) this rising equal =
+    child_equal m (entries_of (five a b c d e)) tt rising equal
+
+pub find_greater : (m : List ℕ) (t : Term) → IsFive t → IsRising (kids_of (entries_of t))
+    → name_cmp m (text_of (part 0 t)) ≡ Greater
+    → child m (kids_of (entries_of t)) ≡ child m (kids_of (entries_of (part 3 t)))
+find_greater m null this rising greater = absurd this
+find_greater m (num n) this rising greater = absurd this
+find_greater m (five a b c d e) this rising greater =
+    child_greater m (entries_of (five a b c d e)) rising greater
+
+pub rising_on_left : (t : Term) → IsFive t → IsRising (kids_of (entries_of t))
+    → IsRising (kids_of (entries_of (part 2 t)))
+rising_on_left null this rising = absurd this
+rising_on_left (num n) this rising = absurd this
+rising_on_left (five a b c d e) this rising = rising_before (entries_of (five a b c d e)) rising
+
+pub rising_on_right : (t : Term) → IsFive t → IsRising (kids_of (entries_of t))
+    → IsRising (kids_of (entries_of (part 3 t)))
+rising_on_right null this rising = absurd this
+rising_on_right (num n) this rising = absurd this
+rising_on_right (five a b c d e) this rising = rising_after (entries_of (five a b c d e)) rising
+
+pub left_low : (t : Term) → IsFive t
+    → height_of (entries_of (part 2 t)) + 1 ≤ height_of (entries_of t)
+left_low null this = absurd this
+left_low (num n) this = absurd this
+left_low (five a b c d e) this = left_lower (entries_of (five a b c d e)) tt
+
+pub right_low : (t : Term) → IsFive t
+    → height_of (entries_of (part 3 t)) + 1 ≤ height_of (entries_of t)
+right_low null this = absurd this
+right_low (num n) this = absurd this
+right_low (five a b c d e) this = right_lower (entries_of (five a b c d e)) tt
+
 -- the names that are told are those of the children
 asks_join : (xs ys : List (List ℕ)) → name_asks (xs ++ ys) ≡ name_asks xs ++ name_asks ys
 asks_join [] ys = refl
@@ -153,3 +232,13 @@ names_shown (Ok x) P t a b c is told first second =
     λ p. subst (λ kids. Shows (name_asks (names_of kids)) a c) (sym (node_kids t is))
     (row_shown (part 1 t) a b c (node_entries t is) (told p) first second)
 names_shown (Err e) P t a b c is told first second = tt
+
+pub ruleset finding = (
+  find_less,
+  find_equal,
+  find_greater,
+  rising_on_left,
+  rising_on_right,
+  left_low,
+  right_low,
+)

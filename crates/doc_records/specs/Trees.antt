@@ -9,6 +9,7 @@ use Rattle.cell_words.specs.Term.{Term, null, num, five, part}
 use Rattle.doc_tree.specs.Tree.{DocTree, count, height, IsRising}
 use Rattle.doc_tree.specs.Lawful.{IsLawful}
 use Rattle.kids_avl.specs.Entries.{Entries, no_entries, entry, kids_of, height_of}
+use Rattle.doc_records.specs.Pool.{Shown}
 use Rattle.doc_records.specs.Texts.{text_of, IsText, IsName}
 
 -- what a record is looked at as: a node, or an entry with those on both sides of it
@@ -76,3 +77,8 @@ pub record Spells (t : Term) (d : DocTree) : Type 0 where
 pub record IsTreeNode (t : Term) : Type 0 where
   pub node : IsNode t
   pub lawful : IsLawful (tree_of t)
+
+-- a node stands at this record
+pub record IsNodeAt {At : Type 0} (s : Shown At) (a : At) : Type 0 where
+  pub stands : s.stands s.held a
+  pub node : IsNode (s.term a)

@@ -1,6 +1,7 @@
 //! Trees of documents spelled by records.
 #![tactic(auto)]
 
+mod finding;
 mod listing;
 mod nodes;
 mod orders;
@@ -10,6 +11,7 @@ mod texts;
 mod words;
 mod writes;
 
+pub use crate::finding::find_child;
 pub use crate::listing::names;
 pub use crate::nodes::{count, empty_node, height, text_of};
 pub use crate::pool::{Part, RecordPool};
