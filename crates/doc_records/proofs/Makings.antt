@@ -7,7 +7,8 @@ use Rattle.doc_tree.specs.Tree.{count, height}
 use Rattle.doc_tree.specs.Edits.{with_text}
 use Rattle.doc_tree.specs.Words.{is_text}
 use Rattle.doc_records.specs.Texts.{SpellsText, IsText, text_of}
-use Rattle.doc_records.specs.Trees.{IsNode, Spells, tree_of}
+use Rattle.doc_tree.proofs.Orderly.{lawful_empty}
+use Rattle.doc_records.specs.Trees.{IsNode, IsTreeNode, Spells, tree_of}
 use Rattle.doc_records.proofs.Spelled.{text_spelled, text_bytes}
 
 pub text_low : (bytes : List ℕ) → is_text bytes ≡ true → length bytes < 2 ^ 62
@@ -37,4 +38,18 @@ node_with_text (five a b c d e) u new bytes is spells text made =
         last = refl;
       };
       tree = rw same refl;
+    })
+
+pub empty_made : (t : Term) → t ≡ five null null (num 1) (num 0) null → IsTreeNode t
+empty_made t made =
+    rw made (record {
+      node = record {
+        text = record { spells = refl; text = refl };
+        entries = tt;
+        rising = tt;
+        count = refl;
+        height = refl;
+        last = refl;
+      };
+      lawful = lawful_empty;
     })

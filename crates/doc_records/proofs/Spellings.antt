@@ -12,7 +12,7 @@ use Rattle.trails.specs.Marks.{Mark}
 use Rattle.trails.specs.Telling.{Tells, Keeps}
 use Rattle.trails.proofs.Telling.{tells_shows, keeps_begins, keeps_grown}
 use Rattle.trails.proofs.Orders.{shows_on}
-use Rattle.doc_records.specs.Pool.{Shown, Later, Cut}
+use Rattle.doc_records.specs.Pool.{Shown, Later, Kept}
 use Rattle.doc_records.specs.Shapes.{IsNum, IsChain, cells_of, ask_text}
 use Rattle.doc_records.specs.Texts.{IsText, text_of, text_asks}
 use Rattle.doc_records.specs.Trees.{IsNode, tree_of}
@@ -61,15 +61,14 @@ text_shown (Ok x) P t a b c is told first second =
 text_shown (Err e) P t a b c is told first second = tt
 
 -- places that are given back
-pub cut_back : {A : Type 0} (a b c : Shown A) → Later a b → Cut a.held b c → Later a c
-cut_back a b c later cut = record {
-  still = λ x n stands low. cut.still x n (later.still x n stands low) low;
-  now = λ x stands. subst (λ n. c.stands n x) (sym cut.held)
-      (cut.still x a.held (later.still x a.held stands (omega arith)) (omega arith));
-  same = λ x stands. cut.same x (later.still x a.held stands (omega arith)) ∙ later.same x stands;
-  cells = λ place low. cut.cells place low ∙ later.cells place low;
-  longer = omega (arith, cut.held);
-  room = cut.room ∙ later.room;
-  marks = λ before begins. cut.marks before (later.marks before begins);
-  source = cut.source ∙ later.source;
+pub kept_back : {A : Type 0} (a b c : Shown A) → Later a b → Kept a.held b c → Later a c
+kept_back a b c later kept = record {
+  still = λ x n stands low. kept.still x n (later.still x n stands low) low;
+  now = λ x stands. kept.now x (later.still x a.held stands (omega arith));
+  same = λ x stands. kept.same x (later.still x a.held stands (omega arith)) ∙ later.same x stands;
+  cells = λ place low. kept.cells place low ∙ later.cells place low;
+  longer = kept.longer;
+  room = kept.room ∙ later.room;
+  marks = λ before begins. kept.marks before (later.marks before begins);
+  source = kept.source ∙ later.source;
 }

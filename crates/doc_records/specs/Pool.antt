@@ -2,7 +2,8 @@
 -- Records are shared cells, which stand at places of a held list, and private records beside it. A
 -- private record stands as long as the places that it leads to.
 -- Source: this project's.
-use Rattle.std.specs.Prelude.{◌≡◌, ℕ, ◌<◌, ◌≤◌, ◌^◌, Bool, true, List, ◌∷◌}
+use Rattle.std.specs.Prelude.{◌≡◌, ℕ, ◌<◌, ◌≤◌, ◌^◌, Bool, true, false, List, ◌∷◌}
+use Rattle.std.specs.Prelude.{Option, Some, None}
 use Rattle.cell_words.specs.Term.{Term, null, num, IsFive}
 use Rattle.cell_words.specs.declared.fields.Field.TheVariants as field
 use Rattle.trails.specs.Marks.{Mark}
@@ -64,15 +65,34 @@ pub record Later {A : Type 0} (old new : Shown A) : Type 0 where
   pub marks : Keeps old.marks new.marks
   pub source : new.source ≡ old.source
 
--- the held list is its first so many places
-pub record Cut {A : Type 0} (places : ℕ) (old new : Shown A) : Type 0 where
+-- the held list is its first so many places, and perhaps what was kept after them
+pub record Kept {A : Type 0} (places : ℕ) (old new : Shown A) : Type 0 where
   pub still : (a : A) (n : ℕ) → old.stands n a → n ≤ places → new.stands n a
+  pub now : (a : A) → old.stands places a → new.stands new.held a
   pub same : (a : A) → old.stands places a → new.term a ≡ old.term a
   pub cells : (place : ℕ) → place < places → new.cell place ≡ old.cell place
-  pub held : new.held ≡ places
+  pub longer : places ≤ new.held
   pub room : new.room ≡ old.room
   pub marks : Keeps old.marks new.marks
   pub source : new.source ≡ old.source
+
+-- a record that is shared, or stands on so many places
+abbrev pub IsOn : {A : Type 0} → (A → Bool) → Shown A → ℕ → A → Type 0
+IsOn shared s places a = shared a ≡ false → s.stands places a
+
+abbrev pub PartOn : {A : Type 0} → (A → Bool) → Shown A → ℕ → Part A → Type 0
+PartOn shared s places parts.Null = Unit {0}
+PartOn shared s places (parts.Num n) = Unit {0}
+PartOn shared s places (parts.Record a) = IsOn shared s places a
+
+-- how many places a record takes
+abbrev pub own_place : Bool → ℕ
+own_place true = 1
+own_place false = 0
+
+abbrev pub places_found : {A : Type 0} → (A → Bool) → Option A → ℕ
+places_found shared None = 0
+places_found shared (Some a) = own_place (shared a)
 
 -- the read that gave this part is asked for where that is a number
 abbrev pub ask_part : {A : Type 0} → Part A → List Ask → List Ask

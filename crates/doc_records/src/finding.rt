@@ -1,10 +1,11 @@
 //! The child of a name.
-ghost use Rattle.std.specs.Prelude.{◌≡◌, ◌+◌, ◌*◌, ◌≤◌};
+ghost use Rattle.std.specs.Prelude.{◌≡◌, ◌+◌, ◌*◌, ◌≤◌, ℕ};
 ghost use Rattle.std.specs.Option.{ForSome, option_map};
 ghost use Rattle.cell_words.specs.Term.{part, IsFive};
-ghost use Rattle.doc_tree.specs.Tree.{child, name_cmp, IsRising};
+ghost use Rattle.doc_tree.specs.Tree.{child as child_of_name, name_cmp, IsRising};
 ghost use Rattle.kids_avl.specs.Entries.{height_of, kids_of};
-ghost use Rattle.doc_records.specs.Pool.{Later, Stands, part_term};
+ghost use Rattle.doc_records.specs.Pool.{Later, Stands, IsOn, PartOn, part_term};
+ghost use Rattle.doc_records.specs.Pool.{places_found};
 ghost use Rattle.doc_records.specs.Texts.{text_of};
 ghost use Rattle.doc_records.specs.Trees.{AreEntries, IsNodeAt, IsTreeNode, entries_of};
 ghost use Rattle.doc_records.specs.Trees.{tree_of};
@@ -40,6 +41,9 @@ fn read_child<R: RecordPool>(records: &mut R, at: R::At) -> R::At
     requires places { (R.shown records.old).held + 1 ≤ (R.shown records.old).room }
     ensures term { (R.shown records.new).term result ≡ part 1 ((R.shown records.old).term at) }
     ensures stands { IsNodeAt (R.shown records.new) result }
+    ensures on { (places : ℕ) → places ≤ (R.shown records.old).held
+        → IsOn R.shared (R.shown records.old) places at
+        → IsOn R.shared (R.shown records.new) places result }
     ensures later { Later (R.shown records.old) (R.shown records.new) }
     ensures held { (R.shown records.new).held ≤ (R.shown records.old).held + 1 }
     ensures records { (R.shown records.new).records ≡ (R.shown records.old).records }
@@ -60,8 +64,11 @@ fn find_under<R: RecordPool>(records: &mut R, top: Part<R::At>, name: &Name) -> 
     requires places { (R.shown records.old).held + 5 * height_of (entries_of
         (part_term (R.shown records.old).term top)) + 1 ≤ (R.shown records.old).room }
     ensures child { option_map (λ at. tree_of ((R.shown records.new).term at)) result
-        ≡ child name.now (kids_of (entries_of (part_term (R.shown records.old).term top))) }
+        ≡ child_of_name name.now (kids_of (entries_of (part_term (R.shown records.old).term top))) }
     ensures stands { ForSome result (IsNodeAt (R.shown records.new)) }
+    ensures on { (places : ℕ) → places ≤ (R.shown records.old).held
+        → PartOn R.shared (R.shown records.old) places top
+        → ForSome result (IsOn R.shared (R.shown records.new) places) }
     ensures later { Later (R.shown records.old) (R.shown records.new) }
     ensures held { (R.shown records.new).held ≤ (R.shown records.old).held + 5 * height_of
         (entries_of (part_term (R.shown records.old).term top)) }
@@ -90,12 +97,39 @@ pub fn find_child<R: RecordPool>(records: &mut R, at: R::At, name: &Name) -> Opt
     requires node { IsTreeNode ((R.shown records.old).term at) }
     requires places { (R.shown records.old).held + 64 ≤ (R.shown records.old).room }
     ensures child { option_map (λ at. tree_of ((R.shown records.new).term at)) result
-        ≡ child name.now (tree_of ((R.shown records.old).term at)).kids }
+        ≡ child_of_name name.now (tree_of ((R.shown records.old).term at)).kids }
     ensures stands { ForSome result (IsNodeAt (R.shown records.new)) }
+    ensures on { (places : ℕ) → places ≤ (R.shown records.old).held
+        → IsOn R.shared (R.shown records.old) places at
+        → ForSome result (IsOn R.shared (R.shown records.new) places) }
     ensures later { Later (R.shown records.old) (R.shown records.new) }
     ensures held { (R.shown records.new).held ≤ (R.shown records.old).held + 64 }
     ensures records { (R.shown records.new).records ≡ (R.shown records.old).records }
 {
     let top = read_part(records, at, 1);
     find_under(records, top, name)
+}
+
+/// The child of that name, if there is one. Of what was read, a shared child alone keeps a place.
+#[tactic(auto, using(crate::proofs::Spellings::kept_back))]
+pub fn child<R: RecordPool>(records: &mut R, at: R::At, name: &Name) -> Option<R::At>
+    requires stands { (R.shown records.old).stands (R.shown records.old).held at }
+    requires node { IsTreeNode ((R.shown records.old).term at) }
+    requires places { (R.shown records.old).held + 64 ≤ (R.shown records.old).room }
+    ensures child { option_map (λ at. tree_of ((R.shown records.new).term at)) result
+        ≡ child_of_name name.now (tree_of ((R.shown records.old).term at)).kids }
+    ensures stands { ForSome result (IsNodeAt (R.shown records.new)) }
+    ensures later { Later (R.shown records.old) (R.shown records.new) }
+    ensures held { (R.shown records.new).held
+        ≡ (R.shown records.old).held + places_found R.shared result }
+    ensures records { (R.shown records.new).records ≡ (R.shown records.old).records }
+{
+    let held = records.held();
+    match find_child(records, at, name) {
+        Some(child) => Some(records.keep(held, child)),
+        None => {
+            records.cut(held);
+            None
+        }
+    }
 }

@@ -11,7 +11,7 @@ mod texts;
 mod words;
 mod writes;
 
-pub use crate::finding::find_child;
+pub use crate::finding::{child, find_child};
 pub use crate::listing::names;
 pub use crate::nodes::{count, empty_node, height, text_of};
 pub use crate::pool::{Part, RecordPool};

@@ -95,7 +95,7 @@ fn read_names<R: RecordPool>(alloc: Global, records: &mut R, at: R::At) -> Resul
 }
 
 /// The names of a node's children, in their order.
-#[tactic(auto, using(crate::proofs::Spellings::cut_back))]
+#[tactic(auto, using(crate::proofs::Spellings::kept_back))]
 pub fn names<R: RecordPool>(alloc: Global, records: &mut R, at: R::At) -> Result<Names, NoMemory>
     requires stands { (R.shown records.old).stands (R.shown records.old).held at }
     requires node { IsTreeNode ((R.shown records.old).term at) }

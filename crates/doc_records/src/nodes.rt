@@ -5,7 +5,7 @@ ghost use Rattle.cell_words.specs.declared.fields.Field.TheVariants as field;
 ghost use Rattle.doc_tree.specs.Tree.{count, empty, height};
 ghost use Rattle.trails.specs.Asks.{Shows, gave};
 ghost use Rattle.trails.specs.Telling.{Tells};
-ghost use Rattle.doc_records.specs.Pool.{Later, Cut, part_term};
+ghost use Rattle.doc_records.specs.Pool.{Later, part_term};
 ghost use Rattle.doc_records.specs.Shapes.{ask_text};
 ghost use Rattle.doc_records.specs.Texts.{text_asks};
 ghost use Rattle.doc_records.specs.Trees.{IsNode, IsTreeNode, Spells, tree_of};
@@ -40,7 +40,7 @@ fn read_text<R: RecordPool>(alloc: Global, records: &mut R, at: R::At) -> Result
 }
 
 /// The text of a node.
-#[tactic(auto, using(crate::proofs::Spellings::cut_back, crate::proofs::Spellings::text_shown, crate::proofs::Spellings::node_text))]
+#[tactic(auto, using(crate::proofs::Spellings::kept_back, crate::proofs::Spellings::text_shown, crate::proofs::Spellings::node_text))]
 pub fn text_of<R: RecordPool>(alloc: Global, records: &mut R, at: R::At) -> Result<Text, NoMemory>
     requires stands { (R.shown records.old).stands (R.shown records.old).held at }
     requires node { IsNode ((R.shown records.old).term at) }
@@ -93,9 +93,11 @@ pub fn height<R: RecordPool>(records: &mut R, at: R::At) -> u32
 }
 
 /// A node of the empty tree.
+#[tactic(auto, using(crate::proofs::Makings::empty_made))]
 pub fn empty_node<R: RecordPool>(records: &mut R) -> R::At
     requires records { 1 ≤ (R.shown records.old).records }
     ensures tree { Spells ((R.shown records.new).term result) empty }
+    ensures node { IsTreeNode ((R.shown records.new).term result) }
     ensures stands { (R.shown records.new).stands (R.shown records.new).held result }
     ensures later { Later (R.shown records.old) (R.shown records.new) }
     ensures held { (R.shown records.new).held ≡ (R.shown records.old).held }

@@ -2,8 +2,8 @@
 ghost use Rattle.std.specs.Prelude.{◌≡◌, ◌+◌, ◌≤◌, ◌<◌, ℕ, Bool, true};
 ghost use Rattle.cell_words.specs.Term.{five, part, IsFive};
 ghost use Rattle.trails.specs.Telling.{Tells};
-ghost use Rattle.doc_records.specs.Pool.{Shown, Later, Cut, Stands, part_term, places_of};
-ghost use Rattle.doc_records.specs.Pool.{is_shared, ask_part};
+ghost use Rattle.doc_records.specs.Pool.{Shown, Later, Kept, Stands, IsOn, PartOn};
+ghost use Rattle.doc_records.specs.Pool.{part_term, places_of, own_place, is_shared, ask_part};
 
 /// What a field of a record is.
 #[derive(Clone, Copy)]
@@ -37,6 +37,8 @@ pub trait RecordPool {
         ensures held { (shown self.new).held ≤ (shown self.old).held + places_of result }
         ensures records { (shown self.new).records ≡ (shown self.old).records }
         ensures shared { shared at ≡ true → is_shared shared result ≡ true }
+        ensures on { (places : ℕ) → places ≤ (shown self.old).held
+            → IsOn shared (shown self.old) places at → PartOn shared (shown self.new) places result }
         ensures told { shared at ≡ true
             → Tells (ask_part result) (shown self.old).marks (shown self.new).marks };
 
@@ -73,6 +75,22 @@ pub trait RecordPool {
     fn cut(&mut self, places: usize)
         requires some { 1 ≤ places }
         requires held { places ≤ (shown self.old).held }
-        ensures cut { Cut places (shown self.old) (shown self.new) }
+        ensures kept { Kept places (shown self.old) (shown self.new) }
+        ensures held { (shown self.new).held ≡ places }
+        ensures records { (shown self.new).records ≡ (shown self.old).records };
+
+    /// Gives back all places but the first so many, and keeps this record. A shared one then stands
+    /// at the end.
+    fn keep(&mut self, places: usize, at: Self::At) -> Self::At
+        requires some { 1 ≤ places }
+        requires held { places ≤ (shown self.old).held }
+        requires room { places < (shown self.old).room }
+        requires stands { (shown self.old).stands (shown self.old).held at }
+        requires on { IsOn shared (shown self.old) places at }
+        ensures kept { Kept places (shown self.old) (shown self.new) }
+        ensures term { (shown self.new).term result ≡ (shown self.old).term at }
+        ensures stands { (shown self.new).stands (shown self.new).held result }
+        ensures shared { shared result ≡ shared at }
+        ensures held { (shown self.new).held ≡ places + own_place (shared at) }
         ensures records { (shown self.new).records ≡ (shown self.old).records };
 }

@@ -1,10 +1,11 @@
 //! Reading one field of a record: what every reader above is made of.
 //!
 //! Each of these tells one thing of the trail, so that a caller's own clause is their composition.
-ghost use Rattle.std.specs.Prelude.{◌≡◌, ◌+◌, ◌≤◌, ◌<◌, ◌^◌, true};
+ghost use Rattle.std.specs.Prelude.{◌≡◌, ◌+◌, ◌≤◌, ◌<◌, ◌^◌, ℕ, true};
 ghost use Rattle.cell_words.specs.Term.{part, number, IsFive};
 ghost use Rattle.trails.specs.Telling.{Tells};
-ghost use Rattle.doc_records.specs.Pool.{Later, Stands, part_term, places_of, is_shared};
+ghost use Rattle.doc_records.specs.Pool.{Later, Stands, IsOn, PartOn, part_term, places_of};
+ghost use Rattle.doc_records.specs.Pool.{is_shared};
 ghost use Rattle.doc_records.specs.Shapes.{IsNum, ask_word};
 
 use crate::pool::{Part, RecordPool};
@@ -62,6 +63,9 @@ pub(crate) fn read_part<R: RecordPool>(records: &mut R, at: R::At, index: usize)
     ensures held { (R.shown records.new).held ≤ (R.shown records.old).held + places_of result }
     ensures records { (R.shown records.new).records ≡ (R.shown records.old).records }
     ensures shared { R.shared at ≡ true → is_shared R.shared result ≡ true }
+    ensures on { (places : ℕ) → places ≤ (R.shown records.old).held
+        → IsOn R.shared (R.shown records.old) places at
+        → PartOn R.shared (R.shown records.new) places result }
     ensures told { R.shared at ≡ true
         → Tells (λ rest. rest) (R.shown records.old).marks (R.shown records.new).marks }
 {

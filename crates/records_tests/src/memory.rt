@@ -1,7 +1,7 @@
 //! A private heap alone, as a pool of records: nothing in it is shared, and no place is ever taken.
 ghost use Rattle.std.specs.Prelude.{◌≡◌, ◌+◌, ◌≤◌, [], IfOk};
 ghost use Rattle.cell_words.specs.Term.{five};
-ghost use Rattle.doc_records.specs.Pool.{Later, Stands, part_term};
+ghost use Rattle.doc_records.specs.Pool.{IsOn, Kept, Later, Stands, part_term, own_place};
 ghost use Rattle.records_tests.specs.Memory.{field_of, shown};
 
 use doc_records::{NoMemory, Part, RecordPool};
@@ -99,4 +99,8 @@ impl RecordPool for MemoryPool {
     }
 
     fn cut(&mut self, places: usize) {}
+
+    fn keep(&mut self, places: usize, at: MinorRef) -> MinorRef {
+        at
+    }
 }

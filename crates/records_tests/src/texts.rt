@@ -1,7 +1,7 @@
 //! Texts and nodes on the pool in memory.
 use crate::memory::MemoryPool;
-use doc_records::{count, empty_node, text_of, with_text};
-use doc_tree::Text;
+use doc_records::{child, count, empty_node, height, names, text_of, with_text};
+use doc_tree::{Name, Text};
 use minor_heap::MinorField::{Minor, Null, Num};
 use minor_heap::MinorRef;
 use std::alloc::Global;
@@ -24,6 +24,18 @@ fn an_empty_node_has_no_text(rt: HostRuntime) -> Result<(), Fail> {
     let text = text_of(rt.alloc(), &mut pool, node)?;
     assert_eq!(rt; text.as_str(), "");
     assert_eq!(rt; pool.heap.len(), 1);
+    Ok(())
+}
+
+#[test]
+fn an_empty_node_has_no_children(rt: HostRuntime) -> Result<(), Fail> {
+    let mut pool = MemoryPool::with_room(rt.alloc(), 1)?;
+    let node = empty_node(&mut pool);
+    assert_eq!(rt; height(&mut pool, node), 0);
+    let names = names(rt.alloc(), &mut pool, node)?;
+    assert!(rt; names.names().is_empty());
+    let name = Name::read(rt.alloc(), b"a")?.ok_or("a name")?;
+    assert!(rt; child(&mut pool, node, &name).is_none());
     Ok(())
 }
 
