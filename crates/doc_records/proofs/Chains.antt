@@ -1,5 +1,5 @@
 -- A cell of a chain: what it is, and what comes after it.
-use Rattle.std.proofs.Common.{◌≡◌, ℕ, ◌+◌, List, ◌++◌, refl}
+use Rattle.std.proofs.Common.{◌≡◌, ◌+◌, List, ◌++◌, refl}
 use Rattle.cell_words.specs.Term.{Term, null, num, five, part, number, IsFive}
 use Rattle.trails.specs.Asks.{Ask}
 use Rattle.doc_records.specs.Shapes.{IsNum, IsChain, cells_of, ask_cell, ask_text}

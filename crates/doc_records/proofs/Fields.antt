@@ -3,7 +3,7 @@ use Rattle.std.proofs.Common.{◌≡◌, ℕ, zero, suc, List, ◌∷◌, sym, s
 use Rattle.cell_words.specs.Term.{Term, null, num, five, IsFive}
 use Rattle.cell_words.specs.declared.fields.Field.TheVariants as field
 use Rattle.trails.specs.Marks.{Mark}
-use Rattle.trails.specs.Asks.{Ask, gave}
+use Rattle.trails.specs.Asks.{gave}
 use Rattle.trails.specs.Telling.{Tells, Keeps}
 use Rattle.trails.proofs.Telling.{keeps_tells}
 use Rattle.doc_records.specs.Shapes.{IsNum, ask_word}

@@ -1,6 +1,5 @@
 -- Nodes that are made from the parts of others.
-use Rattle.std.proofs.Common.{◌≡◌, ℕ, ◌<◌, ◌^◌, List, length, true, refl, subst, sym, arith}
-use Rattle.std.proofs.lemmas.Bool.{and_parts}
+use Rattle.std.proofs.Common.{◌≡◌, ℕ, ◌<◌, ◌^◌, List, length, true, refl, arith}
 use Rattle.std.proofs.lemmas.Bool.Decides.{nat_tests}
 use Rattle.cell_words.specs.Term.{Term, null, num, five, part}
 use Rattle.doc_tree.specs.Tree.{count, height}

@@ -1,13 +1,13 @@
 -- The entries of a node, one by one: what each is, and their names in order.
 use Rattle.std.proofs.Common.{◌≡◌, ℕ, ◌+◌, ◌≤◌, List, [], ◌∷◌, ◌++◌, refl, ap, sym, ◌∙◌, arith}
-use Rattle.std.proofs.Common.{true, append_assoc, Some, Result, Ok, Err, OnOk, subst}
+use Rattle.std.proofs.Common.{append_assoc, Some, Result, Ok, Err, OnOk, subst}
 use Rattle.std.proofs.lemmas.List.{append-nil}
 use Rattle.std.proofs.lemmas.Bool.Decides.{nat_tests}
 use Rattle.cell_words.specs.Term.{Term, null, num, five, part, IsFive}
 use Rattle.std.specs.declared.cmp.Ordering.TheVariants.{Less, Equal, Greater}
-use Rattle.doc_tree.specs.Tree.{Kids, no_kids, kid, kid_count, names_of, name_cmp, child, IsRising}
+use Rattle.doc_tree.specs.Tree.{kid, kid_count, names_of, name_cmp, child, IsRising}
 use Rattle.doc_tree.proofs.Joined.{count_join, names_join}
-use Rattle.kids_avl.specs.Entries.{Entries, entry, kids_of, height_of, IsBalanced}
+use Rattle.kids_avl.specs.Entries.{kids_of, height_of, IsBalanced}
 use Rattle.kids_avl.proofs.Heights.{at_most_eleven, left_lower, right_lower}
 use Rattle.kids_avl.proofs.Lists.{child_less, child_equal, child_greater}
 use Rattle.kids_avl.proofs.Lists.{rising_before, rising_after}
@@ -55,7 +55,7 @@ entry_count (five a b c d e) this =
     omega (
       arith,
       count_join (kids_of (entries_of c)) (kid (text_of a) (tree_of b).text (tree_of b).kids
-      (kids_of (entries_of d))),
+          (kids_of (entries_of d))),
     )
 
 pub entry_asks : (t : Term) (rest : List Ask) → IsFive t

@@ -6,13 +6,13 @@ use Rattle.std.specs.List.{list_all}
 use Rattle.std.proofs.lemmas.Bool.{and_parts}
 use Rattle.std.proofs.lemmas.Bool.Decides.{nat_tests}
 use Rattle.std.proofs.lemmas.List.{drop-drop, take-append-drop}
-use Rattle.cell_words.specs.Term.{Term, null, num, five, part, number}
+use Rattle.cell_words.specs.Term.{Term, null, num, five}
 use Rattle.cell_words.specs.declared.fields.Field.TheVariants as field
 use Rattle.trails.specs.Asks.{Ask, gave}
 use Rattle.doc_tree.specs.Words.{is_name_byte, is_text_byte, is_name, is_text}
 use Rattle.doc_records.specs.Words.{word_of, bytes_of}
-use Rattle.doc_records.specs.Shapes.{IsNum, IsChain, cells_of, ask_word, ask_cell, ask_text}
-use Rattle.doc_records.specs.Texts.{SpellsText, text_of, bytes_here, words_past, words_of, text_asks}
+use Rattle.doc_records.specs.Shapes.{IsNum, IsChain, cells_of, ask_word, ask_text}
+use Rattle.doc_records.specs.Texts.{SpellsText, text_of, words_past, words_of, text_asks}
 
 -- bytes that are not 0
 abbrev pub AreBytes : List ℕ → Type 0
@@ -153,8 +153,16 @@ text_spelled (five a b c d e) bytes spells are =
     word_back 7 (min 7 (length bytes - 14)) (drop 14 bytes) (rw (length-drop 14 bytes) refl)
     (bytes_drop 14 bytes are) in
     let behind = text_spelled e (drop 21 bytes) spells.1 (bytes_drop 21 bytes are) in
-    rw (spells.0.count, spells.0.first, spells.0.second, spells.0.third, first, second, third,
-    behind) (three_cuts bytes)
+    rw (
+      spells.0.count,
+      spells.0.first,
+      spells.0.second,
+      spells.0.third,
+      first,
+      second,
+      third,
+      behind,
+    ) (three_cuts bytes)
 
 -- a text that is made
 pub drop_least : (n : ℕ) (bytes : List ℕ) → drop (min n (length bytes)) bytes ≡ drop n bytes

@@ -1,19 +1,17 @@
 -- A node that is spelled: its fields, and what its text takes.
-use Rattle.std.proofs.Common.{◌≡◌, ℕ, ◌+◌, ◌≤◌, true, List, [], ◌∷◌, ◌++◌, refl, subst, sym}
-use Rattle.std.proofs.Common.{ap, ◌∙◌, arith, Result, Ok, Err, OnOk}
+use Rattle.std.proofs.Common.{◌≡◌, ◌≤◌, List, [], subst}
+use Rattle.std.proofs.Common.{◌∙◌, arith, Result, Ok, Err, OnOk}
 use Rattle.std.proofs.lemmas.List.{append-nil}
-use Rattle.std.proofs.lemmas.Bool.{and_parts}
 use Rattle.std.proofs.lemmas.Bool.Decides.{nat_tests}
-use Rattle.cell_words.specs.Term.{Term, null, num, five, part, number, IsFive}
+use Rattle.cell_words.specs.Term.{Term, null, num, five, part, IsFive}
 use Rattle.doc_tree.specs.Tree.{count, height}
-use Rattle.doc_tree.specs.Words.{is_text}
 use Rattle.trails.specs.Asks.{Shows}
 use Rattle.trails.specs.Marks.{Mark}
 use Rattle.trails.specs.Telling.{Tells, Keeps}
 use Rattle.trails.proofs.Telling.{tells_shows, keeps_begins, keeps_grown}
 use Rattle.trails.proofs.Orders.{shows_on}
 use Rattle.doc_records.specs.Pool.{Shown, Later, Kept}
-use Rattle.doc_records.specs.Shapes.{IsNum, IsChain, cells_of, ask_text}
+use Rattle.doc_records.specs.Shapes.{IsChain, cells_of, ask_text}
 use Rattle.doc_records.specs.Texts.{IsText, text_of, text_asks}
 use Rattle.doc_records.specs.Trees.{IsNode, tree_of}
 use Rattle.doc_records.proofs.Spelled.{chain_spelled, cells_spelled, ask_spelled, text_bytes}

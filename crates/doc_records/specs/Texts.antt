@@ -1,6 +1,6 @@
 -- Texts and names as records: a chain of cells with 21 bytes each, and fewer in the last alone.
 -- Source: this project's layout of a text.
-use Rattle.std.specs.Prelude.{◌≡◌, ℕ, zero, suc, ◌+◌, ◌-◌, ◌<◌, List, [], ◌∷◌, ◌++◌, length, min}
+use Rattle.std.specs.Prelude.{◌≡◌, ℕ, zero, suc, ◌-◌, ◌<◌, List, [], ◌∷◌, ◌++◌, length, min}
 use Rattle.std.specs.Prelude.{drop, map, true}
 use Rattle.cell_words.specs.Term.{Term, null, num, five, number}
 use Rattle.cell_words.specs.declared.fields.Field.TheVariants as field

@@ -4,7 +4,7 @@
 -- What a term says is a total function of it, and whether it is in order is said beside that. So
 -- no statement asks for a tree that a term spells: `tree_of` is the one.
 -- Source: this project's layout of a tree.
-use Rattle.std.specs.Prelude.{◌≡◌, ℕ, ◌+◌, ◌≤◌, max}
+use Rattle.std.specs.Prelude.{◌≡◌, ◌+◌, ◌≤◌, max}
 use Rattle.cell_words.specs.Term.{Term, null, num, five, part}
 use Rattle.doc_tree.specs.Tree.{DocTree, count, height, IsRising}
 use Rattle.doc_tree.specs.Lawful.{IsLawful}

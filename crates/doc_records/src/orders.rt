@@ -63,11 +63,7 @@ fn order_end(name: &[u8]) -> Ordering
 
 /// The order of the name against a text. Each of its cells but the first takes a place.
 #[tactic(auto, using(crate::proofs::Chains::next))]
-pub(crate) fn order_text<R: RecordPool>(
-    records: &mut R,
-    name: &[u8],
-    top: Part<R::At>,
-) -> Ordering
+pub(crate) fn order_text<R: RecordPool>(records: &mut R, name: &[u8], top: Part<R::At>) -> Ordering
     requires stands { Stands (R.shown records.old) top }
     requires chain { IsChain (part_term (R.shown records.old).term top) }
     requires places { (R.shown records.old).held
