@@ -6,11 +6,20 @@ use doc_model::Log;
 
 /// How a run ended: its status, the fault that the status stands for, and the log of each client,
 /// where scripts were answered.
-#[derive(Drop)]
 pub struct Outcome {
     pub status: u8,
     pub fault: Option<Fault>,
     pub logs: Option<Vec<Log>>,
+}
+
+impl Drop for Outcome {
+    fn drop(self) {
+        let Outcome {
+            status: _,
+            fault: _,
+            logs: _logs,
+        } = self;
+    }
 }
 
 impl Outcome {

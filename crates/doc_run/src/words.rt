@@ -7,9 +7,14 @@ use std::alloc::Global;
 use std::marker::Model;
 
 /// The words of a command line that stand after the program's name.
-#[derive(Drop)]
 pub struct Words {
     words: Vec<String>,
+}
+
+impl Drop for Words {
+    fn drop(self) {
+        let Words { words: _words } = self;
+    }
 }
 
 impl Model for Words {

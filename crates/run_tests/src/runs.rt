@@ -33,6 +33,16 @@ fn outcome_by(alloc: Global, word: &str, bytes: &[u8]) -> Result<(Outcome, SureS
     Ok((outcome, sink))
 }
 
+// What a refused run shows: its status, and the text of its fault. It has written nothing.
+fn refusal_by(alloc: Global, word: &str, bytes: &[u8]) -> Result<(u8, Vec<u8>), Fail> {
+    let (outcome, sink) = outcome_by(alloc, word, bytes)?;
+    if !sink.written().is_empty() {
+        return Err(Fail::from("it wrote"));
+    }
+    let fault = outcome.fault.ok_or("a fault")?;
+    Ok((outcome.status, fault_text(alloc, &fault)?))
+}
+
 // A body that always finds no memory is refused here: there is enough.
 #[test]
 fn a_script_is_answered(rt: HostRuntime) -> Result<(), Fail> {
@@ -69,41 +79,42 @@ fn a_faulty_script_is_refused_at_its_first_faulty_line(rt: HostRuntime) -> Resul
         (b"get a ", "docheap: file 1: line 1: Extra"),
     ];
     for (script, text) in table {
-        let (outcome, sink) = outcome_of(rt.alloc(), script)?;
-        assert_eq!(rt; outcome.status, 2, "{text}");
-        let fault = outcome.fault.ok_or("a fault")?;
-        assert_eq!(rt; fault_text(rt.alloc(), &fault)?.as_slice(), text.as_bytes());
-        assert_eq!(rt; sink.written(), b"".as_slice(), "{text}");
+        let (status, said) = refusal_by(rt.alloc(), "run", script)?;
+        assert_eq!(rt; status, 2, "{text}");
+        assert_eq!(rt; said.as_slice(), text.as_bytes());
     }
     Ok(())
 }
 
 #[test]
-fn a_schedule_is_replayed_or_refused(rt: HostRuntime) -> Result<(), Fail> {
+fn a_schedule_is_replayed(rt: HostRuntime) -> Result<(), Fail> {
     let bytes = b"core 2 1 1\nshow 0\npost clear\nplain\n";
     let (outcome, sink) = outcome_by(rt.alloc(), "replay", bytes)?;
     assert_eq!(rt; outcome.status, 0);
     assert!(rt; outcome.logs.is_none());
     let text = "cell 0 white - - - - - =2 freed 0\nnot now 3\ndone 0\nfree 1\n";
     assert_eq!(rt; sink.written(), text.as_bytes());
+    Ok(())
+}
+
+#[test]
+fn a_faulty_schedule_is_refused_at_its_first_faulty_line(rt: HostRuntime) -> Result<(), Fail> {
     let table: [(&[u8], &str); 3] = [
         (b"core 3 1 8\njump", "docheap: file 1: line 2: NoEvent"),
         (b"begin 0", "docheap: file 1: line 1: NoStart"),
         (b"core 0 1 1", "docheap: file 1: line 1: BadNumber"),
     ];
     for (schedule, text) in table {
-        let (outcome, sink) = outcome_by(rt.alloc(), "replay", schedule)?;
-        assert_eq!(rt; outcome.status, 2, "{text}");
-        let fault = outcome.fault.ok_or("a fault")?;
-        assert_eq!(rt; fault_text(rt.alloc(), &fault)?.as_slice(), text.as_bytes());
-        assert_eq!(rt; sink.written(), b"".as_slice(), "{text}");
+        let (status, said) = refusal_by(rt.alloc(), "replay", schedule)?;
+        assert_eq!(rt; status, 2, "{text}");
+        assert_eq!(rt; said.as_slice(), text.as_bytes());
     }
     Ok(())
 }
 
-// A comment of the largest size, one byte more, and one command too many.
+// A comment of the largest size, and one byte more.
 #[test]
-fn too_large_begins_behind_the_limits(rt: HostRuntime) -> Result<(), Fail> {
+fn a_file_is_too_large_behind_its_limit(rt: HostRuntime) -> Result<(), Fail> {
     let mut comment = vec![in rt.alloc(); b'#'; 1_048_575]?;
     comment.push(b'\n')?;
     let (outcome, sink) = outcome_of(rt.alloc(), &comment)?;
@@ -113,6 +124,11 @@ fn too_large_begins_behind_the_limits(rt: HostRuntime) -> Result<(), Fail> {
     let (outcome, _) = outcome_of(rt.alloc(), &comment)?;
     assert_eq!(rt; outcome.status, 6);
     assert_eq!(rt; outcome.fault, Some(Fault::TooLarge { file: 1 }));
+    Ok(())
+}
+
+#[test]
+fn one_command_too_many_is_too_large(rt: HostRuntime) -> Result<(), Fail> {
     let mut commands = Vec::new(rt.alloc());
     for _ in 0..100_001 {
         commands.extend_from_slice(b"get a\n")?;
@@ -124,7 +140,7 @@ fn too_large_begins_behind_the_limits(rt: HostRuntime) -> Result<(), Fail> {
 }
 
 #[test]
-fn a_failing_device_ends_the_run(rt: HostRuntime) -> Result<(), Fail> {
+fn a_failing_shelf_ends_the_run(rt: HostRuntime) -> Result<(), Fail> {
     let run_f = words(rt.alloc(), &["run", "f"])?;
     let mut shelf = MemShelf::new(files(rt.alloc(), HELLO)?, vec![in rt.alloc(); 2]?);
     let mut sink = SureSink::new(rt.alloc());
@@ -133,6 +149,12 @@ fn a_failing_device_ends_the_run(rt: HostRuntime) -> Result<(), Fail> {
     assert_eq!(rt; outcome.fault, Some(Fault::ReadFault { file: 1 }));
     assert_eq!(rt; shelf.calls(), 2);
     assert_eq!(rt; sink.written(), b"".as_slice());
+    Ok(())
+}
+
+#[test]
+fn a_failing_sink_ends_the_run(rt: HostRuntime) -> Result<(), Fail> {
+    let run_f = words(rt.alloc(), &["run", "f"])?;
     let mut shelf = SureShelf::new(files(rt.alloc(), HELLO)?);
     let mut sink = MemSink::new(100, vec![in rt.alloc(); 2]?);
     let outcome = run(rt.alloc(), &run_f, &mut shelf, &mut sink);
