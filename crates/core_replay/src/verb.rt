@@ -38,37 +38,55 @@ pub(crate) enum Verb {
 pub(crate) fn bare_step(word: &[u8]) -> Option<Step>
     ensures { result ≡ bare_step_of word.now }
 {
-    let event = match word {
-        b"plain" => return Some(Step::Plain),
-        b"clear" => Event::ClearCell,
-        b"anchor" => Event::Anchor,
-        b"scan" => Event::Scan,
-        b"shade" => Event::Shade,
-        b"blacken" => Event::Blacken,
-        b"sweep" => Event::SweepLook,
-        b"wipe" => Event::Wipe,
-        b"free" => Event::Free,
-        b"whiten" => Event::Whiten,
-        b"advance" => Event::Advance,
-        _ => return None,
-    };
-    Some(Step::Take(event))
+    if word == b"plain".as_slice() {
+        Some(Step::Plain)
+    } else if word == b"clear".as_slice() {
+        Some(Step::Take(Event::ClearCell))
+    } else if word == b"anchor".as_slice() {
+        Some(Step::Take(Event::Anchor))
+    } else if word == b"scan".as_slice() {
+        Some(Step::Take(Event::Scan))
+    } else if word == b"shade".as_slice() {
+        Some(Step::Take(Event::Shade))
+    } else if word == b"blacken".as_slice() {
+        Some(Step::Take(Event::Blacken))
+    } else if word == b"sweep".as_slice() {
+        Some(Step::Take(Event::SweepLook))
+    } else if word == b"wipe".as_slice() {
+        Some(Step::Take(Event::Wipe))
+    } else if word == b"free".as_slice() {
+        Some(Step::Take(Event::Free))
+    } else if word == b"whiten".as_slice() {
+        Some(Step::Take(Event::Whiten))
+    } else if word == b"advance".as_slice() {
+        Some(Step::Take(Event::Advance))
+    } else {
+        None
+    }
 }
 
 impl Single {
     pub(crate) fn read(word: &[u8]) -> Option<Single>
         ensures { result ≡ single_of word.now }
     {
-        match word {
-            b"begin" => Some(Single::Begin),
-            b"look" => Some(Single::Look),
-            b"answer" => Some(Single::Answer),
-            b"end" => Some(Single::End),
-            b"over" => Some(Single::Over),
-            b"poll" => Some(Single::Poll),
-            b"see" => Some(Single::See),
-            b"show" => Some(Single::Show),
-            _ => None,
+        if word == b"begin".as_slice() {
+            Some(Single::Begin)
+        } else if word == b"look".as_slice() {
+            Some(Single::Look)
+        } else if word == b"answer".as_slice() {
+            Some(Single::Answer)
+        } else if word == b"end".as_slice() {
+            Some(Single::End)
+        } else if word == b"over".as_slice() {
+            Some(Single::Over)
+        } else if word == b"poll".as_slice() {
+            Some(Single::Poll)
+        } else if word == b"see".as_slice() {
+            Some(Single::See)
+        } else if word == b"show".as_slice() {
+            Some(Single::Show)
+        } else {
+            None
         }
     }
 }
@@ -77,18 +95,28 @@ impl Verb {
     pub(crate) fn read(word: &[u8]) -> Option<Verb>
         ensures { result ≡ verb_of word.now }
     {
-        match word {
-            b"read" => Some(Verb::Read),
-            b"mark" => Some(Verb::Mark),
-            b"write" => Some(Verb::Write),
-            b"claim" => Some(Verb::Claim),
-            b"fill" => Some(Verb::Fill),
-            b"seal" => Some(Verb::Seal),
-            b"keep" => Some(Verb::Keep),
-            b"post" => Some(Verb::Post),
-            b"duty" => Some(Verb::Duty),
-            b"out" => Some(Verb::Out),
-            _ => None,
+        if word == b"read".as_slice() {
+            Some(Verb::Read)
+        } else if word == b"mark".as_slice() {
+            Some(Verb::Mark)
+        } else if word == b"write".as_slice() {
+            Some(Verb::Write)
+        } else if word == b"claim".as_slice() {
+            Some(Verb::Claim)
+        } else if word == b"fill".as_slice() {
+            Some(Verb::Fill)
+        } else if word == b"seal".as_slice() {
+            Some(Verb::Seal)
+        } else if word == b"keep".as_slice() {
+            Some(Verb::Keep)
+        } else if word == b"post".as_slice() {
+            Some(Verb::Post)
+        } else if word == b"duty".as_slice() {
+            Some(Verb::Duty)
+        } else if word == b"out".as_slice() {
+            Some(Verb::Out)
+        } else {
+            None
         }
     }
 }
@@ -96,33 +124,43 @@ impl Verb {
 pub(crate) fn kind_named(word: &[u8]) -> Option<Kind>
     ensures { result ≡ kind_of word.now }
 {
-    match word {
-        b"record" => Some(Kind::Record),
-        b"box" => Some(Kind::Boxed),
-        _ => None,
+    if word == b"record".as_slice() {
+        Some(Kind::Record)
+    } else if word == b"box".as_slice() {
+        Some(Kind::Boxed)
+    } else {
+        None
     }
 }
 
 pub(crate) fn stage_named(word: &[u8]) -> Option<Stage>
     ensures { result ≡ stage_of word.now }
 {
-    match word {
-        b"sync1" => Some(Stage::Sync1),
-        b"clear" => Some(Stage::Clear),
-        b"sync2" => Some(Stage::Sync2),
-        b"trace" => Some(Stage::Trace),
-        b"sweep" => Some(Stage::Sweep),
-        b"idle" => Some(Stage::Idle),
-        _ => None,
+    if word == b"sync1".as_slice() {
+        Some(Stage::Sync1)
+    } else if word == b"clear".as_slice() {
+        Some(Stage::Clear)
+    } else if word == b"sync2".as_slice() {
+        Some(Stage::Sync2)
+    } else if word == b"trace".as_slice() {
+        Some(Stage::Trace)
+    } else if word == b"sweep".as_slice() {
+        Some(Stage::Sweep)
+    } else if word == b"idle".as_slice() {
+        Some(Stage::Idle)
+    } else {
+        None
     }
 }
 
 pub(crate) fn duty_named(word: &[u8]) -> Option<bool>
     ensures { result ≡ duty_of word.now }
 {
-    match word {
-        b"on" => Some(true),
-        b"off" => Some(false),
-        _ => None,
+    if word == b"on".as_slice() {
+        Some(true)
+    } else if word == b"off".as_slice() {
+        Some(false)
+    } else {
+        None
     }
 }

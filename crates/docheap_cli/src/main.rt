@@ -1,35 +1,17 @@
 //! The program `docheap`: a versioned store of documents answers the commands of scripts, or a
 //! schedule of the collector is replayed.
 //!
-//! `run` is the whole program as one proved call over a shelf, which files come from, and a sink,
-//! which the output goes to. `main` hands it the real ones, says the fault and ends with its
-//! status. What a file holds, and what became of standard output, no contract says: that is the
+//! `doc_run::run` is the whole program as one proved call over a shelf, which files come from, and
+//! a sink, which the output goes to. `main` hands it the real ones, says the fault and ends with
+//! its status. What a file holds, and what became of standard output, no contract says: that is the
 //! trusted edge.
-//!
-//! Reading order: `request`, `words`, `fault`, `scripts`, `session`, `output`, `replayed`, `run`.
 #![tactic(auto)]
 
-mod fault;
-mod outcome;
-mod output;
-mod replayed;
-mod request;
-mod run;
-mod scripts;
-mod session;
-#[cfg(test)]
-mod tests;
-mod words;
-
-pub use fault::{Fault, fault_text, final_fault, status};
-pub use outcome::Outcome;
+use doc_run::{Fault, Words, fault_text, final_fault, run, status};
 use outside::{FileShelf, StdSink};
-pub use request::Request;
-pub use run::run;
 use std::env;
 use std::io::{ErrorKind, Write};
 use std::process::ExitCode;
-pub use words::Words;
 
 fn main(rt: HostRuntime) -> ExitCode {
     let fault = run_on_devices(&rt);

@@ -18,7 +18,6 @@ use std::marker::Model;
 /// A shelf in memory that fails at chosen calls, for tests and for what is proved of failures.
 ///
 /// Its calls of `open` and `read` are numbered together, from 1.
-#[derive(Drop)]
 pub struct MemShelf {
     files: Vec<(String, Vec<u8>)>,
     place: Option<Place>,
@@ -27,6 +26,20 @@ pub struct MemShelf {
     opens: u64,
     faults: u64,
     course: Course,
+}
+
+impl Drop for MemShelf {
+    fn drop(self) {
+        let MemShelf {
+            files: _files,
+            place: _,
+            failing: _failing,
+            calls: _,
+            opens: _,
+            faults: _,
+            course: _,
+        } = self;
+    }
 }
 
 impl Model for MemShelf {

@@ -12,7 +12,6 @@ use crate::writing::Sink;
 use std::marker::Model;
 
 /// A sink in memory that takes parts of pieces and fails at chosen calls, numbered from 1.
-#[derive(Drop)]
 pub struct MemSink {
     most: usize,
     failing: Vec<u64>,
@@ -21,6 +20,20 @@ pub struct MemSink {
     wants: u64,
     course: Course,
     written: Vec<u8>,
+}
+
+impl Drop for MemSink {
+    fn drop(self) {
+        let MemSink {
+            most: _,
+            failing: _failing,
+            calls: _,
+            faults: _,
+            wants: _,
+            course: _,
+            written: _written,
+        } = self;
+    }
 }
 
 impl Model for MemSink {

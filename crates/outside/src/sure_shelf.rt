@@ -11,11 +11,20 @@ use crate::reading::Shelf;
 use std::marker::Model;
 
 /// A shelf in memory that never fails: a name that is absent is an empty file.
-#[derive(Drop)]
 pub struct SureShelf {
     files: Vec<(String, Vec<u8>)>,
     place: Option<Place>,
     opens: u64,
+}
+
+impl Drop for SureShelf {
+    fn drop(self) {
+        let SureShelf {
+            files: _files,
+            place: _,
+            opens: _,
+        } = self;
+    }
 }
 
 impl Model for SureShelf {

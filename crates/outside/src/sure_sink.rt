@@ -13,11 +13,20 @@ use std::alloc::Global;
 use std::marker::Model;
 
 /// A sink in memory that takes every piece whole.
-#[derive(Drop)]
 pub struct SureSink {
     wants: u64,
     course: Course,
     written: Vec<u8>,
+}
+
+impl Drop for SureSink {
+    fn drop(self) {
+        let SureSink {
+            wants: _,
+            course: _,
+            written: _written,
+        } = self;
+    }
 }
 
 impl Model for SureSink {
