@@ -1,7 +1,6 @@
 ghost use Rattle.std.specs.Prelude.{◌≡◌, ◌<◌, ◌≤◌, ◌^◌};
 ghost use Rattle.core_machine.specs.State.{greatest_cells};
 ghost use Rattle.heap_rule.specs.Opening.{opening_view};
-ghost use Rattle.heap_table.specs.Seats.{IsSeatOf};
 
 use crate::progress::Progress;
 use cell_words::{Control, Stage};
