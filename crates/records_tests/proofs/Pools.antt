@@ -1,8 +1,8 @@
 -- A record more in a private heap: what it says, and that the others say what they said.
-use Rattle.std.proofs.Common.{◌≡◌, ℕ, zero, suc, ◌+◌, ◌<◌, ◌≤◌, List, [], ◌∷◌, ◌++◌, length, refl}
-use Rattle.std.proofs.Common.{ap, sym, ◌∙◌, subst, arith, length-append}
+use Rattle.std.proofs.Common.{◌≡◌, ℕ, zero, suc, ◌+◌, ◌<◌, List, [], ◌∷◌, ◌++◌, length, refl}
+use Rattle.std.proofs.Common.{ap, ◌∙◌, arith, length-append}
 use Rattle.std.specs.Prelude.{slice_index_or}
-use Rattle.cell_words.specs.Term.{Term, null, five, IsFive}
+use Rattle.cell_words.specs.Term.{Term, null}
 use Rattle.minor_heap.specs.declared.fields.MinorField.{MinorField}
 use Rattle.minor_heap.specs.declared.fields.MinorRef.{MinorRef}
 use Rattle.minor_heap.specs.Nursery.{FitsRecord}

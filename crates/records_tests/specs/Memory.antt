@@ -1,6 +1,6 @@
 -- A private heap as a pool of records.
 -- Source: this project's.
-use Rattle.std.specs.Prelude.{ℕ, ◌-◌, List, [], length}
+use Rattle.std.specs.Prelude.{◌-◌, [], length}
 use Rattle.minor_heap.specs.declared.fields.MinorField.{MinorField}
 use Rattle.minor_heap.specs.declared.fields.MinorField.TheVariants as field
 use Rattle.minor_heap.specs.declared.fields.MinorRef.{MinorRef}

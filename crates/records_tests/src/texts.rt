@@ -34,6 +34,13 @@ fn an_empty_node_has_no_children(rt: HostRuntime) -> Result<(), Fail> {
     assert_eq!(rt; height(&mut pool, node), 0);
     let names = names(rt.alloc(), &mut pool, node)?;
     assert!(rt; names.names().is_empty());
+    Ok(())
+}
+
+#[test]
+fn an_empty_node_has_no_child_of_a_name(rt: HostRuntime) -> Result<(), Fail> {
+    let mut pool = MemoryPool::with_room(rt.alloc(), 1)?;
+    let node = empty_node(&mut pool);
     let name = Name::read(rt.alloc(), b"a")?.ok_or("a name")?;
     assert!(rt; child(&mut pool, node, &name).is_none());
     Ok(())

@@ -1,5 +1,5 @@
 use Rattle.std.proofs.Common.{◌∙◌, refl, rules, []}
-use Rattle.records_tests.proofs.Pools.{IsMore, part_fits, part_field, new_term, later_made}
+use Rattle.records_tests.proofs.Pools.{part_fits, part_field, new_term, later_made}
 use Rattle.records_tests.proofs.memory.MemoryPoolRecordPool.make.Goals as goal
 
 pub make-requires : goal.make-requires
