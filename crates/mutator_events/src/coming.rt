@@ -11,10 +11,11 @@ ghost use Rattle.heap_table.specs.Seats.{IsSeatOf};
 ghost use Rattle.mutator_events.specs.Events.{tells};
 
 use crate::seat::MutSeat;
-use crate::words::{presence_of, status_word};
+use crate::words::status_word;
 use core_machine::Event;
 use heap_rule::Keeping;
 use heap_table::CellHeap;
+use heap_table::words::presence_of;
 use std::marker::Brand;
 
 /// The bits of a status word: who is in, and who is over.

@@ -7,12 +7,13 @@ ghost use Rattle.heap_table.specs.Seats.{IsSeatOf};
 ghost use Rattle.mutator_events.specs.Events.{tells};
 
 use crate::seat::MutSeat;
-use crate::words::{CONTROL, control_of, status_word};
+use crate::words::{CONTROL, status_word};
 use cell_words::modes::next_status;
 use cell_words::{Control, Presence, pack_presence};
 use core_machine::Event;
 use heap_rule::Keeping;
 use heap_table::CellHeap;
+use heap_table::words::control_of;
 use std::marker::Brand;
 
 impl<P: Keeping> MutSeat<P> {

@@ -14,11 +14,12 @@ ghost use Rattle.mutator_events.specs.Values.{field_at};
 use crate::choice::Choice;
 use crate::seat::MutSeat;
 use crate::values::Value;
-use crate::words::{born_colour, colour_of, colour_word, kind_field};
+use crate::words::{born_colour, colour_word, kind_field};
 use cell_words::{Colour, Kind, pack_colour, pack_field};
 use core_machine::Event;
 use heap_rule::Keeping;
 use heap_table::CellHeap;
+use heap_table::words::colour_of;
 use std::marker::Brand;
 
 impl<P: Keeping> MutSeat<P> {

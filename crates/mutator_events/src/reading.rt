@@ -13,10 +13,11 @@ use crate::cells::{hold_found, keep_cells};
 use crate::choice::Choice;
 use crate::seat::MutSeat;
 use crate::values::Value;
-use crate::words::{field_of, status_word};
+use crate::words::status_word;
 use core_machine::Event;
 use heap_rule::Keeping;
 use heap_table::CellHeap;
+use heap_table::words::field_of;
 use std::marker::Brand;
 
 impl<P: Keeping> MutSeat<P> {

@@ -13,11 +13,11 @@ ghost use Rattle.mutator_events.specs.Values.{field_at};
 use crate::choice::Choice;
 use crate::seat::MutSeat;
 use crate::values::{Moved, Value};
-use crate::words::field_of;
 use cell_words::{Colour, pack_colour, pack_field};
 use core_machine::Event;
 use heap_rule::Keeping;
 use heap_table::CellHeap;
+use heap_table::words::field_of;
 use std::marker::Brand;
 
 impl<P: Keeping> MutSeat<P> {
