@@ -12,12 +12,13 @@ ghost use Rattle.heap_rule.specs.Asks.{collector_state};
 ghost use Rattle.heap_table.specs.Seats.{IsSeatOf};
 
 use crate::seat::ColSeat;
-use crate::words::{CONTROL, presence_in, status_word};
+use crate::words::{CONTROL, status_word};
 use cell_words::modes::requested;
 use cell_words::{Control, Presence, Stage, Status, pack_control, pack_presence};
 use core_machine::Event;
 use heap_rule::Keeping;
 use heap_table::CellHeap;
+use heap_table::words::presence_of;
 use std::marker::Brand;
 
 /// The control of a stage.
@@ -93,7 +94,7 @@ impl<P: Keeping> ColSeat<P> {
     {
         let word = status_word(mutator);
         let found = heap.collector_load::<Brand>(&mut self.seat, Event::Poll(mutator), word);
-        presence_in(found)
+        presence_of(found)
     }
 
     /// Answers for a mutator that is out, over or not as given: one compare and exchange on its

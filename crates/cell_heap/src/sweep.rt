@@ -10,11 +10,12 @@ ghost use Rattle.heap_table.specs.Seats.{IsSeatOf};
 
 use crate::progress::{sweep_of, wiped, wiped_count};
 use crate::seat::ColSeat;
-use crate::words::{CONTROL, colour_in, colour_word, field_word};
+use crate::words::{CONTROL, colour_word, field_word};
 use cell_words::{Colour, Control, Field, pack_colour, pack_control, pack_field};
 use core_machine::{Event, Sweeping};
 use heap_rule::Keeping;
 use heap_table::CellHeap;
+use heap_table::words::colour_of;
 use std::marker::Brand;
 
 impl<P: Keeping> ColSeat<P> {
@@ -28,7 +29,7 @@ impl<P: Keeping> ColSeat<P> {
     {
         let word = colour_word(self.mutators, self.control.position);
         let found = heap.collector_load::<Brand>(&mut self.seat, Event::SweepLook, word);
-        let colour = colour_in(found);
+        let colour = colour_of(found);
         let sweep = sweep_of(colour);
         self.progress.sweep = sweep;
         colour

@@ -10,11 +10,12 @@ ghost use Rattle.heap_table.specs.Seats.{IsSeatOf};
 
 use crate::progress::{child_or_anchor, scan_or_none, scan_shaded, scanned};
 use crate::seat::ColSeat;
-use crate::words::{colour_in, colour_word, field_in, field_word};
+use crate::words::{colour_word, field_word};
 use cell_words::{Colour, Field, pack_colour};
 use core_machine::Event;
 use heap_rule::Keeping;
 use heap_table::CellHeap;
+use heap_table::words::{colour_of, field_of};
 use std::marker::Brand;
 
 impl<P: Keeping> ColSeat<P> {
@@ -52,7 +53,7 @@ impl<P: Keeping> ColSeat<P> {
     {
         let word = colour_word(self.mutators, cell);
         let found = heap.collector_load::<Brand>(&mut self.seat, Event::See(cell), word);
-        let colour = colour_in(found);
+        let colour = colour_of(found);
         self.progress.see(self.cells, cell, colour);
         colour
     }
@@ -68,7 +69,7 @@ impl<P: Keeping> ColSeat<P> {
         let scan = scan_or_none(self.progress.scan);
         let word = field_word(self.mutators, scan.cell, scan.next);
         let found = heap.collector_load::<Brand>(&mut self.seat, Event::Scan, word);
-        let field = field_in(found);
+        let field = field_of(found);
         let further = scanned(scan, field);
         self.progress.scan = Some(further);
         field

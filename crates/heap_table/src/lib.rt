@@ -4,9 +4,10 @@
 //! that its seat may make this event; the step then tells the state in which it happened, and the
 //! seat's view behind it is the view before with this event told.
 //!
-//! The seats' calls, a call an event, stand above: `mutator_events` and `collector_events`.
+//! The seats' calls, a call an event, stand above: `mutator_events` and `cell_heap`.
 //!
-//! Reading order: `rule`, `heap`, `steps`, `mutator_operations`, `collector_operations`.
+//! Reading order: `rule`, `heap`, `steps`, `mutator_operations`, `collector_operations`, `opening`,
+//! `moves`, `words`, `closing`.
 #![tactic(auto)]
 
 mod closing;

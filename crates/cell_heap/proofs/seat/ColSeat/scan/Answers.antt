@@ -1,4 +1,4 @@
-use Rattle.std.proofs.Common.{ap, refl}
+use Rattle.std.proofs.Common.{sym, ap, refl}
 use Rattle.cell_heap.proofs.AtHand.{at_next}
 use Rattle.cell_heap.proofs.Changes.{scans}
 use Rattle.cell_heap.proofs.Kept.{kept}
@@ -26,7 +26,7 @@ pub invariant_of-self : goal.invariant_of-self
 invariant_of-self g c =
     let step = c.collector_load-found.ensures.step in
     let m = made c.self.view_is c.collector_load-found.ensures.same step in
-    let same = c.field_in-field.ensures.field _ (finds_valid m) step.says in
+    let same = sym (c.field_of-field.ensures.field _ (finds_valid m) step.says) in
     kept m c.self.invariant refl _ refl _
     (scans c.self.invariant (allowed event.Scan c.self.view_is c.requires.can)
     c.scan_or_none-scan.ensures.scan same c.scanned-further.ensures.scan)
@@ -35,10 +35,10 @@ pub returns : goal.returns
 returns g c =
     let step = c.collector_load-found.ensures.step in
     let m = made c.self.view_is c.collector_load-found.ensures.same step in
-    let same = c.field_in-field.ensures.field _ (finds_valid m) step.says in
+    let same = sym (c.field_of-field.ensures.field _ (finds_valid m) step.says) in
     record {
-      told = tells_field m _ c.field_in-field.result same step.new;
-      known = knows m (finds.Field c.field_in-field.result) (ap finds.Field same);
-      below = finds_below m _ c.field_in-field.result
+      told = tells_field m _ c.field_of-field.result same step.new;
+      known = knows m (finds.Field c.field_of-field.result) (ap finds.Field same);
+      below = finds_below m _ c.field_of-field.result
           (step.ours.shown.shaped.names_fit.fields_fit _ _) same;
     }

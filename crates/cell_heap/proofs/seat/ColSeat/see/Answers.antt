@@ -1,4 +1,4 @@
-use Rattle.std.proofs.Common.{ap, refl}
+use Rattle.std.proofs.Common.{sym, ap, refl}
 use Rattle.cell_heap.proofs.AtHand.{at_cell}
 use Rattle.cell_heap.proofs.Changes.{sees}
 use Rattle.cell_heap.proofs.Kept.{kept}
@@ -27,7 +27,7 @@ pub invariant_of-self : goal.invariant_of-self
 invariant_of-self g c =
     let step = c.collector_load-found.ensures.step in
     let m = made c.self.view_is c.collector_load-found.ensures.same step in
-    let same = c.colour_in-colour.ensures.colour _ step.says in
+    let same = sym (c.colour_of-colour.ensures.colour _ step.says) in
     kept m c.self.invariant refl _ refl _
     (sees c.self.invariant c.args.cell same c.see.ensures.seen)
 
@@ -35,8 +35,8 @@ pub returns : goal.returns
 returns g c =
     let step = c.collector_load-found.ensures.step in
     let m = made c.self.view_is c.collector_load-found.ensures.same step in
-    let same = c.colour_in-colour.ensures.colour _ step.says in
+    let same = sym (c.colour_of-colour.ensures.colour _ step.says) in
     record {
-      told = tells_colour m _ c.colour_in-colour.result same step.new;
-      known = knows m (finds.Colour c.colour_in-colour.result) (ap finds.Colour same);
+      told = tells_colour m _ c.colour_of-colour.result same step.new;
+      known = knows m (finds.Colour c.colour_of-colour.result) (ap finds.Colour same);
     }

@@ -27,7 +27,7 @@ pub invariant_of-self : goal.invariant_of-self
 invariant_of-self g c =
     let step = c.collector_load-found.ensures.step in
     let m = made c.self.view_is c.collector_load-found.ensures.same step in
-    let same = c.colour_in-colour.ensures.colour _ step.says in
+    let same = sym (c.colour_of-colour.ensures.colour _ step.says) in
     kept m c.self.invariant refl _ refl _
     (sweeps c.self.invariant (ap sweep_of same ∙ sym c.sweep_of-sweep.ensures.sweep))
 
@@ -35,9 +35,9 @@ pub returns : goal.returns
 returns g c =
     let step = c.collector_load-found.ensures.step in
     let m = made c.self.view_is c.collector_load-found.ensures.same step in
-    let same = c.colour_in-colour.ensures.colour _ step.says in
+    let same = sym (c.colour_of-colour.ensures.colour _ step.says) in
     record {
-      told = tells_colour m _ c.colour_in-colour.result same step.new;
-      known = knows m (finds.Colour c.colour_in-colour.result) (ap finds.Colour same);
-      not_gray = finds_no_gray step.core c.colour_in-colour.result step.happens same;
+      told = tells_colour m _ c.colour_of-colour.result same step.new;
+      known = knows m (finds.Colour c.colour_of-colour.result) (ap finds.Colour same);
+      not_gray = finds_no_gray step.core c.colour_of-colour.result step.happens same;
     }
