@@ -8,6 +8,7 @@ ghost use Rattle.heap_rule.specs.Laws.{Ended};
 ghost use Rattle.heap_rule.specs.Moves.{given_view, joined_view, split_view};
 ghost use Rattle.heap_rule.specs.Opening.{opening_view};
 ghost use Rattle.heap_rule.specs.declared.view.Place.TheVariants as places;
+ghost use Rattle.heap_table.specs.Images.{Shows};
 ghost use Rattle.heap_table.specs.Opening.{Opens};
 ghost use Rattle.heap_table.specs.Seats.{IsSeatOf};
 
@@ -85,6 +86,8 @@ impl<P: Keeping> ColSeat<P> {
         requires seat { IsSeatOf heap self }
         ensures sizes { (result.0.cells ≡ heap.shape.cells) × (result.0.mutators ≡ heap.shape.mutators) }
         ensures ended { Ended P.opening P.holds P.fixed heap.shape (Unit {0}) result.0.words self.me }
+        ensures shown { (ended : Ended P.opening P.holds P.fixed heap.shape (Unit {0}) result.0.words self.me)
+            → Shows result.0 ended.shows.core }
         ensures passes { result.1 ≡ self.me }
     {
         let ColSeat { seat, .. } = self;

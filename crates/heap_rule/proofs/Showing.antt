@@ -42,7 +42,7 @@ use Rattle.heap_rule.specs.declared.view.Place.{Place}
 use Rattle.heap_rule.specs.declared.view.Place.TheVariants as places
 use Rattle.heap_rule.specs.declared.view.Share.{Share}
 use Rattle.heap_rule.specs.Shape.{Shape, start}
-use Rattle.heap_rule.proofs.Stepping.{core_consistent, core_shaped, opening_shaped}
+use Rattle.heap_rule.proofs.Stepping.{core_consistent, core_shaped, core_words, opening_shaped}
 
 blue_word : (x : Colour) → pack_colour_of x ≡ pack_colour_of colour.Blue → x ≡ colour.Blue
 blue_word colour.Blue h = refl
@@ -151,7 +151,11 @@ module _ {P : Type 0} (opens : ℕ → ℕ → P) (holding : Map → List P → 
         words = k.words_are;
         legal = k.stands.legal;
         ends = k.stands.core_is;
+        cells = k.stands.cells;
+        mutators = k.stands.mutators;
+        few = k.stands.sound.few;
         shaped = shaped;
+        has_words = core_words holding fixed h l k.stands;
         consistent = consistent;
         safe = safe;
         facts = k.stands.facts;

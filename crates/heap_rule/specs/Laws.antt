@@ -1,6 +1,6 @@
 -- What the rule of a heap says of any moment between two steps, in words of the table alone.
 -- Source: this project's.
-use Rattle.std.specs.Prelude.{ℕ, ◌⊎◌, ◌≡◌, ◌≢◌, ◌<◌, ◌++◌, Bool, true, List, [], length, slice_index}
+use Rattle.std.specs.Prelude.{ℕ, ◌⊎◌, ◌≡◌, ◌≢◌, ◌<◌, ◌≤◌, ◌++◌, Bool, true, List, [], length, slice_index}
 use Rattle.std.specs.Prelude.{false, slice_index_or}
 use Rattle.std.specs.Prelude.{Some, None}
 use mathlib.Core.Option.{some}
@@ -9,11 +9,11 @@ use Rattle.atomic_table.specs.Table as table
 use Rattle.cell_words.specs.Colour.{pack_colour_of}
 use Rattle.cell_words.specs.declared.colours.Colour.TheVariants as colour
 use Rattle.core_machine.specs.declared.events.Event.{Event}
-use Rattle.core_machine.specs.InRange.{IsShaped}
+use Rattle.core_machine.specs.InRange.{HasWords, IsShaped}
 use Rattle.core_machine.specs.Own.{no_own}
 use Rattle.core_machine.specs.Places.{holds}
 use Rattle.core_machine.specs.Run.{Runs, last}
-use Rattle.core_machine.specs.State.{State, colour_of, own_of, presence_of}
+use Rattle.core_machine.specs.State.{State, colour_of, greatest_cells, own_of, presence_of}
 use Rattle.core_machine.specs.Table.{ColourOf, index_of, words_of}
 use Rattle.core_machine.specs.Trail.{own_along, trail_of}
 use Rattle.core_machine.specs.declared.events.Taken.{Taken}
@@ -67,7 +67,11 @@ module _ {P : Type 0} where
     pub words : s.words ≡ words_of core
     pub legal : Runs (start h rooms) run
     pub ends : last (start h rooms) run ≡ core
+    pub cells : core.cells ≡ h.cells
+    pub mutators : core.mutators ≡ h.mutators
+    pub few : h.cells ≤ greatest_cells
     pub shaped : IsShaped core
+    pub has_words : HasWords core
     pub consistent : IsConsistent core
     pub safe : IsSafe core
     pub facts : Facts fixed core lore

@@ -76,6 +76,8 @@ impl<P: Keeping> CellHeap<P> {
         requires role { seat.me.role ≡ role.Collector }
         ensures sizes { (result.0.cells ≡ self.shape.cells) × (result.0.mutators ≡ self.shape.mutators) }
         ensures ended { Ended P.opening P.holds P.fixed self.shape (Unit {0}) result.0.words seat.me }
+        ensures shown { (ended : Ended P.opening P.holds P.fixed self.shape (Unit {0}) result.0.words seat.me)
+            → Shows result.0 ended.shows.core }
         ensures passes { result.1 ≡ seat.me }
     {
         let passes = Passes {

@@ -17,6 +17,7 @@ use cell_words::{
 /// The control whose word it is.
 pub fn control_of(word: u64) -> Control
     requires { IsControlWord word }
+    ensures valid { IsValidControl result }
     ensures control { (control : Control) → IsValidControl control → pack_control_of control ≡ word
         → result ≡ control }
 {

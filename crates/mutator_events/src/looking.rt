@@ -1,5 +1,6 @@
 //! One look at the control, and the answer to the handshake that it saw.
 ghost use Rattle.std.specs.Prelude.{◌≡◌, true};
+ghost use Rattle.cell_words.specs.Control.{IsValidControl};
 ghost use Rattle.core_machine.specs.declared.events.Event.TheVariants as event;
 ghost use Rattle.core_machine.specs.declared.events.Found.TheVariants as finds;
 ghost use Rattle.heap_rule.specs.Asks.{MayAnswer};
@@ -24,6 +25,7 @@ impl<P: Keeping> MutSeat<P> {
         requires inside { self.old.me.presence.inside ≡ true }
         ensures told { self.new
             ≡ tells self.old (event.Look self.old.me.number) (finds.Control result) }
+        ensures valid { IsValidControl result }
     {
         let found = heap.mutator_load::<Brand>(&mut self.seat, Event::Look(self.number), CONTROL);
         let control = control_of(found);

@@ -1,4 +1,4 @@
-use Rattle.std.proofs.Common.{◌≡◌, ◌∙◌, ap, subst}
+use Rattle.std.proofs.Common.{arith, sym, ◌≡◌, ◌∙◌, ap, subst}
 use Rattle.std.specs.Mem.Slots.{slots_items}
 use Rattle.heap_rule.specs.Laws.{Ended}
 use Rattle.heap_rule.specs.Shape.{Shape}
@@ -36,3 +36,20 @@ returns-clause-ended g c =
     (Unit {0}) (slots_items c.close_with-closed.result.words) c.args.seat.me) shape
     (subst (λ (v : View _). Ended g.P.Keeping.opening g.P.Keeping.holds g.P.Keeping.fixed
     c.self.inside.table.shared.key (Unit {0}) (slots_items c.close_with-closed.result.words) v) me ended)
+
+pub returns-clause-shown : goal.returns-clause-shown
+returns-clause-shown g c ended =
+    let shown = ended.shows in
+    let heap = c.self.invariant in
+    let shape : c.self.inside.table.shared.key ≡ c.args.self.shape = ap (λ (h : HeapId). h.shape)
+    c.self.view_is in
+    let few = shown.few in
+    let is = shown.cells in
+    record {
+      in_range = record { shape = shown.shaped; few_cells = omega (arith, few, is) };
+      has_words = shown.has_words;
+      words_are = sym ended.words_are ∙ shown.words;
+      cells_are = shown.cells ∙ sym (ap (λ (h : Shape). h.cells) shape) ∙ heap.cells_are;
+      mutators_are =
+          shown.mutators ∙ sym (ap (λ (h : Shape). h.mutators) shape) ∙ heap.mutators_are;
+    }

@@ -46,4 +46,5 @@ returns g c =
           c.mutator_load-found.ensures.same
           (after_look c.self.invariant.0 c.control_of-control.result
           c.control_of-control.ensures.control c.mutator_load-found.ensures.step).view;
+      valid = c.control_of-control.ensures.valid;
     }
