@@ -1,2 +1,4 @@
-mod Sums
+mod Ending
+mod Opens
 mod Rounds
+mod Sums

@@ -5,6 +5,9 @@ use Rattle.std.proofs.Common.{◌∙◌}
 use Rattle.cell_tests.specs.declared.counter.Added.{Added}
 use Rattle.cell_words.specs.Term.{num}
 use Rattle.cell_words.specs.declared.fields.Field.{Field}
+use Rattle.cell_words.specs.declared.fields.Field.TheVariants as field
+use Rattle.core_machine.specs.State.{State, field_of}
+use Rattle.core_machine.specs.Table.{words_of}
 use Rattle.core_machine.specs.declared.events.Found.{Found}
 use Rattle.heap_rule.specs.declared.known.Learned.{Learned}
 use Rattle.heap_rule.specs.Boxes.{Map, Payload, Smaller}
@@ -37,3 +40,9 @@ one_more false pass = pass
 -- a write over the old value that was made adds one
 abbrev pub adding : Field → Learned → Found → Added → Added
 adding old learned found pass = one_more (was_made old found) pass
+
+-- What a closed heap shows: field 0 of the anchor is this number.
+pub record CounterIs (words : List ℕ) (sum : ℕ) : Type 0 where
+  pub core : State
+  pub words_are : words ≡ words_of core
+  pub is : field_of core 0 0 ≡ field.Num sum

@@ -1,6 +1,6 @@
 -- What a mutator of these tests knows between two rounds.
 -- Source: this project's.
-use Rattle.std.specs.Prelude.{ℕ, ◌≡◌, ◌≤◌, true, false, List, [], ◌∷◌, Option}
+use Rattle.std.specs.Prelude.{ℕ, ◌≡◌, ◌≤◌, true, false, List, [], ◌∷◌, length, Option}
 use Rattle.cell_tests.specs.declared.counter.Added.{Added}
 use Rattle.cell_words.specs.declared.controls.Control.{Control}
 use Rattle.cell_words.specs.declared.presences.Presence.{Presence}
@@ -10,7 +10,7 @@ use Rattle.core_machine.specs.declared.places.Held.{Held}
 use Rattle.core_machine.specs.Places.{found_at}
 use Rattle.heap_rule.specs.declared.known.Known.{Known}
 use Rattle.heap_rule.specs.declared.view.View.{View}
-use Rattle.heap_table.specs.Seats.{HeapId, SeatView}
+use Rattle.heap_table.specs.Seats.{HeapId, IsSeatOf, SeatView}
 
 -- a seat of the heap with these parts, the others as in the base
 abbrev pub seat_with : HeapId → View Added → Own → Presence → List Known → ℕ → SeatView Added
@@ -70,3 +70,13 @@ pub record IsDone (heap : HeapId) (sum : ℕ) (seat : SeatView Added) : Type 0 w
   pub shape_is : seat.me.shape ≡ heap.shape
   pub over : seat.me.presence.over ≡ true
   pub pass_is : seat.me.pass ≡ record { sum = sum }
+
+-- a heap with the counter was opened, and the seats of its two mutators are split off
+pub record IsOpened (heap : HeapId) (collector first second : SeatView Added) : Type 0 where
+  pub collector_is : IsSeatOf heap collector
+  pub two_mutators : heap.shape.mutators ≡ 2
+  pub two_places : length collector.me.places ≡ 2
+  pub first_out : IsOut heap 0 first
+  pub second_out : IsOut heap 0 second
+  pub first_is : first.me.number ≡ 0
+  pub second_is : second.me.number ≡ 1

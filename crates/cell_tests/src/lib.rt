@@ -1,9 +1,10 @@
 //! Clients of the heap in an atomic table, on real threads: a rule of their own that is proved to
 //! stand to the close, and the outcomes that stand on every schedule.
 //!
-//! Reading order: `counter`, `working`, `threads`.
+//! Reading order: `counter`, `working`, `closing`, `threads`.
 #![tactic(auto)]
 
+mod closing;
 mod counter;
 #[cfg(test)]
 mod threads;

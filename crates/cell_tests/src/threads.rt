@@ -2,9 +2,10 @@
 ghost use Rattle.std.specs.Prelude.{◌≡◌};
 ghost use Rattle.cell_tests.specs.Working.{IsDone, IsOut};
 
+use crate::closing::{close_two, open_two};
 use crate::counter::Added;
 use crate::working::work;
-use cell_heap::{ColSeat, MutSeat};
+use cell_heap::MutSeat;
 use cell_words::{Colour, Field};
 use std::test::Fail;
 use std::thread;
@@ -13,14 +14,9 @@ const TRIES: u32 = 300;
 
 #[test]
 fn two_mutators_share_a_counter(rt: HostRuntime) -> Result<(), Fail> {
-    let alloc = rt.alloc();
-    let null = Field::Null;
-    let anchor = [Field::Num(0), null, null, null, null, Field::Num(2)];
-    let (heap, mut collector) = ColSeat::<Added>::open(alloc, 6, 2, 0, &[anchor])?;
-    let first = collector.split(alloc, &heap, 0, 4)?;
-    let second = collector.split(alloc, &heap, 1, 4)?;
+    let (heap, collector, first, second) = open_two(rt.alloc(), 6)?;
     let shared = &heap;
-    let ((first, some), (second, more)) = thread::join(
+    let (first, second) = thread::join(
         &rt,
         move || -> (MutSeat<Added>, u64)
             requires { IsOut shared.now 0 first × (first.me.number ≡ 0) }
@@ -31,11 +27,11 @@ fn two_mutators_share_a_counter(rt: HostRuntime) -> Result<(), Fail> {
             ensures { IsDone shared.entry.now result.1 result.0 × (result.0.me.number ≡ 1) }
         { work(shared, second, TRIES) },
     );
-    assert_eq!(rt; first.claims() + second.claims(), 5);
-    collector.join(&heap, first);
-    collector.join(&heap, second);
-    let (image, _) = collector.close(heap);
-    assert_eq!(rt; image.field(0, 0), Field::Num(some + more));
+    let claims = (first.0.claims(), second.0.claims());
+    let added = (first.1, second.1);
+    let image = close_two(heap, collector, first, second);
+    assert_eq!(rt; claims.0.checked_add(claims.1), Some(5));
+    assert_eq!(rt; Some(image.field(0, 0)), added.0.checked_add(added.1).map(Field::Num));
     for cell in 0..6 {
         assert_eq!(rt; image.colour(cell), Colour::White);
     }
