@@ -1,10 +1,11 @@
 //! Clients of the heap in an atomic table, on real threads: a rule of their own that is proved to
 //! stand to the close, and the outcomes that stand on every schedule.
 //!
-//! Reading order: `counter`, `working`, `closing`, `threads`.
+//! Reading order: `counter`, `working`, `closing`, `threads`; `collecting`.
 #![tactic(auto)]
 
 mod closing;
+mod collecting;
 mod counter;
 #[cfg(test)]
 mod threads;
