@@ -7,7 +7,9 @@ use Rattle.cell_words.specs.declared.fields.Field.TheVariants as field
 use Rattle.dlg_core.specs.Reachable.{anchor}
 use Rattle.heap_rule.specs.Boxes.{payload_of}
 use Rattle.heap_rule.specs.Lore.{Terms}
+use Rattle.heap_rule.specs.NoRule.{anything_holds}
 use Rattle.heap_rule.specs.Opening.{FirstTerms, opening_lore}
+use Rattle.heap_rule.specs.declared.keeping.NoRule.{NoRule}
 use Rattle.heap_rule.specs.Shape.{Shape}
 use Rattle.heap_rule.proofs.Maps.{in_map}
 use Rattle.heap_table.specs.Opening.{Opens, opening_state}
@@ -40,3 +42,8 @@ opens cells =
         counted = refl;
       },
     )
+
+-- and of one whose client asks for nothing
+pub opens_freely : Opens {P = NoRule} (λ number setting. record {}) anything_holds
+    record { cells = 3; mutators = 1; setting = 0; first = rows }
+opens_freely = (no_terms, first_terms, tt)
