@@ -1,6 +1,6 @@
 -- The counter at the close.
-use Rattle.std.proofs.Common.{◌≡◌, ◌∙◌, ◌+◌, ◌∷◌, ℕ, List, [], Bool, true, false, Option, Some, None}
-use Rattle.std.proofs.Common.{ap, sym, subst, refl, arith, length, slice_set}
+use Rattle.std.proofs.Common.{◌≡◌, ◌∙◌, ◌+◌, ◌∷◌, ℕ, List, [], Bool, true, false, Option}
+use Rattle.std.proofs.Common.{ap, sym, refl, arith, length, slice_set}
 use mathlib.Core.Option.{some}
 use lib.ListN.{get_elem?}
 use Rattle.cell_tests.specs.Counting.{CounterIs, Counts, sum_of}
@@ -10,7 +10,7 @@ use Rattle.cell_words.specs.Term.{Term, num, number, parts}
 use Rattle.cell_words.specs.declared.fields.Field.{Field}
 use Rattle.cell_words.specs.declared.fields.Field.TheVariants as field
 use Rattle.core_machine.specs.State.{State, field_of}
-use Rattle.dlg_core.specs.Reachable.{Reachable, anchor, named}
+use Rattle.dlg_core.specs.Reachable.{anchor, named}
 use Rattle.heap_rule.specs.Facts.{Facts, TermFits, is_record_kind}
 use Rattle.heap_rule.specs.Laws.{Ended}
 use Rattle.heap_rule.specs.Lore.{Entry, Lore, Plain, Terms, entry_of, named_or, term_of, five_of}

@@ -1,6 +1,6 @@
 -- What each call of a round leaves.
-use Rattle.std.proofs.Common.{◌≡◌, ◌∙◌, ◌<◌, ◌≤◌, ◌+◌, ◌==◌, ◌∷◌, ◌++◌, ℕ, List, [], Bool, true, false}
-use Rattle.std.proofs.Common.{Option, Some, None, if◌then◌else◌, ap, sym, subst, refl, arith, length}
+use Rattle.std.proofs.Common.{◌≡◌, ◌∙◌, ◌<◌, ◌≤◌, ◌+◌, ◌==◌, ◌∷◌, ◌++◌, ℕ, [], Bool, true, false}
+use Rattle.std.proofs.Common.{Option, Some, None, if◌then◌else◌, ap, refl, arith, length}
 use Rattle.std.proofs.lemmas.Bool.{eq-eqb}
 use Rattle.cell_tests.specs.Counting.{adding, one_more}
 use Rattle.cell_tests.specs.declared.counter.Added.{Added}
@@ -19,7 +19,6 @@ use Rattle.core_machine.specs.declared.events.Event.{Event}
 use Rattle.core_machine.specs.declared.events.Event.TheVariants as event
 use Rattle.core_machine.specs.declared.events.Found.{Found}
 use Rattle.core_machine.specs.declared.events.Found.TheVariants as finds
-use Rattle.core_machine.specs.declared.places.Held.{Held}
 use Rattle.heap_rule.specs.Lore.{five_nulls, known_sealed, known_set, known_stored_if}
 use Rattle.heap_rule.specs.Lore as lore
 use Rattle.heap_rule.specs.Rule.{told, took}

@@ -1,6 +1,6 @@
 -- The counter's rule over boxes.
 use Rattle.std.proofs.Common.{◌≡◌, ◌∙◌, ◌+◌, ◌∷◌, ℕ, zero, suc, List, [], Bool, true, false, Option, Some, None}
-use Rattle.std.proofs.Common.{ap, sym, subst, refl, arith, slice_set, length}
+use Rattle.std.proofs.Common.{ap, sym, subst, refl, arith, slice_set}
 use Rattle.std.proofs.lemmas.Bool.{eqb-true}
 use mathlib.Core.Option.{some}
 use lib.ListN.{get_elem?}

@@ -13,7 +13,15 @@ use std::alloc::Global;
 pub(crate) fn open_two(
     alloc: Global,
     cells: u32,
-) -> Result<(CellHeap<Added>, ColSeat<Added>, MutSeat<Added>, MutSeat<Added>), NoMemory>
+) -> Result<
+    (
+        CellHeap<Added>,
+        ColSeat<Added>,
+        MutSeat<Added>,
+        MutSeat<Added>,
+    ),
+    NoMemory,
+>
     requires some { 1 ≤ cells }
     requires few { cells ≤ 1000 }
     ensures opened { IfOk result (λ made. IsOpened made.0 made.1 made.2 made.3) }

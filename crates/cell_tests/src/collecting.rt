@@ -44,7 +44,10 @@ fn clear(heap: &CellHeap<NoRule>, seat: &mut ColSeat<NoRule>, flags: Flags) -> F
         flags
     } else if seat.cursor() == heap.cells() {
         seat.post(heap, Stage::Sync2);
-        Flags { answered: false, marked: false }
+        Flags {
+            answered: false,
+            marked: false,
+        }
     } else {
         flags
     }
@@ -119,7 +122,10 @@ pub(crate) fn step(heap: &CellHeap<NoRule>, seat: &mut ColSeat<NoRule>, flags: F
         Stage::Idle => {
             if control.cycles < GREATEST_CYCLES {
                 seat.post(heap, Stage::Sync1);
-                Flags { answered: false, ..flags }
+                Flags {
+                    answered: false,
+                    ..flags
+                }
             } else {
                 flags
             }
@@ -138,10 +144,16 @@ pub(crate) fn step(heap: &CellHeap<NoRule>, seat: &mut ColSeat<NoRule>, flags: F
                 answer(heap, seat, flags)
             } else if !flags.marked {
                 seat.anchor(heap);
-                Flags { marked: true, ..flags }
+                Flags {
+                    marked: true,
+                    ..flags
+                }
             } else {
                 seat.post(heap, Stage::Trace);
-                Flags { answered: false, ..flags }
+                Flags {
+                    answered: false,
+                    ..flags
+                }
             }
         }
         Stage::Trace => {

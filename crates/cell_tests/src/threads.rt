@@ -31,7 +31,10 @@ fn two_mutators_share_a_counter(rt: HostRuntime) -> Result<(), Fail> {
     let added = (first.1, second.1);
     let image = close_two(heap, collector, first, second);
     assert_eq!(rt; claims.0.checked_add(claims.1), Some(5));
-    assert_eq!(rt; Some(image.field(0, 0)), added.0.checked_add(added.1).map(Field::Num));
+    assert_eq!(rt;
+        Some(image.field(0, 0)),
+        added.0.checked_add(added.1).map(Field::Num)
+    );
     for cell in 0..6 {
         assert_eq!(rt; image.colour(cell), Colour::White);
     }

@@ -11,7 +11,10 @@ use heap_rule::NoRule;
 use std::alloc::Global;
 
 /// What a new heap has not.
-const NOTHING: Flags = Flags { answered: false, marked: false };
+const NOTHING: Flags = Flags {
+    answered: false,
+    marked: false,
+};
 
 /// A heap of three cells, with the seats of its collector and of its one mutator.
 pub(crate) fn open_one(

@@ -1,4 +1,3 @@
-use Rattle.std.proofs.Common.{◌≡◌, ◌≤◌}
 use Rattle.cell_tests.specs.Collecting.{Drives}
 use Rattle.cell_tests.proofs.unlinked.first_cycle.Given as goal
 

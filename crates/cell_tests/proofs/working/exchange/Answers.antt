@@ -1,4 +1,4 @@
-use Rattle.std.proofs.Common.{◌≡◌, ◌+◌, ℕ, ap, sym, subst, arith}
+use Rattle.std.proofs.Common.{◌≡◌, ◌+◌, ℕ, ap, subst, arith}
 use Rattle.cell_tests.specs.Working.{IsIn}
 use Rattle.cell_tests.specs.declared.counter.Added.{Added}
 use Rattle.cell_tests.proofs.Rounds.{looked, not_written, written}
