@@ -1,0 +1,4 @@
+mod Ending
+mod Opens
+mod Rounds
+mod Sums

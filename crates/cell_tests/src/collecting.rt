@@ -1,0 +1,172 @@
+//! A collector that makes whichever event comes next, by what its seat says and two flags beside it.
+ghost use Rattle.std.specs.Prelude.{◌≡◌, ◌<◌, true};
+ghost use Rattle.cell_tests.specs.Collecting.{Drives};
+ghost use Rattle.cell_words.specs.declared.controls.Stage.TheVariants as stages;
+
+use cell_heap::{CellHeap, ColSeat};
+use cell_words::{GREATEST_CYCLES, Stage};
+use core_machine::Sweeping;
+use heap_rule::NoRule;
+
+/// What the seat does not show of the collector's part: whether the one mutator has answered, and
+/// whether the anchor is marked.
+#[derive(Clone, Copy)]
+pub(crate) struct Flags {
+    pub(crate) answered: bool,
+    pub(crate) marked: bool,
+}
+
+/// Answers for the mutator, if it is out.
+fn answer(heap: &CellHeap<NoRule>, seat: &mut ColSeat<NoRule>, flags: Flags) -> Flags
+    requires drives { Drives heap.now flags seat.old }
+    ensures drives { Drives heap.now result seat.new }
+{
+    let handshake = matches!(
+        seat.control().stage,
+        Stage::Sync1 | Stage::Sync2 | Stage::Trace
+    );
+    if handshake && !flags.answered {
+        let answered = seat.answer_out(heap, 0, false);
+        Flags { answered, ..flags }
+    } else {
+        flags
+    }
+}
+
+/// Clears the next cell, or goes on to the second handshake.
+fn clear(heap: &CellHeap<NoRule>, seat: &mut ColSeat<NoRule>, flags: Flags) -> Flags
+    requires drives { Drives heap.now flags seat.old }
+    requires stage { seat.old.me.control.stage ≡ stages.Clear }
+    ensures drives { Drives heap.now result seat.new }
+{
+    if seat.cursor() < heap.cells() {
+        seat.clear(heap);
+        flags
+    } else if seat.cursor() == heap.cells() {
+        seat.post(heap, Stage::Sync2);
+        Flags {
+            answered: false,
+            marked: false,
+        }
+    } else {
+        flags
+    }
+}
+
+/// Goes on with the scan of a gray cell, or looks at the next cell.
+fn trace(heap: &CellHeap<NoRule>, seat: &mut ColSeat<NoRule>, flags: Flags)
+    requires drives { Drives heap.now flags seat.old }
+    requires stage { seat.old.me.control.stage ≡ stages.Trace }
+    requires answered { flags.answered ≡ true }
+    ensures drives { Drives heap.now flags seat.new }
+{
+    let _ = flags;
+    match seat.scanning() {
+        Some(scan) => {
+            if scan.child.is_some() {
+                seat.shade(heap);
+            } else if scan.next < 5 {
+                seat.scan(heap);
+            } else if scan.next == 5 {
+                seat.blacken(heap);
+            }
+        }
+        None => {
+            let cursor = seat.cursor();
+            if cursor < heap.cells() {
+                seat.see(heap, cursor);
+            } else if cursor == heap.cells() && seat.is_clean() {
+                seat.post(heap, Stage::Sweep);
+            } else if heap.cells() > 0 {
+                seat.see(heap, 0);
+            }
+        }
+    }
+}
+
+/// Goes on with the sweep of the cell at the position, or ends the cycle.
+fn sweep(heap: &CellHeap<NoRule>, seat: &mut ColSeat<NoRule>, flags: Flags)
+    requires drives { Drives heap.now flags seat.old }
+    requires stage { seat.old.me.control.stage ≡ stages.Sweep }
+    ensures drives { Drives heap.now flags seat.new }
+{
+    let _ = flags;
+    let position = seat.control().position;
+    if position == heap.cells() {
+        seat.post(heap, Stage::Idle);
+    } else if position < heap.cells() {
+        match seat.sweeping() {
+            Sweeping::Fresh => {
+                seat.sweep_look(heap);
+            }
+            Sweeping::Wiping(fields) => {
+                if fields < 6 {
+                    seat.wipe(heap);
+                } else if fields == 6 {
+                    seat.free(heap);
+                }
+            }
+            Sweeping::BlackFound => seat.whiten(heap),
+            Sweeping::Done => seat.advance(heap),
+        }
+    }
+}
+
+/// One event of the collector, or none where the mutator has to answer first.
+pub(crate) fn step(heap: &CellHeap<NoRule>, seat: &mut ColSeat<NoRule>, flags: Flags) -> Flags
+    requires drives { Drives heap.now flags seat.old }
+    ensures drives { Drives heap.now result seat.new }
+{
+    let control = seat.control();
+    match control.stage {
+        Stage::Idle => {
+            if control.cycles < GREATEST_CYCLES {
+                seat.post(heap, Stage::Sync1);
+                Flags {
+                    answered: false,
+                    ..flags
+                }
+            } else {
+                flags
+            }
+        }
+        Stage::Sync1 => {
+            if flags.answered {
+                seat.post(heap, Stage::Clear);
+                flags
+            } else {
+                answer(heap, seat, flags)
+            }
+        }
+        Stage::Clear => clear(heap, seat, flags),
+        Stage::Sync2 => {
+            if !flags.answered {
+                answer(heap, seat, flags)
+            } else if !flags.marked {
+                seat.anchor(heap);
+                Flags {
+                    marked: true,
+                    ..flags
+                }
+            } else {
+                seat.post(heap, Stage::Trace);
+                Flags {
+                    answered: false,
+                    ..flags
+                }
+            }
+        }
+        Stage::Trace => {
+            if flags.answered {
+                trace(heap, seat, flags);
+                flags
+            } else {
+                answer(heap, seat, flags)
+            }
+        }
+        Stage::Sweep => {
+            sweep(heap, seat, flags);
+            flags
+        }
+    }
+}

@@ -1,0 +1,16 @@
+//! Clients of the heap in an atomic table, on real threads: a rule of their own that is proved to
+//! stand to the close, and the outcomes that stand on every schedule.
+//!
+//! Reading order: `counter`, `working`, `closing`, `threads`;
+//! `collecting`, `unlinked`, `schedule`.
+#![tactic(auto)]
+
+mod closing;
+mod collecting;
+mod counter;
+#[cfg(test)]
+mod schedule;
+#[cfg(test)]
+mod threads;
+mod unlinked;
+mod working;
