@@ -1,0 +1,3 @@
+pub mod Handshakes
+pub mod Calm
+pub mod Marks

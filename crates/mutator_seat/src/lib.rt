@@ -1,0 +1,18 @@
+//! A thread's operations on a collected heap, by meaning.
+//!
+//! A `Mutator` is a seat with the heap that it is of. Each call is made of the seat's calls, so its
+//! clauses say what these tell one after the other: the held list, what is known of each place, the
+//! pass, and the events that the trail grew by. When to look, to mark and to answer a handshake is
+//! decided here, and the layers above know nothing of colours or stages.
+//!
+//! Reading order: specs/Bound, Stretches; then `mutator`, `steps`, `coming`, `looking`, `making`.
+#![tactic(auto)]
+
+mod coming;
+mod looking;
+mod making;
+mod mutator;
+mod steps;
+
+pub use mutator::Mutator;
+pub use mutator_events::{Choice, MutSeat, Moved, NoMemory, Value};
