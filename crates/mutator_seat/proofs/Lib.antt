@@ -1,3 +1,5 @@
 pub mod Handshakes
 pub mod Calm
 pub mod Marks
+pub mod Updates
+pub mod Writes

@@ -13,6 +13,7 @@ mod looking;
 mod making;
 mod mutator;
 mod steps;
+mod writing;
 
 pub use mutator::Mutator;
 pub use mutator_events::{Choice, MutSeat, Moved, NoMemory, Value};
