@@ -8,12 +8,15 @@
 //! Reading order: specs/Bound, Stretches; then `mutator`, `steps`, `coming`, `looking`, `making`.
 #![tactic(auto)]
 
+mod claiming;
 mod coming;
+mod full;
 mod looking;
 mod making;
 mod mutator;
 mod steps;
 mod writing;
 
+pub use full::HeapFull;
 pub use mutator::Mutator;
 pub use mutator_events::{Choice, MutSeat, Moved, NoMemory, Value};
