@@ -21,8 +21,18 @@ module _ {P : Type 0} where
 
   pub kept_same : (m : Bound P) → Kept m m
   kept_same m = record {
-    heap = refl; table = refl; shape = refl; role = refl; number = refl; room = refl; held = refl;
-    known = refl; pass = refl; claims = refl; inside = refl; over = refl;
+    heap = refl;
+    table = refl;
+    shape = refl;
+    role = refl;
+    number = refl;
+    room = refl;
+    held = refl;
+    known = refl;
+    pass = refl;
+    claims = refl;
+    inside = refl;
+    over = refl;
   }
 
   pub kept_then : (a b c : Bound P) → Kept a b → Kept b c → Kept a c
@@ -46,24 +56,51 @@ module _ {P : Type 0} where
   pub kept_look : (m : Bound P) (i : ℕ) (control : Control)
       → Kept m (takes m (event.Look i) (finds.Control control))
   kept_look m i control = record {
-    heap = refl; table = refl; shape = refl; role = refl; number = refl; room = refl;
+    heap = refl;
+    table = refl;
+    shape = refl;
+    role = refl;
+    number = refl;
+    room = refl;
     held = cells_unmarked m.seat.me.own.held;
-    known = refl; pass = refl; claims = refl; inside = refl; over = refl;
+    known = refl;
+    pass = refl;
+    claims = refl;
+    inside = refl;
+    over = refl;
   }
 
   pub kept_mark : (m : Bound P) (i place : ℕ) (found : Found)
       → Kept m (takes m (event.Mark i place) found)
   kept_mark m i place found = record {
-    heap = refl; table = refl; shape = refl; role = refl; number = refl; room = refl;
+    heap = refl;
+    table = refl;
+    shape = refl;
+    role = refl;
+    number = refl;
+    room = refl;
     held = cells_marked (cell_at m.seat.me.own.held place) m.seat.me.own.held;
-    known = refl; pass = refl; claims = refl; inside = refl; over = refl;
+    known = refl;
+    pass = refl;
+    claims = refl;
+    inside = refl;
+    over = refl;
   }
 
   pub kept_answer : (m : Bound P) (i : ℕ) → Kept m (takes m (event.Answer i) finds.Stored)
   kept_answer m i = record {
-    heap = refl; table = refl; shape = refl; role = refl; number = refl; room = refl;
+    heap = refl;
+    table = refl;
+    shape = refl;
+    role = refl;
+    number = refl;
+    room = refl;
     held = cells_unmarked m.seat.me.own.held;
-    known = refl; pass = refl; claims = refl; inside = refl; over = refl;
+    known = refl;
+    pass = refl;
+    claims = refl;
+    inside = refl;
+    over = refl;
   }
 
   -- Stretches.

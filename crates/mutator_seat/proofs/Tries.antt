@@ -107,16 +107,46 @@ module _ {P : Type 0} where
       → Kept m (takes m (event.Claim i cell) (finds.Colour found))
   kept_missed m i cell colour.Blue missed = absurd cc
   kept_missed m i cell colour.White missed = record {
-    heap = refl; table = refl; shape = refl; role = refl; number = refl; room = refl; held = refl;
-    known = refl; pass = refl; claims = refl; inside = refl; over = refl;
+    heap = refl;
+    table = refl;
+    shape = refl;
+    role = refl;
+    number = refl;
+    room = refl;
+    held = refl;
+    known = refl;
+    pass = refl;
+    claims = refl;
+    inside = refl;
+    over = refl;
   }
   kept_missed m i cell colour.Gray missed = record {
-    heap = refl; table = refl; shape = refl; role = refl; number = refl; room = refl; held = refl;
-    known = refl; pass = refl; claims = refl; inside = refl; over = refl;
+    heap = refl;
+    table = refl;
+    shape = refl;
+    role = refl;
+    number = refl;
+    room = refl;
+    held = refl;
+    known = refl;
+    pass = refl;
+    claims = refl;
+    inside = refl;
+    over = refl;
   }
   kept_missed m i cell colour.Black missed = record {
-    heap = refl; table = refl; shape = refl; role = refl; number = refl; room = refl; held = refl;
-    known = refl; pass = refl; claims = refl; inside = refl; over = refl;
+    heap = refl;
+    table = refl;
+    shape = refl;
+    role = refl;
+    number = refl;
+    room = refl;
+    held = refl;
+    known = refl;
+    pass = refl;
+    claims = refl;
+    inside = refl;
+    over = refl;
   }
 
   pub missed_at : (a b : Bound P) (cell : ℕ) (found : Colour) → false ≡ is_blue found

@@ -134,9 +134,12 @@ module _ {P : Type 0} (fixed : ℕ → Bool) (m at : Bound P) (place f : ℕ) (o
     where
       was : List Held
       was = m.seat.me.own.held
+
       now : List Held
       now = at.seat.me.own.held
+
       many : length now ≡ length was
       many = many_same now was kept.held
+
       cell : (p : ℕ) → cell_at now p ≡ cell_at was p
       cell p = cell_same now was kept.held p

@@ -84,7 +84,12 @@ impl<'a, P: Keeping> Mutator<'a, P> {
     }
 
     /// Answers handshakes and tries again, until it has a cell or a look decides.
-    fn wait_for_cell<R: Wait>(&mut self, rt: &R, hints: &mut Hints<'_>, began: u64) -> Result<usize, HeapFull>
+    fn wait_for_cell<R: Wait>(
+        &mut self,
+        rt: &R,
+        hints: &mut Hints<'_>,
+        began: u64,
+    ) -> Result<usize, HeapFull>
         requires inside { self.old.seat.me.presence.inside ≡ true }
         requires room { length self.old.seat.me.own.held < self.old.seat.me.room }
         requires few { began ≤ 4294967296 }
@@ -223,7 +228,11 @@ impl<'a, P: Keeping> Mutator<'a, P> {
         ensures mode { IfNone result (HasMode self.new) }
     {
         let place = self.held_len();
-        if self.claim_once(cell) { Some(place) } else { None }
+        if self.claim_once(cell) {
+            Some(place)
+        } else {
+            None
+        }
     }
 
     /// One claim of the seat.

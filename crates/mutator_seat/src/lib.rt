@@ -5,7 +5,10 @@
 //! pass, and the events that the trail grew by. When to look, to mark and to answer a handshake is
 //! decided here, and the layers above know nothing of colours or stages.
 //!
-//! Reading order: specs/Bound, Stretches; then `mutator`, `steps`, `coming`, `looking`, `making`.
+//! Only `claim` waits. No call takes memory.
+//!
+//! Reading order: specs/Bound, Stretches, Writes, Claims; then `mutator`, `steps`, `coming`, `making`,
+//! `looking`, `writing`, `claiming`.
 #![tactic(auto)]
 
 mod claiming;
@@ -19,4 +22,4 @@ mod writing;
 
 pub use full::HeapFull;
 pub use mutator::Mutator;
-pub use mutator_events::{Choice, MutSeat, Moved, NoMemory, Value};
+pub use mutator_events::{Choice, Moved, MutSeat, NoMemory, Value};
