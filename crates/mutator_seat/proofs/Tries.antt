@@ -1,7 +1,7 @@
 -- Claims as stretches: what a try shows, how tries follow one another, and when the heap is full.
-use Rattle.std.proofs.Common.{◌≡◌, ◌<◌, ◌≤◌, ◌+◌, ◌==◌, ◌&&◌, ◌||◌, ℕ, Bool, true, false, List, []}
+use Rattle.std.proofs.Common.{◌≡◌, ◌+◌, ◌==◌, ◌&&◌, ◌||◌, ℕ, Bool, true, false, List, []}
 use Rattle.std.proofs.Common.{◌∷◌, ◌++◌, length, refl, sym, ◌∙◌, ap, subst, arith, ⊎_elim, not, IfOk}
-use Rattle.std.proofs.Common.{Option, Some, None, IfSome, IfNone, Result, Ok, Err, IfErr}
+use Rattle.std.proofs.Common.{Option, Some, None, IfNone, Result, Ok, Err, IfErr}
 use Rattle.std.proofs.lemmas.Bool.{cases_lt, eq-eqb}
 use Rattle.std.proofs.lemmas.List.{append_assoc, map-append}
 use Rattle.cell_words.specs.declared.colours.Colour.{Colour}
@@ -22,7 +22,7 @@ use Rattle.trails.specs.Claims.{AllUsed, FindsFull, begun_of, decides, look_of}
 use Rattle.trails.proofs.Claims.{used_late, used_on}
 use Rattle.mutator_seat.specs.declared.full.HeapFull.{HeapFull}
 use Rattle.mutator_seat.specs.Bound.{Bound, held_cells, takes}
-use Rattle.mutator_seat.specs.Claims.{Claimed, Ends, FullBehind, Opens, anything}
+use Rattle.mutator_seat.specs.Claims.{Claimed, Ends, FullBehind, anything}
 use Rattle.mutator_seat.specs.Stretches.{Calm, Kept}
 use Rattle.mutator_seat.proofs.Calm.{calm_none, calm_one, calm_then}
 use Rattle.mutator_seat.proofs.Handshakes.{looked_at}

@@ -1,15 +1,14 @@
 -- What a write needs stands behind its look and its marks: no cell moved, and the marks are there.
-use Rattle.std.proofs.Common.{◌≡◌, ◌<◌, ◌==◌, ◌&&◌, ◌||◌, ◌^◌, ℕ, Bool, true, false, List, []}
-use Rattle.std.proofs.Common.{◌∷◌, length, map, get_or, refl, sym, ◌∙◌, ap, subst, arith}
+use Rattle.std.proofs.Common.{◌≡◌, ◌<◌, ◌==◌, ◌&&◌, ℕ, Bool, true, false, List, []}
+use Rattle.std.proofs.Common.{◌∷◌, length, map, get_or, refl, sym, ◌∙◌, ap, subst}
 use Rattle.std.proofs.Common.{⊎_elim, if◌then◌else◌, is_some}
 use Rattle.std.proofs.lemmas.Bool.{and_parts, eq-eqb, or_cases}
 use Rattle.std.proofs.lemmas.List.{length-map, get_or-map}
 use Rattle.std.proofs.lemmas.List.Folds.{list_any_at}
-use Rattle.std.specs.List.{list_any}
 use Rattle.cell_words.specs.declared.fields.Field.{Field}
 use Rattle.cell_words.specs.declared.fields.Field.TheVariants as field
 use Rattle.core_machine.specs.declared.places.Held.{Held}
-use Rattle.core_machine.specs.Places.{cell_at, holds, holds_marked, is_marked_place_of}
+use Rattle.core_machine.specs.Places.{cell_at, holds_marked, is_marked_place_of}
 use Rattle.core_machine.specs.Places.{is_marked_value, is_place_of, mark_of, marks_stand}
 use Rattle.core_machine.specs.Places.{names_rightly, no_place}
 use Rattle.core_machine.specs.Words.{barrier_in}

@@ -1,4 +1,4 @@
-use Rattle.std.proofs.Common.{◌≡◌, ◌≤◌, ◌∙◌, sym, arith}
+use Rattle.std.proofs.Common.{◌∙◌, sym, arith}
 use Rattle.mutator_seat.specs.Claims.{Ends, anything}
 use Rattle.mutator_seat.proofs.Tries.{any_then, claimed_then, err_both, full_behind, ok_all}
 use Rattle.mutator_seat.proofs.mutator.Mutator.wait_for_cell.Goals as goal
