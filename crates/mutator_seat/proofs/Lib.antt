@@ -1,0 +1,6 @@
+pub mod Handshakes
+pub mod Calm
+pub mod Tries
+pub mod Marks
+pub mod Updates
+pub mod Writes

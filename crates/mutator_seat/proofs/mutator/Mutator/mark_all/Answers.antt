@@ -1,0 +1,37 @@
+use Rattle.std.proofs.Common.{◌<◌, ◌+◌, length, refl, sym, ◌∙◌, ap, subst, arith}
+use Rattle.std.proofs.lemmas.List.{length-map}
+use Rattle.core_machine.specs.declared.events.Event.TheVariants as event
+use Rattle.core_machine.specs.declared.events.Found.TheVariants as finds
+use Rattle.core_machine.specs.Places.{cell_at, mark_of}
+use Rattle.mutator_seat.specs.Bound.{Bound}
+use Rattle.mutator_seat.specs.Stretches.{are_marks}
+use Rattle.mutator_seat.proofs.Calm.{calm_one, calm_then, kept_mark}
+use Rattle.mutator_seat.proofs.Marks.{MarkedBelow, all_of, marked_more, marks_join}
+use Rattle.mutator_seat.proofs.mutator.Mutator.mark_all.Goals as goal
+
+pub loop-place-preserved : goal.loop-place-preserved
+loop-place-preserved g c =
+    let was = c.loop-place.self in
+    let held = was.seat.me.own.held in
+    let told = c.mark_once.ensures.told in
+    let kept = c.loop-place.invariant in
+    let there : c.loop-place.place < length held
+    = omega (arith, c.loop-place-test.true, c.held_len-place-end.ensures.len, kept.3) in (
+      calm_then are_marks are_marks are_marks c.args.self.now was c.mark_once.new.self marks_join
+          kept.0
+          (calm_one are_marks was c.mark_once.new.self
+          (event.Mark was.seat.me.number c.loop-place.place) (finds.Colour told.0) told.1
+          (kept_mark was was.seat.me.number c.loop-place.place (finds.Colour told.0)) refl),
+      ap (λ (m : Bound _). m.seat.me.own.mode) told.1 ∙ kept.1,
+      ap (λ (m : Bound _). m.seat.me.presence) told.1 ∙ kept.2,
+      ap (λ (m : Bound _). length m.seat.me.own.held) told.1
+          ∙ length-map held (mark_of (cell_at held c.loop-place.place)) ∙ kept.3,
+      subst (λ (m : Bound _). MarkedBelow (c.loop-place.place + 1) m.seat.me.own.held)
+          (sym told.1) (marked_more held c.loop-place.place there kept.4),
+    )
+
+pub returns-clause-marked : goal.returns-clause-marked
+returns-clause-marked g c =
+    let kept = c.loop-place.invariant in
+    all_of c.loop-place.self.seat.me.own.held (λ k lt. kept.4 k
+    (omega (arith, lt, c.loop-place-test.false, c.held_len-place-end.ensures.len, kept.3)))

@@ -1,0 +1,4 @@
+pub mod Bound
+pub mod Claims
+pub mod Stretches
+pub mod Writes

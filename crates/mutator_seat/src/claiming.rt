@@ -1,0 +1,253 @@
+//! Claiming a cell: hints first, then every cell; and waiting for the collector.
+//!
+//! One look serves many tries, since a try that misses leaves it. While it waits it answers
+//! handshakes, for a cycle cannot end without its answers.
+ghost use Rattle.std.specs.Prelude.{◌≡◌, ◌<◌, ◌≤◌, ◌+◌, IfErr, IfNone, IfOk, IfSome, length, not, true};
+ghost use Rattle.cell_words.specs.declared.colours.Colour.{Colour};
+ghost use Rattle.core_machine.specs.Words.{is_blue};
+ghost use Rattle.core_machine.specs.declared.events.Event.TheVariants as event;
+ghost use Rattle.core_machine.specs.declared.events.Found.TheVariants as finds;
+ghost use Rattle.free_cells.specs.Hints.{counts_of, queue_of};
+ghost use Rattle.heap_rule.specs.Asks.{MayClaim};
+ghost use Rattle.mutator_seat.specs.Bound.{takes};
+ghost use Rattle.mutator_seat.specs.Claims.{Claimed, Ends, FullBehind, HasMode, anything};
+ghost use Rattle.mutator_seat.specs.Stretches.{Calm};
+ghost use Rattle.trails.specs.Claims.{AllUsed, FindsFull, begun_of, decides};
+
+use crate::full::HeapFull;
+use crate::mutator::Mutator;
+use cell_words::{Control, Stage};
+use free_cells::Hints;
+use heap_rule::Keeping;
+use std::hint::spin_loop;
+use std::sync::Wait;
+use std::thread;
+
+/// How often a waiting claim pauses between two looks.
+const PAUSES: u32 = 100;
+
+/// How many cells are tried by one look.
+const TRIES: u32 = 64;
+
+/// The cycles that are ended or under way.
+fn begun(control: Control) -> u64
+    ensures begun { result ≡ begun_of control }
+    ensures few { result ≤ 4294967296 }
+{
+    let ended = u64::from(control.cycles);
+    match control.stage {
+        Stage::Idle => ended,
+        Stage::Sync1 => ended + 1,
+        Stage::Clear => ended + 1,
+        Stage::Sync2 => ended + 1,
+        Stage::Trace => ended + 1,
+        Stage::Sweep => ended + 1,
+    }
+}
+
+/// Whether waiting is of no more use: the collector is off duty, or two whole cycles began and ended
+/// since so many were begun.
+fn decides(began: u64, control: Control) -> bool
+    requires few { began ≤ 4294967296 }
+    ensures decides { result ≡ decides began control }
+{
+    !control.duty || began + 2 <= u64::from(control.cycles)
+}
+
+/// Lets other threads run for a while.
+fn pause() {
+    for _pause in 0..PAUSES {
+        spin_loop();
+    }
+    thread::yield_now();
+}
+
+impl<'a, P: Keeping> Mutator<'a, P> {
+    /// Takes a free cell: raw, with null fields, at the next place. Hints are tried first, then every
+    /// cell. While the collector is on duty it waits, and answers handshakes, until two whole cycles
+    /// have begun and ended within the call; then every cell is tried once more.
+    pub fn claim<R: Wait>(&mut self, rt: &R, hints: &mut Hints<'_>) -> Result<usize, HeapFull>
+        requires inside { self.old.seat.me.presence.inside ≡ true }
+        requires room { length self.old.seat.me.own.held < self.old.seat.me.room }
+        ensures got { IfOk result (λ place. Claimed self.old place self.new) }
+        ensures full { IfErr result (λ full. Calm (FindsFull self.old.seat.me.number self.old.seat.me.shape.cells
+            full.off_duty full.began full.ended) self.old self.new) }
+        ensures queue { queue_of hints.new ≡ queue_of hints.old }
+        ensures takes { (counts_of hints.old).takes < (counts_of hints.new).takes }
+    {
+        let first = self.look_once();
+        let began = begun(first);
+        match self.try_hint(rt, hints) {
+            Some(place) => Ok(place),
+            None => self.wait_for_cell(rt, hints, began),
+        }
+    }
+
+    /// Answers handshakes and tries again, until it has a cell or a look decides.
+    fn wait_for_cell<R: Wait>(
+        &mut self,
+        rt: &R,
+        hints: &mut Hints<'_>,
+        began: u64,
+    ) -> Result<usize, HeapFull>
+        requires inside { self.old.seat.me.presence.inside ≡ true }
+        requires room { length self.old.seat.me.own.held < self.old.seat.me.room }
+        requires few { began ≤ 4294967296 }
+        ensures got { IfOk result (λ place. Claimed self.old place self.new) }
+        ensures full { IfErr result (λ full. Calm (FullBehind self.old.seat.me.number self.old.seat.me.shape.cells
+            began full) self.old self.new) }
+        ensures queue { queue_of hints.new ≡ queue_of hints.old }
+        ensures takes { (counts_of hints.old).takes ≤ (counts_of hints.new).takes }
+    {
+        let mut tried = false;
+        for _ in rt.forever() {
+            let control = self.handshake();
+            if decides(began, control) {
+                return self.try_last(began, control);
+            }
+            match self.try_on(rt, hints, tried) {
+                Some(place) => return Ok(place),
+                None => tried = true,
+            }
+        }
+        unreachable!()
+    }
+
+    /// Answers a handshake, if one is asked for, and looks again.
+    fn handshake(&mut self) -> Control
+        requires inside { self.old.seat.me.presence.inside ≡ true }
+        ensures calm { Calm (Ends self.old.seat.me.number result) self.old self.new }
+        ensures mode { HasMode self.new }
+    {
+        let _ = self.answer();
+        self.look_once()
+    }
+
+    /// Tries every cell behind the look that decided.
+    fn try_last(&mut self, began: u64, control: Control) -> Result<usize, HeapFull>
+        requires inside { self.old.seat.me.presence.inside ≡ true }
+        requires room { length self.old.seat.me.own.held < self.old.seat.me.room }
+        requires mode { HasMode self.old }
+        ensures got { IfOk result (λ place. Claimed self.old place self.new) }
+        ensures full { IfErr result (λ full. full ≡ record { off_duty = not control.duty; began = began; ended = control.cycles }) }
+        ensures tried { IfErr result (λ full. Calm (AllUsed 0 self.old.seat.me.shape.cells) self.old self.new) }
+    {
+        match self.try_all() {
+            Some(place) => Ok(place),
+            None => Err(HeapFull {
+                off_duty: !control.duty,
+                began,
+                ended: control.cycles,
+            }),
+        }
+    }
+
+    /// Tries every cell the first time, and later waits a while and tries one hint.
+    fn try_on<R: Wait>(&mut self, rt: &R, hints: &mut Hints<'_>, tried: bool) -> Option<usize>
+        requires inside { self.old.seat.me.presence.inside ≡ true }
+        requires room { length self.old.seat.me.own.held < self.old.seat.me.room }
+        requires mode { HasMode self.old }
+        ensures got { IfSome result (λ place. Claimed self.old place self.new) }
+        ensures none { IfNone result (Calm anything self.old self.new) }
+        ensures queue { queue_of hints.new ≡ queue_of hints.old }
+        ensures takes { (counts_of hints.old).takes ≤ (counts_of hints.new).takes }
+    {
+        if tried {
+            pause();
+            self.try_hint(rt, hints)
+        } else {
+            self.try_all()
+        }
+    }
+
+    /// Takes one hint, and tries its cell.
+    fn try_hint<R: Wait>(&mut self, rt: &R, hints: &mut Hints<'_>) -> Option<usize>
+        requires inside { self.old.seat.me.presence.inside ≡ true }
+        requires room { length self.old.seat.me.own.held < self.old.seat.me.room }
+        requires mode { HasMode self.old }
+        ensures got { IfSome result (λ place. Claimed self.old place self.new) }
+        ensures none { IfNone result (Calm anything self.old self.new) }
+        ensures queue { queue_of hints.new ≡ queue_of hints.old }
+        ensures takes { (counts_of hints.old).takes < (counts_of hints.new).takes }
+    {
+        match hints.take(rt) {
+            Some(cell) => self.try_within(cell),
+            None => None,
+        }
+    }
+
+    /// Tries a cell, if the heap has it.
+    fn try_within(&mut self, cell: u32) -> Option<usize>
+        requires inside { self.old.seat.me.presence.inside ≡ true }
+        requires room { length self.old.seat.me.own.held < self.old.seat.me.room }
+        requires mode { HasMode self.old }
+        ensures got { IfSome result (λ place. Claimed self.old place self.new) }
+        ensures none { IfNone result (Calm anything self.old self.new) }
+    {
+        if cell < self.cells() {
+            self.try_cell(cell)
+        } else {
+            None
+        }
+    }
+
+    /// Tries every cell in turn.
+    fn try_all(&mut self) -> Option<usize>
+        requires inside { self.old.seat.me.presence.inside ≡ true }
+        requires room { length self.old.seat.me.own.held < self.old.seat.me.room }
+        requires mode { HasMode self.old }
+        ensures got { IfSome result (λ place. Claimed self.old place self.new) }
+        ensures none { IfNone result (Calm (AllUsed 0 self.old.seat.me.shape.cells) self.old self.new) }
+    {
+        for cell in 0..self.cells() {
+            match self.try_cell(cell) {
+                Some(place) => return Some(place),
+                None => self.look_at_times(cell),
+            }
+        }
+        None
+    }
+
+    /// Answers handshakes at every so many tries.
+    fn look_at_times(&mut self, cell: u32)
+        requires inside { self.old.seat.me.presence.inside ≡ true }
+        requires mode { HasMode self.old }
+        ensures calm { Calm anything self.old self.new }
+        ensures mode { HasMode self.new }
+    {
+        if cell % TRIES == TRIES - 1 {
+            let _ = self.handshake();
+        }
+    }
+
+    /// Claims the cell, if it is blue, and gives its place.
+    fn try_cell(&mut self, cell: u32) -> Option<usize>
+        requires may { MayClaim self.old.seat.me cell }
+        ensures got { IfSome result (λ place. Claimed self.old place self.new) }
+        ensures none { IfNone result (Calm (AllUsed cell (cell + 1)) self.old self.new) }
+        ensures mode { IfNone result (HasMode self.new) }
+    {
+        let place = self.held_len();
+        if self.claim_once(cell) {
+            Some(place)
+        } else {
+            None
+        }
+    }
+
+    /// One claim of the seat.
+    fn claim_once(&mut self, cell: u32) -> bool
+        requires may { MayClaim self.old.seat.me cell }
+        ensures told { (found : Colour) × (result ≡ is_blue found)
+            × (self.new ≡ takes self.old (event.Claim self.old.seat.me.number cell) (finds.Colour found)) }
+    {
+        self.seat.claim(self.heap, cell)
+    }
+
+    /// How many cells the heap has.
+    fn cells(&self) -> u32
+        ensures cells { result ≡ self.now.seat.me.shape.cells }
+    {
+        self.heap.cells()
+    }
+}

@@ -1,0 +1,69 @@
+//! Coming in, going out, being over, and choosing what stays held.
+ghost use Rattle.std.specs.Prelude.{◌≡◌, ◌≤◌, ◌+◌, length, true, false, [], ◌∷◌};
+ghost use Rattle.cell_words.specs.declared.presences.Status.{Status};
+ghost use Rattle.core_machine.specs.declared.events.Event.TheVariants as event;
+ghost use Rattle.core_machine.specs.declared.events.Found.TheVariants as finds;
+ghost use Rattle.heap_rule.specs.Asks.{MayKeep};
+ghost use Rattle.mutator_events.specs.Events.{tells};
+ghost use Rattle.mutator_seat.specs.Bound.{held_cells, takes};
+
+use crate::mutator::Mutator;
+use heap_rule::Keeping;
+use mutator_events::MutSeat;
+
+impl<'a, P: Keeping> Mutator<'a, P> {
+    /// Comes in, with the anchor at place 0 and nothing else.
+    pub fn begin(&mut self)
+        requires out { self.old.seat.me.presence.inside ≡ false }
+        ensures told { (status : Status) × (self.new ≡ takes self.old (event.Begin self.old.seat.me.number)
+            (finds.Presence (record self.old.seat.me.presence { status = status }))) }
+        ensures inside { self.new.seat.me.presence.inside ≡ true }
+        ensures held { held_cells self.new ≡ 0 ∷ [] }
+    {
+        self.seat.begin(self.heap);
+    }
+
+    /// Goes out, and holds nothing.
+    pub fn end(&mut self)
+        requires inside { self.old.seat.me.presence.inside ≡ true }
+        ensures told { self.new ≡ takes self.old (event.End self.old.seat.me.number) (finds.Presence self.old.seat.me.presence) }
+        ensures out { self.new.seat.me.presence.inside ≡ false }
+        ensures held { held_cells self.new ≡ [] }
+    {
+        self.seat.end(self.heap);
+    }
+
+    /// Is over: the seat never comes in again, and may be joined.
+    pub fn finish(self) -> MutSeat<P>
+        requires out { self.seat.me.presence.inside ≡ false }
+        ensures told { (status : Status) × (result ≡ tells self.entry.seat (event.Over self.entry.seat.me.number)
+            (finds.Presence (record self.entry.seat.me.presence { status = status }))) }
+        ensures over { result.me.presence.over ≡ true }
+    {
+        let Mutator { heap, mut seat } = self;
+        seat.over(heap);
+        seat
+    }
+
+    /// Keeps the first `n` places.
+    pub fn cut(&mut self, n: usize)
+        requires inside { self.old.seat.me.presence.inside ≡ true }
+        requires some { 1 ≤ n }
+        requires kept { n ≤ length self.old.seat.me.own.held }
+        ensures told { self.new ≡ takes self.old (event.Keep self.old.seat.me.number n 0 0)
+            (finds.Presence self.old.seat.me.presence) }
+    {
+        // As many are kept as are held at most, and so there is room.
+        let _room = self.seat.room();
+        self.seat.keep(self.heap, n, 0, 0);
+    }
+
+    /// Keeps the first `n` places, and behind them the `count` cells that stood from `place` on.
+    pub fn keep(&mut self, n: usize, place: usize, count: usize)
+        requires may { MayKeep self.old.seat.me n place count }
+        ensures told { self.new ≡ takes self.old (event.Keep self.old.seat.me.number n place count)
+            (finds.Presence self.old.seat.me.presence) }
+    {
+        self.seat.keep(self.heap, n, place, count);
+    }
+}

@@ -1,0 +1,45 @@
+//! The seat's calls as this crate uses them: an event each.
+ghost use Rattle.std.specs.Prelude.{◌≡◌, true};
+ghost use Rattle.cell_words.specs.declared.colours.Colour.{Colour};
+ghost use Rattle.core_machine.specs.declared.events.Event.TheVariants as event;
+ghost use Rattle.core_machine.specs.declared.events.Found.TheVariants as finds;
+ghost use Rattle.heap_rule.specs.Asks.{MayAnswer, MayMark};
+ghost use Rattle.mutator_seat.specs.Bound.{takes};
+
+use crate::mutator::Mutator;
+use cell_words::{Control, Status};
+use heap_rule::Keeping;
+
+impl<'a, P: Keeping> Mutator<'a, P> {
+    /// The handshake that it answered last.
+    pub(crate) fn status(&self) -> Status
+        requires inside { self.now.seat.me.presence.inside ≡ true }
+        ensures status { result ≡ self.now.seat.me.presence.status }
+    {
+        self.seat.status()
+    }
+
+    /// Loads the control: the mode of what it does next.
+    pub(crate) fn look_once(&mut self) -> Control
+        requires inside { self.old.seat.me.presence.inside ≡ true }
+        ensures told { self.new ≡ takes self.old (event.Look self.old.seat.me.number) (finds.Control result) }
+    {
+        self.seat.look(self.heap)
+    }
+
+    /// Makes the cell at a place gray, if it is white.
+    pub(crate) fn mark_once(&mut self, place: usize)
+        requires may { MayMark self.old.seat.me place }
+        ensures told { (found : Colour) × (self.new ≡ takes self.old (event.Mark self.old.seat.me.number place) (finds.Colour found)) }
+    {
+        self.seat.mark(self.heap, place);
+    }
+
+    /// Answers the handshake that the last look saw.
+    pub(crate) fn answer_once(&mut self)
+        requires may { MayAnswer self.old.seat.me }
+        ensures told { self.new ≡ takes self.old (event.Answer self.old.seat.me.number) finds.Stored }
+    {
+        self.seat.answer(self.heap);
+    }
+}

@@ -1,0 +1,111 @@
+//! Writing a field of a box: a look, the marks of the barrier, and the write.
+//!
+//! The look may be stale at the write, at most to where the next handshake waits for this mutator.
+//! The marks that it asks for are enough all the same (docs/ALGORITHM.md).
+ghost use Rattle.std.specs.Prelude.{◌≡◌, IfErr, OnOk, true, false, is_some};
+ghost use Rattle.cell_words.specs.declared.write_barrier.Barrier.TheVariants as barrier;
+ghost use Rattle.cell_words.specs.declared.fields.Field.{Field};
+ghost use Rattle.core_machine.specs.Places.{is_marked_value, marks_stand};
+ghost use Rattle.core_machine.specs.Words.{barrier_in, marks_some, same_field};
+ghost use Rattle.mutator_events.specs.Values.{field_at};
+ghost use Rattle.mutator_seat.specs.Stretches.{Calm, are_marks};
+ghost use Rattle.mutator_seat.specs.Writes.{IsNamed, LookAndMarks, MayUpdate, PicksUpdate, Updated};
+
+use crate::mutator::Mutator;
+use cell_words::Barrier;
+use cell_words::modes::barrier;
+use heap_rule::Keeping;
+use mutator_events::{Choice, Moved, Value};
+
+impl<'a, P: Keeping> Mutator<'a, P> {
+    /// Exchanges a field of the box at a place for `new`, where it holds `old`; `Moved` says what it
+    /// held at the step. The caller picks its pass by what the write finds.
+    pub fn update<C: Choice<P>>(
+        &mut self,
+        place: usize,
+        field: usize,
+        old: Value,
+        new: Value,
+    ) -> Result<(), Moved>
+        requires may { MayUpdate P.fixed self.old.seat.me place field old new }
+        requires rule { PicksUpdate P.holds P.fixed C.next self.old place field old new }
+        ensures made { OnOk result (Updated P.holds P.fixed C.next self.old place field old new
+            (field_at self.old.seat.me.own.held old) self.new) }
+        ensures moved { IfErr result (λ moved.
+            (same_field moved.found (field_at self.old.seat.me.own.held old) ≡ false)
+            × Updated P.holds P.fixed C.next self.old place field old new moved.found self.new) }
+    {
+        self.look_and_mark(old, new);
+        self.seat.write::<C>(self.heap, place, field, old, new)
+    }
+
+    /// Looks, and marks what the barrier wants before `new` is written over `old`.
+    fn look_and_mark(&mut self, old: Value, new: Value)
+        requires inside { self.old.seat.me.presence.inside ≡ true }
+        requires old_named { IsNamed self.old.seat.me.own.held old }
+        requires new_named { IsNamed self.old.seat.me.own.held new }
+        ensures calm { Calm (LookAndMarks self.old.seat.me.number) self.old self.new }
+        ensures mode { is_some self.new.seat.me.own.mode ≡ true }
+        ensures presence { self.new.seat.me.presence ≡ self.old.seat.me.presence }
+        ensures marks { marks_stand (barrier_in self.new.seat.me.presence.status self.new.seat.me.own.mode)
+            self.new.seat.me.own.held (field_at self.new.seat.me.own.held old) (field_at self.new.seat.me.own.held new) ≡ true }
+    {
+        let control = self.look_once();
+        let wanted = barrier(self.status(), control);
+        self.mark_wanted(wanted, old, new);
+    }
+
+    /// Marks what the barrier wants.
+    fn mark_wanted(&mut self, wanted: Barrier, old: Value, new: Value)
+        requires inside { self.old.seat.me.presence.inside ≡ true }
+        requires wanted { barrier_in self.old.seat.me.presence.status self.old.seat.me.own.mode ≡ wanted }
+        requires old_named { IsNamed self.old.seat.me.own.held old }
+        requires new_named { IsNamed self.old.seat.me.own.held new }
+        ensures calm { Calm are_marks self.old self.new }
+        ensures mode { self.new.seat.me.own.mode ≡ self.old.seat.me.own.mode }
+        ensures presence { self.new.seat.me.presence ≡ self.old.seat.me.presence }
+        ensures marks { marks_stand wanted self.new.seat.me.own.held
+            (field_at self.new.seat.me.own.held old) (field_at self.new.seat.me.own.held new) ≡ true }
+    {
+        match wanted {
+            Barrier::Nothing => (),
+            Barrier::Old => self.mark_value(old),
+            Barrier::Both => self.mark_both(old, new),
+        }
+    }
+
+    /// Marks the cells that the two values name.
+    fn mark_both(&mut self, old: Value, new: Value)
+        requires inside { self.old.seat.me.presence.inside ≡ true }
+        requires barrier { marks_some (barrier_in self.old.seat.me.presence.status self.old.seat.me.own.mode) ≡ true }
+        requires old_named { IsNamed self.old.seat.me.own.held old }
+        requires new_named { IsNamed self.old.seat.me.own.held new }
+        ensures calm { Calm are_marks self.old self.new }
+        ensures mode { self.new.seat.me.own.mode ≡ self.old.seat.me.own.mode }
+        ensures presence { self.new.seat.me.presence ≡ self.old.seat.me.presence }
+        ensures marks { marks_stand barrier.Both self.new.seat.me.own.held
+            (field_at self.new.seat.me.own.held old) (field_at self.new.seat.me.own.held new) ≡ true }
+    {
+        self.mark_value(old);
+        self.mark_value(new);
+    }
+
+    /// Marks the cell that a value names, if it names one.
+    fn mark_value(&mut self, value: Value)
+        requires inside { self.old.seat.me.presence.inside ≡ true }
+        requires barrier { marks_some (barrier_in self.old.seat.me.presence.status self.old.seat.me.own.mode) ≡ true }
+        requires named { IsNamed self.old.seat.me.own.held value }
+        ensures calm { Calm are_marks self.old self.new }
+        ensures mode { self.new.seat.me.own.mode ≡ self.old.seat.me.own.mode }
+        ensures presence { self.new.seat.me.presence ≡ self.old.seat.me.presence }
+        ensures marked { is_marked_value self.new.seat.me.own.held (field_at self.new.seat.me.own.held value) ≡ true }
+        ensures still { (other : Field) → is_marked_value self.old.seat.me.own.held other ≡ true
+            → is_marked_value self.new.seat.me.own.held other ≡ true }
+    {
+        match value {
+            Value::Null => (),
+            Value::Num(_) => (),
+            Value::Held(place) => self.mark_once(place),
+        }
+    }
+}
