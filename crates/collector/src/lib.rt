@@ -1,0 +1,14 @@
+//! Whole cycles of the collector, made of the calls of its seat.
+//!
+//! A `Collector` is the collector's seat with the heap that it is of. Each call is a list of the
+//! seat's events, one after the other, and its clauses say which: so a layer above knows what the
+//! collector's trail grew by, and nothing of colours or stages.
+//!
+//! Reading order: specs/Bound, Stretches; then `collecting`, `steps`.
+#![tactic(auto)]
+
+mod collecting;
+mod steps;
+
+pub use cell_heap::ColSeat;
+pub use collecting::Collector;
