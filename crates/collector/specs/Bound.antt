@@ -54,3 +54,9 @@ module _ {P : Type 0} where
   -- after one that found a colour, which its call does not give
   abbrev pub TakesColour : Bound P → Event → Bound P → Type 0
   TakesColour old e new = (found : Colour) × (new ≡ takes old e (finds.Colour found))
+
+-- Who has answered, and the scan, are as
+-- before.
+pub record KeepsAnswers (old new : Collector) : Type 0 where
+  pub answered : new.answered ≡ old.answered
+  pub scan : new.scan ≡ old.scan

@@ -7,8 +7,11 @@
 //! Reading order: specs/Bound, Stretches; then `collecting`, `steps`.
 #![tactic(auto)]
 
+mod asking;
+mod clearing;
 mod collecting;
 mod steps;
+mod sweeping;
 
 pub use cell_heap::ColSeat;
 pub use collecting::Collector;
