@@ -1,5 +1,5 @@
 -- Stretches follow one another: their events go together, and their counts add up.
-use Rattle.std.proofs.Common.{◌≡◌, ◌+◌, ◌&&◌, ℕ, Bool, true, false, not, cond, List, [], ◌∷◌, ◌++◌}
+use Rattle.std.proofs.Common.{◌≡◌, ◌+◌, ◌==◌, ◌&&◌, ℕ, Bool, true, false, not, cond, List, [], ◌∷◌, ◌++◌}
 use Rattle.std.proofs.Common.{refl, sym, ◌∙◌, ap, subst, arith}
 use Rattle.std.proofs.lemmas.List.Folds.{list_all-append}
 use Rattle.std.proofs.lemmas.List.Sums.{sum_by-append}
@@ -133,3 +133,11 @@ module _ {P : Type 0} where
     where
       none : (n : ℕ) → n + 0 ≡ n
       none n = omega arith
+
+-- a look that goes by a cell ends a pass where the cell is the last one
+pub last_counted : (passes x a b : ℕ) → passes ≡ cond {A = ℕ} (x == a) 1 0 → a ≡ b
+    → 0 + cond {A = ℕ} (x == b) 1 0 ≡ passes
+last_counted passes x a b one same =
+    let is : cond {A = ℕ} (x == a) 1 0 ≡ cond {A = ℕ} (x == b) 1 0 =
+    ap (λ (n : ℕ). cond {A = ℕ} (x == n) 1 0) same in
+    omega (arith, one, is)

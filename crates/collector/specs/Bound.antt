@@ -1,11 +1,13 @@
 -- A collector as contracts see it: the heap, and the seat on it.
 -- Source: this project's.
-use Rattle.std.specs.Prelude.{ℕ, ◌≡◌, Bool, true}
+use Rattle.std.specs.Prelude.{ℕ, ◌≡◌, Bool, true, None}
+use Rattle.std.specs.List.{list_all}
 use Rattle.cell_heap.specs.Telling.{collector_tells}
 use Rattle.cell_words.specs.declared.colours.Colour.{Colour}
 use Rattle.core_machine.specs.declared.events.Event.{Event}
 use Rattle.core_machine.specs.declared.events.Found.{Found}
 use Rattle.core_machine.specs.declared.events.Found.TheVariants as finds
+use Rattle.core_machine.specs.declared.progress.Scanning.{Scanning}
 use Rattle.core_machine.specs.Collector.{Collector}
 use Rattle.core_machine.specs.Next.{can}
 use Rattle.core_machine.specs.State.{State}
@@ -60,3 +62,17 @@ module _ {P : Type 0} where
 pub record KeepsAnswers (old new : Collector) : Type 0 where
   pub answered : new.answered ≡ old.answered
   pub scan : new.scan ≡ old.scan
+
+-- the scan of a cell, where this field is the next one to be read
+abbrev pub scan_at : ℕ → ℕ → Scanning
+scan_at cell field = record { cell = cell; next = field; child = None }
+
+-- who has answered is as before, and no scan is left
+pub record KeepsTracing (old new : Collector) : Type 0 where
+  pub answered : new.answered ≡ old.answered
+  pub sweep : new.sweep ≡ old.sweep
+  pub scan : new.scan ≡ None
+
+module _ {P : Type 0} where
+  abbrev pub HaveAnswered : Bound P → Type 0
+  HaveAnswered c = list_all (λ answered. answered) (part_of c).answered ≡ true

@@ -12,6 +12,7 @@ mod clearing;
 mod collecting;
 mod steps;
 mod sweeping;
+mod tracing;
 
 pub use cell_heap::ColSeat;
 pub use collecting::Collector;

@@ -20,6 +20,20 @@ impl<'a, P: Keeping> Collector<'a, P> {
         self.seat.freed()
     }
 
+    /// The cell that this pass of tracing has come to.
+    pub(crate) fn cursor(&self) -> u32
+        ensures cursor { result ≡ (part_of self.now).cursor }
+    {
+        self.seat.cursor()
+    }
+
+    /// Whether this pass has met no gray cell.
+    pub(crate) fn is_clean(&self) -> bool
+        ensures clean { result ≡ (part_of self.now).clean }
+    {
+        self.seat.is_clean()
+    }
+
     pub(crate) fn post_once(&mut self, stage: Stage)
         requires may { may self.old (event.Post stage) ≡ true }
         ensures told { self.new ≡ takes self.old (event.Post stage) finds.Stored }
