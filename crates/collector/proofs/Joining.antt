@@ -24,7 +24,7 @@ count_append : (test : Taken → Bool) (xs ys : List Taken)
     → count_by test (xs ++ ys) ≡ count_by test xs + count_by test ys
 count_append test xs ys = sum_by-append (λ t. cond (test t) 1 0) xs ys
 
-counted : (test : Taken → Bool) (xs ys : List Taken) (m n : ℕ) → count_by test xs ≡ m
+pub counted : (test : Taken → Bool) (xs ys : List Taken) (m n : ℕ) → count_by test xs ≡ m
     → count_by test ys ≡ n → count_by test (xs ++ ys) ≡ m + n
 counted test xs ys m n first second =
     count_append test xs ys ∙ ap (λ k. k + count_by test ys) first ∙ ap (λ k. m + k) second

@@ -76,3 +76,8 @@ pub record KeepsTracing (old new : Collector) : Type 0 where
 module _ {P : Type 0} where
   abbrev pub HaveAnswered : Bound P → Type 0
   HaveAnswered c = list_all (λ answered. answered) (part_of c).answered ≡ true
+
+-- the scan, and the sweep of the cell at the position, are as before
+pub record KeepsWork (old new : Collector) : Type 0 where
+  pub scan : new.scan ≡ old.scan
+  pub sweep : new.sweep ≡ old.sweep

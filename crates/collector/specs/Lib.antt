@@ -1,3 +1,4 @@
 pub mod Bound
 pub mod Counting
+pub mod Cycles
 pub mod Stretches

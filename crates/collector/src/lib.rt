@@ -13,6 +13,8 @@ mod collecting;
 mod steps;
 mod sweeping;
 mod tracing;
+mod whole;
 
 pub use cell_heap::ColSeat;
 pub use collecting::Collector;
+pub use whole::CycleReport;
