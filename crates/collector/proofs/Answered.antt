@@ -19,6 +19,7 @@ answers_more n m lt =
   where
     left : n - m ≡ suc (n - (m + 1))
     left = omega (arith, lt)
+
     next : suc m ≡ m + 1
     next = omega arith
 

@@ -72,9 +72,9 @@ module _ {P : Type 0} where
       let x = took (event.Post stage.Sync1) finds.Stored in
       let z = took (event.Post stage.Idle) finds.Stored in
       let heads = does_one 0 0 0 a b (event.Post stage.Sync1) finds.Stored begins
-          (record { on = refl; passes_are = refl; scanned_are = refl; freed_are = refl }) in
+      (record { on = refl; passes_are = refl; scanned_are = refl; freed_are = refl }) in
       let fact = subst (λ (n : ℕ). Counts n r.passes r.scanned r.freed does.added)
-          (ap (λ (h : Shape). h.cells) heads.kept.shape) does.fact in
+      (ap (λ (h : Shape). h.cells) heads.kept.shape) does.fact in
       record {
         added = x ∷ (does.added ++ z ∷ []);
         told = took_append a b d (x ∷ []) (does.added ++ z ∷ [])

@@ -1,6 +1,6 @@
 -- Stretches follow one another: their events go together, and their counts add up.
-use Rattle.std.proofs.Common.{◌≡◌, ◌+◌, ◌==◌, ◌&&◌, ℕ, Bool, true, false, not, cond, List, [], ◌∷◌, ◌++◌}
-use Rattle.std.proofs.Common.{refl, sym, ◌∙◌, ap, subst, arith}
+use Rattle.std.proofs.Common.{◌≡◌, ◌+◌, ◌==◌, ◌&&◌, ℕ, Bool, not, cond, List, [], ◌∷◌, ◌++◌}
+use Rattle.std.proofs.Common.{refl, ◌∙◌, ap, subst, arith}
 use Rattle.std.proofs.lemmas.List.Folds.{list_all-append}
 use Rattle.std.proofs.lemmas.List.Sums.{sum_by-append}
 use Rattle.std.specs.List.{count_by, list_all}
@@ -18,7 +18,7 @@ use Rattle.heap_rule.specs.declared.view.View.{View}
 use Rattle.heap_table.specs.Seats.{HeapId}
 use Rattle.collector.specs.Bound.{Bound, cells_of, takes, takes_at}
 use Rattle.collector.specs.Counting.{Counts, Does, ends_pass, is_blacken, is_end, is_free}
-use Rattle.collector.specs.Stretches.{Kept, Stretch, Took}
+use Rattle.collector.specs.Stretches.{Kept, Took}
 
 count_append : (test : Taken → Bool) (xs ys : List Taken)
     → count_by test (xs ++ ys) ≡ count_by test xs + count_by test ys
@@ -103,7 +103,7 @@ module _ {P : Type 0} where
       → Does (p + q) (s + t) (f + g) a c
   does_then p q s t f g a b c first second =
       let fact = subst (λ (x : ℕ). Counts x q t g second.added)
-          (ap (λ (h : Shape). h.cells) first.kept.shape) second.fact in
+      (ap (λ (h : Shape). h.cells) first.kept.shape) second.fact in
       record {
         added = first.added ++ second.added;
         told = took_append a b c first.added second.added first.told second.told;

@@ -57,8 +57,7 @@ module _ {P : Type 0} where
   abbrev pub TakesColour : Bound P → Event → Bound P → Type 0
   TakesColour old e new = (found : Colour) × (new ≡ takes old e (finds.Colour found))
 
--- Who has answered, and the scan, are as
--- before.
+-- Who has answered, and the scan, are as before.
 pub record KeepsAnswers (old new : Collector) : Type 0 where
   pub answered : new.answered ≡ old.answered
   pub scan : new.scan ≡ old.scan

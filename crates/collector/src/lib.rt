@@ -4,7 +4,8 @@
 //! seat's events, one after the other, and its clauses say which: so a layer above knows what the
 //! collector's trail grew by, and nothing of colours or stages.
 //!
-//! Reading order: specs/Bound, Stretches; then `collecting`, `steps`.
+//! Reading order: specs/Bound, Stretches, Counting, Cycles; then `collecting`, `steps`, `asking`,
+//! `clearing`, `tracing`, `sweeping`, `whole`.
 #![tactic(auto)]
 
 mod asking;

@@ -10,7 +10,8 @@ use heap_rule::Keeping;
 use std::sync::Wait;
 use std::thread;
 
-/// So many looks no cycle makes: a collector that had made them would wait for ever.
+/// No cycle makes so many looks. The counts fit their words by this bound; behind it the collector
+/// would wait for ever.
 const TURNS: u64 = 1 << 58;
 
 /// What one look came to, or all of them: how many passes ended, and how many gray cells were

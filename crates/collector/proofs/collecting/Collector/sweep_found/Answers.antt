@@ -1,7 +1,6 @@
 use Rattle.std.proofs.Common.{refl}
 use Rattle.core_machine.specs.declared.events.Event.TheVariants as event
 use Rattle.core_machine.specs.declared.events.Found.TheVariants as finds
-use Rattle.collector.specs.Counting.{Does}
 use Rattle.collector.proofs.Joining.{does_plain, does_then}
 use Rattle.collector.proofs.collecting.Collector.sweep_found.Goals as goal
 

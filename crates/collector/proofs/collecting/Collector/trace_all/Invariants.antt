@@ -1,4 +1,4 @@
-use Rattle.std.proofs.Common.{◌≡◌, ◌≤◌, ◌+◌}
+use Rattle.std.proofs.Common.{◌≡◌, ◌≤◌}
 use Rattle.collector.specs.Bound.{control_of, part_of}
 use Rattle.collector.specs.Counting.{Does}
 use Rattle.std.proofs.Common.{None}

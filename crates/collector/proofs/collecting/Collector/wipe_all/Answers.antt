@@ -10,9 +10,11 @@ use Rattle.collector.proofs.Joining.{does_none, does_plain, does_then}
 use Rattle.collector.proofs.collecting.Collector.wipe_all.Goals as goal
 
 pub loop-field-init : goal.loop-field-init
-loop-field-init g c =
-    (does_none c.args.self.now, refl,
-    ap (λ (s : Sweeping). record (part_of c.args.self.now) { sweep = s }) c.requires.found)
+loop-field-init g c = (
+  does_none c.args.self.now,
+  refl,
+  ap (λ (s : Sweeping). record (part_of c.args.self.now) { sweep = s }) c.requires.found,
+)
 
 pub wipe_once-requires : goal.wipe_once-requires
 wipe_once-requires g c =
@@ -22,12 +24,13 @@ wipe_once-requires g c =
     }
 
 pub loop-field-preserved : goal.loop-field-preserved
-loop-field-preserved g c =
-    (does_then 0 0 0 0 0 0 c.args.self.now c.loop-field.self c.wipe_once.new.self
-    c.loop-field.invariant.0
-    (does_plain c.loop-field.self c.wipe_once.new.self event.Wipe finds.Stored
-    c.wipe_once.ensures.told
-    (record { on = refl; passes_are = refl; scanned_are = refl; freed_are = refl })),
-    ap (λ (x : Bound _). control_of x) c.wipe_once.ensures.told ∙ c.loop-field.invariant.1,
-    ap (λ (x : Bound _). part_of x) c.wipe_once.ensures.told
-    ∙ ap (λ (p : Collector). record p { sweep = wiped p.sweep }) c.loop-field.invariant.2)
+loop-field-preserved g c = (
+  does_then 0 0 0 0 0 0 c.args.self.now c.loop-field.self c.wipe_once.new.self
+      c.loop-field.invariant.0
+      (does_plain c.loop-field.self c.wipe_once.new.self event.Wipe finds.Stored
+      c.wipe_once.ensures.told
+      (record { on = refl; passes_are = refl; scanned_are = refl; freed_are = refl })),
+  ap (λ (x : Bound _). control_of x) c.wipe_once.ensures.told ∙ c.loop-field.invariant.1,
+  ap (λ (x : Bound _). part_of x) c.wipe_once.ensures.told
+      ∙ ap (λ (p : Collector). record p { sweep = wiped p.sweep }) c.loop-field.invariant.2,
+)

@@ -1,6 +1,5 @@
-use Rattle.std.proofs.Common.{Bool, true, List, Option, is_none, refl, ◌∙◌, ap}
+use Rattle.std.proofs.Common.{Option, is_none, refl, ◌∙◌, ap}
 use Rattle.std.proofs.lemmas.Bool.{and_from}
-use Rattle.std.specs.List.{list_all}
 use Rattle.cell_words.specs.declared.controls.Control.{Control}
 use Rattle.cell_words.specs.declared.controls.Stage.TheVariants as stage
 use Rattle.core_machine.specs.Words.{same_stage}
