@@ -1,0 +1,3 @@
+pub mod Answered
+pub mod Cycling
+pub mod Joining

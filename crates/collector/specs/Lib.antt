@@ -1,0 +1,4 @@
+pub mod Bound
+pub mod Counting
+pub mod Cycles
+pub mod Stretches

@@ -1,0 +1,140 @@
+//! The seat's calls as this crate uses them: an event each.
+ghost use Rattle.std.specs.Prelude.{◌≡◌, ◌<◌, ◌^◌, true, false};
+ghost use Rattle.cell_heap.specs.Telling.{AnswersOut, AtCollectorEvent};
+ghost use Rattle.collector.specs.Bound.{TakesColour, cells_of, may, part_of, takes};
+ghost use Rattle.core_machine.specs.InRange.{NamesBelow};
+ghost use Rattle.core_machine.specs.Words.{is_gray};
+ghost use Rattle.core_machine.specs.declared.events.Event.TheVariants as event;
+ghost use Rattle.core_machine.specs.declared.events.Found.TheVariants as finds;
+
+use crate::collecting::Collector;
+use cell_words::{Colour, Field, Presence, Stage};
+use heap_rule::Keeping;
+
+impl<'a, P: Keeping> Collector<'a, P> {
+    /// How many cells were freed in all.
+    pub(crate) fn freed(&self) -> u64
+        ensures freed { result ≡ (part_of self.now).number_freed }
+        ensures few { result < 2 ^ 63 }
+    {
+        self.seat.freed()
+    }
+
+    /// The cell that this pass of tracing has come to.
+    pub(crate) fn cursor(&self) -> u32
+        ensures cursor { result ≡ (part_of self.now).cursor }
+    {
+        self.seat.cursor()
+    }
+
+    /// Whether this pass has met no gray cell.
+    pub(crate) fn is_clean(&self) -> bool
+        ensures clean { result ≡ (part_of self.now).clean }
+    {
+        self.seat.is_clean()
+    }
+
+    pub(crate) fn post_once(&mut self, stage: Stage)
+        requires may { may self.old (event.Post stage) ≡ true }
+        ensures told { self.new ≡ takes self.old (event.Post stage) finds.Stored }
+    {
+        self.seat.post(self.heap, stage);
+    }
+
+    pub(crate) fn poll_once(&mut self, mutator: u32) -> Presence
+        requires may { may self.old (event.Poll mutator) ≡ true }
+        ensures heap { self.new.heap ≡ self.old.heap }
+        ensures table { self.new.seat.table ≡ self.old.seat.table }
+        ensures told { AtCollectorEvent P.fixed self.old.seat.me (event.Poll mutator) (finds.Presence result) self.new.seat.me }
+    {
+        self.seat.poll(self.heap, mutator)
+    }
+
+    pub(crate) fn answer_out_once(&mut self, mutator: u32, over: bool) -> bool
+        requires may { may self.old (event.AnswerOut mutator over) ≡ true }
+        ensures heap { self.new.heap ≡ self.old.heap }
+        ensures table { self.new.seat.table ≡ self.old.seat.table }
+        ensures told { AnswersOut P.fixed self.old.seat.me mutator over result self.new.seat.me }
+    {
+        self.seat.answer_out(self.heap, mutator, over)
+    }
+
+    pub(crate) fn clear_once(&mut self)
+        requires may { may self.old event.ClearCell ≡ true }
+        ensures told { TakesColour self.old event.ClearCell self.new }
+    {
+        self.seat.clear(self.heap);
+    }
+
+    pub(crate) fn anchor_once(&mut self)
+        requires may { may self.old event.Anchor ≡ true }
+        ensures told { TakesColour self.old event.Anchor self.new }
+    {
+        self.seat.anchor(self.heap);
+    }
+
+    pub(crate) fn see_once(&mut self, cell: u32) -> Colour
+        requires may { may self.old (event.See cell) ≡ true }
+        ensures told { self.new ≡ takes self.old (event.See cell) (finds.Colour result) }
+    {
+        self.seat.see(self.heap, cell)
+    }
+
+    pub(crate) fn scan_once(&mut self) -> Field
+        requires may { may self.old event.Scan ≡ true }
+        ensures told { self.new ≡ takes self.old event.Scan (finds.Field result) }
+        ensures below { NamesBelow (cells_of self.old) result }
+    {
+        self.seat.scan(self.heap)
+    }
+
+    pub(crate) fn shade_once(&mut self)
+        requires may { may self.old event.Shade ≡ true }
+        ensures told { TakesColour self.old event.Shade self.new }
+    {
+        self.seat.shade(self.heap);
+    }
+
+    pub(crate) fn blacken_once(&mut self)
+        requires may { may self.old event.Blacken ≡ true }
+        ensures told { self.new ≡ takes self.old event.Blacken finds.Stored }
+    {
+        self.seat.blacken(self.heap);
+    }
+
+    pub(crate) fn sweep_look_once(&mut self) -> Colour
+        requires may { may self.old event.SweepLook ≡ true }
+        ensures told { self.new ≡ takes self.old event.SweepLook (finds.Colour result) }
+        ensures not_gray { is_gray result ≡ false }
+    {
+        self.seat.sweep_look(self.heap)
+    }
+
+    pub(crate) fn wipe_once(&mut self)
+        requires may { may self.old event.Wipe ≡ true }
+        ensures told { self.new ≡ takes self.old event.Wipe finds.Stored }
+    {
+        self.seat.wipe(self.heap);
+    }
+
+    pub(crate) fn free_once(&mut self)
+        requires may { may self.old event.Free ≡ true }
+        ensures told { self.new ≡ takes self.old event.Free finds.Stored }
+    {
+        self.seat.free(self.heap);
+    }
+
+    pub(crate) fn whiten_once(&mut self)
+        requires may { may self.old event.Whiten ≡ true }
+        ensures told { self.new ≡ takes self.old event.Whiten finds.Stored }
+    {
+        self.seat.whiten(self.heap);
+    }
+
+    pub(crate) fn advance_once(&mut self)
+        requires may { may self.old event.Advance ≡ true }
+        ensures told { self.new ≡ takes self.old event.Advance finds.Stored }
+    {
+        self.seat.advance(self.heap);
+    }
+}

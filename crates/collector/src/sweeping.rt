@@ -1,0 +1,126 @@
+//! Sweeping: all cells in order, the white ones wiped and freed, the black ones made white.
+ghost use Rattle.std.specs.Prelude.{◌≡◌, ◌<◌, ◌≤◌, ◌+◌, ◌^◌};
+ghost use Rattle.cell_words.specs.declared.controls.Stage.TheVariants as stage;
+ghost use Rattle.collector.specs.Bound.{KeepsAnswers, cells_of, control_of, part_of};
+ghost use Rattle.collector.specs.Counting.{Does};
+ghost use Rattle.core_machine.specs.declared.progress.Sweeping.TheVariants as sweeping;
+ghost use Rattle.free_cells.specs.Hints.{cells_of as hinted_of, counts_of, queue_of};
+
+use crate::collecting::Collector;
+use cell_words::Colour;
+use free_cells::Hints;
+use heap_rule::Keeping;
+use std::sync::Wait;
+
+/// Offers the number of a freed cell to whoever claims next; where there is no room it is left out.
+fn offer<R: Wait>(rt: &R, hints: &mut Hints<'_>, cell: u32)
+    requires range { cell < hinted_of (queue_of hints.old) }
+    ensures queue { queue_of hints.new ≡ queue_of hints.old }
+    ensures puts { (counts_of hints.new).puts ≡ (counts_of hints.old).puts + 1 }
+{
+    if hints.put(rt, cell) {
+        return;
+    }
+}
+
+impl<'a, P: Keeping> Collector<'a, P> {
+    /// Stores null in all six fields of the white cell at the position.
+    fn wipe_all(&mut self)
+        requires found { (part_of self.old).sweep ≡ sweeping.Wiping 0 }
+        ensures does { Does 0 0 0 self.old self.new }
+        ensures control { control_of self.new ≡ control_of self.old }
+        ensures part { part_of self.new ≡ record (part_of self.old) { sweep = sweeping.Wiping 6 } }
+    {
+        for _field in 0..6usize {
+            self.wipe_once();
+        }
+    }
+
+    /// Wipes and frees the white cell at the position, and offers its number.
+    fn free_cell<R: Wait>(&mut self, rt: &R, hints: &mut Hints<'_>)
+        requires found { (part_of self.old).sweep ≡ sweeping.Wiping 0 }
+        requires hints { hinted_of (queue_of hints.old) ≡ cells_of self.old }
+        requires there { (control_of self.old).position < cells_of self.old }
+        ensures does { Does 0 0 1 self.old self.new }
+        ensures control { control_of self.new ≡ control_of self.old }
+        ensures done { (part_of self.new).sweep ≡ sweeping.Done }
+        ensures kept { KeepsAnswers (part_of self.old) (part_of self.new) }
+        ensures queue { queue_of hints.new ≡ queue_of hints.old }
+        ensures puts { (counts_of hints.new).puts ≡ (counts_of hints.old).puts + 1 }
+    {
+        let cell = self.control().position;
+        self.wipe_all();
+        self.free_once();
+        offer(rt, hints, cell);
+    }
+
+    /// Looks at the cell at the position and does what its colour asks for. It gives how many cells
+    /// were freed: one, or none.
+    fn sweep_found<R: Wait>(&mut self, rt: &R, hints: &mut Hints<'_>) -> u64
+        requires stage { (control_of self.old).stage ≡ stage.Sweep }
+        requires fresh { (part_of self.old).sweep ≡ sweeping.Fresh }
+        requires hints { hinted_of (queue_of hints.old) ≡ cells_of self.old }
+        requires there { (control_of self.old).position < cells_of self.old }
+        ensures does { Does 0 0 result self.old self.new }
+        ensures few { result ≤ 1 }
+        ensures control { control_of self.new ≡ control_of self.old }
+        ensures done { (part_of self.new).sweep ≡ sweeping.Done }
+        ensures kept { KeepsAnswers (part_of self.old) (part_of self.new) }
+        ensures queue { queue_of hints.new ≡ queue_of hints.old }
+        ensures puts { (counts_of hints.new).puts ≡ (counts_of hints.old).puts + result }
+    {
+        match self.sweep_look_once() {
+            Colour::Blue => 0,
+            Colour::White => {
+                self.free_cell(rt, hints);
+                1
+            }
+            Colour::Gray => unreachable!(),
+            Colour::Black => {
+                self.whiten_once();
+                0
+            }
+        }
+    }
+
+    /// Sweeps the cell at the position, and goes on to the next.
+    fn sweep_cell<R: Wait>(&mut self, rt: &R, hints: &mut Hints<'_>) -> u64
+        requires stage { (control_of self.old).stage ≡ stage.Sweep }
+        requires fresh { (part_of self.old).sweep ≡ sweeping.Fresh }
+        requires hints { hinted_of (queue_of hints.old) ≡ cells_of self.old }
+        requires there { (control_of self.old).position < cells_of self.old }
+        ensures does { Does 0 0 result self.old self.new }
+        ensures few { result ≤ 1 }
+        ensures control { control_of self.new
+            ≡ record (control_of self.old) { position = (control_of self.old).position + 1 } }
+        ensures fresh { (part_of self.new).sweep ≡ sweeping.Fresh }
+        ensures kept { KeepsAnswers (part_of self.old) (part_of self.new) }
+        ensures queue { queue_of hints.new ≡ queue_of hints.old }
+        ensures puts { (counts_of hints.new).puts ≡ (counts_of hints.old).puts + result }
+    {
+        let freed = self.sweep_found(rt, hints);
+        self.advance_once();
+        freed
+    }
+
+    /// Sweeps all cells. It gives how many were freed.
+    pub(crate) fn sweep_all<R: Wait>(&mut self, rt: &R, hints: &mut Hints<'_>) -> u64
+        requires stage { (control_of self.old).stage ≡ stage.Sweep }
+        requires first { (control_of self.old).position ≡ 0 }
+        requires fresh { (part_of self.old).sweep ≡ sweeping.Fresh }
+        requires hints { hinted_of (queue_of hints.old) ≡ cells_of self.old }
+        ensures does { Does 0 0 result self.old self.new }
+        ensures control { control_of self.new
+            ≡ record (control_of self.old) { position = cells_of self.old } }
+        ensures fresh { (part_of self.new).sweep ≡ sweeping.Fresh }
+        ensures kept { KeepsAnswers (part_of self.old) (part_of self.new) }
+        ensures queue { queue_of hints.new ≡ queue_of hints.old }
+        ensures puts { (counts_of hints.new).puts ≡ (counts_of hints.old).puts + result }
+    {
+        let mut freed = 0;
+        for _cell in 0..self.cells() {
+            freed += self.sweep_cell(rt, hints);
+        }
+        freed
+    }
+}
