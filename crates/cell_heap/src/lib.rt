@@ -1,11 +1,12 @@
 //! The seats of a collected heap, a call an event: each is one atomic operation on one word of the
 //! table, and tells the seat's view this event with what it found.
 //!
-//! Here stands the collector's. The layer above runs cycles with it: a call may be made where the
-//! event table allows its event by what the collector knows, and what the collector knows behind it
-//! is fixed by its clause.
+//! Here stands the collector's, and with it a heap is opened, its mutators' seats are split off and
+//! joined again, and the heap is closed. The layer above runs cycles with it: a call may be made
+//! where the event table allows its event by what the collector knows, and what the collector knows
+//! behind it is fixed by its clause.
 //!
-//! Reading order: `progress`, `seat`, `words`, `handshakes`, `tracing`, `sweep`.
+//! Reading order: `progress`, `seat`, `words`, `handshakes`, `tracing`, `sweep`, `moves`.
 #![tactic(auto)]
 
 mod handshakes;

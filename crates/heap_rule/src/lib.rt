@@ -6,10 +6,12 @@
 //! `Lore`, a record of definitions that changes with each event. The layers above keep a copy of
 //! what concerns a mutator in the view of its seat, and a client's rule is a fact of the boxes.
 //!
-//! Here stand definitions and lemmas: that the facts on lore stay with every event, and how the
-//! boxes change. No seat, no word and no thread is named.
+//! Here stand definitions and lemmas: that the facts on lore stay with every event, how the boxes
+//! change, and the rule of a table that holds all of it with the views of its seats. No table is
+//! made here, and no thread steps.
 //!
-//! Reading order: `known`; specs/Lore, Knowledge, Facts, Boxes; then `theorems`.
+//! Reading order: `known`; specs/Lore, Knowledge, Facts, Boxes; `keeping`, `view`; specs/Rule, Steps,
+//! Asks, Opening, Moves, Laws; then `theorems`.
 #![tactic(auto)]
 
 mod keeping;

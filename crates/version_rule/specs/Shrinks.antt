@@ -1,4 +1,5 @@
 -- The rule of versions on maps: what its parts say, and that it stands on every smaller map.
+-- Source: this project's.
 use Rattle.std.proofs.Common.{refl, ◌≡◌, ◌≢◌, ℕ, ◌-◌, ◌<◌, ◌⊎◌, List, length, Some, None}
 use Rattle.std.proofs.Common.{Option, inl, inr, sym, ◌∙◌, ap, subst, arith}
 use Rattle.std.proofs.lemmas.List.Elements.{All-weaker}
