@@ -76,15 +76,17 @@ finished h words v w u t first second two mutators one other added more both e =
     ap (λ (x : View Added). x.places) both
     ∙ (λ i. slice_set (slice_set v.places (one i) a) (other i) b) in
     let pass : get_elem? e.shows.passes 0 ≡ some u.pass =
-    (e.joined 0 (share_of u) (ap (λ (x : List (Place Added)). get_elem? x 0) at ∙ there.0)).pass in
+    (e.collector.joined 0 (share_of u)
+    (ap (λ (x : List (Place Added)). get_elem? x 0) at ∙ there.0)).pass in
     let other_pass : get_elem? e.shows.passes 1 ≡ some t.pass =
-    (e.joined 1 (share_of t) (ap (λ (x : List (Place Added)). get_elem? x 1) at ∙ there.1)).pass in
+    (e.collector.joined 1 (share_of t)
+    (ap (λ (x : List (Place Added)). get_elem? x 1) at ∙ there.1)).pass in
     let sums : sum_of e.shows.passes ≡ first + second =
     two_passes e.shows.passes u.pass t.pass (e.passes_fit ∙ mutators) pass other_pass
     ∙ (λ i. (added i).sum + (more i).sum) in
     record {
       core = e.shows.core;
-      words_are = sym e.words_are ∙ e.shows.words;
+      words_are = sym e.words_are ∙ e.shows.last_of.shown;
       is = is_num e.shows.core e.shows.lore e.shows.facts (first + second)
           (field_of e.shows.core 0 0) refl
           (counter_is e.shows.core e.shows.lore e.shows.passes e.shows.kept

@@ -7,6 +7,8 @@ pub mod Lore
 pub mod Moves
 pub mod NoRule
 pub mod Opening
+pub mod Parts
 pub mod Rule
+pub mod Settled
 pub mod Shape
 pub mod Steps

@@ -3,4 +3,3 @@ pub mod HeldCells
 pub mod Founds
 pub mod Keeping
 pub mod Owed
-pub mod Picks

@@ -9,7 +9,8 @@
 //! When to mark, to answer or to try again is the choice of the layer above. No call takes memory:
 //! the room for held cells is reserved before the seat is made.
 //!
-//! Reading order: `values`, `choice`, `seat`, `coming`, `looking`, `reading`, `making`, `writing`.
+//! Reading order: `values`, `choice`, `seat`, `coming`, `looking`, `reading`, `making`, `writing`; then
+//! `theorems`.
 #![tactic(auto)]
 
 mod cells;
@@ -20,6 +21,7 @@ mod making;
 mod places;
 mod reading;
 mod seat;
+pub mod theorems;
 mod values;
 mod words;
 mod writing;

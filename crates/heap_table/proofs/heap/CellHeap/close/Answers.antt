@@ -44,12 +44,12 @@ returns-clause-shown g c ended =
     let shape : c.self.inside.table.shared.key ≡ c.args.self.shape = ap (λ (h : HeapId). h.shape)
     c.self.view_is in
     let few = shown.few in
-    let is = shown.cells in
+    let is = shown.last_of.cells in
     record {
       in_range = record { shape = shown.shaped; few_cells = omega (arith, few, is) };
       has_words = shown.has_words;
-      words_are = sym ended.words_are ∙ shown.words;
-      cells_are = shown.cells ∙ sym (ap (λ (h : Shape). h.cells) shape) ∙ heap.cells_are;
+      words_are = sym ended.words_are ∙ shown.last_of.shown;
+      cells_are = shown.last_of.cells ∙ sym (ap (λ (h : Shape). h.cells) shape) ∙ heap.cells_are;
       mutators_are =
-          shown.mutators ∙ sym (ap (λ (h : Shape). h.mutators) shape) ∙ heap.mutators_are;
+          shown.last_of.mutators ∙ sym (ap (λ (h : Shape). h.mutators) shape) ∙ heap.mutators_are;
     }
