@@ -1,4 +1,5 @@
 pub mod Alone
+pub mod Apart
 pub mod Carried
 pub mod Claiming
 pub mod FactsAfter

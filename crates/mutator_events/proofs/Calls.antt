@@ -22,11 +22,13 @@ use Rattle.core_machine.specs.State.{colour_of, presence_of, target_of}
 use Rattle.core_machine.specs.Words.{is_blue}
 use Rattle.heap_rule.specs.declared.known.Learned.{Learned}
 use Rattle.heap_rule.specs.declared.view.View.{View}
+use Rattle.heap_rule.specs.Apart.{IsNewTo}
 use Rattle.heap_rule.specs.Asks.{MayClaim, MayComeIn, MayKeep, MayRead}
 use Rattle.heap_rule.specs.Boxes.{Map}
-use Rattle.heap_rule.specs.Lore.{nothing_learned}
+use Rattle.heap_rule.specs.Lore.{cells_in, nothing_learned}
 use Rattle.heap_rule.specs.Rule.{told}
 use Rattle.heap_rule.specs.Steps.{AtStep, same_pass}
+use Rattle.heap_rule.proofs.Apart.{new_to}
 use Rattle.heap_table.specs.Seats.{SeatView}
 use Rattle.mutator_events.specs.Events.{AtEvent, tells, tells_with}
 use Rattle.mutator_events.specs.Seats.{IsMutator}
@@ -219,6 +221,14 @@ module _ {P : Type 0} {holds : Map → List P → Type 0} {fixed : ℕ → Bool}
       (claim_found c found is here ∙ ap (λ (x : Colour). finds.Colour x) blue)).new
       (claim_keeps m v.number nothing_learned v.pass c may.cell
       (omega (arith, many, may.room, m.room_is)))
+
+  -- what it got stood at none of its places
+  pub got_new : (c : ℕ) (found : Colour)
+      → ((other : Colour) → pack_colour_of other ≡ number → found ≡ other)
+      → (at : AtStep holds fixed v (event.Claim i c) same_pass number w) → found ≡ colour.Blue
+      → IsNewTo (cells_in v.own.held) v.known c
+  got_new c found is at blue =
+      new_to v at.core at.lore at.mine c (sym (is (colour_of at.core c) at.says) ∙ blue)
 
   pub after_miss : (c : ℕ) (found : Colour)
       → ((other : Colour) → pack_colour_of other ≡ number → found ≡ other)

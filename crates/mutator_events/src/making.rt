@@ -1,11 +1,12 @@
 //! Making a cell: taking a blue one, filling its fields, and saying what it is.
-ghost use Rattle.std.specs.Prelude.{◌≡◌};
+ghost use Rattle.std.specs.Prelude.{◌≡◌, true};
 ghost use Rattle.cell_words.specs.declared.colours.Colour.{Colour};
 ghost use Rattle.core_machine.specs.Words.{is_blue};
 ghost use Rattle.core_machine.specs.declared.events.Event.TheVariants as event;
 ghost use Rattle.core_machine.specs.declared.events.Found.TheVariants as finds;
+ghost use Rattle.heap_rule.specs.Apart.{IsNewTo};
 ghost use Rattle.heap_rule.specs.Asks.{MayClaim, MayFill, MaySeal};
-ghost use Rattle.heap_rule.specs.Lore.{nothing_learned};
+ghost use Rattle.heap_rule.specs.Lore.{cells_in, nothing_learned};
 ghost use Rattle.heap_rule.specs.Steps.{Picks};
 ghost use Rattle.heap_table.specs.Seats.{IsSeatOf};
 ghost use Rattle.mutator_events.specs.Events.{fill_of, tells, tells_with};
@@ -31,6 +32,8 @@ impl<P: Keeping> MutSeat<P> {
         ensures told { (found : Colour) × (result ≡ is_blue found)
             × (self.new ≡ tells self.old (event.Claim self.old.me.number cell)
             (finds.Colour found)) }
+        ensures new { result ≡ true
+            → IsNewTo (cells_in self.old.me.own.held) self.old.me.known cell }
     {
         let word = colour_word(heap, cell);
         let born = born_colour(self.status, self.mode, cell);

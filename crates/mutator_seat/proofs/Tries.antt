@@ -15,6 +15,7 @@ use Rattle.core_machine.specs.Places.{found_at}
 use Rattle.core_machine.specs.Words.{is_blue}
 use Rattle.heap_rule.specs.declared.known.Known.{Known}
 use Rattle.heap_rule.specs.declared.known.Known.TheVariants as knows
+use Rattle.heap_rule.specs.Apart.{IsNewTo}
 use Rattle.heap_rule.specs.Lore.{five_nulls}
 use Rattle.heap_rule.specs.Rule.{took}
 use Rattle.heap_rule.specs.Shape.{Shape}
@@ -174,20 +175,22 @@ module _ {P : Type 0} where
 
   pub claimed_at : (a b : Bound P) (cell place : ℕ) (found : Colour) → true ≡ is_blue found
       → b ≡ takes a (event.Claim a.seat.me.number cell) (finds.Colour found)
-      → place ≡ length a.seat.me.own.held → Claimed a place b
-  claimed_at a b cell place colour.Blue got told is = record {
+      → place ≡ length a.seat.me.own.held
+      → (true ≡ true → IsNewTo (held_cells a) a.seat.me.known cell) → Claimed a place b
+  claimed_at a b cell place colour.Blue got told is new = record {
     cell = cell;
     at = a;
     calm = calm_none anything a (record {});
     told = told;
     place_is = is;
+    is_new = new refl;
     held = ap (λ (m : Bound P). held_cells m) told
         ∙ map-append (λ (p : Held). p.cell) a.seat.me.own.held (found_at cell ∷ []);
     known = ap (λ (m : Bound P). m.seat.me.known) told;
   }
-  claimed_at a b cell place colour.White got told is = absurd cc
-  claimed_at a b cell place colour.Gray got told is = absurd cc
-  claimed_at a b cell place colour.Black got told is = absurd cc
+  claimed_at a b cell place colour.White got told is new = absurd cc
+  claimed_at a b cell place colour.Gray got told is new = absurd cc
+  claimed_at a b cell place colour.Black got told is new = absurd cc
 
   -- Stretches before a claim.
 
@@ -213,6 +216,9 @@ module _ {P : Type 0} where
     told = got.told;
     place_is = got.place_is
         ∙ many_same b.seat.me.own.held a.seat.me.own.held calm.kept.held;
+    is_new = subst (λ (cells : List ℕ). IsNewTo cells a.seat.me.known got.cell) calm.kept.held
+        (subst (λ (known : List Known). IsNewTo (held_cells b) known got.cell) calm.kept.known
+        got.is_new);
     held = got.held ∙ ap (λ (cs : List ℕ). cs ++ got.cell ∷ []) calm.kept.held;
     known = got.known
         ∙ ap (λ (ks : List Known). ks ++ knows.Raw five_nulls ∷ []) calm.kept.known;

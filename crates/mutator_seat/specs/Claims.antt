@@ -7,6 +7,7 @@ use Rattle.core_machine.specs.declared.events.Event.TheVariants as event
 use Rattle.core_machine.specs.declared.events.Found.TheVariants as finds
 use Rattle.core_machine.specs.declared.events.Taken.{Taken}
 use Rattle.heap_rule.specs.declared.known.Known.TheVariants as knows
+use Rattle.heap_rule.specs.Apart.{IsNewTo}
 use Rattle.heap_rule.specs.Lore.{five_nulls}
 use Rattle.trails.specs.Claims.{AllUsed, decides, look_of}
 use Rattle.mutator_seat.specs.declared.full.HeapFull.{HeapFull}
@@ -52,5 +53,7 @@ module _ {P : Type 0} where
     pub calm : Calm anything old at
     pub told : new ≡ takes at (event.Claim at.seat.me.number cell) (finds.Colour colour.Blue)
     pub place_is : place ≡ length old.seat.me.own.held
+    -- it stood at no place
+    pub is_new : IsNewTo (held_cells old) old.seat.me.known cell
     pub held : held_cells new ≡ held_cells old ++ cell ∷ []
     pub known : new.seat.me.known ≡ old.seat.me.known ++ knows.Raw five_nulls ∷ []

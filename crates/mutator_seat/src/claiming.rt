@@ -8,8 +8,9 @@ ghost use Rattle.core_machine.specs.Words.{is_blue};
 ghost use Rattle.core_machine.specs.declared.events.Event.TheVariants as event;
 ghost use Rattle.core_machine.specs.declared.events.Found.TheVariants as finds;
 ghost use Rattle.free_cells.specs.Hints.{counts_of, queue_of};
+ghost use Rattle.heap_rule.specs.Apart.{IsNewTo};
 ghost use Rattle.heap_rule.specs.Asks.{MayClaim};
-ghost use Rattle.mutator_seat.specs.Bound.{takes};
+ghost use Rattle.mutator_seat.specs.Bound.{held_cells, takes};
 ghost use Rattle.mutator_seat.specs.Claims.{Claimed, Ends, FullBehind, HasMode, anything};
 ghost use Rattle.mutator_seat.specs.Stretches.{Calm};
 ghost use Rattle.trails.specs.Claims.{AllUsed, FindsFull, begun_of, decides};
@@ -240,6 +241,7 @@ impl<'a, P: Keeping> Mutator<'a, P> {
         requires may { MayClaim self.old.seat.me cell }
         ensures told { (found : Colour) × (result ≡ is_blue found)
             × (self.new ≡ takes self.old (event.Claim self.old.seat.me.number cell) (finds.Colour found)) }
+        ensures new { result ≡ true → IsNewTo (held_cells self.old) self.old.seat.me.known cell }
     {
         self.seat.claim(self.heap, cell)
     }

@@ -6,14 +6,16 @@ use Rattle.cell_words.specs.declared.colours.Colour.TheVariants as colour
 use Rattle.core_machine.specs.declared.events.Event.TheVariants as event
 use Rattle.core_machine.specs.declared.events.Found.TheVariants as finds
 use Rattle.core_machine.specs.Table.{ColourOf, index_of}
+use Rattle.heap_rule.specs.Apart.{IsNewTo}
 use Rattle.heap_rule.specs.Asks.{MayClaim}
+use Rattle.heap_rule.specs.Lore.{cells_in}
 use Rattle.heap_rule.specs.Shape.{Shape}
 use Rattle.heap_table.specs.Seats.{SeatView}
 use Rattle.mutator_events.specs.Seats.{IsMutator}
 use Rattle.mutator_events.proofs.Calls.{after_claim}
 use Rattle.mutator_events.proofs.Calls.{after_miss}
-use Rattle.mutator_events.proofs.Calls.{claims_more, seat_told}
-use Rattle.mutator_events.proofs.Calls.{within}
+use Rattle.mutator_events.proofs.Calls.{claims_more, got_new, seat_told}
+use Rattle.mutator_events.proofs.Calls.{within, without}
 use Rattle.mutator_events.proofs.Founds.{claim_word, not_blue}
 use Rattle.mutator_events.proofs.Owed.{claim_owed}
 use Rattle.mutator_events.proofs.Owed.{still_as}
@@ -82,6 +84,10 @@ returns-in-Blue g c =
             (after_claim c.self.invariant.0 c.args.cell c.colour_of-found.result
             c.colour_of-found.ensures.colour may c.mutator_exchange-number.ensures.step c.in-Blue.is).view,
       );
+      new = λ got.
+          without (λ v. IsNewTo (cells_in v.own.held) v.known c.args.cell) c.self.view_is
+          (got_new c.self.invariant.0 c.args.cell c.colour_of-found.result
+          c.colour_of-found.ensures.colour c.mutator_exchange-number.ensures.step c.in-Blue.is);
     }
 
 pub returns-in-White : goal.returns-in-White
@@ -98,4 +104,5 @@ returns-in-White g c =
             (after_miss c.self.invariant.0 c.args.cell c.colour_of-found.result
             c.colour_of-found.ensures.colour c.mutator_exchange-number.ensures.step other).view,
       );
+      new = λ got. absurd cc;
     }

@@ -5,7 +5,7 @@ pub returns-then-claim_once-clause-got : goal.returns-then-claim_once-clause-got
 returns-then-claim_once-clause-got g c =
     let told = c.if-claim_once.ensures.told in
     claimed_at c.args.self.now c.claim_once.new.self c.args.cell c.held_len-place.result told.0
-    told.1 told.2 c.held_len-place.ensures.len
+    told.1 told.2 c.held_len-place.ensures.len (λ got. c.if-claim_once.ensures.new got)
 
 pub returns-else-claim_once-clause-none : goal.returns-else-claim_once-clause-none
 returns-else-claim_once-clause-none g c =
