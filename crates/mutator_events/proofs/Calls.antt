@@ -177,7 +177,7 @@ module _ {P : Type 0} {holds : Map → List P → Type 0} {fixed : ℕ → Bool}
       behind (at_event (event.Keep v.number n from copies) (finds.Presence v.presence) here
       (keep_found n from copies may.inside here)).new
       (keep_keeps m v.number nothing_learned v.pass n from copies (finds.Presence v.presence)
-      (omega (arith, many, may.kept)) (omega (arith, many, may.copied))
+      may.some (omega (arith, many, may.kept)) (omega (arith, many, may.copied))
       (omega (arith, may.room, m.room_is)))
 
   pub after_seal : (place : ℕ) (of : Kind)

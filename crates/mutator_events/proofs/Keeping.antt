@@ -2,7 +2,7 @@
 -- the parts that the call leaves.
 use Rattle.std.proofs.Common.{◌≡◌, ◌<◌, ◌≤◌, ◌+◌, ℕ, Bool, true, false, List, [], ◌∷◌, ◌++◌}
 use Rattle.std.proofs.Common.{length, refl, sym, ◌∙◌, ap, subst, arith, Option, Some, None}
-use Rattle.std.proofs.lemmas.List.{length-append}
+use Rattle.std.proofs.lemmas.List.{length-append, length-map}
 use Rattle.std.proofs.lemmas.List.Elements.{All-nil, All-cons, All-push}
 use Rattle.cell_words.specs.Modes.{next_status_of}
 use Rattle.cell_words.specs.declared.colours.Colour.{Colour}
@@ -19,19 +19,23 @@ use Rattle.core_machine.specs.declared.events.Found.TheVariants as finds
 use Rattle.core_machine.specs.declared.events.Taken.{Taken}
 use Rattle.core_machine.specs.InRange.{NamesBelow}
 use Rattle.core_machine.specs.Own.{Own, having_claimed, having_read}
-use Rattle.core_machine.specs.Places.{cell_at}
+use Rattle.core_machine.specs.declared.places.Held.{Held}
+use Rattle.core_machine.specs.Places.{cell_at, kept, mark_of, unmark}
 use Rattle.core_machine.specs.Words.{is_blue}
 use Rattle.heap_rule.specs.declared.known.Known.{Known}
 use Rattle.heap_rule.specs.declared.known.Learned.{Learned}
 use Rattle.heap_rule.specs.declared.view.View.{View}
-use Rattle.heap_rule.specs.Lore.{cells_in}
+use Rattle.heap_rule.specs.declared.known.Known.TheVariants as knows
+use Rattle.heap_rule.specs.Lore.{cells_in, five_nulls, known_claimed, was_made}
 use Rattle.heap_rule.specs.Rule.{told}
 use Rattle.heap_rule.proofs.Quiet.{cells_marked, cells_unmarked}
 use Rattle.heap_rule.proofs.Reading.{cells_more}
-use Rattle.mutator_events.specs.Seats.{HasOwn, HasPresence, IsMutator}
+use Rattle.mutator_events.specs.Seats.{HasOwn, HasPresence, HasRoots, IsMutator}
 use Rattle.mutator_events.specs.Values.{cells_kept, cells_read}
 use Rattle.mutator_events.proofs.HeldCells.{cells_kept_are, kept_below, kept_many, read_below}
 use Rattle.mutator_events.proofs.HeldCells.{read_many}
+use Rattle.mutator_events.proofs.Roots.{kept_roots, missed_roots, more_roots, moved_roots}
+use Rattle.mutator_events.proofs.Roots.{read_roots, sealed_roots, stored_roots, written_roots}
 
 -- what a read holds, and that it leaves mode and claims
 read_own : (own : Own) (found : Field) → (cells_in (having_read own found).held
@@ -56,7 +60,7 @@ module _ {P : Type 0} {v : View P} {number room : ℕ} {held : List ℕ} {mode :
   told_keeps : {own : Own} {presence : Presence} {known : List Known} {pass : P}
       {trail : List Taken} {cells : List ℕ} {looked : Option Control} {is_in : Bool}
       {answered : Status} {many : ℕ} → HasOwn v.shape.cells room own cells looked many
-      → HasPresence presence is_in answered
+      → HasPresence presence is_in answered → HasRoots known own.held is_in
       → IsMutator (record v {
         own = own;
         presence = presence;
@@ -64,7 +68,7 @@ module _ {P : Type 0} {v : View P} {number room : ℕ} {held : List ℕ} {mode :
         pass = pass;
         trail = trail;
       }) number room cells looked is_in answered many
-  told_keeps own presence = record {
+  told_keeps own presence roots = record {
     role_is = m.role_is;
     number_is = m.number_is;
     number_below = m.number_below;
@@ -72,6 +76,7 @@ module _ {P : Type 0} {v : View P} {number room : ℕ} {held : List ℕ} {mode :
     some_room = m.some_room;
     own = own;
     presence = presence;
+    roots = roots;
   }
 
   -- the same cells, with other marks and another mode
@@ -101,6 +106,7 @@ module _ {P : Type 0} {v : View P} {number room : ℕ} {held : List ℕ} {mode :
           claims_is = m.own.claims_is;
         }
         record { inside_is = refl; status_is = λ is. refl; not_over = λ is. over }
+        record { fit = refl; some = λ is. omega arith }
 
     pub end_keeps : (found : Found)
         → IsMutator (told v (event.End i) found k p) number room [] None false status claims
@@ -117,6 +123,7 @@ module _ {P : Type 0} {v : View P} {number room : ℕ} {held : List ℕ} {mode :
           status_is = λ is. let no = is in absurd cc;
           not_over = λ is. let no = is in absurd cc;
         }
+        record { fit = refl; some = λ is. let no = is in absurd cc }
 
     pub over_keeps : (found : Found) → inside ≡ false
         → IsMutator (told v (event.Over i) found k p) number room held mode inside status claims
@@ -126,12 +133,14 @@ module _ {P : Type 0} {v : View P} {number room : ℕ} {held : List ℕ} {mode :
           status_is = m.presence.status_is;
           not_over = λ is. let no = sym out ∙ is in absurd cc;
         }
+        m.roots
 
     pub look_keeps : (control : Control)
         → IsMutator (told v (event.Look i) (finds.Control control) k p) number room held
         (Some control) inside status claims
     look_keeps control =
         told_keeps (own_moved (Some control) (cells_unmarked v.own.held) refl refl) m.presence
+        (moved_roots m.roots unmark)
 
     pub read_keeps : (place f : ℕ) (found : Field) → NamesBelow v.shape.cells found
         → length held < room
@@ -147,7 +156,7 @@ module _ {P : Type 0} {v : View P} {number room : ℕ} {held : List ℕ} {mode :
           mode_is = parts.1 ∙ m.own.mode_is;
           claims_is = parts.2 ∙ m.own.claims_is;
         }
-        m.presence
+        m.presence (read_roots v.own place k found m.roots)
 
     pub mark_keeps : (place : ℕ) (found : Found)
         → IsMutator (told v (event.Mark i place) found k p) number room held mode inside status
@@ -155,13 +164,14 @@ module _ {P : Type 0} {v : View P} {number room : ℕ} {held : List ℕ} {mode :
     mark_keeps place found =
         told_keeps
         (own_moved mode (cells_marked (cell_at v.own.held place) v.own.held) m.own.mode_is refl)
-        m.presence
+        m.presence (moved_roots m.roots (mark_of (cell_at v.own.held place)))
 
     pub write_keeps : (place f : ℕ) (old new : Field) (found : Found)
         → IsMutator (told v (event.Write i place f old new) found k p) number room held None inside
         status claims
     write_keeps place f old new found =
         told_keeps (own_moved None (cells_unmarked v.own.held) refl refl) m.presence
+        (written_roots m.roots unmark (was_made old found) place f new)
 
     pub claim_keeps : (c : ℕ) → c < v.shape.cells → length held < room
         → IsMutator (told v (event.Claim i c) (finds.Colour colour.Blue) k p) number room
@@ -175,7 +185,7 @@ module _ {P : Type 0} {v : View P} {number room : ℕ} {held : List ℕ} {mode :
           mode_is = refl;
           claims_is = ap (λ (n : ℕ). n + 1) m.own.claims_is;
         }
-        m.presence
+        m.presence (more_roots m.roots (knows.Raw five_nulls) c)
 
     pub missed_keeps : (c : ℕ) (found : Colour) → is_blue found ≡ false
         → IsMutator (told v (event.Claim i c) (finds.Colour found) k p) number room held mode
@@ -185,16 +195,19 @@ module _ {P : Type 0} {v : View P} {number room : ℕ} {held : List ℕ} {mode :
         (subst (λ (own : Own). HasOwn v.shape.cells room own held mode claims)
         (sym (missed_own v.own c found other)) m.own)
         m.presence
+        (subst (λ (own : Own). HasRoots (known_claimed v.known (finds.Colour found)) own.held inside)
+        (sym (missed_own v.own c found other)) (missed_roots v.known found other m.roots))
 
     pub fill_keeps : (place f : ℕ) (value : Field) (found : Found)
         → IsMutator (told v (event.Fill i place f value) found k p) number room held mode inside
         status claims
-    fill_keeps place f value found = told_keeps m.own m.presence
+    fill_keeps place f value found =
+        told_keeps m.own m.presence (stored_roots m.roots place f value)
 
     pub seal_keeps : (place : ℕ) (of : Kind) (found : Found)
         → IsMutator (told v (event.Seal i place of) found k p) number room held mode inside status
         claims
-    seal_keeps place of found = told_keeps m.own m.presence
+    seal_keeps place of found = told_keeps m.own m.presence (sealed_roots m.roots _ _)
 
     pub answer_keeps : (found : Found)
         → IsMutator (told v (event.Answer i) found k p) number room held None inside
@@ -206,18 +219,29 @@ module _ {P : Type 0} {v : View P} {number room : ℕ} {held : List ℕ} {mode :
           status_is = λ is. ap (λ (x : Status). next_status_of x) (m.presence.status_is is);
           not_over = m.presence.not_over;
         }
+        (moved_roots m.roots unmark)
 
-    pub keep_keeps : (n from copies : ℕ) (found : Found) → n ≤ length held
+    pub keep_keeps : (n from copies : ℕ) (found : Found) → 1 ≤ n → n ≤ length held
         → from + copies ≤ length held → n + copies ≤ room
         → IsMutator (told v (event.Keep i n from copies) found k p) number room
         (cells_kept held n from copies) mode inside status claims
-    keep_keeps n from copies found first second fits = told_keeps
+    keep_keeps n from copies found some first second fits =
+        let cells = cells_kept_are v.own.held n from copies
+        ∙ ap (λ (cells : List ℕ). cells_kept cells n from copies) m.own.held_is in
+        told_keeps
         record {
-          held_is = cells_kept_are v.own.held n from copies
-              ∙ ap (λ (cells : List ℕ). cells_kept cells n from copies) m.own.held_is;
+          held_is = cells;
           held_below = kept_below (λ c. c < v.shape.cells) held n from copies m.own.held_below;
           held_fits = omega (arith, fits, kept_many held n from copies first second);
           mode_is = m.own.mode_is;
           claims_is = m.own.claims_is;
         }
         m.presence
+        (kept_roots m.roots n from copies
+        (omega (
+          arith,
+          some,
+          kept_many held n from copies first second,
+          ap length cells,
+          length-map (kept v.own.held n from copies) (λ (p : Held). p.cell),
+        )))

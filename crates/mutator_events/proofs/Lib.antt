@@ -3,3 +3,4 @@ pub mod HeldCells
 pub mod Founds
 pub mod Keeping
 pub mod Owed
+pub mod Roots

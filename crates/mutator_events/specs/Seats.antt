@@ -5,6 +5,8 @@ use Rattle.cell_words.specs.declared.controls.Control.{Control}
 use Rattle.cell_words.specs.declared.presences.Presence.{Presence}
 use Rattle.cell_words.specs.declared.presences.Status.{Status}
 use Rattle.core_machine.specs.Own.{Own}
+use Rattle.core_machine.specs.declared.places.Held.{Held}
+use Rattle.heap_rule.specs.declared.known.Known.{Known}
 use Rattle.heap_rule.specs.declared.view.Role.TheVariants as role
 use Rattle.heap_rule.specs.declared.view.View.{View}
 use Rattle.heap_rule.specs.Lore.{cells_in}
@@ -25,6 +27,12 @@ pub record HasPresence (presence : Presence) (inside : Bool) (status : Status) :
   pub status_is : inside ≡ true → presence.status ≡ status
   pub not_over : inside ≡ true → presence.over ≡ false
 
+-- something is known of each place, if no more than that it is held; and who is in holds the anchor
+-- or a place more
+pub record HasRoots (known : List Known) (held : List Held) (inside : Bool) : Type 0 where
+  pub fit : length known ≡ length held
+  pub some : inside ≡ true → 1 ≤ length held
+
 module _ {P : Type 0} where
   pub record IsMutator (me : View P) (number room : ℕ) (held : List ℕ) (mode : Option Control)
       (inside : Bool) (status : Status) (claims : ℕ) : Type 0 where
@@ -35,6 +43,7 @@ module _ {P : Type 0} where
     pub some_room : 1 ≤ room
     pub own : HasOwn me.shape.cells room me.own held mode claims
     pub presence : HasPresence me.presence inside status
+    pub roots : HasRoots me.known me.own.held inside
 
   -- the view is what a mutator's seat is given when it is split off
   abbrev pub IsGiven : (ℕ → ℕ → P) → ℕ → ℕ → View P → Type 0

@@ -106,6 +106,8 @@ impl<P: Keeping> MutSeat<P> {
     /// How many cells it holds, counted by place.
     pub fn held_len(&self) -> usize
         ensures len { result ≡ length self.now.me.own.held }
+        ensures known { length self.now.me.known ≡ result }
+        ensures some { self.now.me.presence.inside ≡ true → 1 ≤ result }
     {
         self.held.len()
     }

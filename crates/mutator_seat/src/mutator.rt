@@ -1,5 +1,5 @@
 //! A mutator: its seat, with the heap that the seat is of.
-ghost use Rattle.std.specs.Prelude.{◌≡◌, ◌+◌, false, length};
+ghost use Rattle.std.specs.Prelude.{◌≡◌, ◌≤◌, ◌+◌, true, length};
 ghost use Rattle.heap_rule.specs.Asks.{MayComeIn};
 ghost use Rattle.heap_table.specs.Seats.{IsSeatOf};
 
@@ -42,6 +42,8 @@ impl<'a, P: Keeping> Mutator<'a, P> {
     /// How many cells it holds, counted by place.
     pub fn held_len(&self) -> usize
         ensures len { result ≡ length self.now.seat.me.own.held }
+        ensures known { length self.now.seat.me.known ≡ result }
+        ensures some { self.now.seat.me.presence.inside ≡ true → 1 ≤ result }
     {
         self.seat.held_len()
     }

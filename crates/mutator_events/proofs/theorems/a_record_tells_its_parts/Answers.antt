@@ -1,8 +1,6 @@
 use Rattle.std.proofs.Common.{◌≡◌, ℕ, sym, ◌∙◌, ap}
-use Rattle.cell_words.specs.declared.fields.Field.{Field}
 use Rattle.core_machine.specs.State.{field_of, target_of}
 use Rattle.core_machine.specs.declared.events.Found.TheVariants as finds
-use Rattle.heap_rule.specs.Asks.{target}
 use Rattle.heap_rule.proofs.Parts.{part_shown}
 use Rattle.heap_rule.proofs.Seats.{target_now}
 use Rattle.mutator_events.proofs.theorems.a_record_tells_its_parts.Goals as goal
