@@ -27,7 +27,7 @@ pub record Shown (At : Type 0) : Type 1 where
   -- what was read of shared records
   pub marks : List Mark
   -- what no call changes: of a pool that borrows what it fills, whose it is
-  pub source : ℕ
+  pub source : ℕ × ℕ
 
 -- the term of a part of a record
 abbrev pub part_term : {A : Type 0} → (A → Term) → Part A → Term

@@ -10,6 +10,7 @@ use Rattle.cell_words.specs.Term.{IsFive, Term, part}
 use Rattle.core_machine.specs.declared.events.Event.TheVariants as event
 use Rattle.core_machine.specs.declared.places.Held.{Held}
 use Rattle.core_machine.specs.declared.events.Found.TheVariants as finds
+use Rattle.core_machine.specs.InRange.{NumberFits}
 use Rattle.core_machine.specs.State.{State, field_of}
 use Rattle.core_machine.specs.Words.{is_box_kind}
 use Rattle.dlg_core.specs.Reachable.{Reachable, named}
@@ -100,8 +101,10 @@ module _ {P : Type 0} {fixed : ℕ → Bool} (v : View P) (s : State) (l : Lore)
       (learned s l (event.Read v.number place f)) pass
       → ShowsPart (part f t) v w found
   part_shown field.Null w pass at new = says ∙ ap (λ (k : Field). term_of (entry_of l.terms k)) at
-  part_shown (field.Num n) w pass at new =
-      says ∙ ap (λ (k : Field). term_of (entry_of l.terms k)) at
+  part_shown (field.Num n) w pass at new = (
+    says ∙ ap (λ (k : Field). term_of (entry_of l.terms k)) at,
+    subst NumberFits at (mine.shown.words.numbers_fit x f),
+  )
   part_shown (field.Cell c) w pass at new =
       let tells = learned s l (event.Read v.number place f) in
       let cells = cells_in v.own.held in

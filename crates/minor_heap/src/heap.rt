@@ -1,7 +1,7 @@
 ghost use Rattle.std.specs.Prelude.{◌≡◌, ◌<◌, ◌+◌, ◌++◌, ◌↔◌, ◌∷◌, [], List, All, length};
 ghost use Rattle.std.specs.Prelude.{IfOk, IsErr, OnErr, OnOk};
 ghost use Rattle.cell_words.specs.Term.{Term, part, IsFive};
-ghost use Rattle.minor_heap.specs.Nursery.{Stands, field_at, FitsRecord};
+ghost use Rattle.minor_heap.specs.Nursery.{Stands, field_at, FitsRecord, IsOrdered};
 ghost use Rattle.minor_heap.specs.Terms.{field_term, record_term, term_of, terms_of};
 
 use crate::NoMemory;
@@ -80,6 +80,7 @@ impl MinorHeap {
     /// How many records stand.
     pub fn len(&self) -> u32
         ensures count { result ≡ length self.now.records }
+        ensures ordered { IsOrdered 0 self.now.records }
     {
         self.records.len() as u32
     }

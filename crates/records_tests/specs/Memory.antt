@@ -20,7 +20,7 @@ shown pool = record {
   cell = λ place. 0;
   records = pool.heap.room - length pool.heap.records;
   marks = [];
-  source = 0;
+  source = (0, 0);
 }
 
 abbrev pub field_of : Part MinorRef → MinorField
