@@ -1,7 +1,7 @@
 -- The stages of a cycle, joined.
-use Rattle.std.proofs.Common.{◌≡◌, ◌+◌, ℕ, Bool, true, List, [], ◌∷◌, ◌++◌, replicate, refl, ◌∙◌}
-use Rattle.std.proofs.Common.{ap, subst, arith}
-use Rattle.std.specs.List.{count_by, list_all}
+use Rattle.std.proofs.Common.{◌≡◌, ◌+◌, ℕ, Bool, true, IsTrue, List, [], ◌∷◌, ◌++◌, replicate}
+use Rattle.std.proofs.Common.{refl, ◌∙◌, ap, subst}
+use Rattle.std.specs.List.{list_all}
 use Rattle.cell_words.specs.declared.controls.Stage.TheVariants as stage
 use Rattle.core_machine.specs.declared.events.Event.TheVariants as event
 use Rattle.core_machine.specs.declared.events.Found.TheVariants as finds
@@ -9,30 +9,48 @@ use Rattle.core_machine.specs.declared.events.Taken.{Taken}
 use Rattle.heap_rule.specs.Asks.{collector_state}
 use Rattle.heap_rule.specs.Rule.{took}
 use Rattle.heap_rule.specs.Shape.{Shape}
-use Rattle.collector.specs.Bound.{Bound, HaveAnswered, cells_of, mutators_of, part_of, takes}
-use Rattle.collector.specs.Counting.{Counts, Does, ends_pass, is_blacken, is_free}
-use Rattle.collector.specs.Cycles.{Reported}
+use Rattle.collector.specs.Bound.{Bound, HaveAnswered, mutators_of, part_of, takes}
+use Rattle.collector.specs.Counting.{Comes, Counts, Does, nothing, plus}
+use Rattle.collector.specs.Cycles.{Heard}
+use Rattle.collector.specs.Over.{AllOver, Hears}
+use Rattle.collector.specs.Replay.{Work, count_along, fresh_work_of, spills, work_after, work_of}
+use Rattle.collector.specs.Stack.{emptied}
 use Rattle.collector.specs.Stretches.{Stretch}
-use Rattle.collector.specs.declared.whole.CycleReport.{CycleReport}
+use Rattle.collector.specs.declared.report.CycleReport.{CycleReport}
 use Rattle.collector.proofs.Answered.{all_now}
-use Rattle.collector.proofs.Joining.{counted, does_one, does_then, kept_then, took_append}
+use Rattle.collector.proofs.Counted.{all_shaded, comes_join, counts_join, none_plus, plus_none}
+use Rattle.collector.proofs.Counted.{still_comes}
+use Rattle.collector.proofs.Hearing.{over_late, over_on}
+use Rattle.collector.proofs.Joining.{kept_then, stretch_then, took_append}
 
-none : (n : ℕ) → 0 + n ≡ n
-none n = omega arith
+-- what a cycle without its first and its last event comes to
+abbrev pub MadeBy : Work → Work → CycleReport → Bool → ℕ → List Taken → Type 0
+MadeBy from to report over mutators events =
+    Counts from to report events × (IsTrue over → AllOver 0 mutators events)
 
-last : (n : ℕ) → n + 0 ≡ n
-last n = omega arith
+counts_as : (a b : Work) (r q : CycleReport) (events : List Taken) → r ≡ q
+    → Counts a b r events → Counts a b q events
+counts_as a b r q events is counts = subst (λ (x : CycleReport). Counts a b x events) is counts
 
-ends : (n : ℕ) → 0 + (n + 0) ≡ n
-ends n = omega arith
+made_join : (a b c : Work) (over : Bool) (n : ℕ) (r : CycleReport) (xs ys : List Taken)
+    → MadeBy a b nothing over n xs → Counts b c r ys → MadeBy a c r over n (xs ++ ys)
+made_join a b c over n r xs ys first second = (
+  counts_as a c (plus nothing r) r (xs ++ ys) (none_plus r)
+      (counts_join a b c nothing r xs ys first.0 second),
+  λ so. over_on 0 n xs ys (first.1 so),
+)
 
-counts_whole : (test : Taken → Bool) (x z : Taken) (ys : List Taken) (n : ℕ)
-    → count_by test (x ∷ []) ≡ 0 → count_by test ys ≡ n → count_by test (z ∷ []) ≡ 0
-    → count_by test (x ∷ (ys ++ z ∷ [])) ≡ n
-counts_whole test x z ys n first second third =
-    counted test (x ∷ []) (ys ++ z ∷ []) 0 (n + 0) first
-    (counted test ys (z ∷ []) n 0 second third)
-    ∙ ends n
+-- The first and the last event of a cycle, with what stands between.
+reported_by : (a d : Work) (x z : Taken) (ys : List Taken) (r : CycleReport)
+    → Comes a (work_after a x) nothing (x ∷ []) → Comes (work_after a x) d r ys
+    → Comes d (work_after d z) nothing (z ∷ [])
+    → Comes a (work_after d z) r (x ∷ (ys ++ z ∷ []))
+reported_by a d x z ys r first between last =
+    subst (λ (q : CycleReport). Comes a (work_after d z) q (x ∷ (ys ++ z ∷ [])))
+    (none_plus (plus r nothing) ∙ plus_none r)
+    (comes_join a (work_after a x) (work_after d z) nothing (plus r nothing) (x ∷ [])
+    (ys ++ z ∷ []) first
+    (comes_join (work_after a x) d (work_after d z) r nothing ys (z ∷ []) between last))
 
 module _ {P : Type 0} where
   pub answered_all : (c : Bound P) (n : ℕ) → (part_of c).answered ≡ replicate n true
@@ -40,59 +58,70 @@ module _ {P : Type 0} where
   answered_all c n is =
       ap (λ (xs : List Bool). list_all (λ (answered : Bool). answered) xs) is ∙ all_now n
 
-  pub mutators_from : (p s f : ℕ) (a b : Bound P) → Does p s f a b
+  pub mutators_from : (F : List Taken → Type 0) (a b : Bound P) → Stretch F a b
       → mutators_of b ≡ mutators_of a
-  mutators_from p s f a b does = ap (λ (h : Shape). h.mutators) does.kept.shape
+  mutators_from F a b stretch = ap (λ (h : Shape). h.mutators) stretch.kept.shape
 
-  does_as : (p q s t f g : ℕ) (a b : Bound P) → p ≡ q → s ≡ t → f ≡ g → Does p s f a b
-      → Does q t g a b
-  does_as p q s t f g a b passes scanned freed does =
-      subst (λ (n : ℕ). Does n t g a b) passes
-      (subst (λ (n : ℕ). Does p n g a b) scanned
-      (subst (λ (n : ℕ). Does p s n a b) freed does))
+  pub made_of : (over : Bool) (n : ℕ) (r : CycleReport) (a b c d : Bound P)
+      → Hears over 0 n a b → Does nothing b c → Does r c d
+      → Stretch (MadeBy (work_of a) (work_of d) r over n) a d
+  made_of over n r a b c d first second third =
+      stretch_then (MadeBy (work_of a) (work_of c) nothing over n)
+      (Counts (work_of c) (work_of d) r) (MadeBy (work_of a) (work_of d) r over n) a c d
+      (made_join (work_of a) (work_of c) (work_of d) over n r)
+      (stretch_then (MadeBy (work_of a) (work_of b) nothing over n)
+      (Counts (work_of b) (work_of c) nothing) (MadeBy (work_of a) (work_of c) nothing over n) a b c
+      (made_join (work_of a) (work_of b) (work_of c) over n nothing) first second)
+      third
 
-  -- behind events that count for nothing
-  pub does_after : (p s f : ℕ) (a b c : Bound P) → Does 0 0 0 a b → Does p s f b c → Does p s f a c
-  does_after p s f a b c first second =
-      does_as (0 + p) p (0 + s) s (0 + f) f a c (none p) (none s) (none f)
-      (does_then 0 p 0 s 0 f a b c first second)
-
-  -- tracing, and then sweeping
-  pub does_both : (p s f : ℕ) (a b c : Bound P) → Does p s 0 a b → Does 0 0 f b c → Does p s f a c
-  does_both p s f a b c first second =
-      does_as (p + 0) p (s + 0) s (0 + f) f a c (last p) (last s) (none f)
-      (does_then p 0 s 0 0 f a b c first second)
-
-  pub report_of : (r : CycleReport) (a b c d : Bound P)
-      → b ≡ takes a (event.Post stage.Sync1) finds.Stored
-      → Does r.passes r.scanned r.freed b c
+  pub heard_of : (over : Bool) (n : ℕ) (r : CycleReport) (a b c d : Bound P)
+      → b ≡ takes (record a { stack = emptied a.stack }) (event.Post stage.Sync1) finds.Stored
+      → Stretch (MadeBy (work_of b) (work_of c) r over n) b c
       → d ≡ takes c (event.Post stage.Idle) finds.Stored
-      → Stretch (Reported (cells_of a) r) a d
-  report_of r a b c d begins does closes =
+      → Stretch (Heard (fresh_work_of a) n r over) a d
+  heard_of over n r a b c d begins made closes =
       let x = took (event.Post stage.Sync1) finds.Stored in
       let z = took (event.Post stage.Idle) finds.Stored in
-      let heads = does_one 0 0 0 a b (event.Post stage.Sync1) finds.Stored begins
-      (record { on = refl; passes_are = refl; scanned_are = refl; freed_are = refl }) in
-      let fact = subst (λ (n : ℕ). Counts n r.passes r.scanned r.freed does.added)
-      (ap (λ (h : Shape). h.cells) heads.kept.shape) does.fact in
+      let ys = made.added in
+      let from = fresh_work_of a in
+      let to : work_of b ≡ work_after from x = ap (λ (y : Bound P). work_of y) begins in
+      let between = subst (λ (w : Work). Comes w (work_of c) r ys) to made.fact.0.comes in
+      let comes = reported_by from (work_of c) x z ys r
+      (still_comes from (event.Post stage.Sync1) finds.Stored refl) between
+      (still_comes (work_of c) (event.Post stage.Idle) finds.Stored refl) in
       record {
-        added = x ∷ (does.added ++ z ∷ []);
-        told = took_append a b d (x ∷ []) (does.added ++ z ∷ [])
-            (collector_state a.seat.me, begins)
-            (took_append b c d does.added (z ∷ []) does.told (collector_state c.seat.me, closes));
-        kept = kept_then a b d heads.kept (kept_then b c d does.kept (record {
-          heap = ap (λ (y : Bound P). y.heap) closes;
-          table = ap (λ (y : Bound P). y.seat.table) closes;
-          shape = ap (λ (y : Bound P). y.seat.me.shape) closes;
-        }));
+        added = x ∷ (ys ++ z ∷ []);
+        told = took_append a.seat b.seat d.seat (x ∷ []) (ys ++ z ∷ [])
+            (collector_state a.seat.me, ap (λ (y : Bound P). y.seat) begins)
+            (took_append b.seat c.seat d.seat ys (z ∷ []) made.told
+            (collector_state c.seat.me, ap (λ (y : Bound P). y.seat) closes));
+        kept = kept_then a b d
+            (record {
+              heap = ap (λ (y : Bound P). y.heap) begins;
+              table = ap (λ (y : Bound P). y.seat.table) begins;
+              shape = ap (λ (y : Bound P). y.seat.me.shape) begins;
+              room = ap (λ (y : Bound P). y.stack.room) begins;
+            })
+            (kept_then b c d made.kept (record {
+              heap = ap (λ (y : Bound P). y.heap) closes;
+              table = ap (λ (y : Bound P). y.seat.table) closes;
+              shape = ap (λ (y : Bound P). y.seat.me.shape) closes;
+              room = ap (λ (y : Bound P). y.stack.room) closes;
+            }));
         fact = record {
-          cycle = record { between = does.added; whole = refl; one = fact.on };
-          passes_are = counts_whole
-              (λ (t : Taken). ends_pass (cells_of a) t.event t.found) x z does.added r.passes
-              refl fact.passes_are refl;
-          scanned_are = counts_whole (λ (t : Taken). is_blacken t.event) x z does.added r.scanned
-              refl fact.scanned_are refl;
-          freed_are = counts_whole (λ (t : Taken). is_free t.event) x z does.added r.freed
-              refl fact.freed_are refl;
+          reported = record {
+            cycle = record { between = ys; whole = refl; one = made.fact.0.on };
+            passes_are = comes.passes_are;
+            scanned_are = comes.scanned_are;
+            freed_are = comes.freed_are;
+            stacked_are = comes.stacked_are;
+            spilled_are = comes.spilled_are;
+            shaded = all_shaded from (x ∷ (ys ++ z ∷ []))
+                ∙ ap (λ (k : ℕ). k + count_along spills from (x ∷ (ys ++ z ∷ [])))
+                comes.stacked_are
+                ∙ ap (λ (k : ℕ). r.stacked + k) comes.spilled_are;
+          };
+          over_so = λ so. over_late 0 n (x ∷ []) (ys ++ z ∷ [])
+              (over_on 0 n ys (z ∷ []) (made.fact.1 so));
         };
       }

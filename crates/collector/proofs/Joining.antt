@@ -1,143 +1,145 @@
 -- Stretches follow one another: their events go together, and their counts add up.
-use Rattle.std.proofs.Common.{◌≡◌, ◌+◌, ◌==◌, ◌&&◌, ℕ, Bool, not, cond, List, [], ◌∷◌, ◌++◌}
-use Rattle.std.proofs.Common.{refl, ◌∙◌, ap, subst, arith}
-use Rattle.std.proofs.lemmas.List.Folds.{list_all-append}
-use Rattle.std.proofs.lemmas.List.Sums.{sum_by-append}
-use Rattle.std.specs.List.{count_by, list_all}
-use Rattle.atomic_table.specs.Seated.{TableId}
-use Rattle.cell_heap.specs.Telling.{AtCollectorEvent}
-use Rattle.core_machine.specs.Next.{after}
+use Rattle.std.proofs.Common.{◌≡◌, true, List, [], ◌∷◌, ◌++◌, refl, sym, ◌∙◌, ap, subst}
 use Rattle.core_machine.specs.State.{State}
 use Rattle.core_machine.specs.declared.events.Event.{Event}
 use Rattle.core_machine.specs.declared.events.Found.{Found}
 use Rattle.core_machine.specs.declared.events.Taken.{Taken}
 use Rattle.heap_rule.specs.Asks.{collector_state}
 use Rattle.heap_rule.specs.Rule.{took}
-use Rattle.heap_rule.specs.Shape.{Shape}
-use Rattle.heap_rule.specs.declared.view.View.{View}
-use Rattle.heap_table.specs.Seats.{HeapId}
-use Rattle.collector.specs.Bound.{Bound, cells_of, takes, takes_at}
-use Rattle.collector.specs.Counting.{Counts, Does, ends_pass, is_blacken, is_end, is_free}
-use Rattle.collector.specs.Stretches.{Kept, Took}
-
-count_append : (test : Taken → Bool) (xs ys : List Taken)
-    → count_by test (xs ++ ys) ≡ count_by test xs + count_by test ys
-count_append test xs ys = sum_by-append (λ t. cond (test t) 1 0) xs ys
-
-pub counted : (test : Taken → Bool) (xs ys : List Taken) (m n : ℕ) → count_by test xs ≡ m
-    → count_by test ys ≡ n → count_by test (xs ++ ys) ≡ m + n
-counted test xs ys m n first second =
-    count_append test xs ys ∙ ap (λ k. k + count_by test ys) first ∙ ap (λ k. m + k) second
-
-pub counts_join : (cells p q s t f g : ℕ) (xs ys : List Taken) → Counts cells p s f xs
-    → Counts cells q t g ys → Counts cells (p + q) (s + t) (f + g) (xs ++ ys)
-counts_join cells p q s t f g xs ys first second = record {
-  on = list_all-append (λ (t : Taken). not (is_end t.event)) xs ys
-      ∙ ap (λ b. b && list_all (λ (t : Taken). not (is_end t.event)) ys) first.on
-      ∙ second.on;
-  passes_are = counted (λ (t : Taken). ends_pass cells t.event t.found) xs ys p q
-      first.passes_are second.passes_are;
-  scanned_are = counted (λ (t : Taken). is_blacken t.event) xs ys s t
-      first.scanned_are second.scanned_are;
-  freed_are = counted (λ (t : Taken). is_free t.event) xs ys f g
-      first.freed_are second.freed_are;
-}
-
-pub counts_none : (cells : ℕ) → Counts cells 0 0 0 []
-counts_none cells = record { on = refl; passes_are = refl; scanned_are = refl; freed_are = refl }
+use Rattle.heap_table.specs.Seats.{SeatView}
+use Rattle.collector.specs.Bound.{Bound, part_of, takes, tells_at}
+use Rattle.collector.specs.Counting.{Counts, Does, goes_on, nothing, plus}
+use Rattle.collector.specs.Replay.{Work, stack_after, work_after, work_of}
+use Rattle.collector.specs.Stack.{Stack}
+use Rattle.collector.specs.Stretches.{Kept, Stretch, Took}
+use Rattle.collector.specs.declared.report.CycleReport.{CycleReport}
+use Rattle.collector.proofs.Counted.{counts_join, counts_none, is_still, none_plus, plus_none}
+use Rattle.collector.proofs.Counted.{room_after, still_counts, still_stack}
 
 module _ {P : Type 0} where
-  pub took_append : (a b c : Bound P) (xs ys : List Taken) → Took a xs b → Took b ys c
+  pub took_append : (a b c : SeatView P) (xs ys : List Taken) → Took a xs b → Took b ys c
       → Took a (xs ++ ys) c
-  took_append a b c [] ys first second = subst (λ (x : Bound P). Took x ys c) first second
+  took_append a b c [] ys first second = subst (λ (x : SeatView P). Took x ys c) first second
   took_append a b c (x ∷ xs) ys first second =
-      (first.0, took_append (takes_at a x.event x.found first.0) b c xs ys first.1 second)
-
-  pub kept_same : (a : Bound P) → Kept a a
-  kept_same a = record { heap = refl; table = refl; shape = refl }
+      (first.0, took_append (tells_at a x.event x.found first.0) b c xs ys first.1 second)
 
   pub kept_then : (a b c : Bound P) → Kept a b → Kept b c → Kept a c
   kept_then a b c first second = record {
     heap = second.heap ∙ first.heap;
     table = second.table ∙ first.table;
     shape = second.shape ∙ first.shape;
+    room = second.room ∙ first.room;
   }
 
-  -- One event.
+  pub stretch_then : (F G H : List Taken → Type 0) (a b c : Bound P)
+      → ((xs ys : List Taken) → F xs → G ys → H (xs ++ ys))
+      → Stretch F a b → Stretch G b c → Stretch H a c
+  stretch_then F G H a b c join first second = record {
+    added = first.added ++ second.added;
+    told = took_append a.seat b.seat c.seat first.added second.added first.told second.told;
+    kept = kept_then a b c first.kept second.kept;
+    fact = join first.added second.added first.fact second.fact;
+  }
 
-  pub does_at : (p s f : ℕ) (a b : Bound P) (e : Event) (found : Found) (now : State)
-      → b ≡ takes_at a e found now → Counts (cells_of a) p s f (took e found ∷ [])
-      → Does p s f a b
-  does_at p s f a b e found now is counts = record {
+  pub stretch_as : (F G : List Taken → Type 0) (a b : Bound P)
+      → ((xs : List Taken) → F xs → G xs) → Stretch F a b → Stretch G a b
+  stretch_as F G a b turn first = record {
+    added = first.added;
+    told = first.told;
+    kept = first.kept;
+    fact = turn first.added first.fact;
+  }
+
+  -- One event, that changes the stack as the trail says.
+
+  pub work_is : (a b : Bound P) (e : Event) (found : Found) (now : State)
+      → b.seat ≡ tells_at a.seat e found now → b.stack ≡ stack_after a.stack (part_of a) e
+      → work_of b ≡ work_after (work_of a) (took e found)
+  work_is a b e found now seat stack =
+      ap (λ (s : SeatView P). work_of (record b { seat = s })) seat
+      ∙ ap (λ (s : Stack). record (work_after (work_of a) (took e found)) { stack = s }) stack
+
+  pub stretch_one : (F : List Taken → Type 0) (a b : Bound P) (e : Event) (found : Found)
+      (now : State) → b.heap ≡ a.heap → b.seat ≡ tells_at a.seat e found now
+      → b.stack ≡ stack_after a.stack (part_of a) e → F (took e found ∷ []) → Stretch F a b
+  stretch_one F a b e found now heap seat stack fact = record {
     added = took e found ∷ [];
-    told = (now, is);
+    told = (now, seat);
     kept = record {
-      heap = ap (λ (x : Bound P). x.heap) is;
-      table = ap (λ (x : Bound P). x.seat.table) is;
-      shape = ap (λ (x : Bound P). x.seat.me.shape) is;
+      heap = heap;
+      table = ap (λ (x : SeatView P). x.table) seat;
+      shape = ap (λ (x : SeatView P). x.me.shape) seat;
+      room = ap (λ (s : Stack). s.room) stack ∙ room_after a.stack (part_of a) e;
     };
-    fact = counts;
+    fact = fact;
   }
 
-  pub does_one : (p s f : ℕ) (a b : Bound P) (e : Event) (found : Found)
-      → b ≡ takes a e found → Counts (cells_of a) p s f (took e found ∷ []) → Does p s f a b
-  does_one p s f a b e found is counts =
-      does_at p s f a b e found (collector_state a.seat.me) is counts
+  pub counts_to : (r : CycleReport) (a b : Bound P) (e : Event) (found : Found) (now : State)
+      → b.seat ≡ tells_at a.seat e found now → b.stack ≡ stack_after a.stack (part_of a) e
+      → Counts (work_of a) (work_after (work_of a) (took e found)) r (took e found ∷ [])
+      → Counts (work_of a) (work_of b) r (took e found ∷ [])
+  counts_to r a b e found now seat stack counts =
+      subst (λ (w : Work). Counts (work_of a) w r (took e found ∷ []))
+      (sym (work_is a b e found now seat stack)) counts
 
-  -- an event that counts for nothing
-  pub does_plain : (a b : Bound P) (e : Event) (found : Found) → b ≡ takes a e found
-      → Counts (cells_of a) 0 0 0 (took e found ∷ []) → Does 0 0 0 a b
-  does_plain a b e found is counts = does_one 0 0 0 a b e found is counts
+  pub does_event : (r : CycleReport) (a b : Bound P) (e : Event) (found : Found) (now : State)
+      → b.heap ≡ a.heap → b.seat ≡ tells_at a.seat e found now
+      → b.stack ≡ stack_after a.stack (part_of a) e
+      → Counts (work_of a) (work_after (work_of a) (took e found)) r (took e found ∷ [])
+      → Does r a b
+  does_event r a b e found now heap seat stack counts =
+      stretch_one (Counts (work_of a) (work_of b) r) a b e found now heap seat stack
+      (counts_to r a b e found now seat stack counts)
+
+  -- one that leaves the stack
+  pub does_one : (r : CycleReport) (a b : Bound P) (e : Event) (found : Found)
+      → b ≡ takes a e found → stack_after a.stack (part_of a) e ≡ a.stack
+      → Counts (work_of a) (work_after (work_of a) (took e found)) r (took e found ∷ [])
+      → Does r a b
+  does_one r a b e found is same counts =
+      does_event r a b e found (collector_state a.seat.me)
+      (ap (λ (x : Bound P). x.heap) is)
+      (ap (λ (x : Bound P). x.seat) is)
+      (ap (λ (x : Bound P). x.stack) is ∙ sym same)
+      counts
+
+  -- one that counts for nothing
+  pub does_still : (a b : Bound P) (e : Event) (found : Found) → goes_on e ≡ true
+      → is_still e ≡ true → b ≡ takes a e found → Does nothing a b
+  does_still a b e found on still is =
+      does_one nothing a b e found is (still_stack a.stack (part_of a) e still)
+      (still_counts (work_of a) e found on still)
 
   -- Stretches.
 
-  pub does_none : (a : Bound P) → Does 0 0 0 a a
+  pub does_none : (a : Bound P) → Does nothing a a
   does_none a = record {
     added = [];
     told = refl;
-    kept = kept_same a;
-    fact = counts_none (cells_of a);
+    kept = record { heap = refl; table = refl; shape = refl; room = refl };
+    fact = counts_none (work_of a);
   }
 
-  pub does_then : (p q s t f g : ℕ) (a b c : Bound P) → Does p s f a b → Does q t g b c
-      → Does (p + q) (s + t) (f + g) a c
-  does_then p q s t f g a b c first second =
-      let fact = subst (λ (x : ℕ). Counts x q t g second.added)
-      (ap (λ (h : Shape). h.cells) first.kept.shape) second.fact in
-      record {
-        added = first.added ++ second.added;
-        told = took_append a b c first.added second.added first.told second.told;
-        kept = kept_then a b c first.kept second.kept;
-        fact = counts_join (cells_of a) p q s t f g first.added second.added first.fact fact;
-      }
+  pub does_then : (r q : CycleReport) (a b c : Bound P) → Does r a b → Does q b c
+      → Does (plus r q) a c
+  does_then r q a b c first second =
+      stretch_then (Counts (work_of a) (work_of b) r) (Counts (work_of b) (work_of c) q)
+      (Counts (work_of a) (work_of c) (plus r q)) a b c
+      (λ xs ys. counts_join (work_of a) (work_of b) (work_of c) r q xs ys) first second
 
-  -- An event with the state behind it.
-  pub does_met : (fixed : ℕ → Bool) (a b : Bound P) (e : Event) (found : Found)
-      → b.heap ≡ a.heap → b.seat.table ≡ a.seat.table
-      → AtCollectorEvent fixed a.seat.me e found b.seat.me
-      → Counts (cells_of a) 0 0 0 (took e found ∷ []) → Does 0 0 0 a b
-  does_met fixed a b e found heap table told counts =
-      does_at 0 0 0 a b e found (after told.core e)
-      (ap (λ (h : HeapId). record b { heap = h }) heap
-      ∙ ap (λ (t : TableId). record a { seat = record b.seat { table = t } }) table
-      ∙ ap (λ (me : View P). record a { seat = record a.seat { me = me } }) told.new)
-      counts
+  pub does_as : (r q : CycleReport) (a b : Bound P) → q ≡ r → Does r a b → Does q a b
+  does_as r q a b is first = subst (λ (x : CycleReport). Does x a b) (sym is) first
 
-  -- events that count for nothing, behind others
-  pub does_and : (p s f : ℕ) (a b c : Bound P) → Does p s f a b → Does 0 0 0 b c → Does p s f a c
-  does_and p s f a b c first second =
-      let both = does_then p 0 s 0 f 0 a b c first second in
-      subst (λ (n : ℕ). Does n s f a c) (none p)
-      (subst (λ (n : ℕ). Does (p + 0) n f a c) (none s)
-      (subst (λ (n : ℕ). Does (p + 0) (s + 0) n a c) (none f) both))
-    where
-      none : (n : ℕ) → n + 0 ≡ n
-      none n = omega arith
+  -- where it is given what both come to
+  pub does_both : (r q t : CycleReport) (a b c : Bound P) → t ≡ plus r q → Does r a b → Does q b c
+      → Does t a c
+  does_both r q t a b c is first second =
+      does_as (plus r q) t a c is (does_then r q a b c first second)
 
--- a look that goes by a cell ends a pass where the cell is the last one
-pub last_counted : (passes x a b : ℕ) → passes ≡ cond {A = ℕ} (x == a) 1 0 → a ≡ b
-    → 0 + cond {A = ℕ} (x == b) 1 0 ≡ passes
-last_counted passes x a b one same =
-    let is : cond {A = ℕ} (x == a) 1 0 ≡ cond {A = ℕ} (x == b) 1 0 =
-    ap (λ (n : ℕ). cond {A = ℕ} (x == n) 1 0) same in
-    omega (arith, one, is)
+  -- events that count for nothing, before others and behind them
+  pub does_after : (r : CycleReport) (a b c : Bound P) → Does nothing a b → Does r b c → Does r a c
+  does_after r a b c first second =
+      does_both nothing r r a b c (sym (none_plus r)) first second
+
+  pub does_and : (r : CycleReport) (a b c : Bound P) → Does r a b → Does nothing b c → Does r a c
+  does_and r a b c first second = does_both r nothing r a b c (sym (plus_none r)) first second

@@ -1,4 +1,4 @@
--- A collector as contracts see it: the heap, and the seat on it.
+-- A collector as contracts see it: the heap, the seat on it, and the mark stack.
 -- Source: this project's.
 use Rattle.std.specs.Prelude.{ℕ, ◌≡◌, Bool, true, None}
 use Rattle.std.specs.List.{list_all}
@@ -15,15 +15,20 @@ use Rattle.cell_words.specs.declared.controls.Control.{Control}
 use Rattle.heap_rule.specs.Asks.{collector_state}
 use Rattle.heap_rule.specs.Rule.{told_collector}
 use Rattle.heap_table.specs.Seats.{HeapId, IsSeatOf, SeatView}
+use Rattle.collector.specs.Stack.{AllBelow, Stack}
 
 pub record Bound (P : Type 0) : Type 0 where
   pub heap : HeapId
   pub seat : SeatView P
+  pub stack : Stack
 
 module _ {P : Type 0} where
-  pub record IsBound (heap : HeapId) (seat : SeatView P) (mutators : ℕ) : Type 0 where
+  pub record IsBound (heap : HeapId) (seat : SeatView P) (mutators : ℕ) (stack : Stack)
+      : Type 0 where
     pub seat_is : IsSeatOf heap seat
     pub mutators_are : heap.shape.mutators ≡ mutators
+    -- what waits for a look is a cell of this heap
+    pub stacked : AllBelow seat.me.shape.cells stack.cells
 
   -- What it knows: how many cells and mutators there are, the control, and its own part.
 
@@ -43,13 +48,11 @@ module _ {P : Type 0} where
   abbrev pub may : Bound P → Event → Bool
   may c e = can (collector_state c.seat.me) e
 
-  -- The collector after an event of it; where all mutators are over, the state behind it matters.
-  abbrev pub takes_at : Bound P → Event → Found → State → Bound P
-  takes_at c e found now = record c {
-    seat = record c.seat { me = told_collector c.seat.me e found now };
-  }
+  -- The seat after an event of it; where all mutators are over, the state behind it matters.
+  abbrev pub tells_at : SeatView P → Event → Found → State → SeatView P
+  tells_at seat e found now = record seat { me = told_collector seat.me e found now }
 
-  -- and after one at which the state is of no account
+  -- The collector after one at which the state is of no account.
   abbrev pub takes : Bound P → Event → Found → Bound P
   takes c e found = record c { seat = collector_tells c.seat e found }
 
@@ -66,11 +69,10 @@ pub record KeepsAnswers (old new : Collector) : Type 0 where
 abbrev pub scan_at : ℕ → ℕ → Scanning
 scan_at cell field = record { cell = cell; next = field; child = None }
 
--- who has answered is as before, and no scan is left
+-- who has answered is as before, and the sweep
 pub record KeepsTracing (old new : Collector) : Type 0 where
   pub answered : new.answered ≡ old.answered
   pub sweep : new.sweep ≡ old.sweep
-  pub scan : new.scan ≡ None
 
 module _ {P : Type 0} where
   abbrev pub HaveAnswered : Bound P → Type 0

@@ -1,4 +1,9 @@
 pub mod Bound
 pub mod Counting
 pub mod Cycles
+pub mod Looking
+pub mod Over
+pub mod Replay
+pub mod Serving
+pub mod Stack
 pub mod Stretches

@@ -3,23 +3,25 @@
 use Rattle.std.specs.Prelude.{◌≡◌, List, [], ◌∷◌}
 use Rattle.core_machine.specs.State.{State}
 use Rattle.core_machine.specs.declared.events.Taken.{Taken}
-use Rattle.collector.specs.Bound.{Bound, takes_at}
+use Rattle.heap_table.specs.Seats.{SeatView}
+use Rattle.collector.specs.Bound.{Bound, tells_at}
 
 module _ {P : Type 0} where
-  -- the collector took these events one after the other, and is then the other one
-  abbrev pub Took : Bound P → List Taken → Bound P → Type 0
+  -- the seat was told these events one after the other, and is then the other one
+  abbrev pub Took : SeatView P → List Taken → SeatView P → Type 0
   Took old [] new = new ≡ old
-  Took old (t ∷ ts) new = (now : State) × Took (takes_at old t.event t.found now) ts new
+  Took old (t ∷ ts) new = (now : State) × Took (tells_at old t.event t.found now) ts new
 
-  -- it is at the same heap, by the same seat
+  -- It is at the same heap, by the same seat, with as much room for what waits for a look.
   pub record Kept (old new : Bound P) : Type 0 where
     pub heap : new.heap ≡ old.heap
     pub table : new.seat.table ≡ old.seat.table
     pub shape : new.seat.me.shape ≡ old.seat.me.shape
+    pub room : new.stack.room ≡ old.stack.room
 
   -- the collector took events of which this holds
   pub record Stretch (F : List Taken → Type 0) (old new : Bound P) : Type 0 where
     pub added : List Taken
-    pub told : Took old added new
+    pub told : Took old.seat added new.seat
     pub kept : Kept old new
     pub fact : F added

@@ -1,7 +1,7 @@
 //! Handshakes: every mutator answers for itself, or is answered for while it is out.
-ghost use Rattle.std.specs.Prelude.{◌≡◌, ◌<◌, replicate, slice_index_or, true, false};
+ghost use Rattle.std.specs.Prelude.{◌≡◌, ◌<◌, ◌+◌, ◌&&◌, replicate, slice_index_or, true, false};
 ghost use Rattle.collector.specs.Bound.{control_of, mutators_of, part_of};
-ghost use Rattle.collector.specs.Counting.{Does};
+ghost use Rattle.collector.specs.Over.{Hears};
 ghost use Rattle.core_machine.specs.Collector.{answered_by};
 ghost use Rattle.core_machine.specs.Words.{is_handshake, same_status};
 
@@ -26,56 +26,84 @@ fn same_status(one: Status, other: Status) -> bool
     }
 }
 
+/// What a try to hear from a mutator came to.
+#[derive(Clone, Copy)]
+pub(crate) struct Tried {
+    /// the mutator has answered
+    pub answered: bool,
+    /// it was found over
+    pub over: bool,
+}
+
+/// Whether both are so.
+fn both(one: bool, other: bool) -> bool
+    ensures both { result ≡ (one && other) }
+{
+    one && other
+}
+
 impl<'a, P: Keeping> Collector<'a, P> {
-    /// Looks whether a mutator has answered, and answers for it where it is found out. It gives
-    /// whether the mutator has answered behind it.
-    fn try_answer(&mut self, mutator: u32) -> bool
+    /// Looks whether a mutator has answered, and answers for it where it is found out.
+    fn try_answer(&mut self, mutator: u32) -> Tried
         requires asks { is_handshake (control_of self.old).stage ≡ true }
         requires mutator { mutator < mutators_of self.old }
         requires waits { slice_index_or (part_of self.old).answered mutator true ≡ false }
-        ensures does { Does 0 0 0 self.old self.new }
+        ensures hears { Hears result.over mutator (mutator + 1) self.old self.new }
         ensures control { control_of self.new ≡ control_of self.old }
-        ensures part { part_of self.new ≡ answered_by (part_of self.old) mutator result }
+        ensures part { part_of self.new ≡ answered_by (part_of self.old) mutator result.answered }
     {
         let presence = self.poll_once(mutator);
+        let over = presence.over;
         if same_status(presence.status, requested(self.control().stage)) {
-            return true;
+            return Tried {
+                answered: true,
+                over,
+            };
         }
         if presence.inside {
-            return false;
+            return Tried {
+                answered: false,
+                over,
+            };
         }
-        self.answer_out_once(mutator, presence.over)
+        let answered = self.answer_out_once(mutator, over);
+        Tried { answered, over }
     }
 
-    /// Waits until a mutator has answered, and yields the processor meanwhile.
-    fn await_answer<R: Wait>(&mut self, rt: &R, mutator: u32)
+    /// Waits until a mutator has answered, and yields the processor meanwhile. It gives whether the
+    /// mutator was found over then.
+    fn await_answer<R: Wait>(&mut self, rt: &R, mutator: u32) -> bool
         requires asks { is_handshake (control_of self.old).stage ≡ true }
         requires mutator { mutator < mutators_of self.old }
         requires waits { slice_index_or (part_of self.old).answered mutator true ≡ false }
-        ensures does { Does 0 0 0 self.old self.new }
+        ensures hears { Hears result mutator (mutator + 1) self.old self.new }
         ensures control { control_of self.new ≡ control_of self.old }
         ensures part { part_of self.new ≡ answered_by (part_of self.old) mutator true }
     {
         for _ in rt.forever() {
-            if self.try_answer(mutator) {
-                return;
+            let tried = self.try_answer(mutator);
+            if tried.answered {
+                return tried.over;
             }
             thread::yield_now();
         }
         unreachable!()
     }
 
-    /// Waits until all mutators have answered.
-    pub(crate) fn await_all<R: Wait>(&mut self, rt: &R)
+    /// Waits until all mutators have answered. It gives whether all were found over.
+    pub(crate) fn await_all<R: Wait>(&mut self, rt: &R) -> bool
         requires asks { is_handshake (control_of self.old).stage ≡ true }
         requires nobody { (part_of self.old).answered ≡ replicate (mutators_of self.old) false }
-        ensures does { Does 0 0 0 self.old self.new }
+        ensures hears { Hears result 0 (mutators_of self.old) self.old self.new }
         ensures control { control_of self.new ≡ control_of self.old }
         ensures part { part_of self.new
             ≡ record (part_of self.old) { answered = replicate (mutators_of self.old) true } }
     {
+        let mut all_over = true;
         for mutator in 0..self.mutators() {
-            self.await_answer(rt, mutator);
+            let over = self.await_answer(rt, mutator);
+            all_over = both(all_over, over);
         }
+        all_over
     }
 }

@@ -2,7 +2,7 @@
 ghost use Rattle.std.specs.Prelude.{◌≡◌};
 ghost use Rattle.cell_words.specs.declared.controls.Stage.TheVariants as stage;
 ghost use Rattle.collector.specs.Bound.{cells_of, control_of, part_of};
-ghost use Rattle.collector.specs.Counting.{Does};
+ghost use Rattle.collector.specs.Counting.{Does, nothing};
 
 use crate::collecting::Collector;
 use heap_rule::Keeping;
@@ -12,7 +12,7 @@ impl<'a, P: Keeping> Collector<'a, P> {
     pub(crate) fn clear_all(&mut self)
         requires stage { (control_of self.old).stage ≡ stage.Clear }
         requires first { (part_of self.old).cursor ≡ 0 }
-        ensures does { Does 0 0 0 self.old self.new }
+        ensures does { Does nothing self.old self.new }
         ensures control { control_of self.new ≡ control_of self.old }
         ensures part { part_of self.new ≡ record (part_of self.old) { cursor = cells_of self.old } }
     {

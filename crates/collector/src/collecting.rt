@@ -1,23 +1,27 @@
-//! The collector: its seat, with the heap that the seat is of.
-ghost use Rattle.std.specs.Prelude.{◌≡◌};
+//! The collector: its seat, with the heap that the seat is of and the mark stack.
+ghost use Rattle.std.specs.Prelude.{◌≡◌, ◌<◌, ◌≤◌, [], ◌∷◌, ℕ};
 ghost use Rattle.cell_words.specs.declared.controls.Stage.TheVariants as stage;
 ghost use Rattle.collector.specs.Bound.{cells_of, control_of, mutators_of, takes};
+ghost use Rattle.collector.specs.Stack.{emptied, has_room, looked_at, pushed};
 ghost use Rattle.core_machine.specs.declared.events.Event.TheVariants as event;
 ghost use Rattle.core_machine.specs.declared.events.Found.TheVariants as finds;
 ghost use Rattle.heap_table.specs.Seats.{IsSeatOf};
 
+use crate::mark_stack::MarkStack;
 use cell_heap::ColSeat;
 use cell_words::Control;
 use heap_rule::Keeping;
 use heap_table::CellHeap;
 use std::marker::Model;
 
-/// The one thread's right to collect, with the heap that it collects.
+/// The one thread's right to collect, with the heap that it collects and a stack of cells that wait
+/// for a look.
 #[derive(Drop)]
 pub struct Collector<'a, P: Keeping> {
     pub(crate) heap: &'a CellHeap<P>,
     pub(crate) seat: ColSeat<P>,
     pub(crate) mutators: u32,
+    pub(crate) stack: MarkStack,
 }
 
 impl<'a, P: Keeping> Model for Collector<'a, P> {
@@ -29,22 +33,30 @@ impl<'a, P: Keeping> Model for Collector<'a, P> {
 
     ghost coded = { Prim.hlevel (codes, term.the_row.coded) };
 
-    ghost view = { λ c. record { heap = c.heap.now; seat = c.seat } };
+    ghost view = { λ c. record { heap = c.heap.now; seat = c.seat; stack = c.stack } };
 
-    ghost invariant = { λ c. IsBound c.heap.now c.seat c.mutators };
+    ghost invariant = { λ c. IsBound c.heap.now c.seat c.mutators c.stack };
 }
 
 impl<'a, P: Keeping> Collector<'a, P> {
-    /// The collector of a heap, by its seat.
-    pub fn new(heap: &'a CellHeap<P>, seat: ColSeat<P>, mutators: u32) -> Collector<'a, P>
+    /// The collector of a heap, by its seat. Of the stack it takes the room alone.
+    pub fn new(
+        heap: &'a CellHeap<P>,
+        seat: ColSeat<P>,
+        mutators: u32,
+        stack: MarkStack,
+    ) -> Collector<'a, P>
         requires seat { IsSeatOf heap.now seat }
         requires mutators { mutators ≡ heap.now.shape.mutators }
-        ensures collector { result ≡ record { heap = heap.now; seat = seat } }
+        ensures collector { result ≡ record { heap = heap.now; seat = seat; stack = emptied stack } }
     {
+        let mut stack = stack;
+        stack.clear();
         Collector {
             heap,
             seat,
             mutators,
+            stack,
         }
     }
 
@@ -54,6 +66,32 @@ impl<'a, P: Keeping> Collector<'a, P> {
     {
         let Collector { seat, .. } = self;
         seat
+    }
+
+    /// Takes all cells from the stack.
+    pub(crate) fn empty_stack(&mut self)
+        ensures none { self.new ≡ record self.old { stack = emptied self.old.stack } }
+    {
+        self.stack.clear();
+    }
+
+    /// Puts a cell on the stack, if there is room.
+    pub(crate) fn push(&mut self, cell: u32) -> bool
+        requires cell { cell < cells_of self.old }
+        ensures room { result ≡ has_room self.old.stack }
+        ensures pushed { self.new ≡ record self.old { stack = pushed cell self.old.stack } }
+    {
+        self.stack.push(cell)
+    }
+
+    /// The cell to be looked at next, where the pass has come to the given one.
+    pub(crate) fn next_besides(&mut self, at: u32) -> u32
+        requires at { at < cells_of self.old }
+        ensures cell { result < cells_of self.old }
+        ensures left { self.new ≡ record self.old { stack = looked_at result self.old.stack } }
+        ensures last { result ≡ at → self.new.stack.cells ≡ [] }
+    {
+        self.stack.next_besides(at)
     }
 
     /// How many cells the heap has.

@@ -1,16 +1,21 @@
 //! Whole cycles of the collector, made of the calls of its seat.
 //!
-//! A `Collector` is the collector's seat with the heap that it is of. Each call is a list of the
-//! seat's events, one after the other, and its clauses say which: so a layer above knows what the
-//! collector's trail grew by, and nothing of colours or stages.
+//! A `Collector` is the collector's seat with the heap that it is of, and a stack of cells that wait
+//! for a look. Each call is a list of the seat's events, one after the other, and its clauses say
+//! which: so a layer above knows what the collector's trail grew by, and nothing of colours or
+//! stages. The stack shows in the trail too: what is pushed and what finds no room is a function of
+//! the events.
 //!
-//! Reading order: specs/Bound, Stretches, Counting, Cycles; then `collecting`, `steps`, `asking`,
-//! `clearing`, `tracing`, `sweeping`, `whole`.
+//! Reading order: specs/Stack, Bound, Stretches, Replay, Counting, Over, Cycles; then `mark_stack`,
+//! `report`, `collecting`, `steps`, `asking`, `clearing`, `tracing`, `sweeping`, `whole`, `serving`.
 #![tactic(auto)]
 
 mod asking;
 mod clearing;
 mod collecting;
+mod mark_stack;
+mod report;
+mod serving;
 mod steps;
 mod sweeping;
 mod tracing;
@@ -18,4 +23,6 @@ mod whole;
 
 pub use cell_heap::ColSeat;
 pub use collecting::Collector;
-pub use whole::CycleReport;
+pub use mark_stack::MarkStack;
+pub use report::CycleReport;
+pub use std::alloc::AllocError as NoMemory;

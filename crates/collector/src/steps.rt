@@ -44,6 +44,7 @@ impl<'a, P: Keeping> Collector<'a, P> {
     pub(crate) fn poll_once(&mut self, mutator: u32) -> Presence
         requires may { may self.old (event.Poll mutator) ≡ true }
         ensures heap { self.new.heap ≡ self.old.heap }
+        ensures stack { self.new.stack ≡ self.old.stack }
         ensures table { self.new.seat.table ≡ self.old.seat.table }
         ensures told { AtCollectorEvent P.fixed self.old.seat.me (event.Poll mutator) (finds.Presence result) self.new.seat.me }
     {
@@ -53,6 +54,7 @@ impl<'a, P: Keeping> Collector<'a, P> {
     pub(crate) fn answer_out_once(&mut self, mutator: u32, over: bool) -> bool
         requires may { may self.old (event.AnswerOut mutator over) ≡ true }
         ensures heap { self.new.heap ≡ self.old.heap }
+        ensures stack { self.new.stack ≡ self.old.stack }
         ensures table { self.new.seat.table ≡ self.old.seat.table }
         ensures told { AnswersOut P.fixed self.old.seat.me mutator over result self.new.seat.me }
     {

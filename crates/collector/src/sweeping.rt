@@ -2,7 +2,7 @@
 ghost use Rattle.std.specs.Prelude.{◌≡◌, ◌<◌, ◌≤◌, ◌+◌, ◌^◌};
 ghost use Rattle.cell_words.specs.declared.controls.Stage.TheVariants as stage;
 ghost use Rattle.collector.specs.Bound.{KeepsAnswers, cells_of, control_of, part_of};
-ghost use Rattle.collector.specs.Counting.{Does};
+ghost use Rattle.collector.specs.Counting.{Does, frees, nothing};
 ghost use Rattle.core_machine.specs.declared.progress.Sweeping.TheVariants as sweeping;
 ghost use Rattle.free_cells.specs.Hints.{cells_of as hinted_of, counts_of, queue_of};
 
@@ -27,7 +27,7 @@ impl<'a, P: Keeping> Collector<'a, P> {
     /// Stores null in all six fields of the white cell at the position.
     fn wipe_all(&mut self)
         requires found { (part_of self.old).sweep ≡ sweeping.Wiping 0 }
-        ensures does { Does 0 0 0 self.old self.new }
+        ensures does { Does nothing self.old self.new }
         ensures control { control_of self.new ≡ control_of self.old }
         ensures part { part_of self.new ≡ record (part_of self.old) { sweep = sweeping.Wiping 6 } }
     {
@@ -41,7 +41,7 @@ impl<'a, P: Keeping> Collector<'a, P> {
         requires found { (part_of self.old).sweep ≡ sweeping.Wiping 0 }
         requires hints { hinted_of (queue_of hints.old) ≡ cells_of self.old }
         requires there { (control_of self.old).position < cells_of self.old }
-        ensures does { Does 0 0 1 self.old self.new }
+        ensures does { Does (frees 1) self.old self.new }
         ensures control { control_of self.new ≡ control_of self.old }
         ensures done { (part_of self.new).sweep ≡ sweeping.Done }
         ensures kept { KeepsAnswers (part_of self.old) (part_of self.new) }
@@ -61,7 +61,7 @@ impl<'a, P: Keeping> Collector<'a, P> {
         requires fresh { (part_of self.old).sweep ≡ sweeping.Fresh }
         requires hints { hinted_of (queue_of hints.old) ≡ cells_of self.old }
         requires there { (control_of self.old).position < cells_of self.old }
-        ensures does { Does 0 0 result self.old self.new }
+        ensures does { Does (frees result) self.old self.new }
         ensures few { result ≤ 1 }
         ensures control { control_of self.new ≡ control_of self.old }
         ensures done { (part_of self.new).sweep ≡ sweeping.Done }
@@ -89,7 +89,7 @@ impl<'a, P: Keeping> Collector<'a, P> {
         requires fresh { (part_of self.old).sweep ≡ sweeping.Fresh }
         requires hints { hinted_of (queue_of hints.old) ≡ cells_of self.old }
         requires there { (control_of self.old).position < cells_of self.old }
-        ensures does { Does 0 0 result self.old self.new }
+        ensures does { Does (frees result) self.old self.new }
         ensures few { result ≤ 1 }
         ensures control { control_of self.new
             ≡ record (control_of self.old) { position = (control_of self.old).position + 1 } }
@@ -109,7 +109,8 @@ impl<'a, P: Keeping> Collector<'a, P> {
         requires first { (control_of self.old).position ≡ 0 }
         requires fresh { (part_of self.old).sweep ≡ sweeping.Fresh }
         requires hints { hinted_of (queue_of hints.old) ≡ cells_of self.old }
-        ensures does { Does 0 0 result self.old self.new }
+        ensures does { Does (frees result) self.old self.new }
+        ensures few { result < 2 ^ 32 }
         ensures control { control_of self.new
             ≡ record (control_of self.old) { position = cells_of self.old } }
         ensures fresh { (part_of self.new).sweep ≡ sweeping.Fresh }

@@ -1,10 +1,17 @@
 //! Tracing: passes over all cells, until one meets no gray cell.
-ghost use Rattle.std.specs.Prelude.{◌≡◌, ◌<◌, ◌≤◌, ◌+◌, ◌==◌, ◌&&◌, Some, None, cond, true};
+//!
+//! A child that was shaded is pushed on the mark stack and looked at next. So a pass goes on only
+//! where the stack is empty; and it still goes over all cells, since a child that found the stack
+//! full, or was shaded by a mutator, stands in no stack.
+ghost use Rattle.std.specs.Prelude.{◌≡◌, ◌<◌, ◌≤◌, ◌+◌, ◌*◌, ◌^◌, ◌==◌, ◌&&◌, Some, None, true, false};
 ghost use Rattle.cell_words.specs.declared.controls.Stage.TheVariants as stage;
 ghost use Rattle.collector.specs.Bound.{HaveAnswered, KeepsTracing, cells_of, control_of, part_of, scan_at};
-ghost use Rattle.collector.specs.Counting.{Does};
+ghost use Rattle.collector.specs.Counting.{Does, TracesAtMost, is_traced};
+ghost use Rattle.collector.specs.Looking.{counted, scan_of};
+ghost use Rattle.core_machine.specs.Collector.{restarted};
 
 use crate::collecting::Collector;
+use crate::report::CycleReport;
 use cell_words::{Colour, Field};
 use heap_rule::Keeping;
 use std::sync::Wait;
@@ -14,128 +21,161 @@ use std::thread;
 /// would wait for ever.
 const TURNS: u64 = 1 << 58;
 
-/// What one look came to, or all of them: how many passes ended, and how many gray cells were
-/// scanned.
-#[derive(Clone, Copy, Debug, PartialEq, Eq)]
-pub(crate) struct Traced {
-    pub passes: u64,
-    pub scanned: u64,
+/// What a look at a cell found.
+#[derive(Clone, Copy)]
+pub(crate) enum Looked {
+    /// the cell is gray, and under scan from then on
+    Gray(u32),
+    /// it is not, and the pass ended with it or did not
+    Other(bool),
 }
 
-/// One where the cell is the last one.
-fn ended_at(cell: u32, cells: u32) -> u64
+/// Whether the pass has come to the cell, and this is the last one.
+fn is_last(at: u32, cell: u32, cells: u32) -> bool
     requires cell { cell < cells }
-    ensures one { result ≡ cond (cell + 1 == cells) 1 0 }
-    ensures few { result ≤ 1 }
+    ensures last { result ≡ ((cell == at) && (cell + 1 == cells)) }
 {
-    if cell + 1 == cells { 1 } else { 0 }
+    cell == at && cell + 1 == cells
 }
 
 impl<'a, P: Keeping> Collector<'a, P> {
-    /// Loads the next field of the cell under scan, and shades the cell that it names.
-    fn scan_field(&mut self, cell: u32, field: usize)
+    /// Loads the next field of the cell under scan. The cell that it names is shaded, and pushed.
+    fn scan_field(&mut self, cell: u32, field: usize) -> CycleReport
         requires scan { (part_of self.old).scan ≡ Some (scan_at cell field) }
         requires field { field < 5 }
-        ensures does { Does 0 0 0 self.old self.new }
+        ensures does { Does result self.old self.new }
+        ensures few { TracesAtMost 1 result }
         ensures control { control_of self.new ≡ control_of self.old }
         ensures part { part_of self.new
             ≡ record (part_of self.old) { scan = Some (scan_at cell (field + 1)) } }
     {
         match self.scan_once() {
-            Field::Null => {}
-            Field::Num(_) => {}
-            Field::Cell(_) => self.shade_once(),
-        }
-    }
-
-    /// Scans a cell that was found gray, and makes it black.
-    fn scan_cell(&mut self, cell: u32)
-        requires scan { (part_of self.old).scan ≡ Some (scan_at cell 0) }
-        ensures does { Does 0 1 0 self.old self.new }
-        ensures control { control_of self.new ≡ control_of self.old }
-        ensures part { part_of self.new ≡ record (part_of self.old) { scan = None } }
-    {
-        self.scan_fields(cell);
-        self.blacken_once();
-    }
-
-    /// Scans all fields of a cell.
-    fn scan_fields(&mut self, cell: u32)
-        requires scan { (part_of self.old).scan ≡ Some (scan_at cell 0) }
-        ensures does { Does 0 0 0 self.old self.new }
-        ensures control { control_of self.new ≡ control_of self.old }
-        ensures part { part_of self.new ≡ record (part_of self.old) { scan = Some (scan_at cell 5) } }
-    {
-        for field in 0..5usize {
-            self.scan_field(cell, field);
-        }
-    }
-
-    /// Looks at a cell, and scans it where it is gray.
-    fn trace_cell(&mut self, cell: u32) -> Traced
-        requires stage { (control_of self.old).stage ≡ stage.Trace }
-        requires answered { HaveAnswered self.old }
-        requires cell { cell < cells_of self.old }
-        requires scan { (part_of self.old).scan ≡ None }
-        ensures does { Does result.passes result.scanned 0 self.old self.new }
-        ensures passes { result.passes ≤ 1 }
-        ensures scanned { result.scanned ≤ 1 }
-        ensures control { control_of self.new ≡ control_of self.old }
-        ensures kept { KeepsTracing (part_of self.old) (part_of self.new) }
-    {
-        let passes = ended_at(cell, self.cells());
-        match self.see_once(cell) {
-            Colour::Blue => Traced { passes, scanned: 0 },
-            Colour::White => Traced { passes, scanned: 0 },
-            Colour::Black => Traced { passes, scanned: 0 },
-            Colour::Gray => {
-                self.scan_cell(cell);
-                Traced {
-                    passes: 0,
-                    scanned: 1,
-                }
+            Field::Null => CycleReport::nothing(),
+            Field::Num(_) => CycleReport::nothing(),
+            Field::Cell(child) => {
+                self.shade_once();
+                let pushed = self.push(child);
+                CycleReport::shaded(pushed)
             }
         }
     }
 
-    /// Whether a pass has come to the end and met no gray cell.
-    fn is_traced(&self) -> bool
-        ensures traced { result ≡ (((part_of self.now).cursor == cells_of self.now) && (part_of self.now).clean) }
+    /// Scans all fields of a cell.
+    fn scan_fields(&mut self, cell: u32) -> CycleReport
+        requires scan { (part_of self.old).scan ≡ Some (scan_at cell 0) }
+        ensures does { Does result self.old self.new }
+        ensures few { TracesAtMost 5 result }
+        ensures control { control_of self.new ≡ control_of self.old }
+        ensures part { part_of self.new ≡ record (part_of self.old) { scan = Some (scan_at cell 5) } }
     {
-        self.cursor() == self.cells() && self.is_clean()
+        let mut report = CycleReport::nothing();
+        for field in 0..5usize {
+            let more = self.scan_field(cell, field);
+            report = report.with(more);
+        }
+        report
     }
 
-    /// The cell that the next look is at: where the pass is, or the first one again.
-    fn next_cell(&self) -> u32
+    /// Scans a cell that was found gray, and makes it black.
+    fn scan_cell(&mut self, cell: u32) -> CycleReport
+        requires scan { (part_of self.old).scan ≡ Some (scan_at cell 0) }
+        ensures does { Does result self.old self.new }
+        ensures few { TracesAtMost 6 result }
+        ensures control { control_of self.new ≡ control_of self.old }
+        ensures part { part_of self.new ≡ record (part_of self.old) { scan = None } }
+    {
+        let report = self.scan_fields(cell);
+        self.blacken_once();
+        report.scanned()
+    }
+
+    /// The cell that the pass has come to, where another one is owed: the first one again behind a
+    /// pass that met gray.
+    fn at(&self) -> u32
         requires some { 0 < cells_of self.now }
+        requires within { (part_of self.now).cursor ≤ cells_of self.now }
+        requires more { is_traced self.now ≡ false }
+        ensures at { result ≡ (restarted (part_of self.now) (cells_of self.now)).cursor }
         ensures cell { result < cells_of self.now }
     {
         let cursor = self.cursor();
         if cursor < self.cells() { cursor } else { 0 }
     }
 
+    /// Looks at the next cell: the one on top of the stack, or the one that the pass has come to.
+    fn look_next(&mut self) -> Looked
+        requires stage { (control_of self.old).stage ≡ stage.Trace }
+        requires answered { HaveAnswered self.old }
+        requires some { 0 < cells_of self.old }
+        requires within { (part_of self.old).cursor ≤ cells_of self.old }
+        requires more { is_traced self.old ≡ false }
+        requires scan { (part_of self.old).scan ≡ None }
+        ensures does { Does (counted result) self.old self.new }
+        ensures control { control_of self.new ≡ control_of self.old }
+        ensures kept { KeepsTracing (part_of self.old) (part_of self.new) }
+        ensures scan { (part_of self.new).scan ≡ scan_of result }
+        ensures within { (part_of self.new).cursor ≤ cells_of self.new }
+    {
+        let at = self.at();
+        let cell = self.next_besides(at);
+        let ends = is_last(at, cell, self.cells());
+        match self.see_once(cell) {
+            Colour::Blue => Looked::Other(ends),
+            Colour::White => Looked::Other(ends),
+            Colour::Black => Looked::Other(ends),
+            Colour::Gray => Looked::Gray(cell),
+        }
+    }
+
+    /// Looks at the next cell, and scans it where it is gray.
+    fn trace_next(&mut self) -> CycleReport
+        requires stage { (control_of self.old).stage ≡ stage.Trace }
+        requires answered { HaveAnswered self.old }
+        requires some { 0 < cells_of self.old }
+        requires within { (part_of self.old).cursor ≤ cells_of self.old }
+        requires more { is_traced self.old ≡ false }
+        requires scan { (part_of self.old).scan ≡ None }
+        ensures does { Does result self.old self.new }
+        ensures few { TracesAtMost 6 result }
+        ensures control { control_of self.new ≡ control_of self.old }
+        ensures kept { KeepsTracing (part_of self.old) (part_of self.new) }
+        ensures scan { (part_of self.new).scan ≡ None }
+        ensures within { (part_of self.new).cursor ≤ cells_of self.new }
+    {
+        match self.look_next() {
+            Looked::Gray(cell) => self.scan_cell(cell),
+            Looked::Other(ends) => CycleReport::passed(ends),
+        }
+    }
+
+    /// Whether a pass has come to the end and met no gray cell.
+    fn is_traced(&self) -> bool
+        ensures traced { result ≡ is_traced self.now }
+    {
+        self.cursor() == self.cells() && self.is_clean()
+    }
+
     /// Traces until a pass meets no gray cell.
-    pub(crate) fn trace_all<R: Wait>(&mut self, rt: &R) -> Traced
+    pub(crate) fn trace_all<R: Wait>(&mut self, rt: &R) -> CycleReport
         requires some { 0 < cells_of self.old }
         requires stage { (control_of self.old).stage ≡ stage.Trace }
         requires answered { HaveAnswered self.old }
+        requires first { (part_of self.old).cursor ≡ 0 }
         requires scan { (part_of self.old).scan ≡ None }
-        ensures does { Does result.passes result.scanned 0 self.old self.new }
+        ensures does { Does result self.old self.new }
+        ensures few { TracesAtMost (2 ^ 62) result }
         ensures control { control_of self.new ≡ control_of self.old }
         ensures kept { KeepsTracing (part_of self.old) (part_of self.new) }
-        ensures end { ((part_of self.new).cursor == cells_of self.new) ≡ true }
-        ensures clean { (part_of self.new).clean ≡ true }
+        ensures scan { (part_of self.new).scan ≡ None }
+        ensures traced { is_traced self.new ≡ true }
     {
-        let mut passes = 0;
-        let mut scanned = 0;
+        let mut report = CycleReport::nothing();
         for _turn in 0..TURNS {
             if self.is_traced() {
-                return Traced { passes, scanned };
+                return report;
             }
-            let cell = self.next_cell();
-            let traced = self.trace_cell(cell);
-            passes += traced.passes;
-            scanned += traced.scanned;
+            let more = self.trace_next();
+            report = report.with(more);
         }
         for _ in rt.forever() {
             thread::yield_now();

@@ -11,18 +11,21 @@ use Rattle.core_machine.specs.declared.events.Event.TheVariants as event
 use Rattle.core_machine.specs.declared.events.Found.TheVariants as finds
 use Rattle.collector.specs.Bound.{Bound, control_of, mutators_of, part_of}
 use Rattle.collector.proofs.Answered.{all_now, nobody_now}
-use Rattle.collector.proofs.Cycling.{answered_all, mutators_from}
-use Rattle.collector.proofs.Joining.{does_plain, does_then}
+use Rattle.collector.specs.Counting.{nothing}
+use Rattle.heap_rule.specs.Shape.{Shape}
+use Rattle.collector.proofs.Cycling.{answered_all}
+use Rattle.collector.proofs.Hearing.{hears_does}
+use Rattle.collector.proofs.Joining.{does_and, does_still}
 use Rattle.collector.proofs.collecting.Collector.anchor_stage.Goals as goal
 
 pub anchor_once-requires : goal.anchor_once-requires
 anchor_once-requires g c =
     record {
       may = and_from _ _
-          (ap (λ (x : Control). same_stage x.stage stage.Sync2) c.await_all.ensures.control
+          (ap (λ (x : Control). same_stage x.stage stage.Sync2) c.await_all-over.ensures.control
           ∙ ap (λ (s : Stage). same_stage s stage.Sync2) c.requires.stage)
-          (answered_all c.await_all.new.self (mutators_of c.args.self.now)
-          (ap (λ (p : Collector). p.answered) c.await_all.ensures.part));
+          (answered_all c.await_all-over.new.self (mutators_of c.args.self.now)
+          (ap (λ (p : Collector). p.answered) c.await_all-over.ensures.part));
     }
 
 pub post_once-requires : goal.post_once-requires
@@ -31,38 +34,40 @@ post_once-requires g c =
       may = and_from _ _ (and_from _ _
           (ap (λ (x : Bound _). same_stage (control_of x).stage stage.Sync2)
           c.anchor_once.ensures.told.1
-          ∙ ap (λ (x : Control). same_stage x.stage stage.Sync2) c.await_all.ensures.control
+          ∙ ap (λ (x : Control). same_stage x.stage stage.Sync2) c.await_all-over.ensures.control
           ∙ ap (λ (s : Stage). same_stage s stage.Sync2) c.requires.stage)
           (ap (λ (x : Bound _). list_all (λ (answered : Bool). answered) (part_of x).answered)
           c.anchor_once.ensures.told.1
           ∙ ap (λ (p : Collector). list_all (λ (answered : Bool). answered) p.answered)
-          c.await_all.ensures.part
+          c.await_all-over.ensures.part
           ∙ all_now (mutators_of c.args.self.now)))
           (ap (λ (x : Bound _). (part_of x).anchor_marked) c.anchor_once.ensures.told.1);
     }
 
-pub await_all-requires-2-clause-nobody : goal.await_all-requires-2-clause-nobody
-await_all-requires-2-clause-nobody g c =
+pub await_all-again-requires-clause-nobody : goal.await_all-again-requires-clause-nobody
+await_all-again-requires-clause-nobody g c =
     ap (λ (x : Bound _). (part_of x).answered) c.post_once.ensures.told
     ∙ ap (λ (x : Bound _). nobody_answered (part_of x).answered) c.anchor_once.ensures.told.1
-    ∙ ap (λ (p : Collector). nobody_answered p.answered) c.await_all.ensures.part
+    ∙ ap (λ (p : Collector). nobody_answered p.answered) c.await_all-over.ensures.part
     ∙ nobody_now (replicate (mutators_of c.args.self.now) true) (mutators_of c.args.self.now)
     (length-replicate (mutators_of c.args.self.now) true)
     ∙ ap (λ (n : ℕ). replicate n false)
     (sym (ap (λ (x : Bound _). mutators_of x) c.post_once.ensures.told
     ∙ ap (λ (x : Bound _). mutators_of x) c.anchor_once.ensures.told.1
-    ∙ mutators_from 0 0 0 c.args.self.now c.await_all.new.self c.await_all.ensures.does))
+    ∙ ap (λ (h : Shape). h.mutators) c.await_all-over.ensures.hears.kept.shape))
 
 pub returns-clause-does : goal.returns-clause-does
 returns-clause-does g c =
-    does_then 0 0 0 0 0 0 c.args.self.now c.post_once.new.self c.await_all-2.new.self
-    (does_then 0 0 0 0 0 0 c.args.self.now c.anchor_once.new.self c.post_once.new.self
-    (does_then 0 0 0 0 0 0 c.args.self.now c.await_all.new.self c.anchor_once.new.self
-    c.await_all.ensures.does
-    (does_plain c.await_all.new.self c.anchor_once.new.self event.Anchor
-    (finds.Colour c.anchor_once.ensures.told.0) c.anchor_once.ensures.told.1
-    (record { on = refl; passes_are = refl; scanned_are = refl; freed_are = refl })))
-    (does_plain c.anchor_once.new.self c.post_once.new.self (event.Post stage.Trace) finds.Stored
-    c.post_once.ensures.told
-    (record { on = refl; passes_are = refl; scanned_are = refl; freed_are = refl })))
-    c.await_all-2.ensures.does
+    let n = mutators_of c.args.self.now in
+    let asked = hears_does c.await_all-over.result 0 n c.args.self.now c.await_all-over.new.self
+    c.await_all-over.ensures.hears in
+    let anchored = does_still c.await_all-over.new.self c.anchor_once.new.self event.Anchor
+    (finds.Colour c.anchor_once.ensures.told.0) refl refl c.anchor_once.ensures.told.1 in
+    let posted = does_still c.anchor_once.new.self c.post_once.new.self (event.Post stage.Trace)
+    finds.Stored refl refl c.post_once.ensures.told in
+    let again = hears_does c.await_all-again.result 0 (mutators_of c.post_once.new.self)
+    c.post_once.new.self c.await_all-again.new.self c.await_all-again.ensures.hears in
+    does_and nothing c.args.self.now c.post_once.new.self c.await_all-again.new.self
+    (does_and nothing c.args.self.now c.anchor_once.new.self c.post_once.new.self
+    (does_and nothing c.args.self.now c.await_all-over.new.self c.anchor_once.new.self
+    asked anchored) posted) again

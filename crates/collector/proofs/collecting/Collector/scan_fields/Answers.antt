@@ -1,24 +1,25 @@
-use Rattle.std.proofs.Common.{◌+◌, Option, Some, refl, ◌∙◌, ap}
+use Rattle.std.proofs.Common.{◌+◌, Some, sym, ◌∙◌, ap, subst, arith}
 use Rattle.core_machine.specs.Collector.{Collector}
-use Rattle.core_machine.specs.declared.progress.Scanning.{Scanning}
-use Rattle.collector.specs.Bound.{part_of, scan_at}
-use Rattle.collector.proofs.Joining.{does_none, does_then}
+use Rattle.collector.specs.Bound.{scan_at}
+use Rattle.collector.specs.Counting.{TracesAtMost}
+use Rattle.collector.specs.declared.report.CycleReport.{CycleReport}
+use Rattle.collector.proofs.Counted.{at_most_more}
+use Rattle.collector.proofs.Joining.{does_both}
 use Rattle.collector.proofs.collecting.Collector.scan_fields.Goals as goal
-
-pub loop-field-init : goal.loop-field-init
-loop-field-init g c = (
-  does_none c.args.self.now,
-  refl,
-  ap (λ (s : Option Scanning). record (part_of c.args.self.now) { scan = s }) c.requires.scan,
-)
 
 pub loop-field-preserved : goal.loop-field-preserved
 loop-field-preserved g c = (
-  does_then 0 0 0 0 0 0 c.args.self.now c.loop-field.self c.scan_field.new.self
-      c.loop-field.invariant.0 c.scan_field.ensures.does,
-  c.scan_field.ensures.control ∙ c.loop-field.invariant.1,
-  c.scan_field.ensures.part
+  does_both c.loop-field.report c.scan_field-more.result c.with-report.result c.args.self.now
+      c.loop-field.self c.scan_field-more.new.self c.with-report.ensures.report
+      c.loop-field.invariant.0 c.scan_field-more.ensures.does,
+  subst (λ (r : CycleReport). TracesAtMost (c.loop-field.field + 1) r)
+      (sym c.with-report.ensures.report)
+      (at_most_more c.loop-field.field 1 (c.loop-field.field + 1) c.loop-field.report
+      c.scan_field-more.result c.loop-field.invariant.1 c.scan_field-more.ensures.few
+      (omega arith)),
+  c.scan_field-more.ensures.control ∙ c.loop-field.invariant.2,
+  c.scan_field-more.ensures.part
       ∙ ap (λ (p : Collector). record p {
         scan = Some (scan_at c.args.cell (c.loop-field.field + 1));
-      }) c.loop-field.invariant.2,
+      }) c.loop-field.invariant.3,
 )

@@ -1,12 +1,14 @@
 use Rattle.std.proofs.Common.{◌+◌, ◌∙◌, ap, arith}
 use Rattle.cell_words.specs.declared.controls.Control.{Control}
+use Rattle.collector.specs.Counting.{frees}
 use Rattle.collector.proofs.Joining.{does_then}
 use Rattle.collector.proofs.collecting.Collector.sweep_all.Goals as goal
 
 pub loop-cell-preserved : goal.loop-cell-preserved
 loop-cell-preserved g c = (
-  does_then 0 0 0 0 c.loop-cell.freed c.sweep_cell-freed.result c.args.self.now c.loop-cell.self
-      c.sweep_cell-freed.new.self c.loop-cell.invariant.0 c.sweep_cell-freed.ensures.does,
+  does_then (frees c.loop-cell.freed) (frees c.sweep_cell-freed.result) c.args.self.now
+      c.loop-cell.self c.sweep_cell-freed.new.self c.loop-cell.invariant.0
+      c.sweep_cell-freed.ensures.does,
   omega (arith, c.loop-cell.invariant.1, c.sweep_cell-freed.ensures.few),
   c.sweep_cell-freed.ensures.control
       ∙ ap (λ (x : Control). record x { position = x.position + 1 }) c.loop-cell.invariant.2,

@@ -1,13 +1,13 @@
 use Rattle.std.proofs.Common.{◌≡◌, ◌≤◌, ◌+◌}
 use Rattle.core_machine.specs.declared.progress.Sweeping.TheVariants as sweeping
 use Rattle.collector.specs.Bound.{KeepsAnswers, control_of, part_of}
-use Rattle.collector.specs.Counting.{Does}
+use Rattle.collector.specs.Counting.{Does, frees}
 use Rattle.free_cells.specs.Hints.{counts_of, queue_of}
 use Rattle.collector.proofs.collecting.Collector.sweep_all.Given as goal
 
 abbrev pub invariant-loop-cell : goal.invariant-loop-cell
 invariant-loop-cell g l =
-    Does 0 0 l.freed l.fn.self l.self
+    Does (frees l.freed) l.fn.self l.self
     × (l.freed ≤ l._cell)
     × (control_of l.self ≡ record (control_of l.fn.self) { position = l._cell })
     × ((part_of l.self).sweep ≡ sweeping.Fresh)

@@ -1,13 +1,13 @@
 use Rattle.std.proofs.Common.{refl}
 use Rattle.core_machine.specs.declared.events.Event.TheVariants as event
 use Rattle.core_machine.specs.declared.events.Found.TheVariants as finds
-use Rattle.collector.proofs.Joining.{does_and, does_plain}
+use Rattle.collector.specs.Counting.{frees}
+use Rattle.collector.proofs.Joining.{does_and, does_still}
 use Rattle.collector.proofs.collecting.Collector.sweep_cell.Goals as goal
 
 pub returns-clause-does : goal.returns-clause-does
 returns-clause-does g c =
-    does_and 0 0 c.sweep_found-freed.result c.args.self.now c.sweep_found-freed.new.self
+    does_and (frees c.sweep_found-freed.result) c.args.self.now c.sweep_found-freed.new.self
     c.advance_once.new.self c.sweep_found-freed.ensures.does
-    (does_plain c.sweep_found-freed.new.self c.advance_once.new.self event.Advance finds.Stored
-    c.advance_once.ensures.told
-    (record { on = refl; passes_are = refl; scanned_are = refl; freed_are = refl }))
+    (does_still c.sweep_found-freed.new.self c.advance_once.new.self event.Advance finds.Stored
+    refl refl c.advance_once.ensures.told)

@@ -1,16 +1,25 @@
-use Rattle.std.proofs.Common.{◌∙◌, arith}
-use Rattle.collector.proofs.Joining.{does_then}
+use Rattle.std.proofs.Common.{◌+◌, ◌*◌, sym, ◌∙◌, subst, arith}
+use Rattle.collector.specs.Counting.{TracesAtMost}
+use Rattle.collector.specs.declared.report.CycleReport.{CycleReport}
+use Rattle.collector.proofs.Counted.{at_most_more}
+use Rattle.collector.proofs.Joining.{does_both}
 use Rattle.collector.proofs.collecting.Collector.trace_all.Goals as goal
 
 pub loop-turn-preserved : goal.loop-turn-preserved
 loop-turn-preserved g c = (
-  does_then c.loop-turn.passes c.trace_cell-traced.result.passes c.loop-turn.scanned
-      c.trace_cell-traced.result.scanned 0 0 c.args.self.now c.loop-turn.self
-      c.trace_cell-traced.new.self c.loop-turn.invariant.0 c.trace_cell-traced.ensures.does,
-  c.trace_cell-traced.ensures.control ∙ c.loop-turn.invariant.1,
-  c.trace_cell-traced.ensures.kept.answered ∙ c.loop-turn.invariant.2,
-  c.trace_cell-traced.ensures.kept.sweep ∙ c.loop-turn.invariant.3,
-  c.trace_cell-traced.ensures.kept.scan,
-  omega (arith, c.loop-turn.invariant.5, c.trace_cell-traced.ensures.passes),
-  omega (arith, c.loop-turn.invariant.6, c.trace_cell-traced.ensures.scanned),
+  does_both c.loop-turn.report c.trace_next-more.result c.with-report.result c.args.self.now
+      c.loop-turn.self c.trace_next-more.new.self c.with-report.ensures.report
+      c.loop-turn.invariant.0 c.trace_next-more.ensures.does,
+  subst (λ (r : CycleReport). TracesAtMost (6 * (c.loop-turn._turn + 1)) r)
+      (sym c.with-report.ensures.report)
+      (at_most_more (6 * c.loop-turn._turn) 6 (6 * (c.loop-turn._turn + 1)) c.loop-turn.report
+      c.trace_next-more.result c.loop-turn.invariant.1 c.trace_next-more.ensures.few
+      (omega arith)),
+  c.trace_next-more.ensures.control ∙ c.loop-turn.invariant.2,
+  record {
+    answered = c.trace_next-more.ensures.kept.answered ∙ c.loop-turn.invariant.3.answered;
+    sweep = c.trace_next-more.ensures.kept.sweep ∙ c.loop-turn.invariant.3.sweep;
+  },
+  c.trace_next-more.ensures.scan,
+  c.trace_next-more.ensures.within,
 )

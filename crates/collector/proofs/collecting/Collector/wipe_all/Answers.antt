@@ -6,7 +6,8 @@ use Rattle.core_machine.specs.declared.events.Event.TheVariants as event
 use Rattle.core_machine.specs.declared.events.Found.TheVariants as finds
 use Rattle.core_machine.specs.declared.progress.Sweeping.{Sweeping}
 use Rattle.collector.specs.Bound.{Bound, control_of, part_of}
-use Rattle.collector.proofs.Joining.{does_none, does_plain, does_then}
+use Rattle.collector.specs.Counting.{nothing}
+use Rattle.collector.proofs.Joining.{does_and, does_none, does_still}
 use Rattle.collector.proofs.collecting.Collector.wipe_all.Goals as goal
 
 pub loop-field-init : goal.loop-field-init
@@ -25,11 +26,10 @@ wipe_once-requires g c =
 
 pub loop-field-preserved : goal.loop-field-preserved
 loop-field-preserved g c = (
-  does_then 0 0 0 0 0 0 c.args.self.now c.loop-field.self c.wipe_once.new.self
+  does_and nothing c.args.self.now c.loop-field.self c.wipe_once.new.self
       c.loop-field.invariant.0
-      (does_plain c.loop-field.self c.wipe_once.new.self event.Wipe finds.Stored
-      c.wipe_once.ensures.told
-      (record { on = refl; passes_are = refl; scanned_are = refl; freed_are = refl })),
+      (does_still c.loop-field.self c.wipe_once.new.self event.Wipe finds.Stored refl refl
+      c.wipe_once.ensures.told),
   ap (λ (x : Bound _). control_of x) c.wipe_once.ensures.told ∙ c.loop-field.invariant.1,
   ap (λ (x : Bound _). part_of x) c.wipe_once.ensures.told
       ∙ ap (λ (p : Collector). record p { sweep = wiped p.sweep }) c.loop-field.invariant.2,

@@ -1,0 +1,209 @@
+-- Counts of events: of one event, and of some that follow others.
+use Rattle.std.proofs.Common.{◌≡◌, ◌≤◌, ◌+◌, ◌&&◌, ℕ, Bool, true, false, not, cond}
+use Rattle.std.proofs.Common.{List, [], ◌∷◌, ◌++◌, refl, sym, ◌∙◌, ap, arith, add_assoc}
+use Rattle.std.proofs.Common.{zero-add}
+use Rattle.std.proofs.lemmas.Bool.{false≢true}
+use Rattle.std.proofs.lemmas.List.Folds.{list_all-append}
+use Rattle.std.proofs.lemmas.List.Sums.{sum_by-append}
+use Rattle.std.specs.List.{count_by, list_all}
+use Rattle.core_machine.specs.Collector.{Collector}
+use Rattle.core_machine.specs.declared.events.Event.{Event}
+use Rattle.core_machine.specs.declared.events.Event.TheVariants as event
+use Rattle.core_machine.specs.declared.events.Found.{Found}
+use Rattle.core_machine.specs.declared.events.Taken.{Taken}
+use Rattle.heap_rule.specs.Rule.{took}
+use Rattle.collector.specs.Counting.{Comes, Counts, TracesAtMost, goes_on, is_blacken, is_free}
+use Rattle.collector.specs.Counting.{nothing, plus}
+use Rattle.collector.specs.Replay.{Work, count_along, ends_pass, is_shade, spills, stack_after}
+use Rattle.collector.specs.Replay.{stacks, work_after, work_after_all}
+use Rattle.collector.specs.Stack.{Stack, has_room}
+use Rattle.collector.specs.declared.report.CycleReport.{CycleReport}
+
+-- Reports.
+
+pub none_plus : (r : CycleReport) → plus nothing r ≡ r
+none_plus r =
+    ap (λ (n : ℕ). record (plus nothing r) { passes = n }) (none r.passes)
+    ∙ ap (λ (n : ℕ). record (plus nothing r) { passes = r.passes; scanned = n }) (none r.scanned)
+    ∙ ap (λ (n : ℕ). record r { freed = n; stacked = 0 + r.stacked; spilled = 0 + r.spilled })
+    (none r.freed)
+    ∙ ap (λ (n : ℕ). record r { stacked = n; spilled = 0 + r.spilled }) (none r.stacked)
+    ∙ ap (λ (n : ℕ). record r { spilled = n }) (none r.spilled)
+  where
+    none : (n : ℕ) → 0 + n ≡ n
+    none n = omega arith
+
+pub plus_none : (r : CycleReport) → plus r nothing ≡ r
+plus_none r =
+    ap (λ (n : ℕ). record (plus r nothing) { passes = n }) (none r.passes)
+    ∙ ap (λ (n : ℕ). record (plus r nothing) { passes = r.passes; scanned = n }) (none r.scanned)
+    ∙ ap (λ (n : ℕ). record r { freed = n; stacked = r.stacked + 0; spilled = r.spilled + 0 })
+    (none r.freed)
+    ∙ ap (λ (n : ℕ). record r { stacked = n; spilled = r.spilled + 0 }) (none r.stacked)
+    ∙ ap (λ (n : ℕ). record r { spilled = n }) (none r.spilled)
+  where
+    none : (n : ℕ) → n + 0 ≡ n
+    none n = omega arith
+
+pub at_most_more : (m n k : ℕ) (r q : CycleReport) → TracesAtMost m r → TracesAtMost n q
+    → m + n ≤ k → TracesAtMost k (plus r q)
+at_most_more m n k r q first second le = record {
+  passes = omega (arith, first.passes, second.passes, le);
+  scanned = omega (arith, first.scanned, second.scanned, le);
+  stacked = omega (arith, first.stacked, second.stacked, le);
+  spilled = omega (arith, first.spilled, second.spilled, le);
+  freed = omega (arith, first.freed, second.freed);
+}
+
+pub at_most_of : (m n : ℕ) (r : CycleReport) → m ≤ n → TracesAtMost m r → TracesAtMost n r
+at_most_of m n r le few = record {
+  passes = omega (arith, few.passes, le);
+  scanned = omega (arith, few.scanned, le);
+  stacked = omega (arith, few.stacked, le);
+  spilled = omega (arith, few.spilled, le);
+  freed = few.freed;
+}
+
+-- Events that follow others.
+
+count_append : (test : Taken → Bool) (xs ys : List Taken)
+    → count_by test (xs ++ ys) ≡ count_by test xs + count_by test ys
+count_append test xs ys = sum_by-append (λ t. cond (test t) 1 0) xs ys
+
+pub counted : (test : Taken → Bool) (xs ys : List Taken) (m n : ℕ) → count_by test xs ≡ m
+    → count_by test ys ≡ n → count_by test (xs ++ ys) ≡ m + n
+counted test xs ys m n first second =
+    count_append test xs ys ∙ ap (λ k. k + count_by test ys) first ∙ ap (λ k. m + k) second
+
+pub work_append : (w : Work) (xs ys : List Taken)
+    → work_after_all w (xs ++ ys) ≡ work_after_all (work_after_all w xs) ys
+work_append w [] ys = refl
+work_append w (x ∷ xs) ys = work_append (work_after w x) xs ys
+
+along_append : (test : Work → Taken → Bool) (w : Work) (xs ys : List Taken)
+    → count_along test w (xs ++ ys)
+    ≡ count_along test w xs + count_along test (work_after_all w xs) ys
+along_append test w [] ys = sym (zero-add (count_along test w ys))
+along_append test w (x ∷ xs) ys =
+    ap (λ (k : ℕ). cond (test w x) 1 0 + k) (along_append test (work_after w x) xs ys)
+    ∙ sym (add_assoc (cond (test w x) 1 0) (count_along test (work_after w x) xs)
+    (count_along test (work_after_all (work_after w x) xs) ys))
+
+pub counted_along : (test : Work → Taken → Bool) (a b : Work) (xs ys : List Taken) (m n : ℕ)
+    → work_after_all a xs ≡ b → count_along test a xs ≡ m → count_along test b ys ≡ n
+    → count_along test a (xs ++ ys) ≡ m + n
+counted_along test a b xs ys m n leads first second =
+    along_append test a xs ys
+    ∙ ap (λ (w : Work). count_along test a xs + count_along test w ys) leads
+    ∙ ap (λ (k : ℕ). k + count_along test b ys) first
+    ∙ ap (λ (k : ℕ). m + k) second
+
+pub comes_join : (a b c : Work) (r q : CycleReport) (xs ys : List Taken) → Comes a b r xs
+    → Comes b c q ys → Comes a c (plus r q) (xs ++ ys)
+comes_join a b c r q xs ys first second = record {
+  leads = work_append a xs ys
+      ∙ ap (λ (w : Work). work_after_all w ys) first.leads
+      ∙ second.leads;
+  passes_are = counted_along ends_pass a b xs ys r.passes q.passes first.leads first.passes_are
+      second.passes_are;
+  scanned_are = counted (λ (t : Taken). is_blacken t.event) xs ys r.scanned q.scanned
+      first.scanned_are second.scanned_are;
+  freed_are = counted (λ (t : Taken). is_free t.event) xs ys r.freed q.freed
+      first.freed_are second.freed_are;
+  stacked_are = counted_along stacks a b xs ys r.stacked q.stacked first.leads first.stacked_are
+      second.stacked_are;
+  spilled_are = counted_along spills a b xs ys r.spilled q.spilled first.leads first.spilled_are
+      second.spilled_are;
+}
+
+pub counts_join : (a b c : Work) (r q : CycleReport) (xs ys : List Taken) → Counts a b r xs
+    → Counts b c q ys → Counts a c (plus r q) (xs ++ ys)
+counts_join a b c r q xs ys first second = record {
+  on = list_all-append (λ (t : Taken). goes_on t.event) xs ys
+      ∙ ap (λ (x : Bool). x && list_all (λ (t : Taken). goes_on t.event) ys) first.on
+      ∙ second.on;
+  comes = comes_join a b c r q xs ys first.comes second.comes;
+}
+
+pub counts_none : (w : Work) → Counts w w nothing []
+counts_none w = record {
+  on = refl;
+  comes = record {
+    leads = refl;
+    passes_are = refl;
+    scanned_are = refl;
+    freed_are = refl;
+    stacked_are = refl;
+    spilled_are = refl;
+  };
+}
+
+-- One event.
+
+-- it counts for nothing, and leaves the stack
+abbrev pub is_still : Event → Bool
+is_still (event.See c) = false
+is_still event.Shade = false
+is_still event.Blacken = false
+is_still event.Free = false
+is_still _ = true
+
+pub still_stack : (s : Stack) (part : Collector) (e : Event) → is_still e ≡ true
+    → stack_after s part e ≡ s
+still_stack s part (event.See c) still = absurd (false≢true still)
+still_stack s part event.Shade still = absurd (false≢true still)
+still_stack s part _ still = refl
+
+pub still_comes : (w : Work) (e : Event) (found : Found) → is_still e ≡ true
+    → Comes w (work_after w (took e found)) nothing (took e found ∷ [])
+still_comes w (event.See c) found still = absurd (false≢true still)
+still_comes w event.Shade found still = absurd (false≢true still)
+still_comes w event.Blacken found still = absurd (false≢true still)
+still_comes w event.Free found still = absurd (false≢true still)
+still_comes w _ found still = record {
+  leads = refl;
+  passes_are = refl;
+  scanned_are = refl;
+  freed_are = refl;
+  stacked_are = refl;
+  spilled_are = refl;
+}
+
+pub still_counts : (w : Work) (e : Event) (found : Found) → goes_on e ≡ true → is_still e ≡ true
+    → Counts w (work_after w (took e found)) nothing (took e found ∷ [])
+still_counts w e found on still = record {
+  on = ap (λ (x : Bool). x && true) on;
+  comes = still_comes w e found still;
+}
+
+room_step : (b : Bool) (c : ℕ) (s : Stack) → (cond b (record s { cells = c ∷ s.cells }) s).room
+    ≡ s.room
+room_step true c s = refl
+room_step false c s = refl
+
+pub room_after : (s : Stack) (part : Collector) (e : Event)
+    → (stack_after s part e).room ≡ s.room
+room_after s part event.Shade =
+    room_step (has_room s) _ s
+room_after s part _ = refl
+
+-- Each shaded child was pushed or found the stack full.
+one_shade : (b x : Bool) → cond b 1 0 ≡ cond {A = ℕ} (b && x) 1 0 + cond (b && not x) 1 0
+one_shade true true = refl
+one_shade true false = refl
+one_shade false x = refl
+
+pub all_shaded : (w : Work) (events : List Taken)
+    → count_by (λ (t : Taken). is_shade t.event) events
+    ≡ count_along stacks w events + count_along spills w events
+all_shaded w [] = refl
+all_shaded w (t ∷ ts) =
+    count_append (λ (u : Taken). is_shade u.event) (t ∷ []) ts
+    ∙ regroup (cond (is_shade t.event) 1 0) (count_by (λ (u : Taken). is_shade u.event) ts)
+    (cond (stacks w t) 1 0) (cond (spills w t) 1 0)
+    (count_along stacks (work_after w t) ts) (count_along spills (work_after w t) ts)
+    (one_shade (is_shade t.event) (has_room w.stack))
+    (all_shaded (work_after w t) ts)
+  where
+    regroup : (a b x y m n : ℕ) → a ≡ x + y → b ≡ m + n → 0 + a + b ≡ (x + m) + (y + n)
+    regroup a b x y m n first second = omega arith

@@ -1,0 +1,32 @@
+use Rattle.std.proofs.Common.{◌≡◌, false, List, [], ◌∷◌, ◌++◌, refl, ap}
+use Rattle.core_machine.specs.declared.events.Event.TheVariants as event
+use Rattle.core_machine.specs.declared.events.Found.TheVariants as finds
+use Rattle.core_machine.specs.declared.events.Taken.{Taken}
+use Rattle.heap_rule.specs.Asks.{collector_state}
+use Rattle.heap_rule.specs.Rule.{took}
+use Rattle.collector.specs.Bound.{Bound, mutators_of}
+use Rattle.collector.specs.Cycles.{MadeCycles, Served}
+use Rattle.collector.proofs.Joining.{stretch_one, stretch_then}
+use Rattle.collector.proofs.collecting.Collector.serve.Goals as goal
+
+pub returns-clause-served : goal.returns-clause-served
+returns-clause-served g c =
+    let n = mutators_of c.args.self.now in
+    let freed = c.cycles_of-freed.result in
+    let last = took (event.Duty false) finds.Stored in
+    stretch_then (MadeCycles n c.args.cycles freed)
+    (λ (events : List Taken). events ≡ last ∷ [])
+    (Served n c.args.cycles freed) c.args.self.now c.cycles_of-freed.new.self c.duty.new.self
+    (λ xs ys made is. record {
+      made = xs;
+      split = ap (λ (zs : List Taken). xs ++ zs) is;
+      cycles = made;
+    })
+    c.cycles_of-freed.ensures.made
+    (stretch_one (λ (events : List Taken). events ≡ last ∷ []) c.cycles_of-freed.new.self
+    c.duty.new.self (event.Duty false) finds.Stored
+    (collector_state c.cycles_of-freed.new.self.seat.me)
+    (ap (λ (x : Bound _). x.heap) c.duty.ensures.told)
+    (ap (λ (x : Bound _). x.seat) c.duty.ensures.told)
+    (ap (λ (x : Bound _). x.stack) c.duty.ensures.told)
+    refl)

@@ -1,0 +1,37 @@
+-- Which mutators a stretch of events found over.
+-- Source: this project's.
+use Rattle.std.specs.Prelude.{ℕ, ◌≡◌, ◌≤◌, ◌<◌, ◌==◌, ◌&&◌, Bool, true, false, List, IsTrue}
+use Rattle.std.specs.List.{list_any}
+use Rattle.core_machine.specs.declared.events.Event.{Event}
+use Rattle.core_machine.specs.declared.events.Event.TheVariants as event
+use Rattle.core_machine.specs.declared.events.Found.{Found}
+use Rattle.core_machine.specs.declared.events.Found.TheVariants as finds
+use Rattle.core_machine.specs.declared.events.Taken.{Taken}
+use Rattle.collector.specs.Bound.{Bound}
+use Rattle.collector.specs.Counting.{Counts, nothing}
+use Rattle.collector.specs.Replay.{work_of}
+use Rattle.collector.specs.Stretches.{Stretch}
+
+abbrev pub says_over : Found → Bool
+says_over (finds.Presence found) = found.over
+says_over _ = false
+
+-- a Poll or an AnswerOut of this mutator found it over
+abbrev pub finds_over : ℕ → Event → Found → Bool
+finds_over m (event.Poll i) found = (i == m) && says_over found
+finds_over m (event.AnswerOut i over) found = (i == m) && says_over found
+finds_over m _ found = false
+
+abbrev pub was_over : ℕ → List Taken → Bool
+was_over m events = list_any (λ (t : Taken). finds_over m t.event t.found) events
+
+-- each mutator from one number on and below another was found over
+abbrev pub AllOver : ℕ → ℕ → List Taken → Type 0
+AllOver from end events = (m : ℕ) → from ≤ m → m < end → was_over m events ≡ true
+
+module _ {P : Type 0} where
+  -- the collector took events that count for nothing, and found these over where the flag says so
+  abbrev pub Hears : Bool → ℕ → ℕ → Bound P → Bound P → Type 0
+  Hears over from end old new =
+      Stretch (λ (events : List Taken). Counts (work_of old) (work_of new) nothing events
+      × (IsTrue over → AllOver from end events)) old new

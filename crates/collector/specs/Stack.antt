@@ -1,0 +1,47 @@
+-- The mark stack: cells that wait for a look, in a room that is fixed.
+-- Source: this project's.
+use Rattle.std.specs.Prelude.{ℕ, ◌<◌, ◌==◌, Bool, List, [], ◌∷◌, length, Option, Some, None}
+use Rattle.std.specs.Prelude.{nat_lt, slice_index, zero, suc, if◌then◌else◌}
+
+pub record Stack : Type 0 where
+  pub room : ℕ
+  -- the one on top first
+  pub cells : List ℕ
+
+abbrev pub emptied : Stack → Stack
+emptied s = record s { cells = [] }
+
+abbrev pub has_room : Stack → Bool
+has_room s = nat_lt (length s.cells) s.room
+
+-- a cell goes on top where there is room, and else is left out
+abbrev pub pushed : ℕ → Stack → Stack
+pushed c s = if has_room s then record s { cells = c ∷ s.cells } else s
+
+abbrev pub top_of : List ℕ → Option ℕ
+top_of [] = None
+top_of (x ∷ xs) = Some x
+
+-- without the cell on top, as often as it stands there
+abbrev pub without : ℕ → List ℕ → List ℕ
+without c [] = []
+without c (x ∷ xs) = if x == c then without c xs else x ∷ xs
+
+-- from the topmost place of the cell down
+abbrev pub down_to : ℕ → List ℕ → List ℕ
+down_to c [] = []
+down_to c (x ∷ xs) = if x == c then x ∷ xs else down_to c xs
+
+-- a look at a cell takes it from the stack, with all that lies above it
+abbrev pub looked_at : ℕ → Stack → Stack
+looked_at c s = record s { cells = without c (down_to c s.cells) }
+
+-- each cell on it is one of the heap's
+abbrev pub AllBelow : ℕ → List ℕ → Type 0
+AllBelow n [] = Unit {0}
+AllBelow n (x ∷ xs) = (x < n) × AllBelow n xs
+
+-- the first so many of the items, the last one first
+abbrev pub top_first : List ℕ → ℕ → List ℕ
+top_first items zero = []
+top_first items (suc height) = slice_index items height ∷ top_first items height
