@@ -60,12 +60,12 @@ module _ (s : State) (l : Lore) (d : ℕ) (record_is : field_of s d 5 ≡ word.N
         (put_other l.fresh d None x other)
   ]
 
-  reveals_nothing : boxes_of s (revealing l (word.Cell d)) ≡ boxes_of s l
+  pub reveals_nothing : boxes_of s (revealing l (word.Cell d)) ≡ boxes_of s l
   reveals_nothing = λ i x. same_at x i
 
 module _ {P : Type 0} {fixed : ℕ → Bool} (v : View P) (s : State) (l : Lore)
     (mine : Mine fixed v s l) where
-  known_now : AllKnown (IsKnown fixed s l v.number) (cells_in v.own.held) v.known
+  pub known_now : AllKnown (IsKnown fixed s l v.number) (cells_in v.own.held) v.known
   known_now =
       subst (λ (o : Own). AllKnown (IsKnown fixed s l v.number) (cells_in o.held) v.known) mine.own
       (subst (λ (ks : List Known). AllKnown (IsKnown fixed s l v.number) (cells_of s v.number) ks)
