@@ -1,6 +1,6 @@
 -- The records that are marked, as a list: each once, the oldest first.
 use Rattle.std.proofs.Common.{◌≡◌, ◌⊎◌, ◌↔◌, ℕ, zero, suc, ◌+◌, ◌<◌, ◌≤◌, Bool, true, false, List}
-use Rattle.std.proofs.Common.{[], ◌∷◌, length}
+use Rattle.std.proofs.Common.{[], ◌∷◌, ◌++◌, length, take}
 use Rattle.std.proofs.Common.{refl, sym, ap, subst, ◌∙◌, arith, inl, inr, ⊎_elim, true≢false}
 use Rattle.std.specs.Prelude.{slice_index_or, slice_set, replicate}
 use Rattle.std.specs.List.{All, AllPairs, Contains}
@@ -161,3 +161,10 @@ reached_of records from marks all =
       );
       rising = marked_rising 0 marks;
     }
+
+-- the front of a longer list
+pub taken : (xs ys : List Bool) (n : ℕ) → n ≡ length xs → take n (xs ++ ys) ≡ xs
+taken [] ys zero e = refl
+taken [] ys (suc n) e = absurd (omega (arith, e))
+taken (x ∷ xs) ys zero e = absurd (omega (arith, e))
+taken (x ∷ xs) ys (suc n) e = ap (λ (l : List Bool). x ∷ l) (taken xs ys n (omega (arith, e)))

@@ -1,16 +1,10 @@
-use Rattle.std.proofs.Common.{◌≡◌, ◌↔◌, ◌++◌, ◌∷◌, [], ℕ, zero, suc, Bool, List, ap, refl, subst}
-use Rattle.std.proofs.Common.{sym, ◌∙◌, length, take, arith}
+use Rattle.std.proofs.Common.{◌≡◌, ◌↔◌, Bool, List, subst}
+use Rattle.std.proofs.Common.{sym, ◌∙◌, length, arith}
 use Rattle.std.specs.List.{Contains}
 use Rattle.minor_heap.specs.declared.fields.MinorRef.{MinorRef}
 use Rattle.minor_heap.specs.Reaches.{AreReached, IsMarked, Reaches}
-use Rattle.minor_heap.proofs.Reached.{reached_of}
+use Rattle.minor_heap.proofs.Reached.{reached_of, taken}
 use Rattle.minor_heap.proofs.heap.MinorHeap.reached.Goals as goal
-
-taken : (xs ys : List Bool) (n : ℕ) → n ≡ length xs → take n (xs ++ ys) ≡ xs
-taken [] ys zero e = refl
-taken [] ys (suc n) e = absurd (omega (arith, e))
-taken (x ∷ xs) ys zero e = absurd (omega (arith, e))
-taken (x ∷ xs) ys (suc n) e = ap (λ (l : List Bool). x ∷ l) (taken xs ys n (omega (arith, e)))
 
 pub returns : goal.returns
 returns c =

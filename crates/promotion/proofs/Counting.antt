@@ -1,0 +1,47 @@
+-- How many marks are set: as many as the records that are marked.
+use Rattle.std.proofs.Common.{◌≡◌, ◌+◌, ◌<◌, ◌≤◌, ℕ, zero, suc, Bool, true, false, List, [], ◌∷◌}
+use Rattle.std.proofs.Common.{length, take, refl, ap, arith}
+use Rattle.std.specs.Prelude.{slice_index_or}
+use Rattle.minor_heap.specs.Marking.{marked_of}
+use Rattle.promotion.specs.Copying.{marked_count}
+
+pub count_is : (n : ℕ) (marks : List Bool) → length (marked_of n marks) ≡ marked_count marks
+count_is n [] = refl
+count_is n (true ∷ marks) = ap suc (count_is (n + 1) marks)
+count_is n (false ∷ marks) = count_is (n + 1) marks
+
+pub count_set : (marks : List Bool) (n : ℕ) → slice_index_or marks n false ≡ true
+    → marked_count (take (suc n) marks) ≡ suc (marked_count (take n marks))
+count_set [] n is = absurd cc
+count_set (true ∷ marks) zero is = refl
+count_set (false ∷ marks) zero is = absurd cc
+count_set (true ∷ marks) (suc n) is = ap suc (count_set marks n is)
+count_set (false ∷ marks) (suc n) is = count_set marks n is
+
+pub count_unset : (marks : List Bool) (n : ℕ) → slice_index_or marks n false ≡ false
+    → marked_count (take (suc n) marks) ≡ marked_count (take n marks)
+count_unset [] zero is = refl
+count_unset [] (suc n) is = refl
+count_unset (true ∷ marks) zero is = absurd cc
+count_unset (false ∷ marks) zero is = refl
+count_unset (true ∷ marks) (suc n) is = ap suc (count_unset marks n is)
+count_unset (false ∷ marks) (suc n) is = count_unset marks n is
+
+pub count_some : (marks : List Bool) (n : ℕ) → slice_index_or marks n false ≡ true
+    → 0 < marked_count marks
+count_some [] n is = absurd cc
+count_some (true ∷ marks) n is = omega arith
+count_some (false ∷ marks) zero is = absurd cc
+count_some (false ∷ marks) (suc n) is = count_some marks n is
+
+pub count_few : (marks : List Bool) (n : ℕ) → marked_count (take n marks) ≤ n
+count_few marks zero = omega arith
+count_few [] (suc n) = omega arith
+count_few (true ∷ marks) (suc n) = let few = count_few marks n in omega (arith, few)
+count_few (false ∷ marks) (suc n) = let few = count_few marks n in omega (arith, few)
+
+pub count_none : (marks : List Bool) → ((n : ℕ) → slice_index_or marks n false ≡ true → ⊥)
+    → marked_count marks ≡ 0
+count_none [] none = refl
+count_none (true ∷ marks) none = absurd (none 0 refl)
+count_none (false ∷ marks) none = count_none marks (λ n is. none (suc n) is)

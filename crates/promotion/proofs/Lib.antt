@@ -1,0 +1,10 @@
+pub mod Counting
+pub mod Filling
+pub mod Finishing
+pub mod Growing
+pub mod Holding
+pub mod Knowing
+pub mod Looking
+pub mod Opening
+pub mod Reaching
+pub mod Stretching

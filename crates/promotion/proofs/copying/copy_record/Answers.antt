@@ -1,0 +1,78 @@
+use Rattle.std.proofs.Common.{◌≡◌, ◌≤◌, ℕ, sym, ◌∙◌, ap, subst, arith}
+use Rattle.core_machine.specs.declared.events.Event.TheVariants as event
+use Rattle.core_machine.specs.declared.events.Found.TheVariants as finds
+use Rattle.heap_rule.specs.Lore.{five_nulls}
+use Rattle.minor_heap.specs.Nursery.{field_at as record_field}
+use Rattle.mutator_events.specs.declared.values.Value.{Value}
+use Rattle.mutator_events.specs.Values.{field_at}
+use Rattle.mutator_seat.specs.Bound.{held_cells, takes}
+use Rattle.promotion.specs.Copying.{AreFilled, IsReady, value_of}
+use Rattle.promotion.proofs.Filling.{filled_more, fill_rule, filled_none, may_fill, may_seal}
+use Rattle.promotion.proofs.Filling.{ready_now, sealed_as}
+use Rattle.promotion.proofs.copying.copy_record.Goals as goal
+
+pub loop-i-init : goal.loop-i-init
+loop-i-init g c = (
+  five_nulls,
+  (
+    c.in-Ok.ensures.got,
+    filled_none (held_cells c.args.m.now)
+        (λ i. value_of c.args.places.now
+        (record_field c.args.minor.now.records c.args.r.number i)),
+  ),
+)
+
+pub fill-requires-clause-may : goal.fill-requires-clause-may
+fill-requires-clause-may g c =
+    let so = c.loop-i.invariant in
+    let ready = subst (λ (v : Value). IsReady c.args.m.now.seat.me.known v)
+    (sym c.value_of-value.ensures.value) (c.requires.ready c.loop-i.i c.loop-i-test.true) in
+    may_fill c.args.m.now c.loop-i.m c.in-Ok.place so.0 so.1.0 c.value_of-value.result c.loop-i.i
+    (λ i. value_of c.args.places.now
+    (record_field c.args.minor.now.records c.args.r.number i))
+    (so.1.0.stays.inside ∙ c.requires.inside) c.loop-i-test.true ready so.1.1
+
+pub fill-requires-clause-rule : goal.fill-requires-clause-rule
+fill-requires-clause-rule g c =
+    let so = c.loop-i.invariant in
+    let ready = subst (λ (v : Value). IsReady c.args.m.now.seat.me.known v)
+    (sym c.value_of-value.ensures.value) (c.requires.ready c.loop-i.i c.loop-i-test.true) in
+    fill_rule g.P.Keeping.holds g.P.Keeping.fixed c.loop-i.m.seat.me c.in-Ok.place c.loop-i.i
+    c.value_of-value.result
+    (ready_now c.args.m.now c.loop-i.m c.in-Ok.place so.0 so.1.0 c.value_of-value.result ready)
+
+pub loop-i-preserved : goal.loop-i-preserved
+loop-i-preserved g c =
+    let so = c.loop-i.invariant in
+    let m = c.loop-i.m in
+    let given : ℕ → Value = λ i. value_of c.args.places.now
+    (record_field c.args.minor.now.records c.args.r.number i) in
+    filled_more c.args.m.now m c.in-Ok.place so.0 so.1.0 given c.loop-i.i c.fill.new.self
+    c.loop-i-test.true (c.requires.ready c.loop-i.i c.loop-i-test.true) so.1.1
+    (c.fill.ensures.told
+    ∙ ap (λ (v : Value). takes m (event.Fill m.seat.me.number c.in-Ok.place c.loop-i.i
+    (field_at m.seat.me.own.held v)) finds.Stored) c.value_of-value.ensures.value)
+
+pub seal_record-requires : goal.seal_record-requires
+seal_record-requires g c =
+    let so = c.loop-i.invariant in
+    let given : ℕ → Value = λ i. value_of c.args.places.now
+    (record_field c.args.minor.now.records c.args.r.number i) in
+    let all : 5 ≤ c.loop-i.i = c.loop-i-test.false in
+    let filled = subst (λ (n : ℕ). AreFilled (held_cells c.args.m.now) given n so.0)
+    (let e : c.loop-i.i ≡ 5 = omega (arith, all, c.loop-i.auto.i-end) in e) so.1.1 in
+    record {
+      may = may_seal c.args.m.now c.loop-i.m c.in-Ok.place so.0 so.1.0 given
+          (so.1.0.stays.inside ∙ c.requires.inside) filled c.requires.ready;
+    }
+
+pub returns-after-loop-i-clause-got : goal.returns-after-loop-i-clause-got
+returns-after-loop-i-clause-got g c =
+    let so = c.loop-i.invariant in
+    let given : ℕ → Value = λ i. value_of c.args.places.now
+    (record_field c.args.minor.now.records c.args.r.number i) in
+    let all : 5 ≤ c.loop-i.i = c.loop-i-test.false in
+    let filled = subst (λ (n : ℕ). AreFilled (held_cells c.args.m.now) given n so.0)
+    (let e : c.loop-i.i ≡ 5 = omega (arith, all, c.loop-i.auto.i-end) in e) so.1.1 in
+    sealed_as c.args.m.now c.loop-i.m c.in-Ok.place so.0 so.1.0 given c.seal_record.new.self filled
+    c.requires.ready c.seal_record.ensures.told

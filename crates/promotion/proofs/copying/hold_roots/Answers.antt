@@ -1,0 +1,25 @@
+use Rattle.std.proofs.Common.{◌<◌, ◌∙◌, ℕ, length, refl, sym, subst, arith}
+use Rattle.std.specs.Prelude.{slice_index_or}
+use Rattle.std.proofs.lemmas.List.Elements.{All-get_or}
+use Rattle.minor_heap.specs.declared.fields.MinorRef.{MinorRef}
+use Rattle.mutator_events.proofs.HeldCells.{cells_many}
+use Rattle.promotion.proofs.Holding.{appended_next}
+use Rattle.promotion.proofs.copying.hold_roots.Goals as goal
+
+pub loop-r-preserved : goal.loop-r-preserved
+loop-r-preserved g c =
+    let roots = c.args.roots.now in
+    let places = c.args.places.now in
+    let was = c.args.m.now in
+    let i = c.loop-r.r-index in
+    let d : MinorRef = record { number = 0 } in
+    let held = length was.seat.me.own.held in
+    let there = All-get_or (λ (r : MinorRef). slice_index_or places r.number 0 < held) roots i d
+    c.loop-r-test.true c.requires.there in
+    let some : 0 < length roots = omega (arith, c.loop-r-test.true) in
+    appended_next was c.loop-r.m c.keep.new.self roots d (slice_index_or roots i d)
+    (λ r. slice_index_or places r.number 0) i c.held_len-held.result
+    (cells_many was.seat.me.own.held ∙ c.requires.fit some)
+    (subst (λ (n : ℕ). slice_index_or places (slice_index_or roots i d).number 0 < n)
+    (sym (cells_many was.seat.me.own.held)) there) c.loop-r-test.true refl
+    c.held_len-held.ensures.len c.loop-r.invariant c.keep.ensures.told

@@ -1,0 +1,68 @@
+use Rattle.std.proofs.Common.{◌≡◌, ℕ, List, Result, OnOk, IfErr, length}
+use Rattle.std.proofs.Common.{sym, ap, subst, arith}
+use Rattle.std.specs.Prelude.{slice_index_or}
+use Rattle.heap_rule.specs.Facts.{is_term}
+use Rattle.heap_rule.specs.Lore.{known_at}
+use Rattle.mutator_seat.specs.declared.full.HeapFull.{HeapFull}
+use Rattle.mutator_seat.specs.Bound.{Bound}
+use Rattle.promotion.specs.Promoting.{Promoted, Refused, knows_term}
+use Rattle.promotion.proofs.Finishing.{may_promote, promoted_as, refused_as}
+use Rattle.promotion.proofs.promoter.Promoter.promote.Goals as goal
+use Rattle.promotion.proofs.promoter.Promoter.promote.Goals.{in-Ok, in-Err}
+
+pub keep-requires : goal.keep-requires
+keep-requires g c =
+    let a = c.args.m.now in
+    let b = c.copy_reached.new.m in
+    let so = c.in-Ok.ensures in
+    let at = subst (λ (ps : List ℕ). known_at b.seat.me.known (slice_index_or ps c.args.r.number 0)
+    ≡ knows_term a c.args.minor.now.records c.args.r) (sym c.as_slice.ensures.value)
+    (so.copied 0 c.args.r (omega arith)) in
+    record {
+      may = may_promote a b so.grown c.held_len-held.result
+          (slice_index_or c.as_slice.result.now c.args.r.number 0)
+          (length c.args.minor.now.records) c.requires.inside
+          (omega (arith, c.requires.some, c.held_len-held.ensures.len)) c.held_len-held.ensures.len
+          (omega (arith, c.requires.room, c.held_len-held.ensures.len))
+          (so.fit (omega arith)) (ap is_term at);
+    }
+
+pub returns-clause-promoted : goal.returns-clause-promoted
+returns-clause-promoted g c =
+    let a = c.args.m.now in
+    let b = c.copy_reached.new.m in
+    let records = c.args.minor.now.records in
+    let r = c.args.r in
+    elim c.match-copy_reached.branch [
+      | in-Ok w ↦
+          let so = w.in-Ok.ensures in
+          let place = slice_index_or w.as_slice.result.now r.number 0 in
+          let at = subst (λ (ps : List ℕ). known_at b.seat.me.known (slice_index_or ps r.number 0)
+          ≡ knows_term a records r) (sym w.as_slice.ensures.value)
+          (so.copied 0 r (omega arith)) in
+          subst (λ (x : Result ℕ HeapFull). OnOk x (Promoted a records r c.match-copy_reached.m))
+          (sym w.result-is)
+          (subst (λ (m : Bound _). Promoted a records r m) (sym w.m-is)
+          (promoted_as a b w.keep.new.self so.grown records r c.held_len-held.result place
+          c.held_len-held.ensures.len (so.fit (omega arith)) at so.claims w.keep.ensures.told))
+      | in-Err w ↦
+          subst (λ (x : Result ℕ HeapFull). OnOk x (Promoted a records r c.match-copy_reached.m))
+          (sym w.result-is) tt
+    ]
+
+pub returns-clause-full : goal.returns-clause-full
+returns-clause-full g c =
+    let a = c.args.m.now in
+    let b = c.copy_reached.new.m in
+    elim c.match-copy_reached.branch [
+      | in-Ok w ↦
+          subst (λ (x : Result ℕ HeapFull).
+          IfErr x (λ full. Refused a full c.match-copy_reached.m)) (sym w.result-is) tt
+      | in-Err w ↦
+          subst (λ (x : Result ℕ HeapFull).
+          IfErr x (λ full. Refused a full c.match-copy_reached.m)) (sym w.result-is)
+          (subst (λ (m : Bound _). Refused a w.in-Err.full m) (sym w.m-is)
+          (refused_as a b w.give_back.new.m w.in-Err.full c.held_len-held.result
+          w.in-Err.ensures.full c.held_len-held.ensures.len w.give_back.ensures.same
+          w.give_back.ensures.cut))
+    ]

@@ -1,0 +1,212 @@
+//! Copying: a raw cell is claimed, its fields are filled, and it is sealed as a record.
+ghost use Rattle.std.specs.Prelude.{◌≡◌, ◌<◌, ◌≤◌, ◌+◌, All, IfErr, IfOk, OnOk, [], false, length, map, true};
+ghost use Rattle.std.specs.Prelude.{ℕ, slice_index_or, vec_capacity};
+ghost use Rattle.cell_words.specs.Term.{null};
+ghost use Rattle.core_machine.specs.declared.events.Event.TheVariants as event;
+ghost use Rattle.core_machine.specs.declared.events.Found.TheVariants as finds;
+ghost use Rattle.free_cells.specs.Hints.{counts_of, queue_of};
+ghost use Rattle.heap_rule.specs.Lore.{five_nulls, known_at};
+ghost use Rattle.minor_heap.specs.Nursery.{FitsRecord, IsOrdered, Stands, field_at};
+ghost use Rattle.minor_heap.specs.Terms.{terms_of};
+ghost use Rattle.minor_heap.specs.declared.fields.MinorField.TheVariants as field;
+ghost use Rattle.minor_heap.specs.declared.fields.MinorRef.{MinorRef};
+ghost use Rattle.mutator_seat.specs.Bound.{held_cells, takes};
+ghost use Rattle.mutator_seat.specs.Claims.{anything};
+ghost use Rattle.mutator_seat.specs.Stretches.{Calm};
+ghost use Rattle.promotion.specs.Copying.{Appended, AreCopied, Copied, Grown, GrownBy, Halted, IsReady};
+ghost use Rattle.promotion.specs.Copying.{Opened, copied_term, marked_count, value_of};
+ghost use Rattle.promotion.specs.Promoting.{ClaimsFor, knows_term};
+ghost use Rattle.promotion.specs.Sharing.{ShareRecords, SharesRecord, known_terms, none_raw};
+ghost use Rattle.trails.specs.Claims.{FindsFull};
+
+use free_cells::Hints;
+use heap_rule::Keeping;
+use minor_heap::{MinorField, MinorHeap, MinorRef};
+use mutator_seat::{HeapFull, Mutator, Value};
+use std::marker::Brand;
+use std::sync::Wait;
+
+/// Claims a cell, and looks at it once. No place knows it: so says the heap's rule at that look.
+fn claim_apart<P: Keeping, R: Wait>(
+    rt: &R,
+    hints: &mut Hints<'_>,
+    m: &mut Mutator<'_, P>,
+) -> Result<usize, HeapFull>
+    requires inside { m.old.seat.me.presence.inside ≡ true }
+    requires room { length m.old.seat.me.own.held + 1 < m.old.seat.me.room }
+    requires none_raw { none_raw m.old.seat.me.known ≡ true }
+    ensures got { IfOk result (λ place. Opened m.old place five_nulls m.new) }
+    ensures full { IfErr result (λ full. Calm (FindsFull m.old.seat.me.number m.old.seat.me.shape.cells
+        full.off_duty full.began full.ended) m.old m.new) }
+    ensures queue { queue_of hints.new ≡ queue_of hints.old }
+    ensures takes { (counts_of hints.old).takes ≤ (counts_of hints.new).takes }
+{
+    match m.claim(rt, hints) {
+        Ok(place) => {
+            let _ = m.read::<Brand>(place, 4);
+            Ok(place)
+        }
+        Err(full) => Err(full),
+    }
+}
+
+/// A field of a record, where the copies of older records stand at these places.
+fn value_of(minor: &MinorHeap, places: &[usize], r: MinorRef, i: usize) -> Value
+    requires stands { Stands minor.now.records r }
+    requires older { length places.now ≡ r.number }
+    requires range { i < 5 }
+    ensures value { result ≡ value_of places.now (field_at minor.now.records r.number i) }
+{
+    match minor.field(r, i) {
+        MinorField::Null => Value::Null,
+        MinorField::Num(number) => Value::Num(number),
+        MinorField::Minor(older) => Value::Held(places[older.number as usize]),
+        MinorField::Shared(place) => Value::Held(place),
+    }
+}
+
+/// Copies a record whose older ones are copied.
+fn copy_record<P: Keeping, R: Wait>(
+    rt: &R,
+    hints: &mut Hints<'_>,
+    m: &mut Mutator<'_, P>,
+    minor: &MinorHeap,
+    places: &[usize],
+    r: MinorRef,
+) -> Result<usize, HeapFull>
+    requires inside { m.old.seat.me.presence.inside ≡ true }
+    requires room { length m.old.seat.me.own.held + 1 < m.old.seat.me.room }
+    requires none_raw { none_raw m.old.seat.me.known ≡ true }
+    requires stands { Stands minor.now.records r }
+    requires older { length places.now ≡ r.number }
+    requires ready { (i : ℕ) → i < 5 → IsReady m.old.seat.me.known (value_of places.now (field_at minor.now.records r.number i)) }
+    ensures got { IfOk result (λ place. Copied m.old place (copied_term m.old.seat.me.known places.now minor.now.records r.number) m.new) }
+    ensures full { IfErr result (λ full. Calm (FindsFull m.old.seat.me.number m.old.seat.me.shape.cells
+        full.off_duty full.began full.ended) m.old m.new) }
+    ensures queue { queue_of hints.new ≡ queue_of hints.old }
+    ensures takes { (counts_of hints.old).takes ≤ (counts_of hints.new).takes }
+{
+    match claim_apart(rt, hints, m) {
+        Ok(place) => {
+            for i in 0..5 {
+                let value = value_of(minor, places, r, i);
+                m.fill::<Brand>(place, i, value);
+            }
+            m.seal_record(place);
+            Ok(place)
+        }
+        Err(full) => Err(full),
+    }
+}
+
+/// Copies each record that is marked, the oldest first. The places are those of the copies, by
+/// record; of a record that is not marked it is no place.
+pub(crate) fn copy_all<P: Keeping, R: Wait>(
+    rt: &R,
+    hints: &mut Hints<'_>,
+    m: &mut Mutator<'_, P>,
+    minor: &MinorHeap,
+    marks: &[bool],
+    places: &mut Vec<usize>,
+) -> Result<(), HeapFull>
+    requires inside { m.old.seat.me.presence.inside ≡ true }
+    requires room { (k : ℕ) → slice_index_or marks.now k false ≡ true
+        → length m.old.seat.me.own.held + length minor.now.records < m.old.seat.me.room }
+    requires none_raw { none_raw m.old.seat.me.known ≡ true }
+    requires ordered { IsOrdered 0 minor.now.records }
+    requires marks { length marks.now ≡ length minor.now.records }
+    requires closed { (k i : ℕ) (older : MinorRef) → i < 5 → slice_index_or marks.now k false ≡ true
+        → field_at minor.now.records k i ≡ field.Minor older → slice_index_or marks.now older.number false ≡ true }
+    requires shares { (k i : ℕ) → i < 5 → slice_index_or marks.now k false ≡ true
+        → SharesRecord m.old.seat.me.known (field_at minor.now.records k i) }
+    requires none { places.old.items ≡ [] }
+    requires places { length minor.now.records ≤ vec_capacity places.old }
+    ensures capacity { vec_capacity places.new ≡ vec_capacity places.old }
+    ensures grown { OnOk result (GrownBy (marked_count marks.now) m.old m.new) }
+    ensures many { OnOk result (length places.new.items ≡ length minor.now.records) }
+    ensures copied { OnOk result (AreCopied m.new.seat.me.known marks.now places.new.items
+        (terms_of (known_terms m.old.seat.me.known) minor.now.records)) }
+    ensures full { IfErr result (λ full. Halted m.old full m.new) }
+    ensures queue { queue_of hints.new ≡ queue_of hints.old }
+    ensures takes { (counts_of hints.old).takes ≤ (counts_of hints.new).takes }
+{
+    for number in 0..minor.len() {
+        if marks[number as usize] {
+            let r = MinorRef { number };
+            match copy_record(rt, hints, m, minor, places.as_slice(), r) {
+                Ok(place) => places.push_reserved(place),
+                Err(full) => return Err(full),
+            }
+        } else {
+            places.push_reserved(0);
+        }
+    }
+    Ok(())
+}
+
+/// Copies each record that these reach.
+pub(crate) fn copy_reached<P: Keeping, R: Wait>(
+    rt: &R,
+    hints: &mut Hints<'_>,
+    m: &mut Mutator<'_, P>,
+    minor: &MinorHeap,
+    from: &[MinorRef],
+    marks: &mut Vec<bool>,
+    places: &mut Vec<usize>,
+) -> Result<(), HeapFull>
+    requires inside { m.old.seat.me.presence.inside ≡ true }
+    requires room { 0 < length from.now → length m.old.seat.me.own.held + length minor.now.records < m.old.seat.me.room }
+    requires none_raw { none_raw m.old.seat.me.known ≡ true }
+    requires stand { All (Stands minor.now.records) from.now }
+    requires shares { ShareRecords m.old.seat.me.known minor.now.records from.now }
+    requires marks { length minor.now.records ≤ vec_capacity marks.old }
+    requires places { length minor.now.records ≤ vec_capacity places.old }
+    ensures marks { vec_capacity marks.new ≡ vec_capacity marks.old }
+    ensures places { vec_capacity places.new ≡ vec_capacity places.old }
+    ensures claims { OnOk result (ClaimsFor m.old minor.now.records from.now m.new) }
+    ensures grown { OnOk result (Grown anything m.old m.new) }
+    ensures many { OnOk result (length places.new.items ≡ length minor.now.records) }
+    ensures few { OnOk result (length m.new.seat.me.own.held ≤ length m.old.seat.me.own.held + length minor.now.records) }
+    ensures none { OnOk result (length from.now ≡ 0 → length (held_cells m.new) ≡ length (held_cells m.old)) }
+    ensures fit { OnOk result (0 < length from.now → length (held_cells m.old) ≡ length m.old.seat.me.known) }
+    ensures copied { OnOk result (All (λ r. known_at m.new.seat.me.known (slice_index_or places.new.items r.number 0)
+        ≡ knows_term m.old minor.now.records r) from.now) }
+    ensures full { IfErr result (λ full. Halted m.old full m.new) }
+    ensures queue { queue_of hints.new ≡ queue_of hints.old }
+    ensures takes { (counts_of hints.old).takes ≤ (counts_of hints.new).takes }
+{
+    minor.mark_reached(from, marks);
+    places.clear();
+    copy_all(rt, hints, m, minor, marks.as_slice(), places)
+}
+
+/// Holds no more than the first places, if there are more.
+pub(crate) fn give_back<P: Keeping>(m: &mut Mutator<'_, P>, held: usize)
+    requires inside { m.old.seat.me.presence.inside ≡ true }
+    requires some { 1 ≤ held }
+    requires kept { held ≤ length m.old.seat.me.own.held }
+    ensures same { length m.old.seat.me.own.held ≡ held → m.new ≡ m.old }
+    ensures cut { held < length m.old.seat.me.own.held → m.new
+        ≡ takes m.old (event.Keep m.old.seat.me.number held 0 0) (finds.Presence m.old.seat.me.presence) }
+{
+    if held < m.held_len() {
+        m.cut(held);
+    }
+}
+
+/// Holds the copy of each root at one more place, in their order.
+pub(crate) fn hold_roots<P: Keeping>(m: &mut Mutator<'_, P>, places: &[usize], roots: &[MinorRef])
+    requires inside { m.old.seat.me.presence.inside ≡ true }
+    requires room { length m.old.seat.me.own.held + length roots.now ≤ m.old.seat.me.room }
+    requires fit { 0 < length roots.now → length m.old.seat.me.own.held ≡ length m.old.seat.me.known }
+    requires stand { All (λ r. r.number < length places.now) roots.now }
+    requires there { All (λ r. slice_index_or places.now r.number 0 < length m.old.seat.me.own.held) roots.now }
+    ensures appended { Appended m.old
+        (map (λ r. slice_index_or (held_cells m.old) (slice_index_or places.now r.number 0) 0) roots.now)
+        (map (λ r. known_at m.old.seat.me.known (slice_index_or places.now r.number 0)) roots.now) m.new }
+{
+    for r in roots {
+        let held = m.held_len();
+        m.keep(held, places[r.number as usize], 1);
+    }
+}

@@ -1,0 +1,12 @@
+use Rattle.std.proofs.Common.{ℕ, List, sym, subst}
+use Rattle.minor_heap.specs.declared.fields.MinorField.{MinorField}
+use Rattle.minor_heap.specs.Nursery.{field_at}
+use Rattle.promotion.specs.Sharing.{SharesRecord}
+use Rattle.promotion_tests.proofs.Sharing.{none_shared}
+use Rattle.promotion_tests.proofs.calls.collect_roots.Goals as goal
+
+pub collect-requires-clause-shares : goal.collect-requires-clause-shares
+collect-requires-clause-shares g c r i reached lt =
+    subst (λ (records : List (List MinorField)).
+    SharesRecord c.args.m.now.seat.me.known (field_at records r.number i)) (sym c.requires.records)
+    (none_shared c.args.m.now.seat.me.known r.number i)

@@ -1,0 +1,53 @@
+//! The calls of promotion on the two records, by a mutator that holds the anchor alone.
+ghost use Rattle.std.specs.Prelude.{◌≡◌, ◌∷◌, IfErr, OnErr, [], length, true};
+ghost use Rattle.heap_rule.specs.declared.known.Known.TheVariants as knows;
+ghost use Rattle.promotion_tests.specs.Two.{two};
+
+use free_cells::Hints;
+use heap_rule::NoRule;
+use minor_heap::{MinorHeap, MinorRef};
+use mutator_seat::{HeapFull, Mutator};
+use promotion::Promoter;
+use std::sync::Wait;
+
+/// Promotes the record that names the other.
+pub(crate) fn promote_second<R: Wait>(
+    rt: &R,
+    hints: &mut Hints<'_>,
+    m: &mut Mutator<'_, NoRule>,
+    promoter: &mut Promoter,
+    minor: &MinorHeap,
+) -> Result<usize, HeapFull>
+    requires inside { m.old.seat.me.presence.inside ≡ true }
+    requires held { length m.old.seat.me.own.held ≡ 1 }
+    requires known { m.old.seat.me.known ≡ knows.Nothing ∷ [] }
+    requires room { m.old.seat.me.room ≡ 8 }
+    requires promoter { promoter.old ≡ 2 }
+    requires records { minor.now.records ≡ two }
+    ensures heap { m.new.heap ≡ m.old.heap }
+    ensures inside { m.new.seat.me.presence.inside ≡ true }
+{
+    promoter.promote(rt, hints, m, minor, MinorRef { number: 1 })
+}
+
+/// Collects with these roots, which are in the heap, behind the anchor.
+pub(crate) fn collect_roots<R: Wait>(
+    rt: &R,
+    hints: &mut Hints<'_>,
+    m: &mut Mutator<'_, NoRule>,
+    promoter: &mut Promoter,
+    minor: &mut MinorHeap,
+) -> Result<usize, HeapFull>
+    requires inside { m.old.seat.me.presence.inside ≡ true }
+    requires held { length m.old.seat.me.own.held ≡ 1 }
+    requires known { m.old.seat.me.known ≡ knows.Nothing ∷ [] }
+    requires room { m.old.seat.me.room ≡ 8 }
+    requires promoter { promoter.old ≡ 2 }
+    requires records { minor.old.records ≡ two }
+    ensures heap { m.new.heap ≡ m.old.heap }
+    ensures inside { m.new.seat.me.presence.inside ≡ true }
+{
+    let older = MinorRef { number: 0 };
+    let newer = MinorRef { number: 1 };
+    promoter.collect(rt, hints, m, minor, &[newer, older, newer], 1)
+}

@@ -1,0 +1,10 @@
+//! What no clause says of promotion: rows that were worked out by hand, on the words of a heap and of
+//! a private heap, and a heap that is full.
+//!
+//! Reading order: `heaps`, `calls`, `rows`.
+#![tactic(auto)]
+
+mod calls;
+mod heaps;
+#[cfg(test)]
+mod rows;
