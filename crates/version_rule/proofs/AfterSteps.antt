@@ -65,7 +65,7 @@ at_cell_many change c (d ∷ cells) (k ∷ known) same =
     ap suc (at_cell_many change c cells known (let e : length known ≡ length cells =
     omega (arith, same) in e))
 
-known_many : (v : View Pass) (s : State) (l : Lore) → Mine is_fixed v s l
+pub known_many : (v : View Pass) (s : State) (l : Lore) → Mine is_fixed v s l
     → length v.known ≡ length v.own.held
 known_many v s l mine =
     as_many (IsKnown is_fixed s l v.number) (cells_in v.own.held) v.known
@@ -88,7 +88,7 @@ module _ (v w : View Pass) (s : State) (l : Lore) (mine : Mine is_fixed v s l) (
         ∙ ap (λ (x : Found). v.trail ++ took (event.Read v.number place f) x ∷ []) is;
   }
 
-  found_known : (cell : ℕ) → found ≡ finds.Field (field.Cell cell)
+  pub found_known : (cell : ℕ) → found ≡ finds.Field (field.Cell cell)
       → known_of w (length v.own.held) ≡ tells.found
   found_known cell is =
       let change = λ (x : Found).
@@ -104,7 +104,7 @@ module _ (v w : View Pass) (s : State) (l : Lore) (mine : Mine is_fixed v s l) (
       (at_cell_many (Rattle.heap_rule.specs.Lore.told tells.here)
       (slice_index_or (cells_in v.own.held) place 0) (cells_in v.own.held) v.known cells ∙ many)
 
-  found_version : (cell n : ℕ) (root : Term) → found ≡ finds.Field (field.Cell cell)
+  pub found_version : (cell n : ℕ) (root : Term) → found ≡ finds.Field (field.Cell cell)
       → IsVersionKnown tells.found n root
       → KnowsVersion w (length v.own.held) n root
   found_version cell n root is known = record {
@@ -146,6 +146,8 @@ module _ (is_tree : Term → Type 0) (tree_of : Term → DocTree)
             is.known;
         spells = is.spells;
         not_below = is.not_below;
+        newest = is.newest;
+        few = is.few;
         pass = pass;
         seen = ap (λ (p : Pass). p.seen) pass
             ∙ (let le = is.not_below in let e : max v.pass.seen is.number ≡ is.number =

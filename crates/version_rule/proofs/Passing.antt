@@ -1,8 +1,9 @@
 -- The rule where one pass changes and no box does.
-use Rattle.std.proofs.Common.{◌≡◌, ℕ, zero, suc, ◌-◌, ◌<◌, ◌≤◌, List, [], ◌∷◌}
-use Rattle.std.proofs.Common.{length, All, Some, max, set, length-set}
+use Rattle.std.proofs.Common.{◌≡◌, ℕ, zero, suc, ◌-◌, ◌*◌, ◌<◌, ◌≤◌, List, [], ◌∷◌}
+use Rattle.std.proofs.Common.{flat_map, length, All, Some, max, set, length-set}
 use Rattle.std.proofs.Common.{inl, inr, refl, sym, ◌∙◌, subst, arith}
 use Rattle.std.proofs.lemmas.Bool.{cases_lt}
+use Rattle.std.proofs.lemmas.List.{length-append, length-map}
 use Rattle.std.proofs.lemmas.List.Elements.{All-head, All-push, All-set, All-tail, All-weaker}
 use mathlib.Core.Option.{some, some-injective, some-ne-none}
 use lib.ListN.{get_elem?}
@@ -39,6 +40,17 @@ max_is P a b one other = elim (cases_lt a b) [
   | inl lt ↦ subst P (let e : b ≡ max a b = omega (arith, lt) in e) other
   | inr le ↦ subst P (let e : a ≡ max a b = omega (arith, le) in e) one
 ]
+
+-- no more than so many commits in each of all passes
+pub numbers_few : (keep : ℕ) (map : Map) (passes : List Pass) → All (IsInStep keep map) passes
+    → length (flat_map commit_numbers passes) ≤ 100_000 * length passes
+numbers_few keep map [] all = omega arith
+numbers_few keep map (p ∷ passes) all =
+    let few = (All-head (IsInStep keep map) p passes all).few in
+    let rest = numbers_few keep map passes (All-tail (IsInStep keep map) p passes all) in
+    let both = length-append (commit_numbers p) (flat_map commit_numbers passes) in
+    let many = length-map p.commits (λ (c : Commit). c.number) in
+    omega (arith, few, rest, both, many)
 
 module _ (keep : ℕ) (map : Map) (p : Pass) (is : IsInStep keep map p) where
   reads_on : (n : ℕ) → All (λ (r : Reading). r.number ≤ max p.seen n) p.reads

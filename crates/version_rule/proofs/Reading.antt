@@ -31,8 +31,8 @@ use Rattle.version_rule.specs.Shrinks.{not_anchor, num_inj, same_entry}
 use Rattle.version_rule.specs.Told.{TellsLatest, TellsLink, TellsOlder, TellsRoot}
 use Rattle.version_rule.specs.Versions.{HasNumber, HoldsVersions, IsLinked, IsVersion}
 use Rattle.version_rule.specs.Versions.{is_fixed}
-use Rattle.version_rule.proofs.Passing.{cut_stands, fits_at, in_step_at, read_stands}
-use Rattle.version_rule.proofs.Passing.{seen_stands, version_of}
+use Rattle.version_rule.proofs.Passing.{cut_stands, fits_at, in_step_at, numbers_few}
+use Rattle.version_rule.proofs.Passing.{read_stands, seen_stands, version_of}
 use Rattle.version_rule.proofs.States.{Seen, learned_box, learned_record, null_word, number_seen}
 use Rattle.version_rule.proofs.Seats.{target_now}
 use Rattle.version_rule.proofs.States.{number_word, record_word, version_seen}
@@ -143,6 +143,12 @@ module _ (is_tree : Term → Type 0) (tree_of : Term → DocTree)
       not_below =
           let fits = fits_at is_tree tree_of (boxes_of s l) passes h v.number v.pass at in
           let lt = fits.seen in omega (arith, lt);
+      newest = λ other n root knows.
+          let lt = (version_held other n root knows).has.there in omega (arith, lt);
+      few =
+          let made = h.versions.made in let fewer = h.few in
+          let numbers = numbers_few h.keep (boxes_of s l) passes h.in_step in
+          omega (arith, made, fewer, numbers);
     }
 
     latest_stands : HoldsVersions is_tree tree_of (boxes_of s l)

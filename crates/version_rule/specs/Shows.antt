@@ -35,6 +35,8 @@ pub record ShowsLatest (is_tree : Term → Type 0) (v w : View Pass) (place word
   pub known : KnowsVersion w (length v.own.held) number root
   pub spells : is_tree root
   pub not_below : v.pass.seen ≤ number
+  pub newest : (other its : ℕ) (of : Term) → KnowsVersion v other its of → its ≤ number
+  pub few : number ≤ 6_400_000
   pub pass : w.pass ≡ seeing number v.pass
   pub seen : w.pass.seen ≡ number
 

@@ -8,7 +8,7 @@ use Rattle.core_machine.specs.declared.events.Found.TheVariants as finds
 use Rattle.heap_rule.specs.declared.known.Known.TheVariants as knows
 use Rattle.heap_rule.specs.declared.known.Learned.{Learned}
 use Rattle.heap_rule.specs.declared.view.View.{View}
-use Rattle.version_rule.specs.Knowing.{IsVersionKnown}
+use Rattle.version_rule.specs.Knowing.{IsVersionKnown, KnowsVersion}
 use Rattle.version_rule.specs.Pass.{Pass}
 
 -- the anchor's field is the box of a version, which is not below any that the mutator knows of
@@ -21,6 +21,8 @@ pub record TellsLatest (is_tree : Term → Type 0) (v : View Pass) (tells : Lear
   pub known : IsVersionKnown tells.found number root
   pub spells : is_tree root
   pub not_below : v.pass.seen ≤ number
+  pub newest : (place other : ℕ) (its : Term) → KnowsVersion v place other its → other ≤ number
+  pub few : number ≤ 6_400_000
 
 -- a version's root is a record that spells its tree
 pub record TellsRoot (is_tree : Term → Type 0) (number : ℕ) (root : Term) (tells : Learned)

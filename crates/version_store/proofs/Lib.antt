@@ -1,0 +1,11 @@
+pub mod Backward
+pub mod Filling
+pub mod Going
+pub mod Knowns
+pub mod Latest
+pub mod Links
+pub mod Putting
+pub mod Steps
+pub mod Trimming
+pub mod Widening
+pub mod Writing

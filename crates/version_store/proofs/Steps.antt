@@ -1,0 +1,175 @@
+-- One read of a mutator, and what it finds of versions.
+use Rattle.std.proofs.Common.{◌≡◌, ◌<◌, ◌+◌, ℕ, List, [], ◌∷◌, ◌++◌}
+use Rattle.std.proofs.Common.{length, get_or, refl, sym, ◌∙◌, ap, subst, arith}
+use Rattle.std.proofs.lemmas.Bool.{eq-eqb}
+use Rattle.std.proofs.lemmas.List.{append-nil, length-map, length_push}
+use Rattle.cell_words.specs.declared.fields.Field.{Field}
+use Rattle.cell_words.specs.declared.fields.Field.TheVariants as field
+use Rattle.cell_words.specs.Field.{pack_field_of}
+use Rattle.core_machine.specs.declared.events.Event.{Event}
+use Rattle.core_machine.specs.declared.events.Event.TheVariants as event
+use Rattle.core_machine.specs.declared.events.Found.{Found}
+use Rattle.core_machine.specs.declared.events.Found.TheVariants as finds
+use Rattle.core_machine.specs.declared.places.Held.{Held}
+use Rattle.core_machine.specs.Own.{Own, having_read}
+use Rattle.core_machine.specs.State.{target_of}
+use Rattle.core_machine.specs.WordOperations.{IsPackedAs}
+use Rattle.core_machine.proofs.WordOperations.{same_packed}
+use Rattle.dlg_core.proofs.Keeps.Write.{same_field_is}
+use Rattle.heap_rule.specs.declared.known.Known.{Known}
+use Rattle.heap_rule.specs.declared.known.Learned.{Learned}
+use Rattle.heap_rule.specs.declared.view.View.{View}
+use Rattle.heap_rule.specs.Asks.{known_of, target}
+use Rattle.heap_rule.specs.Boxes.{Map}
+use Rattle.heap_rule.specs.Facts.{IsKnown}
+use Rattle.heap_rule.specs.Lore.{at_cell, cells_in, known_at, known_found, learned}
+use Rattle.heap_rule.specs.Lore.{told as told_more}
+use Rattle.heap_rule.specs.Rule.{told}
+use Rattle.heap_rule.specs.Steps.{AtStep}
+use Rattle.heap_rule.proofs.Reading.{cell_there, cells_more}
+use Rattle.mutator_events.specs.Events.{AtEvent}
+use Rattle.mutator_seat.specs.Bound.{Bound, held_cells}
+use Rattle.trails.specs.Asks.{gave_at, here, nothing}
+use Rattle.version_rule.specs.Pass.{Pass}
+use Rattle.version_rule.specs.Versions.{is_fixed}
+use Rattle.version_rule.proofs.AfterSteps.{known_many}
+use Rattle.version_rule.proofs.Seats.{knows_place, reached_place, target_now}
+use Rattle.version_store.specs.Calls.{IsCoherent, StaysKnown, StillKnown, WasRead}
+use Rattle.version_store.specs.Calls.{cells_found, whatever}
+use Rattle.version_store.proofs.Going.{goes_told, many_held, still_same, still_then}
+use Rattle.version_store.proofs.Knowns.{changed_many, changed_still, fit, pushed_still, told_still}
+
+-- The word that a field is packed into is that of no other field.
+pub same_word : (a b : Field) → pack_field_of a ≡ pack_field_of b → a ≡ b
+same_word a b is = same_field_is a b
+    (sym (same_packed a b) ∙ eq-eqb (pack_field_of a) (pack_field_of b) is)
+
+pub same_value : (a b : Field) → finds.Field a ≡ finds.Field b → a ≡ b
+same_value a b is = cc
+
+module _ (holds : Map → List Pass → Type 0) (next : Learned → Found → Pass → Pass)
+    (v w : View Pass) (e : Event) (found : Field)
+    (step : AtEvent holds is_fixed v e next (finds.Field found) w) where
+  -- an event, as the laws on versions speak of it
+  pub as_step : AtStep holds is_fixed v e next (pack_field_of found) w
+  as_step = record {
+    core = step.core;
+    lore = step.lore;
+    passes = step.passes;
+    mine = step.mine;
+    happens = step.happens;
+    kept = step.kept;
+    pass = step.pass;
+    says = subst (λ (x : Found). IsPackedAs x (pack_field_of found)) (sym step.found_is) refl;
+    new = step.new ∙ ap (λ (x : Found). told v e x (learned step.core step.lore e)
+        (next (learned step.core step.lore e) x v.pass)) (sym step.found_is);
+  }
+
+  pub coherent : IsCoherent v
+  coherent = record {
+    many = known_many v step.core step.lore step.mine;
+    kinds = fit v step.core step.lore step.mine;
+  }
+
+-- One read.
+
+found_cells : (own : Own) (found : Field)
+    → cells_in (having_read own found).held ≡ cells_in own.held ++ cells_found found
+found_cells own field.Null = sym (append-nil (cells_in own.held))
+found_cells own (field.Num n) = sym (append-nil (cells_in own.held))
+found_cells own (field.Cell c) = cells_more own.held c
+
+found_claims : (own : Own) (found : Field) → (having_read own found).claims ≡ own.claims
+found_claims own field.Null = refl
+found_claims own (field.Num n) = refl
+found_claims own (field.Cell c) = refl
+
+found_still : (known : List Known) (k : Known) (found : Field) (place : ℕ) → place < length known
+    → StillKnown (known_at known place) (known_at (known_found known k found) place)
+found_still known k field.Null place lt = still_same (known_at known place)
+found_still known k (field.Num n) place lt = still_same (known_at known place)
+found_still known k (field.Cell c) place lt = pushed_still known k place lt
+
+found_many : (known : List Known) (k : Known) (found : Field)
+    → length (known_found known k found) ≡ length known + length (cells_found found)
+found_many known k field.Null = omega arith
+found_many known k (field.Num n) = omega arith
+found_many known k (field.Cell c) = length_push known k
+
+module _ (holds : Map → List Pass → Type 0) (next : Learned → Found → Pass → Pass)
+    (a b : Bound Pass) (place f : ℕ) (found : Field) (heap : b.heap ≡ a.heap)
+    (table : b.seat.table ≡ a.seat.table) (there : place < length a.seat.me.own.held)
+    (step : AtEvent holds is_fixed a.seat.me (event.Read a.seat.me.number place f) next
+    (finds.Field found) b.seat.me) where
+  abbrev v : View Pass
+  v = a.seat.me
+
+  abbrev cells : List ℕ
+  cells = cells_in v.own.held
+
+  abbrev tells : Learned
+  tells = learned step.core step.lore (event.Read v.number place f)
+
+  abbrev known_told : List Known
+  known_told = at_cell (told_more tells.here) (get_or cells place 0) cells v.known
+
+  many : length v.known ≡ length cells
+  many = known_many v step.core step.lore step.mine
+      ∙ sym (length-map v.own.held (λ (p : Held). p.cell))
+
+  cell_is : get_or cells place 0 ≡ target v place
+  cell_is = cell_there v.own.held place
+
+  still_at : (other : ℕ) → other < length v.own.held → get_or cells other 0 ≡ get_or cells place 0
+      → StillKnown (known_of v other) (told_more tells.here (known_of v other))
+  still_at other lt same =
+      let x = target_of step.core v.number place in
+      let now = target_now v step.core step.lore step.mine place in
+      let is : target v other ≡ x =
+      sym (cell_there v.own.held other) ∙ same ∙ cell_is ∙ sym now in
+      told_still v step.core step.lore step.mine x (known_of v other)
+      (subst (Rattle.dlg_core.specs.Reachable.Reachable step.core) (sym now)
+      (reached_place v step.core step.lore step.mine place there))
+      (subst (λ (c : ℕ). IsKnown is_fixed step.core step.lore v.number c (known_of v other)) is
+      (knows_place v step.core step.lore step.mine other lt))
+
+  read_known : StaysKnown whatever (length v.own.held) a b
+  read_known other lt says =
+      let within : other < length cells =
+      let many = length-map v.own.held (λ (p : Held). p.cell) in omega (arith, many, lt) in
+      let longer = changed_many (told_more tells.here) (get_or cells place 0) cells v.known many in
+      subst (λ (k : Known). StillKnown (known_of v other) k)
+      (sym (ap (λ (u : View Pass). known_of u other) step.new))
+      (still_then (known_of v other) (known_at known_told other)
+      (known_at (known_found known_told tells.found found) other)
+      (changed_still (told_more tells.here) (get_or cells place 0) cells v.known other within many
+      (still_at other lt))
+      (found_still known_told tells.found found other (omega (arith, within, longer, many))))
+
+  read_held : held_cells b ≡ held_cells a ++ cells_found found
+  read_held = ap (λ (u : View Pass). cells_in u.own.held) step.new ∙ found_cells v.own found
+
+  read_many : length b.seat.me.known ≡ length b.seat.me.own.held
+  read_many =
+      let known = ap (λ (u : View Pass). length u.known) step.new
+      ∙ found_many known_told tells.found found in
+      let changed = changed_many (told_more tells.here) (get_or cells place 0) cells v.known many
+      in
+      let held = many_held a b (cells_found found) read_held in
+      let before = known_many v step.core step.lore step.mine in
+      omega (arith, known, changed, held, before)
+
+  pub was_read : WasRead a b place f found
+  was_read = record {
+    goes = goes_told a b (gave_at (target v place) f found ∷ [])
+        (event.Read v.number place f) (finds.Field found) tells
+        (next tells (finds.Field found) v.pass) heap table step.new refl
+        (here (refl, refl, refl) nothing);
+    holds = record {
+      held = read_held;
+      known = read_known;
+    };
+    claims = ap (λ (u : View Pass). u.own.claims) step.new ∙ found_claims v.own found;
+    coherent = coherent holds next v b.seat.me (event.Read v.number place f) found step;
+    many = read_many;
+  }

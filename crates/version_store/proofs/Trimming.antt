@@ -1,0 +1,209 @@
+-- The cut of a link, and the trim that walks to it.
+use Rattle.std.proofs.Common.{◌≡◌, ◌<◌, ◌≤◌, ◌+◌, ◌-◌, ℕ, List, [], ◌∷◌, ◌++◌, length}
+use Rattle.std.proofs.Common.{refl, sym, ◌∙◌, ap, subst, arith}
+use Rattle.std.proofs.lemmas.List.{append_assoc}
+use Rattle.cell_words.specs.declared.fields.Field.{Field}
+use Rattle.cell_words.specs.Term.{IsFive, Term}
+use Rattle.core_machine.specs.declared.events.Event.TheVariants as event
+use Rattle.core_machine.specs.declared.events.Found.{Found}
+use Rattle.doc_tree.specs.Tree.{DocTree}
+use Rattle.heap_rule.specs.declared.known.Known.{Known}
+use Rattle.heap_rule.specs.Asks.{IsBox, known_of, target}
+use Rattle.heap_rule.specs.Lore.{known_at}
+use Rattle.mutator_events.specs.declared.values.Value.TheVariants as values
+use Rattle.mutator_seat.specs.Bound.{Bound, held_cells, takes}
+use Rattle.mutator_seat.specs.Stretches.{Kept}
+use Rattle.mutator_seat.specs.Writes.{MayUpdate, PicksUpdate, Updated}
+use Rattle.mutator_seat.proofs.Writes.{many_same}
+use Rattle.version_rule.specs.Knowing.{IsVersionKnown, KnowsVersion, link_cut, link_seen}
+use Rattle.version_rule.specs.Knowing.{link_taken, number_told}
+use Rattle.version_rule.specs.Pass.{Pass, cutting}
+use Rattle.version_rule.specs.Versions.{HoldsVersions, is_fixed}
+use Rattle.version_rule.proofs.Reading.{link_cut_picks, link_seen_picks, number_known}
+use Rattle.version_rule.proofs.Writing.{cut_picks}
+use Rattle.version_store.specs.declared.held.HeldVersion.{HeldVersion}
+use Rattle.version_store.specs.Calls.{IsIn, StaysKnown, settled}
+use Rattle.version_store.specs.Held.{IsHeld}
+use Rattle.version_store.specs.Older.{Trims}
+use Rattle.version_store.specs.Walks.{CutsOff, EndsThere, FollowsLink, LinkIsNull, PicksLink}
+use Rattle.version_store.specs.Walks.{Stopped, Walked}
+use Rattle.version_store.proofs.Going.{cut_claims, cut_goes, cut_held, cut_known, cut_pass}
+use Rattle.version_store.proofs.Going.{goes_then, known_below, known_less, known_then}
+use Rattle.version_store.proofs.Going.{many_held, settled_lasts}
+use Rattle.version_store.proofs.Writing.{wrote_claims, wrote_goes, wrote_held, wrote_known}
+use Rattle.version_store.proofs.Writing.{wrote_pass}
+
+-- the passes that are picked at reads of links
+
+pub picks_seen : (is_tree : Term → Type 0) (tree_of : Term → DocTree)
+    → ((t : Term) → is_tree t → IsFive t)
+    → PicksLink (HoldsVersions is_tree tree_of) link_seen
+picks_seen is_tree tree_of is_record = record {
+  picks = λ v place number root knows later.
+      link_seen_picks is_tree tree_of is_record v place number root knows later;
+  stays = λ tells cell pass. refl;
+}
+
+pub picks_cut : (is_tree : Term → Type 0) (tree_of : Term → DocTree)
+    → ((t : Term) → is_tree t → IsFive t)
+    → PicksLink (HoldsVersions is_tree tree_of) link_cut
+picks_cut is_tree tree_of is_record = record {
+  picks = λ v place number root knows later.
+      link_cut_picks is_tree tree_of is_record v place number root knows;
+  stays = λ tells cell pass. refl;
+}
+
+pub version_kept : (a at : Bound Pass) → Kept a at → (place number : ℕ) (root : Term)
+    → KnowsVersion a.seat.me place number root → KnowsVersion at.seat.me place number root
+version_kept a at kept place number root knows = record {
+  there = subst (λ (n : ℕ). place < n)
+      (sym (many_same at.seat.me.own.held a.seat.me.own.held kept.held)) knows.there;
+  known = subst (λ (k : Known). IsVersionKnown k number root)
+      (sym (ap (λ (ks : List Known). known_at ks place) kept.known)) knows.known;
+}
+
+module _ (a : Bound Pass) (newest oldest before : HeldVersion) (is : IsIn a)
+    (first : IsHeld a newest) (last : IsHeld a oldest) (next : IsHeld a before)
+    (later : before.number + 1 ≡ oldest.number)
+    (due : oldest.number + a.seat.me.pass.keep ≤ newest.number + 1) where
+  abbrev number : ℕ
+  number = number_told (known_of a.seat.me oldest.place)
+
+  number_is : number ≡ oldest.number
+  number_is = number_known (known_of a.seat.me oldest.place) oldest.number last.root
+      last.knows.known
+
+  pub may_take : MayUpdate is_fixed a.seat.me oldest.place 2 (values.Held before.place) values.Null
+  may_take = record {
+    inside = is.inside;
+    there = last.knows.there;
+    payload = omega arith;
+    box = subst (λ (k : Known). IsBox (target a.seat.me oldest.place) k)
+        (sym last.knows.known.is) tt;
+    old_named = next.knows.there;
+    new_named = tt;
+    sealed = tt;
+    spares = λ fixed. absurd cc;
+  }
+
+  module _ (is_tree : Term → Type 0) (tree_of : Term → DocTree)
+      (is_record : (t : Term) → is_tree t → IsFive t) where
+    pub pick_taken : PicksUpdate (HoldsVersions is_tree tree_of) is_fixed (link_taken number) a
+        oldest.place 2 (values.Held before.place) values.Null
+    pick_taken at kept same =
+        cut_picks is_tree tree_of is_record at.seat.me oldest.place before.place newest.place
+        number newest.number last.root next.root first.root record {
+          held = subst (λ (n : ℕ). KnowsVersion at.seat.me oldest.place n last.root)
+              (sym number_is)
+              (version_kept a at kept oldest.place oldest.number last.root last.knows);
+          linked = subst (λ (n : ℕ). KnowsVersion at.seat.me before.place n next.root)
+              (let e : before.number ≡ number - 1 = omega (arith, later, number_is) in e)
+              (version_kept a at kept before.place before.number next.root next.knows);
+          made = version_kept a at kept newest.place newest.number first.root first.knows;
+          later = omega (arith, later, number_is);
+          due =
+              let keep = ap (λ (p : Pass). p.keep) kept.pass in
+              omega (arith, due, number_is, keep);
+        }
+
+    pub taken : (b : Bound Pass) → length a.seat.me.known ≡ length a.seat.me.own.held
+        → (found : Field) × Updated (HoldsVersions is_tree tree_of) is_fixed (link_taken number) a
+        oldest.place 2 (values.Held before.place) values.Null found b
+        → LinkIsNull a b oldest
+    taken b many (found, wrote) = record {
+      goes = wrote_goes (HoldsVersions is_tree tree_of) (link_taken number) a b oldest.place 2
+          (values.Held before.place) values.Null found wrote;
+      cells = [];
+      held = wrote_held (HoldsVersions is_tree tree_of) (link_taken number) a b oldest.place 2
+          (values.Held before.place) values.Null found wrote;
+      known = wrote_known (HoldsVersions is_tree tree_of) (link_taken number) a b oldest.place 2
+          (values.Held before.place) values.Null found wrote many;
+      pass = wrote_pass (HoldsVersions is_tree tree_of) (link_taken number) a b oldest.place 2
+          (values.Held before.place) values.Null found wrote
+          ∙ ap (λ (n : ℕ). cutting n a.seat.me.pass) number_is;
+      claims = wrote_claims (HoldsVersions is_tree tree_of) (link_taken number) a b oldest.place 2
+          (values.Held before.place) values.Null found wrote;
+    }
+
+-- The link, read and cut.
+
+pub link_taken_on : (a b c : Bound Pass) (v before : HeldVersion) → FollowsLink a b v before
+    → LinkIsNull b c v → LinkIsNull a c v
+link_taken_on a b c v before step cut = record {
+  goes = goes_then step.goes cut.goes;
+  cells = (step.cell ∷ []) ++ cut.cells;
+  held = cut.held ∙ ap (λ (cs : List ℕ). cs ++ cut.cells) step.holds.held
+      ∙ append_assoc (held_cells a) (step.cell ∷ []) cut.cells;
+  known = known_then settled (length a.seat.me.own.held) a b c settled_lasts
+      (known_less (length a.seat.me.own.held) a b step.holds.known)
+      (known_below settled (length b.seat.me.own.held) (length a.seat.me.own.held) b c
+      (let many = many_held a b (step.cell ∷ []) step.holds.held in omega (arith, many))
+      cut.known);
+  pass = cut.pass ∙ ap (λ (p : Pass). cutting v.number p) step.pass;
+  claims = cut.claims ∙ step.claims;
+}
+
+pub link_was_null : (a b : Bound Pass) (v : HeldVersion) → EndsThere link_cut a b v
+    → LinkIsNull a b v
+link_was_null a b v end = record {
+  goes = end.goes;
+  cells = [];
+  held = end.holds.held;
+  known = known_less (length a.seat.me.own.held) a b end.holds.known;
+  pass = end.pass ∙ ap (λ (n : ℕ). cutting n a.seat.me.pass) end.told;
+  claims = end.claims;
+}
+
+-- The trim.
+
+pub cuts_walked : (a b c : Bound Pass) (v oldest : HeldVersion) (keep : ℕ)
+    → keep ≡ a.seat.me.pass.keep → Walked a b v oldest (keep - 1) → LinkIsNull b c oldest
+    → CutsOff a c v keep
+cuts_walked a b c v oldest keep is walked cut = record {
+  goes = goes_then walked.goes cut.goes;
+  cells = walked.cells ++ cut.cells;
+  held = cut.held ∙ ap (λ (cs : List ℕ). cs ++ cut.cells) walked.held
+      ∙ append_assoc (held_cells a) walked.cells cut.cells;
+  known = known_then settled (length a.seat.me.own.held) a b c settled_lasts
+      (known_less (length a.seat.me.own.held) a b walked.known)
+      (known_below settled (length b.seat.me.own.held) (length a.seat.me.own.held) b c
+      (let many = many_held a b walked.cells walked.held in omega (arith, many)) cut.known);
+  cut = oldest.number;
+  within = let at = walked.number_is in omega (arith, at);
+  due =
+      let at = walked.number_is in
+      let some = walked.keeps_some in omega (arith, at, some, is);
+  pass = cut.pass ∙ ap (λ (p : Pass). cutting oldest.number p) walked.pass;
+  claims = cut.claims ∙ walked.claims;
+}
+
+pub cuts_stopped : (a b : Bound Pass) (v : HeldVersion) (keep : ℕ)
+    → Stopped link_cut a b v (keep - 1) → CutsOff a b v keep
+cuts_stopped a b v keep stopped = record {
+  goes = stopped.goes;
+  cells = stopped.cells;
+  held = stopped.held;
+  known = known_less (length a.seat.me.own.held) a b stopped.known;
+  cut = stopped.number;
+  within = stopped.within;
+  due = let near = stopped.near in omega (arith, near);
+  pass = stopped.pass ∙ ap (λ (n : ℕ). cutting n a.seat.me.pass) stopped.told;
+  claims = stopped.claims;
+}
+
+pub trims : (a b c : Bound Pass) (v : HeldVersion) (keep n : ℕ) (p : Found)
+    → n ≡ length a.seat.me.own.held → CutsOff a b v keep
+    → c ≡ takes b (event.Keep b.seat.me.number n 0 0) p → Trims a c v keep
+trims a b c v keep n p is cuts told = record {
+  goes = goes_then cuts.goes (cut_goes b c n p told);
+  holds = record {
+    held = cut_held b c n p told a cuts.cells is cuts.held;
+    known = known_then settled (length a.seat.me.own.held) a b c settled_lasts cuts.known
+        (subst (λ (k : ℕ). StaysKnown settled k b c) is (cut_known b c n p told settled));
+  };
+  cut = cuts.cut;
+  within = cuts.within;
+  due = cuts.due;
+  pass = cut_pass b c n p told ∙ cuts.pass;
+  claims = cut_claims b c n p told ∙ cuts.claims;
+}

@@ -1,0 +1,90 @@
+-- What a write leaves that a picked pass goes with: the trail, the held list, and what is known.
+use Rattle.std.proofs.Common.{◌≡◌, ◌<◌, ℕ, Bool, true, false, List, [], ◌++◌}
+use Rattle.std.proofs.Common.{length, Result, Ok, Err, OnOk, IfErr, refl, sym, ◌∙◌, ap, subst}
+use Rattle.std.proofs.Common.{arith}
+use Rattle.std.proofs.lemmas.List.{append-nil}
+use Rattle.cell_words.specs.declared.fields.Field.{Field}
+use Rattle.core_machine.specs.declared.events.Event.{Event}
+use Rattle.core_machine.specs.declared.events.Found.{Found}
+use Rattle.core_machine.specs.declared.events.Found.TheVariants as finds
+use Rattle.core_machine.specs.Words.{same_field}
+use Rattle.heap_rule.specs.declared.known.Known.{Known}
+use Rattle.heap_rule.specs.declared.known.Learned.{Learned}
+use Rattle.heap_rule.specs.declared.view.View.{View}
+use Rattle.heap_rule.specs.Asks.{known_of}
+use Rattle.heap_rule.specs.Boxes.{Map}
+use Rattle.heap_rule.specs.Lore.{known_at, known_stored_if, learned, was_made}
+use Rattle.mutator_events.specs.declared.values.Value.{Value}
+use Rattle.mutator_events.specs.Values.{field_at}
+use Rattle.mutator_seat.specs.Bound.{Bound, held_cells}
+use Rattle.mutator_seat.specs.Writes.{LookAndMarks, Updated, write_of}
+use Rattle.mutator_seat.proofs.Writes.{many_same}
+use Rattle.trails.specs.Asks.{nothing}
+use Rattle.version_rule.specs.Pass.{Pass}
+use Rattle.version_rule.specs.Versions.{is_fixed}
+use Rattle.version_store.specs.Calls.{Goes, StaysKnown, StillKnown, settled}
+use Rattle.version_store.proofs.Filling.{stored_still}
+use Rattle.version_store.proofs.Going.{calm_goes, goes_then, goes_told, kept_known, known_then}
+use Rattle.version_store.proofs.Going.{many_cells, settled_lasts, still_same}
+
+-- whichever way the write ended
+pub either_way : {U : Field → Type 0} {M : Type 0} (found : M → Field) (expected : Field)
+    (r : Result (Unit {0}) M) → OnOk r (U expected)
+    → IfErr r (λ m. (same_field (found m) expected ≡ false) × U (found m)) → (x : Field) × U x
+either_way found expected (Ok u) made moved = (expected, made)
+either_way found expected (Err m) made moved = (found m, moved.1)
+
+module _ (holds : Map → List Pass → Type 0) (next : Learned → Found → Pass → Pass)
+    (a b : Bound Pass) (place f : ℕ) (old new : Value) (found : Field)
+    (wrote : Updated holds is_fixed next a place f old new found b) where
+  abbrev at : Bound Pass
+  at = wrote.at
+
+  abbrev write : Event
+  write = write_of at place f old new
+
+  abbrev tells : Learned
+  tells = learned wrote.event.core wrote.event.lore write
+
+  pub wrote_goes : Goes [] a b
+  wrote_goes =
+      goes_then (calm_goes (LookAndMarks a.seat.me.number) a at wrote.calm)
+      (goes_told at b [] write (finds.Field found) tells (next tells (finds.Field found)
+      at.seat.me.pass) (wrote.heap ∙ sym wrote.calm.kept.heap)
+      (wrote.table ∙ sym wrote.calm.kept.table) wrote.event.new refl nothing)
+
+  pub wrote_held : held_cells b ≡ held_cells a ++ []
+  wrote_held = wrote.held ∙ sym (append-nil (held_cells a))
+
+  pub wrote_pass : b.seat.me.pass ≡ next tells (finds.Field found) a.seat.me.pass
+  wrote_pass = ap (λ (u : View Pass). u.pass) wrote.event.new
+      ∙ ap (λ (p : Pass). next tells (finds.Field found) p) wrote.calm.kept.pass
+
+  pub wrote_claims : b.seat.me.own.claims ≡ a.seat.me.own.claims
+  wrote_claims = ap (λ (u : View Pass). u.own.claims) wrote.event.new ∙ wrote.calm.kept.claims
+
+  abbrev cells : List ℕ
+  cells = held_cells at
+
+  stored_if : (made : Bool) (other : ℕ) → length at.seat.me.known ≡ length cells
+      → other < length cells → settled (known_of at.seat.me other) ≡ true
+      → StillKnown (known_of at.seat.me other)
+      (known_at (known_stored_if made cells at.seat.me.known place f
+      (field_at at.seat.me.own.held new)) other)
+  stored_if true other many lt is = stored_still cells at.seat.me.known place f
+      (field_at at.seat.me.own.held new) many other lt is
+  stored_if false other many lt is = still_same (known_of at.seat.me other)
+
+  pub wrote_known : length a.seat.me.known ≡ length a.seat.me.own.held
+      → StaysKnown settled (length a.seat.me.own.held) a b
+  wrote_known many =
+      known_then settled (length a.seat.me.own.held) a at b settled_lasts
+      (kept_known settled (length a.seat.me.own.held) a at wrote.calm.kept)
+      (λ other lt is.
+      let same = many_same at.seat.me.own.held a.seat.me.own.held wrote.calm.kept.held in
+      let long = many_cells at in
+      let known = ap (λ (ks : List Known). length ks) wrote.calm.kept.known in
+      subst (λ (k : Known). StillKnown (known_of at.seat.me other) k)
+      (sym (ap (λ (u : View Pass). known_of u other) wrote.event.new))
+      (stored_if (was_made (field_at at.seat.me.own.held old) (finds.Field found)) other
+      (omega (arith, known, many, long, same)) (omega (arith, lt, long, same)) is))

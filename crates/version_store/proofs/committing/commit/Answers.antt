@@ -1,0 +1,82 @@
+use Rattle.std.proofs.Common.{◌<◌, length, sym, subst, arith}
+use Rattle.version_rule.specs.Pass.{Pass}
+use Rattle.version_store.proofs.Widening.{claimed_held, claimed_in, claimed_is, claimed_pass}
+use Rattle.version_store.proofs.Widening.{claimed_record, claimed_room, claimed_term, claims_all}
+use Rattle.version_store.proofs.Widening.{committed_all, holds_all, kept_some, newer_all}
+use Rattle.version_store.proofs.committing.commit.Goals as goal
+
+pub put_version-put-requires : goal.put_version-put-requires
+put_version-put-requires g c =
+    let s = g.S.Spelling in
+    let a = c.args.m.now in
+    let b = c.claim.new.self in
+    let fresh = c.in-Ok.fresh in
+    let got = c.in-Ok.ensures.got in
+    record {
+      inside = claimed_in a b fresh got c.requires.inside;
+      room = claimed_room a b fresh got 8 c.requires.room (omega arith);
+      claimed = claimed_is a b fresh got c.args.v c.args.tree c.requires.version c.requires.root;
+      version = claimed_held a b fresh got c.args.v c.requires.version;
+      root = claimed_record a b fresh got c.args.tree c.requires.root;
+      spells = subst s.is_tree (sym (claimed_term a b fresh got c.args.tree c.requires.root))
+          c.requires.spells;
+      few = subst (λ (p : Pass). length p.commits < 100000) (sym (claimed_pass a b fresh got))
+          c.requires.few;
+    }
+
+pub cut-requires-clause-kept : goal.cut-requires-clause-kept
+cut-requires-clause-kept g c =
+    kept_some c.args.m.now c.claim.new.self c.in-Ok.fresh c.in-Ok.ensures.got
+    c.put_version-put.new.m c.held_len-held.result c.held_len-held.ensures.len
+    c.put_version-put.ensures.behind
+
+pub returns-in-Ok-put-clause-made : goal.returns-in-Ok-put-clause-made
+returns-in-Ok-put-clause-made g c =
+    let s = g.S.Spelling in
+    committed_all c.args.m.now c.claim.new.self c.in-Ok.fresh c.in-Ok.ensures.got
+    c.put_version-put.new.m c.cut.new.self c.held_len-held.result _ c.held_len-held.ensures.len
+    c.cut.ensures.told c.in-Ok-put.ensures.behind s.is_tree s.tree_of c.args.v c.args.tree
+    c.requires.version c.requires.root c.in-Ok-put.ensures.made
+
+pub returns-in-Ok-put-clause-rose : goal.returns-in-Ok-put-clause-rose
+returns-in-Ok-put-clause-rose g c =
+    claims_all c.args.m.now c.claim.new.self c.in-Ok.fresh c.in-Ok.ensures.got
+    c.put_version-put.new.m c.cut.new.self c.held_len-held.result _ c.held_len-held.ensures.len
+    c.cut.ensures.told c.in-Ok-put.ensures.behind
+
+pub returns-in-Ok-put-clause-held : goal.returns-in-Ok-put-clause-held
+returns-in-Ok-put-clause-held g c =
+    holds_all c.args.m.now c.claim.new.self c.in-Ok.fresh c.in-Ok.ensures.got
+    c.put_version-put.new.m c.cut.new.self c.held_len-held.result _ c.held_len-held.ensures.len
+    c.cut.ensures.told c.in-Ok-put.ensures.behind
+
+pub returns-in-Ok-put-clause-claims : goal.returns-in-Ok-put-clause-claims
+returns-in-Ok-put-clause-claims g c =
+    omega (
+      arith,
+      claims_all c.args.m.now c.claim.new.self c.in-Ok.fresh c.in-Ok.ensures.got
+          c.put_version-put.new.m c.cut.new.self c.held_len-held.result _ c.held_len-held.ensures.len
+          c.cut.ensures.told c.in-Ok-put.ensures.behind,
+    )
+
+pub returns-in-Err-put-clause-refused : goal.returns-in-Err-put-clause-refused
+returns-in-Err-put-clause-refused g c =
+    newer_all c.args.m.now c.claim.new.self c.in-Ok.fresh c.in-Ok.ensures.got
+    c.put_version-put.new.m c.cut.new.self c.held_len-held.result _ c.held_len-held.ensures.len
+    c.cut.ensures.told c.in-Err-put.ensures.behind c.args.v c.in-Err-put.newer
+    c.in-Err-put.ensures.newer
+
+pub returns-in-Err-put-clause-held : goal.returns-in-Err-put-clause-held
+returns-in-Err-put-clause-held g c =
+    holds_all c.args.m.now c.claim.new.self c.in-Ok.fresh c.in-Ok.ensures.got
+    c.put_version-put.new.m c.cut.new.self c.held_len-held.result _ c.held_len-held.ensures.len
+    c.cut.ensures.told c.in-Err-put.ensures.behind
+
+pub returns-in-Err-put-clause-claims : goal.returns-in-Err-put-clause-claims
+returns-in-Err-put-clause-claims g c =
+    omega (
+      arith,
+      claims_all c.args.m.now c.claim.new.self c.in-Ok.fresh c.in-Ok.ensures.got
+          c.put_version-put.new.m c.cut.new.self c.held_len-held.result _ c.held_len-held.ensures.len
+          c.cut.ensures.told c.in-Err-put.ensures.behind,
+    )

@@ -1,0 +1,29 @@
+use Rattle.std.proofs.Common.{sym, ◌∙◌}
+use Rattle.version_rule.proofs.Reading.{tree_picks}
+use Rattle.version_store.proofs.Latest.{gives_root, held_alone, root_cell}
+use Rattle.version_store.proofs.reading.tree.Goals as goal
+
+pub read-requires-clause-rule : goal.read-requires-clause-rule
+read-requires-clause-rule g c =
+    let s = g.S.Spelling in
+    let is = c.requires.version in
+    tree_picks s.is_tree s.tree_of s.is_record c.args.m.now.seat.me c.args.v.place c.args.v.number
+    is.root is.knows 1
+
+pub unreachable-requires : goal.unreachable-requires
+unreachable-requires g c =
+    let s = g.S.Spelling in
+    let told = c.read.ensures.told in
+    let cell = root_cell s.is_tree s.tree_of s.is_record c.args.m.now c.read.new.self
+    c.read.ensures.heap c.read.ensures.table c.args.v c.requires.version told.0 told.2 in
+    held_alone _ cell.0 told.0 c.read.result told.1 cell.1 c.in-Null.is
+
+pub returns : goal.returns
+returns g c =
+    let s = g.S.Spelling in
+    let told = c.read.ensures.told in
+    record {
+      root = gives_root s.is_tree s.tree_of s.is_record c.args.m.now c.read.new.self
+          c.read.ensures.heap c.read.ensures.table c.args.v c.requires.version told.0 told.2
+          c.in-Held.place (sym c.in-Held.is ∙ told.1);
+    }

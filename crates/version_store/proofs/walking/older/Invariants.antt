@@ -1,0 +1,6 @@
+-- a link that is null shows that newer versions are there
+use Rattle.version_rule.specs.Knowing.{link_seen}
+use Rattle.version_store.proofs.walking.older.Given as goal
+
+abbrev pub ghosts-walk_back : goal.ghosts-walk_back
+ghosts-walk_back g a = record { next = link_seen }

@@ -1,0 +1,7 @@
+pub mod Calls
+pub mod Commits
+pub mod Held
+pub mod Older
+pub mod Reads
+pub mod Walks
+pub mod Makes

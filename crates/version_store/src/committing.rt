@@ -1,0 +1,137 @@
+//! The commit: a new box over the version that a mutator has, and one exchange of the anchor's
+//! field.
+ghost use Rattle.std.specs.Prelude.{◌≡◌, ◌<◌, ◌≤◌, ◌+◌, ◌↔◌, IfErr, IfOk, OnOk, length, [], false};
+ghost use Rattle.cell_words.specs.declared.fields.Field.TheVariants as field;
+ghost use Rattle.core_machine.specs.Words.{same_field};
+ghost use Rattle.free_cells.specs.Hints.{queue_of};
+ghost use Rattle.heap_rule.specs.Asks.{target};
+ghost use Rattle.mutator_events.specs.declared.values.Value.TheVariants as values;
+ghost use Rattle.mutator_seat.specs.Writes.{MayUpdate, PicksUpdate, Updated};
+ghost use Rattle.version_rule.specs.Versions.{HoldsVersions, is_fixed};
+ghost use Rattle.version_store.specs.Calls.{Holds, IsIn, settled};
+ghost use Rattle.version_store.specs.Commits.{Committed, FindsNewer, Refused};
+ghost use Rattle.version_store.specs.Held.{IsHeld, IsRecord, term_at};
+ghost use Rattle.version_store.specs.Makes.{Behind, IsClaimed, Makes, MayMake};
+
+use crate::fault::CommitFault;
+use crate::held::HeldVersion;
+use crate::reading::latest;
+use free_cells::Hints;
+use mutator_seat::{Choice, Moved, Mutator, Value};
+use std::marker::Brand;
+use std::sync::Wait;
+use version_rule::{Spelling, Versions};
+
+/// Makes the next version, with the tree at a place, over a version that is held. Whether numbers
+/// are used up is looked at first, and then a cell is claimed. The new version is there with one
+/// exchange, of the anchor's field. It is not tried again where another has made a version first.
+pub fn commit<S: Spelling, R: Wait>(
+    rt: &R,
+    hints: &mut Hints<'_>,
+    m: &mut Mutator<'_, Versions<S>>,
+    v: HeldVersion,
+    tree: usize,
+    versions: u64,
+) -> Result<u64, CommitFault>
+    requires inside { IsIn m.old }
+    requires room { length m.old.seat.me.own.held + 128 ≤ m.old.seat.me.room }
+    requires version { IsHeld m.old v }
+    requires root { IsRecord m.old tree }
+    requires spells { S.is_tree (term_at m.old tree) }
+    requires few { length m.old.seat.me.pass.commits < 100000 }
+    ensures number { IfOk result (λ number. number ≡ v.number + 1) }
+    ensures made { OnOk result (Committed S.is_tree S.tree_of m.old m.new v tree) }
+    ensures rose { OnOk result (m.new.seat.me.own.claims ≡ m.old.seat.me.own.claims + 1) }
+    ensures refused { IfErr result (λ fault. Refused m.old m.new v fault) }
+    ensures worn { (result ≡ Err CommitFault.Worn) ↔ (v.number ≡ versions) }
+    ensures held { Holds settled [] m.old m.new }
+    ensures claims { m.old.seat.me.own.claims ≤ m.new.seat.me.own.claims }
+    ensures queue { queue_of hints.new ≡ queue_of hints.old }
+{
+    if v.number == versions {
+        return Err(CommitFault::Worn);
+    }
+    let held = m.held_len();
+    match m.claim(rt, hints) {
+        Ok(fresh) => {
+            let put = put_version(m, v, tree, fresh);
+            m.cut(held);
+            match put {
+                Ok(number) => Ok(number),
+                Err(newer) => Err(CommitFault::Moved { newer }),
+            }
+        }
+        Err(full) => Err(CommitFault::Full(full)),
+    }
+}
+
+/// Makes the claimed cell a version's box and puts it over the version, if that is still the
+/// latest. A newer one is told by its number.
+fn put_version<S: Spelling>(
+    m: &mut Mutator<'_, Versions<S>>,
+    v: HeldVersion,
+    tree: usize,
+    fresh: usize,
+) -> Result<u64, u64>
+    requires inside { IsIn m.old }
+    requires room { length m.old.seat.me.own.held + 8 ≤ m.old.seat.me.room }
+    requires claimed { IsClaimed m.old fresh v.place tree }
+    requires version { IsHeld m.old v }
+    requires root { IsRecord m.old tree }
+    requires spells { S.is_tree (term_at m.old tree) }
+    requires few { length m.old.seat.me.pass.commits < 100000 }
+    ensures number { IfOk result (λ number. number ≡ v.number + 1) }
+    ensures made { OnOk result (Committed S.is_tree S.tree_of m.old m.new v tree) }
+    ensures newer { IfErr result (λ newer. FindsNewer m.old m.new v newer) }
+    ensures behind { Behind fresh m.old m.new }
+{
+    let newest = latest(m);
+    if newest.number != v.number {
+        return Err(newest.number);
+    }
+    make_version(m, v.number + 1, v.place, tree, fresh);
+    match publish::<S, Brand>(m, v.place, tree, fresh) {
+        Ok(()) => Ok(v.number + 1),
+        Err(_) => Err(latest(m).number),
+    }
+}
+
+/// Fills the claimed cell, and makes it a box.
+fn make_version<S: Spelling>(
+    m: &mut Mutator<'_, Versions<S>>,
+    number: u64,
+    latest: usize,
+    tree: usize,
+    fresh: usize,
+)
+    requires may { MayMake m.old fresh latest tree }
+    requires small { number ≤ 6400001 }
+    ensures makes { Makes m.old m.new fresh number latest tree }
+{
+    m.fill::<Brand>(fresh, 0, Value::Num(number));
+    m.fill::<Brand>(fresh, 1, Value::Held(tree));
+    m.fill::<Brand>(fresh, 2, Value::Held(latest));
+    m.seal_box(fresh);
+}
+
+/// Exchanges the anchor's field, from the version's box to the fresh one. The tree's place serves
+/// the pass that the caller picks, and nothing at run time.
+fn publish<S: Spelling, C: Choice<Versions<S>>>(
+    m: &mut Mutator<'_, Versions<S>>,
+    latest: usize,
+    tree: usize,
+    fresh: usize,
+) -> Result<(), Moved>
+    requires may { MayUpdate is_fixed m.old.seat.me 0 0 (values.Held latest) (values.Held fresh) }
+    requires rule { PicksUpdate (HoldsVersions S.is_tree S.tree_of) is_fixed C.next m.old 0 0
+        (values.Held latest) (values.Held fresh) }
+    ensures made { OnOk result (Updated (HoldsVersions S.is_tree S.tree_of) is_fixed C.next m.old 0 0
+        (values.Held latest) (values.Held fresh) (field.Cell (target m.old.seat.me latest)) m.new) }
+    ensures moved { IfErr result (λ moved.
+        (same_field moved.found (field.Cell (target m.old.seat.me latest)) ≡ false)
+        × Updated (HoldsVersions S.is_tree S.tree_of) is_fixed C.next m.old 0 0
+        (values.Held latest) (values.Held fresh) moved.found m.new) }
+{
+    let _ = tree;
+    m.update::<C>(0, 0, Value::Held(latest), Value::Held(fresh))
+}

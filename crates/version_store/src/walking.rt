@@ -1,0 +1,172 @@
+//! Walking back along the links of versions: to an older version, and to the link that is due to be
+//! cut.
+ghost use Rattle.std.specs.Prelude.{◌≡◌, ◌<◌, ◌≤◌, ◌+◌, IfErr, IfNone, IfOk, IfSome, OnErr, length, []};
+ghost use Rattle.version_rule.specs.Versions.{HoldsVersions};
+ghost use Rattle.version_store.specs.Calls.{Holds, IsIn, whatever};
+ghost use Rattle.version_store.specs.Commits.{FindsNewer};
+ghost use Rattle.version_store.specs.Held.{IsHeld};
+ghost use Rattle.version_store.specs.Older.{GivesOlder, Trims};
+ghost use Rattle.version_store.specs.Walks.{CutsOff, EndsThere, FollowsLink, LinkIsNull};
+ghost use Rattle.version_store.specs.Walks.{PicksLink, Stopped, Walked};
+
+use crate::fault::Cut;
+use crate::held::HeldVersion;
+use crate::reading::{latest, read_number};
+use mutator_seat::{Choice, Mutator, Value};
+use std::marker::Brand;
+use version_rule::{Spelling, Versions};
+
+/// The version so many below. Where a link on the way is null, that version was cut off, and so
+/// many were made since that a newer one than `v` is read.
+pub fn older<S: Spelling>(
+    m: &mut Mutator<'_, Versions<S>>,
+    v: HeldVersion,
+    back: u64,
+) -> Result<HeldVersion, Cut>
+    requires inside { IsIn m.old }
+    requires room { length m.old.seat.me.own.held + 128 ≤ m.old.seat.me.room }
+    requires version { IsHeld m.old v }
+    requires back { back ≤ v.number }
+    requires kept { back < m.old.seat.me.pass.keep }
+    ensures older { IfOk result (λ older. GivesOlder m.old m.new v back older) }
+    ensures cut { IfErr result (λ cut. FindsNewer m.old m.new v cut.newer) }
+    ensures held { OnErr result (Holds whatever [] m.old m.new) }
+    ensures claims { m.new.seat.me.own.claims ≡ m.old.seat.me.own.claims }
+{
+    let held = m.held_len();
+    match walk_back::<S, Brand>(m, v, back) {
+        Some(found) => {
+            m.keep(held, found.place, 1);
+            Ok(HeldVersion {
+                number: found.number,
+                place: held,
+            })
+        }
+        None => {
+            let newest = latest(m);
+            m.cut(held);
+            Err(Cut {
+                newer: newest.number,
+            })
+        }
+    }
+}
+
+/// Cuts off what is older than the `keep` versions up to this one: the link of the oldest of these
+/// becomes null, if the links still lead to it.
+pub fn trim<S: Spelling>(m: &mut Mutator<'_, Versions<S>>, v: HeldVersion, keep: u64)
+    requires inside { IsIn m.old }
+    requires room { length m.old.seat.me.own.held + 128 ≤ m.old.seat.me.room }
+    requires version { IsHeld m.old v }
+    requires setting { keep ≡ m.old.seat.me.pass.keep }
+    ensures trims { keep ≤ v.number → Trims m.old m.new v keep }
+    ensures nothing { v.number < keep → m.new ≡ m.old }
+{
+    if keep <= v.number {
+        let held = m.held_len();
+        cut_off(m, v, keep);
+        m.cut(held);
+    }
+}
+
+/// Walks to the oldest version that stays, and cuts its link.
+fn cut_off<S: Spelling>(m: &mut Mutator<'_, Versions<S>>, v: HeldVersion, keep: u64)
+    requires inside { IsIn m.old }
+    requires room { length m.old.seat.me.own.held + 128 ≤ m.old.seat.me.room }
+    requires version { IsHeld m.old v }
+    requires setting { keep ≡ m.old.seat.me.pass.keep }
+    requires enough { keep ≤ v.number }
+    ensures cuts { CutsOff m.old m.new v keep }
+{
+    match walk_back::<S, Brand>(m, v, keep.saturating_sub(1)) {
+        Some(oldest) => cut_link(m, v, oldest),
+        None => (),
+    }
+}
+
+/// Follows so many links, or comes to one that is null. The number is read first, since a read
+/// shows that as much is known as is held.
+fn walk_back<S: Spelling, C: Choice<Versions<S>>>(
+    m: &mut Mutator<'_, Versions<S>>,
+    v: HeldVersion,
+    back: u64,
+) -> Option<HeldVersion>
+    requires inside { IsIn m.old }
+    requires room { length m.old.seat.me.own.held + 128 ≤ m.old.seat.me.room }
+    requires version { IsHeld m.old v }
+    requires back { back ≤ v.number }
+    requires kept { back ≤ m.old.seat.me.pass.keep }
+    requires picks { PicksLink (HoldsVersions S.is_tree S.tree_of) C.next }
+    ensures walked { IfSome result (λ at. Walked m.old m.new v at back) }
+    ensures stopped { IfNone result (Stopped C.next m.old m.new v back) }
+{
+    let _ = read_number(m, v.place);
+    let mut at = v;
+    for _ in 0..back {
+        match follow::<S, C>(m, at) {
+            Some(before) => at = before,
+            None => return None,
+        }
+    }
+    Some(at)
+}
+
+/// Reads the link of a version.
+fn follow<S: Spelling, C: Choice<Versions<S>>>(
+    m: &mut Mutator<'_, Versions<S>>,
+    v: HeldVersion,
+) -> Option<HeldVersion>
+    requires inside { IsIn m.old }
+    requires room { length m.old.seat.me.own.held < m.old.seat.me.room }
+    requires version { IsHeld m.old v }
+    requires later { 1 ≤ v.number }
+    requires picks { PicksLink (HoldsVersions S.is_tree S.tree_of) C.next }
+    ensures follows { IfSome result (λ before. FollowsLink m.old m.new v before) }
+    ensures ends { IfNone result (EndsThere C.next m.old m.new v) }
+{
+    match m.read::<C>(v.place, 2) {
+        Value::Held(place) => Some(HeldVersion {
+            number: v.number - 1,
+            place,
+        }),
+        Value::Null => None,
+        Value::Num(_) => unreachable!(),
+    }
+}
+
+/// Makes the link of a version null, once as many versions as stay are made from it on. Where
+/// another has done so first, nothing is left to do.
+fn cut_link<S: Spelling>(m: &mut Mutator<'_, Versions<S>>, newest: HeldVersion, oldest: HeldVersion)
+    requires inside { IsIn m.old }
+    requires room { length m.old.seat.me.own.held < m.old.seat.me.room }
+    requires newest { IsHeld m.old newest }
+    requires oldest { IsHeld m.old oldest }
+    requires later { 1 ≤ oldest.number }
+    requires due { oldest.number + m.old.seat.me.pass.keep ≤ newest.number + 1 }
+    ensures cut { LinkIsNull m.old m.new oldest }
+{
+    match follow::<S, Brand>(m, oldest) {
+        Some(before) => take_link(m, newest, oldest, before),
+        None => (),
+    }
+}
+
+/// Exchanges the link of a version for null.
+fn take_link<S: Spelling>(
+    m: &mut Mutator<'_, Versions<S>>,
+    newest: HeldVersion,
+    oldest: HeldVersion,
+    before: HeldVersion,
+)
+    requires inside { IsIn m.old }
+    requires newest { IsHeld m.old newest }
+    requires oldest { IsHeld m.old oldest }
+    requires before { IsHeld m.old before }
+    requires later { before.number + 1 ≡ oldest.number }
+    requires due { oldest.number + m.old.seat.me.pass.keep ≤ newest.number + 1 }
+    requires many { length m.old.seat.me.known ≡ length m.old.seat.me.own.held }
+    ensures cut { LinkIsNull m.old m.new oldest }
+{
+    let _ = newest;
+    let _ = m.update::<Brand>(oldest.place, 2, Value::Held(before.place), Value::Null);
+}
