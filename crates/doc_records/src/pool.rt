@@ -1,5 +1,5 @@
 //! Where records stand: what a pool offers, and what it needs for it.
-ghost use Rattle.std.specs.Prelude.{◌≡◌, ◌+◌, ◌≤◌, ◌<◌, ℕ, Bool, true};
+ghost use Rattle.std.specs.Prelude.{◌≡◌, ◌+◌, ◌≤◌, ◌<◌, ◌^◌, ℕ, Bool, true};
 ghost use Rattle.cell_words.specs.Term.{five, part, IsFive};
 ghost use Rattle.trails.specs.Telling.{Tells};
 ghost use Rattle.doc_records.specs.Pool.{Shown, Later, Kept, Stands, IsOn, PartOn};
@@ -69,7 +69,8 @@ pub trait RecordPool {
     /// How many places are held.
     fn held(&self) -> usize
         ensures held { result ≡ (shown self.now).held }
-        ensures some { 1 ≤ result };
+        ensures some { 1 ≤ result }
+        ensures few { (shown self.now).records ≤ 2 ^ 32 };
 
     /// Gives back all places but the first so many.
     fn cut(&mut self, places: usize)
