@@ -120,7 +120,7 @@ pub node_rising : (t : Term) → IsTreeNode t → IsRising (kids_of (entries_of 
 node_rising t is = subst IsRising (node_kids t is.node) is.lawful.nodes.here.rising
 
 -- entries are a balanced tree, and so not high
-balanced : (t : Term) → AreEntries t → IsBalanced (entries_of t)
+pub balanced : (t : Term) → AreEntries t → IsBalanced (entries_of t)
 balanced null is = tt
 balanced (num n) is = absurd is
 balanced (five a b c d e) is =

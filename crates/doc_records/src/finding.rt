@@ -16,9 +16,9 @@ use crate::reads::read_part;
 use doc_tree::Name;
 use std::cmp::Ordering;
 
-// The order of the name against an entry's.
+/// The order of the name against an entry's.
 #[tactic(auto, using(crate::proofs::Rows::entry_name, crate::proofs::Rows::name_chain, crate::proofs::Rows::name_cells))]
-fn order_entry<R: RecordPool>(records: &mut R, at: R::At, name: &Name) -> Ordering
+pub fn order_entry<R: RecordPool>(records: &mut R, at: R::At, name: &Name) -> Ordering
     requires stands { (R.shown records.old).stands (R.shown records.old).held at }
     requires five { IsFive ((R.shown records.old).term at) }
     requires entry { AreEntries ((R.shown records.old).term at) }
@@ -32,9 +32,9 @@ fn order_entry<R: RecordPool>(records: &mut R, at: R::At, name: &Name) -> Orderi
     order_text(records, name.bytes(), written)
 }
 
-// The child of an entry.
+/// The child of an entry.
 #[tactic(auto, using(crate::proofs::Rows::entry_child, crate::proofs::Rows::no_child, crate::proofs::Rows::num_child))]
-fn read_child<R: RecordPool>(records: &mut R, at: R::At) -> R::At
+pub fn entry_child<R: RecordPool>(records: &mut R, at: R::At) -> R::At
     requires stands { (R.shown records.old).stands (R.shown records.old).held at }
     requires five { IsFive ((R.shown records.old).term at) }
     requires entry { AreEntries ((R.shown records.old).term at) }
@@ -82,7 +82,7 @@ fn find_under<R: RecordPool>(records: &mut R, top: Part<R::At>, name: &Name) -> 
             let left = read_part(records, at, 2);
             find_under(records, left, name)
         }
-        Ordering::Equal => Some(read_child(records, at)),
+        Ordering::Equal => Some(entry_child(records, at)),
         Ordering::Greater => {
             let right = read_part(records, at, 3);
             find_under(records, right, name)

@@ -21,9 +21,10 @@ mod texts;
 mod words;
 mod writes;
 
-pub use crate::finding::{child, find_child};
+pub use crate::finding::{child, entry_child, find_child, order_entry};
 pub use crate::listing::names;
 pub use crate::nodes::{count, empty_node, height, text_of};
 pub use crate::pool::{Part, RecordPool};
+pub use crate::reads::{read_number, read_part};
 pub use crate::writes::{make_text, with_text};
 pub use doc_tree::NoMemory;

@@ -34,7 +34,7 @@ pub(crate) fn read_word<R: RecordPool>(records: &mut R, at: R::At, index: usize)
 
 /// A number that nothing is told of.
 #[tactic(auto, using(crate::proofs::Fields::untold))]
-pub(crate) fn read_number<R: RecordPool>(records: &mut R, at: R::At, index: usize) -> u64
+pub fn read_number<R: RecordPool>(records: &mut R, at: R::At, index: usize) -> u64
     requires stands { (R.shown records.old).stands (R.shown records.old).held at }
     requires range { index < 5 }
     requires place { (R.shown records.old).held < (R.shown records.old).room }
@@ -52,7 +52,7 @@ pub(crate) fn read_number<R: RecordPool>(records: &mut R, at: R::At, index: usiz
 
 /// A field that nothing is told of.
 #[tactic(auto, using(crate::proofs::Fields::untold))]
-pub(crate) fn read_part<R: RecordPool>(records: &mut R, at: R::At, index: usize) -> Part<R::At>
+pub fn read_part<R: RecordPool>(records: &mut R, at: R::At, index: usize) -> Part<R::At>
     requires stands { (R.shown records.old).stands (R.shown records.old).held at }
     requires range { index < 5 }
     requires place { (R.shown records.old).held < (R.shown records.old).room }

@@ -1,7 +1,7 @@
 -- What a pool of entries shows: an entry or none as a tree, and that what stood before still
 -- stands.
 -- Source: this project's.
-use Rattle.std.specs.Prelude.{◌≡◌, ℕ, Option, Some, None}
+use Rattle.std.specs.Prelude.{◌≡◌, Option, Some, None}
 use Rattle.doc_tree.specs.Tree.{DocTree}
 use Rattle.kids_avl.specs.Entries.{Entries, no_entries}
 
@@ -15,9 +15,9 @@ abbrev pub Stand : {S A : Type 0} → (S → A → Type 0) → S → Option A �
 Stand stands s None = Unit {0}
 Stand stands s (Some a) = stands s a
 
--- whatever stood still stands and says what it said, and the source is the same
+-- whatever stood still stands and says what it said, and what was kept of an earlier state still is
 pub record Later {S A C : Type 0} (stands : S → A → Type 0) (entries : S → A → Entries)
-    (is_child : S → C → Type 0) (tree : S → C → DocTree) (source : S → ℕ) (old new : S)
+    (is_child : S → C → Type 0) (tree : S → C → DocTree) (kept : S → S → Type 0) (old new : S)
     : Type 0 where
   pub still : (a : A) → stands old a → stands new a
   pub same : (a : A) → stands old a → entries new a ≡ entries old a
@@ -25,4 +25,4 @@ pub record Later {S A C : Type 0} (stands : S → A → Type 0) (entries : S →
   pub same_under : (o : Option A) → Stand stands old o → under entries new o ≡ under entries old o
   pub child_still : (c : C) → is_child old c → is_child new c
   pub child_same : (c : C) → is_child old c → tree new c ≡ tree old c
-  pub kept : source new ≡ source old
+  pub still_kept : (start : S) → kept start old → kept start new

@@ -29,7 +29,7 @@ pub fn find<K: KidPool>(pool: &mut K, root: Option<K::At>, name: &Name) -> Optio
     ensures child { option_map (K.tree pool.new) result ≡ child_at name.now (kids_of
         (under K.entries pool.old root)) }
     ensures stands { ForSome result (K.is_child pool.new) }
-    ensures later { Later K.stands K.entries K.is_child K.tree K.source pool.old pool.new }
+    ensures later { Later K.stands K.entries K.is_child K.tree K.kept pool.old pool.new }
     ensures places { K.places pool.old ≤ K.places pool.new + 64 }
     ensures records { K.records pool.new ≡ K.records pool.old }
     ensures made { K.made pool.new ≡ K.made pool.old }
@@ -56,7 +56,7 @@ pub fn put<K: KidPool>(pool: &mut K, root: Option<K::At>, name: &Name, child: K:
     ensures few { kid_count (kids_of (K.entries pool.new result)) ≤ 256 }
     ensures high { height_of (K.entries pool.new result) ≤ 11 }
     ensures stands { K.stands pool.new result }
-    ensures later { Later K.stands K.entries K.is_child K.tree K.source pool.old pool.new }
+    ensures later { Later K.stands K.entries K.is_child K.tree K.kept pool.old pool.new }
     ensures places { K.places pool.old ≤ K.places pool.new + 256 }
     ensures records { K.records pool.old ≤ K.records pool.new + 38 }
     ensures made { K.made pool.new ≤ K.made pool.old + 34 }
@@ -83,7 +83,7 @@ pub fn remove<K: KidPool>(pool: &mut K, root: Option<K::At>, name: &Name) -> Opt
     ensures few { kid_count (kids_of (under K.entries pool.new result)) ≤ 256 }
     ensures high { height_of (under K.entries pool.new result) ≤ 11 }
     ensures stands { Stand K.stands pool.new result }
-    ensures later { Later K.stands K.entries K.is_child K.tree K.source pool.old pool.new }
+    ensures later { Later K.stands K.entries K.is_child K.tree K.kept pool.old pool.new }
     ensures places { K.places pool.old ≤ K.places pool.new + 256 }
     ensures records { K.records pool.old ≤ K.records pool.new + 33 }
     ensures made { K.made pool.new ≤ K.made pool.old + 33 }
@@ -99,7 +99,7 @@ pub fn len<K: KidPool>(pool: &mut K, root: Option<K::At>) -> u32
     requires few { kid_count (kids_of (under K.entries pool.old root)) ≤ 256 }
     requires places { 512 ≤ K.places pool.old }
     ensures count { result ≡ kid_count (kids_of (under K.entries pool.old root)) }
-    ensures later { Later K.stands K.entries K.is_child K.tree K.source pool.old pool.new }
+    ensures later { Later K.stands K.entries K.is_child K.tree K.kept pool.old pool.new }
     ensures places { K.places pool.old ≤ K.places pool.new + 512 }
     ensures records { K.records pool.new ≡ K.records pool.old }
     ensures made { K.made pool.new ≡ K.made pool.old }
@@ -119,7 +119,7 @@ pub fn kid_at<K: KidPool>(pool: &mut K, root: Option<K::At>, index: u32) -> Opti
         (under K.entries pool.old root)) }
     ensures none { result ≡ None ↔ (kid_count (kids_of (under K.entries pool.old root)) ≤ index) }
     ensures stands { Stand K.stands pool.new result }
-    ensures later { Later K.stands K.entries K.is_child K.tree K.source pool.old pool.new }
+    ensures later { Later K.stands K.entries K.is_child K.tree K.kept pool.old pool.new }
     ensures places { K.places pool.old ≤ K.places pool.new + 512 }
     ensures records { K.records pool.new ≡ K.records pool.old }
     ensures made { K.made pool.new ≡ K.made pool.old }

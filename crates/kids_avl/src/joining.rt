@@ -28,7 +28,7 @@ pub(crate) fn joined<K: KidPool>(
         (under K.entries pool.old left) (under K.entries pool.old right))
         (K.entries pool.new result) }
     ensures stands { K.stands pool.new result }
-    ensures later { Later K.stands K.entries K.is_child K.tree K.source pool.old pool.new }
+    ensures later { Later K.stands K.entries K.is_child K.tree K.kept pool.old pool.new }
     ensures places { K.places pool.old ≤ K.places pool.new + 9 }
     ensures records { K.records pool.old ≤ K.records pool.new + 3 }
     ensures made { K.made pool.new ≤ K.made pool.old + 3 }
@@ -72,7 +72,7 @@ fn leaning_left<K: KidPool>(
         (under K.entries pool.old left) (under K.entries pool.old right))
         (K.entries pool.new result) }
     ensures stands { K.stands pool.new result }
-    ensures later { Later K.stands K.entries K.is_child K.tree K.source pool.old pool.new }
+    ensures later { Later K.stands K.entries K.is_child K.tree K.kept pool.old pool.new }
     ensures places { K.places pool.old ≤ K.places pool.new + 9 }
     ensures records { K.records pool.old ≤ K.records pool.new + 3 }
     ensures made { K.made pool.new ≤ K.made pool.old + 3 }
@@ -104,7 +104,7 @@ fn leaning_right<K: KidPool>(
         (under K.entries pool.old left) (under K.entries pool.old right))
         (K.entries pool.new result) }
     ensures stands { K.stands pool.new result }
-    ensures later { Later K.stands K.entries K.is_child K.tree K.source pool.old pool.new }
+    ensures later { Later K.stands K.entries K.is_child K.tree K.kept pool.old pool.new }
     ensures places { K.places pool.old ≤ K.places pool.new + 9 }
     ensures records { K.records pool.old ≤ K.records pool.new + 3 }
     ensures made { K.made pool.new ≤ K.made pool.old + 3 }

@@ -26,8 +26,9 @@ pub trait KidPool {
     /// The pool has this child.
     ghost is_child: { Self → Self.Child → Type 0 };
 
-    /// What no call changes: of a pool that borrows what it fills, whose it is.
-    ghost source: { Self → ℕ };
+    /// What a pool keeps of an earlier state, beside its entries: so much a caller learns of what
+    /// the pool stands on.
+    ghost kept: { Self → Self → Type 0 };
 
     /// How many places are left.
     ghost places: { Self → ℕ };
@@ -44,7 +45,7 @@ pub trait KidPool {
         requires places { 4 ≤ places self.old }
         ensures order { result ≡ name_cmp name.now (name_of (entries self.old at)) }
         ensures entry { IsEntry (entries self.old at) }
-        ensures later { Later stands entries is_child tree source self.old self.new }
+        ensures later { Later stands entries is_child tree kept self.old self.new }
         ensures places { places self.old ≤ places self.new + 4 }
         ensures records { records self.new ≡ records self.old }
         ensures made { made self.new ≡ made self.old };
@@ -56,7 +57,7 @@ pub trait KidPool {
         ensures child { tree self.new result ≡ child_of (entries self.old at) }
         ensures is_child { is_child self.new result }
         ensures entry { IsEntry (entries self.old at) }
-        ensures later { Later stands entries is_child tree source self.old self.new }
+        ensures later { Later stands entries is_child tree kept self.old self.new }
         ensures places { places self.old ≤ places self.new + 1 }
         ensures records { records self.new ≡ records self.old }
         ensures made { made self.new ≡ made self.old };
@@ -68,7 +69,7 @@ pub trait KidPool {
         ensures left { under entries self.new result ≡ left_of (entries self.old at) }
         ensures stands { Stand stands self.new result }
         ensures entry { IsEntry (entries self.old at) }
-        ensures later { Later stands entries is_child tree source self.old self.new }
+        ensures later { Later stands entries is_child tree kept self.old self.new }
         ensures places { places self.old ≤ places self.new + 1 }
         ensures records { records self.new ≡ records self.old }
         ensures made { made self.new ≡ made self.old };
@@ -80,7 +81,7 @@ pub trait KidPool {
         ensures right { under entries self.new result ≡ right_of (entries self.old at) }
         ensures stands { Stand stands self.new result }
         ensures entry { IsEntry (entries self.old at) }
-        ensures later { Later stands entries is_child tree source self.old self.new }
+        ensures later { Later stands entries is_child tree kept self.old self.new }
         ensures places { places self.old ≤ places self.new + 1 }
         ensures records { records self.new ≡ records self.old }
         ensures made { made self.new ≡ made self.old };
@@ -90,7 +91,7 @@ pub trait KidPool {
         requires stands { stands self.old at }
         ensures height { result ≡ height_of (entries self.old at) }
         ensures entry { IsEntry (entries self.old at) }
-        ensures later { Later stands entries is_child tree source self.old self.new }
+        ensures later { Later stands entries is_child tree kept self.old self.new }
         ensures places { places self.old ≤ places self.new }
         ensures records { records self.new ≡ records self.old }
         ensures made { made self.new ≡ made self.old };
@@ -114,7 +115,7 @@ pub trait KidPool {
         ensures entry { entries self.new result ≡ entry name.now (tree self.old child)
             (under entries self.old left) (under entries self.old right) }
         ensures stands { stands self.new result }
-        ensures later { Later stands entries is_child tree source self.old self.new }
+        ensures later { Later stands entries is_child tree kept self.old self.new }
         ensures places { places self.old ≤ places self.new }
         ensures records { records self.old ≤ records self.new + 5 }
         ensures made { made self.new ≡ made self.old + 1 };
@@ -140,7 +141,7 @@ pub trait KidPool {
         ensures entry { entries self.new result ≡ entry (name_of (entries self.old like))
             (tree self.old child) (under entries self.old left) (under entries self.old right) }
         ensures stands { stands self.new result }
-        ensures later { Later stands entries is_child tree source self.old self.new }
+        ensures later { Later stands entries is_child tree kept self.old self.new }
         ensures places { places self.old ≤ places self.new + 1 }
         ensures records { records self.old ≤ records self.new + 1 }
         ensures made { made self.new ≡ made self.old + 1 };
@@ -161,7 +162,7 @@ pub fn height_above(left: u64, right: u64) -> u64
 pub fn height_under<K: KidPool>(pool: &mut K, top: Option<K::At>) -> u64
     requires { Stand K.stands pool.old top }
     ensures height { result ≡ height_of (under K.entries pool.old top) }
-    ensures later { Later K.stands K.entries K.is_child K.tree K.source pool.old pool.new }
+    ensures later { Later K.stands K.entries K.is_child K.tree K.kept pool.old pool.new }
     ensures places { K.places pool.old ≤ K.places pool.new }
     ensures records { K.records pool.new ≡ K.records pool.old }
     ensures made { K.made pool.new ≡ K.made pool.old }
@@ -190,7 +191,7 @@ pub(crate) fn read_entry<K: KidPool>(pool: &mut K, at: K::At) -> Opened<K::At, K
     ensures child { K.is_child pool.new result.child }
     ensures left { Stand K.stands pool.new result.left }
     ensures right { Stand K.stands pool.new result.right }
-    ensures later { Later K.stands K.entries K.is_child K.tree K.source pool.old pool.new }
+    ensures later { Later K.stands K.entries K.is_child K.tree K.kept pool.old pool.new }
     ensures places { K.places pool.old ≤ K.places pool.new + 3 }
     ensures records { K.records pool.new ≡ K.records pool.old }
     ensures made { K.made pool.new ≡ K.made pool.old }

@@ -26,7 +26,7 @@ pub(crate) fn put_under<K: KidPool>(
     ensures put { IsPut name.now (K.tree pool.old child) (under K.entries pool.old top)
         (K.entries pool.new result) }
     ensures stands { K.stands pool.new result }
-    ensures later { Later K.stands K.entries K.is_child K.tree K.source pool.old pool.new }
+    ensures later { Later K.stands K.entries K.is_child K.tree K.kept pool.old pool.new }
     ensures places { K.places pool.old ≤ K.places pool.new + 16 * height_of
         (under K.entries pool.old top) }
     ensures records { K.records pool.old ≤ K.records pool.new + (3 * height_of

@@ -22,7 +22,7 @@ pub(crate) fn find_under<K: KidPool>(
     ensures child { option_map (K.tree pool.new) result
         ≡ child name.now (kids_of (under K.entries pool.old top)) }
     ensures stands { ForSome result (K.is_child pool.new) }
-    ensures later { Later K.stands K.entries K.is_child K.tree K.source pool.old pool.new }
+    ensures later { Later K.stands K.entries K.is_child K.tree K.kept pool.old pool.new }
     ensures places { K.places pool.old ≤ K.places pool.new + 5 * height_of
         (under K.entries pool.old top) }
     ensures records { K.records pool.new ≡ K.records pool.old }
@@ -50,7 +50,7 @@ pub(crate) fn count_under<K: KidPool>(pool: &mut K, top: Option<K::At>) -> u32
     requires few { kid_count (kids_of (under K.entries pool.old top)) ≤ 256 }
     requires places { 2 * kid_count (kids_of (under K.entries pool.old top)) ≤ K.places pool.old }
     ensures count { result ≡ kid_count (kids_of (under K.entries pool.old top)) }
-    ensures later { Later K.stands K.entries K.is_child K.tree K.source pool.old pool.new }
+    ensures later { Later K.stands K.entries K.is_child K.tree K.kept pool.old pool.new }
     ensures places { K.places pool.old ≤ K.places pool.new + 2 * kid_count (kids_of
         (under K.entries pool.old top)) }
     ensures records { K.records pool.new ≡ K.records pool.old }
@@ -81,7 +81,7 @@ pub(crate) fn spot_under<K: KidPool>(pool: &mut K, top: Option<K::At>, index: u3
         ≡ kid_at index (kids_of (under K.entries pool.old top)) }
     ensures past { IsPast index (kid_count (kids_of (under K.entries pool.old top))) result }
     ensures stands { StandsHere (K.stands pool.new) result }
-    ensures later { Later K.stands K.entries K.is_child K.tree K.source pool.old pool.new }
+    ensures later { Later K.stands K.entries K.is_child K.tree K.kept pool.old pool.new }
     ensures places { K.places pool.old ≤ K.places pool.new + 2 * kid_count (kids_of
         (under K.entries pool.old top)) }
     ensures records { K.records pool.new ≡ K.records pool.old }

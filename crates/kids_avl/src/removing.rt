@@ -28,7 +28,7 @@ fn take_first<K: KidPool>(pool: &mut K, at: K::At) -> First<K::At>
         (under K.entries pool.new result.rest) }
     ensures stands { K.stands pool.new result.first }
     ensures rest { Stand K.stands pool.new result.rest }
-    ensures later { Later K.stands K.entries K.is_child K.tree K.source pool.old pool.new }
+    ensures later { Later K.stands K.entries K.is_child K.tree K.kept pool.old pool.new }
     ensures places { K.places pool.old ≤ K.places pool.new + 12 * height_of
         (K.entries pool.old at) }
     ensures records { K.records pool.old ≤ K.records pool.new + 3 * height_of
@@ -69,7 +69,7 @@ fn closed<K: KidPool>(pool: &mut K, at: K::At, sides: Opened<K::At, K::Child>) -
         (K.tree pool.old sides.child) (under K.entries pool.old sides.left)
         (under K.entries pool.old sides.right)) (under K.entries pool.new result) }
     ensures stands { Stand K.stands pool.new result }
-    ensures later { Later K.stands K.entries K.is_child K.tree K.source pool.old pool.new }
+    ensures later { Later K.stands K.entries K.is_child K.tree K.kept pool.old pool.new }
     ensures places { K.places pool.old ≤ K.places pool.new + (13 * height_of
         (under K.entries pool.old sides.right) + 9) }
     ensures records { K.records pool.old ≤ K.records pool.new + (3 * height_of
@@ -99,7 +99,7 @@ pub(crate) fn remove_under<K: KidPool>(
     ensures without { IsWithout name.now (under K.entries pool.old top)
         (under K.entries pool.new result) }
     ensures stands { Stand K.stands pool.new result }
-    ensures later { Later K.stands K.entries K.is_child K.tree K.source pool.old pool.new }
+    ensures later { Later K.stands K.entries K.is_child K.tree K.kept pool.old pool.new }
     ensures places { K.places pool.old ≤ K.places pool.new + 16 * height_of
         (under K.entries pool.old top) }
     ensures records { K.records pool.old ≤ K.records pool.new + 3 * height_of

@@ -38,7 +38,7 @@ fn once_right<K: KidPool>(
         (under K.entries pool.old side.left) (under K.entries pool.old side.right))
         (under K.entries pool.old right)) (K.entries pool.new result) }
     ensures stands { K.stands pool.new result }
-    ensures later { Later K.stands K.entries K.is_child K.tree K.source pool.old pool.new }
+    ensures later { Later K.stands K.entries K.is_child K.tree K.kept pool.old pool.new }
     ensures places { K.places pool.old ≤ K.places pool.new + 2 }
     ensures records { K.records pool.old ≤ K.records pool.new + 2 }
     ensures made { K.made pool.new ≤ K.made pool.old + 2 }
@@ -92,7 +92,7 @@ fn twice_right<K: KidPool>(
         (under K.entries pool.old mid.right)))
         (under K.entries pool.old right)) (K.entries pool.new result) }
     ensures stands { K.stands pool.new result }
-    ensures later { Later K.stands K.entries K.is_child K.tree K.source pool.old pool.new }
+    ensures later { Later K.stands K.entries K.is_child K.tree K.kept pool.old pool.new }
     ensures places { K.places pool.old ≤ K.places pool.new + 3 }
     ensures records { K.records pool.old ≤ K.records pool.new + 3 }
     ensures made { K.made pool.new ≤ K.made pool.old + 3 }
@@ -124,7 +124,7 @@ pub(crate) fn turned_right<K: KidPool>(
     ensures even { IsEven (entry (name_of (K.entries pool.old like)) (K.tree pool.old child)
         (K.entries pool.old top) (under K.entries pool.old right)) (K.entries pool.new result) }
     ensures stands { K.stands pool.new result }
-    ensures later { Later K.stands K.entries K.is_child K.tree K.source pool.old pool.new }
+    ensures later { Later K.stands K.entries K.is_child K.tree K.kept pool.old pool.new }
     ensures places { K.places pool.old ≤ K.places pool.new + 9 }
     ensures records { K.records pool.old ≤ K.records pool.new + 3 }
     ensures made { K.made pool.new ≤ K.made pool.old + 3 }
@@ -173,7 +173,7 @@ fn once_left<K: KidPool>(
         (under K.entries pool.old side.left) (under K.entries pool.old side.right)))
         (K.entries pool.new result) }
     ensures stands { K.stands pool.new result }
-    ensures later { Later K.stands K.entries K.is_child K.tree K.source pool.old pool.new }
+    ensures later { Later K.stands K.entries K.is_child K.tree K.kept pool.old pool.new }
     ensures places { K.places pool.old ≤ K.places pool.new + 2 }
     ensures records { K.records pool.old ≤ K.records pool.new + 2 }
     ensures made { K.made pool.new ≤ K.made pool.old + 2 }
@@ -228,7 +228,7 @@ fn twice_left<K: KidPool>(
         (under K.entries pool.old mid.right)) (under K.entries pool.old side.right)))
         (K.entries pool.new result) }
     ensures stands { K.stands pool.new result }
-    ensures later { Later K.stands K.entries K.is_child K.tree K.source pool.old pool.new }
+    ensures later { Later K.stands K.entries K.is_child K.tree K.kept pool.old pool.new }
     ensures places { K.places pool.old ≤ K.places pool.new + 3 }
     ensures records { K.records pool.old ≤ K.records pool.new + 3 }
     ensures made { K.made pool.new ≤ K.made pool.old + 3 }
@@ -258,7 +258,7 @@ pub(crate) fn turned_left<K: KidPool>(
     ensures even { IsEven (entry (name_of (K.entries pool.old like)) (K.tree pool.old child)
         (under K.entries pool.old left) (K.entries pool.old top)) (K.entries pool.new result) }
     ensures stands { K.stands pool.new result }
-    ensures later { Later K.stands K.entries K.is_child K.tree K.source pool.old pool.new }
+    ensures later { Later K.stands K.entries K.is_child K.tree K.kept pool.old pool.new }
     ensures places { K.places pool.old ≤ K.places pool.new + 9 }
     ensures records { K.records pool.old ≤ K.records pool.new + 3 }
     ensures made { K.made pool.new ≤ K.made pool.old + 3 }

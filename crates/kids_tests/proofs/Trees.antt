@@ -6,7 +6,7 @@ use Rattle.std.specs.Prelude.{slice_index_or}
 use Rattle.kids_avl.specs.Entries.{Entries, entry, height_of, IsEntry}
 use Rattle.kids_avl.specs.Pool.{under, Stand, Later}
 use Rattle.kids_tests.specs.Memory.{Holding, blank, tree_at, HasEntry, tree_over, trees_after}
-use Rattle.kids_tests.specs.Memory.{trees_of, leaf, Tells, IsSound, says, IsNumber, whose}
+use Rattle.kids_tests.specs.Memory.{trees_of, leaf, Tells, IsSound, says, IsNumber, grown}
 
 -- where an entry is, there is one
 pub within : (trees : List Entries) (a : ℕ) → HasEntry trees a → a < length trees
@@ -36,7 +36,7 @@ still_under trees t None has = tt
 still_under trees t (Some a) has = still trees t a has
 
 pub later_more : (trees : List Entries) (t : Entries)
-    → Later HasEntry tree_at IsNumber says whose trees (trees ++ t ∷ [])
+    → Later HasEntry tree_at IsNumber says grown trees (trees ++ t ∷ [])
 later_more trees t = record {
   still = still trees t;
   same = kept trees t;
@@ -44,7 +44,7 @@ later_more trees t = record {
   same_under = kept_under trees t;
   child_still = λ c is. is;
   child_same = λ c is. refl;
-  kept = refl;
+  still_kept = λ start were. omega (arith, were, length-append trees (t ∷ []));
 }
 
 -- the newest tree

@@ -62,9 +62,9 @@ says trees c = leaf c
 abbrev pub IsNumber : List Entries → ℕ → Type 0
 IsNumber trees c = Unit {0}
 
--- it borrows from none
-abbrev pub whose : List Entries → ℕ
-whose trees = 0
+-- it has no fewer entries than it had
+abbrev pub grown : List Entries → List Entries → Type 0
+grown start trees = length start ≤ length trees
 
 -- reading takes none
 abbrev pub places : List Entries → ℕ

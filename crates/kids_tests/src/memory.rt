@@ -5,7 +5,7 @@ ghost use Rattle.doc_tree.specs.Tree.{IsRising};
 ghost use Rattle.kids_avl.specs.Entries.{entry, name_of, kids_of};
 ghost use Rattle.kids_avl.specs.Entries.{height_of, IsBalanced};
 ghost use Rattle.kids_avl.specs.Pool.{under, Stand, Later};
-ghost use Rattle.kids_tests.specs.Memory.{tree_at, HasEntry, leaf, says, IsNumber, whose, places};
+ghost use Rattle.kids_tests.specs.Memory.{tree_at, HasEntry, leaf, says, IsNumber, grown, places};
 ghost use Rattle.kids_tests.specs.Memory.{spare, made, Tells};
 
 use crate::label::Label;
@@ -156,7 +156,7 @@ impl KidPool for MemPool {
 
     ghost is_child = { IsNumber };
 
-    ghost source = { whose };
+    ghost kept = { grown };
 
     ghost places = { places };
 
@@ -201,7 +201,7 @@ impl KidPool for MemPool {
         ensures entry { tree_at self.new result ≡ entry name.now (says self.old child)
             (under tree_at self.old left) (under tree_at self.old right) }
         ensures stands { HasEntry self.new result }
-        ensures later { Later HasEntry tree_at IsNumber says whose self.old self.new }
+        ensures later { Later HasEntry tree_at IsNumber says grown self.old self.new }
         ensures places { places self.old ≤ places self.new }
         ensures records { spare self.old ≤ spare self.new + 5 }
         ensures made { made self.new ≡ made self.old + 1 }
@@ -229,7 +229,7 @@ impl KidPool for MemPool {
         ensures entry { tree_at self.new result ≡ entry (name_of (tree_at self.old like))
             (says self.old child) (under tree_at self.old left) (under tree_at self.old right) }
         ensures stands { HasEntry self.new result }
-        ensures later { Later HasEntry tree_at IsNumber says whose self.old self.new }
+        ensures later { Later HasEntry tree_at IsNumber says grown self.old self.new }
         ensures places { places self.old ≤ places self.new + 1 }
         ensures records { spare self.old ≤ spare self.new + 1 }
         ensures made { made self.new ≡ made self.old + 1 }

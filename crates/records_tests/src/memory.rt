@@ -18,7 +18,7 @@ impl MemoryPool {
     /// A pool with room for so many records.
     pub fn with_room(alloc: Global, records: u32) -> Result<MemoryPool, NoMemory>
         ensures room { IfOk result (λ pool. (shown pool).records ≡ records) }
-        ensures places { IfOk result (λ pool. (shown pool).held + 1000 ≤ (shown pool).room) }
+        ensures places { IfOk result (λ pool. (shown pool).held + 8192 ≤ (shown pool).room) }
     {
         Ok(MemoryPool {
             heap: MinorHeap::with_room(alloc, records)?,
@@ -95,6 +95,8 @@ impl RecordPool for MemoryPool {
     }
 
     fn held(&self) -> usize {
+        // How many records there is room for is a number of 32 bits.
+        let _ = self.heap.spare();
         1
     }
 

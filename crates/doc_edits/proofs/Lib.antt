@@ -1,0 +1,6 @@
+pub mod Along
+pub mod Fields
+pub mod Lawful
+pub mod Makings
+pub mod Pools
+pub mod Sized

@@ -1,0 +1,5 @@
+pub mod Edits
+pub mod Ends
+pub mod Entries
+pub mod Pools
+pub mod Tops
