@@ -44,7 +44,7 @@ use Rattle.version_rule.specs.Shows.{ShowsNumber}
 use Rattle.version_rule.specs.Shows.{ShowsRoot}
 use Rattle.version_rule.specs.Versions.{HoldsVersions, is_fixed}
 use Rattle.version_rule.proofs.Reading.{here_known, number_known, root_known, tells_latest}
-use Rattle.version_rule.proofs.Seats.{target_now}
+use Rattle.heap_rule.proofs.Seats.{target_now}
 use Rattle.version_rule.proofs.Writing.{low_now}
 use Rattle.version_rule.proofs.Reading.{tells_link, tells_number, tells_root}
 

@@ -1,13 +1,11 @@
 pub mod AfterSteps
 pub mod Committing
 pub mod Cutting
-pub mod Filling
 pub mod Made
 pub mod Openings
 pub mod Passing
 pub mod Reached
 pub mod Reading
-pub mod Seats
 pub mod States
 pub mod Staying
 pub mod Trees

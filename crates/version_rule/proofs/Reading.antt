@@ -34,7 +34,7 @@ use Rattle.version_rule.specs.Versions.{is_fixed}
 use Rattle.version_rule.proofs.Passing.{cut_stands, fits_at, in_step_at, numbers_few}
 use Rattle.version_rule.proofs.Passing.{read_stands, seen_stands, version_of}
 use Rattle.version_rule.proofs.States.{Seen, learned_box, learned_record, null_word, number_seen}
-use Rattle.version_rule.proofs.Seats.{target_now}
+use Rattle.heap_rule.proofs.Seats.{target_now}
 use Rattle.version_rule.proofs.States.{number_word, record_word, version_seen}
 
 -- what is known of a version is the number and the root that are told

@@ -20,7 +20,7 @@ use Rattle.heap_rule.specs.declared.known.Known.TheVariants as knows
 use Rattle.heap_rule.specs.declared.view.View.{View}
 use Rattle.heap_rule.proofs.Maps.{In, in_map}
 use Rattle.heap_rule.proofs.Writing.{box_no_record}
-use Rattle.version_rule.proofs.Seats.{knows_place, reached_place}
+use Rattle.heap_rule.proofs.Seats.{knows_place, reached_place}
 use Rattle.version_rule.specs.Knowing.{KnowsVersion}
 use Rattle.version_rule.specs.Pass.{Pass}
 use Rattle.version_rule.specs.Versions.{HasNumber, is_fixed}

@@ -37,7 +37,7 @@ use Rattle.version_rule.proofs.Committing.{commits}
 use Rattle.version_rule.proofs.Cutting.{cuts, written_here}
 use Rattle.version_rule.proofs.Passing.{cut_stands, fits_at, in_step_at, made_of, seen_stands}
 use Rattle.version_rule.proofs.Reading.{Version, version_at, version_held, whole}
-use Rattle.version_rule.proofs.Seats.{knows_place, reached_place, target_now}
+use Rattle.heap_rule.proofs.Seats.{knows_place, reached_place, target_now}
 use Rattle.version_rule.proofs.States.{Seen, no_term, not_some, number_seen}
 use Rattle.version_rule.proofs.States.{version_seen}
 

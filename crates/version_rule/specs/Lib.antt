@@ -3,7 +3,6 @@ pub mod Fits
 pub mod Knowing
 pub mod Opening
 pub mod Pass
-pub mod Settled
 pub mod Shows
 pub mod Shrinks
 pub mod Spelling

@@ -6,7 +6,6 @@ ghost use Rattle.std.specs.List.{AllZip};
 ghost use mathlib.Core.Option.{some};
 ghost use lib.ListN.{get_elem?};
 ghost use Rattle.cell_words.specs.Term.{Term};
-ghost use Rattle.cell_words.specs.declared.fields.Field.{Field};
 ghost use Rattle.cell_words.specs.declared.fields.Field.TheVariants as field;
 ghost use Rattle.core_machine.specs.InRange.{IsShaped};
 ghost use Rattle.core_machine.specs.State.{State, presence_of};
@@ -30,7 +29,6 @@ ghost use Rattle.version_rule.specs.Knowing.{link_cut, link_seen, link_taken, ne
 ghost use Rattle.version_rule.specs.Opening.{OpensVersions, first_rows, first_terms};
 ghost use Rattle.version_rule.specs.Pass.{Pass, committed, cutting, opening_pass, reading};
 ghost use Rattle.version_rule.specs.Pass.{seeing};
-ghost use Rattle.version_rule.specs.Settled.{NamesSettled};
 ghost use Rattle.version_rule.specs.Shows.{ReadsLatest, ShowsCommit, ShowsLatest, ShowsLink};
 ghost use Rattle.version_rule.specs.Shows.{ShowsNumber};
 ghost use Rattle.version_rule.specs.Shows.{ShowsRoot};
@@ -38,7 +36,6 @@ ghost use Rattle.version_rule.specs.Tied.{Tied};
 ghost use Rattle.version_rule.specs.Versions.{HoldsVersions, is_fixed};
 
 use crate::spelling::Spelling;
-use heap_rule::Keeping;
 
 /// A heap whose first rows are the anchor, version 0 and the root of the empty tree, with at most
 /// 64 mutators and a setting from 1 to 100, opens with the rule.
@@ -153,13 +150,6 @@ pub fn passes_grow()
         → Grows pass (committed number before made pass) }
     ensures on { (first second third : Pass) → Grows first second → Grows second third
         → Grows first third }
-{}
-
-/// A fill of a raw cell with null, with a number or with a cell that is known as a record or as a
-/// box that is not fresh keeps any client's rule, with the pass as it is.
-pub fn a_settled_fill_keeps_any_rule<P: Keeping>()
-    ensures { (v : View P) (place f : ℕ) (value : Field) → NamesSettled v value
-        → Picks P.holds P.fixed same_pass v (event.Fill v.number place f value) }
 {}
 
 /// Where some pass has cut the link of the oldest version that stays, as many versions as the

@@ -24,7 +24,7 @@ use Rattle.mutator_seat.specs.Bound.{Bound, held_cells, takes, takes_with}
 use Rattle.mutator_seat.proofs.Writes.{cell_same, many_same, rightly}
 use Rattle.trails.specs.Asks.{nothing}
 use Rattle.version_rule.specs.Pass.{Pass}
-use Rattle.version_rule.specs.Settled.{IsSettled, NamesSettled}
+use Rattle.heap_rule.specs.Settled.{IsSettled, NamesSettled}
 use Rattle.version_store.specs.Calls.{Goes, StillKnown, settled}
 use Rattle.version_store.specs.Makes.{Makes, MayMake}
 use Rattle.version_store.proofs.Going.{goes_none, goes_then, goes_told, many_cells, still_same}

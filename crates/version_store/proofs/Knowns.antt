@@ -24,7 +24,7 @@ use Rattle.heap_rule.specs.Lore.{learned_of, plain, told}
 use Rattle.heap_rule.specs.Steps.{Mine}
 use Rattle.version_rule.specs.Pass.{Pass}
 use Rattle.version_rule.specs.Versions.{is_fixed}
-use Rattle.version_rule.proofs.Seats.{knows_place}
+use Rattle.heap_rule.proofs.Seats.{knows_place}
 use Rattle.version_rule.proofs.States.{learned_box}
 use Rattle.version_store.specs.Calls.{StillKnown, one_kind}
 use Rattle.version_store.proofs.Going.{still_same}

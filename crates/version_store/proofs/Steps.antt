@@ -33,7 +33,7 @@ use Rattle.trails.specs.Asks.{gave_at, here, nothing}
 use Rattle.version_rule.specs.Pass.{Pass}
 use Rattle.version_rule.specs.Versions.{is_fixed}
 use Rattle.version_rule.proofs.AfterSteps.{known_many}
-use Rattle.version_rule.proofs.Seats.{knows_place, reached_place, target_now}
+use Rattle.heap_rule.proofs.Seats.{knows_place, reached_place, target_now}
 use Rattle.version_store.specs.Calls.{IsCoherent, StaysKnown, StillKnown, WasRead}
 use Rattle.version_store.specs.Calls.{cells_found, whatever}
 use Rattle.version_store.proofs.Going.{goes_told, many_held, still_same, still_then}

@@ -6,7 +6,7 @@ use Rattle.heap_rule.specs.Lore.{five_nulls}
 use Rattle.mutator_events.specs.declared.values.Value.TheVariants as values
 use Rattle.mutator_events.specs.Values.{field_at}
 use Rattle.version_rule.specs.Versions.{HoldsVersions, is_fixed}
-use Rattle.version_rule.proofs.Filling.{fill_picks}
+use Rattle.heap_rule.proofs.Filling.{fill_picks}
 use Rattle.version_store.proofs.Filling.{filled_link, filled_number, filled_tree, filling_starts}
 use Rattle.version_store.proofs.Filling.{makes, may_fill, may_seal, names_place, sealed_place}
 use Rattle.version_store.proofs.Filling.{settled_place}

@@ -1,5 +1,0 @@
-use Rattle.version_rule.proofs.Filling.{fill_picks}
-use Rattle.version_rule.proofs.theorems.a_settled_fill_keeps_any_rule.Goals as goal
-
-pub returns : goal.returns
-returns g c = fill_picks g.P.Keeping.holds g.P.Keeping.fixed
