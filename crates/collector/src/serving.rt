@@ -51,8 +51,8 @@ fn next_rest(rest: Rest, over: bool) -> Rest
 }
 
 impl<'a, P: Keeping> Collector<'a, P> {
-    /// Runs whole cycles, at most so many, and goes off duty. It stops earlier once every mutator was
-    /// found over and two more cycles were made. It gives how many cells were freed.
+    /// Runs whole cycles, at most so many, and goes off duty. It stops earlier once every mutator
+    /// was found over and two more cycles were made. It gives how many cells were freed.
     pub fn serve<R: Wait>(&mut self, rt: &R, hints: &mut Hints<'_>, cycles: u32) -> u64
         requires idle { (control_of self.old).stage ≡ stage.Idle }
         requires cycles { (control_of self.old).cycles + cycles ≤ greatest_cycles }
