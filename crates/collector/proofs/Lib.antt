@@ -4,5 +4,6 @@ pub mod Cycling
 pub mod Hearing
 pub mod InARow
 pub mod Joining
+pub mod Offered
 pub mod Scanning
 pub mod Stacked

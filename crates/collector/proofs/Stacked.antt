@@ -44,8 +44,10 @@ room_gone items h le =
 
 pub pushed_there : (items : List ℕ) (c h : ℕ) (s : Stack)
     → record { room = length items; cells = top_first items h } ≡ s → h < length items
-    → record { room = length (slice_set items h c); cells = top_first (slice_set items h c) (h + 1) }
-    ≡ pushed c s
+    → record {
+      room = length (slice_set items h c);
+      cells = top_first (slice_set items h c) (h + 1);
+    } ≡ pushed c s
 pushed_there items c h s is lt =
     ap (λ (n : ℕ). record {
       room = n;

@@ -2,6 +2,7 @@ pub mod Bound
 pub mod Counting
 pub mod Cycles
 pub mod Looking
+pub mod Offering
 pub mod Over
 pub mod Replay
 pub mod Serving

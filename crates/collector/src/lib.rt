@@ -1,13 +1,14 @@
 //! Whole cycles of the collector, made of the calls of its seat.
 //!
-//! A `Collector` is the collector's seat with the heap that it is of, and a stack of cells that wait
-//! for a look. Each call is a list of the seat's events, one after the other, and its clauses say
-//! which: so a layer above knows what the collector's trail grew by, and nothing of colours or
-//! stages. The stack shows in the trail too: what is pushed and what finds no room is a function of
-//! the events.
+//! A `Collector` is the collector's seat with the heap that it is of, and a stack of cells that
+//! wait for a look. Each call is a list of the seat's events, one after the other, and its clauses
+//! say which: so a layer above knows what the collector's trail grew by, and nothing of colours or
+//! stages. The stack shows in the trail too: what is pushed, and what finds no room, is a function
+//! of the events.
 //!
-//! Reading order: specs/Stack, Bound, Stretches, Replay, Counting, Over, Cycles; then `mark_stack`,
-//! `report`, `collecting`, `steps`, `asking`, `clearing`, `tracing`, `sweeping`, `whole`, `serving`.
+//! Reading order: specs/Stack, Bound, Stretches, Replay, Counting, Over, Cycles; then
+//! `mark_stack`, `report`, `collecting`, `steps`, `asking`, `clearing`, `tracing`, `sweeping`,
+//! `whole`, `serving`.
 #![tactic(auto)]
 
 mod asking;

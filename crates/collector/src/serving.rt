@@ -2,7 +2,7 @@
 //!
 //! A mutator that is over does no more. So once each was found over, two more whole cycles free all
 //! that nothing reaches: the first one may still keep a cell that was dropped while it ran.
-ghost use Rattle.std.specs.Prelude.{◌≡◌, ◌≤◌, ◌+◌};
+ghost use Rattle.std.specs.Prelude.{◌≡◌, ◌≤◌, ◌+◌, false};
 ghost use Rattle.cell_words.specs.declared.controls.Stage.TheVariants as stage;
 ghost use Rattle.collector.specs.Bound.{cells_of, control_of, mutators_of};
 ghost use Rattle.collector.specs.Cycles.{IsReady, MadeCycles, Served};
@@ -51,8 +51,8 @@ fn next_rest(rest: Rest, over: bool) -> Rest
 }
 
 impl<'a, P: Keeping> Collector<'a, P> {
-    /// Runs whole cycles, at most so many, and goes off duty. It stops earlier once every mutator was
-    /// found over and two more cycles were made. It gives how many cells were freed.
+    /// Runs whole cycles, at most so many, and goes off duty. It stops earlier once every mutator
+    /// was found over and two more cycles were made. It gives how many cells were freed.
     pub fn serve<R: Wait>(&mut self, rt: &R, hints: &mut Hints<'_>, cycles: u32) -> u64
         requires idle { (control_of self.old).stage ≡ stage.Idle }
         requires cycles { (control_of self.old).cycles + cycles ≤ greatest_cycles }
@@ -60,6 +60,7 @@ impl<'a, P: Keeping> Collector<'a, P> {
         requires hints { hinted_of (queue_of hints.old) ≡ cells_of self.old }
         ensures served { Stretch (Served (mutators_of self.old) cycles result) self.old self.new }
         ensures idle { (control_of self.new).stage ≡ stage.Idle }
+        ensures off_duty { (control_of self.new).duty ≡ false }
         ensures ready { IsReady self.new }
         ensures queue { queue_of hints.new ≡ queue_of hints.old }
         ensures puts { (counts_of hints.new).puts ≡ (counts_of hints.old).puts + result }

@@ -3,6 +3,7 @@ ghost use Rattle.std.specs.Prelude.{◌≡◌, ◌<◌, ◌≤◌, ◌+◌, ◌^
 ghost use Rattle.cell_words.specs.declared.controls.Stage.TheVariants as stage;
 ghost use Rattle.collector.specs.Bound.{KeepsAnswers, cells_of, control_of, part_of};
 ghost use Rattle.collector.specs.Counting.{Does, frees, nothing};
+ghost use Rattle.collector.specs.Offering.{Offers};
 ghost use Rattle.core_machine.specs.declared.progress.Sweeping.TheVariants as sweeping;
 ghost use Rattle.free_cells.specs.Hints.{cells_of as hinted_of, counts_of, queue_of};
 
@@ -16,7 +17,7 @@ use std::sync::Wait;
 fn offer<R: Wait>(rt: &R, hints: &mut Hints<'_>, cell: u32)
     requires range { cell < hinted_of (queue_of hints.old) }
     ensures queue { queue_of hints.new ≡ queue_of hints.old }
-    ensures puts { (counts_of hints.new).puts ≡ (counts_of hints.old).puts + 1 }
+    ensures offered { Offers cell (counts_of hints.old) (counts_of hints.new) }
 {
     if hints.put(rt, cell) {
         return;
@@ -46,6 +47,7 @@ impl<'a, P: Keeping> Collector<'a, P> {
         ensures done { (part_of self.new).sweep ≡ sweeping.Done }
         ensures kept { KeepsAnswers (part_of self.old) (part_of self.new) }
         ensures queue { queue_of hints.new ≡ queue_of hints.old }
+        ensures offered { Offers (control_of self.old).position (counts_of hints.old) (counts_of hints.new) }
         ensures puts { (counts_of hints.new).puts ≡ (counts_of hints.old).puts + 1 }
     {
         let cell = self.control().position;

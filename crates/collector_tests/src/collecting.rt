@@ -55,8 +55,8 @@ pub(crate) fn serve_on<R: Wait>(
     (collector.into_seat(), freed)
 }
 
-/// Makes one cycle on a heap whose mutator is over, and closes it. It gives the report, and how many
-/// cells are blue in the end.
+/// Makes one cycle on a heap whose mutator is over, and closes it. It gives the report, and how
+/// many cells are blue in the end.
 pub(crate) fn collect_alone<R: Wait>(
     rt: &R,
     alloc: Global,

@@ -9,7 +9,8 @@ pub loop-cell-preserved : goal.loop-cell-preserved
 loop-cell-preserved c =
     c.in_ok-push.ensures.items
     ∙ ap (λ (rows : List (List Field)). rows ++ c.chain_row.result ∷ []) c.loop-cell.invariant
-    ∙ ap (λ (row : List Field). map chain_row (range_with_len 0 c.loop-cell.cell) ++ row ∷ []) c.chain_row.ensures.row
+    ∙ ap (λ (row : List Field). map chain_row (range_with_len 0 c.loop-cell.cell) ++ row ∷ [])
+    c.chain_row.ensures.row
     ∙ sym (map-range_with_len_more chain_row 0 c.loop-cell.cell c.loop-cell.cell (omega arith))
 
 pub returns : goal.returns

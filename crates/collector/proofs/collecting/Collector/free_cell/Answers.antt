@@ -1,4 +1,8 @@
-use Rattle.std.proofs.Common.{refl}
+use Rattle.std.proofs.Common.{ℕ, refl, ap, subst}
+use Rattle.cell_words.specs.declared.controls.Control.{Control}
+use Rattle.collector.specs.Offering.{Offers}
+use Rattle.collector.proofs.Offered.{offer_counts}
+use Rattle.free_cells.specs.Hints.{counts_of}
 use Rattle.core_machine.specs.declared.events.Event.TheVariants as event
 use Rattle.core_machine.specs.declared.events.Found.TheVariants as finds
 use Rattle.collector.specs.Counting.{frees}
@@ -22,3 +26,13 @@ returns-clause-does g c =
         spilled_are = refl;
       };
     }))
+
+pub returns-clause-offered : goal.returns-clause-offered
+returns-clause-offered g c =
+    subst (λ (cell : ℕ). Offers cell (counts_of c.args.hints.now) (counts_of c.offer.new.hints))
+    (ap (λ (x : Control). x.position) c.control-cell.ensures.control) c.offer.ensures.offered
+
+pub returns-clause-puts : goal.returns-clause-puts
+returns-clause-puts g c =
+    offer_counts _ (counts_of c.args.hints.now) (counts_of c.offer.new.hints)
+    c.offer.ensures.offered
