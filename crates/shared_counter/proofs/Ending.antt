@@ -1,0 +1,145 @@
+-- The counter at the close: it is the sum of what the four mutators added.
+use Rattle.std.proofs.Common.{◌≡◌, ◌∙◌, ◌+◌, ◌∷◌, ℕ, List, [], Bool, true, false, Option, Some, None}
+use Rattle.std.proofs.Common.{ap, sym, subst, refl, arith, length, slice_set}
+use mathlib.Core.Option.{some}
+use lib.ListN.{get_elem?}
+use Rattle.cell_words.specs.Term.{Term, num, number, part, parts}
+use Rattle.cell_words.specs.declared.fields.Field.{Field}
+use Rattle.cell_words.specs.declared.fields.Field.TheVariants as word
+use Rattle.core_machine.specs.State.{State, field_of}
+use Rattle.dlg_core.specs.Reachable.{Reachable, anchor, named}
+use Rattle.heap_rule.specs.Facts.{Facts, TermFits, is_record_kind}
+use Rattle.heap_rule.specs.Laws.{Ended}
+use Rattle.heap_rule.specs.Lore.{Entry, Lore, Plain, Terms, entry_of, five_of, named_or, term_of}
+use Rattle.heap_rule.specs.Moves.{joined_view}
+use Rattle.heap_rule.specs.NoRule.{no_field_is_fixed}
+use Rattle.heap_rule.specs.Rule.{share_of}
+use Rattle.heap_rule.specs.Shape.{Shape}
+use Rattle.heap_rule.specs.declared.view.Place.{Place}
+use Rattle.heap_rule.specs.declared.view.Place.TheVariants as places
+use Rattle.heap_rule.specs.declared.view.View.{View}
+use Rattle.shared_counter.specs.Counting.{CounterIs, Counts, number_record, sum_of}
+use Rattle.shared_counter.specs.declared.counter.Added.{Added}
+use Rattle.shared_counter.proofs.Anchors.{named_term}
+use Rattle.shared_counter.proofs.Picks.{counter_is}
+
+-- the term of a record is no number
+not_number : (terms : Terms) (row : ℕ → Field) (c n : ℕ) (b : Bool) (t : Option Term)
+    → TermFits b terms row t → term_of (named_or c t) ≡ num n → ⊥
+not_number terms row c n true t fits h =
+    let same : five_of terms row ≡ num n =
+    sym (ap (λ (u : Option Term). term_of (named_or c u)) fits.0) ∙ h in
+    let long : 5 ≡ 0 = ap (λ (u : Term). length (parts u)) same in
+    omega (arith, long)
+not_number terms row c n false t fits h =
+    let same = sym (ap (λ (u : Option Term). term_of (named_or c u)) fits) ∙ h in absurd cc
+
+module _ (s : State) (l : Lore) (facts : Facts no_field_is_fixed s l) where
+  is_num : (c n : ℕ) → Reachable s c → (x : Field) → field_of s c 0 ≡ x
+      → term_of (entry_of l.terms x) ≡ num n → x ≡ word.Num n
+  is_num c n reached word.Null at h = absurd cc
+  is_num c n reached (word.Num k) at h = ap (λ (t : Term). word.Num (number t)) h
+  is_num c n reached (word.Cell d) at h =
+      absurd (not_number l.terms (field_of s d) d n (is_record_kind (field_of s d 5)) (l.terms d)
+      (facts.termed d (named 0 reached at)) h)
+
+  fits_term : (n : ℕ) (row : ℕ → Field) (b : Bool) (t : Option Term) → TermFits b l.terms row t
+      → t ≡ Some (number_record n) → term_of (entry_of l.terms (row 0)) ≡ num n
+  fits_term n row true t fits is = ap term_part (sym fits.0 ∙ is)
+    where
+      term_part : Option Term → Term
+      term_part None = num 0
+      term_part (Some u) = part 0 u
+  fits_term n row false t fits is = absurd (none_some (sym fits ∙ is))
+    where
+      none_some : None ≡ Some (number_record n) → ⊥
+      none_some h = absurd cc
+
+  counter_from : (n : ℕ) (x : Field) → field_of s 0 0 ≡ x
+      → entry_of l.terms x ≡ Plain (number_record n)
+      → (c : ℕ) × ((field_of s 0 0 ≡ word.Cell c) × (field_of s c 0 ≡ word.Num n))
+  counter_from n word.Null at h =
+      let long : 0 ≡ 5 = ap (λ (e : Entry). length (parts (term_of e))) h in
+      absurd (omega (arith, long))
+  counter_from n (word.Num k) at h =
+      let long : 0 ≡ 5 = ap (λ (e : Entry). length (parts (term_of e))) h in
+      absurd (omega (arith, long))
+  counter_from n (word.Cell c) at h =
+      let reached : Reachable s c = named 0 (anchor {c = 0} refl) at in (
+        c,
+        (
+          at,
+          is_num c n reached (field_of s c 0) refl
+              (fits_term n (field_of s c) (is_record_kind (field_of s c 5)) (l.terms c)
+              (facts.termed c reached) (named_term c (l.terms c) (number_record n) h)),
+        ),
+      )
+
+four_passes : (passes : List Added) (a b c d : Added) → length passes ≡ 4
+    → get_elem? passes 0 ≡ some a → get_elem? passes 1 ≡ some b → get_elem? passes 2 ≡ some c
+    → get_elem? passes 3 ≡ some d → sum_of passes ≡ a.sum + b.sum + c.sum + d.sum
+four_passes [] a b c d many first second third fourth = absurd cc
+four_passes (x ∷ []) a b c d many first second third fourth = absurd cc
+four_passes (x ∷ y ∷ []) a b c d many first second third fourth = absurd cc
+four_passes (x ∷ y ∷ z ∷ []) a b c d many first second third fourth = absurd cc
+four_passes (x ∷ y ∷ z ∷ w ∷ []) a b c d many first second third fourth =
+    let one : x ≡ a = cc in
+    let two : y ≡ b = cc in
+    let three : z ≡ c = cc in
+    let four : w ≡ d = cc in
+    omega (
+      arith,
+      ap (λ (p : Added). p.sum) one,
+      ap (λ (p : Added). p.sum) two,
+      ap (λ (p : Added). p.sum) three,
+      ap (λ (p : Added). p.sum) four,
+    )
+four_passes (x ∷ y ∷ z ∷ w ∷ v ∷ more) a b c d many first second third fourth =
+    omega (arith, many)
+
+joined_four : (at : List (Place Added)) (a b c d : Place Added) → length at ≡ 4
+    → slice_set (slice_set (slice_set (slice_set at 0 a) 1 b) 2 c) 3 d ≡ a ∷ b ∷ c ∷ d ∷ []
+joined_four [] a b c d many = absurd cc
+joined_four (x ∷ []) a b c d many = absurd cc
+joined_four (x ∷ y ∷ []) a b c d many = absurd cc
+joined_four (x ∷ y ∷ z ∷ []) a b c d many = absurd cc
+joined_four (x ∷ y ∷ z ∷ w ∷ []) a b c d many = refl
+joined_four (x ∷ y ∷ z ∷ w ∷ v ∷ more) a b c d many = absurd (omega (arith, many))
+
+-- the seats of all mutators were joined, and the heap was closed
+pub finished : (h : Shape) (words : List ℕ) (v w t0 t1 t2 t3 : View Added) (a b c d : ℕ)
+    → length v.places ≡ 4 → h.mutators ≡ 4
+    → t0.number ≡ 0 → t1.number ≡ 1 → t2.number ≡ 2 → t3.number ≡ 3
+    → t0.pass ≡ record { sum = a } → t1.pass ≡ record { sum = b } → t2.pass ≡ record { sum = c }
+    → t3.pass ≡ record { sum = d }
+    → w ≡ joined_view (joined_view (joined_view (joined_view v t0) t1) t2) t3
+    → Ended (λ number setting. record { sum = 0 }) Counts no_field_is_fixed h (Unit {0}) words w
+    → CounterIs words (a + b + c + d)
+finished h words v w t0 t1 t2 t3 a b c d many mutators n0 n1 n2 n3 p0 p1 p2 p3 all e =
+    let j0 = places.Joined (share_of t0) in
+    let j1 = places.Joined (share_of t1) in
+    let j2 = places.Joined (share_of t2) in
+    let j3 = places.Joined (share_of t3) in
+    let at : w.places ≡ j0 ∷ j1 ∷ j2 ∷ j3 ∷ [] =
+    ap (λ (x : View Added). x.places) all
+    ∙ (λ i. slice_set (slice_set (slice_set (slice_set v.places (n0 i) j0) (n1 i) j1) (n2 i) j2)
+    (n3 i) j3) ∙ joined_four v.places j0 j1 j2 j3 many in
+    let pass : (i : ℕ) (t : View Added) → get_elem? (j0 ∷ j1 ∷ j2 ∷ j3 ∷ []) i
+    ≡ some (places.Joined (share_of t)) → get_elem? e.shows.passes i ≡ some t.pass =
+    λ i t there. (e.joined i (share_of t)
+    (ap (λ (ps : List (Place Added)). get_elem? ps i) at ∙ there)).pass in
+    let sums : sum_of e.shows.passes ≡ a + b + c + d =
+    four_passes e.shows.passes t0.pass t1.pass t2.pass t3.pass (e.passes_fit ∙ mutators)
+    (pass 0 t0 refl) (pass 1 t1 refl) (pass 2 t2 refl) (pass 3 t3 refl)
+    ∙ (λ i. (p0 i).sum + (p1 i).sum + (p2 i).sum + (p3 i).sum) in
+    let counter = counter_from e.shows.core e.shows.lore e.shows.facts (a + b + c + d)
+    (field_of e.shows.core 0 0) refl
+    (counter_is e.shows.core e.shows.lore e.shows.passes e.shows.kept
+    ∙ ap (λ (n : ℕ). Plain (number_record n)) sums) in
+    record {
+      core = e.shows.core;
+      words_are = sym e.words_are ∙ e.shows.words;
+      cell = counter.0;
+      named = counter.1.0;
+      is = counter.1.1;
+    }

@@ -1,0 +1,91 @@
+-- What a thread knows of its mutator between two calls.
+-- Source: this project's.
+use Rattle.std.specs.Prelude.{ℕ, ◌≡◌, ◌≤◌, ◌+◌, true, false, List, [], ◌∷◌, length}
+use Rattle.cell_words.specs.Term.{Term}
+use Rattle.heap_rule.specs.declared.known.Known.{Known}
+use Rattle.heap_rule.specs.declared.known.Known.TheVariants as knows
+use Rattle.heap_table.specs.Seats.{HeapId, IsSeatOf, SeatView}
+use Rattle.mutator_events.specs.declared.values.Value.{Value}
+use Rattle.mutator_events.specs.declared.values.Value.TheVariants as values
+use Rattle.mutator_seat.specs.Bound.{Bound, held_cells}
+use Rattle.promotion.specs.Sharing.{is_raw}
+use Rattle.shared_counter.specs.declared.counter.Added.{Added}
+use Rattle.shared_counter.specs.Counting.{number_record}
+
+-- it is in, and holds the anchor and then these cells, of which it knows this
+pub record Holds (cells : List ℕ) (more : List Known) (m : Bound Added) : Type 0 where
+  pub inside : m.seat.me.presence.inside ≡ true
+  pub held : held_cells m ≡ 0 ∷ cells
+  pub first : Known
+  pub settled : is_raw first ≡ false
+  pub known : m.seat.me.known ≡ first ∷ more
+  pub room : m.seat.me.room ≡ 8
+
+-- the anchor alone
+abbrev pub Rests : Bound Added → Type 0
+Rests m = Holds [] [] m
+
+-- and a record of this number
+pub record HoldsCount (count : ℕ) (m : Bound Added) : Type 0 where
+  pub cell : ℕ
+  pub holds : Holds (cell ∷ []) (knows.Record (number_record count) ∷ []) m
+
+pub record Loose (m : Bound Added) : Type 0 where
+  pub cells : List ℕ
+  pub more : List Known
+  pub holds : Holds cells more m
+
+pub record HoldsSome (m : Bound Added) : Type 0 where
+  pub count : ℕ
+  pub holds : HoldsCount count m
+
+-- and one of the next number
+pub record HoldsNext (count : ℕ) (m : Bound Added) : Type 0 where
+  pub cell : ℕ
+  pub next : ℕ
+  pub holds : Holds (cell ∷ next ∷ [])
+      (knows.Record (number_record count) ∷ knows.Record (number_record (count + 1)) ∷ []) m
+
+-- it is the mutator of the same heap, and has added so much more
+pub record Adds (more : ℕ) (old new : Bound Added) : Type 0 where
+  pub heap : new.heap ≡ old.heap
+  pub number : new.seat.me.number ≡ old.seat.me.number
+  pub pass : new.seat.me.pass ≡ record { sum = old.seat.me.pass.sum + more }
+
+abbrev pub IfHeld : Value → Type 0 → Type 0 → Type 0
+IfHeld (values.Held place) A B = (place ≡ 1) × A
+IfHeld values.Null A B = B
+IfHeld (values.Num n) A B = B
+
+abbrev pub IfNumber : Value → (ℕ → Type 0) → Type 0 → Type 0
+IfNumber (values.Num n) A B = A n
+IfNumber values.Null A B = B
+IfNumber (values.Held place) A B = B
+
+-- it is over, and has added so much
+pub record IsDone (heap : HeapId) (number sum : ℕ) (seat : SeatView Added) : Type 0 where
+  pub seat_is : IsSeatOf heap seat
+  pub number_is : seat.me.number ≡ number
+  pub over : seat.me.presence.over ≡ true
+  pub pass_is : seat.me.pass ≡ record { sum = sum }
+  pub few : sum ≤ 4294967295
+
+-- it was just split off
+pub record IsNew (heap : HeapId) (number : ℕ) (seat : SeatView Added) : Type 0 where
+  pub seat_is : IsSeatOf heap seat
+  pub number_is : seat.me.number ≡ number
+  pub room : seat.me.room ≡ 8
+  pub out : seat.me.presence.inside ≡ false
+  pub not_over : seat.me.presence.over ≡ false
+  pub pass_is : seat.me.pass ≡ record { sum = 0 }
+
+-- a heap with the counter was opened, and the seats of its four mutators are split off
+pub record IsOpened (heap : HeapId) (collector first second third fourth : SeatView Added)
+    : Type 0 where
+  pub collector_is : IsSeatOf heap collector
+  pub four_mutators : heap.shape.mutators ≡ 4
+  pub four_places : length collector.me.places ≡ 4
+  pub first_new : IsNew heap 0 first
+  pub second_new : IsNew heap 1 second
+  pub third_new : IsNew heap 2 third
+  pub fourth_new : IsNew heap 3 fourth

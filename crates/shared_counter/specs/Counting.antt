@@ -1,0 +1,55 @@
+-- A counter in a box: field 0 of the anchor names a record, whose field 0 is a number. The rule is
+-- that it is the sum of what the mutators have added.
+-- Source: this project's.
+use Rattle.std.specs.Prelude.{ℕ, ◌≡◌, ◌+◌, Bool, true, false, List, [], ◌∷◌, Some}
+use Rattle.std.proofs.Common.{◌∙◌}
+use Rattle.cell_words.specs.Term.{Term, five, null, num}
+use Rattle.cell_words.specs.declared.fields.Field.{Field}
+use Rattle.cell_words.specs.declared.fields.Field.TheVariants as field
+use Rattle.core_machine.specs.State.{State, field_of}
+use Rattle.core_machine.specs.Table.{words_of}
+use Rattle.core_machine.specs.declared.events.Found.{Found}
+use Rattle.heap_rule.specs.Boxes.{Map, Payload, Smaller}
+use Rattle.heap_rule.specs.Lore.{Plain, was_made}
+use Rattle.heap_rule.specs.declared.known.Learned.{Learned}
+use Rattle.shared_counter.specs.declared.counter.Added.{Added}
+
+-- the record of a number
+abbrev pub number_record : ℕ → Term
+number_record n = five (num n) null null null null
+
+abbrev pub sum_of : List Added → ℕ
+sum_of [] = 0
+sum_of (pass ∷ passes) = pass.sum + sum_of passes
+
+-- the anchor's field 0 stands for the record of the number that the passes sum to
+pub record Counts (map : Map) (passes : List Added) : Type 0 where
+  pub payload : Payload
+  pub anchor : map 0 ≡ Some payload
+  pub counted : payload 0 ≡ Plain (number_record (sum_of passes))
+
+-- no smaller map has another anchor
+pub counts_on : (old new : Map) (passes : List Added) → Smaller old new → Counts old passes
+    → Counts new passes
+counts_on old new passes smaller counts = record {
+  payload = counts.payload;
+  anchor = smaller.anchor ∙ counts.anchor;
+  counted = counts.counted;
+}
+
+-- the pass with one more, if it was made
+abbrev pub one_more : Bool → Added → Added
+one_more true pass = record { sum = pass.sum + 1 }
+one_more false pass = pass
+
+-- a write over the old value that was made adds one
+abbrev pub adding : Field → Learned → Found → Added → Added
+adding old learned found pass = one_more (was_made old found) pass
+
+-- What a closed heap shows: field 0 of the anchor names a cell whose field 0 is this number.
+pub record CounterIs (words : List ℕ) (sum : ℕ) : Type 0 where
+  pub core : State
+  pub words_are : words ≡ words_of core
+  pub cell : ℕ
+  pub named : field_of core 0 0 ≡ field.Cell cell
+  pub is : field_of core cell 0 ≡ field.Num sum
