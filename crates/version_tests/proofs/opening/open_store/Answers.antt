@@ -1,0 +1,7 @@
+use Rattle.version_tests.proofs.Starting.{opens}
+use Rattle.version_tests.proofs.opening.open_store.Goals as goal
+
+pub open-requires-clause-rule : goal.open-requires-clause-rule
+open-requires-clause-rule c =
+    opens c.args.cells c.args.keep _ c.opening_rows.ensures.rows c.requires.keeps_some
+    c.requires.keeps_few

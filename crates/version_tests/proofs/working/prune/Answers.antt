@@ -1,0 +1,8 @@
+use Rattle.version_tests.proofs.Growing.{grows_pruned}
+use Rattle.version_tests.proofs.working.prune.Goals as goal
+
+pub returns : goal.returns
+returns c = record {
+  grows = grows_pruned c.args.m.now c.trim.new.m c.args.v c.args.keep c.requires.inside
+      c.trim.ensures.trims c.trim.ensures.nothing;
+}
