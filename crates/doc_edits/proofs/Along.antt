@@ -1,14 +1,13 @@
 -- Edits step by step, in the words of doc_tree's definitions.
-use Rattle.std.proofs.Common.{◌≡◌, ℕ, ◌+◌, ◌<◌, ◌≤◌, refl, sym, ap, subst, ◌∙◌}
-use Rattle.std.proofs.Common.{List, [], ◌∷◌, length, Option, None, Some, Ok, Err, true, false}
-use Rattle.std.proofs.Common.{cond, arith, ◌-◌, take, drop, get_or, take_all}
-use Rattle.std.specs.Prelude.{nat_lt}
+use Rattle.std.proofs.Common.{◌≡◌, ℕ, ◌+◌, ◌<◌, ◌≤◌, refl, sym, ap, subst}
+use Rattle.std.proofs.Common.{List, [], ◌∷◌, length, Option, None, Some, Ok, Err, true}
+use Rattle.std.proofs.Common.{arith, ◌-◌, take, drop, get_or, take_all}
 use Rattle.std.proofs.lemmas.Bool.Decides.{nat_tests}
 use Rattle.cell_words.specs.Term.{Term, null, num, five}
 use Rattle.doc_tree.specs.declared.edit.EditFault.{EditFault}
 use Rattle.doc_tree.specs.declared.edit.EditFault.TheVariants as fault
 use Rattle.doc_tree.specs.Edits.{begun, start, with_child, with_text, edit_along, within_limits}
-use Rattle.doc_tree.specs.Tree.{DocTree, Kids, child, empty, kid_count, count, height}
+use Rattle.doc_tree.specs.Tree.{DocTree, child, empty, kid_count, count, height}
 use Rattle.doc_tree.specs.Words.{is_text}
 use Rattle.doc_tree.proofs.Sizes.{put_height, nodes_put}
 use Rattle.doc_records.specs.Pool.{Shown, Later}
@@ -53,14 +52,6 @@ begun_new n t none room = rw (sym none) (grind (arith, nat_tests, room))
 pub begun_many : (n : List ℕ) (t : DocTree) → None ≡ child n t.kids → 256 ≤ kid_count t.kids
     → Err fault.Many ≡ start n t
 begun_many n t none full = rw (sym none) (grind (arith, nat_tests, full))
-
-begun_few : (kids : Kids) (d : DocTree) → Ok d ≡ begun kids None → kid_count kids < 256
-begun_few kids d is =
-    elim (nat_lt (kid_count kids) 256) as (λ b. nat_lt (kid_count kids) 256 ≡ b
-    → Ok d ≡ cond b (Ok empty) (Err fault.Many) → kid_count kids < 256) [
-      | true ↦ λ room is. grind (arith, nat_tests, room)
-      | false ↦ λ room is. cc
-    ] refl is
 
 -- one step down and back
 step_done : (make again : DocTree → DocTree) (n : List ℕ) (path : List (List ℕ))
@@ -111,25 +102,12 @@ along_below make again (m ∷ names) n t d f some first begun same along =
     subst (λ k. Err f ≡ edit_along make (k ∷ names) t) first
     (step_below make again n names t d f begun same below)
 
--- there is room where an edit goes on
-pub begun_room : (n : List ℕ) (t d : DocTree) → Ok d ≡ start n t → child n t.kids ≡ None
-    → kid_count t.kids < 256
-begun_room n t d is none = begun_few t.kids d (is ∙ ap (begun t.kids) none)
-
 -- what a call leaves of an end and of a node, or none
 pub made_same : {At : Type 0} (s t : Shown At) (end : End At) → Later s t → StandsAtEnd s end
     → made_at t end ≡ made_at s end
 made_same s t (ends.Text text) later stands = refl
 made_same s t (ends.Node a) later stands =
     let make : Term → DocTree → DocTree = λ u d. tree_of u in ap make (later.same a stands.stands)
-
-pub end_still : {At : Type 0} (s t : Shown At) (end : End At) → Later s t → StandsAtEnd s end
-    → StandsAtEnd t end
-end_still s t (ends.Text text) later stands = tt
-end_still s t (ends.Node a) later stands = record {
-  stands = later.now a stands.stands;
-  node = subst IsTreeNode (sym (later.same a stands.stands)) stands.node;
-}
 
 pub top_still : {At : Type 0} (s t : Shown At) (o : Option At) → Later s t → IsTop s o → IsTop t o
 top_still s t None later top = tt
@@ -144,17 +122,6 @@ top_same s t None later top = refl
 top_same s t (Some a) later top = ap tree_of (later.same a top.stands)
 
 -- how large the tree is then
-pub within_end : {At : Type 0} (s : Shown At) (o : Option At) (end : End At) (k : ℕ) → IsTop s o
-    → StandsAtEnd s end → IsWithin k (made_at s end (tree_under s o))
-within_end s o (ends.Text text) k top stands =
-    let few = top_few s o top in
-    let low = top_low s o top in
-    record { few = omega (arith, few); low = omega (arith, low) }
-within_end s o (ends.Node a) k top stands =
-    let few = stands.node.lawful.few in
-    let low = stands.node.lawful.low in
-    record { few = omega (arith, few); low = omega (arith, low) }
-
 pub within_step : {At : Type 0} (s : Shown At) (o : Option At) (n : List ℕ) (d : DocTree) (k m : ℕ)
     → IsTop s o → IsWithin k d → m ≡ k + 1 → IsWithin m (with_child n d (tree_under s o))
 within_step s o n d k m top is more =

@@ -1,5 +1,5 @@
 -- A pool of entries at its start, and what it keeps of the records.
-use Rattle.std.proofs.Common.{◌≡◌, ℕ, ◌<◌, Option, refl, ◌∙◌, arith}
+use Rattle.std.proofs.Common.{◌≡◌, ℕ, ◌<◌, Option, refl, arith}
 use Rattle.kids_avl.specs.Entries.{IsBalanced}
 use Rattle.kids_avl.specs.Pool.{under, Stand}
 use Rattle.kids_avl.proofs.Heights.{at_most_eleven}
@@ -40,21 +40,7 @@ row_stands shown s (parts.Record a) o is row place =
       place = place;
     })
 
--- what stood before, after a call on the records
-pub later_on : {At : Type 0} (a b c : Shown At) → Later a b → Later b c → Later a c
-later_on a b c first second = record {
-  still = λ x n stands low.
-      second.still x n (first.still x n stands low) (omega (arith, low, first.longer));
-  now = λ x stands. second.now x (first.now x stands);
-  same = λ x stands. second.same x (first.now x stands) ∙ first.same x stands;
-  cells = λ place low.
-      second.cells place (omega (arith, low, first.longer)) ∙ first.cells place low;
-  longer = omega (arith, first.longer, second.longer);
-  room = second.room ∙ first.room;
-  marks = λ before begins. second.marks before (first.marks before begins);
-  source = second.source ∙ first.source;
-}
-
+-- what a pool keeps at its start
 pub later_self : {At : Type 0} (s : Shown At) → Later s s
 later_self s = record {
   still = λ x n stands low. stands;

@@ -6,8 +6,8 @@
 //! before stands unchanged, and each edit stays within a number of places and records. Edits take no
 //! memory but the records that they make.
 //!
-//! Reading order: specs/Entries, specs/Edits; then `entries`, `rows`, `sizes`, `nodes`, `edits`,
-//! `removals`.
+//! Reading order: specs/Tops, Entries, Pools, Ends, Edits; then `entries`, `rows`, `sizes`, `nodes`,
+//! `edits`, `removals`.
 #![tactic(auto)]
 
 mod edits;

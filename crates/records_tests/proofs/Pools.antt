@@ -9,7 +9,7 @@ use Rattle.minor_heap.specs.Nursery.{FitsRecord}
 use Rattle.minor_heap.specs.Terms.{field_term, record_term, terms_after, terms_of, term_of}
 use Rattle.doc_records.specs.declared.pool.Part.{Part}
 use Rattle.doc_records.specs.declared.pool.Part.TheVariants as parts
-use Rattle.doc_records.specs.Pool.{Later, Stands, part_term}
+use Rattle.doc_records.specs.Pool.{Later, Shown, Stands, part_term}
 use Rattle.records_tests.specs.declared.memory.MemoryPool.{MemoryPool}
 use Rattle.records_tests.specs.Memory.{shown, field_of}
 
@@ -87,3 +87,18 @@ pub part_fits : (pool : MemoryPool) (p : Part MinorRef) (f : MinorField) → f �
 part_fits pool parts.Null f is stands = rw is tt
 part_fits pool (parts.Num n) f is stands = rw is stands
 part_fits pool (parts.Record r) f is stands = rw is stands.0
+
+-- two calls, one after the other
+pub later_on : {A : Type 0} (a b c : Shown A) → Later a b → Later b c → Later a c
+later_on a b c first second = record {
+  still = λ x n stands low.
+      second.still x n (first.still x n stands low) (omega (arith, low, first.longer));
+  now = λ x stands. second.now x (first.now x stands);
+  same = λ x stands. second.same x (first.now x stands) ∙ first.same x stands;
+  cells = λ place low.
+      second.cells place (omega (arith, low, first.longer)) ∙ first.cells place low;
+  longer = omega (arith, first.longer, second.longer);
+  room = second.room ∙ first.room;
+  marks = λ before begins. second.marks before (first.marks before begins);
+  source = second.source ∙ first.source;
+}
