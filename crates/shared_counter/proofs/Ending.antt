@@ -126,7 +126,7 @@ finished h words v w t0 t1 t2 t3 a b c d many mutators n0 n1 n2 n3 p0 p1 p2 p3 a
     (n3 i) j3) ∙ joined_four v.places j0 j1 j2 j3 many in
     let pass : (i : ℕ) (t : View Added) → get_elem? (j0 ∷ j1 ∷ j2 ∷ j3 ∷ []) i
     ≡ some (places.Joined (share_of t)) → get_elem? e.shows.passes i ≡ some t.pass =
-    λ i t there. (e.joined i (share_of t)
+    λ i t there. (e.collector.joined i (share_of t)
     (ap (λ (ps : List (Place Added)). get_elem? ps i) at ∙ there)).pass in
     let sums : sum_of e.shows.passes ≡ a + b + c + d =
     four_passes e.shows.passes t0.pass t1.pass t2.pass t3.pass (e.passes_fit ∙ mutators)
@@ -138,7 +138,7 @@ finished h words v w t0 t1 t2 t3 a b c d many mutators n0 n1 n2 n3 p0 p1 p2 p3 a
     ∙ ap (λ (n : ℕ). Plain (number_record n)) sums) in
     record {
       core = e.shows.core;
-      words_are = sym e.words_are ∙ e.shows.words;
+      words_are = sym e.words_are ∙ e.shows.last_of.shown;
       cell = counter.0;
       named = counter.1.0;
       is = counter.1.1;
