@@ -1,8 +1,8 @@
 -- Calls that add nothing, and what they leave of what is held.
-use Rattle.std.proofs.Common.{◌≡◌, ◌∙◌, ◌+◌, ◌<◌, ◌≤◌, ◌∷◌, ◌++◌, ℕ, zero, suc, List, [], Bool, true, false}
-use Rattle.std.proofs.Common.{ap, sym, subst, refl, arith, length, take}
+use Rattle.std.proofs.Common.{◌≡◌, ◌∙◌, ◌+◌, ◌≤◌, ◌∷◌, ◌++◌, ℕ, List, []}
+use Rattle.std.proofs.Common.{ap, sym, arith, length, take}
 use Rattle.std.specs.Prelude.{slice_index_or}
-use Rattle.cell_words.specs.Term.{Term, null, num}
+use Rattle.cell_words.specs.Term.{null}
 use Rattle.core_machine.specs.declared.events.Event.TheVariants as event
 use Rattle.core_machine.specs.declared.events.Found.TheVariants as finds
 use Rattle.core_machine.specs.declared.events.Taken.{Taken}
@@ -14,10 +14,10 @@ use Rattle.minor_heap.specs.declared.fields.MinorRef.{MinorRef}
 use Rattle.minor_heap.specs.Terms.{terms_of}
 use Rattle.mutator_events.proofs.HeldCells.{cells_many}
 use Rattle.mutator_seat.specs.declared.full.HeapFull.{HeapFull}
-use Rattle.mutator_seat.specs.Bound.{Bound, held_cells, takes}
-use Rattle.mutator_seat.specs.Stretches.{Calm, Kept}
+use Rattle.mutator_seat.specs.Bound.{Bound, takes}
+use Rattle.mutator_seat.specs.Stretches.{Calm}
 use Rattle.promotion.specs.Promoting.{Promoted, Refused, Stays}
-use Rattle.promotion.specs.Sharing.{is_raw, known_terms}
+use Rattle.promotion.specs.Sharing.{known_terms}
 use Rattle.promotion.proofs.Holding.{held_kept, known_kept}
 use Rattle.shared_counter.specs.Adding.{Adds, Holds, HoldsCount, HoldsNext, Loose, Rests}
 use Rattle.shared_counter.specs.Counting.{number_record}

@@ -1,9 +1,8 @@
 -- What a read of the anchor tells, and a read of the record that it names.
-use Rattle.std.proofs.Common.{◌≡◌, ◌∙◌, ◌+◌, ◌<◌, ◌==◌, ◌∷◌, ◌++◌, ℕ, zero, suc, List, [], Bool, true, false}
+use Rattle.std.proofs.Common.{◌≡◌, ◌∙◌, ◌+◌, ◌∷◌, ◌++◌, ℕ, List, [], Bool, true, false}
 use Rattle.std.proofs.Common.{Option, Some, None, ap, sym, subst, refl, arith, length, if◌then◌else◌}
 use Rattle.std.specs.Prelude.{slice_index_or}
-use Rattle.std.proofs.lemmas.List.{length-append}
-use Rattle.cell_words.specs.Term.{Term, null, num, number, part}
+use Rattle.cell_words.specs.Term.{Term}
 use Rattle.cell_words.specs.declared.fields.Field.{Field}
 use Rattle.cell_words.specs.declared.fields.Field.TheVariants as word
 use Rattle.core_machine.specs.declared.events.Event.TheVariants as event
@@ -11,12 +10,10 @@ use Rattle.core_machine.specs.declared.events.Found.{Found}
 use Rattle.core_machine.specs.declared.events.Found.TheVariants as finds
 use Rattle.core_machine.specs.Own.{Own}
 use Rattle.core_machine.specs.Places.{cell_at}
-use Rattle.core_machine.specs.State.{State, field_of, target_of}
-use Rattle.dlg_core.specs.Reachable.{Reachable}
+use Rattle.core_machine.specs.State.{field_of, target_of}
 use Rattle.heap_rule.specs.Asks.{MayRead}
-use Rattle.heap_rule.specs.Facts.{AllKnown, IsKnown, TermFits, is_record_kind}
-use Rattle.heap_rule.specs.Lore.{Entry, Lore, Plain, at_cell, cells_in, cells_of, entry_of, five_of}
-use Rattle.heap_rule.specs.Lore.{has, known_read, learned, learned_from, learned_of, named_or, term_of}
+use Rattle.heap_rule.specs.Lore.{Entry, Plain, at_cell, cells_in, entry_of}
+use Rattle.heap_rule.specs.Lore.{known_read, learned, learned_from, named_or, term_of}
 use Rattle.heap_rule.specs.Lore.{told as told_more, told_of}
 use Rattle.heap_rule.specs.NoRule.{no_field_is_fixed}
 use Rattle.heap_rule.specs.Rule.{told}
@@ -25,7 +22,6 @@ use Rattle.heap_rule.specs.declared.known.Known.{Known}
 use Rattle.heap_rule.specs.declared.known.Known.TheVariants as knows
 use Rattle.heap_rule.specs.declared.known.Learned.{Learned}
 use Rattle.heap_rule.specs.declared.view.View.{View}
-use Rattle.heap_rule.proofs.Lists.{reached_held}
 use Rattle.heap_rule.proofs.Reading.{cell_there, cells_more}
 use Rattle.mutator_events.specs.Events.{AtEvent}
 use Rattle.mutator_events.specs.declared.values.Value.{Value}
@@ -33,12 +29,11 @@ use Rattle.mutator_events.specs.Values.{value_found}
 use Rattle.mutator_events.proofs.HeldCells.{cells_many}
 use Rattle.mutator_seat.specs.Bound.{Bound, held_cells}
 use Rattle.promotion.specs.Sharing.{is_raw}
-use Rattle.promotion.proofs.Filling.{known_now}
-use Rattle.shared_counter.specs.Adding.{Adds, Holds, HoldsCount, HoldsSome, IfHeld, IfNumber, Loose}
+use Rattle.shared_counter.specs.Adding.{Adds, HoldsSome, IfHeld}
 use Rattle.shared_counter.specs.Adding.{Rests}
 use Rattle.shared_counter.specs.Counting.{Counts, number_record, sum_of}
 use Rattle.shared_counter.specs.declared.counter.Added.{Added}
-use Rattle.shared_counter.proofs.Picks.{counter_is, entry_number}
+use Rattle.shared_counter.proofs.Picks.{counter_is}
 
 -- what is told of a cell leaves it no raw one, and leaves a record
 pub told_settled : (h k : Known) → is_raw k ≡ false → is_raw (told_more h k) ≡ false

@@ -1,6 +1,6 @@
 -- The counter at the close: it is the sum of what the four mutators added.
 use Rattle.std.proofs.Common.{◌≡◌, ◌∙◌, ◌+◌, ◌∷◌, ℕ, List, [], Bool, true, false, Option, Some, None}
-use Rattle.std.proofs.Common.{ap, sym, subst, refl, arith, length, slice_set}
+use Rattle.std.proofs.Common.{ap, sym, refl, arith, length, slice_set}
 use mathlib.Core.Option.{some}
 use lib.ListN.{get_elem?}
 use Rattle.cell_words.specs.Term.{Term, num, number, part, parts}

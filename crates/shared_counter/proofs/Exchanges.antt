@@ -1,5 +1,5 @@
 -- The exchange of the record that the anchor names: what it needs, and what it leaves.
-use Rattle.std.proofs.Common.{◌≡◌, ◌∙◌, ◌+◌, ◌<◌, ◌==◌, ◌&&◌, ◌||◌, ◌∷◌, ℕ, zero, suc, List, [], Bool, true}
+use Rattle.std.proofs.Common.{◌≡◌, ◌∙◌, ◌+◌, ◌==◌, ◌||◌, ◌∷◌, ℕ, List, [], Bool, true}
 use Rattle.std.proofs.Common.{false, ap, sym, subst, refl, arith, length, if◌then◌else◌}
 use Rattle.std.specs.Prelude.{slice_index_or}
 use Rattle.std.proofs.lemmas.Bool.{eq-eqb}
@@ -7,10 +7,9 @@ use Rattle.cell_words.specs.declared.fields.Field.{Field}
 use Rattle.cell_words.specs.declared.fields.Field.TheVariants as word
 use Rattle.core_machine.specs.declared.events.Event.TheVariants as event
 use Rattle.core_machine.specs.declared.events.Found.TheVariants as finds
-use Rattle.core_machine.specs.declared.places.Held.{Held}
 use Rattle.core_machine.specs.Words.{same_field}
 use Rattle.heap_rule.specs.Asks.{IsBox, IsSealedValue, known_of, target}
-use Rattle.heap_rule.specs.Lore.{cells_in, known_at, known_revealed, known_set, known_stored_if}
+use Rattle.heap_rule.specs.Lore.{known_revealed, known_set, known_stored_if}
 use Rattle.heap_rule.specs.Lore.{was_made}
 use Rattle.heap_rule.specs.NoRule.{no_field_is_fixed}
 use Rattle.heap_rule.specs.Steps.{Picks}
@@ -18,16 +17,14 @@ use Rattle.heap_rule.specs.declared.known.Known.{Known}
 use Rattle.heap_rule.specs.declared.known.Known.TheVariants as knows
 use Rattle.heap_rule.specs.declared.view.View.{View}
 use Rattle.heap_rule.proofs.Reading.{cell_there}
-use Rattle.mutator_events.specs.declared.values.Value.{Value}
 use Rattle.mutator_events.specs.declared.values.Value.TheVariants as values
 use Rattle.mutator_events.specs.Values.{field_at}
 use Rattle.mutator_events.proofs.HeldCells.{cells_many}
 use Rattle.mutator_seat.specs.Bound.{Bound, held_cells}
-use Rattle.mutator_seat.specs.Stretches.{Kept}
 use Rattle.mutator_seat.specs.Writes.{MayUpdate, PicksUpdate, Updated}
 use Rattle.promotion.specs.Sharing.{is_raw}
 use Rattle.promotion.proofs.Knowing.{knows_sealed_at}
-use Rattle.shared_counter.specs.Adding.{Adds, Holds, HoldsNext, Loose}
+use Rattle.shared_counter.specs.Adding.{Adds, HoldsNext, Loose}
 use Rattle.shared_counter.specs.Counting.{Counts, adding, number_record, one_more}
 use Rattle.shared_counter.specs.declared.counter.Added.{Added}
 use Rattle.shared_counter.proofs.Picks.{picks_next}

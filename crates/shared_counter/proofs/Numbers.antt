@@ -1,8 +1,8 @@
 -- What a read of the record tells: its number, where it finds one.
-use Rattle.std.proofs.Common.{◌≡◌, ◌∙◌, ◌+◌, ◌<◌, ◌==◌, ◌∷◌, ◌++◌, ℕ, zero, suc, List, [], Bool, true, false}
+use Rattle.std.proofs.Common.{◌≡◌, ◌∙◌, ◌==◌, ◌∷◌, ◌++◌, ℕ, List, [], Bool, true}
 use Rattle.std.proofs.Common.{Option, Some, None, ap, sym, subst, refl, arith, length, if◌then◌else◌}
 use Rattle.std.specs.Prelude.{slice_index_or}
-use Rattle.cell_words.specs.Term.{Term, null, num, number, part}
+use Rattle.cell_words.specs.Term.{Term, null, number, part}
 use Rattle.cell_words.specs.declared.fields.Field.{Field}
 use Rattle.cell_words.specs.declared.fields.Field.TheVariants as word
 use Rattle.core_machine.specs.declared.events.Event.TheVariants as event
@@ -30,7 +30,6 @@ use Rattle.mutator_events.specs.declared.values.Value.{Value}
 use Rattle.mutator_events.specs.Values.{value_found}
 use Rattle.mutator_events.proofs.HeldCells.{cells_many}
 use Rattle.mutator_seat.specs.Bound.{Bound, held_cells}
-use Rattle.promotion.specs.Sharing.{is_raw}
 use Rattle.promotion.proofs.Filling.{known_now}
 use Rattle.shared_counter.specs.Adding.{Holds, HoldsCount, HoldsSome, IfNumber, Loose}
 use Rattle.shared_counter.specs.Counting.{Counts, number_record}

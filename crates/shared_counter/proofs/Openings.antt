@@ -1,5 +1,5 @@
 -- The opening of a heap with the counter.
-use Rattle.std.proofs.Common.{◌≡◌, ◌∷◌, ◌<◌, ℕ, zero, suc, List, [], None, Some, refl, arith}
+use Rattle.std.proofs.Common.{◌∷◌, ◌<◌, ℕ, zero, suc, List, [], None, Some, refl, arith}
 use Rattle.cell_words.specs.declared.fields.Field.{Field}
 use Rattle.cell_words.specs.declared.fields.Field.TheVariants as word
 use Rattle.core_machine.specs.State.{field_in}

@@ -6,7 +6,7 @@ use Rattle.std.proofs.lemmas.Bool.{eqb-true}
 use mathlib.Core.Option.{some}
 use lib.ListN.{get_elem?}
 use Rattle.atomic_table.proofs.Lists.{set_again}
-use Rattle.cell_words.specs.Term.{Term, null, num, number, part}
+use Rattle.cell_words.specs.Term.{null, number, part}
 use Rattle.cell_words.specs.declared.fields.Field.{Field}
 use Rattle.cell_words.specs.declared.fields.Field.TheVariants as word
 use Rattle.core_machine.specs.Own.{Own}
@@ -14,11 +14,11 @@ use Rattle.core_machine.specs.Places.{cell_at}
 use Rattle.core_machine.specs.State.{State, field_of}
 use Rattle.core_machine.specs.Words.{same_field}
 use Rattle.core_machine.specs.declared.events.Event.TheVariants as event
-use Rattle.heap_rule.specs.Boxes.{Map, Payload, boxes_of, revealing, with_entry, written_if, written_map}
+use Rattle.heap_rule.specs.Boxes.{Map, Payload, boxes_of, with_entry, written_if, written_map}
 use Rattle.heap_rule.specs.Facts.{AllKnown, IsKnown}
-use Rattle.heap_rule.specs.Lore.{Entry, Lore, Plain, cells_in, cells_of, entry_of, named_or, put, term_of}
+use Rattle.heap_rule.specs.Lore.{Entry, Lore, Plain, cells_in, entry_of, named_or, put, term_of}
 use Rattle.heap_rule.specs.NoRule.{no_field_is_fixed}
-use Rattle.heap_rule.specs.Steps.{Mine, Picks}
+use Rattle.heap_rule.specs.Steps.{Picks}
 use Rattle.heap_rule.specs.declared.known.Known.{Known}
 use Rattle.heap_rule.specs.declared.known.Known.TheVariants as knows
 use Rattle.heap_rule.specs.declared.view.View.{View}

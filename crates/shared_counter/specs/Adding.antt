@@ -1,7 +1,6 @@
 -- What a thread knows of its mutator between two calls.
 -- Source: this project's.
 use Rattle.std.specs.Prelude.{ℕ, ◌≡◌, ◌≤◌, ◌+◌, true, false, List, [], ◌∷◌, length}
-use Rattle.cell_words.specs.Term.{Term}
 use Rattle.heap_rule.specs.declared.known.Known.{Known}
 use Rattle.heap_rule.specs.declared.known.Known.TheVariants as knows
 use Rattle.heap_table.specs.Seats.{HeapId, IsSeatOf, SeatView}
