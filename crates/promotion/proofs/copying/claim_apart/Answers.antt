@@ -1,4 +1,4 @@
-use Rattle.mutator_events.proofs.Picks.{read_picks}
+use Rattle.heap_rule.proofs.Picking.{read_picks}
 use Rattle.promotion.proofs.Opening.{may_look, opened}
 use Rattle.promotion.proofs.copying.claim_apart.Goals as goal
 

@@ -1,5 +1,5 @@
 use Rattle.std.proofs.Common.{sym, ◌∙◌}
-use Rattle.mutator_events.proofs.Picks.{read_picks}
+use Rattle.heap_rule.proofs.Picking.{read_picks}
 use Rattle.version_rule.specs.Versions.{HoldsVersions, is_fixed}
 use Rattle.version_store.proofs.Latest.{finds_number, number_alone, number_is}
 use Rattle.version_store.proofs.reading.read_number.Goals as goal

@@ -1,6 +1,6 @@
 use Rattle.cell_words.specs.Term.{IsFive}
 use Rattle.doc_tree.specs.Tree.{empty}
-use Rattle.mutator_events.proofs.Picks.{read_picks}
+use Rattle.heap_rule.proofs.Picking.{read_picks}
 use Rattle.version_rule.specs.Versions.{HoldsVersions, is_fixed}
 use Rattle.version_tests.proofs.working.ends_chain.Goals as goal
 
