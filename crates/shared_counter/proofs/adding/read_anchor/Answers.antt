@@ -1,4 +1,4 @@
-use Rattle.mutator_events.proofs.Picks.{read_picks}
+use Rattle.heap_rule.proofs.Picking.{read_picks}
 use Rattle.shared_counter.specs.Counting.{Counts}
 use Rattle.heap_rule.specs.NoRule.{no_field_is_fixed}
 use Rattle.shared_counter.proofs.Anchors.{adds_read, found_held, may_read_anchor}
