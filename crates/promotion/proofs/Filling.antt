@@ -6,6 +6,7 @@ use Rattle.std.specs.Prelude.{slice_index_or, slice_set}
 use Rattle.std.proofs.lemmas.Bool.{cases_eq}
 use Rattle.std.proofs.lemmas.List.{get_or-set_same, get_or-set_other, length-set}
 use Rattle.atomic_table.proofs.Lists.{set_again}
+use Rattle.cell_words.specs.declared.colours.Colour.TheVariants as colour
 use Rattle.cell_words.specs.declared.fields.Field.{Field}
 use Rattle.cell_words.specs.declared.fields.Field.TheVariants as word
 use Rattle.cell_words.specs.declared.fields.Kind.TheVariants as kind
@@ -34,14 +35,40 @@ use Rattle.mutator_events.specs.declared.values.Value.TheVariants as values
 use Rattle.mutator_events.specs.Values.{field_among, field_at}
 use Rattle.mutator_events.proofs.HeldCells.{cells_many, field_among_at}
 use Rattle.mutator_seat.specs.Bound.{Bound, held_cells, takes}
+use Rattle.mutator_seat.specs.Claims.{Claimed, anything}
 use Rattle.promotion.specs.Copying.{AreFilled, Copied, IsReady, Opened}
 use Rattle.promotion.specs.Copying.{term_at}
 use Rattle.promotion.proofs.Knowing.{among_more, fill_known, last_known, record_of}
 use Rattle.promotion.proofs.Knowing.{seal_known, term_stays, term_there, value_known, value_sealed}
 use Rattle.promotion.proofs.Knowing.{value_term_is}
-use Rattle.promotion.proofs.Looking.{all_fit}
-use Rattle.promotion.proofs.Stretching.{adds_event, any_then, stays_event}
+use Rattle.promotion.proofs.Stretching.{adds_calm, adds_event, any_then, stays_event, stays_kept}
 use Rattle.promotion.proofs.Stretching.{stays_then}
+
+module _ {P : Type 0} where
+  -- a cell that was just claimed
+  pub opened : (old m : Bound P) (place : ℕ) → Claimed old place m → Opened old place five_nulls m
+  opened old m place got =
+      let e = event.Claim got.at.seat.me.number got.cell in
+      record {
+        cell = got.cell;
+        place_is = got.place_is ∙ sym (cells_many old.seat.me.own.held);
+        is_new = got.is_new;
+        held = got.held;
+        known = got.known;
+        claims = ap (λ (b : Bound P). b.seat.me.own.claims) got.told
+            ∙ ap (λ (n : ℕ). n + 1) got.calm.kept.claims;
+        stays = stays_then old got.at m (stays_kept old got.at got.calm.kept)
+            (stays_event got.at m e (finds.Colour colour.Blue) got.told refl);
+        adds = any_then old got.at m (adds_calm anything old got.at got.calm)
+            (adds_event got.at m e (finds.Colour colour.Blue) got.told);
+      }
+
+all_fit : (K : ℕ → Known → Type 0) (cells : List ℕ) (known : List Known) → AllKnown K cells known
+    → length cells ≡ length known
+all_fit K [] [] all = refl
+all_fit K [] (k ∷ known) all = absurd all
+all_fit K (c ∷ cells) [] all = absurd all
+all_fit K (c ∷ cells) (k ∷ known) all = ap suc (all_fit K cells known all.1)
 
 -- The client's rule at a fill: a record is no box, and so no box becomes one that others know.
 
@@ -140,7 +167,7 @@ module _ {P : Type 0} (old m : Bound P) (place : ℕ) (fields : List Field)
   known_raw : known_of m.seat.me place ≡ knows.Raw fields
   known_raw =
       ap (λ (ks : List Known). known_at ks place) so.known
-      ∙ last_known (held_cells old) old.seat.me.known so.cell so.apart place
+      ∙ last_known (held_cells old) old.seat.me.known so.cell so.is_new place
       (knows.Raw fields) so.place_is
 
   -- a ready value as the field that it stands for
@@ -149,7 +176,7 @@ module _ {P : Type 0} (old m : Bound P) (place : ℕ) (fields : List Field)
   word_of value ready =
       sym (field_among_at m.seat.me.own.held (held_cells m) value refl)
       ∙ ap (λ (cs : List ℕ). field_among cs value) so.held
-      ∙ among_more (held_cells old) (so.cell ∷ []) old.seat.me.known value so.apart.fit ready
+      ∙ among_more (held_cells old) (so.cell ∷ []) old.seat.me.known value (sym so.is_new.fit) ready
 
   pub ready_now : (value : Value) → IsReady old.seat.me.known value → IsReady m.seat.me.known value
   ready_now value ready =
@@ -168,7 +195,7 @@ module _ {P : Type 0} (old m : Bound P) (place : ℕ) (fields : List Field)
       omega (
         arith,
         term_there old.seat.me.known q ready,
-        so.apart.fit,
+        so.is_new.fit,
         many_held,
         cells_many m.seat.me.own.held,
       ) in
@@ -192,7 +219,7 @@ module _ {P : Type 0} (old m : Bound P) (place : ℕ) (fields : List Field)
         (subst (λ (cs : List ℕ). IsSealedValue cs m.seat.me.known (among value)) (sym so.held)
         (subst (λ (ks : List Known). IsSealedValue (held_cells old ++ so.cell ∷ []) ks
         (among value)) (sym so.known)
-        (value_sealed (held_cells old) old.seat.me.known so.cell so.apart (knows.Raw fields)
+        (value_sealed (held_cells old) old.seat.me.known so.cell so.is_new (knows.Raw fields)
         value ready)));
     clear = ap (λ (k : Known). is_cell (slice_index_or (raw_fields k) i word.Null)) known_raw
         ∙ ap is_cell (filled.rest i (omega arith) lt);
@@ -212,7 +239,7 @@ module _ {P : Type 0} (old m : Bound P) (place : ℕ) (fields : List Field)
           record {
             cell = so.cell;
             place_is = so.place_is;
-            apart = so.apart;
+            is_new = so.is_new;
             held = ap (λ (b : Bound P). held_cells b) told ∙ so.held;
             known = ap (λ (b : Bound P). b.seat.me.known) told
                 ∙ ap (λ (x : Field). known_stored (held_cells m) m.seat.me.known place i x)
@@ -220,7 +247,7 @@ module _ {P : Type 0} (old m : Bound P) (place : ℕ) (fields : List Field)
                 ∙ ap (λ (cs : List ℕ). known_stored cs m.seat.me.known place i w) so.held
                 ∙ ap (λ (ks : List Known). known_stored (held_cells old ++ so.cell ∷ []) ks place i w)
                 so.known
-                ∙ fill_known (held_cells old) old.seat.me.known so.cell so.apart fields place i
+                ∙ fill_known (held_cells old) old.seat.me.known so.cell so.is_new fields place i
                 (given i) so.place_is ready;
             claims = ap (λ (b : Bound P). b.seat.me.own.claims) told ∙ so.claims;
             stays = stays_then old m m' so.stays (stays_event m m' e finds.Stored told refl);
@@ -250,7 +277,7 @@ module _ {P : Type 0} (old m : Bound P) (place : ℕ) (fields : List Field)
   field_is given filled ready i lt =
       subst (λ (w : Field). IsTermKnown (held_cells old ++ so.cell ∷ [])
       (old.seat.me.known ++ knows.Raw fields ∷ []) w) (sym (filled.done i lt))
-      (value_known (held_cells old) old.seat.me.known so.cell so.apart (knows.Raw fields)
+      (value_known (held_cells old) old.seat.me.known so.cell so.is_new (knows.Raw fields)
       (given i) (ready i lt))
 
   pub may_seal : (given : ℕ → Value) → m.seat.me.presence.inside ≡ true
@@ -277,7 +304,7 @@ module _ {P : Type 0} (old m : Bound P) (place : ℕ) (fields : List Field)
   term_is given filled ready i lt =
       ap (λ (w : Field). value_term (held_cells old ++ so.cell ∷ [])
       (old.seat.me.known ++ knows.Raw fields ∷ []) w) (filled.done i lt)
-      ∙ value_term_is (held_cells old) old.seat.me.known so.cell so.apart (knows.Raw fields)
+      ∙ value_term_is (held_cells old) old.seat.me.known so.cell so.is_new (knows.Raw fields)
       (given i) (ready i lt)
 
   pub sealed_as : (given : ℕ → Value) (m' : Bound P)
@@ -293,7 +320,7 @@ module _ {P : Type 0} (old m : Bound P) (place : ℕ) (fields : List Field)
       record {
         cell = so.cell;
         place_is = so.place_is;
-        fit = so.apart.fit;
+        fit = sym so.is_new.fit;
         held = ap (λ (b : Bound P). held_cells b) told ∙ so.held;
         known = ap (λ (b : Bound P). b.seat.me.known) told
             ∙ ap (λ (cs : List ℕ). at_cell (known_sealed cs m.seat.me.known kind.Record)
@@ -302,7 +329,7 @@ module _ {P : Type 0} (old m : Bound P) (place : ℕ) (fields : List Field)
             (known_sealed (held_cells old ++ so.cell ∷ []) ks kind.Record)
             (slice_index_or (held_cells old ++ so.cell ∷ []) place 0)
             (held_cells old ++ so.cell ∷ []) ks) so.known
-            ∙ seal_known (held_cells old) old.seat.me.known so.cell so.apart fields place
+            ∙ seal_known (held_cells old) old.seat.me.known so.cell so.is_new fields place
             so.place_is
             ∙ (λ t. old.seat.me.known ++ knows.Record (five (term 0 (omega arith) t)
             (term 1 (omega arith) t) (term 2 (omega arith) t) (term 3 (omega arith) t)

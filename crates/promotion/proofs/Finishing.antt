@@ -75,14 +75,15 @@ module _ {P : Type 0} where
 
   pub may_promote : (a b : Bound P) (g : Grown anything a b) (n place records : ℕ)
       → a.seat.me.presence.inside ≡ true → 1 ≤ n → n ≡ length a.seat.me.own.held
-      → n + records < a.seat.me.room → length (held_cells a) ≡ length a.seat.me.known
+      → n + records ≤ a.seat.me.room → 0 < records
+      → length (held_cells a) ≡ length a.seat.me.known
       → is_term (known_at b.seat.me.known place) ≡ true → MayKeep b.seat.me n place 1
-  may_promote a b g n place records inside some n_is room fit is = record {
+  may_promote a b g n place records inside some n_is room more fit is = record {
     inside = g.stays.inside ∙ inside;
     some = some;
     kept = omega (arith, n_is, grown_many anything a b g);
     copied = let lt = held_there anything a b g place fit is in omega (arith, lt);
-    room = omega (arith, room, g.stays.room);
+    room = omega (arith, room, more, g.stays.room);
   }
 
   pub promoted_as : (a b c : Bound P) (g : Grown anything a b) (records : List (List MinorField))

@@ -28,7 +28,7 @@ use Rattle.trails.specs.Claims.{FindsFull}
 use Rattle.promotion.specs.Copying.{AreCopied, Copied, Grown, GrownBy, Halted, IsReady, copied_term}
 use Rattle.promotion.specs.Copying.{marked_count, term_at, value_of}
 use Rattle.promotion.specs.Promoting.{HasRefusal}
-use Rattle.promotion.specs.Sharing.{SharesRecord, known_terms, none_raw}
+use Rattle.promotion.specs.Sharing.{SharesRecord, known_terms}
 use Rattle.promotion.proofs.Counting.{count_few, count_set, count_unset}
 use Rattle.promotion.proofs.Knowing.{record_of, term_stays}
 use Rattle.promotion.proofs.Stretching.{adds_calm, adds_none, adds_then, any_then, stays_kept}
@@ -36,17 +36,6 @@ use Rattle.promotion.proofs.Stretching.{stays_same, stays_then, within_late, wit
 
 abbrev pub records_of : List Term → List Known
 records_of terms = map (λ t. knows.Record t) terms
-
--- no record is raw
-pub none_more : (known : List Known) (terms : List Term) → none_raw known ≡ true
-    → none_raw (known ++ records_of terms) ≡ true
-none_more [] [] none = refl
-none_more [] (t ∷ terms) none = none_more [] terms none
-none_more (knows.Raw fields ∷ known) terms none = absurd cc
-none_more (knows.Nothing ∷ known) terms none = none_more known terms none
-none_more (knows.Fresh fields ∷ known) terms none = none_more known terms none
-none_more (knows.Record t ∷ known) terms none = none_more known terms none
-none_more (knows.Boxed told ∷ known) terms none = none_more known terms none
 
 -- what was known as a record still is
 abbrev pub StillRecords : List Known → List Known → Type 0
@@ -153,11 +142,6 @@ module _ {P : Type 0} where
       ∙ ap (λ (n : ℕ). known_at (b.seat.me.known ++ knows.Record t ∷ []) n)
       (copied.place_is ∙ copied.fit)
       ∙ get_or-append_seam b.seat.me.known (knows.Record t) [] knows.Nothing
-
-  pub none_grown : (F : List Taken → Type 0) (a b : Bound P) → Grown F a b
-      → none_raw a.seat.me.known ≡ true → none_raw b.seat.me.known ≡ true
-  none_grown F a b g none =
-      ap none_raw g.known ∙ none_more a.seat.me.known g.terms none
 
 below_or : (k n : ℕ) → k < n + 1 → (k < n) ⊎ (k ≡ n)
 below_or k n lt = search (arith, lt)
@@ -302,9 +286,9 @@ ok_both (Err e) a f = a
 
 -- a place is left for the next copy
 pub room_left : {P : Type 0} (marks : List Bool) (n records : ℕ) (a b : Bound P) → n < records
-    → length a.seat.me.own.held + records < a.seat.me.room
+    → length a.seat.me.own.held + records ≤ a.seat.me.room
     → GrownBy (marked_count (take n marks)) a b
-    → length b.seat.me.own.held + 1 < b.seat.me.room
+    → length b.seat.me.own.held < b.seat.me.room
 room_left marks n records a b lt room so =
     let g = so.grown in
     let many : length b.seat.me.own.held ≡ length a.seat.me.own.held + length g.cells =

@@ -11,17 +11,19 @@ use Rattle.cell_words.specs.declared.fields.Field.{Field}
 use Rattle.cell_words.specs.declared.fields.Field.TheVariants as word
 use Rattle.cell_words.specs.declared.fields.Kind.TheVariants as kind
 use Rattle.cell_words.specs.Term.{Term, null}
+use Rattle.heap_rule.specs.Apart.{IsNewTo, KnowsNoOther}
 use Rattle.heap_rule.specs.Asks.{IsSealedValue, is_sealed, knows_sealed}
 use Rattle.heap_rule.specs.Facts.{IsTermKnown, is_term, knows_term}
-use Rattle.heap_rule.specs.Lore.{at_cell, cell_term, fields_term, known_at, known_named}
+use Rattle.heap_rule.specs.Lore.{at_cell, cell_term, fields_term, has, known_at, known_named}
 use Rattle.heap_rule.specs.Lore.{known_revealed, known_sealed, known_set, known_stored, term_or}
 use Rattle.heap_rule.specs.Lore.{value_term}
 use Rattle.heap_rule.specs.declared.known.Known.{Known}
 use Rattle.heap_rule.specs.declared.known.Known.TheVariants as knows
+use Rattle.heap_rule.proofs.Lists.{has_at}
 use Rattle.mutator_events.specs.declared.values.Value.{Value}
 use Rattle.mutator_events.specs.declared.values.Value.TheVariants as values
 use Rattle.mutator_events.specs.Values.{field_among}
-use Rattle.promotion.specs.Copying.{Agrees, AreApart, IsReady, term_at}
+use Rattle.promotion.specs.Copying.{IsReady, term_at}
 
 -- what is known as a record has a term
 pub record_of : (k : Known) → is_term k ≡ true → (t : Term) × (k ≡ knows.Record t)
@@ -87,7 +89,7 @@ among_more cells more known (values.Held q) fit ready =
     ap (λ (c : ℕ). word.Cell c)
     (get_or-append cells more 0 q (omega (arith, fit, term_there known q ready)))
 
-agrees_revealed : (t : Term) (k : Known) → Agrees t k → known_revealed k ≡ k
+agrees_revealed : (t : Term) (k : Known) → KnowsNoOther t k → known_revealed k ≡ k
 agrees_revealed t knows.Nothing so = refl
 agrees_revealed t (knows.Raw fields) so = absurd so
 agrees_revealed t (knows.Fresh fields) so = absurd so
@@ -130,14 +132,14 @@ knows_sealed_at (x ∷ cells) more (k ∷ known) further (suc q) d t fit at is =
     (knows_sealed_at cells more known further q d t (omega (arith, fit)) at is)
 
 -- the term of a cell is that of each place which knows it as a record, where all places agree
-term_agreed : (t rest : Term) (k : Known) → Agrees t k → rest ≡ t → term_or rest k ≡ t
+term_agreed : (t rest : Term) (k : Known) → KnowsNoOther t k → rest ≡ t → term_or rest k ≡ t
 term_agreed t rest knows.Nothing so is = is
 term_agreed t rest (knows.Raw fields) so is = absurd so
 term_agreed t rest (knows.Fresh fields) so is = absurd so
 term_agreed t rest (knows.Record u) so is = so
 term_agreed t rest (knows.Boxed terms) so is = absurd so
 
-term_if : (b : Bool) (t rest : Term) (k : Known) → (b ≡ true → Agrees t k) → rest ≡ t
+term_if : (b : Bool) (t rest : Term) (k : Known) → (b ≡ true → KnowsNoOther t k) → rest ≡ t
     → (if b then term_or rest k else rest) ≡ t
 term_if true t rest k so is = term_agreed t rest k (so refl) is
 term_if false t rest k so is = is
@@ -151,7 +153,7 @@ eq_of x d is = elim (cases_eq x d) [
 pub cell_term_at : (cells more : List ℕ) (known further : List Known) (q d : ℕ) (t : Term)
     → length cells ≡ length known
     → slice_index_or cells q 0 ≡ d → known_at known q ≡ knows.Record t
-    → ((p : ℕ) → p < length cells → slice_index_or cells p 0 ≡ d → Agrees t (known_at known p))
+    → ((p : ℕ) → p < length cells → slice_index_or cells p 0 ≡ d → KnowsNoOther t (known_at known p))
     → cell_term (cells ++ more) (known ++ further) d ≡ t
 cell_term_at [] more [] further q d t fit at is agree = absurd (true≢false (sym (ap is_term is)))
 cell_term_at [] more (k ∷ known) further q d t fit at is agree = absurd (omega (arith, fit))
@@ -165,11 +167,18 @@ cell_term_at (x ∷ cells) more (k ∷ known) further (suc q) d t fit at is agre
     (cell_term_at cells more known further q d t (omega (arith, fit)) at is
     (λ p lt here. agree (suc p) (omega (arith, lt)) here))
 
-module _ (cells : List ℕ) (known : List Known) (c : ℕ) (apart : AreApart cells known c) where
+module _ (cells : List ℕ) (known : List Known) (c : ℕ) (new : IsNewTo cells known c) where
+  many : length cells ≡ length known
+  many = sym new.fit
+
+  not_there : (q : ℕ) → q < length cells → slice_index_or cells q 0 ≡ c → ⊥
+  not_there q lt is =
+      true≢false (sym (has_at cells q lt) ∙ ap (λ (x : ℕ). has cells x) is ∙ new.apart)
+
   pub last_known : (place : ℕ) (k : Known) → place ≡ length cells
       → known_at (known ++ k ∷ []) place ≡ k
   last_known place k is =
-      ap (λ (n : ℕ). known_at (known ++ k ∷ []) n) (is ∙ apart.fit)
+      ap (λ (n : ℕ). known_at (known ++ k ∷ []) n) (is ∙ many)
       ∙ get_or-append_seam known k [] knows.Nothing
 
   pub last_cell : (place : ℕ) → place ≡ length cells
@@ -178,12 +187,11 @@ module _ (cells : List ℕ) (known : List Known) (c : ℕ) (apart : AreApart cel
       ap (λ (n : ℕ). slice_index_or (cells ++ c ∷ []) n 0) is ∙ get_or-append_seam cells c [] 0
 
   -- a change at the last cell
-  at_last : (change : Known → Known) (k : Known) → change knows.Nothing ≡ knows.Nothing
+  at_last : (change : Known → Known) (k : Known)
       → at_cell change c (cells ++ c ∷ []) (known ++ k ∷ []) ≡ known ++ change k ∷ []
-  at_last change k nothing =
-      at_cell_snoc change c c cells known k apart.fit
-      ∙ (λ i. at_still change c cells known
-      (λ q lt is. let none = apart.apart q lt is in ap change none ∙ nothing ∙ sym none) i
+  at_last change k =
+      at_cell_snoc change c c cells known k many
+      ∙ (λ i. at_still change c cells known (λ q lt is. absurd (not_there q lt is)) i
       ++ (if eq-eqb c c refl i then change k else k) ∷ [])
 
   -- what a ready value names is known as a record, and is not the last cell
@@ -193,14 +201,14 @@ module _ (cells : List ℕ) (known : List Known) (c : ℕ) (apart : AreApart cel
   named_same k (values.Num n) ready = refl
   named_same k (values.Held q) ready =
       let d = slice_index_or cells q 0 in
-      let lt : q < length cells = omega (arith, apart.fit, term_there known q ready) in
+      let lt : q < length cells = omega (arith, many, term_there known q ready) in
       let is = record_of (known_at known q) ready in
-      at_cell_snoc known_revealed d c cells known k apart.fit
+      at_cell_snoc known_revealed d c cells known k many
       ∙ (λ i. at_still known_revealed d cells known
       (λ p below same. agrees_revealed is.0 (known_at known p)
-      (apart.agree q p is.0 lt below same is.1)) i
+      (new.agree p q is.0 below lt same is.1)) i
       ++ here_still known_revealed k c d
-      (λ same. absurd (true≢false (ap is_term (sym is.1 ∙ apart.apart q lt (sym same)))))
+      (λ same. absurd (not_there q lt (sym same)))
       i ∷ [])
 
   pub fill_known : (fields : List Field) (place f : ℕ) (value : Value) → place ≡ length cells
@@ -213,7 +221,7 @@ module _ (cells : List ℕ) (known : List Known) (c : ℕ) (apart : AreApart cel
       ap (λ (ks : List Known). known_named (cells ++ c ∷ []) ks w)
       (ap (λ (x : ℕ). at_cell (known_set f w) x (cells ++ c ∷ [])
       (known ++ knows.Raw fields ∷ [])) (last_cell place is)
-      ∙ at_last (known_set f w) (knows.Raw fields) refl)
+      ∙ at_last (known_set f w) (knows.Raw fields))
       ∙ named_same (knows.Raw (slice_set fields f w)) value ready
 
   pub value_sealed : (k : Known) (value : Value) → IsReady known value
@@ -224,7 +232,7 @@ module _ (cells : List ℕ) (known : List Known) (c : ℕ) (apart : AreApart cel
       let is = record_of (known_at known q) ready in
       let d = slice_index_or cells q 0 in
       any_later (d == 0) _
-      (knows_sealed_at cells (c ∷ []) known (k ∷ []) q d is.0 apart.fit refl is.1)
+      (knows_sealed_at cells (c ∷ []) known (k ∷ []) q d is.0 many refl is.1)
 
   pub value_known : (k : Known) (value : Value) → IsReady known value
       → IsTermKnown (cells ++ c ∷ []) (known ++ k ∷ []) (field_among cells value)
@@ -232,7 +240,7 @@ module _ (cells : List ℕ) (known : List Known) (c : ℕ) (apart : AreApart cel
   value_known k (values.Num n) ready = tt
   value_known k (values.Held q) ready =
       let is = record_of (known_at known q) ready in
-      knows_term_at cells (c ∷ []) known (k ∷ []) q (slice_index_or cells q 0) is.0 apart.fit refl
+      knows_term_at cells (c ∷ []) known (k ∷ []) q (slice_index_or cells q 0) is.0 many refl
       is.1
 
   pub value_term_is : (k : Known) (value : Value) → IsReady known value
@@ -242,9 +250,9 @@ module _ (cells : List ℕ) (known : List Known) (c : ℕ) (apart : AreApart cel
   value_term_is k (values.Num n) ready = refl
   value_term_is k (values.Held q) ready =
       let is = record_of (known_at known q) ready in
-      let lt : q < length cells = omega (arith, apart.fit, term_there known q ready) in
-      cell_term_at cells (c ∷ []) known (k ∷ []) q (slice_index_or cells q 0) is.0 apart.fit refl
-      is.1 (λ p below same. apart.agree q p is.0 lt below same is.1)
+      let lt : q < length cells = omega (arith, many, term_there known q ready) in
+      cell_term_at cells (c ∷ []) known (k ∷ []) q (slice_index_or cells q 0) is.0 many refl
+      is.1 (λ p below same. new.agree p q is.0 below lt same is.1)
       ∙ sym (ap (term_or null) is.1)
 
   pub seal_known : (fields : List Field) (place : ℕ) → place ≡ length cells
@@ -257,4 +265,4 @@ module _ (cells : List ℕ) (known : List Known) (c : ℕ) (apart : AreApart cel
   seal_known fields place is =
       let change = known_sealed (cells ++ c ∷ []) (known ++ knows.Raw fields ∷ []) kind.Record in
       ap (λ (x : ℕ). at_cell change x (cells ++ c ∷ []) (known ++ knows.Raw fields ∷ []))
-      (last_cell place is) ∙ at_last change (knows.Raw fields) refl
+      (last_cell place is) ∙ at_last change (knows.Raw fields)

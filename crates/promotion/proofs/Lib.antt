@@ -4,7 +4,5 @@ pub mod Finishing
 pub mod Growing
 pub mod Holding
 pub mod Knowing
-pub mod Looking
-pub mod Opening
 pub mod Reaching
 pub mod Stretching

@@ -41,7 +41,7 @@ module _ (records : List (List MinorField)) (from : List MinorRef) (marks : List
       → Reaches records (Contains from) (record { number = k })
   reached_at k is = (all (record { number = k })).0 is
 
-  pub mark_from_some : (k : ℕ) → slice_index_or marks k false ≡ true → 0 < length from
+  mark_from_some : (k : ℕ) → slice_index_or marks k false ≡ true → 0 < length from
   mark_from_some k is = from_some records from (record { number = k }) (reached_at k is)
 
   pub marks_closed : (k i : ℕ) (older : MinorRef) → i < 5 → slice_index_or marks k false ≡ true

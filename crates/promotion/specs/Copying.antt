@@ -6,6 +6,7 @@ use Rattle.cell_words.specs.declared.fields.Field.{Field}
 use Rattle.cell_words.specs.declared.fields.Field.TheVariants as word
 use Rattle.cell_words.specs.Term.{Term, null, num, five}
 use Rattle.core_machine.specs.declared.events.Taken.{Taken}
+use Rattle.heap_rule.specs.Apart.{IsNewTo}
 use Rattle.heap_rule.specs.Facts.{is_term}
 use Rattle.heap_rule.specs.Lore.{known_at, term_or}
 use Rattle.heap_rule.specs.declared.known.Known.{Known}
@@ -46,24 +47,6 @@ copied_term known places records k =
     let term : ℕ → Term = λ i. term_at known (value_of places (field_at records k i)) in
     five (term 0) (term 1) (term 2) (term 3) (term 4)
 
--- Two places of one cell, one of which is known to have the term: of the other nothing is known, or
--- the same.
-abbrev pub Agrees : Term → Known → Type 0
-Agrees t knows.Nothing = Unit {0}
-Agrees t (knows.Raw fields) = ⊥
-Agrees t (knows.Fresh fields) = ⊥
-Agrees t (knows.Record u) = u ≡ t
-Agrees t (knows.Boxed terms) = ⊥
-
--- the cell stands at no place, or nothing is known there; and places of one cell agree
-pub record AreApart (cells : List ℕ) (known : List Known) (cell : ℕ) : Type 0 where
-  pub fit : length cells ≡ length known
-  pub apart : (q : ℕ) → q < length cells → slice_index_or cells q 0 ≡ cell
-      → known_at known q ≡ knows.Nothing
-  pub agree : (q p : ℕ) (t : Term) → q < length cells → p < length cells
-      → slice_index_or cells p 0 ≡ slice_index_or cells q 0 → known_at known q ≡ knows.Record t
-      → Agrees t (known_at known p)
-
 -- the first n fields are these values, where these cells are held, and the others are null
 pub record AreFilled (cells : List ℕ) (value : ℕ → Value) (n : ℕ) (fields : List Field)
     : Type 0 where
@@ -88,7 +71,7 @@ module _ {P : Type 0} where
   pub record Opened (old : Bound P) (place : ℕ) (fields : List Field) (new : Bound P) : Type 0 where
     pub cell : ℕ
     pub place_is : place ≡ length (held_cells old)
-    pub apart : AreApart (held_cells old) old.seat.me.known cell
+    pub is_new : IsNewTo (held_cells old) old.seat.me.known cell
     pub held : held_cells new ≡ held_cells old ++ cell ∷ []
     pub known : new.seat.me.known ≡ old.seat.me.known ++ knows.Raw fields ∷ []
     pub claims : new.seat.me.own.claims ≡ old.seat.me.own.claims + 1

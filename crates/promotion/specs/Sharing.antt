@@ -1,13 +1,12 @@
 -- What a mutator's private records stand for beside its held list: the terms of its places, and the
 -- condition on the places that records share.
 -- Source: this project's.
-use Rattle.std.specs.Prelude.{ℕ, ◌≡◌, ◌<◌, Bool, true, false, not, List, map}
-use Rattle.std.specs.List.{Contains, list_all}
+use Rattle.std.specs.Prelude.{ℕ, ◌≡◌, ◌<◌, true, List, map}
+use Rattle.std.specs.List.{Contains}
 use Rattle.cell_words.specs.Term.{Term, null}
 use Rattle.heap_rule.specs.Facts.{is_term}
 use Rattle.heap_rule.specs.Lore.{known_at, term_or}
 use Rattle.heap_rule.specs.declared.known.Known.{Known}
-use Rattle.heap_rule.specs.declared.known.Known.TheVariants as knows
 use Rattle.minor_heap.specs.declared.fields.MinorField.{MinorField}
 use Rattle.minor_heap.specs.declared.fields.MinorField.TheVariants as field
 use Rattle.minor_heap.specs.declared.fields.MinorRef.{MinorRef}
@@ -30,14 +29,3 @@ abbrev pub ShareRecords : List Known → List (List MinorField) → List MinorRe
 ShareRecords known records from =
     (r : MinorRef) (i : ℕ) → Reaches records (Contains from) r → i < 5
     → SharesRecord known (field_at records r.number i)
-
-abbrev pub is_raw : Known → Bool
-is_raw knows.Nothing = false
-is_raw (knows.Raw fields) = true
-is_raw (knows.Fresh fields) = false
-is_raw (knows.Record t) = false
-is_raw (knows.Boxed terms) = false
-
--- no place is known as raw
-abbrev pub none_raw : List Known → Bool
-none_raw known = list_all (λ k. not (is_raw k)) known

@@ -5,7 +5,7 @@ ghost use Rattle.cell_words.specs.Term.{null};
 ghost use Rattle.core_machine.specs.declared.events.Event.TheVariants as event;
 ghost use Rattle.core_machine.specs.declared.events.Found.TheVariants as finds;
 ghost use Rattle.free_cells.specs.Hints.{counts_of, queue_of};
-ghost use Rattle.heap_rule.specs.Lore.{five_nulls, known_at};
+ghost use Rattle.heap_rule.specs.Lore.{known_at};
 ghost use Rattle.minor_heap.specs.Nursery.{FitsRecord, IsOrdered, Stands, field_at};
 ghost use Rattle.minor_heap.specs.Terms.{terms_of};
 ghost use Rattle.minor_heap.specs.declared.fields.MinorField.TheVariants as field;
@@ -14,9 +14,9 @@ ghost use Rattle.mutator_seat.specs.Bound.{held_cells, takes};
 ghost use Rattle.mutator_seat.specs.Claims.{anything};
 ghost use Rattle.mutator_seat.specs.Stretches.{Calm};
 ghost use Rattle.promotion.specs.Copying.{Appended, AreCopied, Copied, Grown, GrownBy, Halted, IsReady};
-ghost use Rattle.promotion.specs.Copying.{Opened, copied_term, marked_count, value_of};
+ghost use Rattle.promotion.specs.Copying.{copied_term, marked_count, value_of};
 ghost use Rattle.promotion.specs.Promoting.{ClaimsFor, knows_term};
-ghost use Rattle.promotion.specs.Sharing.{ShareRecords, SharesRecord, known_terms, none_raw};
+ghost use Rattle.promotion.specs.Sharing.{ShareRecords, SharesRecord, known_terms};
 ghost use Rattle.trails.specs.Claims.{FindsFull};
 
 use free_cells::Hints;
@@ -25,30 +25,6 @@ use minor_heap::{MinorField, MinorHeap, MinorRef};
 use mutator_seat::{HeapFull, Mutator, Value};
 use std::marker::Brand;
 use std::sync::Wait;
-
-/// Claims a cell, and looks at it once. No place knows it: so says the heap's rule at that look.
-fn claim_apart<P: Keeping, R: Wait>(
-    rt: &R,
-    hints: &mut Hints<'_>,
-    m: &mut Mutator<'_, P>,
-) -> Result<usize, HeapFull>
-    requires inside { m.old.seat.me.presence.inside ≡ true }
-    requires room { length m.old.seat.me.own.held + 1 < m.old.seat.me.room }
-    requires none_raw { none_raw m.old.seat.me.known ≡ true }
-    ensures got { IfOk result (λ place. Opened m.old place five_nulls m.new) }
-    ensures full { IfErr result (λ full. Calm (FindsFull m.old.seat.me.number m.old.seat.me.shape.cells
-        full.off_duty full.began full.ended) m.old m.new) }
-    ensures queue { queue_of hints.new ≡ queue_of hints.old }
-    ensures takes { (counts_of hints.old).takes ≤ (counts_of hints.new).takes }
-{
-    match m.claim(rt, hints) {
-        Ok(place) => {
-            let _ = m.read::<Brand>(place, 4);
-            Ok(place)
-        }
-        Err(full) => Err(full),
-    }
-}
 
 /// A field of a record, where the copies of older records stand at these places.
 fn value_of(minor: &MinorHeap, places: &[usize], r: MinorRef, i: usize) -> Value
@@ -75,8 +51,7 @@ fn copy_record<P: Keeping, R: Wait>(
     r: MinorRef,
 ) -> Result<usize, HeapFull>
     requires inside { m.old.seat.me.presence.inside ≡ true }
-    requires room { length m.old.seat.me.own.held + 1 < m.old.seat.me.room }
-    requires none_raw { none_raw m.old.seat.me.known ≡ true }
+    requires room { length m.old.seat.me.own.held < m.old.seat.me.room }
     requires stands { Stands minor.now.records r }
     requires older { length places.now ≡ r.number }
     requires ready { (i : ℕ) → i < 5 → IsReady m.old.seat.me.known (value_of places.now (field_at minor.now.records r.number i)) }
@@ -86,7 +61,7 @@ fn copy_record<P: Keeping, R: Wait>(
     ensures queue { queue_of hints.new ≡ queue_of hints.old }
     ensures takes { (counts_of hints.old).takes ≤ (counts_of hints.new).takes }
 {
-    match claim_apart(rt, hints, m) {
+    match m.claim(rt, hints) {
         Ok(place) => {
             for i in 0..5 {
                 let value = value_of(minor, places, r, i);
@@ -110,9 +85,7 @@ pub(crate) fn copy_all<P: Keeping, R: Wait>(
     places: &mut Vec<usize>,
 ) -> Result<(), HeapFull>
     requires inside { m.old.seat.me.presence.inside ≡ true }
-    requires room { (k : ℕ) → slice_index_or marks.now k false ≡ true
-        → length m.old.seat.me.own.held + length minor.now.records < m.old.seat.me.room }
-    requires none_raw { none_raw m.old.seat.me.known ≡ true }
+    requires room { length m.old.seat.me.own.held + length minor.now.records ≤ m.old.seat.me.room }
     requires ordered { IsOrdered 0 minor.now.records }
     requires marks { length marks.now ≡ length minor.now.records }
     requires closed { (k i : ℕ) (older : MinorRef) → i < 5 → slice_index_or marks.now k false ≡ true
@@ -155,8 +128,7 @@ pub(crate) fn copy_reached<P: Keeping, R: Wait>(
     places: &mut Vec<usize>,
 ) -> Result<(), HeapFull>
     requires inside { m.old.seat.me.presence.inside ≡ true }
-    requires room { 0 < length from.now → length m.old.seat.me.own.held + length minor.now.records < m.old.seat.me.room }
-    requires none_raw { none_raw m.old.seat.me.known ≡ true }
+    requires room { length m.old.seat.me.own.held + length minor.now.records ≤ m.old.seat.me.room }
     requires stand { All (Stands minor.now.records) from.now }
     requires shares { ShareRecords m.old.seat.me.known minor.now.records from.now }
     requires marks { length minor.now.records ≤ vec_capacity marks.old }

@@ -1,9 +1,9 @@
 //! The memory that copying needs, and the two calls that copy.
-ghost use Rattle.std.specs.Prelude.{◌≡◌, ◌<◌, ◌≤◌, ◌+◌, ◌∷◌, All, IfErr, IfOk, OnErr, OnOk, [], length, true};
+ghost use Rattle.std.specs.Prelude.{◌≡◌, ◌≤◌, ◌+◌, ◌∷◌, All, IfErr, IfOk, OnErr, OnOk, [], length, true};
 ghost use Rattle.free_cells.specs.Hints.{counts_of, queue_of};
 ghost use Rattle.minor_heap.specs.Nursery.{Stands};
 ghost use Rattle.promotion.specs.Promoting.{Collected, Promoted, Refused};
-ghost use Rattle.promotion.specs.Sharing.{ShareRecords, none_raw};
+ghost use Rattle.promotion.specs.Sharing.{ShareRecords};
 
 use crate::copying::{copy_reached, give_back, hold_roots};
 use free_cells::Hints;
@@ -58,12 +58,10 @@ impl Promoter {
         r: MinorRef,
     ) -> Result<usize, HeapFull>
         requires inside { m.old.seat.me.presence.inside ≡ true }
-        requires some { 1 ≤ length m.old.seat.me.own.held }
-        requires none_raw { none_raw m.old.seat.me.known ≡ true }
         requires stands { Stands minor.now.records r }
         requires shares { ShareRecords m.old.seat.me.known minor.now.records (r ∷ []) }
         requires fits { length minor.now.records ≤ self.old }
-        requires room { length m.old.seat.me.own.held + length minor.now.records < m.old.seat.me.room }
+        requires room { length m.old.seat.me.own.held + length minor.now.records ≤ m.old.seat.me.room }
         ensures promoted { OnOk result (Promoted m.old minor.now.records r m.new) }
         ensures place { IfOk result (λ place. place ≡ length m.old.seat.me.own.held) }
         ensures full { IfErr result (λ full. Refused m.old full m.new) }
@@ -100,7 +98,6 @@ impl Promoter {
         requires inside { m.old.seat.me.presence.inside ≡ true }
         requires some { 1 ≤ base }
         requires base { base ≤ length m.old.seat.me.own.held }
-        requires none_raw { none_raw m.old.seat.me.known ≡ true }
         requires stand { All (Stands minor.old.records) roots.now }
         requires shares { ShareRecords m.old.seat.me.known minor.old.records roots.now }
         requires fits { length minor.old.records ≤ self.old }

@@ -55,7 +55,6 @@ holds_calm F cells more a b calm at = record {
   inside = calm.kept.inside ∙ at.inside;
   held = calm.kept.held ∙ at.held;
   first = at.first;
-  settled = at.settled;
   known = calm.kept.known ∙ at.known;
   room = calm.kept.room ∙ at.room;
 }
@@ -71,7 +70,6 @@ cut_rests a b loose told =
       held = held_kept a b 1 0 0 told
           ∙ ap (λ (cs : List ℕ). take 1 cs ++ []) at.held;
       first = at.first;
-      settled = at.settled;
       known = known_kept a b 1 0 0 told ∙ ap (λ (ks : List Known). take 1 ks ++ []) at.known;
       room = ap (λ (m : Bound Added). m.seat.me.room) told ∙ at.room;
     }
@@ -109,7 +107,6 @@ promoted_next count a b records r is newest at done =
         inside = done.stays.inside ∙ so.inside;
         held = done.held ∙ ap (λ (cs : List ℕ). cs ++ done.cell ∷ []) so.held;
         first = so.first;
-        settled = so.settled;
         known = done.known
             ∙ (λ i. so.known i ++ knows.Record (term i) ∷ []);
         room = done.stays.room ∙ so.room;
@@ -126,7 +123,6 @@ refused_count count a b full at refused =
         inside = refused.stays.inside ∙ so.inside;
         held = refused.held ∙ so.held;
         first = so.first;
-        settled = so.settled;
         known = refused.known ∙ so.known;
         room = refused.stays.room ∙ so.room;
       };

@@ -28,29 +28,13 @@ use Rattle.mutator_events.specs.declared.values.Value.{Value}
 use Rattle.mutator_events.specs.Values.{value_found}
 use Rattle.mutator_events.proofs.HeldCells.{cells_many}
 use Rattle.mutator_seat.specs.Bound.{Bound, held_cells}
-use Rattle.promotion.specs.Sharing.{is_raw}
 use Rattle.shared_counter.specs.Adding.{Adds, HoldsSome, IfHeld}
 use Rattle.shared_counter.specs.Adding.{Rests}
 use Rattle.shared_counter.specs.Counting.{Counts, number_record, sum_of}
 use Rattle.shared_counter.specs.declared.counter.Added.{Added}
 use Rattle.shared_counter.proofs.Picks.{counter_is}
 
--- what is told of a cell leaves it no raw one, and leaves a record
-pub told_settled : (h k : Known) → is_raw k ≡ false → is_raw (told_more h k) ≡ false
-told_settled knows.Nothing k is = is
-told_settled (knows.Raw fields) k is = is
-told_settled (knows.Fresh fields) k is = is
-told_settled (knows.Record t) knows.Nothing is = refl
-told_settled (knows.Record t) (knows.Raw fields) is = is
-told_settled (knows.Record t) (knows.Fresh fields) is = is
-told_settled (knows.Record t) (knows.Record u) is = is
-told_settled (knows.Record t) (knows.Boxed terms) is = is
-told_settled (knows.Boxed others) knows.Nothing is = refl
-told_settled (knows.Boxed others) (knows.Raw fields) is = is
-told_settled (knows.Boxed others) (knows.Fresh fields) is = is
-told_settled (knows.Boxed others) (knows.Record u) is = is
-told_settled (knows.Boxed others) (knows.Boxed terms) is = refl
-
+-- what is told of a cell leaves a record
 told_record : (h : Known) (t : Term) → told_more h (knows.Record t) ≡ knows.Record t
 told_record knows.Nothing t = refl
 told_record (knows.Raw fields) t = refl
@@ -62,11 +46,6 @@ pub told_if : (b : Bool) (h : Known) (t : Term)
     → (if b then told_more h (knows.Record t) else knows.Record t) ≡ knows.Record t
 told_if true h t = told_record h t
 told_if false h t = refl
-
-pub settled_if : (b : Bool) (h k : Known) → is_raw k ≡ false
-    → is_raw (if b then told_more h k else k) ≡ false
-settled_if true h k is = told_settled h k is
-settled_if false h k is = is
 
 abbrev pub found_field : Found → Field
 found_field (finds.Field f) = f
@@ -135,7 +114,6 @@ module _ (a b : Bound Added) (found : Field) where
           ∙ ap (λ (w : Field). cells_in (told a.seat.me (event.Read a.seat.me.number 0 0)
           (finds.Field w) tells a.seat.me.pass).own.held) is ∙ at.held;
       first = told_more tells.here at.first;
-      settled = told_settled tells.here at.first at.settled;
       known = ap (λ (v : View Added). v.known) step.new
           ∙ ap (λ (w : Field). known_read (held_cells a) a.seat.me.known 0 tells
           (finds.Field w)) is ∙ known_front;
@@ -147,7 +125,6 @@ module _ (a b : Bound Added) (found : Field) where
           ∙ ap (λ (w : Field). cells_in (told a.seat.me (event.Read a.seat.me.number 0 0)
           (finds.Field w) tells a.seat.me.pass).own.held) is ∙ at.held;
       first = told_more tells.here at.first;
-      settled = told_settled tells.here at.first at.settled;
       known = ap (λ (v : View Added). v.known) step.new
           ∙ ap (λ (w : Field). known_read (held_cells a) a.seat.me.known 0 tells
           (finds.Field w)) is ∙ known_front;
@@ -176,7 +153,6 @@ module _ (a b : Bound Added) (found : Field) where
                   a.seat.me.pass).own.held) is
                   ∙ cells_more a.seat.me.own.held c ∙ ap (λ (cs : List ℕ). cs ++ c ∷ []) at.held;
               first = told_more tells.here at.first;
-              settled = told_settled tells.here at.first at.settled;
               known = ap (λ (v : View Added). v.known) step.new
                   ∙ ap (λ (w : Field). known_read (held_cells a) a.seat.me.known 0 tells
                   (finds.Field w)) is

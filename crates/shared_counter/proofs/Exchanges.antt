@@ -22,7 +22,6 @@ use Rattle.mutator_events.specs.Values.{field_at}
 use Rattle.mutator_events.proofs.HeldCells.{cells_many}
 use Rattle.mutator_seat.specs.Bound.{Bound, held_cells}
 use Rattle.mutator_seat.specs.Writes.{MayUpdate, PicksUpdate, Updated}
-use Rattle.promotion.specs.Sharing.{is_raw}
 use Rattle.promotion.proofs.Knowing.{knows_sealed_at}
 use Rattle.shared_counter.specs.Adding.{Adds, HoldsNext, Loose}
 use Rattle.shared_counter.specs.Counting.{Counts, adding, number_record, one_more}
@@ -40,55 +39,33 @@ or_right : (a b : Bool) → b ≡ true → (a || b) ≡ true
 or_right true b is = refl
 or_right false b is = is
 
-set_settled : (w : Field) (k : Known) → is_raw k ≡ false → is_raw (known_set 0 w k) ≡ false
-set_settled w knows.Nothing is = refl
-set_settled w (knows.Raw fields) is = absurd cc
-set_settled w (knows.Fresh fields) is = refl
-set_settled w (knows.Record t) is = refl
-set_settled w (knows.Boxed terms) is = refl
-
-reveal_settled : (b : Bool) (k : Known) → is_raw k ≡ false
-    → is_raw (if b then known_revealed k else k) ≡ false
-reveal_settled true knows.Nothing is = refl
-reveal_settled true (knows.Raw fields) is = refl
-reveal_settled true (knows.Fresh fields) is = refl
-reveal_settled true (knows.Record t) is = refl
-reveal_settled true (knows.Boxed terms) is = refl
-reveal_settled false k is = is
-
 -- what is known behind a write of the anchor
 record Front (known : List Known) : Type 0 where
   first : Known
   more : List Known
-  settled : is_raw first ≡ false
   is : known ≡ first ∷ more
 
-front_after : (made : Bool) (c d : ℕ) (k j i : Known) (w : Field) → is_raw k ≡ false
+front_after : (made : Bool) (c d : ℕ) (k j i : Known) (w : Field)
     → Front (known_stored_if made (0 ∷ c ∷ d ∷ []) (k ∷ j ∷ i ∷ []) 0 0 w)
-front_after false c d k j i w is = record {
+front_after false c d k j i w = record {
   first = k;
   more = j ∷ i ∷ [];
-  settled = is;
   is = refl;
 }
-front_after true c d k j i word.Null is = record {
+front_after true c d k j i word.Null = record {
   first = known_set 0 word.Null k;
   more = _;
-  settled = set_settled word.Null k is;
   is = refl;
 }
-front_after true c d k j i (word.Num n) is = record {
+front_after true c d k j i (word.Num n) = record {
   first = known_set 0 (word.Num n) k;
   more = _;
-  settled = set_settled (word.Num n) k is;
   is = refl;
 }
-front_after true c d k j i (word.Cell e) is = record {
+front_after true c d k j i (word.Cell e) = record {
   first = if 0 == e then known_revealed (known_set 0 (word.Cell e) k)
       else known_set 0 (word.Cell e) k;
   more = _;
-  settled = reveal_settled (0 == e) (known_set 0 (word.Cell e) k)
-      (set_settled (word.Cell e) k is);
   is = refl;
 }
 
@@ -174,7 +151,7 @@ module _ (count : ℕ) (a : Bound Added) (at : HoldsNext count a) where
     loose_after =
         let front = front_after made c d at.holds.first (knows.Record (number_record count))
         (knows.Record (number_record (count + 1)))
-        (field_at m.seat.me.own.held (values.Held 2)) at.holds.settled in
+        (field_at m.seat.me.own.held (values.Held 2)) in
         record {
           cells = c ∷ d ∷ [];
           more = front.more;
@@ -183,7 +160,6 @@ module _ (count : ℕ) (a : Bound Added) (at : HoldsNext count a) where
                 ∙ done.calm.kept.inside ∙ at.holds.inside;
             held = done.held ∙ at.holds.held;
             first = front.first;
-            settled = front.settled;
             known = known_b ∙ front.is;
             room = ap (λ (v : View Added). v.room) done.event.new ∙ done.calm.kept.room
                 ∙ at.holds.room;

@@ -34,7 +34,7 @@ use Rattle.promotion.proofs.Filling.{known_now}
 use Rattle.shared_counter.specs.Adding.{Holds, HoldsCount, HoldsSome, IfNumber, Loose}
 use Rattle.shared_counter.specs.Counting.{Counts, number_record}
 use Rattle.shared_counter.specs.declared.counter.Added.{Added}
-use Rattle.shared_counter.proofs.Anchors.{found_field, settled_if, told_if}
+use Rattle.shared_counter.proofs.Anchors.{found_field, told_if}
 
 some_term : Option Term → Term
 some_term None = null
@@ -130,7 +130,6 @@ module _ (a b : Bound Added) (found : Field) (at : HoldsSome a)
     inside = ap (λ (v : View Added). v.presence.inside) step.new ∙ so.inside;
     held = held_as w is ∙ held ∙ so.held;
     first = first_after;
-    settled = settled_if (0 == c) tells.here so.first so.settled;
     known = known_as w is ∙ known ∙ known_front;
     room = ap (λ (v : View Added). v.room) step.new ∙ so.room;
   }
@@ -142,7 +141,6 @@ module _ (a b : Bound Added) (found : Field) (at : HoldsSome a)
     held = held_as (word.Cell d) is ∙ cells_more a.seat.me.own.held d
         ∙ ap (λ (cs : List ℕ). cs ++ d ∷ []) so.held;
     first = first_after;
-    settled = settled_if (0 == c) tells.here so.first so.settled;
     known = known_as (word.Cell d) is ∙ ap (λ (ks : List Known). ks ++ tells.found ∷ []) known_front;
     room = ap (λ (v : View Added). v.room) step.new ∙ so.room;
   }

@@ -7,7 +7,6 @@ use Rattle.heap_table.specs.Seats.{HeapId, IsSeatOf, SeatView}
 use Rattle.mutator_events.specs.declared.values.Value.{Value}
 use Rattle.mutator_events.specs.declared.values.Value.TheVariants as values
 use Rattle.mutator_seat.specs.Bound.{Bound, held_cells}
-use Rattle.promotion.specs.Sharing.{is_raw}
 use Rattle.shared_counter.specs.declared.counter.Added.{Added}
 use Rattle.shared_counter.specs.Counting.{number_record}
 
@@ -16,7 +15,6 @@ pub record Holds (cells : List ℕ) (more : List Known) (m : Bound Added) : Type
   pub inside : m.seat.me.presence.inside ≡ true
   pub held : held_cells m ≡ 0 ∷ cells
   pub first : Known
-  pub settled : is_raw first ≡ false
   pub known : m.seat.me.known ≡ first ∷ more
   pub room : m.seat.me.room ≡ 8
 

@@ -8,7 +8,7 @@ use Rattle.mutator_seat.specs.Bound.{Bound}
 use Rattle.mutator_seat.specs.Claims.{anything}
 use Rattle.promotion.specs.Copying.{AreCopied, Copied, GrownBy, IsReady, copied_term, marked_count, value_of}
 use Rattle.promotion.specs.Sharing.{known_terms}
-use Rattle.promotion.proofs.Growing.{all_grown, fields_ready, grown_none, halted, none_grown}
+use Rattle.promotion.proofs.Growing.{all_grown, fields_ready, grown_none, halted}
 use Rattle.promotion.proofs.Growing.{room_left, step_copied, step_passed, still_records}
 use Rattle.promotion.proofs.copying.copy_all.Goals as goal
 use Rattle.promotion.proofs.copying.copy_all.Goals.{then-marks-number+in-Ok, else-marks-number}
@@ -34,8 +34,7 @@ copy_record-requires g c =
     record {
       inside = so.0.grown.stays.inside ∙ c.requires.inside;
       room = room_left c.args.marks.now n (length c.args.minor.now.records) c.args.m.now
-          c.loop-number.m stands (c.requires.room n is) so.0;
-      none_raw = none_grown anything c.args.m.now c.loop-number.m so.0.grown c.requires.none_raw;
+          c.loop-number.m stands c.requires.room so.0;
       stands = stands;
       older = ap (λ (ps : List ℕ). length ps) places_are ∙ so.1;
       ready = subst (λ (ps : List ℕ). (i : ℕ) → i < 5 → IsReady c.loop-number.m.seat.me.known

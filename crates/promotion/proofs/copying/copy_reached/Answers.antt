@@ -4,17 +4,9 @@ use Rattle.minor_heap.specs.declared.fields.MinorRef.{MinorRef}
 use Rattle.minor_heap.specs.Marking.{marked_of}
 use Rattle.minor_heap.specs.Reaches.{AreReached, IsMarked, Reaches}
 use Rattle.promotion.proofs.Growing.{few_held, ok_both, ok_three}
-use Rattle.promotion.proofs.Reaching.{claims_for, fit_held, mark_from_some, marks_closed, marks_share}
+use Rattle.promotion.proofs.Reaching.{claims_for, fit_held, marks_closed, marks_share}
 use Rattle.promotion.proofs.Reaching.{none_held, roots_copied}
 use Rattle.promotion.proofs.copying.copy_reached.Goals as goal
-
-pub copy_all-requires-clause-room : goal.copy_all-requires-clause-room
-copy_all-requires-clause-room g c k is =
-    let all = subst (λ (ms : List Bool). (r : MinorRef) → IsMarked ms r
-    ↔ Reaches c.args.minor.now.records (Contains c.args.from.now) r)
-    (sym c.as_slice.ensures.value) c.mark_reached.ensures.marks in
-    c.requires.room (mark_from_some c.args.minor.now.records c.args.from.now
-    c.as_slice.result.now all k is)
 
 pub copy_all-requires-clause-closed : goal.copy_all-requires-clause-closed
 copy_all-requires-clause-closed g c =

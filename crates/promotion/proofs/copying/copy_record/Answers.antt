@@ -8,14 +8,14 @@ use Rattle.mutator_events.specs.Values.{field_at}
 use Rattle.mutator_seat.specs.Bound.{held_cells, takes}
 use Rattle.promotion.specs.Copying.{AreFilled, IsReady, value_of}
 use Rattle.promotion.proofs.Filling.{filled_more, fill_rule, filled_none, may_fill, may_seal}
-use Rattle.promotion.proofs.Filling.{ready_now, sealed_as}
+use Rattle.promotion.proofs.Filling.{opened, ready_now, sealed_as}
 use Rattle.promotion.proofs.copying.copy_record.Goals as goal
 
 pub loop-i-init : goal.loop-i-init
 loop-i-init g c = (
   five_nulls,
   (
-    c.in-Ok.ensures.got,
+    opened c.args.m.now c.claim.new.self c.in-Ok.place c.in-Ok.ensures.got,
     filled_none (held_cells c.args.m.now)
         (λ i. value_of c.args.places.now
         (record_field c.args.minor.now.records c.args.r.number i)),

@@ -22,8 +22,9 @@ keep-requires g c =
       may = may_promote a b so.grown c.held_len-held.result
           (slice_index_or c.as_slice.result.now c.args.r.number 0)
           (length c.args.minor.now.records) c.requires.inside
-          (omega (arith, c.requires.some, c.held_len-held.ensures.len)) c.held_len-held.ensures.len
+          (c.held_len-held.ensures.some c.requires.inside) c.held_len-held.ensures.len
           (omega (arith, c.requires.room, c.held_len-held.ensures.len))
+          (omega (arith, c.requires.stands))
           (so.fit (omega arith)) (ap is_term at);
     }
 
