@@ -1,8 +1,9 @@
 -- Where the words of the collector's events lie, by the numbers that its seat has at hand.
-use Rattle.std.proofs.Common.{◌≡◌, ℕ, sym, ◌∙◌, ap}
+use Rattle.std.proofs.Common.{◌≡◌, ℕ, Option, Some, None, refl, sym, ◌∙◌, ap}
 use Rattle.cell_heap.specs.declared.progress.Progress.{Progress}
 use Rattle.cell_heap.specs.Collecting.{IsCollector}
 use Rattle.cell_words.specs.declared.controls.Control.{Control}
+use Rattle.cell_words.specs.declared.controls.Stage.TheVariants as stage
 use Rattle.core_machine.specs.declared.progress.Scanning.{Scanning}
 use Rattle.core_machine.specs.Sweep.{wiped_count}
 use Rattle.core_machine.specs.Table.{ColourOf, FieldOf, index_of}
@@ -65,3 +66,14 @@ module _ {P : Type 0} {v : View P} {cells mutators : ℕ} {control : Control} {p
   at_next at lies =
       field_at (ap (λ (s : Scanning). s.cell) (scan_is at))
       (ap (λ (s : Scanning). s.next) (scan_is at)) lies
+
+  -- between two cycles no scan goes on
+  pub no_scan : v.control.stage ≡ stage.Idle → progress.scan ≡ None
+  no_scan idle = by_scan progress.scan refl
+    where
+      by_scan : (scan : Option Scanning) → progress.scan ≡ scan → progress.scan ≡ None
+      by_scan None none = none
+      by_scan (Some scan) some =
+          let no = sym idle ∙ ap (λ (x : Control). x.stage) is.control_is
+          ∙ is.within.traces scan some in
+          absurd cc

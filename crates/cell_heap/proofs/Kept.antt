@@ -4,7 +4,7 @@ use Rattle.cell_heap.specs.declared.progress.Progress.{Progress}
 use Rattle.cell_heap.specs.Collecting.{IsCollector, IsWithin}
 use Rattle.cell_heap.specs.Progress.{progress_of}
 use Rattle.cell_heap.proofs.Made.{Made}
-use Rattle.cell_heap.proofs.Within.{within_after}
+use Rattle.cell_heap.proofs.Within.{answers_after, within_after}
 use Rattle.cell_words.specs.declared.controls.Control.{Control}
 use Rattle.core_machine.specs.declared.events.Event.{Event}
 use Rattle.core_machine.specs.Collector.{collector_after, control_after}
@@ -26,6 +26,8 @@ module _ {P : Type 0} {fixed : ℕ → Bool} {old inside new : SeatView P} {e : 
       let told = m.step.new in
       let cells_are : new.me.shape.cells ≡ cells =
       ap (λ (x : View P). x.shape.cells) told ∙ is.cells_are in
+      let mutators_are : new.me.shape.mutators ≡ mutators =
+      ap (λ (x : View P). x.shape.mutators) told ∙ is.mutators_are in
       let control_is : new.me.control ≡ next =
       ap (λ (x : View P). x.control) told
       ∙ ap (λ (x : Control). control_after x e) is.control_is ∙ goes in
@@ -34,9 +36,10 @@ module _ {P : Type 0} {fixed : ℕ → Bool} {old inside new : SeatView P} {e : 
       record {
         role_is = ap (λ (x : View P). x.role) told ∙ is.role_is;
         cells_are = cells_are;
-        mutators_are = ap (λ (x : View P). x.shape.mutators) told ∙ is.mutators_are;
+        mutators_are = mutators_are;
         control_is = control_is;
         progress_is = progress_is;
+        answers_fit = answers_after made m.step ∙ mutators_are;
         within =
             subst (λ (x : (ℕ × Control) × Progress). IsWithin x.0.0 x.0.1 x.1)
             (λ j. ((cells_are j, control_is j), progress_is j)) (within_after made m.step);

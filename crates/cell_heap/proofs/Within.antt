@@ -1,6 +1,6 @@
 -- The ranges of the collector's numbers stand behind every event of it, whatever it is: every state
 -- of a run has them.
-use Rattle.std.proofs.Common.{◌≡◌, ◌<◌, ◌≤◌, ◌+◌, ◌*◌, ◌^◌, ℕ, Bool, None, sym}
+use Rattle.std.proofs.Common.{◌≡◌, ◌<◌, ◌≤◌, ◌+◌, ◌*◌, ◌^◌, ℕ, Bool, None, length, sym}
 use Rattle.std.proofs.Common.{◌∙◌, ap, subst, arith}
 use Rattle.std.proofs.Math.Nat.{mul-le-mul_left}
 use Rattle.cell_heap.specs.Collecting.{IsWithin}
@@ -18,8 +18,10 @@ use Rattle.core_machine.proofs.Frames.{as_large, collector_framed}
 use Rattle.core_machine.proofs.HasWords.{control_valid}
 use Rattle.core_machine.proofs.OneOperation.{busy_there}
 use Rattle.core_machine.proofs.Ranges.Events.{after_shaped}
-use Rattle.core_machine.specs.Collector.{collector_after, control_after}
+use Rattle.core_machine.specs.Collector.{Collector, collector_after, control_after}
 use Rattle.cell_words.specs.declared.controls.Control.{Control}
+use Rattle.dlg_core.specs.Consistent.{IsConsistent}
+use Rattle.dlg_core.proofs.Step.{consistent_after}
 use Rattle.heap_rule.specs.declared.view.View.{View}
 use Rattle.heap_rule.specs.Asks.{known_state}
 use Rattle.heap_rule.specs.Steps.{AtCollectorStep}
@@ -55,14 +57,16 @@ few_freed s r =
     omega (arith, r.shape.counts_fit.freed_fits, counted, swept, at, position_few s.control.stage)
 
 -- every state in range has them
-pub state_within : (s : State) → InRange s → IsWithin s.cells s.control (progress_of s.collector)
-state_within s r = record {
+pub state_within : (s : State) → InRange s → IsConsistent s
+    → IsWithin s.cells s.control (progress_of s.collector)
+state_within s r k = record {
   some_cells = r.shape.cells_fit.some_cells;
   few_cells = r.few_cells;
   valid = control_valid s r;
   cycles_fit = r.shape.control_fits.cycles_fit;
   busy = busy_there s r.shape;
   scan_fits = r.shape.names_fit.scan_fits;
+  traces = λ scan is. (k.tracing.scans scan is).traces;
   few_freed = few_freed s r;
 }
 
@@ -94,4 +98,21 @@ module _ {P : Type 0} {fixed : ℕ → Bool} {v w : View P} {e : Event} {number 
       ∙ ap (λ (x : View P). x.part) (sym at.new) in
       subst (λ (x : State). IsWithin x.cells x.control (progress_of x.collector))
       (λ j. known_state (cells j) t.mutators (control j) (part j))
-      (state_within t range)
+      (state_within t range
+      (consistent_after s e at.ours.shown.shaped at.ours.shown.consistent at.happens))
+
+  -- and an answer is kept for each mutator
+  pub answers_after : maker e ≡ None → AtCollectorStep fixed v e number w
+      → length w.part.answered ≡ w.shape.mutators
+  answers_after made at =
+      let s = at.core in
+      let framed = collector_framed s e made in
+      let part : (after s e).collector ≡ w.part =
+      framed.collector
+      ∙ (λ j. collector_after (at.ours.cells j) (at.ours.control j) (at.ours.part j) e
+      (found_by s e))
+      ∙ ap (λ (x : View P). x.part) (sym at.new) in
+      ap (λ (x : Collector). length x.answered) (sym part)
+      ∙ (after_shaped s e at.ours.shown.shaped at.happens).mutators_fit.answered_fit
+      ∙ (as_large s e).mutators ∙ at.ours.mutators
+      ∙ ap (λ (x : View P). x.shape.mutators) (sym at.new)

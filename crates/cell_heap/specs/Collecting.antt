@@ -1,10 +1,12 @@
 -- What the numbers that the collector's seat has at hand say of its view.
 -- Source: this project's.
-use Rattle.std.specs.Prelude.{ℕ, ◌≡◌, ◌<◌, ◌≤◌, ◌^◌, false}
+use Rattle.std.specs.Prelude.{ℕ, ◌≡◌, ◌<◌, ◌≤◌, ◌^◌, false, Some, length}
 use Rattle.cell_heap.specs.declared.progress.Progress.{Progress}
 use Rattle.cell_heap.specs.Progress.{progress_of}
 use Rattle.cell_words.specs.Control.{IsValidControl}
 use Rattle.cell_words.specs.declared.controls.Control.{Control}
+use Rattle.cell_words.specs.declared.controls.Stage.TheVariants as stage
+use Rattle.core_machine.specs.declared.progress.Scanning.{Scanning}
 use Rattle.core_machine.specs.InRange.{CyclesFit, ScanFits}
 use Rattle.core_machine.specs.State.{greatest_cells}
 use Rattle.core_machine.specs.Sweep.{is_fresh}
@@ -20,6 +22,8 @@ pub record IsWithin (cells : ℕ) (control : Control) (progress : Progress) : Ty
   -- work that goes on at the position goes on at a cell that there is
   pub busy : is_fresh progress.sweep ≡ false → control.position < cells
   pub scan_fits : ScanFits cells progress.scan
+  -- and a scan goes on while the collector traces alone
+  pub traces : (scan : Scanning) → progress.scan ≡ Some scan → control.stage ≡ stage.Trace
   pub few_freed : progress.freed < 2 ^ 63
 
 -- a collector's view, with these numbers
@@ -30,4 +34,6 @@ pub record IsCollector {P : Type 0} (me : View P) (cells mutators : ℕ) (contro
   pub mutators_are : me.shape.mutators ≡ mutators
   pub control_is : me.control ≡ control
   pub progress_is : progress_of me.part ≡ progress
+  -- an answer is kept for each mutator
+  pub answers_fit : length me.part.answered ≡ mutators
   pub within : IsWithin cells control progress

@@ -1,4 +1,5 @@
-ghost use Rattle.std.specs.Prelude.{◌≡◌, ◌<◌, ◌≤◌, ◌^◌};
+ghost use Rattle.std.specs.Prelude.{◌≡◌, ◌<◌, ◌≤◌, ◌^◌, None, length};
+ghost use Rattle.cell_words.specs.declared.controls.Stage.TheVariants as stage;
 ghost use Rattle.core_machine.specs.State.{greatest_cells};
 ghost use Rattle.heap_rule.specs.Opening.{opening_view};
 
@@ -74,6 +75,22 @@ impl<P: Keeping> ColSeat<P> {
         seat
     }
 
+    /// How many cells the heap has.
+    pub fn cells(&self) -> u32
+        ensures cells { result ≡ self.now.me.shape.cells }
+        ensures some { 0 < result }
+    {
+        self.cells
+    }
+
+    /// How many mutators it has. The seat keeps for each whether it has answered.
+    pub fn mutators(&self) -> u32
+        ensures mutators { result ≡ self.now.me.shape.mutators }
+        ensures answers { length self.now.me.part.answered ≡ result }
+    {
+        self.mutators
+    }
+
     /// The control, as this seat stored it last.
     pub fn control(&self) -> Control
         ensures control { result ≡ self.now.me.control }
@@ -98,6 +115,7 @@ impl<P: Keeping> ColSeat<P> {
     /// The scan of a gray cell, while there is one.
     pub fn scanning(&self) -> Option<Scanning>
         ensures scan { result ≡ self.now.me.part.scan }
+        ensures none { self.now.me.control.stage ≡ stage.Idle → result ≡ None }
     {
         self.progress.scan
     }

@@ -1,6 +1,7 @@
 -- The stages of a cycle, joined.
 use Rattle.std.proofs.Common.{◌≡◌, ◌+◌, ℕ, Bool, true, IsTrue, List, [], ◌∷◌, ◌++◌, replicate}
 use Rattle.std.proofs.Common.{refl, ◌∙◌, ap, subst}
+use Rattle.std.proofs.lemmas.List.{append_assoc}
 use Rattle.std.specs.List.{list_all}
 use Rattle.cell_words.specs.declared.controls.Stage.TheVariants as stage
 use Rattle.core_machine.specs.declared.events.Event.TheVariants as event
@@ -95,17 +96,24 @@ module _ {P : Type 0} where
             (collector_state a.seat.me, ap (λ (y : Bound P). y.seat) begins)
             (took_append b.seat c.seat d.seat ys (z ∷ []) made.told
             (collector_state c.seat.me, ap (λ (y : Bound P). y.seat) closes));
+        trail = ap (λ (y : Bound P). y.seat.me.trail) closes
+            ∙ ap (λ (zs : List Taken). zs ++ z ∷ []) (made.trail
+            ∙ ap (λ (zs : List Taken). zs ++ ys) (ap (λ (y : Bound P). y.seat.me.trail) begins))
+            ∙ append_assoc (a.seat.me.trail ++ x ∷ []) ys (z ∷ [])
+            ∙ append_assoc a.seat.me.trail (x ∷ []) (ys ++ z ∷ []);
         kept = kept_then a b d
             (record {
               heap = ap (λ (y : Bound P). y.heap) begins;
               table = ap (λ (y : Bound P). y.seat.table) begins;
               shape = ap (λ (y : Bound P). y.seat.me.shape) begins;
+              places = ap (λ (y : Bound P). y.seat.me.places) begins;
               room = ap (λ (y : Bound P). y.stack.room) begins;
             })
             (kept_then b c d made.kept (record {
               heap = ap (λ (y : Bound P). y.heap) closes;
               table = ap (λ (y : Bound P). y.seat.table) closes;
               shape = ap (λ (y : Bound P). y.seat.me.shape) closes;
+              places = ap (λ (y : Bound P). y.seat.me.places) closes;
               room = ap (λ (y : Bound P). y.stack.room) closes;
             }));
         fact = record {

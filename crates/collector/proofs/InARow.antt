@@ -157,9 +157,8 @@ serves_more rest over mutators count freed from report xs ys on so heard = recor
 
 pub made_done : (rest : Rest) (mutators most count freed : ℕ) (xs : List Taken)
     → is_done rest ≡ true → count ≤ most → ServesOn rest mutators count freed xs
-    → MadeCycles mutators most freed xs
+    → MadeCycles mutators most count freed xs
 made_done rest mutators most count freed xs done le so = record {
-  count = count;
   whole = serving_wholes rest mutators count xs so.serving;
   most_are = le;
   why = inr (serving_done rest mutators count xs done so.serving);
@@ -168,9 +167,9 @@ made_done rest mutators most count freed xs done le so = record {
 }
 
 pub made_all : (rest : Rest) (mutators most count freed : ℕ) (xs : List Taken)
-    → count ≡ most → ServesOn rest mutators count freed xs → MadeCycles mutators most freed xs
+    → count ≡ most → ServesOn rest mutators count freed xs
+    → MadeCycles mutators most count freed xs
 made_all rest mutators most count freed xs all so = record {
-  count = count;
   whole = serving_wholes rest mutators count xs so.serving;
   most_are = omega (arith, all);
   why = inl all;

@@ -1,5 +1,6 @@
 -- Stretches follow one another: their events go together, and their counts add up.
 use Rattle.std.proofs.Common.{◌≡◌, true, List, [], ◌∷◌, ◌++◌, refl, sym, ◌∙◌, ap, subst}
+use Rattle.std.proofs.lemmas.List.{append_assoc, append-nil}
 use Rattle.core_machine.specs.State.{State}
 use Rattle.core_machine.specs.declared.events.Event.{Event}
 use Rattle.core_machine.specs.declared.events.Found.{Found}
@@ -28,6 +29,7 @@ module _ {P : Type 0} where
     heap = second.heap ∙ first.heap;
     table = second.table ∙ first.table;
     shape = second.shape ∙ first.shape;
+    places = second.places ∙ first.places;
     room = second.room ∙ first.room;
   }
 
@@ -37,6 +39,9 @@ module _ {P : Type 0} where
   stretch_then F G H a b c join first second = record {
     added = first.added ++ second.added;
     told = took_append a.seat b.seat c.seat first.added second.added first.told second.told;
+    trail = second.trail
+        ∙ ap (λ (xs : List Taken). xs ++ second.added) first.trail
+        ∙ append_assoc a.seat.me.trail first.added second.added;
     kept = kept_then a b c first.kept second.kept;
     fact = join first.added second.added first.fact second.fact;
   }
@@ -46,6 +51,7 @@ module _ {P : Type 0} where
   stretch_as F G a b turn first = record {
     added = first.added;
     told = first.told;
+    trail = first.trail;
     kept = first.kept;
     fact = turn first.added first.fact;
   }
@@ -65,10 +71,12 @@ module _ {P : Type 0} where
   stretch_one F a b e found now heap seat stack fact = record {
     added = took e found ∷ [];
     told = (now, seat);
+    trail = ap (λ (x : SeatView P). x.me.trail) seat;
     kept = record {
       heap = heap;
       table = ap (λ (x : SeatView P). x.table) seat;
       shape = ap (λ (x : SeatView P). x.me.shape) seat;
+      places = ap (λ (x : SeatView P). x.me.places) seat;
       room = ap (λ (s : Stack). s.room) stack ∙ room_after a.stack (part_of a) e;
     };
     fact = fact;
@@ -116,7 +124,8 @@ module _ {P : Type 0} where
   does_none a = record {
     added = [];
     told = refl;
-    kept = record { heap = refl; table = refl; shape = refl; room = refl };
+    trail = sym (append-nil a.seat.me.trail);
+    kept = record { heap = refl; table = refl; shape = refl; places = refl; room = refl };
     fact = counts_none (work_of a);
   }
 

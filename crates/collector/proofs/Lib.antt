@@ -4,6 +4,7 @@ pub mod Cycling
 pub mod Hearing
 pub mod InARow
 pub mod Joining
+pub mod Leaving
 pub mod Offered
 pub mod Scanning
 pub mod Stacked

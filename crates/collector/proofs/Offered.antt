@@ -1,6 +1,5 @@
 -- An offer is counted, whether there was room or not.
-use Rattle.std.proofs.Common.{◌≡◌, ◌+◌, ◌⊎◌, inl, inr, ℕ, ap}
-use Rattle.free_cells.specs.Counts.{put, put_refused}
+use Rattle.std.proofs.Common.{◌≡◌, ◌+◌, inl, inr, ℕ, ap}
 use Rattle.free_cells.specs.declared.counts.Counts.{Counts}
 use Rattle.collector.specs.Offering.{Offers}
 

@@ -1,7 +1,7 @@
 -- A whole cycle in the collector's own trail, and what a report says of it; cycles in a row, until
 -- it is enough.
 -- Source: this project's.
-use Rattle.std.specs.Prelude.{ℕ, ◌≡◌, ◌<◌, ◌≤◌, ◌+◌, ◌++◌, ◌⊎◌, not, true, false, List, [], ◌∷◌, None}
+use Rattle.std.specs.Prelude.{ℕ, ◌≡◌, ◌≤◌, ◌+◌, ◌++◌, ◌⊎◌, not, true, false, List, [], ◌∷◌}
 use Rattle.std.specs.Prelude.{Bool, IsTrue, length}
 use Rattle.std.specs.List.{count_by, list_all}
 use Rattle.cell_words.specs.declared.controls.Stage.TheVariants as stage
@@ -9,7 +9,6 @@ use Rattle.core_machine.specs.declared.events.Event.TheVariants as event
 use Rattle.core_machine.specs.declared.events.Found.TheVariants as finds
 use Rattle.core_machine.specs.declared.events.Taken.{Taken}
 use Rattle.heap_rule.specs.Rule.{took}
-use Rattle.collector.specs.Bound.{Bound, cells_of, mutators_of, part_of}
 use Rattle.collector.specs.Counting.{goes_on, is_blacken, is_duty, is_free}
 use Rattle.collector.specs.Over.{AllOver}
 use Rattle.collector.specs.Replay.{Work, count_along, ends_pass, is_shade, spills, stacks}
@@ -66,10 +65,9 @@ pub record AfterOver (later mutators count : ℕ) (events : List Taken) : Type 0
   pub later_whole : Wholes later after
   pub many : count ≡ first + later
 
--- At most so many whole cycles, which freed so many cells. There are fewer only where two of them
--- began after every mutator was found over.
-pub record MadeCycles (mutators most freed : ℕ) (events : List Taken) : Type 0 where
-  pub count : ℕ
+-- So many whole cycles, which freed so many cells. There are fewer than there might be only where
+-- two of them began after every mutator was found over.
+pub record MadeCycles (mutators most count freed : ℕ) (events : List Taken) : Type 0 where
   pub whole : Wholes count events
   pub most_are : count ≤ most
   pub why : (count ≡ most) ⊎ AfterOver 2 mutators count events
@@ -77,15 +75,7 @@ pub record MadeCycles (mutators most freed : ℕ) (events : List Taken) : Type 0
   pub no_duty : list_all (λ (t : Taken). not (is_duty t.event)) events ≡ true
 
 -- such cycles, and then off duty
-pub record Served (mutators most freed : ℕ) (events : List Taken) : Type 0 where
+pub record Served (mutators most count freed : ℕ) (events : List Taken) : Type 0 where
   pub made : List Taken
   pub split : events ≡ made ++ took (event.Duty false) finds.Stored ∷ []
-  pub cycles : MadeCycles mutators most freed made
-
-module _ {P : Type 0} where
-  -- what every state of a run has between two cycles: there is a cell, an answer is kept for each
-  -- mutator, and no scan goes on
-  pub record IsReady (c : Bound P) : Type 0 where
-    pub some_cells : 0 < cells_of c
-    pub answers_fit : length (part_of c).answered ≡ mutators_of c
-    pub no_scan : (part_of c).scan ≡ None
+  pub cycles : MadeCycles mutators most count freed made

@@ -1,7 +1,7 @@
 //! The collector: its seat, with the heap that the seat is of and the mark stack.
-ghost use Rattle.std.specs.Prelude.{◌≡◌, ◌<◌, ◌≤◌, [], ◌∷◌, ℕ};
+ghost use Rattle.std.specs.Prelude.{◌≡◌, ◌<◌, ◌≤◌, [], ◌∷◌, ℕ, length};
 ghost use Rattle.cell_words.specs.declared.controls.Stage.TheVariants as stage;
-ghost use Rattle.collector.specs.Bound.{cells_of, control_of, mutators_of, takes};
+ghost use Rattle.collector.specs.Bound.{cells_of, control_of, mutators_of, part_of, takes};
 ghost use Rattle.collector.specs.Stack.{emptied, has_room, looked_at, pushed};
 ghost use Rattle.core_machine.specs.declared.events.Event.TheVariants as event;
 ghost use Rattle.core_machine.specs.declared.events.Found.TheVariants as finds;
@@ -97,15 +97,17 @@ impl<'a, P: Keeping> Collector<'a, P> {
     /// How many cells the heap has.
     pub fn cells(&self) -> u32
         ensures cells { result ≡ cells_of self.now }
+        ensures some { 0 < result }
     {
-        self.heap.cells()
+        self.seat.cells()
     }
 
-    /// How many mutators it has.
+    /// How many mutators it has. For each it is kept whether it has answered.
     pub fn mutators(&self) -> u32
         ensures mutators { result ≡ mutators_of self.now }
+        ensures answers { length (part_of self.now).answered ≡ result }
     {
-        self.mutators
+        self.seat.mutators()
     }
 
     /// The control, as it was stored last.

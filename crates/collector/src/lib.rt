@@ -8,7 +8,7 @@
 //!
 //! Reading order: specs/Stack, Bound, Stretches, Replay, Counting, Over, Cycles; then
 //! `mark_stack`, `report`, `collecting`, `steps`, `asking`, `clearing`, `tracing`, `sweeping`,
-//! `whole`, `serving`.
+//! `whole`, `serving`, `theorems`.
 #![tactic(auto)]
 
 mod asking;
@@ -19,6 +19,7 @@ mod report;
 mod serving;
 mod steps;
 mod sweeping;
+pub mod theorems;
 mod tracing;
 mod whole;
 

@@ -2,10 +2,10 @@
 //!
 //! A mutator that is over does no more. So once each was found over, two more whole cycles free all
 //! that nothing reaches: the first one may still keep a cell that was dropped while it ran.
-ghost use Rattle.std.specs.Prelude.{◌≡◌, ◌≤◌, ◌+◌, false};
+ghost use Rattle.std.specs.Prelude.{◌≡◌, ◌≤◌, ◌+◌, false, ℕ};
 ghost use Rattle.cell_words.specs.declared.controls.Stage.TheVariants as stage;
 ghost use Rattle.collector.specs.Bound.{cells_of, control_of, mutators_of};
-ghost use Rattle.collector.specs.Cycles.{IsReady, MadeCycles, Served};
+ghost use Rattle.collector.specs.Cycles.{MadeCycles, Served};
 ghost use Rattle.collector.specs.Serving.{is_done, next_rest};
 ghost use Rattle.collector.specs.Stretches.{Stretch};
 ghost use Rattle.core_machine.specs.State.{greatest_cycles};
@@ -56,12 +56,11 @@ impl<'a, P: Keeping> Collector<'a, P> {
     pub fn serve<R: Wait>(&mut self, rt: &R, hints: &mut Hints<'_>, cycles: u32) -> u64
         requires idle { (control_of self.old).stage ≡ stage.Idle }
         requires cycles { (control_of self.old).cycles + cycles ≤ greatest_cycles }
-        requires ready { IsReady self.old }
         requires hints { hinted_of (queue_of hints.old) ≡ cells_of self.old }
-        ensures served { Stretch (Served (mutators_of self.old) cycles result) self.old self.new }
+        ensures served { (made : ℕ) × ((control_of self.new).cycles ≡ (control_of self.old).cycles + made)
+            × Stretch (Served (mutators_of self.old) cycles made result) self.old self.new }
         ensures idle { (control_of self.new).stage ≡ stage.Idle }
         ensures off_duty { (control_of self.new).duty ≡ false }
-        ensures ready { IsReady self.new }
         ensures queue { queue_of hints.new ≡ queue_of hints.old }
         ensures puts { (counts_of hints.new).puts ≡ (counts_of hints.old).puts + result }
     {
@@ -74,11 +73,10 @@ impl<'a, P: Keeping> Collector<'a, P> {
     fn cycles_of<R: Wait>(&mut self, rt: &R, hints: &mut Hints<'_>, cycles: u32) -> u64
         requires idle { (control_of self.old).stage ≡ stage.Idle }
         requires cycles { (control_of self.old).cycles + cycles ≤ greatest_cycles }
-        requires ready { IsReady self.old }
         requires hints { hinted_of (queue_of hints.old) ≡ cells_of self.old }
-        ensures made { Stretch (MadeCycles (mutators_of self.old) cycles result) self.old self.new }
+        ensures made { (made : ℕ) × ((control_of self.new).cycles ≡ (control_of self.old).cycles + made)
+            × Stretch (MadeCycles (mutators_of self.old) cycles made result) self.old self.new }
         ensures idle { (control_of self.new).stage ≡ stage.Idle }
-        ensures ready { IsReady self.new }
         ensures queue { queue_of hints.new ≡ queue_of hints.old }
         ensures puts { (counts_of hints.new).puts ≡ (counts_of hints.old).puts + result }
     {

@@ -1,7 +1,8 @@
 //! The seat's calls as this crate uses them: an event each.
-ghost use Rattle.std.specs.Prelude.{◌≡◌, ◌<◌, ◌^◌, true, false};
+ghost use Rattle.std.specs.Prelude.{◌≡◌, ◌<◌, ◌^◌, None, true, false};
 ghost use Rattle.cell_heap.specs.Telling.{AnswersOut, AtCollectorEvent};
-ghost use Rattle.collector.specs.Bound.{TakesColour, cells_of, may, part_of, takes};
+ghost use Rattle.cell_words.specs.declared.controls.Stage.TheVariants as stage;
+ghost use Rattle.collector.specs.Bound.{TakesColour, cells_of, control_of, may, part_of, takes};
 ghost use Rattle.core_machine.specs.InRange.{NamesBelow};
 ghost use Rattle.core_machine.specs.Words.{is_gray};
 ghost use Rattle.core_machine.specs.declared.events.Event.TheVariants as event;
@@ -9,6 +10,7 @@ ghost use Rattle.core_machine.specs.declared.events.Found.TheVariants as finds;
 
 use crate::collecting::Collector;
 use cell_words::{Colour, Field, Presence, Stage};
+use core_machine::Scanning;
 use heap_rule::Keeping;
 
 impl<'a, P: Keeping> Collector<'a, P> {
@@ -32,6 +34,14 @@ impl<'a, P: Keeping> Collector<'a, P> {
         ensures clean { result ≡ (part_of self.now).clean }
     {
         self.seat.is_clean()
+    }
+
+    /// The scan of a gray cell, while there is one.
+    pub(crate) fn scanning(&self) -> Option<Scanning>
+        ensures scan { result ≡ (part_of self.now).scan }
+        ensures none { (control_of self.now).stage ≡ stage.Idle → result ≡ None }
+    {
+        self.seat.scanning()
     }
 
     pub(crate) fn post_once(&mut self, stage: Stage)

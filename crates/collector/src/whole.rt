@@ -1,13 +1,16 @@
 //! A whole cycle: its stages one after the other, each when the one before has done its work.
 ghost use Rattle.std.specs.Prelude.{◌≡◌, ◌<◌, ◌+◌, ◌^◌, IsTrue, None, replicate, true, false};
 ghost use Rattle.cell_words.specs.declared.controls.Stage.TheVariants as stage;
-ghost use Rattle.collector.specs.Bound.{KeepsWork, cells_of, control_of, mutators_of, part_of};
+ghost use Rattle.collector.specs.Bound.{KeepsWork, cells_of, control_of, mutators_of, part_of, takes};
 ghost use Rattle.collector.specs.Counting.{Counts, Does, nothing};
-ghost use Rattle.collector.specs.Cycles.{Heard, IsReady, Reported};
+ghost use Rattle.collector.specs.Cycles.{Heard, Reported};
 ghost use Rattle.collector.specs.Over.{AllOver, Hears};
 ghost use Rattle.collector.specs.Replay.{fresh_work_of, work_of};
+ghost use Rattle.collector.specs.Stack.{emptied};
 ghost use Rattle.collector.specs.Stretches.{Stretch};
 ghost use Rattle.core_machine.specs.State.{greatest_cycles};
+ghost use Rattle.core_machine.specs.declared.events.Event.TheVariants as event;
+ghost use Rattle.core_machine.specs.declared.events.Found.TheVariants as finds;
 ghost use Rattle.core_machine.specs.declared.progress.Sweeping.TheVariants as sweeping;
 ghost use Rattle.free_cells.specs.Hints.{cells_of as hinted_of, counts_of, queue_of};
 
@@ -69,8 +72,6 @@ impl<'a, P: Keeping> Collector<'a, P> {
         ensures does { Does result self.old self.new }
         ensures few { result.freed < 2 ^ 32 }
         ensures control { control_of self.new ≡ record (control_of self.old) { stage = stage.Sweep; position = cells_of self.old } }
-        ensures all { (part_of self.new).answered ≡ replicate (mutators_of self.new) true }
-        ensures scan { (part_of self.new).scan ≡ None }
         ensures queue { queue_of hints.new ≡ queue_of hints.old }
         ensures puts { (counts_of hints.new).puts ≡ (counts_of hints.old).puts + result.freed }
     {
@@ -91,8 +92,6 @@ impl<'a, P: Keeping> Collector<'a, P> {
             × (IsTrue result.over → AllOver 0 (mutators_of self.old) events)) self.old self.new }
         ensures few { result.report.freed < 2 ^ 32 }
         ensures control { control_of self.new ≡ record (control_of self.old) { stage = stage.Sweep; position = cells_of self.old } }
-        ensures all { (part_of self.new).answered ≡ replicate (mutators_of self.new) true }
-        ensures scan { (part_of self.new).scan ≡ None }
         ensures queue { queue_of hints.new ≡ queue_of hints.old }
         ensures puts { (counts_of hints.new).puts ≡ (counts_of hints.old).puts + result.report.freed }
     {
@@ -102,23 +101,37 @@ impl<'a, P: Keeping> Collector<'a, P> {
         Made { report, over }
     }
 
+    /// Begins a cycle: nothing is on the stack, no scan goes on, and nobody has answered.
+    fn begin(&mut self)
+        requires idle { (control_of self.old).stage ≡ stage.Idle }
+        requires cycles { (control_of self.old).cycles < greatest_cycles }
+        ensures told { self.new ≡ takes (record self.old { stack = emptied self.old.stack })
+            (event.Post stage.Sync1) finds.Stored }
+        ensures some { 0 < cells_of self.old }
+        ensures nobody { (part_of self.new).answered ≡ replicate (mutators_of self.old) false }
+        ensures scan { (part_of self.new).scan ≡ None }
+    {
+        let _cells = self.cells();
+        let _mutators = self.mutators();
+        let _scan = self.scanning();
+        self.empty_stack();
+        self.post_once(Stage::Sync1);
+    }
+
     /// One whole cycle.
     pub(crate) fn one_cycle<R: Wait>(&mut self, rt: &R, hints: &mut Hints<'_>) -> Made
         requires idle { (control_of self.old).stage ≡ stage.Idle }
         requires cycles { (control_of self.old).cycles < greatest_cycles }
-        requires ready { IsReady self.old }
         requires hints { hinted_of (queue_of hints.old) ≡ cells_of self.old }
         ensures heard { Stretch (Heard (fresh_work_of self.old) (mutators_of self.old) result.report result.over)
             self.old self.new }
         ensures few { result.report.freed < 2 ^ 32 }
         ensures control { control_of self.new ≡ record (control_of self.old)
             { position = 0; cycles = (control_of self.old).cycles + 1 } }
-        ensures ready { IsReady self.new }
         ensures queue { queue_of hints.new ≡ queue_of hints.old }
         ensures puts { (counts_of hints.new).puts ≡ (counts_of hints.old).puts + result.report.freed }
     {
-        self.empty_stack();
-        self.post_once(Stage::Sync1);
+        self.begin();
         let made = self.work(rt, hints);
         self.post_once(Stage::Idle);
         made
@@ -129,12 +142,10 @@ impl<'a, P: Keeping> Collector<'a, P> {
     pub fn cycle<R: Wait>(&mut self, rt: &R, hints: &mut Hints<'_>) -> CycleReport
         requires idle { (control_of self.old).stage ≡ stage.Idle }
         requires cycles { (control_of self.old).cycles < greatest_cycles }
-        requires ready { IsReady self.old }
         requires hints { hinted_of (queue_of hints.old) ≡ cells_of self.old }
         ensures report { Stretch (Reported (fresh_work_of self.old) result) self.old self.new }
         ensures control { control_of self.new ≡ record (control_of self.old)
             { position = 0; cycles = (control_of self.old).cycles + 1 } }
-        ensures ready { IsReady self.new }
         ensures queue { queue_of hints.new ≡ queue_of hints.old }
         ensures puts { (counts_of hints.new).puts ≡ (counts_of hints.old).puts + result.freed }
     {

@@ -1,5 +1,7 @@
 use Rattle.std.proofs.Common.{◌≡◌, refl, sym, ◌∙◌, ap}
 use Rattle.cell_heap.proofs.Answering.{answers_out, exchanges_out}
+use Rattle.cell_heap.proofs.Changes.{answers}
+use Rattle.cell_heap.proofs.Kept.{kept}
 use Rattle.cell_heap.proofs.Made.{at_event, finds_valid, knows, made}
 use Rattle.cell_heap.proofs.Owed.{below, owes}
 use Rattle.cell_words.specs.Modes.{requested_of}
@@ -30,6 +32,17 @@ collector_exchange-found-requires-clause-kind g c =
     c.self.invariant.control_is c.requested-wanted.ensures.status
     c.status_before-before.ensures.status c.pack_presence-old.ensures.word
     c.pack_presence-new.ensures.word)
+
+pub invariant_of-self : goal.invariant_of-self
+invariant_of-self g c =
+    let step = c.collector_exchange-found.ensures.step in
+    let me = c.self.inside.seat.me in
+    kept (made c.self.view_is c.collector_exchange-found.ensures.same step)
+    c.self.invariant refl _ refl _
+    (answers me.part c.args.mutator
+    (may_answer_out (requested_of me.control.stage) c.args.over
+    (presence_of step.core c.args.mutator))
+    ∙ c.self.invariant.progress_is)
 
 pub returns-clause-told : goal.returns-clause-told
 returns-clause-told g c =

@@ -14,11 +14,15 @@ use Rattle.collector.proofs.collecting.Collector.cycles_of.Goals as goal
 pub returns-then-is_done-clause-made : goal.returns-then-is_done-clause-made
 returns-then-is_done-clause-made g c =
     let n = mutators_of c.args.self.now in
-    stretch_as (ServesOn c.loop-made.rest n c.loop-made._made c.loop-made.freed)
-    (MadeCycles n c.args.cycles c.loop-made.freed) c.args.self.now c.loop-made.self
-    (λ xs so. made_done c.loop-made.rest n c.args.cycles c.loop-made._made c.loop-made.freed xs
-    (sym c.is_done.ensures.done ∙ c.if-is_done.true) (omega (arith, c.loop-made-test.true)) so)
-    c.loop-made.invariant.0
+    let old = c.loop-made in (
+      old._made,
+      old.invariant.2,
+      stretch_as (ServesOn old.rest n old._made old.freed)
+          (MadeCycles n c.args.cycles old._made old.freed) c.args.self.now old.self
+          (λ xs so. made_done old.rest n c.args.cycles old._made old.freed xs
+          (sym c.is_done.ensures.done ∙ c.if-is_done.true) (omega (arith, c.loop-made-test.true))
+          so) old.invariant.0,
+    )
 
 cycles_more : (a b c k : ℕ) → a ≡ b + 1 → b ≡ c + k → a ≡ c + (k + 1)
 cycles_more a b c k first second = omega arith
@@ -46,17 +50,19 @@ loop-made-preserved g c =
       cycles_more (control_of cycle.new.self).cycles (control_of old.self).cycles
           (control_of c.args.self.now).cycles old._made
           (ap (λ (x : Control). x.cycles) cycle.ensures.control) old.invariant.2,
-      cycle.ensures.ready,
-      cycle.ensures.queue ∙ old.invariant.4,
-      omega (arith, cycle.ensures.puts, old.invariant.5),
-      omega (arith, cycle.ensures.few, old.invariant.6),
+      cycle.ensures.queue ∙ old.invariant.3,
+      omega (arith, cycle.ensures.puts, old.invariant.4),
+      omega (arith, cycle.ensures.few, old.invariant.5),
     )
 
 pub returns-clause-made : goal.returns-clause-made
 returns-clause-made g c =
     let n = mutators_of c.args.self.now in
-    stretch_as (ServesOn c.loop-made.rest n c.loop-made._made c.loop-made.freed)
-    (MadeCycles n c.args.cycles c.loop-made.freed) c.args.self.now c.loop-made.self
-    (λ xs so. made_all c.loop-made.rest n c.args.cycles c.loop-made._made c.loop-made.freed xs
-    (omega (arith, c.loop-made-test.false)) so)
-    c.loop-made.invariant.0
+    let old = c.loop-made in (
+      old._made,
+      old.invariant.2,
+      stretch_as (ServesOn old.rest n old._made old.freed)
+          (MadeCycles n c.args.cycles old._made old.freed) c.args.self.now old.self
+          (λ xs so. made_all old.rest n c.args.cycles old._made old.freed xs
+          (omega (arith, c.loop-made-test.false)) so) old.invariant.0,
+    )

@@ -1,10 +1,10 @@
-use Rattle.std.proofs.Common.{◌≡◌, false, List, [], ◌∷◌, ◌++◌, refl, ap}
+use Rattle.std.proofs.Common.{◌≡◌, false, List, [], ◌∷◌, ◌++◌, ◌∙◌, refl, ap}
 use Rattle.core_machine.specs.declared.events.Event.TheVariants as event
 use Rattle.core_machine.specs.declared.events.Found.TheVariants as finds
 use Rattle.core_machine.specs.declared.events.Taken.{Taken}
 use Rattle.heap_rule.specs.Asks.{collector_state}
 use Rattle.heap_rule.specs.Rule.{took}
-use Rattle.collector.specs.Bound.{Bound, mutators_of}
+use Rattle.collector.specs.Bound.{Bound, control_of, mutators_of}
 use Rattle.collector.specs.Cycles.{MadeCycles, Served}
 use Rattle.collector.proofs.Joining.{stretch_one, stretch_then}
 use Rattle.collector.proofs.collecting.Collector.serve.Goals as goal
@@ -14,19 +14,24 @@ returns-clause-served g c =
     let n = mutators_of c.args.self.now in
     let freed = c.cycles_of-freed.result in
     let last = took (event.Duty false) finds.Stored in
-    stretch_then (MadeCycles n c.args.cycles freed)
-    (λ (events : List Taken). events ≡ last ∷ [])
-    (Served n c.args.cycles freed) c.args.self.now c.cycles_of-freed.new.self c.duty.new.self
-    (λ xs ys made is. record {
-      made = xs;
-      split = ap (λ (zs : List Taken). xs ++ zs) is;
-      cycles = made;
-    })
-    c.cycles_of-freed.ensures.made
-    (stretch_one (λ (events : List Taken). events ≡ last ∷ []) c.cycles_of-freed.new.self
-    c.duty.new.self (event.Duty false) finds.Stored
-    (collector_state c.cycles_of-freed.new.self.seat.me)
-    (ap (λ (x : Bound _). x.heap) c.duty.ensures.told)
-    (ap (λ (x : Bound _). x.seat) c.duty.ensures.told)
-    (ap (λ (x : Bound _). x.stack) c.duty.ensures.told)
-    refl)
+    let told = c.cycles_of-freed.ensures.made in (
+      told.0,
+      ap (λ (x : Bound _). (control_of x).cycles) c.duty.ensures.told ∙ told.1,
+      stretch_then (MadeCycles n c.args.cycles told.0 freed)
+          (λ (events : List Taken). events ≡ last ∷ [])
+          (Served n c.args.cycles told.0 freed) c.args.self.now c.cycles_of-freed.new.self
+          c.duty.new.self
+          (λ xs ys made is. record {
+            made = xs;
+            split = ap (λ (zs : List Taken). xs ++ zs) is;
+            cycles = made;
+          })
+          told.2
+          (stretch_one (λ (events : List Taken). events ≡ last ∷ []) c.cycles_of-freed.new.self
+          c.duty.new.self (event.Duty false) finds.Stored
+          (collector_state c.cycles_of-freed.new.self.seat.me)
+          (ap (λ (x : Bound _). x.heap) c.duty.ensures.told)
+          (ap (λ (x : Bound _). x.seat) c.duty.ensures.told)
+          (ap (λ (x : Bound _). x.stack) c.duty.ensures.told)
+          refl),
+    )
