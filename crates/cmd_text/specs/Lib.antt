@@ -2,4 +2,5 @@ pub mod Answers
 pub mod Line
 pub mod ReplyText
 pub mod Script
+pub mod SummaryText
 pub mod Verb

@@ -1,6 +1,8 @@
-//! What no clause says of outside: each shelf and sink on its happy path, and what a file and a
-//! device do.
+//! What no clause says of outside: each shelf and sink on its happy path, what a file and a device
+//! do, and who meets at a gate.
 #![tactic(auto)]
 
 #[cfg(test)]
 mod devices;
+#[cfg(test)]
+mod gates;

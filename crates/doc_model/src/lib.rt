@@ -8,7 +8,7 @@
 //! tree. Names, texts, paths and trees are those of doc_tree. How commands and replies are written
 //! as text is left to others, and so is how clients come to agree.
 //!
-//! Reading order: `command`, `log`, `answer`, `store`, `history`, `theorems`.
+//! Reading order: `command`, `log`, `answer`, `store`, `history`, `theorems`, `totals`.
 #![tactic(auto)]
 
 mod answer;
@@ -17,6 +17,7 @@ mod history;
 mod log;
 mod store;
 mod theorems;
+mod totals;
 
 pub use crate::command::{Command, Entry, Reply};
 pub use crate::history::{is_legal, merge};
@@ -25,4 +26,5 @@ pub use crate::store::PlainStore;
 pub use crate::theorems::{
     log_goes_on, merged_is_legal, puts_are_never_too_deep, stores_stay_lawful,
 };
+pub use crate::totals::Totals;
 pub use doc_tree::{EditFault, Name, Names, NoMemory, Path, Text, Tree};

@@ -4,14 +4,16 @@
 //! name holds and what was written, where the object tells that, and a failed call shows itself by
 //! a count of faults that rose. `read_file` and `write_lines` are the two loops over them.
 //! `MemShelf` and `MemSink` fail at chosen calls, `SureShelf` and `SureSink` never; `FileShelf` and
-//! `StdSink` stand over real files and standard output, and are the trusted edge.
+//! `StdSink` stand over real files and standard output, and are the trusted edge. A `Gate` says when
+//! a client's next command may begin.
 //!
-//! Reading order: `fault`, `reading`, `writing`, then the objects.
+//! Reading order: `fault`, `reading`, `writing`, then the objects; `gate` stands alone.
 #![tactic(auto)]
 
 mod course;
 mod fault;
 mod file_shelf;
+mod gate;
 mod mem_shelf;
 mod mem_sink;
 mod named_files;
@@ -24,6 +26,7 @@ mod writing;
 pub use course::Course;
 pub use fault::OutFault;
 pub use file_shelf::FileShelf;
+pub use gate::{CrossGate, Gate, OpenGate};
 pub use mem_shelf::MemShelf;
 pub use mem_sink::MemSink;
 pub use reading::{READ_LIMIT, Shelf, read_file};
