@@ -63,11 +63,15 @@ is_keeping (command.DraftGet path) = false
 is_keeping (command.Take path) = true
 is_keeping (command.Publish path) = false
 
--- the reads of the version that a command saw, and then those of what its reply shows
+-- reads of the version that a command saw, and then of what its reply shows
+abbrev pub ReadsShown : Entry → List Mark → Type 0
+ReadsShown e marks =
+    (cell : ℕ) × InOrder (version_asks cell (seen_by e) ++ reply_asks e.reply) marks
+
+-- these, but of a command on a draft nothing
 abbrev pub ReadsFor : Bool → Entry → List Mark → Type 0
 ReadsFor true e marks = Unit {0}
-ReadsFor false e marks =
-    (cell : ℕ) × InOrder (version_asks cell (seen_by e) ++ reply_asks e.reply) marks
+ReadsFor false e marks = ReadsShown e marks
 
 -- where the reply is that of a full heap, one claim found it full
 abbrev pub FullFor : Bool → ℕ → List Mark → Type 0

@@ -15,11 +15,11 @@ use Rattle.doc_model.specs.declared.command.Reply.{Reply}
 use Rattle.doc_tree.specs.Tree.{DocTree}
 use Rattle.doc_tree.specs.declared.edit.EditFault.{EditFault}
 use Rattle.std.specs.Prelude.{All}
-use Rattle.trails.specs.Asks.{Shows}
 use Rattle.trails.specs.Stretches.{Had, InTurn}
 use Rattle.version_rule.specs.Fits.{Fits}
 use Rattle.version_rule.specs.Pass.{Pass, commit_numbers}
-use Rattle.client_turns.specs.Demands.{Demand, is_keeping, version_asks}
+use Rattle.client_turns.specs.Demands.{Demand, is_keeping}
+use Rattle.client_turns.specs.Progress.{HasRead, IsAccount, runs_out}
 use Rattle.client_turns.specs.State.{ClientState, IsReady, Lasts, StaysSmall}
 
 -- the entry of a client with this account
@@ -78,15 +78,11 @@ pub record Lost (s t : ClientState) : Type 0 where
   pub small : StaysSmall s t
 
 -- A command that edits the latest version has read it and made its tree, or why there is none.
-pub record Begun (l : Limits) (m : Account) (c : Command) (v cell : ℕ) (s t : ClientState)
+pub record Begun (l : Limits) (m : Account) (c : Command) (v : ℕ) (s t : ClientState)
     (edited : Result DocTree EditFault) : Type 0 where
-  pub last : m.last ≤ v
-  pub seen : v ≤ t.pass.seen
-  pub lasts : Lasts s t
-  pub commits : commit_numbers t.pass ≡ commit_numbers s.pass
-  pub draft : t.draft ≡ s.draft
-  pub small : StaysSmall s t
-  pub shows : Shows (version_asks cell v) s.marks t.marks
+  pub account : IsAccount m s
+  pub read : HasRead v [] s t
+  pub spared : runs_out edited ≡ false
   pub is : (trees : List DocTree) → Fits trees t.pass → answer l trees v m c ≡ committed l v edited
 
 -- The log of a client is in step with its pass and its trail.
@@ -94,7 +90,7 @@ pub record IsInStep (l : Limits) (s : ClientState) (last : ℕ) (log : ClientLog
   pub keep : s.pass.keep ≡ l.keep
   pub own : All (λ (e : Entry). e.client ≡ log.client) log.entries
   pub commits : ok_places log.entries ≡ commit_numbers s.pass
-  pub last : last ≤ s.pass.seen
+  pub seen : last ≤ s.pass.seen
   pub keeps_up : KeepsUp l (λ trees. Fits trees s.pass)
       (account_in s last (length log.entries)) log.entries
   pub turns : InTurn (Demand s.cells) log.entries s.marks

@@ -5,5 +5,7 @@
 //! in proofs/ are one for each such end, and every command of a session is one of them. No code runs
 //! here.
 //!
-//! Reading order: specs/State, Demands, Turns; then `theorems`.
+//! Reading order: specs/State, Demands, Progress, Turns, Runs; then `theorems`.
 #![tactic(auto)]
+
+pub mod theorems;
