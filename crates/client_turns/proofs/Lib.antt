@@ -1,0 +1,9 @@
+pub mod Answering
+pub mod Commands
+pub mod Meeting
+pub mod Reading
+pub mod Running
+pub mod Spared
+pub mod States
+pub mod Stepping
+pub mod Turning

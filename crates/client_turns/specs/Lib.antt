@@ -1,0 +1,5 @@
+pub mod State
+pub mod Demands
+pub mod Progress
+pub mod Turns
+pub mod Runs

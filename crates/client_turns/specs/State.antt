@@ -1,0 +1,48 @@
+-- What a client's heap shows of itself, in plain values, and what its calls leave of that.
+-- Source: this project's.
+use Rattle.std.specs.Prelude.{ℕ, ◌≡◌, ◌≤◌, ◌+◌, List, max}
+use Rattle.doc_tree.specs.Tree.{DocTree}
+use Rattle.trails.specs.Asks.{Grown}
+use Rattle.trails.specs.Marks.{Mark}
+use Rattle.version_rule.specs.Fits.{Grows}
+use Rattle.version_rule.specs.Pass.{Pass, commit_numbers}
+
+pub record ClientState : Type 0 where
+  -- how many cells the heap has
+  pub cells : ℕ
+  pub pass : Pass
+  pub marks : List Mark
+  pub claims : ℕ
+  -- the tree of the client's draft
+  pub draft : DocTree
+  -- the places of the held list that stay between commands
+  pub base : ℕ
+  -- the free places of the held list beyond one for each private record
+  pub room : ℕ
+  -- how many private records there is room for
+  pub spare : ℕ
+
+-- what holds across every call: what the pass says of the versions stays so, the trail grew at its
+-- end, and no claim was taken back
+pub record Lasts (old new : ClientState) : Type 0 where
+  pub cells : new.cells ≡ old.cells
+  pub passes : Grows old.pass new.pass
+  pub grown : Grown old.marks new.marks
+  pub claims : old.claims ≤ new.claims
+
+-- A call that makes neither a version nor a draft. So many places of the room may be gone.
+pub record Rests (places : ℕ) (old new : ClientState) : Type 0 where
+  pub lasts : Lasts old new
+  pub commits : commit_numbers new.pass ≡ commit_numbers old.pass
+  pub draft : new.draft ≡ old.draft
+  pub base : new.base ≡ old.base
+  pub room : old.room ≤ new.room + places
+  pub spare : new.spare ≡ old.spare
+
+-- between commands there is room for every reading
+abbrev pub IsReady : ClientState → Type 0
+IsReady s = 9_000 ≤ s.room
+
+-- no more places stay than before, or than the anchor's and one
+abbrev pub StaysSmall : ClientState → ClientState → Type 0
+StaysSmall old new = new.base ≤ max old.base 2

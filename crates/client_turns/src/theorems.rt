@@ -1,0 +1,48 @@
+//! Laws on a client's log, its pass and its trail: the contracts of functions that do nothing.
+ghost use Rattle.std.specs.Prelude.{ℕ, ◌≡◌, ◌++◌, List, [], ◌∷◌, length};
+ghost use Rattle.doc_model.specs.Answers.{Limits};
+ghost use Rattle.doc_model.specs.ClientLog.{ClientLog};
+ghost use Rattle.doc_model.specs.declared.command.Command.{Command};
+ghost use Rattle.doc_model.specs.declared.command.Reply.{Reply};
+ghost use Rattle.doc_tree.specs.Tree.{empty};
+ghost use Rattle.trails.specs.Asks.{Grown};
+ghost use Rattle.trails.specs.Marks.{Mark};
+ghost use Rattle.version_rule.specs.Pass.{commit_numbers};
+ghost use Rattle.version_rule.specs.Tied.{Tied};
+ghost use Rattle.client_turns.specs.Runs.{ShowsRun};
+ghost use Rattle.client_turns.specs.State.{ClientState};
+ghost use Rattle.client_turns.specs.Turns.{IsInStep, Lost, Turned, account_in, entry_for};
+
+/// An empty log is in step with a client that has made no version and has an empty draft.
+pub fn an_empty_log_is_in_step()
+    ensures { (l : Limits) (s : ClientState) (log : ClientLog) → s.pass.keep ≡ l.keep
+        → commit_numbers s.pass ≡ [] → s.draft ≡ empty → log.entries ≡ [] → IsInStep l s 0 log }
+{}
+
+/// A turn that is lost leaves the log in step, and one that is answered leaves it so with the entry
+/// behind it.
+pub fn a_turn_keeps_in_step()
+    ensures lost { (l : Limits) (s t : ClientState) (last : ℕ) (log : ClientLog)
+        → IsInStep l s last log → Lost s t → IsInStep l t last log }
+    ensures answered { (l : Limits) (s t : ClientState) (last : ℕ) (log new : ClientLog)
+        (c : Command) (r : Reply) (place : ℕ) → IsInStep l s last log
+        → Turned l log.client (account_in s last (length log.entries)) c s t r place
+        → new.client ≡ log.client
+        → new.entries ≡ log.entries
+        ++ entry_for log.client (account_in s last (length log.entries)) c r place ∷ []
+        → IsInStep l t place new }
+{}
+
+/// A log in step is tied to the pass: its new versions are those that the pass has made, and it
+/// follows from each list of versions that the pass allows.
+pub fn a_log_in_step_is_tied()
+    ensures { (l : Limits) (s : ClientState) (last : ℕ) (log : ClientLog) → IsInStep l s last log
+        → Tied l s.pass log }
+{}
+
+/// The trail of a client whose log is in step shows what it read and where the heap was full, and
+/// so does each longer one.
+pub fn a_trail_shows_its_log()
+    ensures { (l : Limits) (s : ClientState) (last : ℕ) (log : ClientLog) (marks : List Mark)
+        → IsInStep l s last log → Grown s.marks marks → ShowsRun s.cells log.entries marks }
+{}
