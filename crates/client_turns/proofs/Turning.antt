@@ -1,8 +1,7 @@
 -- The ways in which a turn ends: with a reading, on the draft, with a refusal, at a full heap, with
 -- a new version, or lost. Each command of a session ends by one of these.
 use Rattle.std.proofs.Common.{◌≡◌, ℕ, ◌+◌, ◌≤◌, ◌<◌, Bool, true, false, List, [], ◌∷◌, ◌++◌, refl}
-use Rattle.std.proofs.Common.{sym, ◌∙◌, ap, subst, arith, Option, Some, None, Result, Ok, Err}
-use Rattle.std.proofs.Common.{unwrap_or}
+use Rattle.std.proofs.Common.{sym, ◌∙◌, ap, subst, arith, Some, None, Result, Ok, Err}
 use Rattle.std.proofs.lemmas.Bool.{true≢false}
 use Rattle.std.proofs.lemmas.List.{append-nil}
 use Rattle.doc_model.specs.Answers.{Limits, committed, draft_made, full_place, is_full, is_ok}
@@ -22,7 +21,7 @@ use Rattle.version_rule.specs.Fits.{Fits}
 use Rattle.version_rule.specs.Pass.{Pass, commit_numbers}
 use Rattle.version_rule.specs.Pass as pass
 use Rattle.client_turns.specs.Demands.{Demand, is_drafting, is_keeping, reply_asks, version_asks}
-use Rattle.client_turns.specs.Progress.{Drafts, HasRead, IsAccount, KnowsTree, Made, MakesNone}
+use Rattle.client_turns.specs.Progress.{Drafts, HasRead, IsAccount, Made, MakesNone}
 use Rattle.client_turns.specs.Progress.{runs_out}
 use Rattle.client_turns.specs.State.{ClientState, IsReady, Lasts, StaysSmall}
 use Rattle.client_turns.specs.Turns.{Answers, Begun, Lost, Turned, entry_for, new_numbers}
@@ -32,7 +31,7 @@ use Rattle.client_turns.proofs.Answering.{seen_plain}
 use Rattle.client_turns.proofs.Meeting.{draft_full_met, draft_met, full_met, met_late, met_on}
 use Rattle.client_turns.proofs.Meeting.{shown_met}
 use Rattle.client_turns.proofs.Reading.{known_on, read_late, read_on, tree_made}
-use Rattle.client_turns.proofs.States.{committed_commits, lasts_then, none_then, small_then}
+use Rattle.client_turns.proofs.States.{committed_commits, lasts_then, small_then}
 
 -- A version was made.
 
