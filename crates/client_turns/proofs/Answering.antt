@@ -1,10 +1,10 @@
 -- The answer of a command over every list of versions, by the kinds of replies.
-use Rattle.std.proofs.Common.{◌≡◌, ℕ, ◌+◌, ◌-◌, ◌≤◌, ◌<◌, Bool, true, false, cond, List, [], refl, sym}
-use Rattle.std.proofs.Common.{◌∙◌, ap, arith, Option, Some, None, Result, Ok, Err, nat_lt, unwrap_or}
+use Rattle.std.proofs.Common.{◌≡◌, ℕ, ◌+◌, ◌-◌, ◌≤◌, ◌<◌, Bool, true, false, cond, List, [], refl}
+use Rattle.std.proofs.Common.{sym, ◌∙◌, ap, arith, Option, Some, None, Ok, Err, nat_lt, unwrap_or}
 use Rattle.std.proofs.lemmas.Bool.{le-ltb, lt-ltb}
 use Rattle.doc_model.specs.Answers.{Limits, committed, full_or, full_place, is_full, is_ok, refusal}
 use Rattle.doc_model.specs.Answers.{told}
-use Rattle.doc_model.specs.History.{made_by, seen_by, step_of}
+use Rattle.doc_model.specs.History.{seen_by, step_of}
 use Rattle.doc_model.specs.Store.{answer, answer_for, tree_at}
 use Rattle.doc_model.specs.declared.answer.Account.{Account}
 use Rattle.doc_model.specs.declared.command.Command.{Command}
@@ -93,7 +93,7 @@ module _ (l : Limits) (client : ℕ) (m : Account) (c : Command) where
             (chosen_second (is_full r) (full_place place m c) None spare)
             ∙ is trees fits;
         made_is = λ trees fits.
-            sym (ap (λ (b : Bool). cond {A = Option DocTree} b (Some (tree_at trees place)) None) plain);
+            sym (chosen_second (is_ok r) (Some (tree_at trees place)) None plain);
         left = left;
       }
 

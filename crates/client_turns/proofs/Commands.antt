@@ -5,17 +5,16 @@
 -- take                   taken_turned, or read_turned where nothing is there, or full_turned
 -- dget                   draft_turned
 -- dput                   drafted_turned, or draft_turned at a refusal, or draft_full_turned
-use Rattle.std.proofs.Common.{◌≡◌, ℕ, ◌+◌, ◌-◌, ◌≤◌, ◌<◌, Bool, true, false, cond, List, [], ◌∷◌}
-use Rattle.std.proofs.Common.{refl, sym, ◌∙◌, ap, arith, nat_le, nat_lt, Option, Some, None, Result, Ok}
+use Rattle.std.proofs.Common.{◌≡◌, ℕ, ◌+◌, ◌-◌, ◌≤◌, ◌<◌, List, [], ◌∷◌}
+use Rattle.std.proofs.Common.{refl, sym, ◌∙◌, ap, arith, nat_le, nat_lt, Option, Some, None, Ok}
 use Rattle.std.proofs.Common.{Err}
 use Rattle.std.proofs.lemmas.Bool.{le-leb, le-ltb, lt-leb, lt-ltb}
 use Rattle.cell_words.specs.declared.fields.Field.TheVariants as field
-use Rattle.doc_model.specs.Answers.{Limits, attached, back_of, committed, count_shown, draft_made}
-use Rattle.doc_model.specs.Answers.{drafted, names_shown, old_shown, refusal, taken, text_shown}
+use Rattle.doc_model.specs.Answers.{Limits, attached, committed, count_shown}
+use Rattle.doc_model.specs.Answers.{drafted, names_shown, refusal, taken, text_shown}
 use Rattle.doc_model.specs.Answers.{told}
 use Rattle.doc_model.specs.Store.{answer, tree_at}
 use Rattle.doc_model.specs.declared.answer.Account.{Account}
-use Rattle.doc_model.specs.declared.command.Command.{Command}
 use Rattle.doc_model.specs.declared.command.Command.TheVariants as command
 use Rattle.doc_model.specs.declared.command.Reply.TheVariants as reply
 use Rattle.doc_records.specs.Texts.{name_asks, text_asks}

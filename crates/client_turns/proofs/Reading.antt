@@ -1,5 +1,5 @@
 -- What was read: a version's number and tree, and then what a reply shows.
-use Rattle.std.proofs.Common.{◌≡◌, ℕ, ◌≤◌, List, [], ◌∷◌, ◌++◌, length, All, refl, sym, ◌∙◌, ap}
+use Rattle.std.proofs.Common.{◌≡◌, ℕ, ◌≤◌, List, [], ◌∷◌, ◌++◌, length, All, sym, ap}
 use Rattle.std.proofs.Common.{max, subst, arith, drop}
 use Rattle.std.proofs.Math.Seq.{drop-append_seam}
 use Rattle.std.proofs.lemmas.List.Elements.{All-drop, All-head, All-same}
@@ -43,6 +43,10 @@ module _ (p q : Pass) where
 
   pub known_on : (n : ℕ) (t : DocTree) → Grows p q → KnowsTree p n t → KnowsTree q n t
   known_on n t grows knows trees fits = knows trees (grows.narrows trees fits)
+
+pub known_none : {s t : ClientState} (n : ℕ) (d : DocTree) → KnowsTree s.pass n d → MakesNone s t
+    → KnowsTree t.pass n d
+known_none {s = s} {t = t} n d knows none = known_on s.pass t.pass n d none.lasts.passes knows
 
 -- Reads.
 

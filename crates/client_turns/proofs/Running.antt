@@ -1,10 +1,9 @@
 -- From the stretches of all entries of a log to what its trail shows of some of them.
-use Rattle.std.proofs.Common.{◌≡◌, ℕ, ◌≤◌, ◌==◌, ◌&&◌, Bool, true, false, not, List, [], length}
-use Rattle.std.proofs.Common.{filter, count_by, refl, sym, ◌∙◌, ap}
+use Rattle.std.proofs.Common.{◌≡◌, ℕ, ◌≤◌, ◌==◌, ◌&&◌, Bool, true, false, not, List, []}
+use Rattle.std.proofs.Common.{filter, count_by, ◌∙◌, ap}
 use Rattle.std.proofs.lemmas.Bool.{false≢true}
 use Rattle.cell_words.specs.declared.fields.Field.TheVariants as field
 use Rattle.doc_model.specs.Answers.{is_full}
-use Rattle.doc_model.specs.History.{seen_by}
 use Rattle.doc_model.specs.declared.command.Entry.{Entry}
 use Rattle.trails.specs.Asks.{Grown, Meets, gave_at}
 use Rattle.trails.specs.Claims.{IsFull}

@@ -1,5 +1,5 @@
 -- What a call leaves of a client's state, several calls one after another leave too.
-use Rattle.std.proofs.Common.{◌≡◌, ℕ, ◌+◌, ◌≤◌, List, [], ◌∷◌, ◌++◌, max, refl, sym, ◌∙◌, ap, subst}
+use Rattle.std.proofs.Common.{◌≡◌, ℕ, ◌+◌, ◌≤◌, [], ◌∷◌, ◌++◌, refl, sym, ◌∙◌, ap, subst}
 use Rattle.std.proofs.Common.{arith}
 use Rattle.std.proofs.lemmas.List.{map-append}
 use Rattle.doc_model.specs.declared.answer.Account.{Account}
@@ -70,6 +70,10 @@ rests_within b few rests = record {
   room = let x = rests.room in omega (arith, x, few);
   spare = rests.spare;
 }
+
+-- what is left of the room, after the readings and edits of one command
+pub room_left : {a : ℕ} {s t : ClientState} → IsReady s → Rests a s t → a ≤ 808 → 8_192 ≤ t.room
+room_left ready rests few = let x = rests.room in omega (arith, ready, x, few)
 
 pub rests_none : {a : ℕ} {s t : ClientState} → Rests a s t → MakesNone s t
 rests_none rests = record {
@@ -150,8 +154,8 @@ module _ (p q : Pass) where
   pub cutting_commits : (n : ℕ) → q ≡ cutting n p → commit_numbers q ≡ commit_numbers p
   cutting_commits n is = ap commit_numbers is
 
-  pub committed_passes : (n : ℕ) (before made : DocTree) → p.seen ≤ n → q ≡ committed n before made p
-      → Grows p q
+  pub committed_passes : (n : ℕ) (before made : DocTree) → p.seen ≤ n
+      → q ≡ committed n before made p → Grows p q
   committed_passes n before made low is =
       subst (λ (x : Pass). Grows p x) (sym is) (committed_grows n before made p low)
 

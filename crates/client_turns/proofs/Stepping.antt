@@ -1,29 +1,26 @@
 -- A log stays in step with its pass and its trail: at the opening, behind a turn that was lost, and
 -- behind one that was answered.
 use Rattle.std.proofs.Common.{◌≡◌, ℕ, ◌+◌, ◌<◌, ◌≤◌, Bool, true, false, cond, List, [], ◌∷◌, ◌++◌}
-use Rattle.std.proofs.Common.{All}
-use Rattle.std.proofs.Common.{length, map, filter, refl, sym, ◌∙◌, ap, subst, arith, unwrap_or}
-use Rattle.std.proofs.lemmas.Bool.{true≢false}
+use Rattle.std.proofs.Common.{All, length, map, filter, refl, sym, ◌∙◌, ap, subst, arith, unwrap_or}
 use Rattle.std.proofs.lemmas.List.{length-append, length_push, map-append}
 use Rattle.std.proofs.lemmas.List.Elements.{All-nil, All-push, filter-append}
 use Rattle.doc_model.specs.Agreement.{ok_places}
-use Rattle.doc_model.specs.Answers.{Limits, is_ok, left, opening_account}
+use Rattle.doc_model.specs.Answers.{Limits, is_ok}
 use Rattle.doc_model.specs.ClientLog.{ClientLog}
 use Rattle.doc_model.specs.Growth.{IsAnswered, KeepsUp}
-use Rattle.doc_model.specs.History.{account_after}
 use Rattle.doc_model.specs.declared.answer.Account.{Account}
 use Rattle.doc_model.specs.declared.command.Command.{Command}
 use Rattle.doc_model.specs.declared.command.Entry.{Entry}
 use Rattle.doc_model.specs.declared.command.Reply.{Reply}
 use Rattle.doc_model.proofs.Growth.{keeps_up}
 use Rattle.doc_tree.specs.Tree.{DocTree, empty}
-use Rattle.trails.specs.Marks.{Mark}
 use Rattle.trails.specs.Stretches.{InTurn}
 use Rattle.trails.proofs.Stretches.{turns_grown, turns_had}
-use Rattle.version_rule.specs.Fits.{Fits}
+use Rattle.version_rule.specs.Fits.{Fits, Grows}
 use Rattle.version_rule.specs.Pass.{Pass, commit_numbers}
 use Rattle.version_rule.specs.Tied.{Tied}
 use Rattle.client_turns.specs.Demands.{Demand}
+use Rattle.client_turns.specs.Progress.{IsAccount}
 use Rattle.client_turns.specs.State.{ClientState}
 use Rattle.client_turns.specs.Turns.{Answers, IsInStep, Lost, Turned, account_in, entry_for}
 use Rattle.client_turns.specs.Turns.{new_numbers}
@@ -54,6 +51,11 @@ claims_more true ns place x y few more rose =
     let lt = rose refl in let is = length-append ns (place ∷ []) in omega (arith, few, lt, is)
 claims_more false ns place x y few more rose =
     let is = length-append {A = ℕ} ns [] in omega (arith, few, more, is)
+
+-- the account of a client whose log is in step
+pub step_account : (l : Limits) (s : ClientState) (last : ℕ) (log : ClientLog)
+    → IsInStep l s last log → IsAccount (account_in s last (length log.entries)) s
+step_account l s last log step = record { draft = refl; last = step.seen }
 
 -- The opening.
 
@@ -129,10 +131,15 @@ in_step_turned l {s = s} {t = t} last log new c r place step turned same entries
     let es : List Entry = log.entries ++ e ∷ [] in
     let h = turned.answers in
     let May : List DocTree → Type 0 = λ trees. Fits trees t.pass in
-    let grown : KeepsUp l May (left m record { reply = r; place = place; made = h.made; draft = h.drafted }) es =
+    let behind : Account = record {
+      draft = unwrap_or h.drafted m.draft;
+      last = place;
+      answered = length log.entries + 1;
+    } in
+    let grown : KeepsUp l May behind es =
     keeps_up l (λ trees. Fits trees s.pass) May m log.entries e _ step.keeps_up
     turned.lasts.passes.narrows (answered l log.client m c r place t.pass t.draft h) in
-    let account : left m record { reply = r; place = place; made = h.made; draft = h.drafted } ≡ account_in t place (length es) =
+    let account : behind ≡ account_in t place (length es) =
     ap (λ (d : DocTree). record { draft = d; last = place; answered = length log.entries + 1 })
     (sym h.left)
     ∙ ap (λ (n : ℕ). account_in t place n) (sym (length_push log.entries e)) in
@@ -173,3 +180,12 @@ pub tied : (l : Limits) (s : ClientState) (last : ℕ) (log : ClientLog) → IsI
     → Tied l s.pass log
 tied l s last log step =
     record { own = step.own; commits = step.commits; follows = step.keeps_up.follows }
+
+-- a pass that grows with no commit, as at a client's end, keeps a log tied
+pub tied_on : (l : Limits) (p q : Pass) (log : ClientLog) → Grows p q
+    → commit_numbers q ≡ commit_numbers p → Tied l p log → Tied l q log
+tied_on l p q log grows commits was = record {
+  own = was.own;
+  commits = was.commits ∙ sym commits;
+  follows = λ trees fits. was.follows trees (grows.narrows trees fits);
+}

@@ -1,6 +1,6 @@
 -- What each entry of a log asks of its stretch of the client's trail.
 -- Source: this project's.
-use Rattle.std.specs.Prelude.{ℕ, ◌≡◌, ◌++◌, Bool, true, false, List, [], ◌∷◌}
+use Rattle.std.specs.Prelude.{ℕ, ◌++◌, Bool, true, false, List, [], ◌∷◌}
 use Rattle.cell_words.specs.declared.fields.Field.TheVariants as field
 use Rattle.doc_model.specs.Answers.{is_full}
 use Rattle.doc_model.specs.History.{seen_by}

@@ -1,12 +1,14 @@
 //! Laws on a client's log, its pass and its trail: the contracts of functions that do nothing.
-ghost use Rattle.std.specs.Prelude.{ℕ, ◌≡◌, ◌++◌, List, [], ◌∷◌, length};
-ghost use Rattle.doc_model.specs.Answers.{Limits};
+ghost use Rattle.std.specs.Prelude.{ℕ, ◌≡◌, ◌++◌, true, List, [], ◌∷◌, length, is_some};
+ghost use Rattle.doc_model.specs.Answers.{Limits, full_place, is_full};
 ghost use Rattle.doc_model.specs.ClientLog.{ClientLog};
+ghost use Rattle.doc_model.specs.declared.answer.Account.{Account};
 ghost use Rattle.doc_model.specs.declared.command.Command.{Command};
 ghost use Rattle.doc_model.specs.declared.command.Reply.{Reply};
-ghost use Rattle.doc_tree.specs.Tree.{empty};
+ghost use Rattle.doc_tree.specs.Tree.{DocTree, empty};
 ghost use Rattle.trails.specs.Asks.{Grown};
 ghost use Rattle.trails.specs.Marks.{Mark};
+ghost use Rattle.version_rule.specs.Fits.{Fits};
 ghost use Rattle.version_rule.specs.Pass.{commit_numbers};
 ghost use Rattle.version_rule.specs.Tied.{Tied};
 ghost use Rattle.client_turns.specs.Runs.{ShowsRun};
@@ -38,6 +40,15 @@ pub fn a_turn_keeps_in_step()
 pub fn a_log_in_step_is_tied()
     ensures { (l : Limits) (s : ClientState) (last : ℕ) (log : ClientLog) → IsInStep l s last log
         → Tied l s.pass log }
+{}
+
+/// A command is answered that the heap was full only where it needs cells; get, list, size, old and
+/// dget need none.
+pub fn only_what_needs_cells_finds_the_heap_full()
+    ensures { (l : Limits) (client : ℕ) (m : Account) (c : Command) (s t : ClientState) (r : Reply)
+        (place : ℕ) (trees : List DocTree) → Turned l client m c s t r place
+        → Fits trees t.pass → is_full r ≡ true
+        → is_some (full_place place m c) ≡ true }
 {}
 
 /// The trail of a client whose log is in step shows what it read and where the heap was full, and
