@@ -1,6 +1,6 @@
 -- How calls follow one another: the trail, the held list, and what is known of it.
-use Rattle.std.proofs.Common.{◌≡◌, ◌<◌, ◌≤◌, ◌+◌, ℕ, Bool, true, List, [], ◌∷◌, ◌++◌, length}
-use Rattle.std.proofs.Common.{get_or, take, Option}
+use Rattle.std.proofs.Common.{◌≡◌, ◌<◌, ◌≤◌, ◌+◌, ℕ, true, List, [], ◌∷◌, ◌++◌, length}
+use Rattle.std.proofs.Common.{get_or, take}
 use Rattle.std.proofs.Common.{refl, sym, ◌∙◌, ap, subst, arith}
 use Rattle.std.proofs.lemmas.List.{append_assoc, append-nil, get_or-take, get_or_append_left}
 use Rattle.std.proofs.lemmas.List.{length-append, length-map, take-map, take_at}
@@ -138,6 +138,10 @@ all_own : (a : Bound Pass) (ts : List Taken)
 all_own a [] = refl
 all_own a (t ∷ ts) = all_own (takes a t.event t.found) ts
 
+pub calm_trail : (F : List Taken → Type 0) (a b : Bound Pass) (calm : Calm F a b)
+    → b.seat.me.trail ≡ a.seat.me.trail ++ calm.added
+calm_trail F a b calm = ap (λ (m : Bound Pass). m.seat.me.trail) calm.told ∙ all_trail a calm.added
+
 pub calm_goes : (F : List Taken → Type 0) (a b : Bound Pass) → Calm F a b → Goes [] a b
 calm_goes F a b calm = record {
   heap = calm.kept.heap;
@@ -149,7 +153,7 @@ calm_goes F a b calm = record {
   inside = calm.kept.inside;
   over = calm.kept.over;
   added = calm.added;
-  trail = ap (λ (m : Bound Pass). m.seat.me.trail) calm.told ∙ all_trail a calm.added;
+  trail = calm_trail F a b calm;
   own = ap (λ (m : Bound Pass). m.seat.me.own) calm.told ∙ all_own a calm.added;
   shown = nothing;
 }

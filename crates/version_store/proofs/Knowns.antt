@@ -223,9 +223,9 @@ module _ (v : View Pass) (s : State) (l : Lore) (mine : Mine is_fixed v s l) whe
 
   pub not_fresh : (place : ℕ) → place < length v.own.held → target v place ≡ 0
       → known_fresh (known_of v place) ≡ false
-  not_fresh place lt zero =
+  not_fresh place lt at_anchor =
       anchor_old is_fixed s l v.number (known_of v place) mine.shown.facts.freshed.anchor
-      (subst (λ (c : ℕ). IsKnown is_fixed s l v.number c (known_of v place)) zero
+      (subst (λ (c : ℕ). IsKnown is_fixed s l v.number c (known_of v place)) at_anchor
       (knows_place v s l mine place lt))
 
   -- what a read tells of a cell leaves what is known of it

@@ -1,11 +1,9 @@
 -- What lasts across a call, by its trail and its pass; and what its marks show.
-use Rattle.std.proofs.Common.{◌≡◌, ◌≤◌, ◌<◌, ◌+◌, ℕ, List, [], ◌∷◌, ◌++◌, length}
-use Rattle.std.proofs.Common.{◌⊎◌, inl, inr, Result, Ok, Err, IfErr, refl, sym, ◌∙◌, ap, subst, arith}
-use Rattle.std.proofs.lemmas.Bool.{cases_lt}
+use Rattle.std.proofs.Common.{◌≡◌, ◌≤◌, ◌+◌, ℕ, List, [], ◌∷◌, ◌++◌}
+use Rattle.std.proofs.Common.{sym, ◌∙◌, ap, subst, arith}
 use Rattle.std.proofs.lemmas.List.{append-nil, append_assoc}
 use Rattle.cell_words.specs.declared.fields.Field.TheVariants as field
 use Rattle.cell_words.specs.Term.{Term}
-use Rattle.core_machine.specs.declared.events.Taken.{Taken}
 use Rattle.core_machine.specs.Own.{Own, no_own}
 use Rattle.core_machine.specs.Trail.{own_along}
 use Rattle.doc_tree.specs.Tree.{DocTree}
@@ -13,7 +11,7 @@ use Rattle.heap_rule.specs.Asks.{target}
 use Rattle.mutator_seat.specs.declared.full.HeapFull.{HeapFull}
 use Rattle.mutator_seat.specs.Bound.{Bound}
 use Rattle.mutator_seat.specs.Stretches.{Calm}
-use Rattle.trails.specs.Asks.{Ask, Grown, InOrder, Shows, gave_at}
+use Rattle.trails.specs.Asks.{Ask, InOrder, Shows, gave_at}
 use Rattle.trails.specs.Claims.{FindsFull, IsFull}
 use Rattle.trails.specs.Marks.{Mark, marks_from, marks_of}
 use Rattle.trails.specs.Stretches.{Had}
@@ -23,15 +21,13 @@ use Rattle.version_rule.specs.Fits.{Grows}
 use Rattle.version_rule.specs.Pass.{Pass}
 use Rattle.version_rule.proofs.Trees.{committed_grows, cutting_grows, grows_still, reading_grows}
 use Rattle.version_rule.proofs.Trees.{seeing_grows}
-use Rattle.version_store.specs.declared.fault.CommitFault.{CommitFault}
-use Rattle.version_store.specs.declared.fault.CommitFault.TheVariants as faults
 use Rattle.version_store.specs.declared.held.HeldVersion.{HeldVersion}
 use Rattle.version_store.specs.Calls.{Goes, Holds, version_asks}
-use Rattle.version_store.specs.Commits.{Committed, FindsNewer, Refused, ShowsNewer, ShowsRefusal}
+use Rattle.version_store.specs.Commits.{Committed, FindsNewer, ShowsNewer}
 use Rattle.version_store.specs.Held.{GivesLatest, GivesRoot, root_at, term_at}
 use Rattle.version_store.specs.Lasts.{IsSameMutator, Lasts, LastsAcross, marks}
 use Rattle.version_store.specs.Older.{GivesOlder, Trims}
-use Rattle.version_store.proofs.Going.{calm_goes, goes_none, kept_holds, still_same}
+use Rattle.version_store.proofs.Going.{calm_goes, calm_trail, goes_none, still_same}
 use Rattle.version_store.proofs.Latest.{last_held}
 
 -- One call after the other.
@@ -194,16 +190,16 @@ trim_lasts a b v keep trims =
 module _ (a b : Bound Pass) (full : HeapFull)
     (calm : Calm (FindsFull a.seat.me.number a.seat.me.shape.cells full.off_duty full.began
     full.ended) a b) where
-  calm_trail : Goes [] a b
-  calm_trail = calm_goes (FindsFull a.seat.me.number a.seat.me.shape.cells full.off_duty full.began
+  full_goes : Goes [] a b
+  full_goes = calm_goes (FindsFull a.seat.me.number a.seat.me.shape.cells full.off_duty full.began
       full.ended) a b calm
 
   pub full_same : IsSameMutator a b
-  full_same = goes_same a b calm_trail
+  full_same = goes_same a b full_goes
 
   pub full_lasts : LastsAcross a b
   full_lasts =
-      lasts_by a b calm_trail
+      lasts_by a b full_goes
       (grows_as a.seat.me.pass a.seat.me.pass b.seat.me.pass calm.kept.pass
       (grows_still a.seat.me.pass))
       (let same = calm.kept.claims in omega (arith, same))
@@ -216,8 +212,10 @@ module _ (a b : Bound Pass) (full : HeapFull)
         before = [];
         stretch = stretch;
         after = [];
-        is = goes_marks a b calm_trail ∙ ap (λ (ms : List Mark). marks a ++ ms)
-            (sym (append-nil stretch));
+        is = ap marks_of (calm_trail (FindsFull a.seat.me.number a.seat.me.shape.cells
+            full.off_duty full.began full.ended) a b calm)
+            ∙ marks_append no_own a.seat.me.trail calm.added
+            ∙ ap (λ (ms : List Mark). marks a ++ ms) (sym (append-nil stretch));
         meets = finds_full own a.seat.me.number a.seat.me.shape.cells full.off_duty full.began
             full.ended calm.added calm.fact;
       }

@@ -333,9 +333,9 @@ module _ (is_tree : Term → Type 0) (tree_of : Term → DocTree)
         known = λ place lt.
             still_on (known_of a.seat.me place) (known_of c.seat.me place)
             (known_of d.seat.me place) (known_made place lt)
-            (λ as. wrote_known (HoldsVersions is_tree tree_of) (picks_made tree_of c v.place tree)
+            (λ alike. wrote_known (HoldsVersions is_tree tree_of) (picks_made tree_of c v.place tree)
             c d 0 0 (values.Held v.place) (values.Held fresh) found wrote made.many place
-            (omega (arith, lt, long)) (λ is. not_anchor place lt (sym as ∙ is))
+            (omega (arith, lt, long)) (λ is. not_anchor place lt (sym alike ∙ is))
             (λ is other named on. not_box place lt other named on));
         claims = wrote_claims (HoldsVersions is_tree tree_of) (picks_made tree_of c v.place tree) c
             d 0 0 (values.Held v.place) (values.Held fresh) found wrote ∙ made.claims

@@ -141,9 +141,9 @@ link_taken_on a b c v before is step cut =
       known = λ place lt.
           still_on (known_of a.seat.me place) (known_of b.seat.me place) (known_of c.seat.me place)
           (step.holds.known place lt)
-          (λ as. cut.known place (omega (arith, many, lt))
+          (λ alike. cut.known place (omega (arith, many, lt))
           (λ fresh on. fresh_apart (known_of a.seat.me place) (known_of a.seat.me v.place)
-          (sym as ∙ fresh) (ap settled is.knows.known.is)
+          (sym alike ∙ fresh) (ap settled is.knows.known.is)
           (step.coherent.kinds place v.place lt is.knows.there
           (sym (same place lt) ∙ on ∙ same v.place is.knows.there))));
       pass = cut.pass ∙ ap (λ (p : Pass). cutting v.number p) step.pass;

@@ -1,7 +1,8 @@
 use Rattle.std.proofs.Common.{◌<◌, length, sym, subst, arith}
 use Rattle.version_rule.specs.Pass.{Pass}
 use Rattle.version_store.proofs.Going.{comes_in}
-use Rattle.version_store.proofs.Lasting.{goes_same, made_lasts, newer_lasts, newer_shows}
+use Rattle.version_store.proofs.Lasting.{full_lasts, full_shows, goes_same, made_lasts}
+use Rattle.version_store.proofs.Lasting.{newer_lasts, newer_shows}
 use Rattle.version_store.proofs.Widening.{claimed_held, claimed_in, claimed_is, claimed_pass}
 use Rattle.version_store.proofs.Widening.{claimed_record, claimed_room, claimed_term, claims_all}
 use Rattle.version_store.proofs.Widening.{committed_all, holds_all, kept_some, newer_all}
@@ -114,3 +115,11 @@ returns-in-Err-put-clause-same g c =
     c.cut.ensures.told c.in-Err-put.ensures.behind c.args.v c.in-Err-put.newer
     c.in-Err-put.ensures.newer in
     goes_same c.args.m.now c.cut.new.self finds.goes
+
+pub returns-in-Err-clause-shows : goal.returns-in-Err-clause-shows
+returns-in-Err-clause-shows g c =
+    full_shows c.args.m.now c.claim.new.self c.in-Err.full c.in-Err.ensures.full
+
+pub returns-in-Err-clause-lasts : goal.returns-in-Err-clause-lasts
+returns-in-Err-clause-lasts g c =
+    full_lasts c.args.m.now c.claim.new.self c.in-Err.full c.in-Err.ensures.full
