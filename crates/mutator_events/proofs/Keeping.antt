@@ -13,12 +13,14 @@ use Rattle.cell_words.specs.declared.fields.Field.TheVariants as field
 use Rattle.cell_words.specs.declared.fields.Kind.{Kind}
 use Rattle.cell_words.specs.declared.presences.Presence.{Presence}
 use Rattle.cell_words.specs.declared.presences.Status.{Status}
+use Rattle.core_machine.specs.declared.events.Event.{Event}
 use Rattle.core_machine.specs.declared.events.Event.TheVariants as event
 use Rattle.core_machine.specs.declared.events.Found.{Found}
 use Rattle.core_machine.specs.declared.events.Found.TheVariants as finds
 use Rattle.core_machine.specs.declared.events.Taken.{Taken}
 use Rattle.core_machine.specs.InRange.{NamesBelow}
-use Rattle.core_machine.specs.Own.{Own, having_claimed, having_read}
+use Rattle.core_machine.specs.Own.{Own, having_claimed, having_read, no_own, own_after}
+use Rattle.core_machine.specs.Trail.{own_along}
 use Rattle.core_machine.specs.declared.places.Held.{Held}
 use Rattle.core_machine.specs.Places.{cell_at, kept, mark_of, unmark}
 use Rattle.core_machine.specs.Words.{is_blue}
@@ -27,7 +29,7 @@ use Rattle.heap_rule.specs.declared.known.Learned.{Learned}
 use Rattle.heap_rule.specs.declared.view.View.{View}
 use Rattle.heap_rule.specs.declared.known.Known.TheVariants as knows
 use Rattle.heap_rule.specs.Lore.{cells_in, five_nulls, known_claimed, was_made}
-use Rattle.heap_rule.specs.Rule.{told}
+use Rattle.heap_rule.specs.Rule.{told, took}
 use Rattle.heap_rule.proofs.Quiet.{cells_marked, cells_unmarked}
 use Rattle.heap_rule.proofs.Reading.{cells_more}
 use Rattle.mutator_events.specs.Seats.{HasOwn, HasPresence, HasRoots, IsMutator}
@@ -53,6 +55,12 @@ missed_own own c colour.White other = refl
 missed_own own c colour.Gray other = refl
 missed_own own c colour.Black other = refl
 
+-- one event more
+along_push : (own : Own) (ts : List Taken) (e : Event) (found : Found)
+    → own_along own (ts ++ took e found ∷ []) ≡ own_after (own_along own ts) e found
+along_push own [] e found = refl
+along_push own (t ∷ ts) e found = along_push (own_after own t.event t.found) ts e found
+
 module _ {P : Type 0} {v : View P} {number room : ℕ} {held : List ℕ} {mode : Option Control}
     {inside : Bool} {status : Status} {claims : ℕ}
     (m : IsMutator v number room held mode inside status claims) where
@@ -61,6 +69,7 @@ module _ {P : Type 0} {v : View P} {number room : ℕ} {held : List ℕ} {mode :
       {trail : List Taken} {cells : List ℕ} {looked : Option Control} {is_in : Bool}
       {answered : Status} {many : ℕ} → HasOwn v.shape.cells room own cells looked many
       → HasPresence presence is_in answered → HasRoots known own.held is_in
+      → own ≡ own_along no_own trail
       → IsMutator (record v {
         own = own;
         presence = presence;
@@ -68,7 +77,7 @@ module _ {P : Type 0} {v : View P} {number room : ℕ} {held : List ℕ} {mode :
         pass = pass;
         trail = trail;
       }) number room cells looked is_in answered many
-  told_keeps own presence roots = record {
+  told_keeps own presence roots left = record {
     role_is = m.role_is;
     number_is = m.number_is;
     number_below = m.number_below;
@@ -77,7 +86,14 @@ module _ {P : Type 0} {v : View P} {number room : ℕ} {held : List ℕ} {mode :
     own = own;
     presence = presence;
     roots = roots;
+    left = left;
   }
+
+  -- the event is the next of the trail
+  left_on : (e : Event) (found : Found)
+      → own_after v.own e found ≡ own_along no_own (v.trail ++ took e found ∷ [])
+  left_on e found = ap (λ (own : Own). own_after own e found) m.left
+      ∙ sym (along_push no_own v.trail e found)
 
   -- the same cells, with other marks and another mode
   own_moved : {own : Own} (looked : Option Control) → cells_in own.held ≡ cells_in v.own.held
@@ -106,7 +122,8 @@ module _ {P : Type 0} {v : View P} {number room : ℕ} {held : List ℕ} {mode :
           claims_is = m.own.claims_is;
         }
         record { inside_is = refl; status_is = λ is. refl; not_over = λ is. over }
-        record { fit = refl; some = λ is. omega arith }
+        record { fit = refl; some = λ is. omega arith; anchor = λ is. refl }
+        (left_on (event.Begin i) (finds.Presence found))
 
     pub end_keeps : (found : Found)
         → IsMutator (told v (event.End i) found k p) number room [] None false status claims
@@ -123,7 +140,12 @@ module _ {P : Type 0} {v : View P} {number room : ℕ} {held : List ℕ} {mode :
           status_is = λ is. let no = is in absurd cc;
           not_over = λ is. let no = is in absurd cc;
         }
-        record { fit = refl; some = λ is. let no = is in absurd cc }
+        record {
+          fit = refl;
+          some = λ is. let no = is in absurd cc;
+          anchor = λ is. let no = is in absurd cc;
+        }
+        (left_on (event.End i) found)
 
     pub over_keeps : (found : Found) → inside ≡ false
         → IsMutator (told v (event.Over i) found k p) number room held mode inside status claims
@@ -134,13 +156,15 @@ module _ {P : Type 0} {v : View P} {number room : ℕ} {held : List ℕ} {mode :
           not_over = λ is. let no = sym out ∙ is in absurd cc;
         }
         m.roots
+        (left_on (event.Over i) found)
 
     pub look_keeps : (control : Control)
         → IsMutator (told v (event.Look i) (finds.Control control) k p) number room held
         (Some control) inside status claims
     look_keeps control =
         told_keeps (own_moved (Some control) (cells_unmarked v.own.held) refl refl) m.presence
-        (moved_roots m.roots unmark)
+        (moved_roots m.roots unmark (cells_unmarked v.own.held))
+        (left_on (event.Look i) (finds.Control control))
 
     pub read_keeps : (place f : ℕ) (found : Field) → NamesBelow v.shape.cells found
         → length held < room
@@ -157,6 +181,7 @@ module _ {P : Type 0} {v : View P} {number room : ℕ} {held : List ℕ} {mode :
           claims_is = parts.2 ∙ m.own.claims_is;
         }
         m.presence (read_roots v.own place k found m.roots)
+        (left_on (event.Read i place f) (finds.Field found))
 
     pub mark_keeps : (place : ℕ) (found : Found)
         → IsMutator (told v (event.Mark i place) found k p) number room held mode inside status
@@ -164,14 +189,17 @@ module _ {P : Type 0} {v : View P} {number room : ℕ} {held : List ℕ} {mode :
     mark_keeps place found =
         told_keeps
         (own_moved mode (cells_marked (cell_at v.own.held place) v.own.held) m.own.mode_is refl)
-        m.presence (moved_roots m.roots (mark_of (cell_at v.own.held place)))
+        m.presence (moved_roots m.roots (mark_of (cell_at v.own.held place))
+        (cells_marked (cell_at v.own.held place) v.own.held))
+        (left_on (event.Mark i place) found)
 
     pub write_keeps : (place f : ℕ) (old new : Field) (found : Found)
         → IsMutator (told v (event.Write i place f old new) found k p) number room held None inside
         status claims
     write_keeps place f old new found =
         told_keeps (own_moved None (cells_unmarked v.own.held) refl refl) m.presence
-        (written_roots m.roots unmark (was_made old found) place f new)
+        (written_roots m.roots unmark (cells_unmarked v.own.held) (was_made old found) place f new)
+        (left_on (event.Write i place f old new) found)
 
     pub claim_keeps : (c : ℕ) → c < v.shape.cells → length held < room
         → IsMutator (told v (event.Claim i c) (finds.Colour colour.Blue) k p) number room
@@ -186,6 +214,7 @@ module _ {P : Type 0} {v : View P} {number room : ℕ} {held : List ℕ} {mode :
           claims_is = ap (λ (n : ℕ). n + 1) m.own.claims_is;
         }
         m.presence (more_roots m.roots (knows.Raw five_nulls) c)
+        (left_on (event.Claim i c) (finds.Colour colour.Blue))
 
     pub missed_keeps : (c : ℕ) (found : Colour) → is_blue found ≡ false
         → IsMutator (told v (event.Claim i c) (finds.Colour found) k p) number room held mode
@@ -197,17 +226,20 @@ module _ {P : Type 0} {v : View P} {number room : ℕ} {held : List ℕ} {mode :
         m.presence
         (subst (λ (own : Own). HasRoots (known_claimed v.known (finds.Colour found)) own.held inside)
         (sym (missed_own v.own c found other)) (missed_roots v.known found other m.roots))
+        (left_on (event.Claim i c) (finds.Colour found))
 
     pub fill_keeps : (place f : ℕ) (value : Field) (found : Found)
         → IsMutator (told v (event.Fill i place f value) found k p) number room held mode inside
         status claims
     fill_keeps place f value found =
         told_keeps m.own m.presence (stored_roots m.roots place f value)
+        (left_on (event.Fill i place f value) found)
 
     pub seal_keeps : (place : ℕ) (of : Kind) (found : Found)
         → IsMutator (told v (event.Seal i place of) found k p) number room held mode inside status
         claims
     seal_keeps place of found = told_keeps m.own m.presence (sealed_roots m.roots _ _)
+        (left_on (event.Seal i place of) found)
 
     pub answer_keeps : (found : Found)
         → IsMutator (told v (event.Answer i) found k p) number room held None inside
@@ -219,7 +251,8 @@ module _ {P : Type 0} {v : View P} {number room : ℕ} {held : List ℕ} {mode :
           status_is = λ is. ap (λ (x : Status). next_status_of x) (m.presence.status_is is);
           not_over = m.presence.not_over;
         }
-        (moved_roots m.roots unmark)
+        (moved_roots m.roots unmark (cells_unmarked v.own.held))
+        (left_on (event.Answer i) found)
 
     pub keep_keeps : (n from copies : ℕ) (found : Found) → 1 ≤ n → n ≤ length held
         → from + copies ≤ length held → n + copies ≤ room
@@ -237,7 +270,7 @@ module _ {P : Type 0} {v : View P} {number room : ℕ} {held : List ℕ} {mode :
           claims_is = m.own.claims_is;
         }
         m.presence
-        (kept_roots m.roots n from copies
+        (kept_roots m.roots n from copies some
         (omega (
           arith,
           some,
@@ -245,3 +278,4 @@ module _ {P : Type 0} {v : View P} {number room : ℕ} {held : List ℕ} {mode :
           ap length cells,
           length-map (kept v.own.held n from copies) (λ (p : Held). p.cell),
         )))
+        (left_on (event.Keep i n from copies) found)

@@ -1,6 +1,7 @@
--- As many places are known of as are held, and who is in holds one at least: so behind each event.
+-- As many places are known of as are held, and who is in holds the anchor at the first of them: so
+-- behind each event.
 use Rattle.std.proofs.Common.{◌≡◌, ◌≤◌, ℕ, zero, suc, Bool, true, false, List, [], ◌∷◌, ◌++◌}
-use Rattle.std.proofs.Common.{length, map, take, drop, refl, sym, ◌∙◌, ap, arith}
+use Rattle.std.proofs.Common.{length, map, take, drop, get_or, refl, sym, ◌∙◌, ap, arith}
 use Rattle.std.proofs.lemmas.List.{length-append, length-map}
 use Rattle.cell_words.specs.declared.colours.Colour.{Colour}
 use Rattle.cell_words.specs.declared.colours.Colour.TheVariants as colour
@@ -9,12 +10,13 @@ use Rattle.cell_words.specs.declared.fields.Field.TheVariants as field
 use Rattle.core_machine.specs.declared.events.Found.TheVariants as finds
 use Rattle.core_machine.specs.declared.places.Held.{Held}
 use Rattle.core_machine.specs.Own.{Own, having_read}
-use Rattle.core_machine.specs.Places.{found_at, kept}
+use Rattle.core_machine.specs.Places.{cell_at, found_at, kept}
 use Rattle.core_machine.specs.Words.{is_blue}
 use Rattle.heap_rule.specs.declared.known.Known.{Known}
 use Rattle.heap_rule.specs.declared.known.Learned.{Learned}
 use Rattle.heap_rule.specs.Lore.{at_cell, cells_in, known_claimed}
 use Rattle.heap_rule.specs.Lore.{known_named, known_read, known_stored, known_stored_if}
+use Rattle.heap_rule.proofs.Reading.{cell_there}
 use Rattle.mutator_events.specs.Seats.{HasRoots}
 
 -- A change at the places of one cell leaves how many there are.
@@ -66,16 +68,35 @@ drop_many (suc n) (x ∷ xs) [] same = absurd (omega (arith, same))
 drop_many (suc n) (x ∷ xs) (y ∷ ys) same = drop_many n xs ys
     (let e : length xs ≡ length ys = omega (arith, same) in e)
 
+-- The first place.
+
+first_same : (held others : List Held) → cells_in others ≡ cells_in held
+    → cell_at others 0 ≡ cell_at held 0
+first_same held others same =
+    sym (cell_there others 0) ∙ ap (λ (cells : List ℕ). get_or cells 0 0) same ∙ cell_there held 0
+
+first_kept : (n : ℕ) (held more : List Held) → 1 ≤ n → 1 ≤ length held
+    → cell_at (take n held ++ more) 0 ≡ cell_at held 0
+first_kept zero held more le some = absurd (omega (arith, le))
+first_kept (suc n) [] more le some = absurd (omega (arith, some))
+first_kept (suc n) (p ∷ held) more le some = refl
+
+first_more : (held more : List Held) → 1 ≤ length held → cell_at (held ++ more) 0 ≡ cell_at held 0
+first_more [] more some = absurd (omega (arith, some))
+first_more (p ∷ held) more some = refl
+
 module _ {known : List Known} {held : List Held} {inside : Bool}
     (roots : HasRoots known held inside) where
   by_cells : length known ≡ length (cells_in held)
   by_cells = roots.fit ∙ sym (cells_many held)
 
   -- marks come and go
-  pub moved_roots : (move : Held → Held) → HasRoots known (map move held) inside
-  moved_roots move = record {
+  pub moved_roots : (move : Held → Held) → cells_in (map move held) ≡ cells_in held
+      → HasRoots known (map move held) inside
+  moved_roots move same = record {
     fit = roots.fit ∙ sym (length-map held move);
     some = λ is. omega (arith, roots.some is, length-map held move);
+    anchor = λ is. first_same held (map move held) same ∙ roots.anchor is;
   }
 
   pub sealed_roots : (change : Known → Known) (c : ℕ)
@@ -83,6 +104,7 @@ module _ {known : List Known} {held : List Held} {inside : Bool}
   sealed_roots change c = record {
     fit = at_many change c (cells_in held) known by_cells ∙ cells_many held;
     some = roots.some;
+    anchor = roots.anchor;
   }
 
   pub stored_roots : (place f : ℕ) (value : Field)
@@ -90,14 +112,17 @@ module _ {known : List Known} {held : List Held} {inside : Bool}
   stored_roots place f value = record {
     fit = stored_many (cells_in held) known place f value by_cells ∙ cells_many held;
     some = roots.some;
+    anchor = roots.anchor;
   }
 
-  pub written_roots : (move : Held → Held) (made : Bool) (place f : ℕ) (value : Field)
+  pub written_roots : (move : Held → Held) → cells_in (map move held) ≡ cells_in held
+      → (made : Bool) (place f : ℕ) (value : Field)
       → HasRoots (known_stored_if made (cells_in held) known place f value) (map move held) inside
-  written_roots move made place f value = record {
+  written_roots move same made place f value = record {
     fit = stored_if_many made (cells_in held) known place f value by_cells ∙ cells_many held
         ∙ sym (length-map held move);
     some = λ is. omega (arith, roots.some is, length-map held move);
+    anchor = λ is. first_same held (map move held) same ∙ roots.anchor is;
   }
 
   -- one more
@@ -110,11 +135,12 @@ module _ {known : List Known} {held : List Held} {inside : Bool}
       length-append held (found_at c ∷ []),
     );
     some = λ is. omega (arith, length-append held (found_at c ∷ []));
+    anchor = λ is. first_more held (found_at c ∷ []) (roots.some is) ∙ roots.anchor is;
   }
 
-  pub kept_roots : (n from copies : ℕ) → 1 ≤ length (kept held n from copies)
+  pub kept_roots : (n from copies : ℕ) → 1 ≤ n → 1 ≤ length (kept held n from copies)
       → HasRoots (take n known ++ take copies (drop from known)) (kept held n from copies) inside
-  kept_roots n from copies some = record {
+  kept_roots n from copies front some = record {
     fit = omega (
       arith,
       length-append (take n known) (take copies (drop from known)),
@@ -124,6 +150,8 @@ module _ {known : List Known} {held : List Held} {inside : Bool}
           (drop_many from known held roots.fit),
     );
     some = λ is. some;
+    anchor = λ is. first_kept n held (take copies (drop from held)) front (roots.some is)
+        ∙ roots.anchor is;
   }
 
 -- a read tells of the cell that it read, and holds the one that it found

@@ -4,7 +4,9 @@ use Rattle.std.specs.Prelude.{ℕ, ◌≡◌, ◌<◌, ◌≤◌, Bool, true, fa
 use Rattle.cell_words.specs.declared.controls.Control.{Control}
 use Rattle.cell_words.specs.declared.presences.Presence.{Presence}
 use Rattle.cell_words.specs.declared.presences.Status.{Status}
-use Rattle.core_machine.specs.Own.{Own}
+use Rattle.core_machine.specs.Own.{Own, no_own}
+use Rattle.core_machine.specs.Places.{cell_at}
+use Rattle.core_machine.specs.Trail.{own_along}
 use Rattle.core_machine.specs.declared.places.Held.{Held}
 use Rattle.heap_rule.specs.declared.known.Known.{Known}
 use Rattle.heap_rule.specs.declared.view.Role.TheVariants as role
@@ -28,10 +30,11 @@ pub record HasPresence (presence : Presence) (inside : Bool) (status : Status) :
   pub not_over : inside ≡ true → presence.over ≡ false
 
 -- something is known of each place, if no more than that it is held; and who is in holds the anchor
--- or a place more
+-- at the first place
 pub record HasRoots (known : List Known) (held : List Held) (inside : Bool) : Type 0 where
   pub fit : length known ≡ length held
   pub some : inside ≡ true → 1 ≤ length held
+  pub anchor : inside ≡ true → cell_at held 0 ≡ 0
 
 module _ {P : Type 0} where
   pub record IsMutator (me : View P) (number room : ℕ) (held : List ℕ) (mode : Option Control)
@@ -44,6 +47,8 @@ module _ {P : Type 0} where
     pub own : HasOwn me.shape.cells room me.own held mode claims
     pub presence : HasPresence me.presence inside status
     pub roots : HasRoots me.known me.own.held inside
+    -- its own part is what its trail leaves
+    pub left : me.own ≡ own_along no_own me.trail
 
   -- the view is what a mutator's seat is given when it is split off
   abbrev pub IsGiven : (ℕ → ℕ → P) → ℕ → ℕ → View P → Type 0

@@ -1,6 +1,9 @@
 //! The seat of a mutator, and its readers.
 ghost use Rattle.std.specs.Prelude.{◌≡◌, ◌<◌, ◌≤◌, ◌+◌, IfOk, length, true};
 ghost use Rattle.heap_rule.specs.declared.view.Role.TheVariants as role;
+ghost use Rattle.core_machine.specs.Own.{no_own};
+ghost use Rattle.core_machine.specs.Trail.{own_along};
+ghost use Rattle.heap_rule.specs.Asks.{target};
 ghost use Rattle.mutator_events.specs.Seats.{IsGiven};
 
 use crate::NoMemory;
@@ -108,6 +111,8 @@ impl<P: Keeping> MutSeat<P> {
         ensures len { result ≡ length self.now.me.own.held }
         ensures known { length self.now.me.known ≡ result }
         ensures some { self.now.me.presence.inside ≡ true → 1 ≤ result }
+        ensures anchor { self.now.me.presence.inside ≡ true → target self.now.me 0 ≡ 0 }
+        ensures left { self.now.me.own ≡ own_along no_own self.now.me.trail }
     {
         self.held.len()
     }

@@ -1,6 +1,8 @@
 //! A mutator: its seat, with the heap that the seat is of.
 ghost use Rattle.std.specs.Prelude.{◌≡◌, ◌≤◌, ◌+◌, true, length};
-ghost use Rattle.heap_rule.specs.Asks.{MayComeIn};
+ghost use Rattle.core_machine.specs.Own.{no_own};
+ghost use Rattle.core_machine.specs.Trail.{own_along};
+ghost use Rattle.heap_rule.specs.Asks.{MayComeIn, target};
 ghost use Rattle.heap_table.specs.Seats.{IsSeatOf};
 
 use heap_rule::Keeping;
@@ -44,6 +46,8 @@ impl<'a, P: Keeping> Mutator<'a, P> {
         ensures len { result ≡ length self.now.seat.me.own.held }
         ensures known { length self.now.seat.me.known ≡ result }
         ensures some { self.now.seat.me.presence.inside ≡ true → 1 ≤ result }
+        ensures anchor { self.now.seat.me.presence.inside ≡ true → target self.now.seat.me 0 ≡ 0 }
+        ensures left { self.now.seat.me.own ≡ own_along no_own self.now.seat.me.trail }
     {
         self.seat.held_len()
     }

@@ -19,27 +19,26 @@ use Rattle.trails.specs.Asks.{nothing}
 use Rattle.version_rule.specs.Knowing.{IsVersionKnown, link_seen}
 use Rattle.version_rule.specs.Pass.{Pass, seeing}
 use Rattle.version_store.specs.declared.held.HeldVersion.{HeldVersion}
-use Rattle.version_store.specs.Calls.{Goes, Holds, IsIn, StaysKnown, settled, whatever}
+use Rattle.version_store.specs.Calls.{Goes, Holds, IsIn, StaysKnown}
 use Rattle.version_store.specs.Commits.{FindsNewer}
 use Rattle.version_store.specs.Held.{GivesLatest, IsHeld}
 use Rattle.version_store.specs.Older.{GivesOlder}
 use Rattle.version_store.specs.Reads.{FindsNumber}
 use Rattle.version_store.specs.Walks.{EndsThere, FollowsLink, Stopped, Walked}
-use Rattle.version_store.proofs.Going.{cut_goes, cut_held, cut_known, cut_pass}
+use Rattle.version_store.proofs.Going.{cut_claims, cut_goes, cut_held, cut_known, cut_pass}
+use Rattle.version_store.proofs.Going.{in_still}
 use Rattle.version_store.proofs.Going.{goes_late, goes_none, goes_on, goes_then, goes_told}
 use Rattle.version_store.proofs.Going.{known_below, known_then, many_cells, many_held}
 use Rattle.version_store.proofs.Going.{still_same, version_still}
-use Rattle.version_store.proofs.Going.{whatever_lasts}
 
 -- The steps.
 
 -- a version that is held is held behind a read
-pub held_on : (a b : Bound Pass) (v : HeldVersion) (cells : List ℕ) → Holds whatever cells a b
+pub held_on : (a b : Bound Pass) (v : HeldVersion) (cells : List ℕ) → Holds cells a b
     → IsHeld a v → IsHeld b v
 held_on a b v cells holds is = record {
   root = is.root;
-  knows = version_still whatever (length a.seat.me.own.held) cells a b (λ told. refl) holds.known
-      holds.held v.place v.number is.root is.knows.there is.knows;
+  knows = version_still (length a.seat.me.own.held) cells a b holds.known holds.held v.place v.number is.root is.knows.there is.knows;
 }
 
 pub walk_starts : (a b : Bound Pass) (v : HeldVersion) (number : ℕ) → IsHeld a v
@@ -70,8 +69,8 @@ walk_on a b c v at before steps walked step = record {
   few =
       let many = length-append walked.cells (step.cell ∷ []) in
       let few = walked.few in omega (arith, many, few);
-  known = known_then whatever (length a.seat.me.own.held) a b c whatever_lasts walked.known
-      (known_below whatever (length b.seat.me.own.held) (length a.seat.me.own.held) b c
+  known = known_then (length a.seat.me.own.held) a b c walked.known
+      (known_below (length b.seat.me.own.held) (length a.seat.me.own.held) b c
       (let many = many_held a b walked.cells walked.held in omega (arith, many))
       step.holds.known);
   at_is = step.held;
@@ -93,8 +92,8 @@ walk_stops next a b c v at steps all lt walked end = record {
   cells = walked.cells;
   held = end.holds.held ∙ append-nil (held_cells b) ∙ walked.held;
   few = let few = walked.few in omega (arith, few, lt);
-  known = known_then whatever (length a.seat.me.own.held) a b c whatever_lasts walked.known
-      (known_below whatever (length b.seat.me.own.held) (length a.seat.me.own.held) b c
+  known = known_then (length a.seat.me.own.held) a b c walked.known
+      (known_below (length b.seat.me.own.held) (length a.seat.me.own.held) b c
       (let many = many_held a b walked.cells walked.held in omega (arith, many))
       end.holds.known);
   number = at.number;
@@ -147,8 +146,8 @@ module _ (b c : Bound Pass) (n place : ℕ) (p : Found)
     front = length-take-le n b.seat.me.known (omega (arith, some, many))
 
     -- what is known of the first places
-    keep_stays : StaysKnown whatever n b c
-    keep_stays other lt is =
+    keep_stays : StaysKnown n b c
+    keep_stays other lt =
         subst (λ (k : Known). Rattle.version_store.specs.Calls.StillKnown
         (known_of b.seat.me other) k)
         (sym (ap (λ (ks : List Known). known_at ks other) keep_known
@@ -183,8 +182,8 @@ gives_older a b c v at back n p is walked told =
       goes = goes_then walked.goes (keep_goes b c n at.place p told);
       holds = record {
         held = held;
-        known = known_then whatever (length a.seat.me.own.held) a b c whatever_lasts walked.known
-            (subst (λ (k : ℕ). StaysKnown whatever k b c) is
+        known = known_then (length a.seat.me.own.held) a b c walked.known
+            (subst (λ (k : ℕ). StaysKnown k b c) is
             (keep_stays b c n at.place p told there some walked.many));
       };
       place_is = is;
@@ -232,20 +231,31 @@ cut_newer a b c d v newest back n p kept stopped latest told =
 
 pub cut_back : (a b c d : Bound Pass) (v newest : HeldVersion) (back n : ℕ) (p : Found)
     → n ≡ length a.seat.me.own.held → Stopped link_seen a b v back → GivesLatest b c newest
-    → d ≡ takes c (event.Keep c.seat.me.number n 0 0) p → Holds whatever [] a d
+    → d ≡ takes c (event.Keep c.seat.me.number n 0 0) p → Holds [] a d
 cut_back a b c d v newest back n p is stopped latest told =
     let held : held_cells c ≡ held_cells a ++ (stopped.cells ++ latest.cell ∷ []) =
     latest.holds.held ∙ ap (λ (cs : List ℕ). cs ++ latest.cell ∷ []) stopped.held
     ∙ append_assoc (held_cells a) stopped.cells (latest.cell ∷ []) in
     record {
       held = cut_held c d n p told a (stopped.cells ++ latest.cell ∷ []) is held;
-      known = known_then whatever (length a.seat.me.own.held) a b d whatever_lasts stopped.known
-          (known_then whatever (length a.seat.me.own.held) b c d whatever_lasts
-          (known_below whatever (length b.seat.me.own.held) (length a.seat.me.own.held) b c
+      known = known_then (length a.seat.me.own.held) a b d stopped.known
+          (known_then (length a.seat.me.own.held) b c d
+          (known_below (length b.seat.me.own.held) (length a.seat.me.own.held) b c
           (let many = many_held a b stopped.cells stopped.held in omega (arith, many))
           latest.holds.known)
-          (subst (λ (k : ℕ). StaysKnown whatever k c d) is (cut_known c d n p told whatever)));
+          (subst (λ (k : ℕ). StaysKnown k c d) is (cut_known c d n p told)));
     }
+
+pub cut_back_claims : {next : Learned → Found → Pass → Pass} (a b c d : Bound Pass)
+    (v newest : HeldVersion) (back n : ℕ) (p : Found) → Stopped next a b v back
+    → GivesLatest b c newest → d ≡ takes c (event.Keep c.seat.me.number n 0 0) p
+    → d.seat.me.own.claims ≡ a.seat.me.own.claims
+cut_back_claims a b c d v newest back n p stopped latest told =
+    cut_claims c d n p told ∙ latest.claims ∙ stopped.claims
+
+pub stopped_in : {next : Learned → Found → Pass → Pass} (a b : Bound Pass) (v : HeldVersion)
+    (back : ℕ) → IsIn a → Stopped next a b v back → IsIn b
+stopped_in a b v back is stopped = in_still a b stopped.cells [] is stopped.goes stopped.held
 
 -- there is room for a further step
 pub walked_room : (a b : Bound Pass) (v at : HeldVersion) (steps back : ℕ) → Walked a b v at steps
@@ -285,8 +295,7 @@ pub walked_held : (a b : Bound Pass) (v at : HeldVersion) (steps : ℕ) → Walk
     → IsHeld a v → IsHeld b v
 walked_held a b v at steps walked is = record {
   root = is.root;
-  knows = version_still whatever (length a.seat.me.own.held) walked.cells a b (λ told. refl)
-      walked.known walked.held v.place v.number is.root is.knows.there is.knows;
+  knows = version_still (length a.seat.me.own.held) walked.cells a b walked.known walked.held v.place v.number is.root is.knows.there is.knows;
 }
 
 pub may_keep : (a b : Bound Pass) (v at : HeldVersion) (back n : ℕ) → n ≡ length a.seat.me.own.held

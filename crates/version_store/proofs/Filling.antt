@@ -1,7 +1,7 @@
 -- The filling of a claimed cell, and its seal as a box.
 use Rattle.std.proofs.Common.{◌≡◌, ◌≢◌, ◌<◌, ◌≤◌, ◌==◌, ℕ, true, false, List, [], ◌∷◌}
 use Rattle.std.proofs.Common.{length, get_or, slice_set, slice_index_or}
-use Rattle.std.proofs.Common.{refl, sym, ◌∙◌, ap, subst, arith}
+use Rattle.std.proofs.Common.{◌⊎◌, inl, inr, refl, sym, ◌∙◌, ap, subst, arith}
 use Rattle.cell_words.specs.declared.fields.Field.{Field}
 use Rattle.cell_words.specs.declared.fields.Field.TheVariants as field
 use Rattle.cell_words.specs.declared.fields.Kind.TheVariants as kind
@@ -25,29 +25,38 @@ use Rattle.mutator_seat.proofs.Writes.{cell_same, many_same, rightly}
 use Rattle.trails.specs.Asks.{nothing}
 use Rattle.version_rule.specs.Pass.{Pass}
 use Rattle.heap_rule.specs.Settled.{IsSettled, NamesSettled}
-use Rattle.version_store.specs.Calls.{Goes, StillKnown, settled}
-use Rattle.version_store.specs.Makes.{Makes, MayMake}
+use Rattle.version_store.specs.Calls.{Goes, StillKnown, known_fresh, settled}
+use Rattle.version_store.specs.Makes.{IsSpared, Makes, MayMake}
 use Rattle.version_store.proofs.Going.{goes_none, goes_then, goes_told, many_cells, still_same}
-use Rattle.version_store.proofs.Going.{settled_lasts, still_then}
-use Rattle.version_store.proofs.Knowns.{changed_else, changed_here, changed_many, changed_still}
+use Rattle.version_store.proofs.Going.{settled_lasts, still_on, still_then}
+use Rattle.version_store.proofs.Knowns.{changed_else, changed_fresh, changed_here, changed_many}
+use Rattle.version_store.proofs.Knowns.{changed_still}
 use Rattle.version_store.proofs.Knowns.{sealed_at}
 
--- What is settled stays so where fields are stored and cells are named.
+-- What is not fresh stays so where fields are stored and cells are named.
 
-pub set_still : (f : ℕ) (value : Field) (k : Known) → settled k ≡ true
+set_still : (f : ℕ) (value : Field) (k : Known) → (known_fresh k ≡ true → ⊥)
     → StillKnown k (known_set f value k)
-set_still f value knows.Nothing is = tt
-set_still f value (knows.Raw fields) is = absurd cc
-set_still f value (knows.Fresh fields) is = absurd cc
-set_still f value (knows.Record t) is = refl
-set_still f value (knows.Boxed told) is = still_same (knows.Boxed told)
+set_still f value knows.Nothing other = tt
+set_still f value (knows.Raw fields) other = absurd (other refl)
+set_still f value (knows.Fresh fields) other = absurd (other refl)
+set_still f value (knows.Record t) other = refl
+set_still f value (knows.Boxed told) other = still_same (knows.Boxed told)
 
-revealed_still : (k : Known) → settled k ≡ true → StillKnown k (known_revealed k)
-revealed_still knows.Nothing is = tt
-revealed_still (knows.Raw fields) is = absurd cc
-revealed_still (knows.Fresh fields) is = absurd cc
-revealed_still (knows.Record t) is = refl
-revealed_still (knows.Boxed told) is = still_same (knows.Boxed told)
+set_fresh : (f : ℕ) (value : Field) (k : Known)
+    → known_fresh (known_set f value k) ≡ known_fresh k
+set_fresh f value knows.Nothing = refl
+set_fresh f value (knows.Raw fields) = refl
+set_fresh f value (knows.Fresh fields) = refl
+set_fresh f value (knows.Record t) = refl
+set_fresh f value (knows.Boxed told) = refl
+
+revealed_still : (k : Known) → (known_fresh k ≡ true → ⊥) → StillKnown k (known_revealed k)
+revealed_still knows.Nothing other = tt
+revealed_still (knows.Raw fields) other = absurd (other refl)
+revealed_still (knows.Fresh fields) other = absurd (other refl)
+revealed_still (knows.Record t) other = refl
+revealed_still (knows.Boxed told) other = still_same (knows.Boxed told)
 
 pub settled_is : (k : Known) → settled k ≡ true → IsSettled k
 settled_is knows.Nothing is = absurd cc
@@ -70,13 +79,14 @@ module _ (cells : List ℕ) (known : List Known) (many : length known ≡ length
   named_many (field.Cell c) = changed_many known_revealed c cells known many
 
   named_still : (value : Field) (place : ℕ) → place < length cells
-      → settled (known_at known place) ≡ true
+      → (known_fresh (known_at known place) ≡ true
+      → (c : ℕ) → value ≡ field.Cell c → get_or cells place 0 ≢ c)
       → StillKnown (known_at known place) (known_at (known_named cells known value) place)
-  named_still field.Null place lt is = still_same (known_at known place)
-  named_still (field.Num n) place lt is = still_same (known_at known place)
-  named_still (field.Cell c) place lt is =
+  named_still field.Null place lt other = still_same (known_at known place)
+  named_still (field.Num n) place lt other = still_same (known_at known place)
+  named_still (field.Cell c) place lt other =
       changed_still known_revealed c cells known place lt many
-      (λ here. revealed_still (known_at known place) is)
+      (λ here. revealed_still (known_at known place) (λ fresh. other fresh c refl here))
 
   -- the value names another cell
   abbrev NamesNot : ℕ → Field → Type 0
@@ -100,33 +110,37 @@ stored_many cells known place f value many =
 
 pub stored_still : (cells : List ℕ) (known : List Known) (place f : ℕ) (value : Field)
     → length known ≡ length cells → (other : ℕ) → other < length cells
-    → settled (known_at known other) ≡ true
+    → (known_fresh (known_at known other) ≡ true → get_or cells other 0 ≢ get_or cells place 0)
+    → (known_fresh (known_at known other) ≡ true
+    → (c : ℕ) → value ≡ field.Cell c → get_or cells other 0 ≢ c)
     → StillKnown (known_at known other) (known_at (known_stored cells known place f value) other)
-stored_still cells known place f value many other lt is =
+stored_still cells known place f value many other lt apart unnamed =
     let change = known_set f value in
     let c = get_or cells place 0 in
     let next = at_cell change c cells known in
     let first : StillKnown (known_at known other) (known_at next other) =
     changed_still change c cells known other lt many
-    (λ here. set_still f value (known_at known other) is) in
+    (λ here. set_still f value (known_at known other) (λ fresh. apart fresh here)) in
+    let same = changed_fresh change (set_fresh f value) c cells known other lt many in
     still_then (known_at known other) (known_at next other)
     (known_at (known_stored cells known place f value) other) first
     (named_still cells next (changed_many change c cells known many ∙ many) value other lt
-    (settled_lasts (known_at known other) (known_at next other) is first))
+    (λ fresh. unnamed (sym same ∙ fresh)))
 
 -- The cell as far as it is filled.
-pub record Filling (old m : Bound Pass) (fresh : ℕ) (fields : List Field) : Type 0 where
+pub record Filling (old m : Bound Pass) (fresh latest tree : ℕ) (fields : List Field)
+    : Type 0 where
   pub goes : Goes [] old m
   pub held : held_cells m ≡ held_cells old
   pub many : length m.seat.me.known ≡ length m.seat.me.own.held
   pub raw : known_of m.seat.me fresh ≡ knows.Raw fields
-  pub known : (place : ℕ) → place < fresh → settled (known_of old.seat.me place) ≡ true
+  pub known : (place : ℕ) → place < fresh → IsSpared old fresh latest tree place
       → StillKnown (known_of old.seat.me place) (known_of m.seat.me place)
   pub pass : m.seat.me.pass ≡ old.seat.me.pass
   pub claims : m.seat.me.own.claims ≡ old.seat.me.own.claims
 
 pub filling_starts : (m : Bound Pass) (fresh latest tree : ℕ) → MayMake m fresh latest tree
-    → Filling m m fresh five_nulls
+    → Filling m m fresh latest tree five_nulls
 filling_starts m fresh latest tree may = record {
   goes = goes_none m;
   held = refl;
@@ -137,9 +151,12 @@ filling_starts m fresh latest tree may = record {
   claims = refl;
 }
 
-module _ (old a b : Bound Pass) (fresh f : ℕ) (fields : List Field) (value : Field)
-    (filled : Filling old a fresh fields) (there : fresh < length old.seat.me.own.held)
+module _ (old a b : Bound Pass) (fresh latest tree f : ℕ) (fields : List Field) (value : Field)
+    (filled : Filling old a fresh latest tree fields)
+    (there : fresh < length old.seat.me.own.held)
     (other : (c : ℕ) → value ≡ field.Cell c → target old.seat.me fresh ≢ c)
+    (names : (c : ℕ) → value ≡ field.Cell c
+    → (c ≡ target old.seat.me latest) ⊎ (c ≡ target old.seat.me tree))
     (told : b ≡ takes_with a (event.Fill a.seat.me.number fresh f value) finds.Stored
     a.seat.me.pass) where
   abbrev cells : List ℕ
@@ -157,9 +174,22 @@ module _ (old a b : Bound Pass) (fresh f : ℕ) (fields : List Field) (value : F
   within : fresh < length cells
   within = subst (λ (n : ℕ). fresh < n) (sym cells_many) there
 
+  cell_at_is : (place : ℕ) → get_or cells place 0 ≡ target old.seat.me place
+  cell_at_is place = ap (λ (cs : List ℕ). get_or cs place 0) filled.held
+      ∙ cell_there old.seat.me.own.held place
+
   cell_is : get_or cells fresh 0 ≡ target old.seat.me fresh
-  cell_is = ap (λ (cs : List ℕ). get_or cs fresh 0) filled.held
-      ∙ cell_there old.seat.me.own.held fresh
+  cell_is = cell_at_is fresh
+
+  -- a fresh cell is not the one that the value names
+  unnamed : (place : ℕ) → IsSpared old fresh latest tree place
+      → known_fresh (known_of old.seat.me place) ≡ true → (c : ℕ) → value ≡ field.Cell c
+      → get_or cells place 0 ≢ c
+  unnamed place spared is c named same = by_name (names c named)
+    where
+      by_name : (c ≡ target old.seat.me latest) ⊎ (c ≡ target old.seat.me tree) → ⊥
+      by_name (inl first) = spared.not_latest is (sym (cell_at_is place) ∙ same ∙ first)
+      by_name (inr second) = spared.not_tree is (sym (cell_at_is place) ∙ same ∙ second)
 
   stored_known : (place : ℕ)
       → known_of b.seat.me place ≡ known_at (known_stored cells known fresh f value) place
@@ -168,7 +198,7 @@ module _ (old a b : Bound Pass) (fresh f : ℕ) (fields : List Field) (value : F
   set_known : List Known
   set_known = at_cell (known_set f value) (get_or cells fresh 0) cells known
 
-  pub filling_on : Filling old b fresh (slice_set fields f value)
+  pub filling_on : Filling old b fresh latest tree (slice_set fields f value)
   filling_on = record {
     goes = goes_then filled.goes (goes_told a b []
         (event.Fill a.seat.me.number fresh f value) finds.Stored nothing_learned a.seat.me.pass
@@ -187,21 +217,23 @@ module _ (old a b : Bound Pass) (fresh f : ℕ) (fields : List Field) (value : F
         (λ d is same. other d is (sym cell_is ∙ same))
         ∙ changed_here change c cells known fresh within many_now refl
         ∙ ap change filled.raw;
-    known = λ place lt is.
-        let first = filled.known place lt is in
-        still_then (known_of old.seat.me place) (known_of a.seat.me place)
-        (known_of b.seat.me place) first
-        (subst (λ (k : Known). StillKnown (known_of a.seat.me place) k) (sym (stored_known place))
+    known = λ place lt spared.
+        still_on (known_of old.seat.me place) (known_of a.seat.me place) (known_of b.seat.me place)
+        (filled.known place lt spared)
+        (λ same. subst (λ (k : Known). StillKnown (known_of a.seat.me place) k)
+        (sym (stored_known place))
         (stored_still cells known fresh f value many_now place (omega (arith, lt, within))
-        (settled_lasts (known_of old.seat.me place) (known_of a.seat.me place) is first)));
+        (λ is here. spared.not_claimed (sym (cell_at_is place) ∙ here ∙ cell_is))
+        (λ is. unnamed place spared (sym same ∙ is))));
     pass = ap (λ (m : Bound Pass). m.seat.me.pass) told ∙ filled.pass;
     claims = ap (λ (m : Bound Pass). m.seat.me.own.claims) told ∙ filled.claims;
   }
 
 -- What the calls need.
 
-module _ (old a : Bound Pass) (fresh : ℕ) (fields : List Field)
-    (filled : Filling old a fresh fields) (there : fresh < length old.seat.me.own.held)
+module _ (old a : Bound Pass) (fresh latest tree : ℕ) (fields : List Field)
+    (filled : Filling old a fresh latest tree fields)
+    (there : fresh < length old.seat.me.own.held)
     (inside : old.seat.me.presence.inside ≡ true) where
   long : length a.seat.me.own.held ≡ length old.seat.me.own.held
   long = many_same a.seat.me.own.held old.seat.me.own.held filled.held
@@ -236,13 +268,14 @@ module _ (old a : Bound Pass) (fresh : ℕ) (fields : List Field)
 
   -- a settled cell at a place before it
   module _ (place : ℕ) (before : place < fresh)
-      (is : settled (known_of old.seat.me place) ≡ true) where
+      (is : settled (known_of old.seat.me place) ≡ true)
+      (spared : IsSpared old fresh latest tree place) where
     place_there : place < length a.seat.me.own.held
     place_there = omega (arith, before, there_now)
 
     now : settled (known_of a.seat.me place) ≡ true
     now = settled_lasts (known_of old.seat.me place) (known_of a.seat.me place) is
-        (filled.known place before is)
+        (filled.known place before spared)
 
     pub value_is : field_at a.seat.me.own.held (values.Held place)
         ≡ field.Cell (target old.seat.me place)
@@ -270,7 +303,7 @@ module _ (old a : Bound Pass) (fresh : ℕ) (fields : List Field)
 -- The seal.
 
 pub makes : (old a b : Bound Pass) (fresh number latest tree : ℕ)
-    → Filling old a fresh (field.Num number ∷ field.Cell (target old.seat.me tree) ∷
+    → Filling old a fresh latest tree (field.Num number ∷ field.Cell (target old.seat.me tree) ∷
     field.Cell (target old.seat.me latest) ∷ field.Null ∷ field.Null ∷ [])
     → fresh < length old.seat.me.own.held
     → b ≡ takes a (event.Seal a.seat.me.number fresh kind.Boxed) finds.Stored
@@ -299,56 +332,81 @@ makes old a b fresh number latest tree filled there told =
       box = ap (λ (m : Bound Pass). known_of m.seat.me fresh) told
           ∙ changed_here change c cells known fresh within many_now refl
           ∙ ap change filled.raw;
-      known = λ place lt is apart.
+      known = λ place lt spared.
           subst (λ (k : Known). StillKnown (known_of old.seat.me place) k)
           (sym (ap (λ (m : Bound Pass). known_of m.seat.me place) told
           ∙ changed_else change c cells known place (omega (arith, lt, within))
-          (λ same. apart (sym (at place) ∙ same ∙ at fresh))))
-          (filled.known place lt is);
+          (λ same. spared.not_claimed (sym (at place) ∙ same ∙ at fresh))))
+          (filled.known place lt spared);
       pass = ap (λ (m : Bound Pass). m.seat.me.pass) told ∙ filled.pass;
       claims = ap (λ (m : Bound Pass). m.seat.me.own.claims) told ∙ filled.claims;
     }
 
 -- The three fields, one after the other.
 
+-- a settled cell is spared, if it is another than the claimed one
+pub spared_settled : (m : Bound Pass) (fresh latest tree place : ℕ)
+    → target m.seat.me place ≢ target m.seat.me fresh
+    → settled (known_of m.seat.me place) ≡ true → IsSpared m fresh latest tree place
+spared_settled m fresh latest tree place apart is = record {
+  not_claimed = apart;
+  not_latest = λ fresh. absurd (not_both (known_of m.seat.me place) fresh is);
+  not_tree = λ fresh. absurd (not_both (known_of m.seat.me place) fresh is);
+}
+  where
+    not_both : (k : Known) → known_fresh k ≡ true → settled k ≡ true → ⊥
+    not_both knows.Nothing fresh is = absurd cc
+    not_both (knows.Raw fields) fresh is = absurd cc
+    not_both (knows.Fresh fields) fresh is = absurd cc
+    not_both (knows.Record t) fresh is = absurd cc
+    not_both (knows.Boxed told) fresh is = absurd cc
+
 module _ (m a b : Bound Pass) (fresh latest tree number : ℕ)
     (may : MayMake m fresh latest tree) where
   pub filled_number : b ≡ takes_with m (event.Fill m.seat.me.number fresh 0 (field.Num number))
       finds.Stored m.seat.me.pass
-      → Filling m b fresh (field.Num number ∷ field.Null ∷ field.Null ∷ field.Null ∷ field.Null ∷
-      [])
-  filled_number told = filling_on m m b fresh 0 five_nulls (field.Num number)
-      (filling_starts m fresh latest tree may) may.there (λ c is. absurd cc) told
+      → Filling m b fresh latest tree (field.Num number ∷ field.Null ∷ field.Null ∷ field.Null ∷
+      field.Null ∷ [])
+  filled_number told = filling_on m m b fresh latest tree 0 five_nulls (field.Num number)
+      (filling_starts m fresh latest tree may) may.there (λ c is. absurd cc) (λ c is. absurd cc)
+      told
 
   -- a field with the cell at a place
-  filled_place : (f place : ℕ) (fields : List Field) → Filling m a fresh fields → place < fresh
-      → settled (known_of m.seat.me place) ≡ true
+  filled_place : (f place : ℕ) (fields : List Field) → Filling m a fresh latest tree fields
+      → place < fresh → settled (known_of m.seat.me place) ≡ true
       → target m.seat.me place ≢ target m.seat.me fresh
+      → (target m.seat.me place ≡ target m.seat.me latest)
+      ⊎ (target m.seat.me place ≡ target m.seat.me tree)
       → b ≡ takes_with a (event.Fill a.seat.me.number fresh f
       (field_at a.seat.me.own.held (values.Held place))) finds.Stored a.seat.me.pass
-      → Filling m b fresh (slice_set fields f (field.Cell (target m.seat.me place)))
-  filled_place f place fields filled before is apart told =
-      let value = value_is m a fresh fields filled may.there may.inside place before is in
-      filling_on m a b fresh f fields (field.Cell (target m.seat.me place)) filled may.there
+      → Filling m b fresh latest tree (slice_set fields f (field.Cell (target m.seat.me place)))
+  filled_place f place fields filled before is apart one told =
+      let value = value_is m a fresh latest tree fields filled may.there may.inside place before is
+      (spared_settled m fresh latest tree place apart is) in
+      filling_on m a b fresh latest tree f fields (field.Cell (target m.seat.me place)) filled
+      may.there
       (λ c same here. apart (let e : target m.seat.me place ≡ target m.seat.me fresh = cc in e))
+      (λ c same. subst (λ (x : ℕ). (x ≡ target m.seat.me latest) ⊎ (x ≡ target m.seat.me tree))
+      (let e : target m.seat.me place ≡ c = cc in e) one)
       (subst (λ (x : Field). b ≡ takes_with a (event.Fill a.seat.me.number fresh f x) finds.Stored
       a.seat.me.pass) value told)
 
-  pub filled_tree : Filling m a fresh (field.Num number ∷ field.Null ∷ field.Null ∷ field.Null ∷
-      field.Null ∷ [])
+  pub filled_tree : Filling m a fresh latest tree (field.Num number ∷ field.Null ∷ field.Null ∷
+      field.Null ∷ field.Null ∷ [])
       → b ≡ takes_with a (event.Fill a.seat.me.number fresh 1
       (field_at a.seat.me.own.held (values.Held tree))) finds.Stored a.seat.me.pass
-      → Filling m b fresh (field.Num number ∷ field.Cell (target m.seat.me tree) ∷ field.Null ∷
-      field.Null ∷ field.Null ∷ [])
-  filled_tree filled told = filled_place 1 tree (field.Num number ∷ field.Null ∷ field.Null ∷
-      field.Null ∷ field.Null ∷ []) filled may.tree_before may.tree_is may.tree_apart told
-
-  pub filled_link : Filling m a fresh (field.Num number ∷ field.Cell (target m.seat.me tree) ∷
+      → Filling m b fresh latest tree (field.Num number ∷ field.Cell (target m.seat.me tree) ∷
       field.Null ∷ field.Null ∷ field.Null ∷ [])
+  filled_tree filled told = filled_place 1 tree (field.Num number ∷ field.Null ∷ field.Null ∷
+      field.Null ∷ field.Null ∷ []) filled may.tree_before may.tree_is may.tree_apart (inr refl)
+      told
+
+  pub filled_link : Filling m a fresh latest tree (field.Num number ∷
+      field.Cell (target m.seat.me tree) ∷ field.Null ∷ field.Null ∷ field.Null ∷ [])
       → b ≡ takes_with a (event.Fill a.seat.me.number fresh 2
       (field_at a.seat.me.own.held (values.Held latest))) finds.Stored a.seat.me.pass
-      → Filling m b fresh (field.Num number ∷ field.Cell (target m.seat.me tree) ∷
+      → Filling m b fresh latest tree (field.Num number ∷ field.Cell (target m.seat.me tree) ∷
       field.Cell (target m.seat.me latest) ∷ field.Null ∷ field.Null ∷ [])
   filled_link filled told = filled_place 2 latest (field.Num number ∷
       field.Cell (target m.seat.me tree) ∷ field.Null ∷ field.Null ∷ field.Null ∷ []) filled
-      may.latest_before may.latest_is may.latest_apart told
+      may.latest_before may.latest_is may.latest_apart (inl refl) told

@@ -1,6 +1,6 @@
 -- How calls follow one another: the trail, the held list, and what is known of it.
-use Rattle.std.proofs.Common.{◌≡◌, ◌<◌, ◌≤◌, ◌+◌, ℕ, Bool, true, List, [], ◌∷◌, ◌++◌, length}
-use Rattle.std.proofs.Common.{get_or, take, Option}
+use Rattle.std.proofs.Common.{◌≡◌, ◌<◌, ◌≤◌, ◌+◌, ℕ, true, List, [], ◌∷◌, ◌++◌, length}
+use Rattle.std.proofs.Common.{get_or, take}
 use Rattle.std.proofs.Common.{refl, sym, ◌∙◌, ap, subst, arith}
 use Rattle.std.proofs.lemmas.List.{append_assoc, append-nil, get_or-take, get_or_append_left}
 use Rattle.std.proofs.lemmas.List.{length-append, length-map, take-map, take_at}
@@ -28,7 +28,8 @@ use Rattle.trails.proofs.Marks.{marks_append, own_append}
 use Rattle.trails.proofs.Orders.{order_after, order_append, order_back}
 use Rattle.version_rule.specs.Knowing.{IsVersionKnown, KnowsVersion}
 use Rattle.version_rule.specs.Pass.{Pass}
-use Rattle.version_store.specs.Calls.{Goes, Holds, IsIn, StaysKnown, StillKnown, settled, whatever}
+use Rattle.version_store.specs.Calls.{Goes, Holds, IsIn, StaysKnown, StillKnown}
+use Rattle.version_store.specs.Calls.{known_fresh, settled}
 
 -- Trails.
 
@@ -137,6 +138,10 @@ all_own : (a : Bound Pass) (ts : List Taken)
 all_own a [] = refl
 all_own a (t ∷ ts) = all_own (takes a t.event t.found) ts
 
+pub calm_trail : (F : List Taken → Type 0) (a b : Bound Pass) (calm : Calm F a b)
+    → b.seat.me.trail ≡ a.seat.me.trail ++ calm.added
+calm_trail F a b calm = ap (λ (m : Bound Pass). m.seat.me.trail) calm.told ∙ all_trail a calm.added
+
 pub calm_goes : (F : List Taken → Type 0) (a b : Bound Pass) → Calm F a b → Goes [] a b
 calm_goes F a b calm = record {
   heap = calm.kept.heap;
@@ -148,7 +153,7 @@ calm_goes F a b calm = record {
   inside = calm.kept.inside;
   over = calm.kept.over;
   added = calm.added;
-  trail = ap (λ (m : Bound Pass). m.seat.me.trail) calm.told ∙ all_trail a calm.added;
+  trail = calm_trail F a b calm;
   own = ap (λ (m : Bound Pass). m.seat.me.own) calm.told ∙ all_own a calm.added;
   shown = nothing;
 }
@@ -184,6 +189,16 @@ in_still a b cells asks is goes held = record {
   anchor = target_still a b cells held 0 is.some ∙ is.anchor;
 }
 
+-- as a mutator that is in says of its places
+pub comes_in : (a : Bound Pass) (many : ℕ) → a.seat.me.presence.inside ≡ true
+    → many ≡ length a.seat.me.own.held → (a.seat.me.presence.inside ≡ true → 1 ≤ many)
+    → (a.seat.me.presence.inside ≡ true → target a.seat.me 0 ≡ 0) → IsIn a
+comes_in a many is len some anchor = record {
+  inside = is;
+  some = subst (λ (n : ℕ). 1 ≤ n) len (some is);
+  anchor = anchor is;
+}
+
 -- What is known.
 
 pub still_same : (k : Known) → StillKnown k k
@@ -204,58 +219,58 @@ still_then (knows.Boxed told) k l first second =
     let next = subst (λ (x : Known). StillKnown x l) first.1.0 second in
     (next.0, (next.1.0, λ f t lt is e. next.1.1 f t lt is (first.1.1 f t lt is e)))
 
--- a test that speaks of what is known of a cell speaks of what is known of it still
-abbrev pub Lasting : (Known → Bool) → Type 0
-Lasting said = (j k : Known) → said j ≡ true → StillKnown j k → said k ≡ true
+-- a further step, which may go by what is known to be fresh
+pub still_on : (j k l : Known) → StillKnown j k
+    → (known_fresh k ≡ known_fresh j → StillKnown k l) → StillKnown j l
+still_on knows.Nothing k l first next = tt
+still_on (knows.Raw fields) k l first next =
+    still_then (knows.Raw fields) k l first (next (ap known_fresh first))
+still_on (knows.Fresh fields) k l first next =
+    still_then (knows.Fresh fields) k l first (next (ap known_fresh first))
+still_on (knows.Record t) k l first next =
+    still_then (knows.Record t) k l first (next (ap known_fresh first))
+still_on (knows.Boxed told) k l first next =
+    still_then (knows.Boxed told) k l first (next (ap known_fresh first.1.0))
 
-pub whatever_lasts : Lasting whatever
-whatever_lasts j k is still = refl
-
-pub settled_lasts : Lasting settled
+-- what is settled stays so
+pub settled_lasts : (j k : Known) → settled j ≡ true → StillKnown j k → settled k ≡ true
 settled_lasts knows.Nothing k is still = absurd cc
 settled_lasts (knows.Raw fields) k is still = absurd cc
 settled_lasts (knows.Fresh fields) k is still = absurd cc
 settled_lasts (knows.Record t) k is still = ap settled still
 settled_lasts (knows.Boxed told) k is still = ap settled still.1.0
 
-pub known_then : (said : Known → Bool) (n : ℕ) (a b c : Bound Pass) → Lasting said
-    → StaysKnown said n a b → StaysKnown said n b c → StaysKnown said n a c
-known_then said n a b c lasts first second place lt is =
-    let one = first place lt is in
-    still_then (known_of a.seat.me place) (known_of b.seat.me place) (known_of c.seat.me place) one
-    (second place lt (lasts (known_of a.seat.me place) (known_of b.seat.me place) is one))
+pub known_then : (n : ℕ) (a b c : Bound Pass) → StaysKnown n a b → StaysKnown n b c
+    → StaysKnown n a c
+known_then n a b c first second place lt =
+    still_then (known_of a.seat.me place) (known_of b.seat.me place) (known_of c.seat.me place)
+    (first place lt) (second place lt)
 
-pub holds_then : (said : Known → Bool) (xs ys : List ℕ) (a b c : Bound Pass) → Lasting said
-    → Holds said xs a b → Holds said ys b c → Holds said (xs ++ ys) a c
-holds_then said xs ys a b c lasts first second = record {
+pub holds_then : (xs ys : List ℕ) (a b c : Bound Pass) → Holds xs a b → Holds ys b c
+    → Holds (xs ++ ys) a c
+holds_then xs ys a b c first second = record {
   held = second.held ∙ ap (λ (cs : List ℕ). cs ++ ys) first.held
       ∙ append_assoc (held_cells a) xs ys;
-  known = known_then said (length a.seat.me.own.held) a b c lasts first.known
-      (λ place lt is. second.known place
-      (let many = many_held a b xs first.held in omega (arith, many, lt)) is);
+  known = known_then (length a.seat.me.own.held) a b c first.known
+      (λ place lt. second.known place
+      (let many = many_held a b xs first.held in omega (arith, many, lt)));
 }
 
--- of settled cells alone
-pub known_less : (n : ℕ) (a b : Bound Pass) → StaysKnown whatever n a b → StaysKnown settled n a b
-known_less n a b stays place lt is = stays place lt refl
-
 -- below another end
-pub known_below : (said : Known → Bool) (n k : ℕ) (a b : Bound Pass) → k ≤ n
-    → StaysKnown said n a b → StaysKnown said k a b
-known_below said n k a b le stays place lt is = stays place (omega (arith, le, lt)) is
+pub known_below : (n k : ℕ) (a b : Bound Pass) → k ≤ n → StaysKnown n a b → StaysKnown k a b
+known_below n k a b le stays place lt = stays place (omega (arith, le, lt))
 
 -- a stretch that kept all
-pub kept_known : (said : Known → Bool) (n : ℕ) (a b : Bound Pass) → Kept a b
-    → StaysKnown said n a b
-kept_known said n a b kept place lt is =
+pub kept_known : (n : ℕ) (a b : Bound Pass) → Kept a b → StaysKnown n a b
+kept_known n a b kept place lt =
     subst (λ (k : Known). StillKnown (known_of a.seat.me place) k)
     (sym (ap (λ (ks : List Known). known_at ks place) kept.known))
     (still_same (known_of a.seat.me place))
 
-pub kept_holds : (said : Known → Bool) (a b : Bound Pass) → Kept a b → Holds said [] a b
-kept_holds said a b kept = record {
+pub kept_holds : (a b : Bound Pass) → Kept a b → Holds [] a b
+kept_holds a b kept = record {
   held = kept.held ∙ sym (append-nil (held_cells a));
-  known = kept_known said (length a.seat.me.own.held) a b kept;
+  known = kept_known (length a.seat.me.own.held) a b kept;
 }
 
 pub version_known : (j k : Known) (number : ℕ) (root : Term) → StillKnown j k
@@ -270,16 +285,15 @@ version_known j k number root still is =
     }
 
 -- a version that is held is held still
-pub version_still : (said : Known → Bool) (n : ℕ) (cells : List ℕ) (a b : Bound Pass)
-    → ((told : List (Option Term)) → said (knows.Boxed told) ≡ true) → StaysKnown said n a b
+pub version_still : (n : ℕ) (cells : List ℕ) (a b : Bound Pass) → StaysKnown n a b
     → held_cells b ≡ held_cells a ++ cells → (place number : ℕ) (root : Term) → place < n
     → KnowsVersion a.seat.me place number root → KnowsVersion b.seat.me place number root
-version_still said n cells a b speaks stays held place number root lt knows = record {
+version_still n cells a b stays held place number root lt knows = record {
   there =
       let many = many_held a b cells held in
       let there = knows.there in omega (arith, many, there);
   known = version_known (known_of a.seat.me place) (known_of b.seat.me place) number root
-      (stays place lt (ap said knows.known.is ∙ speaks knows.known.told)) knows.known;
+      (stays place lt) knows.known;
 }
 
 -- Keeping the first places.
@@ -308,8 +322,8 @@ module _ (b c : Bound Pass) (n : ℕ) (p : Found)
       ∙ take_at (held_cells a) cells n (many_cells a ∙ sym many)
       ∙ sym (append-nil (held_cells a))
 
-  pub cut_known : (said : Known → Bool) → StaysKnown said n b c
-  cut_known said place lt is =
+  pub cut_known : StaysKnown n b c
+  cut_known place lt =
       subst (λ (k : Known). StillKnown (known_of b.seat.me place) k)
       (sym (ap (λ (m : Bound Pass). known_of m.seat.me place) told
       ∙ ap (λ (ks : List Known). known_at ks place) (append-nil (take n b.seat.me.known))

@@ -1,6 +1,6 @@
 -- What is known at the places of a held list, behind changes of what is known of one cell; and what
 -- a state says of it.
-use Rattle.std.proofs.Common.{◌≡◌, ◌≢◌, ◌<◌, ◌==◌, ◌&&◌, ℕ, zero, suc, Bool, true}
+use Rattle.std.proofs.Common.{◌≡◌, ◌≢◌, ◌<◌, ◌==◌, ◌&&◌, ℕ, zero, suc, Bool, true, false}
 use Rattle.std.proofs.Common.{List, [], ◌∷◌, ◌++◌, length, get_or, slice_index_or, Option, Some, None}
 use Rattle.std.proofs.Common.{refl, sym, ◌∙◌, ap, subst, arith, inl, inr, if◌then◌else◌}
 use Rattle.std.proofs.lemmas.Bool.{cases_eq, eq-eqb, ne_eqb}
@@ -26,7 +26,7 @@ use Rattle.version_rule.specs.Pass.{Pass}
 use Rattle.version_rule.specs.Versions.{is_fixed}
 use Rattle.heap_rule.proofs.Seats.{knows_place}
 use Rattle.version_rule.proofs.States.{learned_box}
-use Rattle.version_store.specs.Calls.{StillKnown, one_kind}
+use Rattle.version_store.specs.Calls.{StillKnown, known_fresh, one_kind, settled}
 use Rattle.version_store.proofs.Going.{still_same}
 
 -- Changes of what is known of one cell.
@@ -61,6 +61,19 @@ changed_else change c (d ∷ cells) (k ∷ known) zero lt other =
     ap (λ (b : Bool). if b then change k else k) (ne_eqb d c other)
 changed_else change c (d ∷ cells) (k ∷ known) (suc place) lt other =
     changed_else change c cells known place (omega (arith, lt)) other
+
+-- where the change leaves whether it is fresh, that stays
+pub changed_fresh : (change : Known → Known) → ((k : Known) → known_fresh (change k) ≡ known_fresh k)
+    → (c : ℕ) (cells : List ℕ) (known : List Known) (place : ℕ) → place < length cells
+    → length known ≡ length cells
+    → known_fresh (known_at (at_cell change c cells known) place)
+    ≡ known_fresh (known_at known place)
+changed_fresh change leaves c cells known place lt same =
+    elim (cases_eq (get_or cells place 0) c) [
+      | inl is ↦ ap known_fresh (changed_here change c cells known place lt same is)
+          ∙ leaves (known_at known place)
+      | inr other ↦ ap known_fresh (changed_else change c cells known place lt other)
+    ]
 
 -- at any place
 pub changed_still : (change : Known → Known) (c : ℕ) (cells : List ℕ) (known : List Known)
@@ -138,6 +151,33 @@ kinds_fit fixed terms row term fresh i x (knows.Boxed os) (knows.Record u) a b =
     absurd (let e : is_box_kind (field.Num 1) ≡ true = sym (ap is_box_kind b.0) ∙ a.1 in cc)
 kinds_fit fixed terms row term fresh i x (knows.Boxed os) (knows.Boxed us) a b = refl
 
+-- the anchor is no fresh cell
+anchor_old : (fixed : ℕ → Bool) (s : State) (l : Lore) (i : ℕ) (k : Known) → l.fresh 0 ≡ None
+    → IsKnown fixed s l i 0 k → known_fresh k ≡ false
+anchor_old fixed s l i knows.Nothing old is = refl
+anchor_old fixed s l i (knows.Raw fields) old is =
+    absurd (let e : Some i ≡ None = sym is.1 ∙ old in cc)
+anchor_old fixed s l i (knows.Fresh fields) old is =
+    absurd (let e : Some i ≡ None = sym is.1 ∙ old in cc)
+anchor_old fixed s l i (knows.Record t) old is = refl
+anchor_old fixed s l i (knows.Boxed told) old is = refl
+
+-- what is fresh is not settled
+pub fresh_apart : (j k : Known) → known_fresh j ≡ true → settled k ≡ true → one_kind j k ≡ true → ⊥
+fresh_apart knows.Nothing k fresh is same = absurd cc
+fresh_apart (knows.Raw fs) knows.Nothing fresh is same = absurd cc
+fresh_apart (knows.Raw fs) (knows.Raw gs) fresh is same = absurd cc
+fresh_apart (knows.Raw fs) (knows.Fresh gs) fresh is same = absurd cc
+fresh_apart (knows.Raw fs) (knows.Record t) fresh is same = absurd cc
+fresh_apart (knows.Raw fs) (knows.Boxed told) fresh is same = absurd cc
+fresh_apart (knows.Fresh fs) knows.Nothing fresh is same = absurd cc
+fresh_apart (knows.Fresh fs) (knows.Raw gs) fresh is same = absurd cc
+fresh_apart (knows.Fresh fs) (knows.Fresh gs) fresh is same = absurd cc
+fresh_apart (knows.Fresh fs) (knows.Record t) fresh is same = absurd cc
+fresh_apart (knows.Fresh fs) (knows.Boxed told) fresh is same = absurd cc
+fresh_apart (knows.Record t) k fresh is same = absurd cc
+fresh_apart (knows.Boxed told) k fresh is same = absurd cc
+
 plain_at : (p : ℕ → Entry) (f : ℕ) (t : Term) → f < 5 → p f ≡ Plain t
     → slice_index_or (five_plain p) f None ≡ Some t
 plain_at p zero t lt is = ap plain is
@@ -180,6 +220,13 @@ module _ (v : View Pass) (s : State) (l : Lore) (mine : Mine is_fixed v s l) whe
       (subst (λ (c : ℕ). IsKnown is_fixed s l v.number c (known_of v one)) same
       (knows_place v s l mine one here))
       (knows_place v s l mine other there)
+
+  pub not_fresh : (place : ℕ) → place < length v.own.held → target v place ≡ 0
+      → known_fresh (known_of v place) ≡ false
+  not_fresh place lt at_anchor =
+      anchor_old is_fixed s l v.number (known_of v place) mine.shown.facts.freshed.anchor
+      (subst (λ (c : ℕ). IsKnown is_fixed s l v.number c (known_of v place)) at_anchor
+      (knows_place v s l mine place lt))
 
   -- what a read tells of a cell leaves what is known of it
   pub told_still : (x : ℕ) (k : Known) → Reachable s x → IsKnown is_fixed s l v.number x k

@@ -10,7 +10,7 @@ use Rattle.core_machine.specs.declared.events.Found.TheVariants as finds
 use Rattle.doc_tree.specs.Tree.{DocTree}
 use Rattle.heap_rule.specs.declared.known.Known.TheVariants as knows
 use Rattle.heap_rule.specs.declared.view.View.{View}
-use Rattle.heap_rule.specs.Asks.{MayRead, known_of, target}
+use Rattle.heap_rule.specs.Asks.{known_of, target}
 use Rattle.heap_rule.specs.Boxes.{boxes_of}
 use Rattle.heap_rule.specs.Steps.{same_pass}
 use Rattle.heap_rule.proofs.Reading.{cell_there}
@@ -27,11 +27,10 @@ use Rattle.version_rule.proofs.AfterSteps.{shows_latest, shows_number, shows_roo
 use Rattle.version_rule.proofs.Passing.{in_step_at}
 use Rattle.version_rule.proofs.Reading.{root_known}
 use Rattle.version_store.specs.declared.held.HeldVersion.{HeldVersion}
-use Rattle.version_store.specs.Calls.{Goes, IsIn, WasRead, whatever}
+use Rattle.version_store.specs.Calls.{Goes, IsIn, WasRead}
 use Rattle.version_store.specs.Held.{GivesLatest, GivesRoot, IsHeld, root_at}
 use Rattle.version_store.specs.Reads.{FindsLatest, FindsNumber}
 use Rattle.version_store.proofs.Going.{goes_then, holds_then, many_cells, version_still}
-use Rattle.version_store.proofs.Going.{whatever_lasts}
 use Rattle.version_store.proofs.Steps.{as_step, same_word, was_read}
 
 -- Which field a value stands for.
@@ -53,11 +52,6 @@ pub found_null : (many : ℕ) (found : Field) → values.Null ≡ value_found ma
 found_null many field.Null is = refl
 found_null many (field.Num n) is = absurd cc
 found_null many (field.Cell c) is = absurd cc
-
-pub may_read : (a : Bound Pass) (place f : ℕ) → IsIn a → f ≤ 4 → place < length a.seat.me.own.held
-    → length a.seat.me.own.held < a.seat.me.room → MayRead a.seat.me place f
-may_read a place f is payload there room =
-    record { inside = is.inside; there = there; payload = payload; room = room }
 
 -- the cell that was held last
 pub last_held : (a b : Bound Pass) (cell : ℕ) → held_cells b ≡ held_cells a ++ cell ∷ []
@@ -199,14 +193,13 @@ gives_latest a b c place number is first second =
           (subst (λ (x : ℕ). Goes (gave_at x 0 (field.Cell first.cell) ∷
           gave_at (target b.seat.me place) 0 (field.Num number) ∷ []) a c) is.anchor
           (goes_then first.read.goes second.read.goes));
-      holds = holds_then whatever (first.cell ∷ []) [] a b c whatever_lasts first.read.holds
-          second.read.holds;
+      holds = holds_then (first.cell ∷ []) [] a b c first.read.holds second.read.holds;
       place_is = first.place_is;
       held = record {
         root = first.root;
         knows = subst (λ (n : ℕ). KnowsVersion c.seat.me place n first.root) (sym same)
-            (version_still whatever (length b.seat.me.own.held) [] b c (λ told. refl)
-            second.read.holds.known second.read.holds.held place first.number first.root
+            (version_still (length b.seat.me.own.held) [] b c second.read.holds.known
+            second.read.holds.held place first.number first.root
             first.known.there first.known);
       };
       not_below = subst (λ (n : ℕ). a.seat.me.pass.seen ≤ n) (sym same) first.not_below;

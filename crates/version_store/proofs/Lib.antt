@@ -2,6 +2,7 @@ pub mod Backward
 pub mod Filling
 pub mod Going
 pub mod Knowns
+pub mod Lasting
 pub mod Latest
 pub mod Links
 pub mod Putting

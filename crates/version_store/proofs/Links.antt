@@ -109,6 +109,7 @@ module _ (is_tree : Term → Type 0) (tree_of : Term → DocTree)
             ∙ ap (λ (x : Field). next tells (finds.Field x) a.seat.me.pass) word
             ∙ picks.stays tells older.cell a.seat.me.pass;
         claims = at.claims;
+        coherent = at.coherent;
         many = at.many;
       }
 

@@ -20,6 +20,7 @@ use Rattle.heap_rule.specs.Steps.{Picks}
 use Rattle.heap_rule.proofs.Reading.{cell_there}
 use Rattle.mutator_events.specs.declared.values.Value.TheVariants as values
 use Rattle.mutator_events.specs.Events.{AtEvent}
+use Rattle.mutator_events.specs.Values.{field_at}
 use Rattle.mutator_seat.specs.Bound.{Bound, held_cells}
 use Rattle.mutator_seat.specs.Stretches.{Kept}
 use Rattle.mutator_seat.specs.Writes.{LookAndMarks, MayUpdate, PicksUpdate, Updated, write_of}
@@ -32,15 +33,14 @@ use Rattle.version_rule.proofs.Reading.{number_known, root_known}
 use Rattle.version_rule.proofs.Writing.{commit_picks}
 use Rattle.version_store.specs.declared.held.HeldVersion.{HeldVersion}
 use Rattle.version_store.specs.Calls.{Goes, IsCoherent, IsIn, StaysKnown, StillKnown}
-use Rattle.version_store.specs.Calls.{one_kind, settled, whatever}
+use Rattle.version_store.specs.Calls.{known_fresh, settled}
 use Rattle.version_store.specs.Commits.{Committed, FindsNewer, write_over}
 use Rattle.version_store.specs.Held.{GivesLatest, IsHeld, root_at, term_at, term_told}
-use Rattle.version_store.specs.Makes.{Behind, IsClaimed, Makes, MayMake}
+use Rattle.version_store.specs.Makes.{Behind, IsClaimed, IsSpared, Makes, MayMake}
 use Rattle.version_store.proofs.Going.{calm_goes, goes_late, goes_none, goes_on, goes_then, in_still}
-use Rattle.version_store.proofs.Going.{kept_known, known_below, known_less, known_then, many_cells}
-use Rattle.version_store.proofs.Going.{many_held, settled_lasts, still_then, target_still}
-use Rattle.version_store.proofs.Going.{version_known, version_still, whatever_lasts}
-use Rattle.version_store.proofs.Knowns.{sealed_at}
+use Rattle.version_store.proofs.Going.{known_below, known_then, many_cells, many_held}
+use Rattle.version_store.proofs.Going.{settled_lasts, still_on, target_still, version_known}
+use Rattle.version_store.proofs.Knowns.{fresh_apart, sealed_at}
 use Rattle.version_store.proofs.Writing.{wrote_claims, wrote_goes, wrote_known}
 use Rattle.version_store.proofs.Writing.{wrote_pass}
 
@@ -61,16 +61,6 @@ claimed_raw a fresh latest tree is coherent =
     ∙ get_or_push is.others (knows.Raw five_nulls) knows.Nothing fresh
     (let e : length is.others ≡ fresh = omega (arith, many, last, longer) in e)
 
--- and no settled cell is this one
-raw_apart : (j k : Known) → settled j ≡ true → k ≡ knows.Raw five_nulls → one_kind j k ≡ true → ⊥
-raw_apart knows.Nothing k is raw same = absurd cc
-raw_apart (knows.Raw fields) k is raw same = absurd cc
-raw_apart (knows.Fresh fields) k is raw same = absurd cc
-raw_apart (knows.Record t) k is raw same =
-    let e : false ≡ true = sym (ap (one_kind (knows.Record t)) raw) ∙ same in cc
-raw_apart (knows.Boxed told) k is raw same =
-    let e : false ≡ true = sym (ap (one_kind (knows.Boxed told)) raw) ∙ same in cc
-
 pub boxed_settled : (k : Known) (number : ℕ) (root : Term) → IsVersionKnown k number root
     → settled k ≡ true
 boxed_settled k number root is = ap settled is.is
@@ -78,29 +68,48 @@ boxed_settled k number root is = ap settled is.is
 module _ (a b : Bound Pass) (v newest : HeldVersion) (fresh tree : ℕ)
     (claimed : IsClaimed a fresh v.place tree) (held : IsHeld a v)
     (latest : GivesLatest a b newest) (coherent : IsCoherent a.seat.me) where
-  first_known : StaysKnown whatever (fresh + 1) a b
-  first_known = subst (λ (n : ℕ). StaysKnown whatever n a b) claimed.last latest.holds.known
+  first_known : StaysKnown (fresh + 1) a b
+  first_known = subst (λ (n : ℕ). StaysKnown n a b) claimed.last latest.holds.known
 
   first_target : (place : ℕ) → place < fresh + 1
       → target b.seat.me place ≡ target a.seat.me place
   first_target place lt = target_still a b (latest.cell ∷ []) latest.holds.held place
       (let last = claimed.last in omega (arith, lt, last))
 
-  pub apart : (place : ℕ) → place < fresh → settled (known_of a.seat.me place) ≡ true
-      → target b.seat.me place ≢ target b.seat.me fresh
-  apart place lt is same =
+  pub apart : (place : ℕ) → place < fresh → target b.seat.me place ≢ target b.seat.me fresh
+  apart place lt same =
+      claimed.apart place lt
+      (sym (first_target place (omega (arith, lt))) ∙ same ∙ first_target fresh (omega arith))
+
+  -- a fresh cell is another than a settled one
+  pub fresh_not : (place other : ℕ) → place < fresh → other < fresh
+      → known_fresh (known_of a.seat.me place) ≡ true
+      → settled (known_of a.seat.me other) ≡ true → target a.seat.me place ≢ target a.seat.me other
+  fresh_not place other lt before is other_is same =
       let last = claimed.last in
-      raw_apart (known_of a.seat.me place) (known_of a.seat.me fresh) is
-      (claimed_raw a fresh v.place tree claimed coherent)
-      (coherent.kinds place fresh (omega (arith, lt, last)) (omega (arith, last))
-      (sym (first_target place (omega (arith, lt))) ∙ same ∙ first_target fresh (omega arith)))
+      fresh_apart (known_of a.seat.me place) (known_of a.seat.me other) is other_is
+      (coherent.kinds place other (omega (arith, lt, last)) (omega (arith, before, last)) same)
+
+  -- what is known where is spared by the making of the box
+  pub spared : (place : ℕ) → place < fresh → settled (known_of a.seat.me v.place) ≡ true
+      → settled (known_of a.seat.me tree) ≡ true
+      → known_fresh (known_of b.seat.me place) ≡ known_fresh (known_of a.seat.me place)
+      → IsSpared b fresh v.place tree place
+  spared place lt version_is tree_is same = record {
+    not_claimed = apart place lt;
+    not_latest = λ is on. fresh_not place v.place lt claimed.latest_before (sym same ∙ is) version_is
+        (sym (first_target place (omega (arith, lt))) ∙ on
+        ∙ first_target v.place (let before = claimed.latest_before in omega (arith, before)));
+    not_tree = λ is on. fresh_not place tree lt claimed.tree_before (sym same ∙ is) tree_is
+        (sym (first_target place (omega (arith, lt))) ∙ on
+        ∙ first_target tree (let before = claimed.tree_before in omega (arith, before)));
+  }
 
   pub behind_first : Behind fresh a b
   behind_first = record {
     cells = latest.cell ∷ [];
     held = latest.holds.held;
-    known = known_below settled (fresh + 1) fresh a b (omega arith)
-        (known_less (fresh + 1) a b first_known);
+    known = known_below (fresh + 1) fresh a b (omega arith) first_known;
     claims = latest.claims;
   }
 
@@ -132,13 +141,13 @@ module _ (a b : Bound Pass) (v newest : HeldVersion) (fresh tree : ℕ)
         many = many;
         raw = subst (λ (k : Known). StillKnown k (known_of b.seat.me fresh))
             (claimed_raw a fresh v.place tree claimed coherent)
-            (first_known fresh (omega arith) refl);
+            (first_known fresh (omega arith));
         latest_is = settled_lasts (known_of a.seat.me v.place) (known_of b.seat.me v.place) first
-            (first_known v.place (omega (arith, before)) refl);
+            (first_known v.place (omega (arith, before)));
         tree_is = settled_lasts (known_of a.seat.me tree) (known_of b.seat.me tree) second
-            (first_known tree (omega (arith, other)) refl);
-        latest_apart = apart v.place before first;
-        tree_apart = apart tree other second;
+            (first_known tree (omega (arith, other)));
+        latest_apart = apart v.place before;
+        tree_apart = apart tree other;
       }
 
 -- The pass that is picked at the write.
@@ -179,30 +188,28 @@ module _ (is_tree : Term → Type 0) (tree_of : Term → DocTree)
   pub made_target : (place : ℕ) → target c.seat.me place ≡ target b.seat.me place
   made_target place = cell_same c.seat.me.own.held b.seat.me.own.held made.held place
 
-  pub known_made : StaysKnown settled fresh a c
-  known_made place lt says =
-      let first = first_known a b v newest fresh tree claimed held latest coherent place
-      (omega (arith, lt)) refl in
-      still_then (known_of a.seat.me place) (known_of b.seat.me place) (known_of c.seat.me place)
-      first
-      (made.known place lt
-      (settled_lasts (known_of a.seat.me place) (known_of b.seat.me place) says first)
-      (apart a b v newest fresh tree claimed held latest coherent place lt says))
+  pub known_made : StaysKnown fresh a c
+  known_made place lt =
+      still_on (known_of a.seat.me place) (known_of b.seat.me place) (known_of c.seat.me place)
+      (first_known a b v newest fresh tree claimed held latest coherent place (omega (arith, lt)))
+      (λ same. made.known place lt
+      (spared a b v newest fresh tree claimed held latest coherent place lt
+      (boxed_settled (known_of a.seat.me v.place) v.number held.root held.knows.known)
+      (ap settled record_is) same))
 
   pub still_version : KnowsVersion c.seat.me v.place v.number held.root
   still_version = record {
     there = let before = claimed.latest_before in omega (arith, before, long);
     known = version_known (known_of a.seat.me v.place) (known_of c.seat.me v.place) v.number
         held.root
-        (known_made v.place claimed.latest_before
-        (boxed_settled (known_of a.seat.me v.place) v.number held.root held.knows.known))
+        (known_made v.place claimed.latest_before)
         held.knows.known;
   }
 
   pub still_record : known_of c.seat.me tree ≡ knows.Record (term_at a tree)
   still_record = record_still (known_of a.seat.me tree) (known_of c.seat.me tree)
       (term_at a tree) record_is
-      (known_made tree claimed.tree_before (ap settled record_is))
+      (known_made tree claimed.tree_before)
 
   abbrev from : ℕ
   from = target c.seat.me v.place
@@ -292,6 +299,28 @@ module _ (is_tree : Term → Type 0) (tree_of : Term → DocTree)
       (number_told (known_of c.seat.me v.place) + 1) (root_at c v.place) (term_at c tree)
       (may_commit spells few at kept))
 
+  same_target : (place : ℕ) → place < fresh + 1 → target c.seat.me place ≡ target a.seat.me place
+  same_target place lt = made_target place
+      ∙ first_target a b v newest fresh tree claimed held latest coherent place lt
+
+  -- a fresh cell is not the anchor
+  not_anchor : (place : ℕ) → place < fresh → known_fresh (known_of a.seat.me place) ≡ true
+      → target c.seat.me place ≢ target c.seat.me 0
+  not_anchor place lt is on =
+      let last = claimed.last in
+      let none : false ≡ true =
+      sym (coherent.anchor place (omega (arith, lt, last))
+      (sym (same_target place (omega (arith, lt))) ∙ on ∙ in_made.anchor)) ∙ is in absurd cc
+
+  -- nor is a cell before it the new box
+  not_box : (place : ℕ) → place < fresh → (other : ℕ)
+      → field_at c.seat.me.own.held (values.Held fresh) ≡ field.Cell other
+      → target c.seat.me place ≢ other
+  not_box place lt other named on =
+      let e : box ≡ other = cc in
+      claimed.apart place lt
+      (sym (same_target place (omega (arith, lt))) ∙ on ∙ sym e ∙ same_target fresh (omega arith))
+
   -- Behind the write.
   module _ (d : Bound Pass) (same : newest.number ≡ v.number) (found : Field)
       (wrote : Updated (HoldsVersions is_tree tree_of) is_fixed
@@ -301,10 +330,13 @@ module _ (is_tree : Term → Type 0) (tree_of : Term → DocTree)
       behind_write = record {
         cells = latest.cell ∷ [];
         held = wrote.held ∙ made.held ∙ latest.holds.held;
-        known = known_then settled fresh a c d settled_lasts known_made
-            (known_below settled (length c.seat.me.own.held) fresh c d (omega (arith, long))
-            (wrote_known (HoldsVersions is_tree tree_of) (picks_made tree_of c v.place tree) c d 0 0
-            (values.Held v.place) (values.Held fresh) found wrote made.many));
+        known = λ place lt.
+            still_on (known_of a.seat.me place) (known_of c.seat.me place)
+            (known_of d.seat.me place) (known_made place lt)
+            (λ alike. wrote_known (HoldsVersions is_tree tree_of) (picks_made tree_of c v.place tree)
+            c d 0 0 (values.Held v.place) (values.Held fresh) found wrote made.many place
+            (omega (arith, lt, long)) (λ is. not_anchor place lt (sym alike ∙ is))
+            (λ is other named on. not_box place lt other named on));
         claims = wrote_claims (HoldsVersions is_tree tree_of) (picks_made tree_of c v.place tree) c
             d 0 0 (values.Held v.place) (values.Held fresh) found wrote ∙ made.claims
             ∙ latest.claims;
@@ -367,11 +399,10 @@ module _ (is_tree : Term → Type 0) (tree_of : Term → DocTree)
             cells = latest.cell ∷ last.cell ∷ [];
             held = last.holds.held ∙ ap (λ (cs : List ℕ). cs ++ last.cell ∷ []) behind_write.held
                 ∙ append_assoc (held_cells a) (latest.cell ∷ []) (last.cell ∷ []);
-            known = known_then settled fresh a d e settled_lasts behind_write.known
-                (known_below settled (length d.seat.me.own.held) fresh d e
+            known = known_then fresh a d e behind_write.known
+                (known_below (length d.seat.me.own.held) fresh d e
                 (let more = many_held a d (latest.cell ∷ []) behind_write.held in
-                let all = claimed.last in omega (arith, more, all))
-                (known_less (length d.seat.me.own.held) d e last.holds.known));
+                let all = claimed.last in omega (arith, more, all)) last.holds.known);
             claims = last.claims ∙ behind_write.claims;
           }
 

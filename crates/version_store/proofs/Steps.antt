@@ -35,9 +35,10 @@ use Rattle.version_rule.specs.Versions.{is_fixed}
 use Rattle.version_rule.proofs.AfterSteps.{known_many}
 use Rattle.heap_rule.proofs.Seats.{knows_place, reached_place, target_now}
 use Rattle.version_store.specs.Calls.{IsCoherent, StaysKnown, StillKnown, WasRead}
-use Rattle.version_store.specs.Calls.{cells_found, whatever}
+use Rattle.version_store.specs.Calls.{cells_found}
 use Rattle.version_store.proofs.Going.{goes_told, many_held, still_same, still_then}
-use Rattle.version_store.proofs.Knowns.{changed_many, changed_still, fit, pushed_still, told_still}
+use Rattle.version_store.proofs.Knowns.{changed_many, changed_still, fit, not_fresh}
+use Rattle.version_store.proofs.Knowns.{pushed_still, told_still}
 
 -- The word that a field is packed into is that of no other field.
 pub same_word : (a b : Field) → pack_field_of a ≡ pack_field_of b → a ≡ b
@@ -69,6 +70,7 @@ module _ (holds : Map → List Pass → Type 0) (next : Learned → Found → Pa
   coherent = record {
     many = known_many v step.core step.lore step.mine;
     kinds = fit v step.core step.lore step.mine;
+    anchor = not_fresh v step.core step.lore step.mine;
   }
 
 -- One read.
@@ -133,8 +135,8 @@ module _ (holds : Map → List Pass → Type 0) (next : Learned → Found → Pa
       (subst (λ (c : ℕ). IsKnown is_fixed step.core step.lore v.number c (known_of v other)) is
       (knows_place v step.core step.lore step.mine other lt))
 
-  read_known : StaysKnown whatever (length v.own.held) a b
-  read_known other lt says =
+  read_known : StaysKnown (length v.own.held) a b
+  read_known other lt =
       let within : other < length cells =
       let many = length-map v.own.held (λ (p : Held). p.cell) in omega (arith, many, lt) in
       let longer = changed_many (told_more tells.here) (get_or cells place 0) cells v.known many in

@@ -25,11 +25,12 @@ use Rattle.version_store.specs.declared.held.HeldVersion.{HeldVersion}
 use Rattle.version_store.specs.Calls.{IsIn, StaysKnown, settled}
 use Rattle.version_store.specs.Held.{IsHeld}
 use Rattle.version_store.specs.Older.{Trims}
-use Rattle.version_store.specs.Walks.{CutsOff, EndsThere, FollowsLink, LinkIsNull, PicksLink}
-use Rattle.version_store.specs.Walks.{Stopped, Walked}
+use Rattle.version_store.specs.Walks.{CutsOff, EndsThere, FollowsLink, LinkIsNull, LinkTaken}
+use Rattle.version_store.specs.Walks.{PicksLink, Stopped, Walked}
 use Rattle.version_store.proofs.Going.{cut_claims, cut_goes, cut_held, cut_known, cut_pass}
-use Rattle.version_store.proofs.Going.{goes_then, known_below, known_less, known_then}
-use Rattle.version_store.proofs.Going.{many_held, settled_lasts}
+use Rattle.version_store.proofs.Going.{goes_then, known_below, known_then, many_held, still_on}
+use Rattle.version_store.proofs.Going.{target_still}
+use Rattle.version_store.proofs.Knowns.{fresh_apart}
 use Rattle.version_store.proofs.Writing.{wrote_claims, wrote_goes, wrote_held, wrote_known}
 use Rattle.version_store.proofs.Writing.{wrote_pass}
 
@@ -106,18 +107,18 @@ module _ (a : Bound Pass) (newest oldest before : HeldVersion) (is : IsIn a)
               omega (arith, due, number_is, keep);
         }
 
-    pub taken : (b : Bound Pass) → length a.seat.me.known ≡ length a.seat.me.own.held
+    pub was_taken : (b : Bound Pass) → length a.seat.me.known ≡ length a.seat.me.own.held
         → (found : Field) × Updated (HoldsVersions is_tree tree_of) is_fixed (link_taken number) a
         oldest.place 2 (values.Held before.place) values.Null found b
-        → LinkIsNull a b oldest
-    taken b many (found, wrote) = record {
+        → LinkTaken a b oldest
+    was_taken b many (found, wrote) = record {
       goes = wrote_goes (HoldsVersions is_tree tree_of) (link_taken number) a b oldest.place 2
           (values.Held before.place) values.Null found wrote;
-      cells = [];
       held = wrote_held (HoldsVersions is_tree tree_of) (link_taken number) a b oldest.place 2
           (values.Held before.place) values.Null found wrote;
-      known = wrote_known (HoldsVersions is_tree tree_of) (link_taken number) a b oldest.place 2
-          (values.Held before.place) values.Null found wrote many;
+      known = λ place lt apart. wrote_known (HoldsVersions is_tree tree_of) (link_taken number) a b
+          oldest.place 2 (values.Held before.place) values.Null found wrote many place lt apart
+          (λ is c named. absurd cc);
       pass = wrote_pass (HoldsVersions is_tree tree_of) (link_taken number) a b oldest.place 2
           (values.Held before.place) values.Null found wrote
           ∙ ap (λ (n : ℕ). cutting n a.seat.me.pass) number_is;
@@ -127,21 +128,27 @@ module _ (a : Bound Pass) (newest oldest before : HeldVersion) (is : IsIn a)
 
 -- The link, read and cut.
 
-pub link_taken_on : (a b c : Bound Pass) (v before : HeldVersion) → FollowsLink a b v before
-    → LinkIsNull b c v → LinkIsNull a c v
-link_taken_on a b c v before step cut = record {
-  goes = goes_then step.goes cut.goes;
-  cells = (step.cell ∷ []) ++ cut.cells;
-  held = cut.held ∙ ap (λ (cs : List ℕ). cs ++ cut.cells) step.holds.held
-      ∙ append_assoc (held_cells a) (step.cell ∷ []) cut.cells;
-  known = known_then settled (length a.seat.me.own.held) a b c settled_lasts
-      (known_less (length a.seat.me.own.held) a b step.holds.known)
-      (known_below settled (length b.seat.me.own.held) (length a.seat.me.own.held) b c
-      (let many = many_held a b (step.cell ∷ []) step.holds.held in omega (arith, many))
-      cut.known);
-  pass = cut.pass ∙ ap (λ (p : Pass). cutting v.number p) step.pass;
-  claims = cut.claims ∙ step.claims;
-}
+pub link_taken_on : (a b c : Bound Pass) (v before : HeldVersion) → IsHeld a v
+    → FollowsLink a b v before → LinkTaken b c v → LinkIsNull a c v
+link_taken_on a b c v before is step cut =
+    let many = many_held a b (step.cell ∷ []) step.holds.held in
+    let same = target_still a b (step.cell ∷ []) step.holds.held in
+    record {
+      goes = goes_then step.goes cut.goes;
+      cells = (step.cell ∷ []) ++ [];
+      held = cut.held ∙ ap (λ (cs : List ℕ). cs ++ []) step.holds.held
+          ∙ append_assoc (held_cells a) (step.cell ∷ []) [];
+      known = λ place lt.
+          still_on (known_of a.seat.me place) (known_of b.seat.me place) (known_of c.seat.me place)
+          (step.holds.known place lt)
+          (λ alike. cut.known place (omega (arith, many, lt))
+          (λ fresh on. fresh_apart (known_of a.seat.me place) (known_of a.seat.me v.place)
+          (sym alike ∙ fresh) (ap settled is.knows.known.is)
+          (step.coherent.kinds place v.place lt is.knows.there
+          (sym (same place lt) ∙ on ∙ same v.place is.knows.there))));
+      pass = cut.pass ∙ ap (λ (p : Pass). cutting v.number p) step.pass;
+      claims = cut.claims ∙ step.claims;
+    }
 
 pub link_was_null : (a b : Bound Pass) (v : HeldVersion) → EndsThere link_cut a b v
     → LinkIsNull a b v
@@ -149,7 +156,7 @@ link_was_null a b v end = record {
   goes = end.goes;
   cells = [];
   held = end.holds.held;
-  known = known_less (length a.seat.me.own.held) a b end.holds.known;
+  known = end.holds.known;
   pass = end.pass ∙ ap (λ (n : ℕ). cutting n a.seat.me.pass) end.told;
   claims = end.claims;
 }
@@ -164,9 +171,8 @@ cuts_walked a b c v oldest keep is walked cut = record {
   cells = walked.cells ++ cut.cells;
   held = cut.held ∙ ap (λ (cs : List ℕ). cs ++ cut.cells) walked.held
       ∙ append_assoc (held_cells a) walked.cells cut.cells;
-  known = known_then settled (length a.seat.me.own.held) a b c settled_lasts
-      (known_less (length a.seat.me.own.held) a b walked.known)
-      (known_below settled (length b.seat.me.own.held) (length a.seat.me.own.held) b c
+  known = known_then (length a.seat.me.own.held) a b c walked.known
+      (known_below (length b.seat.me.own.held) (length a.seat.me.own.held) b c
       (let many = many_held a b walked.cells walked.held in omega (arith, many)) cut.known);
   cut = oldest.number;
   within = let at = walked.number_is in omega (arith, at);
@@ -183,7 +189,7 @@ cuts_stopped a b v keep stopped = record {
   goes = stopped.goes;
   cells = stopped.cells;
   held = stopped.held;
-  known = known_less (length a.seat.me.own.held) a b stopped.known;
+  known = stopped.known;
   cut = stopped.number;
   within = stopped.within;
   due = let near = stopped.near in omega (arith, near);
@@ -198,8 +204,8 @@ trims a b c v keep n p is cuts told = record {
   goes = goes_then cuts.goes (cut_goes b c n p told);
   holds = record {
     held = cut_held b c n p told a cuts.cells is cuts.held;
-    known = known_then settled (length a.seat.me.own.held) a b c settled_lasts cuts.known
-        (subst (λ (k : ℕ). StaysKnown settled k b c) is (cut_known b c n p told settled));
+    known = known_then (length a.seat.me.own.held) a b c cuts.known
+        (subst (λ (k : ℕ). StaysKnown k b c) is (cut_known b c n p told));
   };
   cut = cuts.cut;
   within = cuts.within;

@@ -1,5 +1,6 @@
 -- The commit with its claim before it and the cut of its places behind it.
-use Rattle.std.proofs.Common.{◌≡◌, ◌<◌, ◌≤◌, ◌+◌, ◌⊎◌, ℕ, List, [], ◌∷◌, ◌++◌, length}
+use Rattle.std.proofs.Common.{◌≡◌, ◌≢◌, ◌<◌, ◌≤◌, ◌+◌, ◌⊎◌, ℕ, true, false, List, [], ◌∷◌, ◌++◌}
+use Rattle.std.proofs.Common.{length}
 use Rattle.std.proofs.Common.{inl, inr, refl, sym, ◌∙◌, ap, subst, arith}
 use Rattle.std.proofs.lemmas.Bool.{cases_lt}
 use Rattle.std.proofs.lemmas.List.{append_assoc, get_or_past}
@@ -14,7 +15,9 @@ use Rattle.doc_tree.specs.Tree.{DocTree}
 use Rattle.heap_rule.specs.declared.known.Known.{Known}
 use Rattle.heap_rule.specs.declared.known.Known.TheVariants as knows
 use Rattle.heap_rule.specs.Asks.{known_of, target}
-use Rattle.heap_rule.specs.Lore.{five_nulls, known_at, nothing_learned}
+use Rattle.heap_rule.specs.Lore.{five_nulls, has, known_at, nothing_learned}
+use Rattle.heap_rule.proofs.Lists.{has_at}
+use Rattle.heap_rule.proofs.Reading.{cell_there}
 use Rattle.mutator_events.specs.Events.{AtEvent}
 use Rattle.mutator_seat.specs.Bound.{Bound, held_cells, takes}
 use Rattle.mutator_seat.specs.Claims.{Claimed, anything}
@@ -24,15 +27,16 @@ use Rattle.version_rule.specs.Pass.{Pass, committed, seeing}
 use Rattle.version_rule.specs.Versions.{HoldsVersions, is_fixed}
 use Rattle.version_rule.proofs.Reading.{root_known}
 use Rattle.version_store.specs.declared.held.HeldVersion.{HeldVersion}
-use Rattle.version_store.specs.Calls.{Goes, Holds, IsIn, StaysKnown, StillKnown, settled, whatever}
+use Rattle.version_store.specs.Calls.{Goes, Holds, IsIn, StaysKnown, StillKnown}
 use Rattle.version_store.specs.Commits.{Committed, FindsNewer, write_over}
 use Rattle.version_store.specs.Held.{IsHeld, IsRecord, root_at, term_at, term_told}
 use Rattle.version_store.specs.Makes.{Behind, IsClaimed}
 use Rattle.version_store.proofs.Going.{calm_goes, cut_claims, cut_goes, cut_held, cut_known}
 use Rattle.version_store.proofs.Going.{cut_pass, goes_late, goes_on, goes_then, goes_told, in_still}
-use Rattle.version_store.proofs.Going.{known_less, known_then, many_held, settled_lasts}
-use Rattle.version_store.proofs.Going.{target_still, version_still}
+use Rattle.version_store.proofs.Going.{known_then, many_cells, many_held, target_still}
+use Rattle.version_store.proofs.Going.{version_still}
 use Rattle.version_store.proofs.Knowns.{pushed_still}
+use Rattle.version_store.proofs.Latest.{last_held}
 use Rattle.version_store.proofs.Putting.{record_still}
 
 pushed_anyway : (known : List Known) (k : Known) (place : ℕ)
@@ -61,8 +65,8 @@ module _ (a b : Bound Pass) (fresh : ℕ) (got : Claimed a fresh b) where
   claimed_claims = ap (λ (m : Bound Pass). m.seat.me.own.claims) got.told
       ∙ ap (λ (n : ℕ). n + 1) got.calm.kept.claims
 
-  pub claimed_known : StaysKnown whatever (length a.seat.me.own.held) a b
-  claimed_known place lt is =
+  pub claimed_known : StaysKnown (length a.seat.me.own.held) a b
+  claimed_known place lt =
       subst (λ (k : Known). StillKnown (known_of a.seat.me place) k)
       (sym (ap (λ (ks : List Known). known_at ks place) got.known))
       (pushed_anyway a.seat.me.known (knows.Raw five_nulls) place)
@@ -73,15 +77,15 @@ module _ (a b : Bound Pass) (fresh : ℕ) (got : Claimed a fresh b) where
   pub claimed_held : (v : HeldVersion) → IsHeld a v → IsHeld b v
   claimed_held v is = record {
     root = is.root;
-    knows = version_still whatever (length a.seat.me.own.held) (got.cell ∷ []) a b
-        (λ told. refl) claimed_known got.held v.place v.number is.root is.knows.there is.knows;
+    knows = version_still (length a.seat.me.own.held) (got.cell ∷ []) a b claimed_known got.held
+        v.place v.number is.root is.knows.there is.knows;
   }
 
   known_record : (tree : ℕ) → IsRecord a tree
       → known_of b.seat.me tree ≡ knows.Record (term_at a tree)
   known_record tree is =
       record_still (known_of a.seat.me tree) (known_of b.seat.me tree) (term_at a tree) is.known
-      (claimed_known tree is.there refl)
+      (claimed_known tree is.there)
 
   pub claimed_term : (tree : ℕ) → IsRecord a tree → term_at b tree ≡ term_at a tree
   claimed_term tree is = ap term_told (known_record tree is)
@@ -97,9 +101,18 @@ module _ (a b : Bound Pass) (fresh : ℕ) (got : Claimed a fresh b) where
   pub claimed_root : (v : HeldVersion) → IsHeld a v → root_at b v.place ≡ root_at a v.place
   claimed_root v is =
       root_known (known_of b.seat.me v.place) v.number is.root
-      (version_still whatever (length a.seat.me.own.held) (got.cell ∷ []) a b (λ told. refl)
-      claimed_known got.held v.place v.number is.root is.knows.there is.knows).known
+      (version_still (length a.seat.me.own.held) (got.cell ∷ []) a b claimed_known got.held v.place v.number is.root is.knows.there is.knows).known
       ∙ sym (root_known (known_of a.seat.me v.place) v.number is.root is.knows.known)
+
+  -- the claimed cell stood at no place
+  stood_nowhere : (place : ℕ) → place < length a.seat.me.own.held
+      → target a.seat.me place ≢ got.cell
+  stood_nowhere place lt same =
+      let there : has (held_cells a) got.cell ≡ true =
+      subst (λ (c : ℕ). has (held_cells a) c ≡ true)
+      (cell_there a.seat.me.own.held place ∙ same)
+      (has_at (held_cells a) place (let many = many_cells a in omega (arith, many, lt))) in
+      let none : false ≡ true = sym got.is_new.apart ∙ there in absurd cc
 
   pub claimed_is : (v : HeldVersion) (tree : ℕ) → IsHeld a v → IsRecord a tree
       → IsClaimed b fresh v.place tree
@@ -115,6 +128,12 @@ module _ (a b : Bound Pass) (fresh : ℕ) (got : Claimed a fresh b) where
     tree_before =
         let there = root.there in
         let placed = got.place_is in omega (arith, there, placed);
+    apart = λ place lt same.
+        let before : place < length a.seat.me.own.held =
+        let placed = got.place_is in omega (arith, lt, placed) in
+        stood_nowhere place before
+        (sym (target_still a b (got.cell ∷ []) got.held place before) ∙ same
+        ∙ ap (λ (n : ℕ). target b.seat.me n) got.place_is ∙ last_held a b got.cell got.held);
   }
 
   pub claimed_room : (more : ℕ) → length a.seat.me.own.held + 128 ≤ a.seat.me.room → more ≤ 100
@@ -137,14 +156,13 @@ module _ (a b : Bound Pass) (fresh : ℕ) (got : Claimed a fresh b) where
     all_held = behind.held ∙ ap (λ (cs : List ℕ). cs ++ behind.cells) got.held
         ∙ append_assoc (held_cells a) (got.cell ∷ []) behind.cells
 
-    pub holds_all : Holds settled [] a d
+    pub holds_all : Holds [] a d
     holds_all = record {
       held = cut_held c d n p told a ((got.cell ∷ []) ++ behind.cells) is all_held;
-      known = known_then settled (length a.seat.me.own.held) a b d settled_lasts
-          (known_less (length a.seat.me.own.held) a b claimed_known)
-          (known_then settled (length a.seat.me.own.held) b c d settled_lasts
-          (subst (λ (k : ℕ). StaysKnown settled k b c) got.place_is behind.known)
-          (subst (λ (k : ℕ). StaysKnown settled k c d) is (cut_known c d n p told settled)));
+      known = known_then (length a.seat.me.own.held) a b d claimed_known
+          (known_then (length a.seat.me.own.held) b c d
+          (subst (λ (k : ℕ). StaysKnown k b c) got.place_is behind.known)
+          (subst (λ (k : ℕ). StaysKnown k c d) is (cut_known c d n p told)));
     }
 
     pub claims_all : d.seat.me.own.claims ≡ a.seat.me.own.claims + 1

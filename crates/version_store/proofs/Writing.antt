@@ -1,9 +1,10 @@
 -- What a write leaves that a picked pass goes with: the trail, the held list, and what is known.
-use Rattle.std.proofs.Common.{◌≡◌, ◌<◌, ℕ, Bool, true, false, List, [], ◌++◌}
+use Rattle.std.proofs.Common.{◌≡◌, ◌≢◌, ◌<◌, ℕ, Bool, true, false, List, [], ◌++◌, get_or}
 use Rattle.std.proofs.Common.{length, Result, Ok, Err, OnOk, IfErr, refl, sym, ◌∙◌, ap, subst}
 use Rattle.std.proofs.Common.{arith}
 use Rattle.std.proofs.lemmas.List.{append-nil}
 use Rattle.cell_words.specs.declared.fields.Field.{Field}
+use Rattle.cell_words.specs.declared.fields.Field.TheVariants as field
 use Rattle.core_machine.specs.declared.events.Event.{Event}
 use Rattle.core_machine.specs.declared.events.Found.{Found}
 use Rattle.core_machine.specs.declared.events.Found.TheVariants as finds
@@ -11,21 +12,21 @@ use Rattle.core_machine.specs.Words.{same_field}
 use Rattle.heap_rule.specs.declared.known.Known.{Known}
 use Rattle.heap_rule.specs.declared.known.Learned.{Learned}
 use Rattle.heap_rule.specs.declared.view.View.{View}
-use Rattle.heap_rule.specs.Asks.{known_of}
+use Rattle.heap_rule.specs.Asks.{known_of, target}
 use Rattle.heap_rule.specs.Boxes.{Map}
 use Rattle.heap_rule.specs.Lore.{known_at, known_stored_if, learned, was_made}
+use Rattle.heap_rule.proofs.Reading.{cell_there}
 use Rattle.mutator_events.specs.declared.values.Value.{Value}
 use Rattle.mutator_events.specs.Values.{field_at}
 use Rattle.mutator_seat.specs.Bound.{Bound, held_cells}
 use Rattle.mutator_seat.specs.Writes.{LookAndMarks, Updated, write_of}
-use Rattle.mutator_seat.proofs.Writes.{many_same}
+use Rattle.mutator_seat.proofs.Writes.{field_same, many_same}
 use Rattle.trails.specs.Asks.{nothing}
 use Rattle.version_rule.specs.Pass.{Pass}
 use Rattle.version_rule.specs.Versions.{is_fixed}
-use Rattle.version_store.specs.Calls.{Goes, StaysKnown, StillKnown, settled}
+use Rattle.version_store.specs.Calls.{Goes, StillKnown, known_fresh}
 use Rattle.version_store.proofs.Filling.{stored_still}
-use Rattle.version_store.proofs.Going.{calm_goes, goes_then, goes_told, kept_known, known_then}
-use Rattle.version_store.proofs.Going.{many_cells, settled_lasts, still_same}
+use Rattle.version_store.proofs.Going.{calm_goes, goes_then, goes_told, many_cells, still_same}
 
 -- whichever way the write ended
 pub either_way : {U : Field → Type 0} {M : Type 0} (found : M → Field) (expected : Field)
@@ -67,24 +68,44 @@ module _ (holds : Map → List Pass → Type 0) (next : Learned → Found → Pa
   cells = held_cells at
 
   stored_if : (made : Bool) (other : ℕ) → length at.seat.me.known ≡ length cells
-      → other < length cells → settled (known_of at.seat.me other) ≡ true
+      → other < length cells
+      → (known_fresh (known_of at.seat.me other) ≡ true
+      → get_or cells other 0 ≢ get_or cells place 0)
+      → (known_fresh (known_of at.seat.me other) ≡ true
+      → (c : ℕ) → field_at at.seat.me.own.held new ≡ field.Cell c → get_or cells other 0 ≢ c)
       → StillKnown (known_of at.seat.me other)
       (known_at (known_stored_if made cells at.seat.me.known place f
       (field_at at.seat.me.own.held new)) other)
-  stored_if true other many lt is = stored_still cells at.seat.me.known place f
-      (field_at at.seat.me.own.held new) many other lt is
-  stored_if false other many lt is = still_same (known_of at.seat.me other)
+  stored_if true other many lt apart unnamed = stored_still cells at.seat.me.known place f
+      (field_at at.seat.me.own.held new) many other lt apart unnamed
+  stored_if false other many lt apart unnamed = still_same (known_of at.seat.me other)
 
-  pub wrote_known : length a.seat.me.known ≡ length a.seat.me.own.held
-      → StaysKnown settled (length a.seat.me.own.held) a b
-  wrote_known many =
-      known_then settled (length a.seat.me.own.held) a at b settled_lasts
-      (kept_known settled (length a.seat.me.own.held) a at wrote.calm.kept)
-      (λ other lt is.
+  cell_at_is : (other : ℕ) → get_or cells other 0 ≡ target a.seat.me other
+  cell_at_is other = ap (λ (cs : List ℕ). get_or cs other 0) wrote.calm.kept.held
+      ∙ cell_there a.seat.me.own.held other
+
+  -- What was known at a place, which if it is fresh has another cell than the one that is written
+  -- and the one that the value names.
+  pub wrote_known : length a.seat.me.known ≡ length a.seat.me.own.held → (other : ℕ)
+      → other < length a.seat.me.own.held
+      → (known_fresh (known_of a.seat.me other) ≡ true
+      → target a.seat.me other ≢ target a.seat.me place)
+      → (known_fresh (known_of a.seat.me other) ≡ true
+      → (c : ℕ) → field_at a.seat.me.own.held new ≡ field.Cell c → target a.seat.me other ≢ c)
+      → StillKnown (known_of a.seat.me other) (known_of b.seat.me other)
+  wrote_known many other lt apart unnamed =
       let same = many_same at.seat.me.own.held a.seat.me.own.held wrote.calm.kept.held in
       let long = many_cells at in
       let known = ap (λ (ks : List Known). length ks) wrote.calm.kept.known in
-      subst (λ (k : Known). StillKnown (known_of at.seat.me other) k)
+      let here : known_of at.seat.me other ≡ known_of a.seat.me other =
+      ap (λ (ks : List Known). known_at ks other) wrote.calm.kept.known in
+      subst (λ (k : Known). StillKnown k (known_of b.seat.me other)) here
+      (subst (λ (k : Known). StillKnown (known_of at.seat.me other) k)
       (sym (ap (λ (u : View Pass). known_of u other) wrote.event.new))
       (stored_if (was_made (field_at at.seat.me.own.held old) (finds.Field found)) other
-      (omega (arith, known, many, long, same)) (omega (arith, lt, long, same)) is))
+      (omega (arith, known, many, long, same)) (omega (arith, lt, long, same))
+      (λ is on. apart (sym (ap known_fresh here) ∙ is)
+      (sym (cell_at_is other) ∙ on ∙ cell_at_is place))
+      (λ is c named on. unnamed (sym (ap known_fresh here) ∙ is) c
+      (sym (field_same at.seat.me.own.held a.seat.me.own.held wrote.calm.kept.held new) ∙ named)
+      (sym (cell_at_is other) ∙ on))))

@@ -44,10 +44,6 @@ StillKnown (knows.Boxed told) new =
     × ((f : ℕ) (t : Term) → f < 5 → is_fixed f ≡ true → slice_index_or told f None ≡ Some t
     → slice_index_or terms f None ≡ Some t))
 
--- whatever is known of a cell
-abbrev pub whatever : Known → Bool
-whatever k = true
-
 -- it is known as a record, or as a box that others may know
 abbrev pub settled : Known → Bool
 settled knows.Nothing = false
@@ -56,17 +52,24 @@ settled (knows.Fresh fields) = false
 settled (knows.Record t) = true
 settled (knows.Boxed told) = true
 
--- at each place below an end of which something was known that the test speaks of, this is known
--- still
-abbrev pub StaysKnown : (Known → Bool) → ℕ → Bound Pass → Bound Pass → Type 0
-StaysKnown said end old new = (place : ℕ) → place < end → said (known_of old.seat.me place) ≡ true
+-- it is known as fresh: a raw cell, or a box that nothing names yet
+abbrev pub known_fresh : Known → Bool
+known_fresh knows.Nothing = false
+known_fresh (knows.Raw fields) = true
+known_fresh (knows.Fresh fields) = true
+known_fresh (knows.Record t) = false
+known_fresh (knows.Boxed told) = false
+
+-- what was known at each place below an end is known there still
+abbrev pub StaysKnown : ℕ → Bound Pass → Bound Pass → Type 0
+StaysKnown end old new = (place : ℕ) → place < end
     → StillKnown (known_of old.seat.me place) (known_of new.seat.me place)
 
 -- The held list is as it was, with these cells behind it, and what was known of the old places is
 -- known still.
-pub record Holds (said : Known → Bool) (cells : List ℕ) (old new : Bound Pass) : Type 0 where
+pub record Holds (cells : List ℕ) (old new : Bound Pass) : Type 0 where
   pub held : held_cells new ≡ held_cells old ++ cells
-  pub known : StaysKnown said (length old.seat.me.own.held) old new
+  pub known : StaysKnown (length old.seat.me.own.held) old new
 
 -- the mutator is in, and the first of its places is the anchor
 pub record IsIn (m : Bound Pass) : Type 0 where
@@ -90,11 +93,14 @@ one_kind (knows.Boxed told) knows.Nothing = true
 one_kind (knows.Boxed told) (knows.Boxed others) = true
 one_kind (knows.Boxed told) _ = false
 
--- As a read shows: as much is known as there are places, and what is known fits together.
+-- As a read shows: as much is known as there are places, what is known fits together, and the
+-- anchor is not fresh.
 pub record IsCoherent (v : View Pass) : Type 0 where
   pub many : length v.known ≡ length v.own.held
   pub kinds : (one other : ℕ) → one < length v.own.held → other < length v.own.held
       → target v one ≡ target v other → one_kind (known_of v one) (known_of v other) ≡ true
+  pub anchor : (place : ℕ) → place < length v.own.held → target v place ≡ 0
+      → known_fresh (known_of v place) ≡ false
 
 -- a read of the anchor's field gave a cell, and a later one of this cell's field 0 gave a number
 abbrev pub version_asks : ℕ → ℕ → List Ask
@@ -109,7 +115,7 @@ cells_found (field.Cell c) = c ∷ []
 -- One read of this field of the cell at a place, which gave this.
 pub record WasRead (old new : Bound Pass) (place f : ℕ) (found : Field) : Type 0 where
   pub goes : Goes (gave_at (target old.seat.me place) f found ∷ []) old new
-  pub holds : Holds whatever (cells_found found) old new
+  pub holds : Holds (cells_found found) old new
   pub claims : new.seat.me.own.claims ≡ old.seat.me.own.claims
   pub coherent : IsCoherent old.seat.me
   pub many : length new.seat.me.known ≡ length new.seat.me.own.held

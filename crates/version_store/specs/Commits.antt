@@ -13,7 +13,9 @@ use Rattle.heap_rule.specs.Asks.{target}
 use Rattle.mutator_events.specs.Events.{AtEvent}
 use Rattle.mutator_seat.specs.Bound.{Bound}
 use Rattle.mutator_seat.specs.Stretches.{Calm}
-use Rattle.trails.specs.Claims.{FindsFull}
+use Rattle.trails.specs.Claims.{FindsFull, IsFull}
+use Rattle.trails.specs.Asks.{Shows}
+use Rattle.trails.specs.Stretches.{Had}
 use Rattle.version_rule.specs.Knowing.{next_made}
 use Rattle.version_rule.specs.Pass.{Pass, committed, seeing}
 use Rattle.version_rule.specs.Versions.{HoldsVersions, is_fixed}
@@ -22,6 +24,7 @@ use Rattle.version_store.specs.declared.fault.CommitFault.TheVariants as faults
 use Rattle.version_store.specs.declared.held.HeldVersion.{HeldVersion}
 use Rattle.version_store.specs.Calls.{Goes, version_asks}
 use Rattle.version_store.specs.Held.{root_at, term_at}
+use Rattle.version_store.specs.Lasts.{marks}
 
 -- the exchange of the anchor's field, from the box of the version at a place to this box
 abbrev pub write_over : View Pass → ℕ → ℕ → Event
@@ -65,3 +68,15 @@ Refused old new v (faults.Moved newer) = FindsNewer old new v newer
 Refused old new v (faults.Full full) = Calm (FindsFull old.seat.me.number old.seat.me.shape.cells
     full.off_duty full.began full.ended) old new
 Refused old new v faults.Worn = new ≡ old
+
+-- what the marks of the trail show of a newer version: its box from the anchor, then its number
+abbrev pub ShowsNewer : Bound Pass → Bound Pass → ℕ → Type 0
+ShowsNewer old new newer =
+    (cell : ℕ) × Shows (version_asks cell newer) (marks old) (marks new)
+
+-- and of a refusal: a newer version, or a claim that found the heap full
+abbrev pub ShowsRefusal : Bound Pass → Bound Pass → CommitFault → Type 0
+ShowsRefusal old new (faults.Moved newer) = ShowsNewer old new newer
+ShowsRefusal old new (faults.Full full) =
+    Had (IsFull old.seat.me.shape.cells) (marks old) (marks new)
+ShowsRefusal old new faults.Worn = Unit {0}

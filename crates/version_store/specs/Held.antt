@@ -12,7 +12,7 @@ use Rattle.trails.specs.Asks.{gave_at}
 use Rattle.version_rule.specs.Knowing.{KnowsVersion, root_told}
 use Rattle.version_rule.specs.Pass.{Pass, reading, seeing}
 use Rattle.version_store.specs.declared.held.HeldVersion.{HeldVersion}
-use Rattle.version_store.specs.Calls.{Goes, Holds, version_asks, whatever}
+use Rattle.version_store.specs.Calls.{Goes, Holds, version_asks}
 
 -- the place of the version holds a box that is neither the anchor nor fresh, with this number and
 -- with some root
@@ -45,7 +45,7 @@ pub record IsRecord (m : Bound Pass) (place : ℕ) : Type 0 where
 pub record GivesLatest (old new : Bound Pass) (v : HeldVersion) : Type 0 where
   pub cell : ℕ
   pub goes : Goes (version_asks cell v.number) old new
-  pub holds : Holds whatever (cell ∷ []) old new
+  pub holds : Holds (cell ∷ []) old new
   pub place_is : v.place ≡ length old.seat.me.own.held
   pub held : IsHeld new v
   pub not_below : old.seat.me.pass.seen ≤ v.number
@@ -60,7 +60,7 @@ pub record GivesRoot (is_tree : Term → Type 0) (tree_of : Term → DocTree) (o
     (v : HeldVersion) (place : ℕ) : Type 0 where
   pub cell : ℕ
   pub goes : Goes (gave_at (target old.seat.me v.place) 1 (field.Cell cell) ∷ []) old new
-  pub holds : Holds whatever (cell ∷ []) old new
+  pub holds : Holds (cell ∷ []) old new
   pub place_is : place ≡ length old.seat.me.own.held
   pub known : known_of new.seat.me place ≡ knows.Record (root_at old v.place)
   pub spells : is_tree (root_at old v.place)

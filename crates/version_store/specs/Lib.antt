@@ -5,3 +5,4 @@ pub mod Older
 pub mod Reads
 pub mod Walks
 pub mod Makes
+pub mod Lasts

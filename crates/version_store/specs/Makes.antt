@@ -8,7 +8,7 @@ use Rattle.heap_rule.specs.Asks.{known_of, target}
 use Rattle.heap_rule.specs.Lore.{five_nulls}
 use Rattle.mutator_seat.specs.Bound.{Bound, held_cells}
 use Rattle.version_rule.specs.Pass.{Pass}
-use Rattle.version_store.specs.Calls.{Goes, StaysKnown, StillKnown, settled}
+use Rattle.version_store.specs.Calls.{Goes, StaysKnown, StillKnown, known_fresh, settled}
 
 -- the cell at the last place was just claimed, and the version and the tree stand before it
 pub record IsClaimed (m : Bound Pass) (fresh latest tree : ℕ) : Type 0 where
@@ -17,6 +17,16 @@ pub record IsClaimed (m : Bound Pass) (fresh latest tree : ℕ) : Type 0 where
   pub last : length m.seat.me.own.held ≡ fresh + 1
   pub latest_before : latest < fresh
   pub tree_before : tree < fresh
+  pub apart : (place : ℕ) → place < fresh → target m.seat.me place ≢ target m.seat.me fresh
+
+-- The making leaves what is known at this place: it has another cell than the claimed one, and where
+-- this is fresh, than the version and the tree.
+pub record IsSpared (m : Bound Pass) (fresh latest tree place : ℕ) : Type 0 where
+  pub not_claimed : target m.seat.me place ≢ target m.seat.me fresh
+  pub not_latest : known_fresh (known_of m.seat.me place) ≡ true
+      → target m.seat.me place ≢ target m.seat.me latest
+  pub not_tree : known_fresh (known_of m.seat.me place) ≡ true
+      → target m.seat.me place ≢ target m.seat.me tree
 
 -- what the filling needs: the claimed cell is raw, and another than the version's and the tree's
 pub record MayMake (m : Bound Pass) (fresh latest tree : ℕ) : Type 0 where
@@ -39,8 +49,7 @@ pub record Makes (old new : Bound Pass) (fresh number latest tree : ℕ) : Type 
   pub box : known_of new.seat.me fresh ≡ knows.Fresh (field.Num number ∷
       field.Cell (target old.seat.me tree) ∷ field.Cell (target old.seat.me latest) ∷ field.Null ∷
       field.Null ∷ [])
-  pub known : (place : ℕ) → place < fresh → settled (known_of old.seat.me place) ≡ true
-      → target old.seat.me place ≢ target old.seat.me fresh
+  pub known : (place : ℕ) → place < fresh → IsSpared old fresh latest tree place
       → StillKnown (known_of old.seat.me place) (known_of new.seat.me place)
   pub pass : new.seat.me.pass ≡ old.seat.me.pass
   pub claims : new.seat.me.own.claims ≡ old.seat.me.own.claims
@@ -49,5 +58,5 @@ pub record Makes (old new : Bound Pass) (fresh number latest tree : ℕ) : Type 
 pub record Behind (fresh : ℕ) (old new : Bound Pass) : Type 0 where
   pub cells : List ℕ
   pub held : held_cells new ≡ held_cells old ++ cells
-  pub known : StaysKnown settled fresh old new
+  pub known : StaysKnown fresh old new
   pub claims : new.seat.me.own.claims ≡ old.seat.me.own.claims

@@ -4,7 +4,7 @@ use Rattle.std.specs.Prelude.{ℕ, ◌≡◌, ◌≤◌, ◌+◌, [], ◌∷◌,
 use Rattle.mutator_seat.specs.Bound.{Bound}
 use Rattle.version_rule.specs.Pass.{Pass, cutting}
 use Rattle.version_store.specs.declared.held.HeldVersion.{HeldVersion}
-use Rattle.version_store.specs.Calls.{Goes, Holds, settled, whatever}
+use Rattle.version_store.specs.Calls.{Goes, Holds}
 use Rattle.version_store.specs.Held.{IsHeld}
 
 -- The version so many below is held at the next place. The pass is as it was.
@@ -12,7 +12,7 @@ pub record GivesOlder (old new : Bound Pass) (v : HeldVersion) (back : ℕ) (old
     : Type 0 where
   pub cell : ℕ
   pub goes : Goes [] old new
-  pub holds : Holds whatever (cell ∷ []) old new
+  pub holds : Holds (cell ∷ []) old new
   pub place_is : older.place ≡ length old.seat.me.own.held
   pub number_is : older.number + back ≡ v.number
   pub held : IsHeld new older
@@ -23,7 +23,7 @@ pub record GivesOlder (old new : Bound Pass) (v : HeldVersion) (back : ℕ) (old
 -- before it. The held list is as it was.
 pub record Trims (old new : Bound Pass) (v : HeldVersion) (keep : ℕ) : Type 0 where
   pub goes : Goes [] old new
-  pub holds : Holds settled [] old new
+  pub holds : Holds [] old new
   pub cut : ℕ
   pub within : cut ≤ v.number
   pub due : v.number + 1 ≤ cut + keep

@@ -1,6 +1,6 @@
 //! The commit: a new box over the version that a mutator has, and one exchange of the anchor's
 //! field.
-ghost use Rattle.std.specs.Prelude.{◌≡◌, ◌<◌, ◌≤◌, ◌+◌, ◌↔◌, IfErr, IfOk, OnOk, length, [], false};
+ghost use Rattle.std.specs.Prelude.{◌≡◌, ◌<◌, ◌≤◌, ◌+◌, ◌↔◌, IfErr, IfOk, OnOk, length, [], true, false};
 ghost use Rattle.cell_words.specs.declared.fields.Field.TheVariants as field;
 ghost use Rattle.core_machine.specs.Words.{same_field};
 ghost use Rattle.free_cells.specs.Hints.{queue_of};
@@ -8,9 +8,10 @@ ghost use Rattle.heap_rule.specs.Asks.{target};
 ghost use Rattle.mutator_events.specs.declared.values.Value.TheVariants as values;
 ghost use Rattle.mutator_seat.specs.Writes.{MayUpdate, PicksUpdate, Updated};
 ghost use Rattle.version_rule.specs.Versions.{HoldsVersions, is_fixed};
-ghost use Rattle.version_store.specs.Calls.{Holds, IsIn, settled};
-ghost use Rattle.version_store.specs.Commits.{Committed, FindsNewer, Refused};
+ghost use Rattle.version_store.specs.Calls.{Holds, IsIn};
+ghost use Rattle.version_store.specs.Commits.{Committed, FindsNewer, Refused, ShowsRefusal};
 ghost use Rattle.version_store.specs.Held.{IsHeld, IsRecord, term_at};
+ghost use Rattle.version_store.specs.Lasts.{IsSameMutator, LastsAcross};
 ghost use Rattle.version_store.specs.Makes.{Behind, IsClaimed, Makes, MayMake};
 
 use crate::fault::CommitFault;
@@ -33,7 +34,7 @@ pub fn commit<S: Spelling, R: Wait>(
     tree: usize,
     versions: u64,
 ) -> Result<u64, CommitFault>
-    requires inside { IsIn m.old }
+    requires inside { m.old.seat.me.presence.inside ≡ true }
     requires room { length m.old.seat.me.own.held + 128 ≤ m.old.seat.me.room }
     requires version { IsHeld m.old v }
     requires root { IsRecord m.old tree }
@@ -44,8 +45,10 @@ pub fn commit<S: Spelling, R: Wait>(
     ensures rose { OnOk result (m.new.seat.me.own.claims ≡ m.old.seat.me.own.claims + 1) }
     ensures refused { IfErr result (λ fault. Refused m.old m.new v fault) }
     ensures worn { (result ≡ Err CommitFault.Worn) ↔ (v.number ≡ versions) }
-    ensures held { Holds settled [] m.old m.new }
-    ensures claims { m.old.seat.me.own.claims ≤ m.new.seat.me.own.claims }
+    ensures shows { IfErr result (λ fault. ShowsRefusal m.old m.new fault) }
+    ensures held { Holds [] m.old m.new }
+    ensures lasts { LastsAcross m.old m.new }
+    ensures same { IsSameMutator m.old m.new }
     ensures queue { queue_of hints.new ≡ queue_of hints.old }
 {
     if v.number == versions {

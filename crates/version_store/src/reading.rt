@@ -1,9 +1,13 @@
 //! Reading versions: the latest one, and the tree of one that is held.
-ghost use Rattle.std.specs.Prelude.{ℕ, ◌≡◌, ◌<◌, ◌≤◌, ◌+◌, length};
+ghost use Rattle.std.specs.Prelude.{ℕ, ◌≡◌, ◌<◌, ◌≤◌, ◌+◌, length, true, [], ◌∷◌};
 ghost use Rattle.cell_words.specs.Term.{Term};
+ghost use Rattle.cell_words.specs.declared.fields.Field.TheVariants as field;
+ghost use Rattle.heap_rule.specs.Asks.{target};
+ghost use Rattle.trails.specs.Asks.{Shows, gave_at};
 ghost use Rattle.version_rule.specs.Knowing.{KnowsVersion};
-ghost use Rattle.version_store.specs.Calls.{IsCoherent, IsIn};
+ghost use Rattle.version_store.specs.Calls.{IsCoherent, IsIn, version_asks};
 ghost use Rattle.version_store.specs.Held.{GivesLatest, GivesRoot, IsHeld};
+ghost use Rattle.version_store.specs.Lasts.{IsSameMutator, LastsAcross, marks};
 ghost use Rattle.version_store.specs.Reads.{FindsLatest, FindsNumber};
 
 use crate::held::HeldVersion;
@@ -14,12 +18,19 @@ use version_rule::{Spelling, Versions};
 /// The latest version. Two reads: of the anchor's field, and of the number of the box that it
 /// named. A newer one may be there by the time that this returns.
 pub fn current<S: Spelling>(m: &mut Mutator<'_, Versions<S>>) -> HeldVersion
-    requires inside { IsIn m.old }
+    requires inside { m.old.seat.me.presence.inside ≡ true }
     requires room { length m.old.seat.me.own.held + 128 ≤ m.old.seat.me.room }
     ensures latest { GivesLatest m.old m.new result }
     ensures seen { m.new.seat.me.pass.seen ≡ result.number }
+    ensures shows { Shows (version_asks (target m.new.seat.me result.place) result.number)
+        (marks m.old) (marks m.new) }
+    ensures lasts { LastsAcross m.old m.new }
+    ensures same { IsSameMutator m.old m.new }
 {
-    latest(m)
+    // Who is in holds the anchor first.
+    let _ = m.held_len();
+    let newest = latest(m);
+    newest
 }
 
 /// The latest version, where there is room for one place.
@@ -64,11 +75,17 @@ pub(crate) fn read_number<S: Spelling>(m: &mut Mutator<'_, Versions<S>>, place: 
 
 /// The root of the version's tree. One read, which the pass has from then on.
 pub fn tree<S: Spelling>(m: &mut Mutator<'_, Versions<S>>, v: HeldVersion) -> usize
-    requires inside { IsIn m.old }
+    requires inside { m.old.seat.me.presence.inside ≡ true }
     requires room { length m.old.seat.me.own.held + 128 ≤ m.old.seat.me.room }
     requires version { IsHeld m.old v }
     ensures root { GivesRoot S.is_tree S.tree_of m.old m.new v result }
+    ensures shows { Shows (gave_at (target m.old.seat.me v.place) 1
+        (field.Cell (target m.new.seat.me result)) ∷ []) (marks m.old) (marks m.new) }
+    ensures lasts { LastsAcross m.old m.new }
+    ensures same { IsSameMutator m.old m.new }
 {
+    // What is held is what the trail leaves.
+    let _ = m.held_len();
     match m.read::<Brand>(v.place, 1) {
         Value::Held(place) => place,
         Value::Null | Value::Num(_) => unreachable!(),

@@ -1,12 +1,14 @@
 //! Walking back along the links of versions: to an older version, and to the link that is due to be
 //! cut.
-ghost use Rattle.std.specs.Prelude.{◌≡◌, ◌<◌, ◌≤◌, ◌+◌, IfErr, IfNone, IfOk, IfSome, OnErr, length, []};
+ghost use Rattle.std.specs.Prelude.{◌≡◌, ◌<◌, ◌≤◌, ◌+◌, IfErr, IfNone, IfOk, IfSome, OnErr, length};
+ghost use Rattle.std.specs.Prelude.{[], true};
 ghost use Rattle.version_rule.specs.Versions.{HoldsVersions};
-ghost use Rattle.version_store.specs.Calls.{Holds, IsIn, whatever};
-ghost use Rattle.version_store.specs.Commits.{FindsNewer};
+ghost use Rattle.version_store.specs.Calls.{Holds, IsIn};
+ghost use Rattle.version_store.specs.Commits.{FindsNewer, ShowsNewer};
 ghost use Rattle.version_store.specs.Held.{IsHeld};
+ghost use Rattle.version_store.specs.Lasts.{IsSameMutator, LastsAcross};
 ghost use Rattle.version_store.specs.Older.{GivesOlder, Trims};
-ghost use Rattle.version_store.specs.Walks.{CutsOff, EndsThere, FollowsLink, LinkIsNull};
+ghost use Rattle.version_store.specs.Walks.{CutsOff, EndsThere, FollowsLink, LinkIsNull, LinkTaken};
 ghost use Rattle.version_store.specs.Walks.{PicksLink, Stopped, Walked};
 
 use crate::fault::Cut;
@@ -23,15 +25,18 @@ pub fn older<S: Spelling>(
     v: HeldVersion,
     back: u64,
 ) -> Result<HeldVersion, Cut>
-    requires inside { IsIn m.old }
+    requires inside { m.old.seat.me.presence.inside ≡ true }
     requires room { length m.old.seat.me.own.held + 128 ≤ m.old.seat.me.room }
     requires version { IsHeld m.old v }
     requires back { back ≤ v.number }
     requires kept { back < m.old.seat.me.pass.keep }
     ensures older { IfOk result (λ older. GivesOlder m.old m.new v back older) }
     ensures cut { IfErr result (λ cut. FindsNewer m.old m.new v cut.newer) }
-    ensures held { OnErr result (Holds whatever [] m.old m.new) }
+    ensures shows { IfErr result (λ cut. ShowsNewer m.old m.new cut.newer) }
+    ensures held { OnErr result (Holds [] m.old m.new) }
     ensures claims { m.new.seat.me.own.claims ≡ m.old.seat.me.own.claims }
+    ensures lasts { LastsAcross m.old m.new }
+    ensures same { IsSameMutator m.old m.new }
 {
     let held = m.held_len();
     match walk_back::<S, Brand>(m, v, back) {
@@ -55,12 +60,15 @@ pub fn older<S: Spelling>(
 /// Cuts off what is older than the `keep` versions up to this one: the link of the oldest of these
 /// becomes null, if the links still lead to it.
 pub fn trim<S: Spelling>(m: &mut Mutator<'_, Versions<S>>, v: HeldVersion, keep: u64)
-    requires inside { IsIn m.old }
+    requires inside { m.old.seat.me.presence.inside ≡ true }
     requires room { length m.old.seat.me.own.held + 128 ≤ m.old.seat.me.room }
     requires version { IsHeld m.old v }
     requires setting { keep ≡ m.old.seat.me.pass.keep }
     ensures trims { keep ≤ v.number → Trims m.old m.new v keep }
     ensures nothing { v.number < keep → m.new ≡ m.old }
+    ensures held { Holds [] m.old m.new }
+    ensures lasts { LastsAcross m.old m.new }
+    ensures same { IsSameMutator m.old m.new }
 {
     if keep <= v.number {
         let held = m.held_len();
@@ -165,7 +173,7 @@ fn take_link<S: Spelling>(
     requires later { before.number + 1 ≡ oldest.number }
     requires due { oldest.number + m.old.seat.me.pass.keep ≤ newest.number + 1 }
     requires many { length m.old.seat.me.known ≡ length m.old.seat.me.own.held }
-    ensures cut { LinkIsNull m.old m.new oldest }
+    ensures taken { LinkTaken m.old m.new oldest }
 {
     let _ = newest;
     let _ = m.update::<Brand>(oldest.place, 2, Value::Held(before.place), Value::Null);

@@ -1,53 +1,46 @@
 -- What each call adds to what a test knows.
-use Rattle.std.proofs.Common.{◌≡◌, ◌≤◌, ◌+◌, ℕ, Bool, true, List, [], ◌∷◌, length, Option, Result, Ok}
-use Rattle.std.proofs.Common.{◌<◌, inl, inr, Err, OnOk, IfErr, refl, sym, ◌∙◌, ap, subst, arith}
+use Rattle.std.proofs.Common.{◌≡◌, ◌≤◌, ◌<◌, ◌+◌, ℕ, true, List, [], ◌∷◌, length, Result, Ok, Err}
+use Rattle.std.proofs.Common.{inl, inr, OnOk, IfErr, refl, sym, ◌∙◌, ap, subst, arith}
 use Rattle.std.proofs.lemmas.Bool.{cases_lt}
 use Rattle.std.proofs.lemmas.List.{length_push}
 use Rattle.cell_words.specs.Term.{Term}
+use Rattle.core_machine.specs.declared.events.Event.TheVariants as event
+use Rattle.core_machine.specs.declared.events.Found.{Found}
 use Rattle.core_machine.specs.declared.events.Taken.{Taken}
 use Rattle.doc_tree.specs.Tree.{DocTree}
-use Rattle.heap_rule.specs.declared.known.Known.{Known}
-use Rattle.heap_rule.specs.declared.known.Known.TheVariants as knows
-use Rattle.mutator_seat.specs.Bound.{Bound}
-use Rattle.trails.specs.Asks.{Ask}
-use Rattle.trails.specs.Claims.{FindsFull}
-use Rattle.version_rule.specs.Pass.{Commit, Pass}
+use Rattle.heap_table.specs.Seats.{HeapId, SeatView}
+use Rattle.mutator_events.specs.Events.{tells}
+use Rattle.mutator_seat.specs.Bound.{Bound, takes}
+use Rattle.mutator_seat.specs.Stretches.{Calm}
+use Rattle.mutator_seat.proofs.Writes.{many_same}
+use Rattle.version_rule.specs.Pass.{Pass}
 use Rattle.version_store.specs.declared.fault.CommitFault.{CommitFault}
 use Rattle.version_store.specs.declared.fault.CommitFault.TheVariants as faults
 use Rattle.version_store.specs.declared.held.HeldVersion.{HeldVersion}
-use Rattle.version_store.specs.Calls.{Goes, Holds, IsIn, settled, whatever}
+use Rattle.version_store.specs.Calls.{Holds}
 use Rattle.version_store.specs.Commits.{Committed, Refused}
 use Rattle.version_store.specs.Held.{GivesLatest, GivesRoot, IsHeld, root_at, term_at}
+use Rattle.version_store.specs.Lasts.{IsSameMutator, LastsAcross}
 use Rattle.version_store.specs.Older.{Trims}
-use Rattle.version_store.proofs.Going.{calm_goes, in_still, many_held, version_still}
-use Rattle.version_tests.specs.Grows.{Grows}
+use Rattle.version_store.proofs.Going.{calm_goes, cut_goes, many_held, version_still}
+use Rattle.version_store.proofs.Lasting.{goes_same, same_still, same_then}
+use Rattle.version_tests.specs.Grows.{Grows, IsOf, IsOver, Works}
 
-pub grows_by : (said : Known → Bool) (cells : List ℕ) (asks : List Ask) (commits : ℕ)
-    (a b : Bound Pass) → ((told : List (Option Term)) → said (knows.Boxed told) ≡ true) → IsIn a
-    → Goes asks a b → Holds said cells a b → b.seat.me.pass.keep ≡ a.seat.me.pass.keep
+-- A call, by what lasts across it and by its places.
+pub grows_by : (cells : List ℕ) (commits : ℕ) (a b : Bound Pass) → IsSameMutator a b
+    → LastsAcross a b → Holds cells a b
     → length b.seat.me.pass.commits ≤ length a.seat.me.pass.commits + commits
     → Grows (length cells) commits a b
-grows_by said cells asks commits a b speaks is goes holds keep made = record {
-  inside = in_still a b cells asks is goes holds.held;
+grows_by cells commits a b same lasts holds made = record {
+  same = same;
   held = let many = many_held a b cells holds.held in omega (arith, many);
-  room = goes.room;
-  keep = keep;
+  keep = lasts.keep;
   made = made;
   versions = λ v held. record {
     root = held.root;
-    knows = version_still said (length a.seat.me.own.held) cells a b speaks holds.known holds.held
-        v.place v.number held.root held.knows.there held.knows;
+    knows = version_still (length a.seat.me.own.held) cells a b holds.known holds.held v.place
+        v.number held.root held.knows.there held.knows;
   };
-}
-
-pub grows_same : (a : Bound Pass) → IsIn a → Grows 0 0 a a
-grows_same a is = record {
-  inside = is;
-  held = omega arith;
-  room = refl;
-  keep = refl;
-  made = omega arith;
-  versions = λ v held. held;
 }
 
 pub grows_then : (p q r s : ℕ) (a b c : Bound Pass) → Grows p q a b → Grows r s b c
@@ -58,9 +51,8 @@ grows_then p q r s a b c first second =
     let three = first.made in
     let four = second.made in
     record {
-      inside = second.inside;
+      same = same_then a b c first.same second.same;
       held = omega (arith, one, two);
-      room = second.room ∙ first.room;
       keep = second.keep ∙ first.keep;
       made = omega (arith, three, four);
       versions = λ v held. second.versions v (first.versions v held);
@@ -72,60 +64,106 @@ same_commits : (a b : Bound Pass) (p : Pass) → b.seat.me.pass ≡ p
 same_commits a b p is same =
     let e = ap (λ (q : Pass). length q.commits) is in omega (arith, e, same)
 
-pub grows_latest : (a b : Bound Pass) (v : HeldVersion) → IsIn a → GivesLatest a b v
-    → Grows 1 0 a b
-grows_latest a b v is gives = grows_by whatever (gives.cell ∷ []) _ 0 a b (λ told. refl) is
-    gives.goes gives.holds (ap (λ (p : Pass). p.keep) gives.pass)
+pub grows_latest : (a b : Bound Pass) (v : HeldVersion) → GivesLatest a b v → IsSameMutator a b
+    → LastsAcross a b → Grows 1 0 a b
+grows_latest a b v gives same lasts = grows_by (gives.cell ∷ []) 0 a b same lasts gives.holds
     (same_commits a b _ gives.pass refl)
 
 pub grows_root : (is_tree : Term → Type 0) (tree_of : Term → DocTree) (a b : Bound Pass)
-    (v : HeldVersion) (place : ℕ) → IsIn a → GivesRoot is_tree tree_of a b v place
-    → Grows 1 0 a b
-grows_root is_tree tree_of a b v place is gives = grows_by whatever (gives.cell ∷ []) _ 0 a b
-    (λ told. refl) is gives.goes gives.holds (ap (λ (p : Pass). p.keep) gives.pass)
-    (same_commits a b _ gives.pass refl)
-
-pub grows_trim : (a b : Bound Pass) (v : HeldVersion) (keep : ℕ) → IsIn a → Trims a b v keep
-    → Grows 0 0 a b
-grows_trim a b v keep is trims = grows_by settled [] _ 0 a b (λ told. refl) is trims.goes
-    trims.holds (ap (λ (p : Pass). p.keep) trims.pass) (same_commits a b _ trims.pass refl)
+    (v : HeldVersion) (place : ℕ) → GivesRoot is_tree tree_of a b v place → IsSameMutator a b
+    → LastsAcross a b → Grows 1 0 a b
+grows_root is_tree tree_of a b v place gives same lasts =
+    grows_by (gives.cell ∷ []) 0 a b same lasts gives.holds (same_commits a b _ gives.pass refl)
 
 -- a commit, made or refused
-pub grows_commit : (is_tree : Term → Type 0) (tree_of : Term → DocTree) (a b : Bound Pass)
-    (v : HeldVersion) (tree : ℕ) (r : Result ℕ CommitFault) → IsIn a → Holds settled [] a b
+commit_made : (is_tree : Term → Type 0) (tree_of : Term → DocTree) (a b : Bound Pass)
+    (v : HeldVersion) (tree : ℕ) (r : Result ℕ CommitFault)
     → OnOk r (Committed is_tree tree_of a b v tree) → IfErr r (λ fault. Refused a b v fault)
-    → Grows 0 1 a b
-grows_commit is_tree tree_of a b v tree (Ok n) is holds made refused =
-    grows_by settled [] _ 1 a b (λ told. refl) is made.goes holds
-    (ap (λ (p : Pass). p.keep) made.pass)
-    (let e = ap (λ (p : Pass). length p.commits) made.pass in
+    → length b.seat.me.pass.commits ≤ length a.seat.me.pass.commits + 1
+commit_made is_tree tree_of a b v tree (Ok n) made refused =
+    let e = ap (λ (p : Pass). length p.commits) made.pass in
     let more = length_push a.seat.me.pass.commits (record {
       number = v.number + 1;
       before = tree_of (root_at a v.place);
       made = tree_of (term_at a tree);
-    }) in omega (arith, e, more))
-grows_commit is_tree tree_of a b v tree (Err (faults.Moved newer)) is holds made refused =
-    grows_by settled [] _ 1 a b (λ told. refl) is refused.goes holds
-    (ap (λ (p : Pass). p.keep) refused.pass)
-    (let e = same_commits a b _ refused.pass refl in omega (arith, e))
-grows_commit is_tree tree_of a b v tree (Err (faults.Full full)) is holds made refused =
-    grows_by settled [] _ 1 a b (λ told. refl) is
-    (calm_goes (FindsFull a.seat.me.number a.seat.me.shape.cells full.off_duty full.began
-    full.ended) a b refused) holds (ap (λ (p : Pass). p.keep) refused.kept.pass)
-    (let e = same_commits a b _ refused.kept.pass refl in omega (arith, e))
-grows_commit is_tree tree_of a b v tree (Err faults.Worn) is holds made refused =
-    subst (λ (m : Bound Pass). Grows 0 1 a m) (sym refused) record {
-      inside = is;
-      held = omega arith;
-      room = refl;
-      keep = refl;
-      made = omega arith;
-      versions = λ w held. held;
+    }) in omega (arith, e, more)
+commit_made is_tree tree_of a b v tree (Err (faults.Moved newer)) made refused =
+    let e = same_commits a b _ refused.pass refl in omega (arith, e)
+commit_made is_tree tree_of a b v tree (Err (faults.Full full)) made refused =
+    let e = same_commits a b _ refused.kept.pass refl in omega (arith, e)
+commit_made is_tree tree_of a b v tree (Err faults.Worn) made refused =
+    let e = ap (λ (m : Bound Pass). length m.seat.me.pass.commits) refused in omega (arith, e)
+
+pub grows_commit : (is_tree : Term → Type 0) (tree_of : Term → DocTree) (a b : Bound Pass)
+    (v : HeldVersion) (tree : ℕ) (r : Result ℕ CommitFault) → Holds [] a b
+    → OnOk r (Committed is_tree tree_of a b v tree) → IfErr r (λ fault. Refused a b v fault)
+    → IsSameMutator a b → LastsAcross a b → Grows 0 1 a b
+grows_commit is_tree tree_of a b v tree r holds made refused same lasts =
+    grows_by [] 1 a b same lasts holds (commit_made is_tree tree_of a b v tree r made refused)
+
+pub grows_pruned : (a b : Bound Pass) (v : HeldVersion) (keep : ℕ)
+    → (keep ≤ v.number → Trims a b v keep) → (v.number < keep → b ≡ a) → Holds [] a b
+    → IsSameMutator a b → LastsAcross a b → Grows 0 0 a b
+grows_pruned a b v keep trims nothing holds same lasts = grows_by [] 0 a b same lasts holds
+    (elim (cases_lt v.number keep) [
+      | inl lt ↦ let e = ap (λ (m : Bound Pass). length m.seat.me.pass.commits) (nothing lt) in
+          omega (arith, e)
+      | inr le ↦ let trimmed = trims le in same_commits a b _ trimmed.pass refl
+    ])
+
+-- What a test works with.
+
+pub works_grown : (p q commits more keep : ℕ) (a b : Bound Pass) → Works p commits keep a
+    → Grows q more a b → Works (p + q) (commits + more) keep b
+works_grown p q commits more keep a b works grows =
+    let one = works.held in
+    let two = grows.held in
+    let three = works.made in
+    let four = grows.made in
+    record {
+      inside = grows.same.inside ∙ works.inside;
+      held = omega (arith, one, two);
+      room = subst (λ (n : ℕ). 300 ≤ n) (sym grows.same.room) works.room;
+      keep_is = grows.keep ∙ works.keep_is;
+      made = omega (arith, three, four);
     }
 
-pub grows_pruned : (a b : Bound Pass) (v : HeldVersion) (keep : ℕ) → IsIn a
-    → (keep ≤ v.number → Trims a b v keep) → (v.number < keep → b ≡ a) → Grows 0 0 a b
-grows_pruned a b v keep is trims nothing = elim (cases_lt v.number keep) [
-  | inl lt ↦ subst (λ (m : Bound Pass). Grows 0 0 a m) (sym (nothing lt)) (grows_same a is)
-  | inr le ↦ grows_trim a b v keep is (trims le)
-]
+pub cut_same : (a b : Bound Pass) (n : ℕ) (p : Found)
+    → b ≡ takes a (event.Keep a.seat.me.number n 0 0) p → IsSameMutator a b
+cut_same a b n p told = goes_same a b (cut_goes a b n p told)
+
+pub calm_same : (F : List Taken → Type 0) (a b : Bound Pass) → Calm F a b → IsSameMutator a b
+calm_same F a b calm = goes_same a b (calm_goes F a b calm)
+
+-- what a stretch keeps that picks no pass
+pub works_calm : (F : List Taken → Type 0) (p commits keep : ℕ) (a b : Bound Pass)
+    → Works p commits keep a → Calm F a b → Works p commits keep b
+works_calm F p commits keep a b works calm = record {
+  inside = calm.kept.inside ∙ works.inside;
+  held = let same = many_same b.seat.me.own.held a.seat.me.own.held calm.kept.held in
+      let held = works.held in omega (arith, same, held);
+  room = subst (λ (n : ℕ). 300 ≤ n) (sym calm.kept.room) works.room;
+  keep_is = ap (λ (q : Pass). q.keep) calm.kept.pass ∙ works.keep_is;
+  made = subst (λ (q : Pass). length q.commits ≤ commits) (sym calm.kept.pass) works.made;
+}
+
+pub of_still : (heap : HeapId) (a b : Bound Pass) → IsOf heap a → IsSameMutator a b → IsOf heap b
+of_still heap a b is same = record {
+  heap_is = same.heap ∙ is.heap_is;
+  seat_is = (same.table ∙ is.seat_is.0, same.shape ∙ is.seat_is.1);
+}
+
+-- out, and over
+pub ends_over : (heap : HeapId) (a b : Bound Pass) (c : SeatView Pass) (p q : Found) → IsOf heap a
+    → b ≡ takes a (event.End a.seat.me.number) p
+    → c ≡ tells b.seat (event.Over b.seat.me.number) q → c.me.presence.over ≡ true
+    → IsOver heap c
+ends_over heap a b c p q is out told over = record {
+  seat_is = (
+    ap (λ (s : SeatView Pass). s.table) told ∙ ap (λ (m : Bound Pass). m.seat.table) out
+        ∙ is.seat_is.0,
+    ap (λ (s : SeatView Pass). s.me.shape) told ∙ ap (λ (m : Bound Pass). m.seat.me.shape) out
+        ∙ is.seat_is.1,
+  );
+  over = over;
+}

@@ -1,12 +1,11 @@
 -- A new store, and a mutator that comes in.
 use Rattle.std.proofs.Common.{◌≡◌, ◌≤◌, ℕ, true, List, [], ◌∷◌, length, refl, sym, ◌∙◌, ap, subst}
-use Rattle.std.proofs.Common.{arith, get_or}
+use Rattle.std.proofs.Common.{arith}
 use Rattle.cell_words.specs.declared.fields.Field.{Field}
 use Rattle.cell_words.specs.Term.{IsFive}
 use Rattle.core_machine.specs.declared.events.Event.TheVariants as event
 use Rattle.core_machine.specs.declared.events.Found.{Found}
 use Rattle.doc_tree.specs.Tree.{empty}
-use Rattle.heap_rule.proofs.Reading.{cell_there}
 use Rattle.heap_table.specs.Opening.{Opens}
 use Rattle.heap_table.specs.Seats.{HeapId, SeatView}
 use Rattle.mutator_seat.specs.Bound.{Bound, held_cells, takes}
@@ -15,23 +14,23 @@ use Rattle.version_rule.specs.Pass.{Commit, Pass, opening_pass}
 use Rattle.version_rule.specs.Versions.{HoldsVersions}
 use Rattle.version_rule.proofs.Openings.{firsts, opened}
 use Rattle.version_store.proofs.Going.{many_cells}
-use Rattle.version_tests.specs.Grows.{IsNew, Works}
+use Rattle.version_tests.specs.Grows.{IsNew, IsOf, Works}
 
-pub opens : (cells keep : ℕ) (rows : List (List Field)) → rows ≡ first_rows → 1 ≤ keep
-    → keep ≤ 100
+pub opens : (cells mutators keep : ℕ) (rows : List (List Field)) → rows ≡ first_rows
+    → mutators ≤ 64 → 1 ≤ keep → keep ≤ 100
     → Opens opening_pass (HoldsVersions IsFive (λ t. empty))
-    record { cells = cells; mutators = 3; setting = keep; first = rows }
-opens cells keep rows is least most =
+    record { cells = cells; mutators = mutators; setting = keep; first = rows }
+opens cells mutators keep rows is some least most =
     subst (λ (first : List (List Field)). Opens opening_pass (HoldsVersions IsFive (λ t. empty))
-    record { cells = cells; mutators = 3; setting = keep; first = first }) (sym is) (
+    record { cells = cells; mutators = mutators; setting = keep; first = first }) (sym is) (
       first_terms,
       firsts,
       opened IsFive (λ t. empty) tt refl
-          record { cells = cells; mutators = 3; setting = keep; first = first_rows } record {
+          record { cells = cells; mutators = mutators; setting = keep; first = first_rows } record {
             first = refl;
             keeps_some = least;
             keeps_few = most;
-            few = omega arith;
+            few = some;
           },
     )
 
@@ -44,12 +43,7 @@ comes_in heap seat keep found b new told inside held =
     let one = ap (λ (cs : List ℕ). length cs) held in
     let pass = ap (λ (m : Bound Pass). m.seat.me.pass) told in
     record {
-      inside = record {
-        inside = inside;
-        some = omega (arith, many, one);
-        anchor = sym (cell_there b.seat.me.own.held 0)
-            ∙ ap (λ (cs : List ℕ). get_or cs 0 0) held;
-      };
+      inside = inside;
       held = omega (arith, many, one);
       room = let same = ap (λ (m : Bound Pass). m.seat.me.room) told in
           let room = new.room in omega (arith, same, room);
@@ -58,3 +52,15 @@ comes_in heap seat keep found b new told inside held =
           let none = ap (λ (p : Pass). length p.commits) pass
           ∙ ap (λ (cs : List Commit). length cs) new.none_made in omega (arith, none);
     }
+
+pub is_of : (heap : HeapId) (seat : SeatView Pass) (keep : ℕ) (found : Found) (b : Bound Pass)
+    → IsNew heap keep seat
+    → b ≡ takes (record { heap = heap; seat = seat }) (event.Begin seat.me.number) found
+    → IsOf heap b
+is_of heap seat keep found b new told = record {
+  heap_is = ap (λ (m : Bound Pass). m.heap) told;
+  seat_is = (
+    ap (λ (m : Bound Pass). m.seat.table) told ∙ new.seat_is.0,
+    ap (λ (m : Bound Pass). m.seat.me.shape) told ∙ new.seat_is.1,
+  );
+}

@@ -1,13 +1,13 @@
 -- What a test knows of a mutator between two calls.
 -- Source: this project's.
-use Rattle.std.specs.Prelude.{ℕ, ◌≡◌, ◌≤◌, ◌+◌, [], length}
+use Rattle.std.specs.Prelude.{ℕ, ◌≡◌, ◌≤◌, ◌+◌, true, [], length}
 use Rattle.heap_rule.specs.Asks.{MayComeIn}
 use Rattle.heap_table.specs.Seats.{HeapId, IsSeatOf, SeatView}
 use Rattle.mutator_seat.specs.Bound.{Bound}
 use Rattle.version_rule.specs.Pass.{Pass}
 use Rattle.version_store.specs.declared.held.HeldVersion.{HeldVersion}
-use Rattle.version_store.specs.Calls.{IsIn}
 use Rattle.version_store.specs.Held.{IsHeld}
+use Rattle.version_store.specs.Lasts.{IsSameMutator}
 
 -- a seat that was just split off, with much room
 pub record IsNew (heap : HeapId) (keep : ℕ) (seat : SeatView Pass) : Type 0 where
@@ -17,9 +17,19 @@ pub record IsNew (heap : HeapId) (keep : ℕ) (seat : SeatView Pass) : Type 0 wh
   pub keep_is : seat.me.pass.keep ≡ keep
   pub none_made : seat.me.pass.commits ≡ []
 
+-- a seat of a mutator that is over
+pub record IsOver (heap : HeapId) (seat : SeatView Pass) : Type 0 where
+  pub seat_is : IsSeatOf heap seat
+  pub over : seat.me.presence.over ≡ true
+
+-- a mutator of this heap
+pub record IsOf (heap : HeapId) (m : Bound Pass) : Type 0 where
+  pub heap_is : m.heap ≡ heap
+  pub seat_is : IsSeatOf heap m.seat
+
 -- a mutator that is in, with no more than so many places and commits
 pub record Works (places commits keep : ℕ) (m : Bound Pass) : Type 0 where
-  pub inside : IsIn m
+  pub inside : m.seat.me.presence.inside ≡ true
   pub held : length m.seat.me.own.held ≤ places
   pub room : 300 ≤ m.seat.me.room
   pub keep_is : m.seat.me.pass.keep ≡ keep
@@ -27,9 +37,8 @@ pub record Works (places commits keep : ℕ) (m : Bound Pass) : Type 0 where
 
 -- what a call adds to that, and which versions are held still
 pub record Grows (places commits : ℕ) (old new : Bound Pass) : Type 0 where
-  pub inside : IsIn new
+  pub same : IsSameMutator old new
   pub held : length new.seat.me.own.held ≤ length old.seat.me.own.held + places
-  pub room : new.seat.me.room ≡ old.seat.me.room
   pub keep : new.seat.me.pass.keep ≡ old.seat.me.pass.keep
   pub made : length new.seat.me.pass.commits ≤ length old.seat.me.pass.commits + commits
   pub versions : (v : HeldVersion) → IsHeld old v → IsHeld new v

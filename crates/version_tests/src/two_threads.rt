@@ -1,53 +1,23 @@
-//! Two mutators on threads of their own that commit against each other. What is asserted stands on
-//! every schedule.
+//! Two mutators on threads of their own that commit against each other, beside a collector that
+//! serves. What is asserted stands on every schedule.
+ghost use Rattle.std.specs.Prelude.{◌≡◌};
+ghost use Rattle.free_cells.specs.Hints.{cells_of as hinted_of};
 ghost use Rattle.free_cells.specs.Passes.{IsHintPass};
-ghost use Rattle.version_tests.specs.Grows.{IsNew};
+ghost use Rattle.heap_table.specs.Seats.{IsSeatOf};
+ghost use Rattle.version_tests.specs.Grows.{IsNew, IsOver};
+ghost use Rattle.version_tests.specs.Serves.{IsIdle};
 
 use crate::bare::Store;
-use crate::opening::{Opened, come_in, open_store};
-use crate::working::{commit_one, look, oldest, prune_latest};
-use cell_heap::{CellHeap, MutSeat, NoMemory};
-use free_cells::{FreeQueue, HintPass};
-use std::alloc::Global;
-use std::sync::Wait;
+use crate::clients::{Client, Done, EACH, KEEP, run_both};
+use crate::opening::{Served, open_served};
+use crate::serving::{Chain, chain_of, close_two, serve_on};
+use collector::MarkStack;
+use free_cells::FreeQueue;
 use std::test::Fail;
 use std::thread;
 
-const CELLS: u32 = 60_000;
-
-const KEEP: u64 = 5;
-
-/// How many commits each thread makes, and how often it tries at most.
-const EACH: usize = 5_000;
-
-const TRIES: u32 = 25_000;
-
-/// Commits again and again, and gives the numbers of what it made.
-fn commit_many<R: Wait>(
-    rt: &R,
-    alloc: Global,
-    heap: &CellHeap<Store>,
-    queue: &FreeQueue,
-    seat: MutSeat<Store>,
-    pass: HintPass,
-) -> Result<Vec<u64>, NoMemory>
-    requires seat { IsNew heap.now KEEP seat }
-    requires pass { IsHintPass queue.now pass }
-{
-    let mut hints = queue.hints(pass);
-    let mut m = come_in(heap, seat, KEEP);
-    let mut numbers = Vec::new(alloc);
-    for round in 0..TRIES {
-        if let Ok(number) = commit_one(rt, &mut hints, &mut m, KEEP, round, 1_000_000) {
-            numbers.push(number)?;
-        }
-        let _ = prune_latest(&mut m, KEEP, round + 1);
-        if numbers.len() >= EACH {
-            return Ok(numbers);
-        }
-    }
-    Ok(numbers)
-}
+/// Far fewer than the commits, so that cells are claimed again and again.
+const CELLS: u32 = 2_000;
 
 /// Whether these are all numbers from 1 on, each once, where each list rises.
 fn are_all(first: &[u64], second: &[u64]) -> bool {
@@ -68,31 +38,40 @@ fn are_all(first: &[u64], second: &[u64]) -> bool {
 #[test]
 fn each_number_is_made_once_and_the_chain_is_kept(rt: HostRuntime) -> Result<(), Fail> {
     let alloc = rt.alloc();
-    let Opened {
+    let stack = MarkStack::with_room(alloc, 64)?;
+    let (queue, mut pass) = FreeQueue::open(alloc, &rt, CELLS, 3)?;
+    let one = queue.split(&mut pass)?;
+    let two = queue.split(&mut pass)?;
+    let Served {
         heap,
+        mut collector,
         first,
         second,
-        third,
-    } = open_store(alloc, CELLS, KEEP)?;
-    let (queue, mut pass) = FreeQueue::open(alloc, &rt, CELLS, 3)?;
-    let other = queue.split(&mut pass)?;
+    } = open_served(alloc, CELLS, KEEP)?;
+    let first = Client::new(alloc, first, one)?;
+    let second = Client::new(alloc, second, two)?;
+    collector.duty(&heap, true);
     let shared = &heap;
     let hints = &queue;
-    let (one, two) = thread::join(
+    let ((collector, _), (one, two)) = thread::join(
         &rt,
         move ||
-            requires { IsNew shared.now KEEP first × IsHintPass hints.now pass }
-        { commit_many(&rt, alloc, shared, hints, first, pass) },
-        move ||
-            requires { IsNew shared.now KEEP second × IsHintPass hints.now other }
-        { commit_many(&rt, alloc, shared, hints, second, other) },
+            requires { IsIdle shared.now collector × IsHintPass hints.now pass × (hinted_of hints.now ≡ shared.now.shape.cells) }
+            ensures { IsSeatOf shared.entry.now result.0 }
+        { serve_on(&rt, shared, collector, stack, hints, pass) },
+        move || -> (Done, Done)
+            requires { IsNew shared.now KEEP first.seat × IsHintPass hints.now first.pass
+                × IsNew shared.now KEEP second.seat × IsHintPass hints.now second.pass }
+            ensures { IsOver shared.entry.now result.0.seat × IsOver shared.entry.now result.1.seat }
+        { run_both(&rt, shared, hints, first, second) },
     );
-    let (one, two) = (one?, two?);
-    assert_eq!(rt; (one.len(), two.len()), (EACH, EACH));
-    assert!(rt; are_all(one.as_slice(), two.as_slice()));
-    let mut m = come_in(&heap, third, KEEP);
-    let newest = look(&mut m);
-    assert_eq!(rt; newest.number, 10_000);
-    assert_eq!(rt; oldest(&mut m, newest, KEEP), Some(9_996));
+    assert_eq!(rt; (one.numbers.len(), two.numbers.len()), (EACH, EACH));
+    assert!(rt; are_all(one.numbers.as_slice(), two.numbers.as_slice()));
+    let image = close_two(heap, collector, one.seat, two.seat);
+    let kept = Chain {
+        newest: Some(20_000),
+        versions: 5,
+    };
+    assert_eq!(rt; chain_of(&image), kept);
     Ok(())
 }

@@ -1,7 +1,7 @@
 //! The calls on versions, as the tests make them.
-ghost use Rattle.std.specs.Prelude.{◌≡◌, ◌<◌, ◌≤◌, ◌+◌, IfOk, IfSome, length};
-ghost use Rattle.version_store.specs.Calls.{IsIn};
+ghost use Rattle.std.specs.Prelude.{◌≡◌, ◌<◌, ◌≤◌, ◌+◌, length, true};
 ghost use Rattle.version_store.specs.Held.{IsHeld};
+ghost use Rattle.version_store.specs.Lasts.{IsSameMutator};
 ghost use Rattle.version_tests.specs.Grows.{Grows, Works};
 
 use crate::bare::Store;
@@ -13,7 +13,7 @@ use version_store::{CommitFault, Cut, HeldVersion, commit, current, older, tree,
 
 /// The latest version.
 pub(crate) fn look(m: &mut Mutator<'_, Store>) -> HeldVersion
-    requires inside { IsIn m.old }
+    requires inside { m.old.seat.me.presence.inside ≡ true }
     requires room { length m.old.seat.me.own.held + 129 ≤ m.old.seat.me.room }
     ensures grows { Grows 1 0 m.old m.new }
     ensures held { IsHeld m.new result }
@@ -29,7 +29,7 @@ pub(crate) fn put<R: Wait>(
     v: HeldVersion,
     versions: u64,
 ) -> Result<u64, CommitFault>
-    requires inside { IsIn m.old }
+    requires inside { m.old.seat.me.presence.inside ≡ true }
     requires room { length m.old.seat.me.own.held + 129 ≤ m.old.seat.me.room }
     requires few { length m.old.seat.me.pass.commits < 100000 }
     requires version { IsHeld m.old v }
@@ -46,7 +46,7 @@ pub(crate) fn back(
     steps: u64,
     keep: u64,
 ) -> Option<Result<HeldVersion, Cut>>
-    requires inside { IsIn m.old }
+    requires inside { m.old.seat.me.presence.inside ≡ true }
     requires room { length m.old.seat.me.own.held + 129 ≤ m.old.seat.me.room }
     requires keep { m.old.seat.me.pass.keep ≡ keep }
     requires version { IsHeld m.old v }
@@ -60,7 +60,7 @@ pub(crate) fn back(
 
 /// Whether a version that is held has no link any more.
 pub(crate) fn ends_chain(m: &mut Mutator<'_, Store>, v: HeldVersion) -> bool
-    requires inside { IsIn m.old }
+    requires inside { m.old.seat.me.presence.inside ≡ true }
     requires room { length m.old.seat.me.own.held + 129 ≤ m.old.seat.me.room }
     requires version { IsHeld m.old v }
 {
@@ -69,7 +69,7 @@ pub(crate) fn ends_chain(m: &mut Mutator<'_, Store>, v: HeldVersion) -> bool
 
 /// The number of the oldest of the `keep` versions up to one, if the chain ends there.
 pub(crate) fn oldest(m: &mut Mutator<'_, Store>, v: HeldVersion, keep: u64) -> Option<u64>
-    requires inside { IsIn m.old }
+    requires inside { m.old.seat.me.presence.inside ≡ true }
     requires room { length m.old.seat.me.own.held + 150 ≤ m.old.seat.me.room }
     requires keep { m.old.seat.me.pass.keep ≡ keep }
     requires version { IsHeld m.old v }
@@ -95,6 +95,7 @@ pub(crate) fn commit_one<R: Wait>(
     requires works { Works 1 commits keep m.old }
     requires few { commits < 90000 }
     ensures works { Works 1 (commits + 1) keep m.new }
+    ensures same { IsSameMutator m.old m.new }
 {
     let _ = (keep, commits);
     let v = look(m);
@@ -107,6 +108,7 @@ pub(crate) fn commit_one<R: Wait>(
 pub(crate) fn prune_latest(m: &mut Mutator<'_, Store>, keep: u64, commits: u32) -> u64
     requires works { Works 1 commits keep m.old }
     ensures works { Works 1 commits keep m.new }
+    ensures same { IsSameMutator m.old m.new }
 {
     let _ = commits;
     let newest = look(m);
@@ -117,7 +119,7 @@ pub(crate) fn prune_latest(m: &mut Mutator<'_, Store>, keep: u64, commits: u32) 
 
 /// Cuts off what is older than is kept.
 pub(crate) fn prune(m: &mut Mutator<'_, Store>, v: HeldVersion, keep: u64)
-    requires inside { IsIn m.old }
+    requires inside { m.old.seat.me.presence.inside ≡ true }
     requires room { length m.old.seat.me.own.held + 129 ≤ m.old.seat.me.room }
     requires keep { m.old.seat.me.pass.keep ≡ keep }
     requires version { IsHeld m.old v }

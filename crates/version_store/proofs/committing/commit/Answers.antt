@@ -1,5 +1,8 @@
 use Rattle.std.proofs.Common.{◌<◌, length, sym, subst, arith}
 use Rattle.version_rule.specs.Pass.{Pass}
+use Rattle.version_store.proofs.Going.{comes_in}
+use Rattle.version_store.proofs.Lasting.{full_lasts, full_shows, goes_same, made_lasts}
+use Rattle.version_store.proofs.Lasting.{newer_lasts, newer_shows}
 use Rattle.version_store.proofs.Widening.{claimed_held, claimed_in, claimed_is, claimed_pass}
 use Rattle.version_store.proofs.Widening.{claimed_record, claimed_room, claimed_term, claims_all}
 use Rattle.version_store.proofs.Widening.{committed_all, holds_all, kept_some, newer_all}
@@ -13,7 +16,9 @@ put_version-put-requires g c =
     let fresh = c.in-Ok.fresh in
     let got = c.in-Ok.ensures.got in
     record {
-      inside = claimed_in a b fresh got c.requires.inside;
+      inside = claimed_in a b fresh got
+          (comes_in a c.held_len-held.result c.requires.inside c.held_len-held.ensures.len
+          c.held_len-held.ensures.some c.held_len-held.ensures.anchor);
       room = claimed_room a b fresh got 8 c.requires.room (omega arith);
       claimed = claimed_is a b fresh got c.args.v c.args.tree c.requires.version c.requires.root;
       version = claimed_held a b fresh got c.args.v c.requires.version;
@@ -50,14 +55,26 @@ returns-in-Ok-put-clause-held g c =
     c.put_version-put.new.m c.cut.new.self c.held_len-held.result _ c.held_len-held.ensures.len
     c.cut.ensures.told c.in-Ok-put.ensures.behind
 
-pub returns-in-Ok-put-clause-claims : goal.returns-in-Ok-put-clause-claims
-returns-in-Ok-put-clause-claims g c =
-    omega (
-      arith,
-      claims_all c.args.m.now c.claim.new.self c.in-Ok.fresh c.in-Ok.ensures.got
-          c.put_version-put.new.m c.cut.new.self c.held_len-held.result _ c.held_len-held.ensures.len
-          c.cut.ensures.told c.in-Ok-put.ensures.behind,
-    )
+pub returns-in-Ok-put-clause-lasts : goal.returns-in-Ok-put-clause-lasts
+returns-in-Ok-put-clause-lasts g c =
+    let s = g.S.Spelling in
+    made_lasts s.is_tree s.tree_of c.args.m.now c.cut.new.self c.args.v c.args.tree
+    (committed_all c.args.m.now c.claim.new.self c.in-Ok.fresh c.in-Ok.ensures.got
+    c.put_version-put.new.m c.cut.new.self c.held_len-held.result _ c.held_len-held.ensures.len
+    c.cut.ensures.told c.in-Ok-put.ensures.behind s.is_tree s.tree_of c.args.v c.args.tree
+    c.requires.version c.requires.root c.in-Ok-put.ensures.made)
+    (claims_all c.args.m.now c.claim.new.self c.in-Ok.fresh c.in-Ok.ensures.got
+    c.put_version-put.new.m c.cut.new.self c.held_len-held.result _ c.held_len-held.ensures.len
+    c.cut.ensures.told c.in-Ok-put.ensures.behind)
+
+pub returns-in-Ok-put-clause-same : goal.returns-in-Ok-put-clause-same
+returns-in-Ok-put-clause-same g c =
+    let s = g.S.Spelling in
+    let made = committed_all c.args.m.now c.claim.new.self c.in-Ok.fresh c.in-Ok.ensures.got
+    c.put_version-put.new.m c.cut.new.self c.held_len-held.result _ c.held_len-held.ensures.len
+    c.cut.ensures.told c.in-Ok-put.ensures.behind s.is_tree s.tree_of c.args.v c.args.tree
+    c.requires.version c.requires.root c.in-Ok-put.ensures.made in
+    goes_same c.args.m.now c.cut.new.self made.goes
 
 pub returns-in-Err-put-clause-refused : goal.returns-in-Err-put-clause-refused
 returns-in-Err-put-clause-refused g c =
@@ -72,11 +89,37 @@ returns-in-Err-put-clause-held g c =
     c.put_version-put.new.m c.cut.new.self c.held_len-held.result _ c.held_len-held.ensures.len
     c.cut.ensures.told c.in-Err-put.ensures.behind
 
-pub returns-in-Err-put-clause-claims : goal.returns-in-Err-put-clause-claims
-returns-in-Err-put-clause-claims g c =
-    omega (
-      arith,
-      claims_all c.args.m.now c.claim.new.self c.in-Ok.fresh c.in-Ok.ensures.got
-          c.put_version-put.new.m c.cut.new.self c.held_len-held.result _ c.held_len-held.ensures.len
-          c.cut.ensures.told c.in-Err-put.ensures.behind,
-    )
+pub returns-in-Err-put-clause-shows : goal.returns-in-Err-put-clause-shows
+returns-in-Err-put-clause-shows g c =
+    newer_shows c.args.m.now c.cut.new.self c.args.v c.in-Err-put.newer c.held_len-held.ensures.left
+    (newer_all c.args.m.now c.claim.new.self c.in-Ok.fresh c.in-Ok.ensures.got
+    c.put_version-put.new.m c.cut.new.self c.held_len-held.result _ c.held_len-held.ensures.len
+    c.cut.ensures.told c.in-Err-put.ensures.behind c.args.v c.in-Err-put.newer
+    c.in-Err-put.ensures.newer)
+
+pub returns-in-Err-put-clause-lasts : goal.returns-in-Err-put-clause-lasts
+returns-in-Err-put-clause-lasts g c =
+    let more = claims_all c.args.m.now c.claim.new.self c.in-Ok.fresh c.in-Ok.ensures.got
+    c.put_version-put.new.m c.cut.new.self c.held_len-held.result _ c.held_len-held.ensures.len
+    c.cut.ensures.told c.in-Err-put.ensures.behind in
+    newer_lasts c.args.m.now c.cut.new.self c.args.v c.in-Err-put.newer
+    (newer_all c.args.m.now c.claim.new.self c.in-Ok.fresh c.in-Ok.ensures.got
+    c.put_version-put.new.m c.cut.new.self c.held_len-held.result _ c.held_len-held.ensures.len
+    c.cut.ensures.told c.in-Err-put.ensures.behind c.args.v c.in-Err-put.newer
+    c.in-Err-put.ensures.newer) (omega (arith, more))
+
+pub returns-in-Err-put-clause-same : goal.returns-in-Err-put-clause-same
+returns-in-Err-put-clause-same g c =
+    let finds = newer_all c.args.m.now c.claim.new.self c.in-Ok.fresh c.in-Ok.ensures.got
+    c.put_version-put.new.m c.cut.new.self c.held_len-held.result _ c.held_len-held.ensures.len
+    c.cut.ensures.told c.in-Err-put.ensures.behind c.args.v c.in-Err-put.newer
+    c.in-Err-put.ensures.newer in
+    goes_same c.args.m.now c.cut.new.self finds.goes
+
+pub returns-in-Err-clause-shows : goal.returns-in-Err-clause-shows
+returns-in-Err-clause-shows g c =
+    full_shows c.args.m.now c.claim.new.self c.in-Err.full c.in-Err.ensures.full
+
+pub returns-in-Err-clause-lasts : goal.returns-in-Err-clause-lasts
+returns-in-Err-clause-lasts g c =
+    full_lasts c.args.m.now c.claim.new.self c.in-Err.full c.in-Err.ensures.full

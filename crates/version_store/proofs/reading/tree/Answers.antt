@@ -1,5 +1,6 @@
 use Rattle.std.proofs.Common.{sym, ◌∙◌}
 use Rattle.version_rule.proofs.Reading.{tree_picks}
+use Rattle.version_store.proofs.Lasting.{goes_same, root_lasts, root_shows}
 use Rattle.version_store.proofs.Latest.{gives_root, held_alone, root_cell}
 use Rattle.version_store.proofs.reading.tree.Goals as goal
 
@@ -22,8 +23,15 @@ pub returns : goal.returns
 returns g c =
     let s = g.S.Spelling in
     let told = c.read.ensures.told in
+    let a = c.args.m.now in
+    let b = c.read.new.self in
+    let gives = gives_root s.is_tree s.tree_of s.is_record a b c.read.ensures.heap
+    c.read.ensures.table c.args.v c.requires.version told.0 told.2 c.in-Held.place
+    (sym c.in-Held.is ∙ told.1) in
     record {
-      root = gives_root s.is_tree s.tree_of s.is_record c.args.m.now c.read.new.self
-          c.read.ensures.heap c.read.ensures.table c.args.v c.requires.version told.0 told.2
-          c.in-Held.place (sym c.in-Held.is ∙ told.1);
+      root = gives;
+      shows = root_shows s.is_tree s.tree_of a b c.args.v c.in-Held.place c.held_len.ensures.left
+          gives;
+      lasts = root_lasts s.is_tree s.tree_of a b c.args.v c.in-Held.place gives;
+      same = goes_same a b gives.goes;
     }

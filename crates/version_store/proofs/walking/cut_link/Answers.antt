@@ -35,7 +35,7 @@ take_link-requires-clause-due g c =
 pub returns-in-Some : goal.returns-in-Some
 returns-in-Some g c = record {
   cut = link_taken_on c.args.m.now c.follow.new.m c.take_link.new.m c.args.oldest
-      c.in-Some.before c.in-Some.ensures.follows c.take_link.ensures.cut;
+      c.in-Some.before c.requires.oldest c.in-Some.ensures.follows c.take_link.ensures.taken;
 }
 
 pub returns-in-None : goal.returns-in-None

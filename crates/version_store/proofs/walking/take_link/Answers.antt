@@ -1,5 +1,5 @@
 use Rattle.mutator_events.specs.declared.values.Moved.{Moved}
-use Rattle.version_store.proofs.Trimming.{may_take, pick_taken, taken}
+use Rattle.version_store.proofs.Trimming.{may_take, pick_taken, was_taken}
 use Rattle.version_store.proofs.Writing.{either_way}
 use Rattle.version_store.proofs.walking.take_link.Goals as goal
 
@@ -21,7 +21,7 @@ returns g c =
     let s = g.S.Spelling in
     let need = c.requires in
     record {
-      cut = taken c.args.m.now c.args.newest c.args.oldest c.args.before need.inside need.newest
+      taken = was_taken c.args.m.now c.args.newest c.args.oldest c.args.before need.inside need.newest
           need.oldest need.before need.later need.due s.is_tree s.tree_of s.is_record
           c.update.new.self need.many
           (either_way (λ (m : Moved). m.found) _ c.update.result c.update.ensures.made
