@@ -115,9 +115,9 @@ version_read = record {
 pub got_in_step : IsInStep limits read 0 between
 got_in_step =
     in_step_turned limits 0 before between (command.Get path) (reply.Absent 0) 0 before_in_step
-    (get_absent limits 1 (account_in opened 0 0) (step_account limits opened 0 before before_in_step)
-    (omega arith) path 0 empty (tree_known (seeing 0 opened.pass) read.pass 0 empty refl) refl
-    version_read) refl refl
+    (get_absent limits 1 (account_in opened 0 0)
+    (step_account limits opened 0 before before_in_step) (omega arith) path 0 empty
+    (tree_known (seeing 0 opened.pass) read.pass 0 empty refl) refl version_read) refl refl
 
 -- The dput: a look, and each cell was used.
 
