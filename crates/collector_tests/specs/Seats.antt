@@ -1,6 +1,6 @@
 -- What the seats of these heaps know where they change hands.
 -- Source: this project's.
-use Rattle.std.specs.Prelude.{ℕ, ◌≡◌, ◌<◌, ◌≤◌, true, None, length}
+use Rattle.std.specs.Prelude.{ℕ, ◌≡◌, ◌≤◌, true}
 use Rattle.cell_words.specs.declared.controls.Stage.TheVariants as stage
 use Rattle.heap_rule.specs.Asks.{MayComeIn}
 use Rattle.heap_rule.specs.declared.keeping.NoRule.{NoRule}
@@ -9,11 +9,8 @@ use Rattle.heap_table.specs.Seats.{HeapId, IsSeatOf, SeatView}
 -- a collector that has made no cycle
 pub record IsIdle (heap : HeapId) (seat : SeatView NoRule) : Type 0 where
   pub seat_is : IsSeatOf heap seat
-  pub some : 0 < heap.shape.cells
   pub idle : seat.me.control.stage ≡ stage.Idle
   pub cycles : seat.me.control.cycles ≡ 0
-  pub answers : length seat.me.part.answered ≡ heap.shape.mutators
-  pub scan : seat.me.part.scan ≡ None
 
 -- a mutator that is out and may come in, with at least so many places
 pub record IsOut (heap : HeapId) (room : ℕ) (seat : SeatView NoRule) : Type 0 where

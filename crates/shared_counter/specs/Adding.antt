@@ -1,6 +1,7 @@
 -- What a thread knows of its mutator between two calls.
 -- Source: this project's.
 use Rattle.std.specs.Prelude.{ℕ, ◌≡◌, ◌≤◌, ◌+◌, true, false, List, [], ◌∷◌, length}
+use Rattle.cell_words.specs.declared.controls.Stage.TheVariants as stage
 use Rattle.heap_rule.specs.declared.known.Known.{Known}
 use Rattle.heap_rule.specs.declared.known.Known.TheVariants as knows
 use Rattle.heap_table.specs.Seats.{HeapId, IsSeatOf, SeatView}
@@ -82,6 +83,8 @@ pub record IsOpened (heap : HeapId) (collector first second third fourth : SeatV
   pub collector_is : IsSeatOf heap collector
   pub four_mutators : heap.shape.mutators ≡ 4
   pub four_places : length collector.me.places ≡ 4
+  pub collector_idle : collector.me.control.stage ≡ stage.Idle
+  pub no_cycles : collector.me.control.cycles ≡ 0
   pub first_new : IsNew heap 0 first
   pub second_new : IsNew heap 1 second
   pub third_new : IsNew heap 2 third

@@ -1,2 +1,4 @@
 pub mod Adding
 pub mod Counting
+pub mod Serving
+pub mod Working

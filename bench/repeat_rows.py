@@ -1,0 +1,43 @@
+"""Runs the threaded rows of collector_tests many times.
+
+    python3 bench/repeat_rows.py [TIMES]
+
+In a copy of the crates each test of src/threads.rt stands so many times, 50 where nothing is said,
+and `rt try --test` runs them all. It proves nothing.
+"""
+import pathlib
+import re
+import shutil
+import subprocess
+import sys
+import tempfile
+import time
+
+times = int(sys.argv[1]) if len(sys.argv) > 1 else 50
+top = pathlib.Path(__file__).resolve().parent.parent
+with tempfile.TemporaryDirectory() as folder:
+    copy = pathlib.Path(folder)
+    shutil.copytree(top / "crates", copy / "crates", ignore=shutil.ignore_patterns("out"))
+    shutil.copy(top / "crates.txt", copy)
+    shutil.copy(top / "HANDLES", copy)
+    crate = copy / "crates" / "collector_tests"
+    rows = crate / "src" / "threads.rt"
+    head, *tests = re.split(r"(?m)^(?=#\[test\])", rows.read_text())
+    again = [
+        re.sub(r"(?m)^fn (\w+)", rf"fn \1_{number}", test)
+        for test in tests
+        for number in range(1, times + 1)
+    ]
+    rows.write_text(head + "\n".join(again))
+    began = time.monotonic()
+    run = subprocess.run(
+        ["rt", "try", "--test", "--seconds", "1800"],
+        cwd=crate,
+        capture_output=True,
+        text=True,
+    )
+    lines = (run.stdout + run.stderr).splitlines()
+    failed = [line for line in lines if "failed" in line and " 0 failed" not in line]
+    print("\n".join(failed + lines[-2:]))
+    print(f"{len(again)} runs of {len(tests)} rows, {time.monotonic() - began:.0f} s")
+    sys.exit(run.returncode)

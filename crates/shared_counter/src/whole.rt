@@ -1,0 +1,103 @@
+//! The whole run: a heap is opened, four threads add beside the collector, and it is closed.
+use crate::closing::{Opened, close_four, open_four};
+use crate::counter::Added;
+use crate::running::{Worker, nursery};
+use crate::serving::{Keeper, add_beside};
+use cell_heap::{Image, NoMemory};
+use cell_words::Field;
+use collector::MarkStack;
+use free_cells::FreeQueue;
+use std::alloc::Global;
+use std::sync::Wait;
+use std::thread::Threads;
+
+/// How many cells there are: far fewer than the records that the threads make.
+const CELLS: u32 = 64;
+
+/// The number of the record that the anchor names.
+fn counter_of(image: &Image) -> Option<u64> {
+    if image.cells() == 0 {
+        return None;
+    }
+    match image.field(0, 0) {
+        Field::Cell(cell) if cell < image.cells() => match image.field(cell, 0) {
+            Field::Num(number) => Some(number),
+            Field::Null | Field::Cell(_) => None,
+        },
+        Field::Cell(_) | Field::Null | Field::Num(_) => None,
+    }
+}
+
+/// What a run came to.
+#[derive(Clone, Copy)]
+pub(crate) struct Ran {
+    /// the counter at the close
+    pub(crate) counter: Option<u64>,
+    /// what the threads say that they added
+    pub(crate) sum: u64,
+    /// how many cells the collector freed
+    pub(crate) freed: u64,
+}
+
+/// Four threads add to the counter of a new heap, beside the collector.
+pub(crate) fn run<R: Threads + Wait + Sync>(alloc: Global, rt: &R) -> Result<Ran, NoMemory> {
+    let (queue, mut pass) = FreeQueue::open(alloc, rt, CELLS, 2)?;
+    let passes = (
+        queue.split(&mut pass)?,
+        queue.split(&mut pass)?,
+        queue.split(&mut pass)?,
+        queue.split(&mut pass)?,
+    );
+    let stack = MarkStack::with_room(alloc, 8)?;
+    let nurseries = (
+        nursery(alloc)?,
+        nursery(alloc)?,
+        nursery(alloc)?,
+        nursery(alloc)?,
+    );
+    let opened = open_four(alloc, CELLS)?;
+    let Opened {
+        heap,
+        mut collector,
+        first,
+        second,
+        third,
+        fourth,
+    } = opened;
+    let first = Worker {
+        seat: first,
+        pass,
+        nursery: nurseries.0,
+    };
+    let second = Worker {
+        seat: second,
+        pass: passes.0,
+        nursery: nurseries.1,
+    };
+    let third = Worker {
+        seat: third,
+        pass: passes.1,
+        nursery: nurseries.2,
+    };
+    let fourth = Worker {
+        seat: fourth,
+        pass: passes.2,
+        nursery: nurseries.3,
+    };
+    collector.duty(&heap, true);
+    let keeper = Keeper {
+        seat: collector,
+        stack,
+        pass: passes.3,
+    };
+    let (((first, second), (third, fourth)), (collector, freed)) = add_beside(
+        rt, &heap, &queue, keeper, first, second, third, fourth,
+    );
+    let sum = first.1 + second.1 + third.1 + fourth.1;
+    let image = close_four(heap, collector, first, second, third, fourth);
+    Ok(Ran {
+        counter: counter_of(&image),
+        sum,
+        freed,
+    })
+}
