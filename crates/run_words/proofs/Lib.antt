@@ -1,0 +1,5 @@
+pub mod Accepted
+pub mod Behind
+pub mod Ends
+pub mod Numbers
+pub mod Taken

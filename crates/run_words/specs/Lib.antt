@@ -1,0 +1,4 @@
+pub mod Commands
+pub mod Limits
+pub mod Readings
+pub mod Requests

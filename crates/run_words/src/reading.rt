@@ -1,0 +1,172 @@
+//! The words of a whole command line.
+ghost use Rattle.clap.specs.Words.{found_of, rows_of};
+ghost use Rattle.run_words.specs.Commands.{gen_app, run_app};
+ghost use Rattle.run_words.specs.Limits.{HasGenNumbersWithin, HasNumbersWithin, IsGenWithin};
+ghost use Rattle.run_words.specs.Limits.{IsRunWithin, IsWithin};
+ghost use Rattle.run_words.specs.Readings.{AreAccepted};
+ghost use Rattle.run_words.specs.Requests.{Gen, Gives, Replay, Run, asked_by, gen_found, gen_of};
+ghost use Rattle.run_words.specs.Requests.{if_printable, if_some_file, replay_of, request_behind};
+ghost use Rattle.run_words.specs.Requests.{request_of, run_asked_by, run_found, run_of};
+ghost use Rattle.std.specs.Prelude.{IfOk, IfSome, map, option_map, string_bytes, ◌≡◌, ◌≤◌};
+
+use crate::commands::{gen_command, replay_command, run_command};
+use crate::limits::{CELLS, CLIENTS, COMMANDS, CYCLES, KEEP, MINOR, START, VERSIONS};
+use crate::request::{GenWords, Request, RunWords, WordsFault};
+use crate::values::{flag, matches_on, name, names, number, number_or};
+use clap::ArgMatches;
+use std::alloc::{AllocError, Global};
+
+/// What the words behind the program's name ask for.
+pub fn read_words<'a>(alloc: Global, words: &'a [String]) -> Result<Request<'a>, WordsFault>
+    ensures request { Gives asked_by result (request_of (map string_bytes words.entry.now)) }
+    ensures within { IfOk result IsWithin }
+{
+    match words {
+        [] => Err(WordsFault::Usage),
+        [word, behind @ ..] => read_behind(alloc, word.as_str(), behind),
+    }
+}
+
+// What a first word and those behind it ask for.
+fn read_behind<'a>(
+    alloc: Global,
+    word: &str,
+    words: &'a [String],
+) -> Result<Request<'a>, WordsFault>
+    ensures request { Gives asked_by result (request_behind word.now (map string_bytes words.entry.now)) }
+    ensures within { IfOk result IsWithin }
+{
+    match word {
+        "run" => run_request(alloc, words),
+        "replay" => replay_request(alloc, words),
+        "gen" => gen_request(alloc, words),
+        _ => Err(WordsFault::Usage),
+    }
+}
+
+fn run_request<'a>(alloc: Global, words: &'a [String]) -> Result<Request<'a>, WordsFault>
+    ensures request { Gives asked_by result (option_map Run (run_of (map string_bytes words.entry.now))) }
+    ensures within { IfOk result IsWithin }
+{
+    match run_words(alloc, words) {
+        Ok(run) => Ok(Request::Run(run)),
+        Err(fault) => Err(fault),
+    }
+}
+
+fn replay_request<'a>(alloc: Global, words: &'a [String]) -> Result<Request<'a>, WordsFault>
+    ensures request { Gives asked_by result (option_map Replay (replay_of (map string_bytes words.entry.now))) }
+    ensures within { IfOk result IsWithin }
+{
+    match replay_words(alloc, words) {
+        Ok(name) => Ok(Request::Replay(name)),
+        Err(fault) => Err(fault),
+    }
+}
+
+fn gen_request<'a>(alloc: Global, words: &'a [String]) -> Result<Request<'a>, WordsFault>
+    ensures request { Gives asked_by result (option_map Gen (gen_of (map string_bytes words.entry.now))) }
+    ensures within { IfOk result IsWithin }
+{
+    match gen_words(alloc, words) {
+        Ok(made) => Ok(Request::Gen(made)),
+        Err(fault) => Err(fault),
+    }
+}
+
+// The words behind `run`.
+fn run_words<'a>(alloc: Global, words: &'a [String]) -> Result<RunWords<'a>, WordsFault>
+    ensures run { Gives run_asked_by result (run_of (map string_bytes words.entry.now)) }
+    ensures within { IfOk result IsRunWithin }
+{
+    let command = run_command(alloc)?;
+    match matches_on(command, words) {
+        Ok(matches) => {
+            let run = run_in(alloc, &matches)?;
+            some_file(run)
+        }
+        Err(fault) => Err(fault),
+    }
+}
+
+// What `clap` found for a run.
+#[tactic(auto, using(crate::proofs::Ends::cells, crate::proofs::Ends::minor, crate::proofs::Ends::keep, crate::proofs::Ends::versions, crate::proofs::Ends::cycles))]
+fn run_in<'a>(alloc: Global, matches: &ArgMatches<'a>) -> Result<RunWords<'a>, AllocError>
+    requires { AreAccepted run_app.top.rules (rows_of (found_of matches.now)) }
+    ensures ok { IfOk result (λ run. run_asked_by run ≡ run_found (rows_of (found_of matches.now))) }
+    ensures within { IfOk result HasNumbersWithin }
+{
+    let files = names(alloc, matches, "file")?;
+    Ok(RunWords {
+        cells: number_or(matches, "cells", CELLS, 65_536),
+        minor: number_or(matches, "minor", MINOR, 8_192),
+        keep: number_or(matches, "keep", KEEP, 8),
+        versions: number_or(matches, "versions", VERSIONS, 1_000_000),
+        cycles: number_or(matches, "cycles", CYCLES, 4_000_000_000),
+        history: flag(matches, "history"),
+        stats: flag(matches, "stats"),
+        files,
+    })
+}
+
+// A run has a file or more.
+fn some_file(run: RunWords<'_>) -> Result<RunWords<'_>, WordsFault>
+    requires { HasNumbersWithin run }
+    ensures run { Gives run_asked_by result (if_some_file (run_asked_by run.entry)) }
+    ensures within { IfOk result IsRunWithin }
+{
+    if run.files.is_empty() {
+        return Err(WordsFault::Usage);
+    }
+    Ok(run)
+}
+
+// The words behind `replay`.
+fn replay_words<'a>(alloc: Global, words: &'a [String]) -> Result<&'a str, WordsFault>
+    ensures { Gives (λ name. name.now) result (replay_of (map string_bytes words.entry.now)) }
+{
+    let command = replay_command(alloc)?;
+    match matches_on(command, words) {
+        Ok(matches) => name(&matches, "file").ok_or(WordsFault::Usage),
+        Err(fault) => Err(fault),
+    }
+}
+
+// The words behind `gen`.
+fn gen_words(alloc: Global, words: &[String]) -> Result<GenWords, WordsFault>
+    ensures made { Gives (λ made. made) result (gen_of (map string_bytes words.now)) }
+    ensures within { IfOk result IsGenWithin }
+{
+    let command = gen_command(alloc)?;
+    match matches_on(command, words) {
+        Ok(matches) => gen_in(&matches).ok_or(WordsFault::Usage),
+        Err(fault) => Err(fault),
+    }
+}
+
+// What `clap` found for generated scripts.
+#[tactic(auto, using(crate::proofs::Ends::start, crate::proofs::Ends::clients, crate::proofs::Ends::commands, crate::proofs::Ends::print))]
+fn gen_in(matches: &ArgMatches<'_>) -> Option<GenWords>
+    requires { AreAccepted gen_app.top.rules (rows_of (found_of matches.now)) }
+    ensures made { result ≡ gen_found (rows_of (found_of matches.now)) }
+    ensures within { IfSome result IsGenWithin }
+{
+    printable(GenWords {
+        start: number(matches, "start", START)?,
+        clients: number(matches, "clients", CLIENTS)?,
+        commands: number(matches, "commands", COMMANDS)?,
+        print: number(matches, "print", CLIENTS),
+    })
+}
+
+// The script that is printed is one of those that are made.
+fn printable(words: GenWords) -> Option<GenWords>
+    requires { HasGenNumbersWithin words }
+    ensures words { result ≡ if_printable words }
+    ensures within { IfSome result IsGenWithin }
+{
+    match words.print {
+        Some(client) if client > words.clients => None,
+        _ => Some(words),
+    }
+}
