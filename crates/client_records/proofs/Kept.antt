@@ -4,6 +4,7 @@ use Rattle.std.proofs.Common.{◌≡◌, ◌<◌, ◌≤◌, ℕ, zero, suc, Lis
 use Rattle.std.proofs.Common.{length, take, drop, refl, sym, ◌∙◌, ap, subst, arith}
 use Rattle.std.specs.Prelude.{slice_index_or}
 use Rattle.std.proofs.lemmas.List.{length-append, length-map}
+use Rattle.cell_words.specs.Term.{Term}
 use Rattle.cell_words.specs.declared.fields.Field.{Field}
 use Rattle.cell_words.specs.declared.fields.Field.TheVariants as word
 use Rattle.cell_words.specs.declared.presences.Presence.{Presence}
@@ -31,19 +32,24 @@ use Rattle.trails.proofs.Telling.{grown_keeps}
 use Rattle.doc_records.specs.Pool.{Kept, Later}
 use Rattle.client_records.specs.declared.at.NodeAt.{NodeAt}
 use Rattle.client_records.specs.declared.at.NodeAt.TheVariants as at
-use Rattle.client_records.specs.Records.{IsAmong, IsRecord, known_term, shown_of, stands_on}
-use Rattle.client_records.specs.Records.{term_at, terms_known}
-use Rattle.client_records.proofs.Places.{at_kept, at_more, known_term_at, still_record}
+use Rattle.client_records.specs.Records.{ClientFact, HasCell, HasRecords, IsAmong, IsAround}
+use Rattle.client_records.specs.Records.{IsKnownAs, IsRecord, IsSomething, Outside, blank}
+use Rattle.client_records.specs.Records.{known_term, says_of}
+use Rattle.client_records.specs.Records.{shown_of, stands_on, term_at, terms_known}
+use Rattle.client_records.proofs.Places.{at_kept, at_more, known_term_at, record_something}
+use Rattle.client_records.proofs.Places.{still_something}
 use Rattle.client_records.proofs.Resting.{rests_map, rests_same}
 
--- the first so many places hold what they held, and what is known there as a record is
+-- the first so many places hold what they held, whatever is known there is, and nothing else of the
+-- view is new but the trail
 pub record Holds {P : Type 0} (places : ℕ) (v w : View P) : Type 0 where
-  pub known : (p : ℕ) → p < places → IsRecord (known_at v.known p)
+  pub known : (p : ℕ) → p < places → IsSomething (known_at v.known p)
       → known_at w.known p ≡ known_at v.known p
   pub cells : (p : ℕ) → p < places → cell_at w.own.held p ≡ cell_at v.own.held p
   pub longer : places ≤ length w.own.held
   pub room : w.room ≡ v.room
   pub marks : Keeps (marks_of v.trail) (marks_of w.trail)
+  pub blank_is : blank w ≡ blank v
 
 pub holds_still : {P : Type 0} (v : View P) → Holds (length v.own.held) v v
 holds_still v = record {
@@ -52,13 +58,18 @@ holds_still v = record {
   longer = omega arith;
   room = refl;
   marks = λ before begins. begins;
+  blank_is = refl;
 }
 
-module _ {P : Type 0} (minor : Nursery) (names : ℕ × ℕ) (ordered : IsOrdered 0 minor.records)
+module _ {P : Type 0} (minor : Nursery) (outside : Outside) (ordered : IsOrdered 0 minor.records)
     (v w : View P) (places : ℕ) (h : Holds places v w) where
+  known_still : (p : ℕ) → p < places → IsRecord (known_at v.known p)
+      → known_at w.known p ≡ known_at v.known p
+  known_still p lt is = h.known p lt (record_something (known_at v.known p) is)
+
   among_still : (n p : ℕ) → n ≤ places → IsAmong v.known n p → IsAmong w.known n p
   among_still n p few is =
-      (is.0, subst IsRecord (sym (h.known p (omega (arith, is.0, few)) is.1)) is.1)
+      (is.0, subst IsRecord (sym (known_still p (omega (arith, is.0, few)) is.1)) is.1)
 
   still_at : (a : NodeAt) (n : ℕ) → stands_on v.known minor.records n a → n ≤ places
       → stands_on w.known minor.records n a
@@ -76,41 +87,53 @@ module _ {P : Type 0} (minor : Nursery) (names : ℕ × ℕ) (ordered : IsOrdere
 
   same_at : (a : NodeAt) → stands_on v.known minor.records places a
       → term_at w.known minor.records a ≡ term_at v.known minor.records a
-  same_at (at.Shared p) stands = ap known_term (h.known p stands.0 stands.1)
+  same_at (at.Shared p) stands = ap known_term (known_still p stands.0 stands.1)
   same_at (at.Minor r) stands =
       sym (rests_same (terms_known v.known) (terms_known w.known) minor.records
       (IsAmong v.known places)
-      (λ p is. known_term_at v.known p ∙ ap known_term (sym (h.known p is.0 is.1))
+      (λ p is. known_term_at v.known p ∙ ap known_term (sym (known_still p is.0 is.1))
       ∙ sym (known_term_at w.known p)) ordered r stands)
 
-  pub kept_at : Kept places (shown_of v minor names) (shown_of w minor names)
+  says_still : (f : ClientFact P) (n : ℕ) → says_of v minor outside n f → n ≤ places
+      → says_of w minor outside n f
+  says_still (IsAround around) n is few =
+      ap (λ (u : View P). record { outside = outside; view = u; room = minor.room }) h.blank_is ∙ is
+  says_still (HasCell p c) n is few = (is.0, h.cells p (omega (arith, is.0, few)) ∙ is.1)
+  says_still (IsKnownAs p k) n is few = (
+    is.0,
+    (
+      is.1.0,
+      h.known p (omega (arith, is.0, few)) (subst IsSomething (sym is.1.1) is.1.0) ∙ is.1.1,
+    ),
+  )
+  says_still (HasRecords records) n is few = is
+
+  pub kept_at : Kept places (shown_of v minor outside) (shown_of w minor outside)
   kept_at = record {
     still = λ a n stands few. still_at a n stands few;
     now = λ a stands. widen a places (length w.own.held) h.longer
         (still_at a places stands (omega arith));
     same = same_at;
-    cells = h.cells;
+    says = says_still;
     longer = h.longer;
     room = h.room;
     marks = h.marks;
-    source = refl;
   }
 
 -- all places stay
-pub later_at : {P : Type 0} (minor : Nursery) (names : ℕ × ℕ) → IsOrdered 0 minor.records
+pub later_at : {P : Type 0} (minor : Nursery) (outside : Outside) → IsOrdered 0 minor.records
     → (v w : View P) → Holds (length v.own.held) v w
-    → Later (shown_of v minor names) (shown_of w minor names)
-later_at minor names ordered v w h =
-    let kept = kept_at minor names ordered v w (length v.own.held) h in
+    → Later (shown_of v minor outside) (shown_of w minor outside)
+later_at minor outside ordered v w h =
+    let kept = kept_at minor outside ordered v w (length v.own.held) h in
     record {
       still = kept.still;
       now = kept.now;
       same = kept.same;
-      cells = kept.cells;
+      says = kept.says;
       longer = kept.longer;
       room = kept.room;
       marks = kept.marks;
-      source = kept.source;
     }
 
 -- Events.
@@ -123,7 +146,8 @@ module _ {P : Type 0} (v : View P) where
     is = marks_push v.trail (took e found);
   }
 
-  module _ (fit : length v.known ≡ length v.own.held) (place f : ℕ) (tells : Learned) (pass : P) where
+  module _ (fit : length v.known ≡ length v.own.held) (place f : ℕ) (tells : Learned) (u : Term)
+      (told_is : tells.here ≡ knows.Record u) where
     -- what is known once more is told of the cell that was read
     here : List Known
     here = at_cell (told_of tells.here) (slice_index_or (cells_in v.own.held) place 0)
@@ -132,9 +156,12 @@ module _ {P : Type 0} (v : View P) where
     by_cells : length v.known ≡ length (cells_in v.own.held)
     by_cells = fit ∙ sym (length-map v.own.held (λ (p : Held). p.cell))
 
-    here_still : (p : ℕ) → IsRecord (known_at v.known p) → known_at here p ≡ known_at v.known p
+    here_still : (p : ℕ) → IsSomething (known_at v.known p) → known_at here p ≡ known_at v.known p
     unfolding here
-    here_still p is = still_record tells.here _ (cells_in v.own.held) v.known p by_cells is
+    here_still p is =
+        ap (λ (k : Known). known_at (at_cell (told_of k)
+        (slice_index_or (cells_in v.own.held) place 0) (cells_in v.own.held) v.known) p) told_is
+        ∙ still_something u _ (cells_in v.own.held) v.known p by_cells is
 
     here_many : length here ≡ length v.own.held
     unfolding here
@@ -143,7 +170,7 @@ module _ {P : Type 0} (v : View P) where
 
     pub holds_read : (found : Field)
         → Holds (length v.own.held) v (told v (event.Read v.number place f) (finds.Field found)
-        tells pass)
+        tells v.pass)
     unfolding here
     holds_read word.Null = record {
       known = λ p lt is. here_still p is;
@@ -151,6 +178,7 @@ module _ {P : Type 0} (v : View P) where
       longer = omega arith;
       room = refl;
       marks = marks_on (event.Read v.number place f) (finds.Field word.Null);
+      blank_is = refl;
     }
     holds_read (word.Num n) = record {
       known = λ p lt is. here_still p is;
@@ -158,6 +186,7 @@ module _ {P : Type 0} (v : View P) where
       longer = omega arith;
       room = refl;
       marks = marks_on (event.Read v.number place f) (finds.Field (word.Num n));
+      blank_is = refl;
     }
     holds_read (word.Cell c) = record {
       known = λ p lt is. at_more knows.Nothing here tells.found p (omega (arith, lt, here_many))
@@ -167,6 +196,7 @@ module _ {P : Type 0} (v : View P) where
           omega (arith, more);
       room = refl;
       marks = marks_on (event.Read v.number place f) (finds.Field (word.Cell c));
+      blank_is = refl;
     }
 
   pub holds_kept : length v.known ≡ length v.own.held → (n from copies : ℕ) (found : Presence)
@@ -181,6 +211,7 @@ module _ {P : Type 0} (v : View P) where
     longer = longer_kept v.own.held (take copies (drop from v.own.held)) n few;
     room = refl;
     marks = marks_on (event.Keep v.number n from copies) (finds.Presence found);
+    blank_is = refl;
   }
     where
       longer_kept : (xs ys : List Held) (n : ℕ) → n ≤ length xs → n ≤ length (take n xs ++ ys)

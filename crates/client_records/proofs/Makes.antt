@@ -3,7 +3,7 @@
 use Rattle.std.proofs.Common.{◌≡◌, ◌<◌, ◌+◌, ℕ, zero, suc, List, [], ◌∷◌, ◌++◌, length}
 use Rattle.std.proofs.Common.{refl, sym, ◌∙◌, ap, subst, arith}
 use Rattle.std.specs.Prelude.{slice_index_or}
-use Rattle.std.proofs.lemmas.List.{length-append}
+use Rattle.std.proofs.lemmas.List.{append_assoc, length-append}
 use Rattle.cell_words.specs.Term.{Term, null}
 use Rattle.heap_rule.specs.declared.view.View.{View}
 use Rattle.minor_heap.specs.declared.fields.MinorField.{MinorField}
@@ -16,8 +16,9 @@ use Rattle.doc_records.specs.declared.pool.Part.TheVariants as parts
 use Rattle.doc_records.specs.Pool.{Later, Stands, part_term}
 use Rattle.client_records.specs.declared.at.NodeAt.{NodeAt}
 use Rattle.client_records.specs.declared.at.NodeAt.TheVariants as at
-use Rattle.client_records.specs.Records.{IsAmong, Rests, field_of, shown_of, stands_on, term_at}
-use Rattle.client_records.specs.Records.{terms_known}
+use Rattle.client_records.specs.Records.{ClientFact, HasCell, HasRecords, IsAmong, IsAround}
+use Rattle.client_records.specs.Records.{IsKnownAs, Outside, Rests, blank, field_of, says_of}
+use Rattle.client_records.specs.Records.{shown_of, stands_on, term_at, terms_known}
 use Rattle.client_records.proofs.Places.{at_more, known_term_at}
 use Rattle.client_records.proofs.Resting.{rests_more, rests_new, rests_stands}
 
@@ -40,13 +41,14 @@ last_is (y ∷ xs) x (suc k) is = last_is xs x k (omega (arith, is))
 
 -- what `make` tells of the records
 pub record IsMore (old new : Nursery) (fields : List MinorField) : Type 0 where
+  pub room : new.room ≡ old.room
   pub records : new.records ≡ old.records ++ fields ∷ []
   pub terms : (shared : List Term) → terms_of shared new.records
       ≡ terms_of shared old.records
       ++ record_term shared (terms_of shared old.records) fields ∷ []
 
-module _ {P : Type 0} (v : View P) (names : ℕ × ℕ) (old new : Nursery) (fields : List MinorField)
-    (more : IsMore old new fields) where
+module _ {P : Type 0} (v : View P) (outside : Outside) (old new : Nursery)
+    (fields : List MinorField) (more : IsMore old new fields) where
   abbrev shared : List Term
   shared = terms_known v.known
 
@@ -79,21 +81,31 @@ module _ {P : Type 0} (v : View P) (names : ℕ × ℕ) (old new : Nursery) (fie
   same_made (at.Minor r) n stands =
       old_term r (rests_stands old.records (IsAmong v.known n) r stands)
 
-  pub later_made : Later (shown_of v old names) (shown_of v new names)
+  says_made : (f : ClientFact P) (n : ℕ) → says_of v old outside n f → says_of v new outside n f
+  says_made (IsAround around) n is =
+      ap (λ (room : ℕ). record { outside = outside; view = blank v; room = room }) more.room ∙ is
+  says_made (HasCell p c) n is = is
+  says_made (IsKnownAs p k) n is = is
+  says_made (HasRecords records) n is = record {
+    rest = is.rest ++ fields ∷ [];
+    is = more.records ∙ ap (λ (rows : List (List MinorField)). rows ++ fields ∷ []) is.is
+        ∙ append_assoc records is.rest (fields ∷ []);
+  }
+
+  pub later_made : Later (shown_of v old outside) (shown_of v new outside)
   later_made = record {
     still = λ a n stands few. still_made a n stands;
     now = λ a stands. still_made a (length v.own.held) stands;
     same = λ a stands. same_made a (length v.own.held) stands;
-    cells = λ place lt. refl;
+    says = λ f n says few. says_made f n says;
     longer = omega arith;
     room = refl;
     marks = λ before begins. begins;
-    source = refl;
   }
 
   pub stands_made : (r : MinorRef) → r.number ≡ length old.records
       → ((i : ℕ) → i < 5 → (p : Part NodeAt) × ((slice_index_or fields i field.Null ≡ field_of p)
-      × Stands (shown_of v old names) p))
+      × Stands (shown_of v old outside) p))
       → stands_on v.known new.records (length v.own.held) (at.Minor r)
   stands_made r is each =
       subst (λ (rows : List (List MinorField)). Rests rows (IsAmong v.known (length v.own.held)) r)
@@ -105,7 +117,7 @@ module _ {P : Type 0} (v : View P) (names : ℕ × ℕ) (old new : Nursery) (fie
       minor_there part.0 o (sym part.1.0 ∙ at_it) part.1.1))
     where
       shared_there : (part : Part NodeAt) (p : ℕ) → field_of part ≡ field.Shared p
-          → Stands (shown_of v old names) part → IsAmong v.known (length v.own.held) p
+          → Stands (shown_of v old outside) part → IsAmong v.known (length v.own.held) p
       shared_there parts.Null p is stands = absurd cc
       shared_there (parts.Num n) p is stands = absurd cc
       shared_there (parts.Record (at.Shared q)) p is stands =
@@ -114,7 +126,7 @@ module _ {P : Type 0} (v : View P) (names : ℕ × ℕ) (old new : Nursery) (fie
       shared_there (parts.Record (at.Minor r)) p is stands = absurd cc
 
       minor_there : (part : Part NodeAt) (o : MinorRef) → field_of part ≡ field.Minor o
-          → Stands (shown_of v old names) part
+          → Stands (shown_of v old outside) part
           → Rests old.records (IsAmong v.known (length v.own.held)) o
       minor_there parts.Null o is stands = absurd cc
       minor_there (parts.Num n) o is stands = absurd cc
@@ -124,43 +136,44 @@ module _ {P : Type 0} (v : View P) (names : ℕ × ℕ) (old new : Nursery) (fie
           subst (Rests old.records (IsAmong v.known (length v.own.held))) same stands.0
 
 -- a part as a field says the same
-pub part_says : {P : Type 0} (v : View P) (names : ℕ × ℕ) (old : Nursery) (p : Part NodeAt)
+pub part_says : {P : Type 0} (v : View P) (outside : Outside) (old : Nursery) (p : Part NodeAt)
     → field_term (terms_known v.known) (terms_of (terms_known v.known) old.records) (field_of p)
-    ≡ part_term (shown_of v old names).term p
-part_says v names old parts.Null = refl
-part_says v names old (parts.Num n) = refl
-part_says v names old (parts.Record (at.Shared q)) = known_term_at v.known q
-part_says v names old (parts.Record (at.Minor r)) = refl
+    ≡ part_term (shown_of v old outside).term p
+part_says v outside old parts.Null = refl
+part_says v outside old (parts.Num n) = refl
+part_says v outside old (parts.Record (at.Shared q)) = known_term_at v.known q
+part_says v outside old (parts.Record (at.Minor r)) = refl
 
 -- and may be one
-part_fits : {P : Type 0} (v : View P) (names : ℕ × ℕ) (old : Nursery) (p : Part NodeAt)
-    → Stands (shown_of v old names) p → FitsRecord (length old.records) (field_of p)
-part_fits v names old parts.Null stands = tt
-part_fits v names old (parts.Num n) stands = stands
-part_fits v names old (parts.Record (at.Shared q)) stands = tt
-part_fits v names old (parts.Record (at.Minor r)) stands =
+part_fits : {P : Type 0} (v : View P) (outside : Outside) (old : Nursery) (p : Part NodeAt)
+    → Stands (shown_of v old outside) p → FitsRecord (length old.records) (field_of p)
+part_fits v outside old parts.Null stands = tt
+part_fits v outside old (parts.Num n) stands = stands
+part_fits v outside old (parts.Record (at.Shared q)) stands = tt
+part_fits v outside old (parts.Record (at.Minor r)) stands =
     rests_stands old.records (IsAmong v.known (length v.own.held)) r stands.0
 
-pub field_fits : {P : Type 0} (v : View P) (names : ℕ × ℕ) (old : Nursery) (p : Part NodeAt)
-    (f : MinorField) → f ≡ field_of p → Stands (shown_of v old names) p
+pub field_fits : {P : Type 0} (v : View P) (outside : Outside) (old : Nursery) (p : Part NodeAt)
+    (f : MinorField) → f ≡ field_of p → Stands (shown_of v old outside) p
     → FitsRecord (length old.records) f
-field_fits v names old p f is stands =
-    subst (FitsRecord (length old.records)) (sym is) (part_fits v names old p stands)
+field_fits v outside old p f is stands =
+    subst (FitsRecord (length old.records)) (sym is) (part_fits v outside old p stands)
 
 -- the field at an index is that of a part that stands
-abbrev FieldStands : {P : Type 0} → View P → ℕ × ℕ → Nursery → MinorField → Type 0
-FieldStands v names old f = (p : Part NodeAt) × ((f ≡ field_of p) × Stands (shown_of v old names) p)
+abbrev FieldStands : {P : Type 0} → View P → Outside → Nursery → MinorField → Type 0
+FieldStands v outside old f =
+    (p : Part NodeAt) × ((f ≡ field_of p) × Stands (shown_of v old outside) p)
 
-pub each_stands : {P : Type 0} (v : View P) (names : ℕ × ℕ) (old : Nursery)
-    (first second third fourth fifth : MinorField) → FieldStands v names old first
-    → FieldStands v names old second → FieldStands v names old third
-    → FieldStands v names old fourth → FieldStands v names old fifth → (i : ℕ) → i < 5
-    → FieldStands v names old (slice_index_or
+pub each_stands : {P : Type 0} (v : View P) (outside : Outside) (old : Nursery)
+    (first second third fourth fifth : MinorField) → FieldStands v outside old first
+    → FieldStands v outside old second → FieldStands v outside old third
+    → FieldStands v outside old fourth → FieldStands v outside old fifth → (i : ℕ) → i < 5
+    → FieldStands v outside old (slice_index_or
     (first ∷ second ∷ third ∷ fourth ∷ fifth ∷ []) i field.Null)
-each_stands v names old a b c d e one two three four last zero lt = one
-each_stands v names old a b c d e one two three four last (suc zero) lt = two
-each_stands v names old a b c d e one two three four last (suc (suc zero)) lt = three
-each_stands v names old a b c d e one two three four last (suc (suc (suc zero))) lt = four
-each_stands v names old a b c d e one two three four last (suc (suc (suc (suc zero)))) lt = last
-each_stands v names old a b c d e one two three four last (suc (suc (suc (suc (suc n))))) lt =
+each_stands v outside old a b c d e one two three four last zero lt = one
+each_stands v outside old a b c d e one two three four last (suc zero) lt = two
+each_stands v outside old a b c d e one two three four last (suc (suc zero)) lt = three
+each_stands v outside old a b c d e one two three four last (suc (suc (suc zero))) lt = four
+each_stands v outside old a b c d e one two three four last (suc (suc (suc (suc zero)))) lt = last
+each_stands v outside old a b c d e one two three four last (suc (suc (suc (suc (suc n))))) lt =
     absurd (omega (arith, lt))

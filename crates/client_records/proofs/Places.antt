@@ -4,11 +4,11 @@ use Rattle.std.proofs.Common.{[], ◌∷◌, ◌++◌, length, take, drop, refl,
 use Rattle.std.proofs.Common.{if◌then◌else◌}
 use Rattle.std.specs.Prelude.{slice_index_or}
 use Rattle.std.proofs.lemmas.List.{length-append}
-use Rattle.cell_words.specs.Term.{null}
+use Rattle.cell_words.specs.Term.{Term, null}
 use Rattle.heap_rule.specs.declared.known.Known.{Known}
 use Rattle.heap_rule.specs.declared.known.Known.TheVariants as knows
 use Rattle.heap_rule.specs.Lore.{at_cell, known_at, told}
-use Rattle.client_records.specs.Records.{IsRecord, known_term, terms_known}
+use Rattle.client_records.specs.Records.{IsRecord, IsSomething, known_term, terms_known}
 
 module _ {A : Type 0} (d : A) where
   pub at_more : (xs : List A) (x : A) (k : ℕ) → k < length xs
@@ -76,36 +76,36 @@ known_term_at [] place = refl
 known_term_at (k ∷ known) zero = refl
 known_term_at (k ∷ known) (suc place) = known_term_at known place
 
--- What is known as a record stays so when more is told of a cell.
+-- What is known of a place stays so when it is told that the cell that was read is a record.
 
-told_record : (tells k : Known) → IsRecord k → told tells k ≡ k
-told_record knows.Nothing k is = refl
-told_record (knows.Raw fields) k is = refl
-told_record (knows.Fresh fields) k is = refl
-told_record (knows.Record t) knows.Nothing is = absurd is
-told_record (knows.Record t) (knows.Raw fields) is = refl
-told_record (knows.Record t) (knows.Fresh fields) is = refl
-told_record (knows.Record t) (knows.Record u) is = refl
-told_record (knows.Record t) (knows.Boxed terms) is = refl
-told_record (knows.Boxed terms) knows.Nothing is = absurd is
-told_record (knows.Boxed terms) (knows.Raw fields) is = refl
-told_record (knows.Boxed terms) (knows.Fresh fields) is = refl
-told_record (knows.Boxed terms) (knows.Record u) is = refl
-told_record (knows.Boxed terms) (knows.Boxed others) is = absurd is
+told_something : (t : Term) (k : Known) → IsSomething k → told (knows.Record t) k ≡ k
+told_something t knows.Nothing is = absurd is
+told_something t (knows.Raw fields) is = refl
+told_something t (knows.Fresh fields) is = refl
+told_something t (knows.Record u) is = refl
+told_something t (knows.Boxed terms) is = refl
 
-here_record : (b : Bool) (tells k : Known) → IsRecord k → (if b then told tells k else k) ≡ k
-here_record true tells k is = told_record tells k is
-here_record false tells k is = refl
+here_something : (b : Bool) (t : Term) (k : Known) → IsSomething k
+    → (if b then told (knows.Record t) k else k) ≡ k
+here_something true t k is = told_something t k is
+here_something false t k is = refl
 
-pub still_record : (tells : Known) (c : ℕ) (cells : List ℕ) (known : List Known) (place : ℕ)
-    → length known ≡ length cells → IsRecord (known_at known place)
-    → known_at (at_cell (told tells) c cells known) place ≡ known_at known place
-still_record tells c [] known place same is = refl
-still_record tells c (cell ∷ cells) [] place same is = absurd is
-still_record tells c (cell ∷ cells) (k ∷ known) zero same is =
-    here_record (cell == c) tells k is
-still_record tells c (cell ∷ cells) (k ∷ known) (suc place) same is =
-    still_record tells c cells known place (omega (arith, same)) is
+pub still_something : (t : Term) (c : ℕ) (cells : List ℕ) (known : List Known) (place : ℕ)
+    → length known ≡ length cells → IsSomething (known_at known place)
+    → known_at (at_cell (told (knows.Record t)) c cells known) place ≡ known_at known place
+still_something t c [] known place same is = refl
+still_something t c (cell ∷ cells) [] place same is = absurd is
+still_something t c (cell ∷ cells) (k ∷ known) zero same is =
+    here_something (cell == c) t k is
+still_something t c (cell ∷ cells) (k ∷ known) (suc place) same is =
+    still_something t c cells known place (omega (arith, same)) is
+
+pub record_something : (k : Known) → IsRecord k → IsSomething k
+record_something knows.Nothing is = is
+record_something (knows.Raw fields) is = tt
+record_something (knows.Fresh fields) is = tt
+record_something (knows.Record t) is = tt
+record_something (knows.Boxed terms) is = tt
 
 pub record_there : (known : List Known) (place : ℕ) → IsRecord (known_at known place)
     → place < length known

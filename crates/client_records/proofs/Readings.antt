@@ -1,6 +1,6 @@
 -- A read of a record: what it gives is that part of the term, and stands.
-use Rattle.std.proofs.Common.{◌≡◌, ◌<◌, ◌≤◌, ◌+◌, ℕ, Bool, true, false, List, [], ◌∷◌, length}
-use Rattle.std.proofs.Common.{refl, sym, ◌∙◌, ap, subst, arith}
+use Rattle.std.proofs.Common.{◌≡◌, ◌<◌, ◌≤◌, ◌+◌, ◌==◌, ℕ, Bool, true, false, List, [], ◌∷◌}
+use Rattle.std.proofs.Common.{Option, length, refl, sym, ◌∙◌, ap, subst, arith}
 use Rattle.std.proofs.lemmas.List.{length-append}
 use Rattle.cell_words.specs.declared.fields.Field.{Field}
 use Rattle.cell_words.specs.declared.fields.Field.TheVariants as word
@@ -14,13 +14,15 @@ use Rattle.heap_rule.specs.declared.known.Known.{Known}
 use Rattle.heap_rule.specs.declared.known.Known.TheVariants as knows
 use Rattle.heap_rule.specs.declared.known.Learned.{Learned}
 use Rattle.heap_rule.specs.declared.view.View.{View}
-use Rattle.core_machine.specs.declared.events.Found.{Found}
-use Rattle.core_machine.specs.State.{field_of, target_of}
+use Rattle.core_machine.specs.State.{State, field_of, target_of}
+use Rattle.core_machine.specs.Words.{is_box_kind}
 use Rattle.heap_rule.specs.Asks.{target}
 use Rattle.heap_rule.specs.Boxes.{Map}
 use Rattle.heap_rule.proofs.Parts.{part_shown}
-use Rattle.heap_rule.proofs.Seats.{target_now}
-use Rattle.heap_rule.specs.Lore.{known_at, learned}
+use Rattle.heap_rule.proofs.Seats.{knows_place, target_now}
+use Rattle.heap_rule.specs.Facts.{IsKnown}
+use Rattle.heap_rule.specs.Lore.{Lore, entry_of, five_plain, known_at, learned, learned_of, told_of}
+use Rattle.heap_rule.specs.Steps.{Mine, same_pass}
 use Rattle.heap_rule.specs.Parts.{ShowsPart}
 use Rattle.heap_rule.specs.Rule.{told, took}
 use Rattle.minor_heap.specs.declared.fields.MinorField.{MinorField}
@@ -38,13 +40,15 @@ use Rattle.doc_records.specs.declared.pool.Part.{Part}
 use Rattle.doc_records.specs.declared.pool.Part.TheVariants as parts
 use Rattle.doc_records.specs.Pool.{PartOn, Shown, Stands, ask_part, part_term, places_of}
 use Rattle.doc_records.specs.Pool.{is_shared as parts_shared}
+use Rattle.mutator_seat.specs.Bound.{Bound}
 use Rattle.mutator_events.specs.Events.{AtEvent}
 use Rattle.mutator_events.specs.Values.{value_found}
 use Rattle.client_records.specs.declared.at.NodeAt.{NodeAt}
 use Rattle.client_records.specs.declared.at.NodeAt.TheVariants as at
-use Rattle.client_records.specs.Records.{IsAmong, IsRecord, Rests, known_term, shown_of, term_at}
+use Rattle.client_records.specs.Records.{IsAmong, IsRecord, Outside, Rests, known_term, shown_of}
+use Rattle.client_records.specs.Records.{outside_of}
 use Rattle.client_records.specs.Records.{SharedRead, is_shared, part_held, part_read, stands_on}
-use Rattle.client_records.specs.Records.{terms_known}
+use Rattle.client_records.specs.Records.{term_at, terms_known}
 use Rattle.client_records.proofs.Kept.{holds_read, later_at, marks_on}
 use Rattle.client_records.proofs.Places.{known_term_at}
 use Rattle.client_records.proofs.Resting.{rests_older, rests_place, rests_stands}
@@ -78,20 +82,21 @@ stands_five known records n (at.Minor r) ordered stands =
 abbrev part_found : ℕ → Field → Part NodeAt
 part_found many found = part_held (value_found many found)
 
-module _ {P : Type 0} (minor : Nursery) (names : ℕ × ℕ) (v : View P) (place f : ℕ) (tells : Learned)
-    (pass : P) (t : Term) where
+module _ {P : Type 0} (minor : Nursery) (outside : Outside) (v : View P) (place f : ℕ)
+    (tells : Learned) (t : Term) where
   abbrev behind : Field → View P
-  behind found = told v (event.Read v.number place f) (finds.Field found) tells pass
+  behind found = told v (event.Read v.number place f) (finds.Field found) tells v.pass
 
   pub found_term : (found : Field) → ShowsPart t v (behind found) found
-      → part_term (shown_of (behind found) minor names).term (part_found (length v.own.held) found)
+      → part_term (shown_of (behind found) minor outside).term
+      (part_found (length v.own.held) found)
       ≡ t
   found_term word.Null shows = sym shows
   found_term (word.Num n) shows = sym shows.0
   found_term (word.Cell c) shows = ap known_term shows.1
 
   pub found_stands : (found : Field) → ShowsPart t v (behind found) found
-      → Stands (shown_of (behind found) minor names) (part_found (length v.own.held) found)
+      → Stands (shown_of (behind found) minor outside) (part_found (length v.own.held) found)
   found_stands word.Null shows = tt
   found_stands (word.Num n) shows = shows.1
   found_stands (word.Cell c) shows =
@@ -124,13 +129,14 @@ module _ {P : Type 0} (minor : Nursery) (names : ℕ × ℕ) (v : View P) (place
   found_shared (word.Cell c) = refl
 
   pub found_read : (found : Field) → IsOrdered 0 minor.records
-      → length v.known ≡ length v.own.held → ShowsPart t v (behind found) found
-      → SharedRead minor names v (behind found) t (part_found (length v.own.held) found)
-  found_read found ordered fit shows = record {
+      → length v.known ≡ length v.own.held → (u : Term) → tells.here ≡ knows.Record u
+      → ShowsPart t v (behind found) found
+      → SharedRead minor outside outside v (behind found) t (part_found (length v.own.held) found)
+  found_read found ordered fit u told_is shows = record {
     term = found_term found shows;
     stands = found_stands found shows;
-    later = later_at minor names ordered v (behind found)
-        (holds_read v fit place f tells pass found);
+    later = later_at minor outside ordered v (behind found)
+        (holds_read v fit place f tells u told_is found);
     held = found_held found;
     told = found_told found;
     shared = found_shared found;
@@ -138,13 +144,13 @@ module _ {P : Type 0} (minor : Nursery) (names : ℕ × ℕ) (v : View P) (place
 
 -- Of a private record.
 
-module _ {P : Type 0} (minor : Nursery) (names : ℕ × ℕ) (v : View P) (r : MinorRef) (i : ℕ)
+module _ {P : Type 0} (minor : Nursery) (outside : Outside) (v : View P) (r : MinorRef) (i : ℕ)
     (ordered : IsOrdered 0 minor.records) (lt : i < 5)
     (stands : Rests minor.records (IsAmong v.known (length v.own.held)) r) where
   pub read_term : (f : MinorField)
       → part i (term_of (terms_known v.known) minor.records r)
       ≡ field_term (terms_known v.known) (terms_of (terms_known v.known) minor.records) f
-      → part_term (shown_of v minor names).term (part_read f)
+      → part_term (shown_of v minor outside).term (part_read f)
       ≡ part i (term_of (terms_known v.known) minor.records r)
   read_term field.Null is = sym is
   read_term (field.Num n) is = sym is
@@ -152,7 +158,7 @@ module _ {P : Type 0} (minor : Nursery) (names : ℕ × ℕ) (v : View P) (r : M
   read_term (field.Shared p) is = sym (known_term_at v.known p) ∙ sym is
 
   pub read_stands : (f : MinorField) → f ≡ field_at minor.records r.number i → FitsRecord r.number f
-      → Stands (shown_of v minor names) (part_read f)
+      → Stands (shown_of v minor outside) (part_read f)
   read_stands field.Null is fits = tt
   read_stands (field.Num n) is fits = fits
   read_stands (field.Minor o) is fits =
@@ -175,35 +181,52 @@ kept_stands known records held n a on r is =
     subst (λ (b : NodeAt). stands_on known records n b) is
     (on (ap is_shared is))
 
+-- what a read of a held record tells is that the cell is one
+told_here : {P : Type 0} {fixed : ℕ → Bool} (v : View P) (s : State) (l : Lore)
+    (mine : Mine fixed v s l) (place f : ℕ) (t : Term) → place < length v.own.held
+    → known_at v.known place ≡ knows.Record t
+    → (learned s l (event.Read v.number place f)).here ≡ knows.Record t
+told_here {fixed = fixed} v s l mine place f t there is =
+    let x = target v place in
+    let here : IsKnown fixed s l v.number x (knows.Record t) =
+    subst (IsKnown fixed s l v.number x) is (knows_place v s l mine place there) in
+    ap (learned_of s l) (target_now v s l mine place)
+    ∙ ap (λ (o : Option Term). told_of (x == 0) (is_box_kind (field_of s x 5)) o (l.fresh x)
+    (five_plain (λ g. entry_of l.terms (field_of s x g)))) here.1
+
 -- a read of a held record, as its seat tells it
 pub event_reads : {P : Type 0} {holding : Map → List P → Type 0} {fixed : ℕ → Bool}
-    {next : Learned → Found → P → P} (minor : Nursery) (names : ℕ × ℕ) (v w : View P)
-    (place f : ℕ) (found : Field) → IsOrdered 0 minor.records
+    (minor : Nursery) (outside : Outside) (v w : View P) (place f : ℕ) (found : Field)
+    → IsOrdered 0 minor.records
     → length v.known ≡ length v.own.held → IsAmong v.known (length v.own.held) place → f ≤ 4
-    → AtEvent holding fixed v (event.Read v.number place f) next (finds.Field found) w
-    → SharedRead minor names v w (part f (known_term (known_at v.known place)))
+    → AtEvent holding fixed v (event.Read v.number place f) same_pass (finds.Field found) w
+    → SharedRead minor outside outside v w (part f (known_term (known_at v.known place)))
     (part_found (length v.own.held) found)
-event_reads {next = next} minor names v w place f found ordered fit known payload at_it =
+event_reads minor outside v w place f found ordered fit known payload at_it =
     let s = at_it.core in
     let l = at_it.lore in
     let e = event.Read v.number place f in
     let t = known_term (known_at v.known place) in
+    let is = record_is (known_at v.known place) known.1 in
     let found_here : finds.Field (field_of s (target_of s v.number place) f) ≡ finds.Field found =
     at_it.found_is in
     let same : field_of s (target_of s v.number place) f ≡ found = cc in
     let row_is : field_of s (target v place) f ≡ found =
     ap (λ (x : ℕ). field_of s x f) (sym (target_now v s l at_it.mine place)) ∙ same in
-    subst (λ (u : View _). SharedRead minor names v u (part f t)
+    subst (λ (u : View _). SharedRead minor outside outside v u (part f t)
     (part_found (length v.own.held) found)) (sym at_it.new)
-    (found_read minor names v place f (learned s l e)
-    (next (learned s l e) (finds.Field found) v.pass) (part f t) found ordered fit
-    (part_shown v s l at_it.mine place f t known.0 payload (record_is (known_at v.known place)
-    known.1) found (told v e (finds.Field found) (learned s l e)
-    (next (learned s l e) (finds.Field found) v.pass))
-    (next (learned s l e) (finds.Field found) v.pass) row_is refl))
+    (found_read minor outside v place f (learned s l e) (part f t) found ordered fit t
+    (told_here v s l at_it.mine place f t known.0 is)
+    (part_shown v s l at_it.mine place f t known.0 payload is found
+    (told v e (finds.Field found) (learned s l e) v.pass) v.pass row_is refl))
 
--- nothing is owed of a part that names no private record
-pub part_on : {A : Type 0} (shared : A → Bool) (s : Shown A) (places : ℕ) (p : Part A)
+-- of the same heap
+pub outside_same : {P : Type 0} (m w : Bound P) (names : ℕ × ℕ) → w.heap ≡ m.heap
+    → w.seat.table ≡ m.seat.table → outside_of m names ≡ outside_of w names
+outside_same m w names heap table = rw (heap, table) refl
+
+-- nothing is owed of a part that outside no private record
+pub part_on : {A F : Type 0} (shared : A → Bool) (s : Shown A F) (places : ℕ) (p : Part A)
     → parts_shared shared p ≡ true → PartOn shared s places p
 part_on shared s places parts.Null is = tt
 part_on shared s places (parts.Num n) is = tt

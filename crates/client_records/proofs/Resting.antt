@@ -8,6 +8,7 @@ use Rattle.minor_heap.specs.declared.fields.MinorField.{MinorField}
 use Rattle.minor_heap.specs.declared.fields.MinorField.TheVariants as field
 use Rattle.minor_heap.specs.declared.fields.MinorRef.{MinorRef}
 use Rattle.minor_heap.specs.Nursery.{IsOrdered, field_at}
+use Rattle.minor_heap.specs.Reaches.{Reaches, named, root}
 use Rattle.minor_heap.specs.Terms.{field_term, term_of, terms_of}
 use Rattle.minor_heap.proofs.Terms.{term_is}
 use Rattle.client_records.specs.Records.{Rests, rests}
@@ -32,6 +33,14 @@ pub rests_older : (records : List (List MinorField)) (ok : ℕ → Type 0) (r : 
     (o : MinorRef) → Rests records ok r → i < 5 → field_at records r.number i ≡ field.Minor o
     → Rests records ok o
 rests_older records ok r i o (rests stands places older) lt is = older i o lt is
+
+-- whatever such records reach stands where they do
+pub rests_reached : (records : List (List MinorField)) (ok : ℕ → Type 0)
+    (IsRoot : MinorRef → Type 0) → ((r : MinorRef) → IsRoot r → Rests records ok r) → (o : MinorRef)
+    → Reaches records IsRoot o → Rests records ok o
+rests_reached records ok IsRoot each o (root is) = each o is
+rests_reached records ok IsRoot each o (named {r = r} i lt before is) =
+    rests_older records ok r i o (rests_reached records ok IsRoot each r before) lt is
 
 -- one record more
 

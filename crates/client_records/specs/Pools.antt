@@ -3,7 +3,7 @@
 use Rattle.doc_records.specs.Pool.{Shown}
 use Rattle.client_records.specs.declared.at.NodeAt.{NodeAt}
 use Rattle.client_records.specs.declared.records.ClientRecords.{ClientRecords}
-use Rattle.client_records.specs.Records.{shown_of}
+use Rattle.client_records.specs.Records.{ClientFact, shown_by}
 
-abbrev pub shown : {P : Type 0} → ClientRecords P → Shown NodeAt
-shown r = shown_of r.mutator.now.seat.me r.minor.now (r.mutator.ghost_name, r.minor.ghost_name)
+abbrev pub shown : {P : Type 0} → ClientRecords P → Shown NodeAt (ClientFact P)
+shown r = shown_by r.mutator.now r.minor.now (r.mutator.ghost_name, r.minor.ghost_name)

@@ -1,10 +1,14 @@
 -- A client's records as a pool: what stands, and what each record says.
 -- Source: Doligez and Leroy, POPL 1993 (private records that name shared ones). This project's: that
 -- they name places of the held list.
-use Rattle.std.specs.Prelude.{ℕ, ◌≡◌, ◌<◌, ◌≤◌, ◌+◌, ◌-◌, Bool, true, false, List, length, map}
+use Rattle.std.specs.Prelude.{ℕ, ◌≡◌, ◌<◌, ◌≤◌, ◌+◌, ◌-◌, ◌++◌, Bool, true, false, List, []}
+use Rattle.std.specs.Prelude.{length, map}
 use Rattle.cell_words.specs.Term.{Term, null, IsFive}
 use Rattle.core_machine.specs.Places.{cell_at}
-use Rattle.heap_rule.specs.Lore.{known_at}
+use Rattle.atomic_table.specs.Seated.{TableId}
+use Rattle.heap_table.specs.Seats.{HeapId}
+use Rattle.mutator_seat.specs.Bound.{Bound}
+use Rattle.heap_rule.specs.Lore.{known_at, term_or}
 use Rattle.heap_rule.specs.declared.known.Known.{Known}
 use Rattle.heap_rule.specs.declared.known.Known.TheVariants as knows
 use Rattle.heap_rule.specs.declared.view.View.{View}
@@ -34,11 +38,7 @@ IsRecord (knows.Boxed terms) = ⊥
 
 -- that term; null of what is no such record
 abbrev pub known_term : Known → Term
-known_term knows.Nothing = null
-known_term (knows.Raw fields) = null
-known_term (knows.Fresh fields) = null
-known_term (knows.Record t) = t
-known_term (knows.Boxed terms) = null
+known_term k = term_or null k
 
 -- by place
 abbrev pub terms_known : List Known → List Term
@@ -70,18 +70,77 @@ abbrev pub is_shared : NodeAt → Bool
 is_shared (at.Shared place) = true
 is_shared (at.Minor r) = false
 
--- what a mutator's view and a private heap show together; the names are those of what is borrowed
-abbrev pub shown_of : {P : Type 0} → View P → Nursery → ℕ × ℕ → Shown NodeAt
-shown_of v minor names = record {
+-- What a client's pool says beside its records.
+
+-- what there is outside of a mutator's view and a private heap: which heap the mutator's is, and
+-- the names of both as they are borrowed
+pub record Outside : Type 0 where
+  pub heap : HeapId
+  pub table : TableId
+  pub names : ℕ × ℕ
+
+-- a mutator but for what it holds, what it knows of that, and its trail
+abbrev pub blank : {P : Type 0} → View P → View P
+blank v = record v { own = record v.own { held = [] }; known = []; trail = [] }
+
+-- what no call changes: all of the mutator but these, and the room of the private heap
+pub record Around (P : Type 0) : Type 0 where
+  pub outside : Outside
+  pub view : View P
+  pub room : ℕ
+
+abbrev pub around_of : {P : Type 0} → View P → Nursery → Outside → Around P
+around_of v minor outside = record { outside = outside; view = blank v; room = minor.room }
+
+-- more than nothing is known
+abbrev pub IsSomething : Known → Type 0
+IsSomething knows.Nothing = ⊥
+IsSomething (knows.Raw fields) = Unit {0}
+IsSomething (knows.Fresh fields) = Unit {0}
+IsSomething (knows.Record t) = Unit {0}
+IsSomething (knows.Boxed terms) = Unit {0}
+
+pub data ClientFact (P : Type 0) : Type 0 where
+  -- this is what no call changes
+  IsAround : Around P → ClientFact P
+  -- the place holds this cell
+  HasCell : (place cell : ℕ) → ClientFact P
+  -- this is known of the place, and it is something
+  IsKnownAs : (place : ℕ) → Known → ClientFact P
+  -- the private records are these, and those that were made later
+  HasRecords : List (List MinorField) → ClientFact P
+
+pub record BeginWith (first records : List (List MinorField)) : Type 0 where
+  pub rest : List (List MinorField)
+  pub is : records ≡ first ++ rest
+
+-- the fact stands on the first so many places
+abbrev pub says_of : {P : Type 0} → View P → Nursery → Outside → ℕ → ClientFact P → Type 0
+says_of v minor outside places (IsAround around) = around_of v minor outside ≡ around
+says_of v minor outside places (HasCell place cell) =
+    (place < places) × (cell_at v.own.held place ≡ cell)
+says_of v minor outside places (IsKnownAs place k) =
+    (place < places) × (IsSomething k × (known_at v.known place ≡ k))
+says_of v minor outside places (HasRecords records) = BeginWith records minor.records
+
+-- what a mutator's view and a private heap show together
+abbrev pub shown_of : {P : Type 0} → View P → Nursery → Outside → Shown NodeAt (ClientFact P)
+shown_of v minor outside = record {
   term = term_at v.known minor.records;
   stands = stands_on v.known minor.records;
   held = length v.own.held;
   room = v.room;
-  cell = cell_at v.own.held;
+  says = says_of v minor outside;
   records = minor.room - length minor.records;
   marks = marks_of v.trail;
-  source = names;
 }
+
+abbrev pub outside_of : {P : Type 0} → Bound P → ℕ × ℕ → Outside
+outside_of m names = record { heap = m.heap; table = m.seat.table; names = names }
+
+-- and what a mutator and a private heap show that are borrowed under these names
+abbrev pub shown_by : {P : Type 0} → Bound P → Nursery → ℕ × ℕ → Shown NodeAt (ClientFact P)
+shown_by m minor names = shown_of m.seat.me minor (outside_of m names)
 
 -- a part as a field of a private record
 abbrev pub field_of : Part NodeAt → MinorField
@@ -103,11 +162,11 @@ part_read (field.Minor r) = parts.Record (at.Minor r)
 part_read (field.Shared place) = parts.Record (at.Shared place)
 
 -- a read of a shared record gave a part that says this, beside any private heap
-pub record SharedRead {P : Type 0} (minor : Nursery) (names : ℕ × ℕ) (v w : View P) (t : Term)
-    (result : Part NodeAt) : Type 0 where
-  pub term : part_term (shown_of w minor names).term result ≡ t
-  pub stands : Stands (shown_of w minor names) result
-  pub later : Later (shown_of v minor names) (shown_of w minor names)
+pub record SharedRead {P : Type 0} (minor : Nursery) (before behind : Outside) (v w : View P)
+    (t : Term) (result : Part NodeAt) : Type 0 where
+  pub term : part_term (shown_of w minor behind).term result ≡ t
+  pub stands : Stands (shown_of w minor behind) result
+  pub later : Later (shown_of v minor before) (shown_of w minor behind)
   pub held : length w.own.held ≤ length v.own.held + places_of result
   pub told : Tells (ask_part result) (marks_of v.trail) (marks_of w.trail)
   pub shared : parts_shared is_shared result ≡ true

@@ -4,7 +4,7 @@ ghost use Rattle.cell_words.specs.Term.{five, part};
 ghost use Rattle.doc_records.specs.Pool.{Later, Stands, part_term};
 ghost use Rattle.client_records.specs.Pools.{shown};
 ghost use Rattle.client_records.specs.Records.{IsAmong, SharedRead, field_of, known_term};
-ghost use Rattle.client_records.specs.Records.{part_held, part_read};
+ghost use Rattle.client_records.specs.Records.{outside_of, part_held, part_read};
 ghost use Rattle.heap_rule.specs.Lore.{known_at};
 ghost use Rattle.minor_heap.specs.Nursery.{IsOrdered, Nursery};
 
@@ -17,9 +17,11 @@ use mutator_seat::{Mutator, Value};
 use std::marker::Brand;
 
 impl<'a, 'h, P: Keeping> RecordPool for ClientRecords<'a, 'h, P> {
-    ghost use Rattle.client_records.specs.Records.{is_shared};
+    ghost use Rattle.client_records.specs.Records.{ClientFact, is_shared};
 
     type At = NodeAt;
+
+    ghost Fact = { ClientFact P };
 
     ghost shown = { shown };
 
@@ -108,7 +110,8 @@ fn read_shared<P: Keeping>(mutator: &mut Mutator<'_, P>, place: usize, index: us
     requires room { length mutator.old.seat.me.own.held < mutator.old.seat.me.room }
     ensures inside { mutator.new.seat.me.presence.inside ≡ true }
     ensures reads { (minor : Nursery) (names : ℕ × ℕ) → IsOrdered 0 minor.records
-        → SharedRead minor names mutator.old.seat.me mutator.new.seat.me
+        → SharedRead minor (outside_of mutator.old names) (outside_of mutator.new names)
+        mutator.old.seat.me mutator.new.seat.me
         (part index (known_term (known_at mutator.old.seat.me.known place))) result }
 {
     part_held(mutator.read::<Brand>(place, index))

@@ -103,26 +103,26 @@ along_below make again (m ∷ names) n t d f some first begun same along =
     (step_below make again n names t d f begun same below)
 
 -- what a call leaves of an end and of a node, or none
-pub made_same : {At : Type 0} (s t : Shown At) (end : End At) → Later s t → StandsAtEnd s end
+pub made_same : {At F : Type 0} (s t : Shown At F) (end : End At) → Later s t → StandsAtEnd s end
     → made_at t end ≡ made_at s end
 made_same s t (ends.Text text) later stands = refl
 made_same s t (ends.Node a) later stands =
     let make : Term → DocTree → DocTree = λ u d. tree_of u in ap make (later.same a stands.stands)
 
-pub top_still : {At : Type 0} (s t : Shown At) (o : Option At) → Later s t → IsTop s o → IsTop t o
+pub top_still : {At F : Type 0} (s t : Shown At F) (o : Option At) → Later s t → IsTop s o → IsTop t o
 top_still s t None later top = tt
 top_still s t (Some a) later top = record {
   stands = later.now a top.stands;
   node = subst IsTreeNode (sym (later.same a top.stands)) top.node;
 }
 
-pub top_same : {At : Type 0} (s t : Shown At) (o : Option At) → Later s t → IsTop s o
+pub top_same : {At F : Type 0} (s t : Shown At F) (o : Option At) → Later s t → IsTop s o
     → tree_under t o ≡ tree_under s o
 top_same s t None later top = refl
 top_same s t (Some a) later top = ap tree_of (later.same a top.stands)
 
 -- how large the tree is then
-pub within_step : {At : Type 0} (s : Shown At) (o : Option At) (n : List ℕ) (d : DocTree) (k m : ℕ)
+pub within_step : {At F : Type 0} (s : Shown At F) (o : Option At) (n : List ℕ) (d : DocTree) (k m : ℕ)
     → IsTop s o → IsWithin k d → m ≡ k + 1 → IsWithin m (with_child n d (tree_under s o))
 within_step s o n d k m top is more =
     let few = top_few s o top in

@@ -99,19 +99,19 @@ entry_five t a b c d e made = rw made tt
 pub ruleset new_entry = (entry_is, entry_made, entry_there, entry_five)
 
 -- the entries on one side
-pub side_stands : {At : Type 0} (s : Shown At) (made : ℕ) (p : Part At) → IsSideAt s made p
+pub side_stands : {At F : Type 0} (s : Shown At F) (made : ℕ) (p : Part At) → IsSideAt s made p
     → Stands s p
 side_stands s made parts.Null side = tt
 side_stands s made (parts.Num n) side = absurd side
 side_stands s made (parts.Record a) side = (side.stands, side.five)
 
-pub side_entries : {At : Type 0} (s : Shown At) (made : ℕ) (p : Part At) → IsSideAt s made p
+pub side_entries : {At F : Type 0} (s : Shown At F) (made : ℕ) (p : Part At) → IsSideAt s made p
     → AreEntries (part_term s.term p)
 side_entries s made parts.Null side = tt
 side_entries s made (parts.Num n) side = absurd side
 side_entries s made (parts.Record a) side = side.entries
 
-pub side_low : {At : Type 0} (s : Shown At) (made : ℕ) (p : Part At) → IsSideAt s made p
+pub side_low : {At F : Type 0} (s : Shown At F) (made : ℕ) (p : Part At) → IsSideAt s made p
     → height_of (entries_of (part_term s.term p)) ≤ 11 + made
 side_low s made parts.Null side = omega arith
 side_low s made (parts.Num n) side = absurd side

@@ -29,7 +29,7 @@ deleted_low path d u is lawful =
 pub ruleset deleted = (deleted_few, deleted_low)
 
 -- the child in which a deletion goes on
-pub tree_child : {At : Type 0} (s : Shown At) (t : DocTree) (n : List ℕ) (a : At) → IsLawful t
+pub tree_child : {At F : Type 0} (s : Shown At F) (t : DocTree) (n : List ℕ) (a : At) → IsLawful t
     → IsNodeAt s a → Some (tree_of (s.term a)) ≡ child n t.kids → IsTreeAt s a
 tree_child s t n a lawful is there = record {
   stands = is.stands;
@@ -40,7 +40,7 @@ tree_child s t n a lawful is there = record {
 }
 
 -- an edit's answer is the node of a lawful tree
-pub tree_lawful : {At : Type 0} (s : Shown At) (r : Result At EditFault)
+pub tree_lawful : {At F : Type 0} (s : Shown At F) (r : Result At EditFault)
     (wanted : Result DocTree EditFault) → answered (λ a. tree_of (s.term a)) r ≡ wanted
     → ((u : DocTree) → wanted ≡ Ok u → IsLawful u) → ForOk r (IsNodeAt s) → ForOk r (IsTreeAt s)
 tree_lawful s r wanted is all nodes = λ a e.
@@ -53,20 +53,20 @@ tree_lawful s r wanted is all nodes = λ a e.
       };
     }
 
-pub text_lawful : {At : Type 0} (s : Shown At) (r : Result At EditFault) (path : List (List ℕ))
+pub text_lawful : {At F : Type 0} (s : Shown At F) (r : Result At EditFault) (path : List (List ℕ))
     (text : List ℕ) (t : DocTree) → answered (λ a. tree_of (s.term a)) r ≡ set_text path text t
     → IsLawful t → ForOk r (IsNodeAt s) → ForOk r (IsTreeAt s)
 text_lawful s r path text t is lawful nodes =
     tree_lawful s r (set_text path text t) is (λ u e. set_text_lawful path text t u lawful e) nodes
 
-pub attached_lawful : {At : Type 0} (s : Shown At) (r : Result At EditFault)
+pub attached_lawful : {At F : Type 0} (s : Shown At F) (r : Result At EditFault)
     (path : List (List ℕ)) (sub t : DocTree)
     → answered (λ a. tree_of (s.term a)) r ≡ attach path sub t → IsLawful sub → IsLawful t
     → ForOk r (IsNodeAt s) → ForOk r (IsTreeAt s)
 attached_lawful s r path sub t is inside lawful nodes =
     tree_lawful s r (attach path sub t) is (λ u e. attach_lawful path sub t u inside lawful e) nodes
 
-pub deleted_lawful : {At : Type 0} (s : Shown At) (r : Result At EditFault)
+pub deleted_lawful : {At F : Type 0} (s : Shown At F) (r : Result At EditFault)
     (path : List (List ℕ)) (t : DocTree)
     → answered (λ a. tree_of (s.term a)) r ≡ delete path t → IsLawful t
     → ForOk r (IsNodeAt s) → ForOk r (IsTreeAt s)

@@ -20,7 +20,7 @@ pub no_text : (t : Term) → t ≡ null → IsText t
 no_text t is = rw is (record { spells = refl; text = refl })
 
 -- the children of a node as a row
-pub row_opened : {At : Type 0} (s : Shown At) (p : Part At) (t : Term) → IsTreeNode t
+pub row_opened : {At F : Type 0} (s : Shown At F) (p : Part At) (t : Term) → IsTreeNode t
     → part_term s.term p ≡ part 1 t → Stands s p → IsRowAt s p
 row_opened s p t is same stands = record {
   stands = stands;
@@ -29,7 +29,7 @@ row_opened s p t is same stands = record {
   few = subst (λ u. kid_count (kids_of (entries_of u)) ≤ 256) (sym same) (node_few t is);
 }
 
-pub row_none : {At : Type 0} (s : Shown At) → IsRowAt s parts.Null
+pub row_none : {At F : Type 0} (s : Shown At F) → IsRowAt s parts.Null
 row_none s = record { stands = tt; entries = tt; rising = tt; few = omega arith }
 
 pub kids_opened : (u t : Term) → IsTreeNode t → u ≡ part 1 t
@@ -68,12 +68,12 @@ pub put_few : (n : List ℕ) (d : DocTree) (kids : Kids)
     → nodes_below (put_child n d kids) ≤ nodes_below kids + count d
 put_few n d kids = omega (arith, nodes_put n d kids)
 
-pub top_few : {At : Type 0} (s : Shown At) (o : Option At) → IsTop s o
+pub top_few : {At F : Type 0} (s : Shown At F) (o : Option At) → IsTop s o
     → count (tree_under s o) ≤ 1_000_000_000
 top_few s None is = omega arith
 top_few s (Some a) is = is.node.lawful.few
 
-pub top_low : {At : Type 0} (s : Shown At) (o : Option At) → IsTop s o
+pub top_low : {At F : Type 0} (s : Shown At F) (o : Option At) → IsTop s o
     → height_below (tree_under s o).kids ≤ 8
 top_low s None is = omega arith
 top_low s (Some a) is = is.node.lawful.low

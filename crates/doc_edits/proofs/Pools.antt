@@ -15,7 +15,7 @@ use Rattle.doc_edits.specs.Tops.{IsRowAt}
 use Rattle.doc_edits.proofs.Fields.{five_entry}
 
 -- the children of a node, as the top of a pool that made none yet
-pub row_balanced : {R At : Type 0} (shown : R → Shown At) (s : EntryPool R) (p : Part At)
+pub row_balanced : {R At F : Type 0} (shown : R → Shown At F) (s : EntryPool R) (p : Part At)
     (o : Option At) → o ≡ top_of p → IsRowAt (shown s.records.now) p
     → IsBalanced (under (entries_in shown) s o)
 row_balanced shown s parts.Null o is row = rw is tt
@@ -23,7 +23,7 @@ row_balanced shown s (parts.Num n) o is row = rw is tt
 row_balanced shown s (parts.Record a) o is row =
     rw is (balanced ((shown s.records.now).term a) row.entries)
 
-pub row_stands : {R At : Type 0} (shown : R → Shown At) (s : EntryPool R) (p : Part At)
+pub row_stands : {R At F : Type 0} (shown : R → Shown At F) (s : EntryPool R) (p : Part At)
     (o : Option At) → o ≡ top_of p → IsRowAt (shown s.records.now) p
     → (shown s.records.now).held < (shown s.records.now).room → Stand (stands_in shown) s o
 row_stands shown s parts.Null o is row place = rw is tt
@@ -41,17 +41,16 @@ row_stands shown s (parts.Record a) o is row place =
     })
 
 -- what a pool keeps at its start
-pub later_self : {At : Type 0} (s : Shown At) → Later s s
+pub later_self : {At F : Type 0} (s : Shown At F) → Later s s
 later_self s = record {
   still = λ x n stands low. stands;
   now = λ x stands. stands;
   same = λ x stands. refl;
-  cells = λ place low. refl;
+  says = λ f n says low. says;
   longer = omega arith;
   room = refl;
   marks = λ before begins. begins;
-  source = refl;
 }
 
-pub kept_self : {At : Type 0} (s : Shown At) (lent : ℕ) → IsKept s s lent lent
+pub kept_self : {At F : Type 0} (s : Shown At F) (lent : ℕ) → IsKept s s lent lent
 kept_self s lent = record { later = later_self s; lent = refl }

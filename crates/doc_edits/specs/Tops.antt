@@ -8,27 +8,27 @@ use Rattle.doc_records.specs.Pool.{Shown, Stands, part_term}
 use Rattle.doc_records.specs.Trees.{AreEntries, IsTreeNode, entries_of, tree_of}
 
 -- the children under a part
-abbrev pub row_of : {At : Type 0} → Shown At → Part At → Kids
+abbrev pub row_of : {At F : Type 0} → Shown At F → Part At → Kids
 row_of s p = kids_of (entries_of (part_term s.term p))
 
 -- children that a node may have stand here, as entries
-pub record IsRowAt {At : Type 0} (s : Shown At) (p : Part At) : Type 0 where
+pub record IsRowAt {At F : Type 0} (s : Shown At F) (p : Part At) : Type 0 where
   pub stands : Stands s p
   pub entries : AreEntries (part_term s.term p)
   pub rising : IsRising (row_of s p)
   pub few : kid_count (row_of s p) ≤ 256
 
 -- the node of a lawful tree stands here
-pub record IsTreeAt {At : Type 0} (s : Shown At) (a : At) : Type 0 where
+pub record IsTreeAt {At F : Type 0} (s : Shown At F) (a : At) : Type 0 where
   pub stands : s.stands s.held a
   pub node : IsTreeNode (s.term a)
 
 -- a node, or none, which is as a node of the empty tree
-abbrev pub tree_under : {At : Type 0} → Shown At → Option At → DocTree
+abbrev pub tree_under : {At F : Type 0} → Shown At F → Option At → DocTree
 tree_under s None = empty
 tree_under s (Some a) = tree_of (s.term a)
 
-abbrev pub IsTop : {At : Type 0} → Shown At → Option At → Type 0
+abbrev pub IsTop : {At F : Type 0} → Shown At F → Option At → Type 0
 IsTop s None = Unit {0}
 IsTop s (Some a) = IsTreeAt s a
 

@@ -59,14 +59,13 @@ text_shown (Ok x) P t a b c is told first second =
 text_shown (Err e) P t a b c is told first second = tt
 
 -- places that are given back
-pub kept_back : {A : Type 0} (a b c : Shown A) → Later a b → Kept a.held b c → Later a c
+pub kept_back : {A F : Type 0} (a b c : Shown A F) → Later a b → Kept a.held b c → Later a c
 kept_back a b c later kept = record {
   still = λ x n stands low. kept.still x n (later.still x n stands low) low;
   now = λ x stands. kept.now x (later.still x a.held stands (omega arith));
   same = λ x stands. kept.same x (later.still x a.held stands (omega arith)) ∙ later.same x stands;
-  cells = λ place low. kept.cells place low ∙ later.cells place low;
+  says = λ f n says low. kept.says f n (later.says f n says low) low;
   longer = kept.longer;
   room = kept.room ∙ later.room;
   marks = λ before begins. kept.marks before (later.marks before begins);
-  source = kept.source ∙ later.source;
 }

@@ -12,7 +12,9 @@ use Rattle.trails.specs.Telling.{Keeps}
 use Rattle.doc_records.specs.declared.pool.Part.{Part}
 use Rattle.doc_records.specs.declared.pool.Part.TheVariants as parts
 
-pub record Shown (At : Type 0) : Type 1 where
+-- Beside its records a pool may have more to say, in facts of its own: each stands on so many places
+-- of the held list, and what stood on places that stay stands from then on.
+pub record Shown (At Fact : Type 0) : Type 1 where
   -- the term of a record
   pub term : At → Term
   -- the record stands on the first so many places of the held list
@@ -20,14 +22,12 @@ pub record Shown (At : Type 0) : Type 1 where
   -- how many places are held, and how many there are room for
   pub held : ℕ
   pub room : ℕ
-  -- the cell at each place
-  pub cell : ℕ → ℕ
+  -- the fact stands on the first so many places
+  pub says : ℕ → Fact → Type 0
   -- how many more records there is room for
   pub records : ℕ
   -- what was read of shared records
   pub marks : List Mark
-  -- what no call changes: of a pool that borrows what it fills, whose it is
-  pub source : ℕ × ℕ
 
 -- the term of a part of a record
 abbrev pub part_term : {A : Type 0} → (A → Term) → Part A → Term
@@ -36,7 +36,7 @@ part_term term (parts.Num n) = num n
 part_term term (parts.Record a) = term a
 
 -- a part that a record may have: what it names stands
-abbrev pub Stands : {A : Type 0} → Shown A → Part A → Type 0
+abbrev pub Stands : {A F : Type 0} → Shown A F → Part A → Type 0
 Stands s parts.Null = Unit {0}
 Stands s (parts.Num n) = n < 2 ^ 62
 Stands s (parts.Record a) = s.stands s.held a × IsFive (s.term a)
@@ -55,32 +55,30 @@ is_shared shared (parts.Record a) = shared a
 
 -- whatever stood still stands and says what it said, and the held list is as it was, but that it
 -- may be longer
-pub record Later {A : Type 0} (old new : Shown A) : Type 0 where
+pub record Later {A F : Type 0} (old new : Shown A F) : Type 0 where
   pub still : (a : A) (n : ℕ) → old.stands n a → n ≤ old.held → new.stands n a
   pub now : (a : A) → old.stands old.held a → new.stands new.held a
   pub same : (a : A) → old.stands old.held a → new.term a ≡ old.term a
-  pub cells : (place : ℕ) → place < old.held → new.cell place ≡ old.cell place
+  pub says : (f : F) (n : ℕ) → old.says n f → n ≤ old.held → new.says n f
   pub longer : old.held ≤ new.held
   pub room : new.room ≡ old.room
   pub marks : Keeps old.marks new.marks
-  pub source : new.source ≡ old.source
 
 -- the held list is its first so many places, and perhaps what was kept after them
-pub record Kept {A : Type 0} (places : ℕ) (old new : Shown A) : Type 0 where
+pub record Kept {A F : Type 0} (places : ℕ) (old new : Shown A F) : Type 0 where
   pub still : (a : A) (n : ℕ) → old.stands n a → n ≤ places → new.stands n a
   pub now : (a : A) → old.stands places a → new.stands new.held a
   pub same : (a : A) → old.stands places a → new.term a ≡ old.term a
-  pub cells : (place : ℕ) → place < places → new.cell place ≡ old.cell place
+  pub says : (f : F) (n : ℕ) → old.says n f → n ≤ places → new.says n f
   pub longer : places ≤ new.held
   pub room : new.room ≡ old.room
   pub marks : Keeps old.marks new.marks
-  pub source : new.source ≡ old.source
 
 -- a record that is shared, or stands on so many places
-abbrev pub IsOn : {A : Type 0} → (A → Bool) → Shown A → ℕ → A → Type 0
+abbrev pub IsOn : {A F : Type 0} → (A → Bool) → Shown A F → ℕ → A → Type 0
 IsOn shared s places a = shared a ≡ false → s.stands places a
 
-abbrev pub PartOn : {A : Type 0} → (A → Bool) → Shown A → ℕ → Part A → Type 0
+abbrev pub PartOn : {A F : Type 0} → (A → Bool) → Shown A F → ℕ → Part A → Type 0
 PartOn shared s places parts.Null = Unit {0}
 PartOn shared s places (parts.Num n) = Unit {0}
 PartOn shared s places (parts.Record a) = IsOn shared s places a

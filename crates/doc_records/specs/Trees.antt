@@ -79,6 +79,6 @@ pub record IsTreeNode (t : Term) : Type 0 where
   pub lawful : IsLawful (tree_of t)
 
 -- a node stands at this record
-pub record IsNodeAt {At : Type 0} (s : Shown At) (a : At) : Type 0 where
+pub record IsNodeAt {At F : Type 0} (s : Shown At F) (a : At) : Type 0 where
   pub stands : s.stands s.held a
   pub node : IsNode (s.term a)

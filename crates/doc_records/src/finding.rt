@@ -1,11 +1,11 @@
 //! The child of a name.
-ghost use Rattle.std.specs.Prelude.{◌≡◌, ◌+◌, ◌*◌, ◌≤◌, ℕ};
+ghost use Rattle.std.specs.Prelude.{◌≡◌, ◌+◌, ◌*◌, ◌≤◌, ◌<◌, ℕ, true};
 ghost use Rattle.std.specs.Option.{ForSome, option_map};
 ghost use Rattle.cell_words.specs.Term.{part, IsFive};
 ghost use Rattle.doc_tree.specs.Tree.{child as child_of_name, name_cmp, IsRising};
 ghost use Rattle.kids_avl.specs.Entries.{height_of, kids_of};
 ghost use Rattle.doc_records.specs.Pool.{Later, Stands, IsOn, PartOn, part_term};
-ghost use Rattle.doc_records.specs.Pool.{places_found};
+ghost use Rattle.doc_records.specs.Pool.{is_shared, places_found};
 ghost use Rattle.doc_records.specs.Texts.{text_of};
 ghost use Rattle.doc_records.specs.Trees.{AreEntries, IsNodeAt, IsTreeNode, entries_of};
 ghost use Rattle.doc_records.specs.Trees.{tree_of};
@@ -41,6 +41,7 @@ pub fn entry_child<R: RecordPool>(records: &mut R, at: R::At) -> R::At
     requires places { (R.shown records.old).held + 1 ≤ (R.shown records.old).room }
     ensures term { (R.shown records.new).term result ≡ part 1 ((R.shown records.old).term at) }
     ensures stands { IsNodeAt (R.shown records.new) result }
+    ensures shared { R.shared at ≡ true → R.shared result ≡ true }
     ensures on { (places : ℕ) → places ≤ (R.shown records.old).held
         → IsOn R.shared (R.shown records.old) places at
         → IsOn R.shared (R.shown records.new) places result }
@@ -66,6 +67,8 @@ fn find_under<R: RecordPool>(records: &mut R, top: Part<R::At>, name: &Name) -> 
     ensures child { option_map (λ at. tree_of ((R.shown records.new).term at)) result
         ≡ child_of_name name.now (kids_of (entries_of (part_term (R.shown records.old).term top))) }
     ensures stands { ForSome result (IsNodeAt (R.shown records.new)) }
+    ensures shared { is_shared R.shared top ≡ true
+        → ForSome result (λ a. R.shared a ≡ true) }
     ensures on { (places : ℕ) → places ≤ (R.shown records.old).held
         → PartOn R.shared (R.shown records.old) places top
         → ForSome result (IsOn R.shared (R.shown records.new) places) }
@@ -99,6 +102,7 @@ pub fn find_child<R: RecordPool>(records: &mut R, at: R::At, name: &Name) -> Opt
     ensures child { option_map (λ at. tree_of ((R.shown records.new).term at)) result
         ≡ child_of_name name.now (tree_of ((R.shown records.old).term at)).kids }
     ensures stands { ForSome result (IsNodeAt (R.shown records.new)) }
+    ensures shared { R.shared at ≡ true → ForSome result (λ a. R.shared a ≡ true) }
     ensures on { (places : ℕ) → places ≤ (R.shown records.old).held
         → IsOn R.shared (R.shown records.old) places at
         → ForSome result (IsOn R.shared (R.shown records.new) places) }
@@ -119,6 +123,9 @@ pub fn child<R: RecordPool>(records: &mut R, at: R::At, name: &Name) -> Option<R
     ensures child { option_map (λ at. tree_of ((R.shown records.new).term at)) result
         ≡ child_of_name name.now (tree_of ((R.shown records.old).term at)).kids }
     ensures stands { ForSome result (IsNodeAt (R.shown records.new)) }
+    ensures shared { R.shared at ≡ true → ForSome result (λ a. R.shared a ≡ true) }
+    ensures last { ForSome result (λ at. R.shared at ≡ true
+        → (n : ℕ) → (R.shown records.new).stands n at → (R.shown records.old).held < n) }
     ensures later { Later (R.shown records.old) (R.shown records.new) }
     ensures held { (R.shown records.new).held
         ≡ (R.shown records.old).held + places_found R.shared result }

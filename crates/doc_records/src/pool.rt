@@ -19,7 +19,11 @@ pub enum Part<At> {
 pub trait RecordPool {
     type At: Copy;
 
-    ghost shown: { Self → Shown Self.At };
+    /// What a pool says beside its records: of a pool that borrows what it fills, what no call changes
+    /// of that, and what is known of the places that are held.
+    ghost Fact: { Type 0 };
+
+    ghost shown: { Self → Shown Self.At Fact };
 
     /// The record is shared, and so is all that it leads to.
     ghost shared: { Self.At → Bool };
@@ -92,6 +96,8 @@ pub trait RecordPool {
         ensures term { (shown self.new).term result ≡ (shown self.old).term at }
         ensures stands { (shown self.new).stands (shown self.new).held result }
         ensures shared { shared result ≡ shared at }
+        ensures last { shared result ≡ true
+            → (n : ℕ) → (shown self.new).stands n result → places < n }
         ensures held { (shown self.new).held ≡ places + own_place (shared at) }
         ensures records { (shown self.new).records ≡ (shown self.old).records };
 }

@@ -68,11 +68,10 @@ later_made old new fields more =
       still = λ r n stands low. omega (arith, stands, more_records);
       now = λ r stands. omega (arith, stands, more_records);
       same = λ r stands. old_term old.heap.records new.heap.records fields r more stands;
-      cells = λ place low. refl;
+      says = λ count n says low. omega (arith, says, more_records);
       longer = omega arith;
       room = refl;
       marks = λ before begins. begins;
-      source = refl;
     }
 
 -- a part as a field
@@ -89,16 +88,15 @@ part_fits pool (parts.Num n) f is stands = rw is stands
 part_fits pool (parts.Record r) f is stands = rw is stands.0
 
 -- two calls, one after the other
-pub later_on : {A : Type 0} (a b c : Shown A) → Later a b → Later b c → Later a c
+pub later_on : {A F : Type 0} (a b c : Shown A F) → Later a b → Later b c → Later a c
 later_on a b c first second = record {
   still = λ x n stands low.
       second.still x n (first.still x n stands low) (omega (arith, low, first.longer));
   now = λ x stands. second.now x (first.now x stands);
   same = λ x stands. second.same x (first.now x stands) ∙ first.same x stands;
-  cells = λ place low.
-      second.cells place (omega (arith, low, first.longer)) ∙ first.cells place low;
+  says = λ f n says low.
+      second.says f n (first.says f n says low) (omega (arith, low, first.longer));
   longer = omega (arith, first.longer, second.longer);
   room = second.room ∙ first.room;
   marks = λ before begins. second.marks before (first.marks before begins);
-  source = second.source ∙ first.source;
 }

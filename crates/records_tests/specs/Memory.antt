@@ -1,6 +1,6 @@
 -- A private heap as a pool of records.
 -- Source: this project's.
-use Rattle.std.specs.Prelude.{◌-◌, [], length}
+use Rattle.std.specs.Prelude.{ℕ, ◌≤◌, ◌-◌, [], length}
 use Rattle.minor_heap.specs.declared.fields.MinorField.{MinorField}
 use Rattle.minor_heap.specs.declared.fields.MinorField.TheVariants as field
 use Rattle.minor_heap.specs.declared.fields.MinorRef.{MinorRef}
@@ -11,16 +11,15 @@ use Rattle.doc_records.specs.declared.pool.Part.{Part}
 use Rattle.doc_records.specs.declared.pool.Part.TheVariants as parts
 use Rattle.doc_records.specs.Pool.{Shown}
 
-abbrev pub shown : MemoryPool → Shown MinorRef
+abbrev pub shown : MemoryPool → Shown MinorRef ℕ
 shown pool = record {
   term = term_of [] pool.heap.records;
   stands = λ places r. Stands pool.heap.records r;
   held = 1;
   room = 10_000;
-  cell = λ place. 0;
+  says = λ places count. count ≤ length pool.heap.records;
   records = pool.heap.room - length pool.heap.records;
   marks = [];
-  source = (0, 0);
 }
 
 abbrev pub field_of : Part MinorRef → MinorField

@@ -37,9 +37,12 @@ fn field(part: Part<MinorRef>) -> MinorField
 }
 
 impl RecordPool for MemoryPool {
-    ghost use Rattle.std.specs.Prelude.{false};
+    ghost use Rattle.std.specs.Prelude.{ℕ, false};
 
     type At = MinorRef;
+
+    // so many records stand
+    ghost Fact = { ℕ };
 
     ghost shown = { shown };
 

@@ -4,8 +4,8 @@ use Rattle.heap_rule.specs.Lore.{known_at}
 use Rattle.heap_rule.proofs.Picking.{read_picks}
 use Rattle.doc_records.specs.declared.pool.Part.{Part}
 use Rattle.client_records.specs.declared.at.NodeAt.{NodeAt}
-use Rattle.client_records.specs.Records.{SharedRead, known_term, part_held}
-use Rattle.client_records.proofs.Readings.{event_reads}
+use Rattle.client_records.specs.Records.{Outside, SharedRead, known_term, outside_of, part_held}
+use Rattle.client_records.proofs.Readings.{event_reads, outside_same}
 use Rattle.client_records.proofs.pool.read_shared.Goals as goal
 
 pub read-requires-clause-rule : goal.read-requires-clause-rule
@@ -15,10 +15,15 @@ read-requires-clause-rule g c =
 
 pub returns-clause-reads : goal.returns-clause-reads
 returns-clause-reads g c = λ minor names ordered.
-    let v = c.args.mutator.now.seat.me in
+    let m = c.args.mutator.now in
+    let v = m.seat.me in
     let told = c.read.ensures.told in
-    subst (λ (p : Part NodeAt). SharedRead minor names v c.read.new.self.seat.me
-    (part c.args.index (known_term (known_at v.known c.args.place))) p)
+    let w = c.read.new.self.seat.me in
+    let before = outside_of m names in
+    let t = part c.args.index (known_term (known_at v.known c.args.place)) in
+    subst (λ (o : Outside). SharedRead minor before o v w t c.part_held.result)
+    (outside_same m c.read.new.self names c.read.ensures.heap c.read.ensures.table)
+    (subst (λ (p : Part NodeAt). SharedRead minor before before v w t p)
     (sym (c.part_held.ensures ∙ ap part_held told.1))
-    (event_reads minor names v c.read.new.self.seat.me c.args.place c.args.index told.0 ordered
-    c.requires.fit c.requires.known (omega (arith, c.requires.range)) told.2)
+    (event_reads minor before v w c.args.place c.args.index told.0 ordered
+    c.requires.fit c.requires.known (omega (arith, c.requires.range)) told.2))

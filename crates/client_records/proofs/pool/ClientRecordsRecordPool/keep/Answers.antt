@@ -7,7 +7,7 @@ use Rattle.mutator_seat.specs.Bound.{Bound}
 use Rattle.client_records.specs.declared.at.NodeAt.{NodeAt}
 use Rattle.client_records.specs.declared.at.NodeAt.TheVariants as at
 use Rattle.client_records.specs.Pools.{shown}
-use Rattle.client_records.specs.Records.{IsRecord, shown_of, stands_on, term_at}
+use Rattle.client_records.specs.Records.{IsRecord, outside_of, shown_by, stands_on, term_at}
 use Rattle.client_records.proofs.Kept.{holds_kept, kept_at}
 use Rattle.client_records.proofs.Places.{at_copy, copied_many}
 use Rattle.client_records.proofs.Readings.{kept_stands}
@@ -18,10 +18,11 @@ returns-in-Shared-clause-kept g c =
     let was = c.args.self.now in
     let v = was.mutator.now.seat.me in
     let names : ℕ × ℕ = (was.mutator.ghost_name, was.minor.ghost_name) in
+    let outside = outside_of was.mutator.now names in
     let fit = c.held_len-held.ensures.known ∙ c.held_len-held.ensures.len in
-    subst (λ (m : Bound _). Kept c.args.places (shown was) (shown_of m.seat.me was.minor.now names))
+    subst (λ (m : Bound _). Kept c.args.places (shown was) (shown_by m was.minor.now names))
     (sym c.keep.ensures.told)
-    (kept_at was.minor.now names c.len-records.ensures.ordered v _ c.args.places
+    (kept_at was.minor.now outside c.len-records.ensures.ordered v _ c.args.places
     (holds_kept v fit c.args.places c.in-Shared.place 1 v.presence c.requires.held))
 
 pub returns-in-Shared-clause-stands : goal.returns-in-Shared-clause-stands
@@ -45,10 +46,11 @@ returns-in-Minor-clause-kept g c =
     let was = c.args.self.now in
     let v = was.mutator.now.seat.me in
     let names : ℕ × ℕ = (was.mutator.ghost_name, was.minor.ghost_name) in
+    let outside = outside_of was.mutator.now names in
     let fit = c.held_len-held.ensures.known ∙ c.held_len-held.ensures.len in
-    subst (λ (m : Bound _). Kept c.args.places (shown was) (shown_of m.seat.me was.minor.now names))
+    subst (λ (m : Bound _). Kept c.args.places (shown was) (shown_by m was.minor.now names))
     (sym c.cut.ensures.told)
-    (kept_at was.minor.now names c.len-records.ensures.ordered v _ c.args.places
+    (kept_at was.minor.now outside c.len-records.ensures.ordered v _ c.args.places
     (holds_kept v fit c.args.places 0 0 v.presence c.requires.held))
 
 pub returns-in-Minor-clause-term : goal.returns-in-Minor-clause-term
@@ -56,12 +58,13 @@ returns-in-Minor-clause-term g c =
     let was = c.args.self.now in
     let v = was.mutator.now.seat.me in
     let names : ℕ × ℕ = (was.mutator.ghost_name, was.minor.ghost_name) in
+    let outside = outside_of was.mutator.now names in
     let fit = c.held_len-held.ensures.known ∙ c.held_len-held.ensures.len in
     let stands = kept_stands v.known was.minor.now.records (length v.own.held) c.args.places
     c.args.at c.requires.on c.in-Minor.r c.in-Minor.is in
     subst (λ (m : Bound _). term_at m.seat.me.known was.minor.now.records (at.Minor c.in-Minor.r)
     ≡ term_at v.known was.minor.now.records c.args.at) (sym c.cut.ensures.told)
-    ((kept_at was.minor.now names c.len-records.ensures.ordered v _ c.args.places
+    ((kept_at was.minor.now outside c.len-records.ensures.ordered v _ c.args.places
     (holds_kept v fit c.args.places 0 0 v.presence c.requires.held)).same (at.Minor c.in-Minor.r)
     stands
     ∙ ap (term_at v.known was.minor.now.records) (sym c.in-Minor.is))
@@ -71,11 +74,12 @@ returns-in-Minor-clause-stands g c =
     let was = c.args.self.now in
     let v = was.mutator.now.seat.me in
     let names : ℕ × ℕ = (was.mutator.ghost_name, was.minor.ghost_name) in
+    let outside = outside_of was.mutator.now names in
     let fit = c.held_len-held.ensures.known ∙ c.held_len-held.ensures.len in
     let stands = kept_stands v.known was.minor.now.records (length v.own.held) c.args.places
     c.args.at c.requires.on c.in-Minor.r c.in-Minor.is in
     subst (λ (m : Bound _). stands_on m.seat.me.known was.minor.now.records
     (length m.seat.me.own.held) (at.Minor c.in-Minor.r)) (sym c.cut.ensures.told)
-    ((kept_at was.minor.now names c.len-records.ensures.ordered v _ c.args.places
+    ((kept_at was.minor.now outside c.len-records.ensures.ordered v _ c.args.places
     (holds_kept v fit c.args.places 0 0 v.presence c.requires.held)).now (at.Minor c.in-Minor.r)
     stands)

@@ -2,7 +2,7 @@ use Rattle.std.proofs.Common.{ℕ, ◌∙◌, ap, subst, sym, length}
 use Rattle.cell_words.specs.Term.{part}
 use Rattle.doc_records.specs.Pool.{Stands}
 use Rattle.client_records.specs.Pools.{shown}
-use Rattle.client_records.specs.Records.{is_shared, shown_of, stands_on, term_at}
+use Rattle.client_records.specs.Records.{is_shared, outside_of, shown_by, stands_on, term_at}
 use Rattle.client_records.specs.declared.at.NodeAt.{NodeAt}
 use Rattle.client_records.proofs.Readings.{part_on, read_stands}
 use Rattle.client_records.proofs.pool.ClientRecordsRecordPool.read.Goals as goal
@@ -62,16 +62,16 @@ returns-in-Shared-clause-on g c =
     let v = was.mutator.now.seat.me in
     let names : ℕ × ℕ = (was.mutator.ghost_name, was.minor.ghost_name) in
     let done = c.read_shared.ensures.reads was.minor.now names c.len-records.ensures.ordered in
-    λ places few on. part_on is_shared (shown_of c.read_shared.new.mutator.seat.me was.minor.now names)
+    λ places few on. part_on is_shared (shown_by c.read_shared.new.mutator was.minor.now names)
     places c.read_shared.result done.shared
 
 pub returns-in-Minor-clause-stands : goal.returns-in-Minor-clause-stands
 returns-in-Minor-clause-stands g c =
     let was = c.args.self.now in
     let v = was.mutator.now.seat.me in
-    let names : ℕ × ℕ = (was.mutator.ghost_name, was.minor.ghost_name) in
+    let outside = outside_of was.mutator.now (was.mutator.ghost_name, was.minor.ghost_name) in
     let stands = subst (λ (a : NodeAt). stands_on v.known was.minor.now.records
     (length v.own.held) a) c.in-Minor.is c.requires.stands in
     subst (λ p. Stands (shown was) p) (sym c.part_read.ensures)
-    (read_stands was.minor.now names v c.in-Minor.r c.args.index c.len-records.ensures.ordered
+    (read_stands was.minor.now outside v c.in-Minor.r c.args.index c.len-records.ensures.ordered
     c.requires.range stands c.field.result c.field.ensures.field c.field.ensures.older)
