@@ -1,5 +1,6 @@
 -- The numbers that the seat has at hand follow its view.
-use Rattle.std.proofs.Common.{◌≡◌, ℕ, Bool, true, Option, Some, None, is_some, length, refl, sym, List, false}
+use Rattle.std.proofs.Common.{◌≡◌, ℕ, Bool, true, Option, Some, None, is_some, length, refl, sym}
+use Rattle.std.proofs.Common.{List, false}
 use Rattle.std.proofs.lemmas.Bool.{false≢true}
 use Rattle.std.proofs.Common.{◌∙◌, ap, subst}
 use Rattle.std.specs.List.{list_all}

@@ -84,8 +84,8 @@ impl<P: Keeping> ColSeat<P> {
         self.cells
     }
 
-    /// How many mutators it has. The seat keeps for each whether it has answered, and whether it was
-    /// found over; once all were, it knows the state.
+    /// How many mutators it has. The seat keeps for each whether it has answered, and whether it
+    /// was found over; once all were, it knows the state.
     pub fn mutators(&self) -> u32
         ensures mutators { result ≡ self.now.me.shape.mutators }
         ensures answers { length self.now.me.part.answered ≡ result }

@@ -1,16 +1,16 @@
 -- Where the first handshake of a cycle found every mutator over, the collector knows the state from
 -- then on, and the rest of the cycle is a run of it.
-use Rattle.std.proofs.Common.{◌≡◌, ◌<◌, ◌≤◌, ◌+◌, ◌&&◌, ◌||◌, ◌==◌, ◌⊎◌, inl, inr, ℕ}
-use Rattle.std.proofs.Common.{zero, suc, Bool, true}
+use Rattle.std.proofs.Common.{◌≡◌, ◌<◌, ◌&&◌, ◌==◌, ◌⊎◌, inl, inr, ℕ}
+use Rattle.std.proofs.Common.{suc, Bool, true}
 use Rattle.std.proofs.Common.{false, List, [], ◌∷◌, length, Option, Some, None, is_some, refl, sym}
-use Rattle.std.proofs.Common.{◌∙◌, ap, subst, arith, slice_set, slice_index_or}
+use Rattle.std.proofs.Common.{◌∙◌, ap, arith, slice_set, slice_index_or}
 use Rattle.std.proofs.lemmas.Bool.{and_parts, cases_eq, eqb-true, false≢true, or_cases}
 use Rattle.std.proofs.lemmas.List.{get_or-set_other, get_or-set_same}
 use Rattle.std.specs.List.{list_all}
 use Rattle.cell_heap.specs.Telling.{FindsKnown}
 use Rattle.cell_words.specs.declared.controls.Control.{Control}
 use Rattle.cell_words.specs.declared.controls.Stage.TheVariants as stage
-use Rattle.core_machine.specs.Next.{after, found_by, maker}
+use Rattle.core_machine.specs.Next.{after, maker}
 use Rattle.core_machine.specs.Run.{Runs, last}
 use Rattle.core_machine.specs.State.{State}
 use Rattle.core_machine.specs.declared.events.Event.{Event}
@@ -27,7 +27,7 @@ use Rattle.collector.specs.Bound.{Bound, control_of, tells_at}
 use Rattle.collector.specs.Counting.{Counts}
 use Rattle.collector.specs.Over.{AllOver, finds_over, says_over, was_over}
 use Rattle.collector.specs.Replay.{Work, count_along, ends_pass, spills, stack_after, strays}
-use Rattle.collector.specs.Replay.{work_after, work_after_all, work_of}
+use Rattle.collector.specs.Replay.{work_after_all, work_of}
 use Rattle.collector.specs.Stack.{Stack}
 use Rattle.collector.specs.Stretches.{Took}
 use Rattle.collector.specs.declared.report.CycleReport.{CycleReport}
@@ -124,9 +124,9 @@ module _ {P : Type 0} where
       (elim so [
         | inl old ↦ inl (found_flag v.me.over m t.event t.found lt (inl old))
         | inr new ↦ elim (or_cases (finds_over m t.event t.found) (was_over m ts) new) [
-            | inl here ↦ inl (found_flag v.me.over m t.event t.found lt (inr here))
-            | inr later ↦ inr later
-          ]
+          | inl here ↦ inl (found_flag v.me.over m t.event t.found lt (inr here))
+          | inr later ↦ inr later
+        ]
       ])
 
   took_runs : (v w : SeatView P) (ts : List Taken) (s : State) → Took v ts w

@@ -1,5 +1,6 @@
 -- The stages of a cycle, joined.
-use Rattle.std.proofs.Common.{◌≡◌, ◌<◌, ◌+◌, ℕ, is_some, length, Bool, true, IsTrue, List, [], ◌∷◌, ◌++◌, replicate}
+use Rattle.std.proofs.Common.{◌≡◌, ◌<◌, ◌+◌, ℕ, is_some, length, Bool, true, IsTrue, List, [], ◌∷◌}
+use Rattle.std.proofs.Common.{◌++◌, replicate}
 use Rattle.std.proofs.Common.{refl, ◌∙◌, ap, subst}
 use Rattle.std.proofs.lemmas.List.{append_assoc}
 use Rattle.std.specs.List.{list_all}
@@ -87,9 +88,11 @@ module _ {P : Type 0} where
         ap (λ (zs : List Taken). zs ++ ys) first.1,
       ))
       (stretch_one (λ (xs : List Taken). Counts (work_of b) (work_of c) nothing xs × (xs ≡ z ∷ []))
-      b c e finds.Stored now (ap (λ (x : Bound P). x.heap) posts) seat stack known
-      (counts_to nothing b c e finds.Stored now seat stack
-      (still_counts (work_of b) e finds.Stored refl refl), refl))
+      b c e finds.Stored now (ap (λ (x : Bound P). x.heap) posts) seat stack known (
+        counts_to nothing b c e finds.Stored now seat stack
+            (still_counts (work_of b) e finds.Stored refl refl),
+        refl,
+      ))
       rest
 
   pub made_of : (over : Bool) (n : ℕ) (r : CycleReport) (a b c d : Bound P)

@@ -22,12 +22,11 @@ module _ {P : Type 0} where
   pub took_append : (a b c : SeatView P) (xs ys : List Taken) → Took a xs b → Took b ys c
       → Took a (xs ++ ys) c
   took_append a b c [] ys first second = subst (λ (x : SeatView P). Took x ys c) first second
-  took_append a b c (x ∷ xs) ys first second =
-      (
-        first.0,
-        first.1,
-        took_append (tells_at a x.event x.found first.0) b c xs ys first.2 second,
-      )
+  took_append a b c (x ∷ xs) ys first second = (
+    first.0,
+    first.1,
+    took_append (tells_at a x.event x.found first.0) b c xs ys first.2 second,
+  )
 
   pub kept_then : (a b c : Bound P) → Kept a b → Kept b c → Kept a c
   kept_then a b c first second = record {

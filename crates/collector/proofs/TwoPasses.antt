@@ -3,9 +3,11 @@
 -- A gray cell waits on the stack, or the pass has still to come to it, or it is under scan: a scan
 -- pushes what it shades, and no look leaves a gray cell behind. So none is gray at the end of the
 -- first pass, which met the anchor; and the second one meets none.
-use Rattle.std.proofs.Common.{◌≡◌, ◌≢◌, ◌<◌, ◌≤◌, ◌+◌, ◌==◌, ◌&&◌, ◌⊎◌, inl, inr, ℕ, zero, suc}
-use Rattle.std.proofs.Common.{Bool, true, false, not, cond, List, [], ◌∷◌, ◌++◌, length, Option, Some}
-use Rattle.std.proofs.Common.{None, is_none, if◌then◌else◌, refl, sym, ◌∙◌, ap, subst, arith, add_assoc}
+use Rattle.std.proofs.Common.{◌≡◌, ◌≢◌, ◌<◌, ◌≤◌, ◌+◌, ◌==◌, ◌&&◌, ◌⊎◌, inl, inr, ℕ}
+use Rattle.std.proofs.Common.{Bool, true, false, not, cond, List, [], ◌∷◌, length, Option}
+use Rattle.std.proofs.Common.{Some}
+use Rattle.std.proofs.Common.{None, is_none, if◌then◌else◌, refl, sym, ◌∙◌, ap, subst, arith}
+use Rattle.std.proofs.Common.{add_assoc}
 use Rattle.std.proofs.Common.{eq-eqb, eqb-true, ne_eqb}
 use Rattle.std.proofs.lemmas.Bool.{and_parts, cases_eq, cases_lt, false≢true, ltb-true}
 use Rattle.std.proofs.lemmas.List.{get_or_past}
@@ -27,7 +29,7 @@ use Rattle.core_machine.specs.Run.{Runs, last}
 use Rattle.core_machine.specs.Sweep.{is_black_found, is_fresh, may_free, may_wipe}
 use Rattle.core_machine.specs.Tracing.{child_of, may_blacken, may_scan, may_shade}
 use Rattle.core_machine.specs.Tracing.{scan_or_none}
-use Rattle.core_machine.specs.Words.{is_gray, same_stage, shaded}
+use Rattle.core_machine.specs.Words.{is_gray, shaded}
 use Rattle.core_machine.specs.declared.events.Event.{Event}
 use Rattle.core_machine.specs.declared.events.Event.TheVariants as event
 use Rattle.core_machine.specs.declared.events.Found.{Found}
@@ -212,7 +214,7 @@ starts_over : (c : Collector) (n : ℕ) → c.cursor ≡ n → c.clean ≡ false
     → restarted c n ≡ record c { cursor = 0; clean = true }
 starts_over c n at clean =
     ap (λ (b : Bool). if b then record c { cursor = 0; clean = true } else c)
-    ((λ j. eq-eqb c.cursor n at j && not (clean j)))
+    (λ j. eq-eqb c.cursor n at j && not (clean j))
 
 passed_here : (c : Collector) (x : ℕ) → x ≡ c.cursor
     → passed c x ≡ record c { cursor = c.cursor + 1 }
@@ -253,11 +255,11 @@ module _ (colours : List Colour) (n : ℕ) (c : Collector) (st : List ℕ) (x : 
       elim (so.near y gray) [
         | inl waits ↦ absurd (other (next_in c.cursor y st (sym is_next ∙ here) waits ∙ sym here))
         | inr rest ↦ elim rest [
-            | inl ahead ↦
-                let apart : y ≢ c.cursor = (λ e. other (e ∙ sym here)) in
-                omega (arith, ahead, apart)
-            | inr scanned ↦ absurd (no_scanned y scanned)
-          ]
+          | inl ahead ↦
+              let apart : y ≢ c.cursor = (λ e. other (e ∙ sym here)) in
+              omega (arith, ahead, apart)
+          | inr scanned ↦ absurd (no_scanned y scanned)
+        ]
       ]
 
   here_unclean : x ≡ c.cursor → c.clean ≡ true → ⊥
@@ -299,13 +301,13 @@ module _ (colours : List Colour) (n : ℕ) (c : Collector) (st : List ℕ) (x : 
     unclean = so.unclean;
     near = λ y gray. elim (so.near y gray) [
       | inl waits ↦ elim (looked c.cursor x y st is_next waits) [
-          | inl stays ↦ inl stays
-          | inr gone ↦ elim gone [
-              | inl at ↦ inr (inl (omega (arith, at)))
-              | inr seen ↦ absurd (not_gray
-                  (sym (ap (λ (z : ℕ). colour_in colours z) seen) ∙ gray))
-            ]
+        | inl stays ↦ inl stays
+        | inr gone ↦ elim gone [
+          | inl at ↦ inr (inl (omega (arith, at)))
+          | inr seen ↦ absurd (not_gray
+              (sym (ap (λ (z : ℕ). colour_in colours z) seen) ∙ gray))
         ]
+      ]
       | inr rest ↦ inr rest
     ];
   }
@@ -348,17 +350,17 @@ scans_first colours n c st x next no_scan so = record {
   unclean = λ no. absurd (false≢true no);
   near = λ y gray. elim (so.near y gray) [
     | inl waits ↦ elim (looked c.cursor x y st next waits) [
-        | inl stays ↦ inl stays
-        | inr gone ↦ elim gone [
-            | inl at ↦ inr (inl (omega (arith, at)))
-            | inr seen ↦ inr (inr (sym seen))
-          ]
+      | inl stays ↦ inl stays
+      | inr gone ↦ elim gone [
+        | inl at ↦ inr (inl (omega (arith, at)))
+        | inr seen ↦ inr (inr (sym seen))
       ]
+    ]
     | inr rest ↦ elim rest [
-        | inl ahead ↦ inr (inl ahead)
-        | inr scanned ↦ absurd
-            (subst (λ (scan : Option Scanning). IsScanned scan y) no_scan scanned)
-      ]
+      | inl ahead ↦ inr (inl ahead)
+      | inr scanned ↦ absurd
+          (subst (λ (scan : Option Scanning). IsScanned scan y) no_scan scanned)
+    ]
   ];
 }
 
@@ -369,27 +371,27 @@ goes_later : (colours : List Colour) (n : ℕ) (c : Collector) (x : ℕ) → c.c
     → Later colours n (c.cursor + 1) c.clean c.scan [] (1 + cond (ends c.cursor x n) 1 0)
 goes_later colours n c x lt clean no_scan here no_gray = elim (cases_eq (x + 1) n) [
   | inl last ↦ record {
-      no_gray = no_gray;
-      empty = refl;
-      no_scan = no_scan;
-      counted = inr (inr (
-        ap (λ (b : Bool). 1 + cond b 1 0)
-            (λ j. eq-eqb x c.cursor here j && eq-eqb (x + 1) n last j),
-        omega (arith, here, last),
-        clean,
-      ));
-    }
+    no_gray = no_gray;
+    empty = refl;
+    no_scan = no_scan;
+    counted = inr (inr (
+      ap (λ (b : Bool). 1 + cond b 1 0)
+          (λ j. eq-eqb x c.cursor here j && eq-eqb (x + 1) n last j),
+      omega (arith, here, last),
+      clean,
+    ));
+  }
   | inr more ↦ record {
-      no_gray = no_gray;
-      empty = refl;
-      no_scan = no_scan;
-      counted = inr (inl (
-        ap (λ (b : Bool). 1 + cond b 1 0)
-            (λ j. eq-eqb x c.cursor here j && ne_eqb (x + 1) n more j),
-        omega (arith, here, more, lt),
-        clean,
-      ));
-    }
+    no_gray = no_gray;
+    empty = refl;
+    no_scan = no_scan;
+    counted = inr (inl (
+      ap (λ (b : Bool). 1 + cond b 1 0)
+          (λ j. eq-eqb x c.cursor here j && ne_eqb (x + 1) n more j),
+      omega (arith, here, more, lt),
+      clean,
+    ));
+  }
 ]
 
 later_on : (colours : List Colour) (n k x : ℕ) (c d : Collector) → restarted c n ≡ d
@@ -429,13 +431,13 @@ module _ (colours : List Colour) (n : ℕ) (c : Collector) (st : List ℕ) (k x 
         | inl one ↦ later_on colours n k x c (record c { cursor = 0; clean = true })
             (starts_over c n one.1 one.2) (omega (arith, lt)) refl no_scan one.0 at so.no_gray
         | inr more ↦ elim more [
-            | inl two ↦ later_on colours n k x c c (clean_stays c n two.2) two.1 two.2 no_scan two.0
-                at so.no_gray
-            | inr done ↦ absurd (
-                let past : x ≡ c.cursor =
-                at ∙ ap (λ (d : Collector). d.cursor) (clean_stays c n done.2) in
-                omega (arith, past, done.1, lt))
-          ]
+          | inl two ↦ later_on colours n k x c c (clean_stays c n two.2) two.1 two.2 no_scan two.0
+              at so.no_gray
+          | inr done ↦ absurd (
+              let past : x ≡ c.cursor =
+              at ∙ ap (λ (d : Collector). d.cursor) (clean_stays c n done.2) in
+              omega (arith, past, done.1, lt))
+        ]
       ])
 
   scans_on : colour_in colours x ≡ colour.Gray → Traces colours n c st k
@@ -484,9 +486,9 @@ scan_traces colours n c st k found may (inl so) = inl (record {
   near = λ y gray. elim (so.near y gray) [
     | inl waits ↦ inl waits
     | inr rest ↦ elim rest [
-        | inl ahead ↦ inr (inl ahead)
-        | inr here ↦ inr (inr (scanned_cell c.scan found y here))
-      ]
+      | inl ahead ↦ inr (inl ahead)
+      | inr here ↦ inr (inr (scanned_cell c.scan found y here))
+    ]
   ];
 })
 scan_traces colours n c st k found may (inr so) =
@@ -506,9 +508,9 @@ shade_traces colours n c st k child may unclean (inl so) = inl (record {
       (λ y gray. elim (so.near y gray) [
         | inl waits ↦ inl (inr waits)
         | inr rest ↦ elim rest [
-            | inl ahead ↦ inr (inl ahead)
-            | inr here ↦ inr (inr (shaded_cell c.scan y here))
-          ]
+          | inl ahead ↦ inr (inl ahead)
+          | inr here ↦ inr (inr (shaded_cell c.scan y here))
+        ]
       ]);
 })
 shade_traces colours n c st k child may unclean (inr so) =
@@ -527,10 +529,10 @@ blacken_traces colours n c st k scan is there unclean (inl so) = inl (record {
       (λ y other gray. elim (so.near y gray) [
         | inl waits ↦ inl waits
         | inr rest ↦ elim rest [
-            | inl ahead ↦ inr (inl ahead)
-            | inr here ↦ absurd (other (sym
-                (subst (λ (sc : Option Scanning). IsScanned sc y) is here)))
-          ]
+          | inl ahead ↦ inr (inl ahead)
+          | inr here ↦ absurd (other (sym
+              (subst (λ (sc : Option Scanning). IsScanned sc y) is here)))
+        ]
       ]);
 })
 blacken_traces colours n c st k scan is there unclean (inr so) =
@@ -663,12 +665,12 @@ module _ (s : State) (st : Stack) (k : ℕ) (shaped : IsShaped s) (consistent : 
       elim trace [
         | inl first ↦ absurd (let goes = first.goes in omega (arith, goes, at_end))
         | inr later ↦ elim later.counted [
-            | inl one ↦ absurd (false≢true (sym one.2 ∙ parts.1))
-            | inr two ↦ elim two [
-                | inl goes ↦ absurd (let lt = goes.1 in omega (arith, lt, at_end))
-                | inr done ↦ omega (arith, done.0)
-              ]
+          | inl one ↦ absurd (false≢true (sym one.2 ∙ parts.1))
+          | inr two ↦ elim two [
+            | inl goes ↦ absurd (let lt = goes.1 in omega (arith, lt, at_end))
+            | inr done ↦ omega (arith, done.0)
           ]
+        ]
       ]
 
   -- at a stage that the event's condition has
@@ -791,7 +793,8 @@ module _ (s : State) (st : Stack) (k : ℕ) (shaped : IsShaped s) (consistent : 
   phase_on event.Whiten found made may is on next room =
       in_sweep _ _ (sweeps_now (whitens_busy s.collector.sweep may))
   phase_on event.Advance found made may is on next room =
-      in_sweep _ _ (same_stage_is s.control.stage stage.Sweep (and_parts _ _ (and_parts _ _ may).0).0)
+      in_sweep _ _
+      (same_stage_is s.control.stage stage.Sweep (and_parts _ _ (and_parts _ _ may).0).0)
 
 -- Along a run.
 
@@ -839,7 +842,8 @@ phases s (t ∷ ts) st k shaped consistent over runs on straight room so =
       subst (λ (j : ℕ). Phase (last s (t ∷ ts)) rest.0 j)
           (add_assoc k (cond (ends_pass w t) 1 0) (count_along ends_pass (work_at (after s t.event)
           more) ts)
-          ∙ sym (ap (λ (x : Work). k + (cond (ends_pass w t) 1 0 + count_along ends_pass x ts)) later))
+          ∙ sym (ap (λ (x : Work).
+          k + (cond (ends_pass w t) 1 0 + count_along ends_pass x ts)) later))
           rest.1,
     )
 

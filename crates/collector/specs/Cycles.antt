@@ -22,8 +22,8 @@ pub record IsWhole (events : List Taken) : Type 0 where
       ∷ (between ++ took (event.Post stage.Idle) finds.Stored ∷ [])
   pub one : list_all (λ (t : Taken). goes_on t.event) between ≡ true
 
--- The events of a cycle behind its first one: the first handshake's, and the others. Where the first
--- handshake found every mutator over, and nothing was spilled, tracing took two passes.
+-- The events of a cycle behind its first one: the first handshake's, and the others. Where the
+-- first handshake found every mutator over, and nothing was spilled, tracing took two passes.
 pub record IsAsked (mutators : ℕ) (report : CycleReport) (events : List Taken) : Type 0 where
   pub asked : List Taken
   pub rest : List Taken

@@ -50,7 +50,8 @@ impl<'a, P: Keeping> Collector<'a, P> {
     ) -> Collector<'a, P>
         requires seat { IsSeatOf heap.now seat }
         requires mutators { mutators ≡ heap.now.shape.mutators }
-        ensures collector { result ≡ record { heap = heap.now; seat = seat; stack = emptied stack } }
+        ensures collector { result
+            ≡ record { heap = heap.now; seat = seat; stack = emptied stack } }
     {
         let mut stack = stack;
         stack.clear();
@@ -104,8 +105,8 @@ impl<'a, P: Keeping> Collector<'a, P> {
         self.seat.cells()
     }
 
-    /// How many mutators it has. For each it is kept whether it has answered, and whether it was found
-    /// over; once all were, the state is known.
+    /// How many mutators it has. For each it is kept whether it has answered, and whether it was
+    /// found over; once all were, the state is known.
     pub fn mutators(&self) -> u32
         ensures mutators { result ≡ mutators_of self.now }
         ensures answers { length (part_of self.now).answered ≡ result }

@@ -4,7 +4,8 @@
 //! A cell that the pass itself has come to leaves the stack without a look as long as others lie
 //! below it: a look would lead the pass on while they are still gray.
 ghost use Rattle.std.specs.Prelude.{◌≡◌, ◌≤◌, ℕ, ◌<◌, IfOk, [], length};
-ghost use Rattle.collector.specs.Stack.{AllBelow, emptied, has_room, looked_at, next_of, pushed, top_first, top_of, without};
+ghost use Rattle.collector.specs.Stack.{AllBelow, emptied, has_room, looked_at, next_of, pushed};
+ghost use Rattle.collector.specs.Stack.{top_first, top_of, without};
 
 use crate::NoMemory;
 use std::alloc::Global;
@@ -26,7 +27,10 @@ impl Model for MarkStack {
 
     ghost coded = { Prim.hlevel codes };
 
-    ghost view = { λ s. record { room = length s.items.items; cells = top_first s.items.items s.height } };
+    ghost view = { λ s. record {
+      room = length s.items.items;
+      cells = top_first s.items.items s.height;
+    } };
 
     ghost invariant = { λ s. s.height ≤ length s.items.items };
 }

@@ -57,7 +57,8 @@ impl<'a, P: Keeping> Collector<'a, P> {
         ensures heap { self.new.heap ≡ self.old.heap }
         ensures stack { self.new.stack ≡ self.old.stack }
         ensures table { self.new.seat.table ≡ self.old.seat.table }
-        ensures told { AtCollectorEvent P.fixed self.old.seat.me (event.Poll mutator) (finds.Presence result) self.new.seat.me }
+        ensures told { AtCollectorEvent P.fixed self.old.seat.me (event.Poll mutator)
+            (finds.Presence result) self.new.seat.me }
         ensures known { FindsKnown self.old.seat.me (event.Poll mutator) (finds.Presence result) }
     {
         self.seat.poll(self.heap, mutator)

@@ -2,7 +2,8 @@
 ghost use Rattle.std.specs.Prelude.{◌≡◌, ◌<◌, ◌+◌, ◌^◌, IsTrue, None, replicate, true, false};
 ghost use Rattle.cell_heap.specs.Telling.{FindsKnown};
 ghost use Rattle.cell_words.specs.declared.controls.Stage.TheVariants as stage;
-ghost use Rattle.collector.specs.Bound.{KeepsWork, cells_of, control_of, mutators_of, part_of, takes};
+ghost use Rattle.collector.specs.Bound.{KeepsWork, cells_of, control_of, mutators_of, part_of};
+ghost use Rattle.collector.specs.Bound.{takes};
 ghost use Rattle.collector.specs.Counting.{Counts, Does, nothing};
 ghost use Rattle.collector.specs.Cycles.{Heard, IsAsked, Reported};
 ghost use Rattle.collector.specs.Over.{AllOver};
@@ -36,7 +37,8 @@ impl<'a, P: Keeping> Collector<'a, P> {
         requires stage { (control_of self.old).stage ≡ stage.Clear }
         requires first { (part_of self.old).cursor ≡ 0 }
         ensures does { Does nothing self.old self.new }
-        ensures control { control_of self.new ≡ record (control_of self.old) { stage = stage.Sync2 } }
+        ensures control { control_of self.new
+            ≡ record (control_of self.old) { stage = stage.Sync2 } }
         ensures nobody { (part_of self.new).answered ≡ nobody_answered (part_of self.old).answered }
         ensures work { KeepsWork (part_of self.old) (part_of self.new) }
     {
@@ -49,7 +51,8 @@ impl<'a, P: Keeping> Collector<'a, P> {
         requires stage { (control_of self.old).stage ≡ stage.Sync2 }
         requires nobody { (part_of self.old).answered ≡ replicate (mutators_of self.old) false }
         ensures does { Does nothing self.old self.new }
-        ensures control { control_of self.new ≡ record (control_of self.old) { stage = stage.Trace } }
+        ensures control { control_of self.new
+            ≡ record (control_of self.old) { stage = stage.Trace } }
         ensures all { (part_of self.new).answered ≡ replicate (mutators_of self.new) true }
         ensures first { (part_of self.new).cursor ≡ 0 }
         ensures work { KeepsWork (part_of self.old) (part_of self.new) }
@@ -70,7 +73,8 @@ impl<'a, P: Keeping> Collector<'a, P> {
         requires hints { hinted_of (queue_of hints.old) ≡ cells_of self.old }
         ensures does { Does result self.old self.new }
         ensures few { result.freed < 2 ^ 32 }
-        ensures control { control_of self.new ≡ record (control_of self.old) { stage = stage.Sweep; position = cells_of self.old } }
+        ensures control { control_of self.new ≡ record (control_of self.old)
+            { stage = stage.Sweep; position = cells_of self.old } }
         ensures queue { queue_of hints.new ≡ queue_of hints.old }
         ensures puts { (counts_of hints.new).puts ≡ (counts_of hints.old).puts + result.freed }
     {
@@ -85,12 +89,14 @@ impl<'a, P: Keeping> Collector<'a, P> {
         requires stage { (control_of self.old).stage ≡ stage.Clear }
         requires first { (part_of self.old).cursor ≡ 0 }
         requires some { 0 < cells_of self.old }
-        requires nobody { nobody_answered (part_of self.old).answered ≡ replicate (mutators_of self.old) false }
+        requires nobody { nobody_answered (part_of self.old).answered
+            ≡ replicate (mutators_of self.old) false }
         requires scan { (part_of self.old).scan ≡ None }
         requires hints { hinted_of (queue_of hints.old) ≡ cells_of self.old }
         ensures does { Does result self.old self.new }
         ensures few { result.freed < 2 ^ 32 }
-        ensures control { control_of self.new ≡ record (control_of self.old) { stage = stage.Sweep; position = cells_of self.old } }
+        ensures control { control_of self.new ≡ record (control_of self.old)
+            { stage = stage.Sweep; position = cells_of self.old } }
         ensures queue { queue_of hints.new ≡ queue_of hints.old }
         ensures puts { (counts_of hints.new).puts ≡ (counts_of hints.old).puts + result.freed }
     {
@@ -106,13 +112,16 @@ impl<'a, P: Keeping> Collector<'a, P> {
         requires nobody { (part_of self.old).answered ≡ replicate (mutators_of self.old) false }
         requires scan { (part_of self.old).scan ≡ None }
         requires hints { hinted_of (queue_of hints.old) ≡ cells_of self.old }
-        ensures made { Stretch (λ events. Counts (work_of self.old) (work_of self.new) result.report events
+        ensures made { Stretch (λ events.
+            Counts (work_of self.old) (work_of self.new) result.report events
             × (IsTrue result.over → AllOver 0 (mutators_of self.old) events)
             × IsAsked (mutators_of self.old) result.report events) self.old self.new }
         ensures few { result.report.freed < 2 ^ 32 }
-        ensures control { control_of self.new ≡ record (control_of self.old) { stage = stage.Sweep; position = cells_of self.old } }
+        ensures control { control_of self.new ≡ record (control_of self.old)
+            { stage = stage.Sweep; position = cells_of self.old } }
         ensures queue { queue_of hints.new ≡ queue_of hints.old }
-        ensures puts { (counts_of hints.new).puts ≡ (counts_of hints.old).puts + result.report.freed }
+        ensures puts { (counts_of hints.new).puts
+            ≡ (counts_of hints.old).puts + result.report.freed }
     {
         let over = self.await_all(rt);
         let _mutators = self.mutators();
@@ -144,13 +153,14 @@ impl<'a, P: Keeping> Collector<'a, P> {
         requires idle { (control_of self.old).stage ≡ stage.Idle }
         requires cycles { (control_of self.old).cycles < greatest_cycles }
         requires hints { hinted_of (queue_of hints.old) ≡ cells_of self.old }
-        ensures heard { Stretch (Heard (fresh_work_of self.old) (mutators_of self.old) result.report result.over)
-            self.old self.new }
+        ensures heard { Stretch (Heard (fresh_work_of self.old) (mutators_of self.old)
+            result.report result.over) self.old self.new }
         ensures few { result.report.freed < 2 ^ 32 }
         ensures control { control_of self.new ≡ record (control_of self.old)
             { position = 0; cycles = (control_of self.old).cycles + 1 } }
         ensures queue { queue_of hints.new ≡ queue_of hints.old }
-        ensures puts { (counts_of hints.new).puts ≡ (counts_of hints.old).puts + result.report.freed }
+        ensures puts { (counts_of hints.new).puts
+            ≡ (counts_of hints.old).puts + result.report.freed }
     {
         self.begin();
         let made = self.work(rt, hints);

@@ -7,5 +7,6 @@ use Rattle.collector.proofs.collecting.Collector.post_once.Goals as goal
 
 pub returns-clause-known : goal.returns-clause-known
 returns-clause-known g c =
-    subst (λ (x : Bound _). FindsKnown x.seat.me (event.Post c.args.stage) finds.Stored) c.self.view_is
+    subst (λ (x : Bound _). FindsKnown x.seat.me (event.Post c.args.stage) finds.Stored)
+    c.self.view_is
     c.post.ensures.known

@@ -31,4 +31,5 @@ returns-in-Cell-clause-does g c =
     c.push-pushed.result c.shade_once.ensures.told.0
     (child_is c.args.self.now c.scan_once.new.self c.args.cell c.args.field c.in-Cell.child
     c.requires.scan c.in-Cell.ensures.told)
-    c.shade_once.ensures.told.1 c.shade_once.ensures.told.2 c.push-pushed.ensures.room c.push-pushed.ensures.pushed))
+    c.shade_once.ensures.told.1 c.shade_once.ensures.told.2 c.push-pushed.ensures.room
+    c.push-pushed.ensures.pushed))

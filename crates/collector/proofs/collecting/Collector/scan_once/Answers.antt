@@ -7,5 +7,6 @@ use Rattle.collector.proofs.collecting.Collector.scan_once.Goals as goal
 
 pub returns-clause-known : goal.returns-clause-known
 returns-clause-known g c =
-    subst (λ (x : Bound _). FindsKnown x.seat.me event.Scan (finds.Field c.scan.result)) c.self.view_is
+    subst (λ (x : Bound _). FindsKnown x.seat.me event.Scan (finds.Field c.scan.result))
+    c.self.view_is
     c.scan.ensures.known

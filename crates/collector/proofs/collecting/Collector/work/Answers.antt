@@ -1,4 +1,4 @@
-use Rattle.std.proofs.Common.{◌≡◌, ◌<◌, true, false, ℕ, replicate, refl, sym, ◌∙◌, ap, subst}
+use Rattle.std.proofs.Common.{◌<◌, true, false, ℕ, replicate, sym, ◌∙◌, ap, subst}
 use Rattle.std.proofs.lemmas.Bool.{and_from}
 use Rattle.std.proofs.lemmas.List.{length-replicate}
 use Rattle.cell_words.specs.declared.controls.Control.{Control}
@@ -7,7 +7,7 @@ use Rattle.cell_words.specs.declared.controls.Stage.TheVariants as stage
 use Rattle.core_machine.specs.Collector.{Collector, nobody_answered}
 use Rattle.core_machine.specs.Words.{same_stage}
 use Rattle.heap_rule.specs.Shape.{Shape}
-use Rattle.collector.specs.Bound.{Bound, control_of, mutators_of, part_of}
+use Rattle.collector.specs.Bound.{Bound, mutators_of, part_of}
 use Rattle.collector.proofs.Answered.{nobody_now}
 use Rattle.collector.proofs.Cycling.{answered_all, made_of}
 use Rattle.collector.proofs.collecting.Collector.work.Goals as goal
