@@ -1,7 +1,7 @@
 -- What a step of the collector's seat tells, in words of the seat that the call was given.
-use Rattle.std.proofs.Common.{◌≡◌, ◌≤◌, ℕ, Bool, true, false, sym, ◌∙◌, ap, subst}
+use Rattle.std.proofs.Common.{◌≡◌, ◌≤◌, ℕ, Bool, true, false, Option, sym, ◌∙◌, ap, subst}
 use Rattle.std.proofs.lemmas.Bool.{and_parts, not-true}
-use Rattle.cell_heap.specs.Telling.{AtCollectorEvent, FindsKnown, collector_tells}
+use Rattle.cell_heap.specs.Telling.{AtCollectorEvent, FindsKnown, IsKnown, collector_tells}
 use Rattle.cell_words.specs.declared.colours.Colour.{Colour}
 use Rattle.cell_words.specs.declared.fields.Field.{Field}
 use Rattle.core_machine.specs.InRange.{NamesBelow}
@@ -14,10 +14,10 @@ use Rattle.core_machine.specs.Next.{after, can, found_by}
 use Rattle.core_machine.specs.State.{State, colour_of, greatest_cells}
 use Rattle.core_machine.specs.WordOperations.{IsValidFound}
 use Rattle.core_machine.proofs.HasWords.{found_valid}
+use Rattle.dlg_core.specs.Collects.{AreOver}
 use Rattle.heap_rule.specs.Asks.{collector_state}
-use Rattle.heap_rule.specs.Rule.{told_collector}
+use Rattle.heap_rule.specs.Rule.{IsAlone, told_collector}
 use Rattle.heap_rule.specs.Steps.{AtCollectorStep}
-use Rattle.heap_rule.proofs.Alone.{alone_found}
 use Rattle.heap_table.specs.Seats.{SeatView}
 
 -- the sweep does not look at a gray cell
@@ -93,10 +93,23 @@ module _ {P : Type 0} where
         (λ j. ((m.step.ours.cells ∙ ap (λ (s : SeatView P). s.me.shape.cells) m.is) j, same j))
         names
 
-    -- what was found is what the collector knows to be there, where it knows the state
+    -- where the collector knows the state it is the one at the step
     pub knows : (found : Found) → found_by m.step.core e ≡ found → FindsKnown old.me e found
-    knows found is = subst (λ (s : SeatView P). FindsKnown s.me e found) m.is (λ s alone.
-        sym (alone_found inside.me.alone m.step.core s e m.step.ours.alone alone) ∙ is)
+    knows found is =
+        let at = m.step in
+        subst (λ (s : SeatView P). FindsKnown s.me e found) m.is (λ s alone.
+        let here : (s ≡ at.core) × AreOver at.core =
+        subst (λ (a : Option State). IsAlone a at.core) alone at.ours.alone in
+        subst (λ (x : State). IsKnown inside.me x e found) (sym here.0) record {
+          shaped = at.ours.shown.shaped;
+          consistent = at.ours.shown.consistent;
+          over = here.1;
+          cells = at.ours.cells;
+          control = at.ours.control;
+          part = at.ours.part;
+          happens = at.happens;
+          found_is = is;
+        })
 
   abbrev pub made : {fixed : ℕ → Bool} {old inside new : SeatView P} {e : Event} {number : ℕ}
       → inside ≡ old → new.table ≡ inside.table → AtCollectorStep fixed inside.me e number new.me

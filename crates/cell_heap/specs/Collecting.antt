@@ -1,6 +1,7 @@
 -- What the numbers that the collector's seat has at hand say of its view.
 -- Source: this project's.
-use Rattle.std.specs.Prelude.{ℕ, ◌≡◌, ◌<◌, ◌≤◌, ◌^◌, false, Some, length}
+use Rattle.std.specs.Prelude.{ℕ, ◌≡◌, ◌<◌, ◌≤◌, ◌^◌, false, true, Some, is_some, length}
+use Rattle.std.specs.List.{list_all}
 use Rattle.cell_heap.specs.declared.progress.Progress.{Progress}
 use Rattle.cell_heap.specs.Progress.{progress_of}
 use Rattle.cell_words.specs.Control.{IsValidControl}
@@ -34,6 +35,9 @@ pub record IsCollector {P : Type 0} (me : View P) (cells mutators : ℕ) (contro
   pub mutators_are : me.shape.mutators ≡ mutators
   pub control_is : me.control ≡ control
   pub progress_is : progress_of me.part ≡ progress
-  -- an answer is kept for each mutator
+  -- an answer is kept for each mutator, and whether it was found over
   pub answers_fit : length me.part.answered ≡ mutators
+  pub over_fit : length me.over ≡ mutators
+  -- once all were, the state is known
+  pub knows : 0 < mutators → list_all (λ found. found) me.over ≡ true → is_some me.alone ≡ true
   pub within : IsWithin cells control progress

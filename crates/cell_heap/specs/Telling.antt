@@ -9,9 +9,12 @@ use Rattle.core_machine.specs.declared.events.Event.{Event}
 use Rattle.core_machine.specs.declared.events.Event.TheVariants as event
 use Rattle.core_machine.specs.declared.events.Found.{Found}
 use Rattle.core_machine.specs.declared.events.Found.TheVariants as finds
+use Rattle.core_machine.specs.InRange.{IsShaped}
 use Rattle.core_machine.specs.Next.{after, can, found_by}
 use Rattle.core_machine.specs.State.{State}
 use Rattle.core_machine.specs.Words.{may_answer_out}
+use Rattle.dlg_core.specs.Collects.{AreOver}
+use Rattle.dlg_core.specs.Consistent.{IsConsistent}
 use Rattle.heap_rule.specs.declared.view.View.{View}
 use Rattle.heap_rule.specs.Asks.{collector_state}
 use Rattle.heap_rule.specs.Lore.{Lore}
@@ -27,9 +30,20 @@ module _ {P : Type 0} where
     me = told_collector seat.me e found (collector_state seat.me);
   }
 
-  -- Where the collector knows the state, the event finds what is there.
+  -- The state at an event, where the collector knows it: what the event finds is there, and every
+  -- mutator is over.
+  pub record IsKnown (v : View P) (s : State) (e : Event) (found : Found) : Type 0 where
+    pub shaped : IsShaped s
+    pub consistent : IsConsistent s
+    pub over : AreOver s
+    pub cells : s.cells ≡ v.shape.cells
+    pub control : s.control ≡ v.control
+    pub part : s.collector ≡ v.part
+    pub happens : can s e ≡ true
+    pub found_is : found_by s e ≡ found
+
   abbrev pub FindsKnown : View P → Event → Found → Type 0
-  FindsKnown v e found = (s : State) → v.alone ≡ Some s → found_by s e ≡ found
+  FindsKnown v e found = (s : State) → v.alone ≡ Some s → IsKnown v s e found
 
   -- An event that finds a colour, which its call does not give.
   pub record TellsColour (old : SeatView P) (e : Event) (new : SeatView P) : Type 0 where

@@ -59,6 +59,7 @@ impl<P: Keeping> ColSeat<P> {
         requires seat { IsSeatOf heap.now self.old }
         requires can { can (collector_state self.old.me) (event.Post stage) ≡ true }
         ensures told { self.new ≡ collector_tells self.old (event.Post stage) finds.Stored }
+        ensures known { FindsKnown self.old.me (event.Post stage) finds.Stored }
     {
         let control = posted(self.control, stage);
         let word = pack_control(control);
@@ -72,6 +73,7 @@ impl<P: Keeping> ColSeat<P> {
         requires seat { IsSeatOf heap.now self.old }
         requires can { can (collector_state self.old.me) (event.Duty on) ≡ true }
         ensures told { self.new ≡ collector_tells self.old (event.Duty on) finds.Stored }
+        ensures known { FindsKnown self.old.me (event.Duty on) finds.Stored }
     {
         let control = Control {
             duty: on,

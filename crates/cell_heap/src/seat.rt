@@ -1,4 +1,5 @@
-ghost use Rattle.std.specs.Prelude.{◌≡◌, ◌<◌, ◌≤◌, ◌^◌, None, length};
+ghost use Rattle.std.specs.Prelude.{◌≡◌, ◌<◌, ◌≤◌, ◌^◌, None, is_some, length, true};
+ghost use Rattle.std.specs.List.{list_all};
 ghost use Rattle.cell_words.specs.declared.controls.Stage.TheVariants as stage;
 ghost use Rattle.core_machine.specs.State.{greatest_cells};
 ghost use Rattle.heap_rule.specs.Opening.{opening_view};
@@ -83,10 +84,14 @@ impl<P: Keeping> ColSeat<P> {
         self.cells
     }
 
-    /// How many mutators it has. The seat keeps for each whether it has answered.
+    /// How many mutators it has. The seat keeps for each whether it has answered, and whether it
+    /// was found over; once all were, it knows the state.
     pub fn mutators(&self) -> u32
         ensures mutators { result ≡ self.now.me.shape.mutators }
         ensures answers { length self.now.me.part.answered ≡ result }
+        ensures over { length self.now.me.over ≡ result }
+        ensures knows { 0 < result → list_all (λ found. found) self.now.me.over ≡ true
+            → is_some self.now.me.alone ≡ true }
     {
         self.mutators
     }

@@ -40,6 +40,7 @@ impl<P: Keeping> ColSeat<P> {
         requires seat { IsSeatOf heap.now self.old }
         requires can { can (collector_state self.old.me) event.Wipe ≡ true }
         ensures told { self.new ≡ collector_tells self.old event.Wipe finds.Stored }
+        ensures known { FindsKnown self.old.me event.Wipe finds.Stored }
     {
         let field = wiped_count(self.progress.sweep);
         let word = field_word(self.mutators, self.control.position, field);
@@ -54,6 +55,7 @@ impl<P: Keeping> ColSeat<P> {
         requires seat { IsSeatOf heap.now self.old }
         requires can { can (collector_state self.old.me) event.Free ≡ true }
         ensures told { self.new ≡ collector_tells self.old event.Free finds.Stored }
+        ensures known { FindsKnown self.old.me event.Free finds.Stored }
     {
         let word = colour_word(self.mutators, self.control.position);
         let blue = pack_colour(Colour::Blue);
@@ -67,6 +69,7 @@ impl<P: Keeping> ColSeat<P> {
         requires seat { IsSeatOf heap.now self.old }
         requires can { can (collector_state self.old.me) event.Whiten ≡ true }
         ensures told { self.new ≡ collector_tells self.old event.Whiten finds.Stored }
+        ensures known { FindsKnown self.old.me event.Whiten finds.Stored }
     {
         let word = colour_word(self.mutators, self.control.position);
         let white = pack_colour(Colour::White);
@@ -79,6 +82,7 @@ impl<P: Keeping> ColSeat<P> {
         requires seat { IsSeatOf heap.now self.old }
         requires can { can (collector_state self.old.me) event.Advance ≡ true }
         ensures told { self.new ≡ collector_tells self.old event.Advance finds.Stored }
+        ensures known { FindsKnown self.old.me event.Advance finds.Stored }
     {
         let control = Control {
             position: self.control.position + 1,

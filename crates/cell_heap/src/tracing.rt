@@ -97,6 +97,7 @@ impl<P: Keeping> ColSeat<P> {
         requires seat { IsSeatOf heap.now self.old }
         requires can { can (collector_state self.old.me) event.Blacken ≡ true }
         ensures told { self.new ≡ collector_tells self.old event.Blacken finds.Stored }
+        ensures known { FindsKnown self.old.me event.Blacken finds.Stored }
     {
         let scan = scan_or_none(self.progress.scan);
         let word = colour_word(self.mutators, scan.cell);

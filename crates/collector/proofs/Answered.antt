@@ -1,5 +1,6 @@
 -- Mutators answer one after the other.
-use Rattle.std.proofs.Common.{◌≡◌, ◌+◌, ◌-◌, ◌<◌, ℕ, zero, suc, Bool, true, false, List, [], ◌∷◌, ◌++◌}
+use Rattle.std.proofs.Common.{◌≡◌, ◌+◌, ◌-◌, ◌<◌, ℕ, zero, suc, Bool, true, false, List, [], ◌∷◌}
+use Rattle.std.proofs.Common.{◌++◌}
 use Rattle.std.specs.List.{list_all}
 use Rattle.core_machine.specs.Collector.{nobody_answered}
 use Rattle.std.proofs.Common.{length, replicate, slice_set, refl, ◌∙◌, ap, arith}

@@ -15,7 +15,7 @@ use Rattle.heap_rule.specs.Rule.{took}
 use Rattle.collector.specs.Counting.{Comes, Counts, TracesAtMost, goes_on, is_blacken, is_free}
 use Rattle.collector.specs.Counting.{nothing, plus}
 use Rattle.collector.specs.Replay.{Work, count_along, ends_pass, is_shade, spills, stack_after}
-use Rattle.collector.specs.Replay.{stacks, work_after, work_after_all}
+use Rattle.collector.specs.Replay.{stacks, strays, work_after, work_after_all}
 use Rattle.collector.specs.Stack.{Stack, has_room}
 use Rattle.collector.specs.declared.report.CycleReport.{CycleReport}
 
@@ -114,6 +114,7 @@ comes_join a b c r q xs ys first second = record {
       second.stacked_are;
   spilled_are = counted_along spills a b xs ys r.spilled q.spilled first.leads first.spilled_are
       second.spilled_are;
+  straight = counted_along strays a b xs ys 0 0 first.leads first.straight second.straight;
 }
 
 pub counts_join : (a b c : Work) (r q : CycleReport) (xs ys : List Taken) → Counts a b r xs
@@ -135,6 +136,7 @@ counts_none w = record {
     freed_are = refl;
     stacked_are = refl;
     spilled_are = refl;
+    straight = refl;
   };
 }
 
@@ -167,6 +169,7 @@ still_comes w _ found still = record {
   freed_are = refl;
   stacked_are = refl;
   spilled_are = refl;
+  straight = refl;
 }
 
 pub still_counts : (w : Work) (e : Event) (found : Found) → goes_on e ≡ true → is_still e ≡ true

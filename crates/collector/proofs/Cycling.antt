@@ -1,8 +1,10 @@
 -- The stages of a cycle, joined.
-use Rattle.std.proofs.Common.{◌≡◌, ◌+◌, ℕ, Bool, true, IsTrue, List, [], ◌∷◌, ◌++◌, replicate}
+use Rattle.std.proofs.Common.{◌≡◌, ◌<◌, ◌+◌, ℕ, is_some, length, Bool, true, IsTrue, List, [], ◌∷◌}
+use Rattle.std.proofs.Common.{◌++◌, replicate}
 use Rattle.std.proofs.Common.{refl, ◌∙◌, ap, subst}
 use Rattle.std.proofs.lemmas.List.{append_assoc}
 use Rattle.std.specs.List.{list_all}
+use Rattle.cell_heap.specs.Telling.{FindsKnown}
 use Rattle.cell_words.specs.declared.controls.Stage.TheVariants as stage
 use Rattle.core_machine.specs.declared.events.Event.TheVariants as event
 use Rattle.core_machine.specs.declared.events.Found.TheVariants as finds
@@ -10,36 +12,32 @@ use Rattle.core_machine.specs.declared.events.Taken.{Taken}
 use Rattle.heap_rule.specs.Asks.{collector_state}
 use Rattle.heap_rule.specs.Rule.{took}
 use Rattle.heap_rule.specs.Shape.{Shape}
-use Rattle.collector.specs.Bound.{Bound, HaveAnswered, mutators_of, part_of, takes}
+use Rattle.collector.specs.Bound.{Bound, HaveAnswered, control_of, mutators_of, part_of}
+use Rattle.collector.specs.Bound.{takes}
 use Rattle.collector.specs.Counting.{Comes, Counts, Does, nothing, plus}
-use Rattle.collector.specs.Cycles.{Heard}
+use Rattle.collector.specs.Cycles.{Heard, IsAsked}
 use Rattle.collector.specs.Over.{AllOver, Hears}
 use Rattle.collector.specs.Replay.{Work, count_along, fresh_work_of, spills, work_after, work_of}
 use Rattle.collector.specs.Stack.{emptied}
 use Rattle.collector.specs.Stretches.{Stretch}
 use Rattle.collector.specs.declared.report.CycleReport.{CycleReport}
 use Rattle.collector.proofs.Answered.{all_now}
+use Rattle.collector.proofs.Alone.{two_heard}
 use Rattle.collector.proofs.Counted.{all_shaded, comes_join, counts_join, none_plus, plus_none}
-use Rattle.collector.proofs.Counted.{still_comes}
+use Rattle.collector.proofs.Counted.{still_comes, still_counts}
 use Rattle.collector.proofs.Hearing.{over_late, over_on}
-use Rattle.collector.proofs.Joining.{kept_then, stretch_then, took_append}
+use Rattle.collector.proofs.Joining.{counts_to, kept_then, stretch_one, stretch_then}
+use Rattle.collector.proofs.Joining.{took_append}
 
 -- what a cycle without its first and its last event comes to
 abbrev pub MadeBy : Work → Work → CycleReport → Bool → ℕ → List Taken → Type 0
 MadeBy from to report over mutators events =
     Counts from to report events × (IsTrue over → AllOver 0 mutators events)
+    × IsAsked mutators report events
 
 counts_as : (a b : Work) (r q : CycleReport) (events : List Taken) → r ≡ q
     → Counts a b r events → Counts a b q events
 counts_as a b r q events is counts = subst (λ (x : CycleReport). Counts a b x events) is counts
-
-made_join : (a b c : Work) (over : Bool) (n : ℕ) (r : CycleReport) (xs ys : List Taken)
-    → MadeBy a b nothing over n xs → Counts b c r ys → MadeBy a c r over n (xs ++ ys)
-made_join a b c over n r xs ys first second = (
-  counts_as a c (plus nothing r) r (xs ++ ys) (none_plus r)
-      (counts_join a b c nothing r xs ys first.0 second),
-  λ so. over_on 0 n xs ys (first.1 so),
-)
 
 -- The first and the last event of a cycle, with what stands between.
 reported_by : (a d : Work) (x z : Taken) (ys : List Taken) (r : CycleReport)
@@ -53,6 +51,11 @@ reported_by a d x z ys r first between last =
     (ys ++ z ∷ []) first
     (comes_join (work_after a x) d (work_after d z) r nothing ys (z ∷ []) between last))
 
+-- what begins with this event and then comes to this
+abbrev BeginsWith : Taken → Work → Work → CycleReport → List Taken → Type 0
+BeginsWith z from to r events =
+    Counts from to r events × (rest : List Taken) × (events ≡ z ∷ rest)
+
 module _ {P : Type 0} where
   pub answered_all : (c : Bound P) (n : ℕ) → (part_of c).answered ≡ replicate n true
       → HaveAnswered c
@@ -63,24 +66,76 @@ module _ {P : Type 0} where
       → mutators_of b ≡ mutators_of a
   mutators_from F a b stretch = ap (λ (h : Shape). h.mutators) stretch.kept.shape
 
+  cleared_then : (r : CycleReport) (b c d : Bound P)
+      → c ≡ takes b (event.Post stage.Clear) finds.Stored
+      → FindsKnown b.seat.me (event.Post stage.Clear) finds.Stored → Does r c d
+      → Stretch (BeginsWith (took (event.Post stage.Clear) finds.Stored) (work_of b) (work_of d) r)
+      b d
+  cleared_then r b c d posts known rest =
+      let e = event.Post stage.Clear in
+      let z = took e finds.Stored in
+      let now = collector_state b.seat.me in
+      let seat = ap (λ (x : Bound P). x.seat) posts in
+      let stack = ap (λ (x : Bound P). x.stack) posts in
+      stretch_then
+      (λ (xs : List Taken). Counts (work_of b) (work_of c) nothing xs × (xs ≡ z ∷ []))
+      (Counts (work_of c) (work_of d) r)
+      (BeginsWith z (work_of b) (work_of d) r) b c d
+      (λ xs ys first second. (
+        counts_as (work_of b) (work_of d) (plus nothing r) r (xs ++ ys) (none_plus r)
+            (counts_join (work_of b) (work_of c) (work_of d) nothing r xs ys first.0 second),
+        ys,
+        ap (λ (zs : List Taken). zs ++ ys) first.1,
+      ))
+      (stretch_one (λ (xs : List Taken). Counts (work_of b) (work_of c) nothing xs × (xs ≡ z ∷ []))
+      b c e finds.Stored now (ap (λ (x : Bound P). x.heap) posts) seat stack known (
+        counts_to nothing b c e finds.Stored now seat stack
+            (still_counts (work_of b) e finds.Stored refl refl),
+        refl,
+      ))
+      rest
+
   pub made_of : (over : Bool) (n : ℕ) (r : CycleReport) (a b c d : Bound P)
-      → Hears over 0 n a b → Does nothing b c → Does r c d
+      → Hears over 0 n a b → c ≡ takes b (event.Post stage.Clear) finds.Stored
+      → FindsKnown b.seat.me (event.Post stage.Clear) finds.Stored → Does r c d
+      → length b.seat.me.over ≡ n
+      → (0 < n → list_all (λ found. found) b.seat.me.over ≡ true
+      → is_some b.seat.me.alone ≡ true)
+      → (control_of b).stage ≡ stage.Sync1 → (control_of d).stage ≡ stage.Sweep
       → Stretch (MadeBy (work_of a) (work_of d) r over n) a d
-  made_of over n r a b c d first second third =
-      stretch_then (MadeBy (work_of a) (work_of c) nothing over n)
-      (Counts (work_of c) (work_of d) r) (MadeBy (work_of a) (work_of d) r over n) a c d
-      (made_join (work_of a) (work_of c) (work_of d) over n r)
-      (stretch_then (MadeBy (work_of a) (work_of b) nothing over n)
-      (Counts (work_of b) (work_of c) nothing) (MadeBy (work_of a) (work_of c) nothing over n) a b c
-      (made_join (work_of a) (work_of b) (work_of c) over n nothing) first second)
-      third
+  made_of over n r a b c d hears posts known does long knows sync1 sweep =
+      let rest = cleared_then r b c d posts known does in
+      record {
+        added = hears.added ++ rest.added;
+        told = took_append a.seat b.seat d.seat hears.added rest.added hears.told rest.told;
+        trail = rest.trail
+            ∙ ap (λ (xs : List Taken). xs ++ rest.added) hears.trail
+            ∙ append_assoc a.seat.me.trail hears.added rest.added;
+        kept = kept_then a b d hears.kept rest.kept;
+        fact = (
+          counts_as (work_of a) (work_of d) (plus nothing r) r (hears.added ++ rest.added)
+              (none_plus r)
+              (counts_join (work_of a) (work_of b) (work_of d) nothing r hears.added rest.added
+              hears.fact.0 rest.fact.0),
+          λ so. over_on 0 n hears.added rest.added (hears.fact.1 so),
+          record {
+            asked = hears.added;
+            rest = rest.fact.1;
+            split = ap (λ (ys : List Taken). hears.added ++ ys) rest.fact.2;
+            two = λ some over none. two_heard n r a b d hears.added rest.added hears.told rest.told
+                long knows known rest.fact.0 sync1 sweep some over none;
+          },
+        );
+      }
 
   pub heard_of : (over : Bool) (n : ℕ) (r : CycleReport) (a b c d : Bound P)
       → b ≡ takes (record a { stack = emptied a.stack }) (event.Post stage.Sync1) finds.Stored
+      → FindsKnown a.seat.me (event.Post stage.Sync1) finds.Stored
       → Stretch (MadeBy (work_of b) (work_of c) r over n) b c
       → d ≡ takes c (event.Post stage.Idle) finds.Stored
+      → FindsKnown c.seat.me (event.Post stage.Idle) finds.Stored
       → Stretch (Heard (fresh_work_of a) n r over) a d
-  heard_of over n r a b c d begins made closes =
+  heard_of over n r a b c d begins first made closes last =
       let x = took (event.Post stage.Sync1) finds.Stored in
       let z = took (event.Post stage.Idle) finds.Stored in
       let ys = made.added in
@@ -93,9 +148,9 @@ module _ {P : Type 0} where
       record {
         added = x ∷ (ys ++ z ∷ []);
         told = took_append a.seat b.seat d.seat (x ∷ []) (ys ++ z ∷ [])
-            (collector_state a.seat.me, ap (λ (y : Bound P). y.seat) begins)
+            (collector_state a.seat.me, first, ap (λ (y : Bound P). y.seat) begins)
             (took_append b.seat c.seat d.seat ys (z ∷ []) made.told
-            (collector_state c.seat.me, ap (λ (y : Bound P). y.seat) closes));
+            (collector_state c.seat.me, last, ap (λ (y : Bound P). y.seat) closes));
         trail = ap (λ (y : Bound P). y.seat.me.trail) closes
             ∙ ap (λ (zs : List Taken). zs ++ z ∷ []) (made.trail
             ∙ ap (λ (zs : List Taken). zs ++ ys) (ap (λ (y : Bound P). y.seat.me.trail) begins))
@@ -119,11 +174,13 @@ module _ {P : Type 0} where
         fact = record {
           reported = record {
             cycle = record { between = ys; whole = refl; one = made.fact.0.on };
+            first = made.fact.2;
             passes_are = comes.passes_are;
             scanned_are = comes.scanned_are;
             freed_are = comes.freed_are;
             stacked_are = comes.stacked_are;
             spilled_are = comes.spilled_are;
+            straight = comes.straight;
             shaded = all_shaded from (x ∷ (ys ++ z ∷ []))
                 ∙ ap (λ (k : ℕ). k + count_along spills from (x ∷ (ys ++ z ∷ [])))
                 comes.stacked_are

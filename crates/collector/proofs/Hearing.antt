@@ -4,7 +4,7 @@ use Rattle.std.proofs.Common.{List, [], ◌∷◌, ◌++◌, inl, inr, refl, sym
 use Rattle.std.proofs.lemmas.Bool.{and_parts, cases_lt, or_left, or_right}
 use Rattle.std.proofs.lemmas.List.Folds.{list_any-append}
 use Rattle.cell_words.specs.declared.presences.Presence.{Presence}
-use Rattle.cell_heap.specs.Telling.{AtCollectorEvent}
+use Rattle.cell_heap.specs.Telling.{AtCollectorEvent, FindsKnown}
 use Rattle.core_machine.specs.Next.{after}
 use Rattle.core_machine.specs.declared.events.Event.{Event}
 use Rattle.core_machine.specs.declared.events.Event.TheVariants as event
@@ -106,23 +106,25 @@ module _ {P : Type 0} where
 
   pub does_met : (fixed : ℕ → Bool) (a b : Bound P) (e : Event) (found : Found)
       → b.heap ≡ a.heap → b.seat.table ≡ a.seat.table → b.stack ≡ a.stack → goes_on e ≡ true
-      → is_still e ≡ true → AtCollectorEvent fixed a.seat.me e found b.seat.me → Does nothing a b
-  does_met fixed a b e found heap table stack on still told =
+      → is_still e ≡ true → AtCollectorEvent fixed a.seat.me e found b.seat.me
+      → FindsKnown a.seat.me e found → Does nothing a b
+  does_met fixed a b e found heap table stack on still told known =
       does_event nothing a b e found (after told.core e) heap
       (seat_is fixed a b e found table told)
-      (stack ∙ sym (still_stack a.stack (part_of a) e still))
+      (stack ∙ sym (still_stack a.stack (part_of a) e still)) known
       (still_counts (work_of a) e found on still)
 
   pub hears_one : (fixed : ℕ → Bool) (a b : Bound P) (m : ℕ) (found : Presence)
       → b.heap ≡ a.heap → b.seat.table ≡ a.seat.table → b.stack ≡ a.stack
       → AtCollectorEvent fixed a.seat.me (event.Poll m) (finds.Presence found) b.seat.me
+      → FindsKnown a.seat.me (event.Poll m) (finds.Presence found)
       → Hears found.over m (m + 1) a b
-  hears_one fixed a b m found heap table stack told =
+  hears_one fixed a b m found heap table stack told known =
       let e = event.Poll m in
       let now = after told.core e in
       let seat = seat_is fixed a b e (finds.Presence found) table told in
       stretch_one (HearsBy found.over m (m + 1) (work_of a) (work_of b)) a b e
-      (finds.Presence found) now heap seat stack (
+      (finds.Presence found) now heap seat stack known (
         counts_to nothing a b e (finds.Presence found) now seat stack
             (still_counts (work_of a) e (finds.Presence found) refl refl),
         λ so. over_here m found so,

@@ -1,6 +1,7 @@
 -- Stretches follow one another: their events go together, and their counts add up.
 use Rattle.std.proofs.Common.{◌≡◌, true, List, [], ◌∷◌, ◌++◌, refl, sym, ◌∙◌, ap, subst}
 use Rattle.std.proofs.lemmas.List.{append_assoc, append-nil}
+use Rattle.cell_heap.specs.Telling.{FindsKnown}
 use Rattle.core_machine.specs.State.{State}
 use Rattle.core_machine.specs.declared.events.Event.{Event}
 use Rattle.core_machine.specs.declared.events.Found.{Found}
@@ -21,8 +22,11 @@ module _ {P : Type 0} where
   pub took_append : (a b c : SeatView P) (xs ys : List Taken) → Took a xs b → Took b ys c
       → Took a (xs ++ ys) c
   took_append a b c [] ys first second = subst (λ (x : SeatView P). Took x ys c) first second
-  took_append a b c (x ∷ xs) ys first second =
-      (first.0, took_append (tells_at a x.event x.found first.0) b c xs ys first.1 second)
+  took_append a b c (x ∷ xs) ys first second = (
+    first.0,
+    first.1,
+    took_append (tells_at a x.event x.found first.0) b c xs ys first.2 second,
+  )
 
   pub kept_then : (a b c : Bound P) → Kept a b → Kept b c → Kept a c
   kept_then a b c first second = record {
@@ -67,10 +71,11 @@ module _ {P : Type 0} where
 
   pub stretch_one : (F : List Taken → Type 0) (a b : Bound P) (e : Event) (found : Found)
       (now : State) → b.heap ≡ a.heap → b.seat ≡ tells_at a.seat e found now
-      → b.stack ≡ stack_after a.stack (part_of a) e → F (took e found ∷ []) → Stretch F a b
-  stretch_one F a b e found now heap seat stack fact = record {
+      → b.stack ≡ stack_after a.stack (part_of a) e → FindsKnown a.seat.me e found
+      → F (took e found ∷ []) → Stretch F a b
+  stretch_one F a b e found now heap seat stack known fact = record {
     added = took e found ∷ [];
-    told = (now, seat);
+    told = (now, known, seat);
     trail = ap (λ (x : SeatView P). x.me.trail) seat;
     kept = record {
       heap = heap;
@@ -92,30 +97,31 @@ module _ {P : Type 0} where
 
   pub does_event : (r : CycleReport) (a b : Bound P) (e : Event) (found : Found) (now : State)
       → b.heap ≡ a.heap → b.seat ≡ tells_at a.seat e found now
-      → b.stack ≡ stack_after a.stack (part_of a) e
+      → b.stack ≡ stack_after a.stack (part_of a) e → FindsKnown a.seat.me e found
       → Counts (work_of a) (work_after (work_of a) (took e found)) r (took e found ∷ [])
       → Does r a b
-  does_event r a b e found now heap seat stack counts =
-      stretch_one (Counts (work_of a) (work_of b) r) a b e found now heap seat stack
+  does_event r a b e found now heap seat stack known counts =
+      stretch_one (Counts (work_of a) (work_of b) r) a b e found now heap seat stack known
       (counts_to r a b e found now seat stack counts)
 
   -- one that leaves the stack
   pub does_one : (r : CycleReport) (a b : Bound P) (e : Event) (found : Found)
-      → b ≡ takes a e found → stack_after a.stack (part_of a) e ≡ a.stack
+      → b ≡ takes a e found → FindsKnown a.seat.me e found
+      → stack_after a.stack (part_of a) e ≡ a.stack
       → Counts (work_of a) (work_after (work_of a) (took e found)) r (took e found ∷ [])
       → Does r a b
-  does_one r a b e found is same counts =
+  does_one r a b e found is known same counts =
       does_event r a b e found (collector_state a.seat.me)
       (ap (λ (x : Bound P). x.heap) is)
       (ap (λ (x : Bound P). x.seat) is)
       (ap (λ (x : Bound P). x.stack) is ∙ sym same)
-      counts
+      known counts
 
   -- one that counts for nothing
   pub does_still : (a b : Bound P) (e : Event) (found : Found) → goes_on e ≡ true
-      → is_still e ≡ true → b ≡ takes a e found → Does nothing a b
-  does_still a b e found on still is =
-      does_one nothing a b e found is (still_stack a.stack (part_of a) e still)
+      → is_still e ≡ true → b ≡ takes a e found → FindsKnown a.seat.me e found → Does nothing a b
+  does_still a b e found on still is known =
+      does_one nothing a b e found is known (still_stack a.stack (part_of a) e still)
       (still_counts (work_of a) e found on still)
 
   -- Stretches.

@@ -1,8 +1,10 @@
 -- Where two whole cycles began after every mutator was found over, no garbage is left.
 --
 -- Who was found over is so from that event on, and makes none any more. So from where the last one
--- was found over, the run is the collector's trail: the two cycles stand in it with nothing between.
-use Rattle.std.proofs.Common.{◌≡◌, ◌≢◌, ◌<◌, ◌++◌, ◌||◌, ◌&&◌, ◌==◌, ℕ, Bool, true, false, if◌then◌else◌}
+-- was found over, the run is the collector's trail, and the two cycles stand in it with nothing
+-- between.
+use Rattle.std.proofs.Common.{◌≡◌, ◌≢◌, ◌<◌, ◌++◌, ◌||◌, ◌&&◌, ◌==◌, ℕ, Bool, true, false}
+use Rattle.std.proofs.Common.{if◌then◌else◌}
 use Rattle.std.proofs.Common.{List, [], ◌∷◌, length, Option, None, inl, inr, refl, sym, ◌∙◌}
 use Rattle.std.proofs.Common.{ap, subst, arith}
 use Rattle.std.proofs.lemmas.Bool.{and_parts, cases_lt, eqb-true, false≢true}

@@ -1,4 +1,5 @@
 pub mod Answered
+pub mod Alone
 pub mod Counted
 pub mod Cycling
 pub mod Hearing
@@ -8,3 +9,4 @@ pub mod Leaving
 pub mod Offered
 pub mod Scanning
 pub mod Stacked
+pub mod TwoPasses

@@ -6,7 +6,7 @@ use Rattle.std.proofs.Common.{eq-eqb, eqb-true, ne_eqb}
 use Rattle.std.proofs.lemmas.Bool.{false≢true, le-ltb, lt-ltb}
 use Rattle.std.proofs.lemmas.List.{length-set}
 use Rattle.collector.specs.Stack.{AllBelow, Stack, down_to, has_room, pushed, top_first, top_of}
-use Rattle.collector.specs.Stack.{without}
+use Rattle.collector.specs.Stack.{top_or, without}
 
 pub top_first-length : (items : List ℕ) (h : ℕ) → length (top_first items h) ≡ h
 top_first-length items zero = refl
@@ -73,6 +73,10 @@ pushed_gone items c h s is le =
 pub top_none : (xs : List ℕ) → top_of xs ≡ None → xs ≡ []
 top_none [] is = refl
 top_none (x ∷ xs) is = absurd (cc is)
+
+pub top_or_is : (c x : ℕ) (xs : List ℕ) → top_of xs ≡ Some x → x ≡ top_or c xs
+top_or_is c x [] is = absurd (cc is)
+top_or_is c x (y ∷ ys) is = let first : y ≡ x = cc is in sym first
 
 none_step : (at y : ℕ) (ys : List ℕ) (b : Bool) → (y == at) ≡ b
     → top_of (cond b (without at ys) (y ∷ ys)) ≡ None

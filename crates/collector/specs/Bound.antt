@@ -2,7 +2,7 @@
 -- Source: this project's.
 use Rattle.std.specs.Prelude.{ℕ, ◌≡◌, Bool, true, None}
 use Rattle.std.specs.List.{list_all}
-use Rattle.cell_heap.specs.Telling.{collector_tells}
+use Rattle.cell_heap.specs.Telling.{FindsKnown, collector_tells}
 use Rattle.cell_words.specs.declared.colours.Colour.{Colour}
 use Rattle.core_machine.specs.declared.events.Event.{Event}
 use Rattle.core_machine.specs.declared.events.Found.{Found}
@@ -59,6 +59,7 @@ module _ {P : Type 0} where
   -- after one that found a colour, which its call does not give
   abbrev pub TakesColour : Bound P → Event → Bound P → Type 0
   TakesColour old e new = (found : Colour) × (new ≡ takes old e (finds.Colour found))
+      × FindsKnown old.seat.me e (finds.Colour found)
 
 -- Who has answered, and the scan, are as before.
 pub record KeepsAnswers (old new : Collector) : Type 0 where

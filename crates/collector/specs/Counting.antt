@@ -8,7 +8,8 @@ use Rattle.core_machine.specs.declared.events.Event.{Event}
 use Rattle.core_machine.specs.declared.events.Event.TheVariants as event
 use Rattle.core_machine.specs.declared.events.Taken.{Taken}
 use Rattle.collector.specs.Bound.{Bound, cells_of, part_of}
-use Rattle.collector.specs.Replay.{Work, count_along, ends_pass, spills, stacks, work_after_all}
+use Rattle.collector.specs.Replay.{Work, count_along, ends_pass, spills, stacks, strays}
+use Rattle.collector.specs.Replay.{work_after_all}
 use Rattle.collector.specs.Replay.{work_of}
 use Rattle.collector.specs.Stretches.{Stretch}
 use Rattle.collector.specs.declared.report.CycleReport.{CycleReport}
@@ -88,6 +89,8 @@ pub record Comes (from to : Work) (r : CycleReport) (events : List Taken) : Type
   pub freed_are : count_by (λ (t : Taken). is_free t.event) events ≡ r.freed
   pub stacked_are : count_along stacks from events ≡ r.stacked
   pub spilled_are : count_along spills from events ≡ r.spilled
+  -- no look is at another cell than the next
+  pub straight : count_along strays from events ≡ 0
 
 -- and none of them ends a cycle or tells of duty
 pub record Counts (from to : Work) (r : CycleReport) (events : List Taken) : Type 0 where

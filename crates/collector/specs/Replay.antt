@@ -12,7 +12,7 @@ use Rattle.core_machine.specs.declared.events.Found.{Found}
 use Rattle.core_machine.specs.declared.events.Found.TheVariants as finds
 use Rattle.core_machine.specs.declared.events.Taken.{Taken}
 use Rattle.collector.specs.Bound.{Bound, cells_of, control_of, part_of}
-use Rattle.collector.specs.Stack.{Stack, emptied, has_room, looked_at, pushed}
+use Rattle.collector.specs.Stack.{Stack, emptied, has_room, looked_at, next_of, pushed}
 
 -- How far the work is, in a heap of so many cells.
 pub record Work : Type 0 where
@@ -60,6 +60,16 @@ sees_last w _ found = false
 
 abbrev pub ends_pass : Work → Taken → Bool
 ends_pass w t = sees_last w t.event t.found
+
+-- A look is at the cell that is next: the topmost one on the stack that is not the one to which the
+-- pass has come, or this one.
+
+abbrev pub looks_next : Work → Event → Bool
+looks_next w (event.See c) = c == next_of (restarted w.part w.cells).cursor w.stack.cells
+looks_next w _ = true
+
+abbrev pub strays : Work → Taken → Bool
+strays w t = not (looks_next w t.event)
 
 -- A shaded child is pushed, or finds the stack full.
 

@@ -27,6 +27,16 @@ abbrev pub without : ℕ → List ℕ → List ℕ
 without c [] = []
 without c (x ∷ xs) = if x == c then without c xs else x ∷ xs
 
+-- the one on top, or another number where there is none
+abbrev pub top_or : ℕ → List ℕ → ℕ
+top_or c [] = c
+top_or c (x ∷ xs) = x
+
+-- The cell to be looked at next, where the pass has come to the given one: the topmost one that is
+-- another; and the given one where there is none.
+abbrev pub next_of : ℕ → List ℕ → ℕ
+next_of at cells = top_or at (without at cells)
+
 -- from the topmost place of the cell down
 abbrev pub down_to : ℕ → List ℕ → List ℕ
 down_to c [] = []

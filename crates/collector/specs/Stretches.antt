@@ -1,16 +1,19 @@
 -- A call of several events: the stretch of the trail that it adds, and what it leaves as it was.
 -- Source: this project's.
 use Rattle.std.specs.Prelude.{◌≡◌, List, [], ◌∷◌, ◌++◌}
+use Rattle.cell_heap.specs.Telling.{FindsKnown}
 use Rattle.core_machine.specs.State.{State}
 use Rattle.core_machine.specs.declared.events.Taken.{Taken}
 use Rattle.heap_table.specs.Seats.{SeatView}
 use Rattle.collector.specs.Bound.{Bound, tells_at}
 
 module _ {P : Type 0} where
-  -- the seat was told these events one after the other, and is then the other one
+  -- the seat was told these events one after the other, and is then the other one; each found what
+  -- is there, where the collector knows the state
   abbrev pub Took : SeatView P → List Taken → SeatView P → Type 0
   Took old [] new = new ≡ old
-  Took old (t ∷ ts) new = (now : State) × Took (tells_at old t.event t.found now) ts new
+  Took old (t ∷ ts) new = (now : State) × FindsKnown old.me t.event t.found
+      × Took (tells_at old t.event t.found now) ts new
 
   -- It is at the same heap, by the same seat, with as much room for what waits for a look; and no
   -- mutator's seat was split off or joined.

@@ -1,8 +1,10 @@
 //! The collector: its seat, with the heap that the seat is of and the mark stack.
-ghost use Rattle.std.specs.Prelude.{◌≡◌, ◌<◌, ◌≤◌, [], ◌∷◌, ℕ, length};
+ghost use Rattle.std.specs.Prelude.{◌≡◌, ◌<◌, ◌≤◌, ◌∷◌, ℕ, is_some, length, true};
+ghost use Rattle.std.specs.List.{list_all};
+ghost use Rattle.cell_heap.specs.Telling.{FindsKnown};
 ghost use Rattle.cell_words.specs.declared.controls.Stage.TheVariants as stage;
 ghost use Rattle.collector.specs.Bound.{cells_of, control_of, mutators_of, part_of, takes};
-ghost use Rattle.collector.specs.Stack.{emptied, has_room, looked_at, pushed};
+ghost use Rattle.collector.specs.Stack.{emptied, has_room, looked_at, next_of, pushed};
 ghost use Rattle.core_machine.specs.declared.events.Event.TheVariants as event;
 ghost use Rattle.core_machine.specs.declared.events.Found.TheVariants as finds;
 ghost use Rattle.heap_table.specs.Seats.{IsSeatOf};
@@ -48,7 +50,8 @@ impl<'a, P: Keeping> Collector<'a, P> {
     ) -> Collector<'a, P>
         requires seat { IsSeatOf heap.now seat }
         requires mutators { mutators ≡ heap.now.shape.mutators }
-        ensures collector { result ≡ record { heap = heap.now; seat = seat; stack = emptied stack } }
+        ensures collector { result
+            ≡ record { heap = heap.now; seat = seat; stack = emptied stack } }
     {
         let mut stack = stack;
         stack.clear();
@@ -89,7 +92,7 @@ impl<'a, P: Keeping> Collector<'a, P> {
         requires at { at < cells_of self.old }
         ensures cell { result < cells_of self.old }
         ensures left { self.new ≡ record self.old { stack = looked_at result self.old.stack } }
-        ensures last { result ≡ at → self.new.stack.cells ≡ [] }
+        ensures next { result ≡ next_of at self.old.stack.cells }
     {
         self.stack.next_besides(at)
     }
@@ -102,10 +105,14 @@ impl<'a, P: Keeping> Collector<'a, P> {
         self.seat.cells()
     }
 
-    /// How many mutators it has. For each it is kept whether it has answered.
+    /// How many mutators it has. For each it is kept whether it has answered, and whether it was
+    /// found over; once all were, the state is known.
     pub fn mutators(&self) -> u32
         ensures mutators { result ≡ mutators_of self.now }
         ensures answers { length (part_of self.now).answered ≡ result }
+        ensures over { length self.now.seat.me.over ≡ result }
+        ensures knows { 0 < result → list_all (λ found. found) self.now.seat.me.over ≡ true
+            → is_some self.now.seat.me.alone ≡ true }
     {
         self.seat.mutators()
     }
@@ -121,6 +128,7 @@ impl<'a, P: Keeping> Collector<'a, P> {
     pub fn duty(&mut self, on: bool)
         requires idle { (control_of self.old).stage ≡ stage.Idle }
         ensures told { self.new ≡ takes self.old (event.Duty on) finds.Stored }
+        ensures known { FindsKnown self.old.seat.me (event.Duty on) finds.Stored }
     {
         self.seat.duty(self.heap, on);
     }

@@ -4,7 +4,8 @@
 //! A cell that the pass itself has come to leaves the stack without a look as long as others lie
 //! below it: a look would lead the pass on while they are still gray.
 ghost use Rattle.std.specs.Prelude.{◌≡◌, ◌≤◌, ℕ, ◌<◌, IfOk, [], length};
-ghost use Rattle.collector.specs.Stack.{AllBelow, emptied, has_room, looked_at, pushed, top_first, top_of, without};
+ghost use Rattle.collector.specs.Stack.{AllBelow, emptied, has_room, looked_at, next_of, pushed};
+ghost use Rattle.collector.specs.Stack.{top_first, top_of, without};
 
 use crate::NoMemory;
 use std::alloc::Global;
@@ -26,7 +27,10 @@ impl Model for MarkStack {
 
     ghost coded = { Prim.hlevel codes };
 
-    ghost view = { λ s. record { room = length s.items.items; cells = top_first s.items.items s.height } };
+    ghost view = { λ s. record {
+      room = length s.items.items;
+      cells = top_first s.items.items s.height;
+    } };
 
     ghost invariant = { λ s. s.height ≤ length s.items.items };
 }
@@ -101,7 +105,7 @@ impl MarkStack {
     /// one; and the given one where no other is left.
     pub(crate) fn next_besides(&mut self, at: u32) -> u32
         ensures left { self.new ≡ looked_at result self.old }
-        ensures last { result ≡ at → self.new.cells ≡ [] }
+        ensures next { result ≡ next_of at self.old.cells }
         ensures below { (cells : ℕ) → at < cells → AllBelow cells self.old.cells → result < cells }
     {
         self.leave(at);

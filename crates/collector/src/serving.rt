@@ -57,7 +57,8 @@ impl<'a, P: Keeping> Collector<'a, P> {
         requires idle { (control_of self.old).stage ≡ stage.Idle }
         requires cycles { (control_of self.old).cycles + cycles ≤ greatest_cycles }
         requires hints { hinted_of (queue_of hints.old) ≡ cells_of self.old }
-        ensures served { (made : ℕ) × ((control_of self.new).cycles ≡ (control_of self.old).cycles + made)
+        ensures served { (made : ℕ)
+            × ((control_of self.new).cycles ≡ (control_of self.old).cycles + made)
             × Stretch (Served (mutators_of self.old) cycles made result) self.old self.new }
         ensures idle { (control_of self.new).stage ≡ stage.Idle }
         ensures off_duty { (control_of self.new).duty ≡ false }
@@ -74,7 +75,8 @@ impl<'a, P: Keeping> Collector<'a, P> {
         requires idle { (control_of self.old).stage ≡ stage.Idle }
         requires cycles { (control_of self.old).cycles + cycles ≤ greatest_cycles }
         requires hints { hinted_of (queue_of hints.old) ≡ cells_of self.old }
-        ensures made { (made : ℕ) × ((control_of self.new).cycles ≡ (control_of self.old).cycles + made)
+        ensures made { (made : ℕ)
+            × ((control_of self.new).cycles ≡ (control_of self.old).cycles + made)
             × Stretch (MadeCycles (mutators_of self.old) cycles made result) self.old self.new }
         ensures idle { (control_of self.new).stage ≡ stage.Idle }
         ensures queue { queue_of hints.new ≡ queue_of hints.old }

@@ -1,6 +1,6 @@
 //! The seat's calls as this crate uses them: an event each.
 ghost use Rattle.std.specs.Prelude.{◌≡◌, ◌<◌, ◌^◌, None, true, false};
-ghost use Rattle.cell_heap.specs.Telling.{AnswersOut, AtCollectorEvent};
+ghost use Rattle.cell_heap.specs.Telling.{AnswersOut, AtCollectorEvent, FindsKnown};
 ghost use Rattle.cell_words.specs.declared.controls.Stage.TheVariants as stage;
 ghost use Rattle.collector.specs.Bound.{TakesColour, cells_of, control_of, may, part_of, takes};
 ghost use Rattle.core_machine.specs.InRange.{NamesBelow};
@@ -47,6 +47,7 @@ impl<'a, P: Keeping> Collector<'a, P> {
     pub(crate) fn post_once(&mut self, stage: Stage)
         requires may { may self.old (event.Post stage) ≡ true }
         ensures told { self.new ≡ takes self.old (event.Post stage) finds.Stored }
+        ensures known { FindsKnown self.old.seat.me (event.Post stage) finds.Stored }
     {
         self.seat.post(self.heap, stage);
     }
@@ -56,7 +57,9 @@ impl<'a, P: Keeping> Collector<'a, P> {
         ensures heap { self.new.heap ≡ self.old.heap }
         ensures stack { self.new.stack ≡ self.old.stack }
         ensures table { self.new.seat.table ≡ self.old.seat.table }
-        ensures told { AtCollectorEvent P.fixed self.old.seat.me (event.Poll mutator) (finds.Presence result) self.new.seat.me }
+        ensures told { AtCollectorEvent P.fixed self.old.seat.me (event.Poll mutator)
+            (finds.Presence result) self.new.seat.me }
+        ensures known { FindsKnown self.old.seat.me (event.Poll mutator) (finds.Presence result) }
     {
         self.seat.poll(self.heap, mutator)
     }
@@ -88,6 +91,7 @@ impl<'a, P: Keeping> Collector<'a, P> {
     pub(crate) fn see_once(&mut self, cell: u32) -> Colour
         requires may { may self.old (event.See cell) ≡ true }
         ensures told { self.new ≡ takes self.old (event.See cell) (finds.Colour result) }
+        ensures known { FindsKnown self.old.seat.me (event.See cell) (finds.Colour result) }
     {
         self.seat.see(self.heap, cell)
     }
@@ -95,6 +99,7 @@ impl<'a, P: Keeping> Collector<'a, P> {
     pub(crate) fn scan_once(&mut self) -> Field
         requires may { may self.old event.Scan ≡ true }
         ensures told { self.new ≡ takes self.old event.Scan (finds.Field result) }
+        ensures known { FindsKnown self.old.seat.me event.Scan (finds.Field result) }
         ensures below { NamesBelow (cells_of self.old) result }
     {
         self.seat.scan(self.heap)
@@ -110,6 +115,7 @@ impl<'a, P: Keeping> Collector<'a, P> {
     pub(crate) fn blacken_once(&mut self)
         requires may { may self.old event.Blacken ≡ true }
         ensures told { self.new ≡ takes self.old event.Blacken finds.Stored }
+        ensures known { FindsKnown self.old.seat.me event.Blacken finds.Stored }
     {
         self.seat.blacken(self.heap);
     }
@@ -117,6 +123,7 @@ impl<'a, P: Keeping> Collector<'a, P> {
     pub(crate) fn sweep_look_once(&mut self) -> Colour
         requires may { may self.old event.SweepLook ≡ true }
         ensures told { self.new ≡ takes self.old event.SweepLook (finds.Colour result) }
+        ensures known { FindsKnown self.old.seat.me event.SweepLook (finds.Colour result) }
         ensures not_gray { is_gray result ≡ false }
     {
         self.seat.sweep_look(self.heap)
@@ -125,6 +132,7 @@ impl<'a, P: Keeping> Collector<'a, P> {
     pub(crate) fn wipe_once(&mut self)
         requires may { may self.old event.Wipe ≡ true }
         ensures told { self.new ≡ takes self.old event.Wipe finds.Stored }
+        ensures known { FindsKnown self.old.seat.me event.Wipe finds.Stored }
     {
         self.seat.wipe(self.heap);
     }
@@ -132,6 +140,7 @@ impl<'a, P: Keeping> Collector<'a, P> {
     pub(crate) fn free_once(&mut self)
         requires may { may self.old event.Free ≡ true }
         ensures told { self.new ≡ takes self.old event.Free finds.Stored }
+        ensures known { FindsKnown self.old.seat.me event.Free finds.Stored }
     {
         self.seat.free(self.heap);
     }
@@ -139,6 +148,7 @@ impl<'a, P: Keeping> Collector<'a, P> {
     pub(crate) fn whiten_once(&mut self)
         requires may { may self.old event.Whiten ≡ true }
         ensures told { self.new ≡ takes self.old event.Whiten finds.Stored }
+        ensures known { FindsKnown self.old.seat.me event.Whiten finds.Stored }
     {
         self.seat.whiten(self.heap);
     }
@@ -146,6 +156,7 @@ impl<'a, P: Keeping> Collector<'a, P> {
     pub(crate) fn advance_once(&mut self)
         requires may { may self.old event.Advance ≡ true }
         ensures told { self.new ≡ takes self.old event.Advance finds.Stored }
+        ensures known { FindsKnown self.old.seat.me event.Advance finds.Stored }
     {
         self.seat.advance(self.heap);
     }

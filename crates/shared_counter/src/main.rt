@@ -1,10 +1,10 @@
-//! A small embedding of the heap: four threads add to one counter, beside the collector on a thread
-//! of its own. There are far fewer cells than the records that they make.
+//! A small embedding of the heap: four threads add to one counter, beside the collector on a
+//! thread of its own. There are far fewer cells than the records that they make.
 //!
 //! The counter is a record that the anchor names. To add one, a thread makes a record of the next
-//! number in its private heap, promotes it, and exchanges the record that the anchor names. The rule
-//! of the client, `counter`, says that the counter is the sum of what the mutators have added; from
-//! the passes at the close it is proved that this is what the threads count on their own.
+//! number in its private heap, promotes it, and exchanges the record that the anchor names. The
+//! rule of the client, `counter`, says that the counter is the sum of what the mutators have added;
+//! from the passes at the close it is proved that this is what the threads count on their own.
 //!
 //! Reading order: `counter`, specs/Counting, `adding`, specs/Adding, `closing`, specs/Working,
 //! `running`, specs/Serving, `serving`, `whole`, `main`.

@@ -100,11 +100,13 @@ pub(crate) fn add_all<R: Threads + Wait + Sync>(
         rt,
         move || -> (Done, Done)
             requires { IsWorker heap.now queue.now 0 first × IsWorker heap.now queue.now 1 second }
-            ensures { IsDone heap.entry.now 0 result.0.1 result.0.0 × IsDone heap.entry.now 1 result.1.1 result.1.0 }
+            ensures { IsDone heap.entry.now 0 result.0.1 result.0.0
+                × IsDone heap.entry.now 1 result.1.1 result.1.0 }
         { add_both(rt, heap, queue, (0, 1), first, second) },
         move || -> (Done, Done)
             requires { IsWorker heap.now queue.now 2 third × IsWorker heap.now queue.now 3 fourth }
-            ensures { IsDone heap.entry.now 2 result.0.1 result.0.0 × IsDone heap.entry.now 3 result.1.1 result.1.0 }
+            ensures { IsDone heap.entry.now 2 result.0.1 result.0.0
+                × IsDone heap.entry.now 3 result.1.1 result.1.0 }
         { add_both(rt, heap, queue, (2, 3), third, fourth) },
     )
 }

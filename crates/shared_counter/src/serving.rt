@@ -127,10 +127,13 @@ pub(crate) fn add_beside<R: Threads + Wait + Sync>(
         thread::scope_env(),
         rt,
         move |scope| -> Left
-            requires { IsKeeper heap.now queue.now keeper.seat keeper.pass × AreWorkers heap.now queue.now first second third fourth
+            requires { IsKeeper heap.now queue.now keeper.seat keeper.pass
+                × AreWorkers heap.now queue.now first second third fourth
                 × (was.value ≡ keeper.seat) × (promise.seat.value ≡ keeper.seat) }
-            ensures { IsDone heap.entry.now 0 result.0.0.0.1 result.0.0.0.0 × IsDone heap.entry.now 1 result.0.0.1.1 result.0.0.1.0
-                × IsDone heap.entry.now 2 result.0.1.0.1 result.0.1.0.0 × IsDone heap.entry.now 3 result.0.1.1.1 result.0.1.1.0
+            ensures { IsDone heap.entry.now 0 result.0.0.0.1 result.0.0.0.0
+                × IsDone heap.entry.now 1 result.0.0.1.1 result.0.0.1.0
+                × IsDone heap.entry.now 2 result.0.1.0.1 result.0.1.0.0
+                × IsDone heap.entry.now 3 result.0.1.1.1 result.0.1.1.0
                 × Keeps keeper.seat result.1.0 }
         {
             let turn = move || -> Turn

@@ -2,7 +2,7 @@ use Rattle.std.proofs.Common.{ap, refl}
 use Rattle.cell_heap.specs.declared.progress.Progress.{Progress}
 use Rattle.cell_heap.proofs.Changes.{stores_control}
 use Rattle.cell_heap.proofs.Kept.{kept}
-use Rattle.cell_heap.proofs.Made.{made, tells}
+use Rattle.cell_heap.proofs.Made.{knows, made, tells}
 use Rattle.cell_heap.proofs.Owed.{owes}
 use Rattle.core_machine.specs.WordOperations.{Store}
 use Rattle.core_machine.specs.declared.events.Event.TheVariants as event
@@ -26,8 +26,10 @@ invariant_of-self g c =
     c.self.invariant.progress_is)
 
 pub returns : goal.returns
-returns g c = record {
-  told = tells
-      (made c.self.view_is c.collector_store.ensures.same c.collector_store.ensures.step)
-      finds.Stored c.collector_store.ensures.step.new;
-}
+returns g c =
+    let step = c.collector_store.ensures.step in
+    let m = made c.self.view_is c.collector_store.ensures.same step in
+    record {
+      told = tells m finds.Stored step.new;
+      known = knows m finds.Stored refl;
+    }

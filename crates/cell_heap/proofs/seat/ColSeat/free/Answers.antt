@@ -3,7 +3,7 @@ use Rattle.cell_heap.specs.declared.progress.Progress.{Progress}
 use Rattle.core_machine.specs.declared.progress.Sweeping.TheVariants as sweeping
 use Rattle.cell_heap.proofs.AtHand.{at_position}
 use Rattle.cell_heap.proofs.Kept.{kept}
-use Rattle.cell_heap.proofs.Made.{made, tells}
+use Rattle.cell_heap.proofs.Made.{knows, made, tells}
 use Rattle.cell_heap.proofs.Owed.{below, owes, stores}
 use Rattle.core_machine.specs.WordOperations.{Store}
 use Rattle.core_machine.specs.declared.events.Event.TheVariants as event
@@ -37,4 +37,5 @@ returns g c =
     let m = made c.self.view_is c.collector_store.ensures.same step in
     record {
       told = tells m finds.Stored step.new;
+      known = knows m finds.Stored refl;
     }

@@ -62,9 +62,10 @@ returns-clause-does g c =
     let asked = hears_does c.await_all-over.result 0 n c.args.self.now c.await_all-over.new.self
     c.await_all-over.ensures.hears in
     let anchored = does_still c.await_all-over.new.self c.anchor_once.new.self event.Anchor
-    (finds.Colour c.anchor_once.ensures.told.0) refl refl c.anchor_once.ensures.told.1 in
+    (finds.Colour c.anchor_once.ensures.told.0) refl refl c.anchor_once.ensures.told.1
+    c.anchor_once.ensures.told.2 in
     let posted = does_still c.anchor_once.new.self c.post_once.new.self (event.Post stage.Trace)
-    finds.Stored refl refl c.post_once.ensures.told in
+    finds.Stored refl refl c.post_once.ensures.told c.post_once.ensures.known in
     let again = hears_does c.await_all-again.result 0 (mutators_of c.post_once.new.self)
     c.post_once.new.self c.await_all-again.new.self c.await_all-again.ensures.hears in
     does_and nothing c.args.self.now c.post_once.new.self c.await_all-again.new.self

@@ -9,6 +9,7 @@ returns-clause-report g c =
     stretch_as
     (Heard (fresh_work_of c.args.self.now) (mutators_of c.args.self.now)
     c.one_cycle-made.result.report c.one_cycle-made.result.over)
-    (Reported (fresh_work_of c.args.self.now) c.one_cycle-made.result.report)
+    (Reported (fresh_work_of c.args.self.now) (mutators_of c.args.self.now)
+    c.one_cycle-made.result.report)
     c.args.self.now c.one_cycle-made.new.self
     (λ events heard. heard.reported) c.one_cycle-made.ensures.heard

@@ -14,7 +14,7 @@ returns-clause-does g c =
     does_after (frees 1) c.args.self.now c.wipe_all.new.self c.free_once.new.self
     c.wipe_all.ensures.does
     (does_one (frees 1) c.wipe_all.new.self c.free_once.new.self event.Free finds.Stored
-    c.free_once.ensures.told refl
+    c.free_once.ensures.told c.free_once.ensures.known refl
     (record {
       on = refl;
       comes = record {
@@ -24,6 +24,7 @@ returns-clause-does g c =
         freed_are = refl;
         stacked_are = refl;
         spilled_are = refl;
+        straight = refl;
       };
     }))
 

@@ -41,5 +41,5 @@ returns-clause-does g c =
     (does_and c.trace_all-traced.result c.args.self.now c.trace_all-traced.new.self
     c.post_once.new.self c.trace_all-traced.ensures.does
     (does_still c.trace_all-traced.new.self c.post_once.new.self (event.Post stage.Sweep)
-    finds.Stored refl refl c.post_once.ensures.told))
+    finds.Stored refl refl c.post_once.ensures.told c.post_once.ensures.known))
     c.sweep_all-freed.ensures.does

@@ -16,8 +16,8 @@ returns-clause-heard g c =
     let many = ap (λ (x : Bound _). mutators_of x) c.begin.ensures.told in
     heard_of c.work-made.result.over (mutators_of c.args.self.now) c.work-made.result.report
     c.args.self.now c.begin.new.self c.work-made.new.self c.post_once.new.self
-    c.begin.ensures.told
+    c.begin.ensures.told c.begin.ensures.known
     (subst (λ (n : ℕ). Stretch (MadeBy (work_of c.begin.new.self) (work_of c.work-made.new.self)
     c.work-made.result.report c.work-made.result.over n) c.begin.new.self c.work-made.new.self)
     many c.work-made.ensures.made)
-    c.post_once.ensures.told
+    c.post_once.ensures.told c.post_once.ensures.known

@@ -11,7 +11,7 @@ returns-clause-does g c =
     c.scan_fields-report.new.self c.blacken_once.new.self c.scanned.ensures.report
     c.scan_fields-report.ensures.does
     (does_one scans_one c.scan_fields-report.new.self c.blacken_once.new.self event.Blacken
-    finds.Stored c.blacken_once.ensures.told refl
+    finds.Stored c.blacken_once.ensures.told c.blacken_once.ensures.known refl
     (record {
       on = refl;
       comes = record {
@@ -21,5 +21,6 @@ returns-clause-does g c =
         freed_are = refl;
         stacked_are = refl;
         spilled_are = refl;
+        straight = refl;
       };
     }))

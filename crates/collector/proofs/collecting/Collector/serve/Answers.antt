@@ -32,6 +32,6 @@ returns-clause-served g c =
           (collector_state c.cycles_of-freed.new.self.seat.me)
           (ap (λ (x : Bound _). x.heap) c.duty.ensures.told)
           (ap (λ (x : Bound _). x.seat) c.duty.ensures.told)
-          (ap (λ (x : Bound _). x.stack) c.duty.ensures.told)
+          (ap (λ (x : Bound _). x.stack) c.duty.ensures.told) c.duty.ensures.known
           refl),
     )

@@ -10,4 +10,4 @@ returns-clause-does g c =
     does_and (frees c.sweep_found-freed.result) c.args.self.now c.sweep_found-freed.new.self
     c.advance_once.new.self c.sweep_found-freed.ensures.does
     (does_still c.sweep_found-freed.new.self c.advance_once.new.self event.Advance finds.Stored
-    refl refl c.advance_once.ensures.told)
+    refl refl c.advance_once.ensures.told c.advance_once.ensures.known)

@@ -9,18 +9,21 @@ pub returns-in-Blue-clause-does : goal.returns-in-Blue-clause-does
 returns-in-Blue-clause-does g c =
     does_still c.args.self.now c.sweep_look_once.new.self event.SweepLook
     (finds.Colour c.sweep_look_once.result) refl refl c.sweep_look_once.ensures.told
+    c.sweep_look_once.ensures.known
 
 pub returns-in-White-clause-does : goal.returns-in-White-clause-does
 returns-in-White-clause-does g c =
     does_after (frees 1) c.args.self.now c.sweep_look_once.new.self c.free_cell.new.self
     (does_still c.args.self.now c.sweep_look_once.new.self event.SweepLook
-    (finds.Colour c.sweep_look_once.result) refl refl c.sweep_look_once.ensures.told)
+    (finds.Colour c.sweep_look_once.result) refl refl c.sweep_look_once.ensures.told
+    c.sweep_look_once.ensures.known)
     c.free_cell.ensures.does
 
 pub returns-in-Black-clause-does : goal.returns-in-Black-clause-does
 returns-in-Black-clause-does g c =
     does_and nothing c.args.self.now c.sweep_look_once.new.self c.whiten_once.new.self
     (does_still c.args.self.now c.sweep_look_once.new.self event.SweepLook
-    (finds.Colour c.sweep_look_once.result) refl refl c.sweep_look_once.ensures.told)
+    (finds.Colour c.sweep_look_once.result) refl refl c.sweep_look_once.ensures.told
+    c.sweep_look_once.ensures.known)
     (does_still c.sweep_look_once.new.self c.whiten_once.new.self event.Whiten finds.Stored
-    refl refl c.whiten_once.ensures.told)
+    refl refl c.whiten_once.ensures.told c.whiten_once.ensures.known)

@@ -10,6 +10,7 @@ returns-then-same_status-clause-hears g c =
     c.args.mutator c.poll_once-presence.result
     c.poll_once-presence.ensures.heap c.poll_once-presence.ensures.table
     c.poll_once-presence.ensures.stack c.poll_once-presence.ensures.told
+    c.poll_once-presence.ensures.known
 
 pub returns-then-presence-clause-hears : goal.returns-then-presence-clause-hears
 returns-then-presence-clause-hears g c =
@@ -17,6 +18,7 @@ returns-then-presence-clause-hears g c =
     c.args.mutator c.poll_once-presence.result
     c.poll_once-presence.ensures.heap c.poll_once-presence.ensures.table
     c.poll_once-presence.ensures.stack c.poll_once-presence.ensures.told
+    c.poll_once-presence.ensures.known
 
 pub returns-clause-hears : goal.returns-clause-hears
 returns-clause-hears g c =
@@ -25,10 +27,11 @@ returns-clause-hears g c =
     (hears_one g.P.Keeping.fixed c.args.self.now c.poll_once-presence.new.self
     c.args.mutator c.poll_once-presence.result
     c.poll_once-presence.ensures.heap c.poll_once-presence.ensures.table
-    c.poll_once-presence.ensures.stack c.poll_once-presence.ensures.told)
+    c.poll_once-presence.ensures.stack c.poll_once-presence.ensures.told
+    c.poll_once-presence.ensures.known)
     (does_met g.P.Keeping.fixed c.poll_once-presence.new.self c.answer_out_once-answered.new.self
     (event.AnswerOut c.args.mutator c.poll_once-presence.result.over)
     (finds.Presence c.answer_out_once-answered.ensures.told.found)
     c.answer_out_once-answered.ensures.heap c.answer_out_once-answered.ensures.table
     c.answer_out_once-answered.ensures.stack refl refl
-    c.answer_out_once-answered.ensures.told.told)
+    c.answer_out_once-answered.ensures.told.told c.answer_out_once-answered.ensures.told.known)

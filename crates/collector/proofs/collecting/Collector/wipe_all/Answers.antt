@@ -29,7 +29,7 @@ loop-field-preserved g c = (
   does_and nothing c.args.self.now c.loop-field.self c.wipe_once.new.self
       c.loop-field.invariant.0
       (does_still c.loop-field.self c.wipe_once.new.self event.Wipe finds.Stored refl refl
-      c.wipe_once.ensures.told),
+      c.wipe_once.ensures.told c.wipe_once.ensures.known),
   ap (λ (x : Bound _). control_of x) c.wipe_once.ensures.told ∙ c.loop-field.invariant.1,
   ap (λ (x : Bound _). part_of x) c.wipe_once.ensures.told
       ∙ ap (λ (p : Collector). record p { sweep = wiped p.sweep }) c.loop-field.invariant.2,

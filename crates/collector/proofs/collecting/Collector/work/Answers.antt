@@ -1,9 +1,48 @@
-use Rattle.collector.specs.Bound.{mutators_of}
-use Rattle.collector.proofs.Cycling.{made_of}
+use Rattle.std.proofs.Common.{◌<◌, true, false, ℕ, replicate, sym, ◌∙◌, ap, subst}
+use Rattle.std.proofs.lemmas.Bool.{and_from}
+use Rattle.std.proofs.lemmas.List.{length-replicate}
+use Rattle.cell_words.specs.declared.controls.Control.{Control}
+use Rattle.cell_words.specs.declared.controls.Stage.{Stage}
+use Rattle.cell_words.specs.declared.controls.Stage.TheVariants as stage
+use Rattle.core_machine.specs.Collector.{Collector, nobody_answered}
+use Rattle.core_machine.specs.Words.{same_stage}
+use Rattle.heap_rule.specs.Shape.{Shape}
+use Rattle.collector.specs.Bound.{Bound, mutators_of, part_of}
+use Rattle.collector.proofs.Answered.{nobody_now}
+use Rattle.collector.proofs.Cycling.{answered_all, made_of}
 use Rattle.collector.proofs.collecting.Collector.work.Goals as goal
+
+pub post_once-requires : goal.post_once-requires
+post_once-requires g c =
+    record {
+      may = and_from _ _
+          (ap (λ (x : Control). same_stage x.stage stage.Sync1) c.await_all-over.ensures.control
+          ∙ ap (λ (s : Stage). same_stage s stage.Sync1) c.requires.stage)
+          (answered_all c.await_all-over.new.self (mutators_of c.args.self.now)
+          (ap (λ (p : Collector). p.answered) c.await_all-over.ensures.part));
+    }
+
+pub collect-report-requires-clause-nobody : goal.collect-report-requires-clause-nobody
+collect-report-requires-clause-nobody g c =
+    ap (λ (x : Bound _). nobody_answered (part_of x).answered) c.post_once.ensures.told
+    ∙ ap (λ (p : Collector). nobody_answered p.answered) c.await_all-over.ensures.part
+    ∙ nobody_now (replicate (mutators_of c.args.self.now) true) (mutators_of c.args.self.now)
+    (length-replicate (mutators_of c.args.self.now) true)
+    ∙ ap (λ (n : ℕ). replicate n false)
+    (sym (ap (λ (x : Bound _). mutators_of x) c.post_once.ensures.told
+    ∙ ap (λ (h : Shape). h.mutators) c.await_all-over.ensures.hears.kept.shape))
 
 pub returns-clause-made : goal.returns-clause-made
 returns-clause-made g c =
-    made_of c.clear_stage-over.result (mutators_of c.args.self.now) c.free_stage-report.result
-    c.args.self.now c.clear_stage-over.new.self c.anchor_stage.new.self c.free_stage-report.new.self
-    c.clear_stage-over.ensures.hears c.anchor_stage.ensures.does c.free_stage-report.ensures.does
+    let n = mutators_of c.args.self.now in
+    let same = c.mutators-mutators.ensures.mutators
+    ∙ ap (λ (h : Shape). h.mutators) c.await_all-over.ensures.hears.kept.shape in
+    made_of c.await_all-over.result n c.collect-report.result c.args.self.now
+    c.await_all-over.new.self c.post_once.new.self c.collect-report.new.self
+    c.await_all-over.ensures.hears c.post_once.ensures.told c.post_once.ensures.known
+    c.collect-report.ensures.does
+    (c.mutators-mutators.ensures.over ∙ same)
+    (λ some. c.mutators-mutators.ensures.knows
+    (subst (λ (k : ℕ). 0 < k) (sym same) some))
+    (ap (λ (x : Control). x.stage) c.await_all-over.ensures.control ∙ c.requires.stage)
+    (ap (λ (x : Control). x.stage) c.collect-report.ensures.control)

@@ -1,6 +1,6 @@
 use Rattle.std.proofs.Common.{◌≡◌, List, [], ℕ, Some, ap, sym, ◌∙◌}
-use Rattle.collector.specs.Stack.{Stack, top_of, without}
-use Rattle.collector.proofs.Stacked.{looked_left, none_left, other_left, top_below, top_none}
+use Rattle.collector.specs.Stack.{Stack, top_of, top_or, without}
+use Rattle.collector.proofs.Stacked.{looked_left, none_left, top_below, top_none, top_or_is}
 use Rattle.collector.proofs.Stacked.{without_below}
 use Rattle.collector.proofs.mark_stack.MarkStack.next_besides.Goals as goal
 use Rattle.collector.proofs.mark_stack.MarkStack.next_besides.Goals.{After-leave-in-Some, In-None}
@@ -33,9 +33,13 @@ returns-in-Some-clause-left c =
     ∙ ap (λ (xs : List ℕ). record c.args.self.now { cells = xs })
     (looked_left c.args.at c.in-Some.cell c.args.self.now.cells (top_is c))
 
-pub returns-in-Some-clause-last : goal.returns-in-Some-clause-last
-returns-in-Some-clause-last c =
-    λ same. absurd (other_left c.args.at c.in-Some.cell c.args.self.now.cells (top_is c) same)
+pub returns-in-None-clause-next : goal.returns-in-None-clause-next
+returns-in-None-clause-next c =
+    sym (ap (λ (xs : List ℕ). top_or c.args.at xs) (none_is c))
+
+pub returns-in-Some-clause-next : goal.returns-in-Some-clause-next
+returns-in-Some-clause-next c =
+    top_or_is c.args.at c.in-Some.cell (without c.args.at c.args.self.now.cells) (top_is c)
 
 pub returns-in-Some-clause-below : goal.returns-in-Some-clause-below
 returns-in-Some-clause-below c =
