@@ -38,7 +38,8 @@ pub held_on : (a b : Bound Pass) (v : HeldVersion) (cells : List ℕ) → Holds 
     → IsHeld a v → IsHeld b v
 held_on a b v cells holds is = record {
   root = is.root;
-  knows = version_still (length a.seat.me.own.held) cells a b holds.known holds.held v.place v.number is.root is.knows.there is.knows;
+  knows = version_still (length a.seat.me.own.held) cells a b holds.known holds.held
+      v.place v.number is.root is.knows.there is.knows;
 }
 
 pub walk_starts : (a b : Bound Pass) (v : HeldVersion) (number : ℕ) → IsHeld a v
@@ -295,7 +296,8 @@ pub walked_held : (a b : Bound Pass) (v at : HeldVersion) (steps : ℕ) → Walk
     → IsHeld a v → IsHeld b v
 walked_held a b v at steps walked is = record {
   root = is.root;
-  knows = version_still (length a.seat.me.own.held) walked.cells a b walked.known walked.held v.place v.number is.root is.knows.there is.knows;
+  knows = version_still (length a.seat.me.own.held) walked.cells a b walked.known
+      walked.held v.place v.number is.root is.knows.there is.knows;
 }
 
 pub may_keep : (a b : Bound Pass) (v at : HeldVersion) (back n : ℕ) → n ≡ length a.seat.me.own.held

@@ -1,7 +1,8 @@
 -- What is known at the places of a held list, behind changes of what is known of one cell; and what
 -- a state says of it.
 use Rattle.std.proofs.Common.{◌≡◌, ◌≢◌, ◌<◌, ◌==◌, ◌&&◌, ℕ, zero, suc, Bool, true, false}
-use Rattle.std.proofs.Common.{List, [], ◌∷◌, ◌++◌, length, get_or, slice_index_or, Option, Some, None}
+use Rattle.std.proofs.Common.{List, [], ◌∷◌, ◌++◌, length, get_or, slice_index_or}
+use Rattle.std.proofs.Common.{Option, Some, None}
 use Rattle.std.proofs.Common.{refl, sym, ◌∙◌, ap, subst, arith, inl, inr, if◌then◌else◌}
 use Rattle.std.proofs.lemmas.Bool.{cases_eq, eq-eqb, ne_eqb}
 use Rattle.std.proofs.lemmas.List.{get_or_append_left}
@@ -63,7 +64,8 @@ changed_else change c (d ∷ cells) (k ∷ known) (suc place) lt other =
     changed_else change c cells known place (omega (arith, lt)) other
 
 -- where the change leaves whether it is fresh, that stays
-pub changed_fresh : (change : Known → Known) → ((k : Known) → known_fresh (change k) ≡ known_fresh k)
+pub changed_fresh : (change : Known → Known)
+    → ((k : Known) → known_fresh (change k) ≡ known_fresh k)
     → (c : ℕ) (cells : List ℕ) (known : List Known) (place : ℕ) → place < length cells
     → length known ≡ length cells
     → known_fresh (known_at (at_cell change c cells known) place)

@@ -7,7 +7,8 @@ use Rattle.cell_words.specs.Term.{Term}
 use Rattle.core_machine.specs.Own.{Own, no_own}
 use Rattle.core_machine.specs.Trail.{own_along}
 use Rattle.doc_tree.specs.Tree.{DocTree}
-use Rattle.heap_rule.specs.Asks.{target}
+use Rattle.heap_rule.specs.declared.known.Known.TheVariants as knows
+use Rattle.heap_rule.specs.Asks.{known_of, target}
 use Rattle.mutator_seat.specs.declared.full.HeapFull.{HeapFull}
 use Rattle.mutator_seat.specs.Bound.{Bound}
 use Rattle.mutator_seat.specs.Stretches.{Calm}
@@ -24,11 +25,13 @@ use Rattle.version_rule.proofs.Trees.{seeing_grows}
 use Rattle.version_store.specs.declared.held.HeldVersion.{HeldVersion}
 use Rattle.version_store.specs.Calls.{Goes, Holds, version_asks}
 use Rattle.version_store.specs.Commits.{Committed, FindsNewer, ShowsNewer}
-use Rattle.version_store.specs.Held.{GivesLatest, GivesRoot, root_at, term_at}
+use Rattle.version_store.specs.Held.{GivesLatest, GivesRoot, IsRecord, root_at, term_at}
+use Rattle.version_store.specs.Held.{term_told}
 use Rattle.version_store.specs.Lasts.{IsSameMutator, Lasts, LastsAcross, marks}
 use Rattle.version_store.specs.Older.{GivesOlder, Trims}
-use Rattle.version_store.proofs.Going.{calm_goes, calm_trail, goes_none, still_same}
+use Rattle.version_store.proofs.Going.{calm_goes, calm_trail, goes_none, many_held}
 use Rattle.version_store.proofs.Latest.{last_held}
+use Rattle.version_store.proofs.Putting.{record_still}
 
 -- One call after the other.
 
@@ -220,9 +223,18 @@ module _ (a b : Bound Pass) (full : HeapFull)
             full.ended calm.added calm.fact;
       }
 
--- The trim that has nothing to do.
-pub holds_still : (a : Bound Pass) → Holds [] a a
-holds_still a = record {
-  held = sym (append-nil (Rattle.mutator_seat.specs.Bound.held_cells a));
-  known = λ place lt. still_same (Rattle.heap_rule.specs.Asks.known_of a.seat.me place);
-}
+-- A record that is held is one behind every call, with the same term. Of versions that are held
+-- `held_on` of Backward says so.
+pub record_on : (a b : Bound Pass) (place : ℕ) (cells : List ℕ) → Holds cells a b
+    → IsRecord a place → (IsRecord b place) × (term_at b place ≡ term_at a place)
+record_on a b place cells holds is =
+    let known = record_still (known_of a.seat.me place) (known_of b.seat.me place)
+    (term_at a place) is.known (holds.known place is.there) in
+    let many = many_held a b cells holds.held in
+    let there = is.there in (
+      record {
+        there = omega (arith, many, there);
+        known = known ∙ ap knows.Record (sym (ap term_told known));
+      },
+      ap term_told known,
+    )

@@ -37,7 +37,8 @@ use Rattle.version_store.specs.Calls.{known_fresh, settled}
 use Rattle.version_store.specs.Commits.{Committed, FindsNewer, write_over}
 use Rattle.version_store.specs.Held.{GivesLatest, IsHeld, root_at, term_at, term_told}
 use Rattle.version_store.specs.Makes.{Behind, IsClaimed, IsSpared, Makes, MayMake}
-use Rattle.version_store.proofs.Going.{calm_goes, goes_late, goes_none, goes_on, goes_then, in_still}
+use Rattle.version_store.proofs.Going.{calm_goes, goes_late, goes_none, goes_on, goes_then}
+use Rattle.version_store.proofs.Going.{in_still}
 use Rattle.version_store.proofs.Going.{known_below, known_then, many_cells, many_held}
 use Rattle.version_store.proofs.Going.{settled_lasts, still_on, target_still, version_known}
 use Rattle.version_store.proofs.Knowns.{fresh_apart, sealed_at}
@@ -97,10 +98,12 @@ module _ (a b : Bound Pass) (v newest : HeldVersion) (fresh tree : ℕ)
       → IsSpared b fresh v.place tree place
   spared place lt version_is tree_is same = record {
     not_claimed = apart place lt;
-    not_latest = λ is on. fresh_not place v.place lt claimed.latest_before (sym same ∙ is) version_is
+    not_latest = λ is on.
+        fresh_not place v.place lt claimed.latest_before (sym same ∙ is) version_is
         (sym (first_target place (omega (arith, lt))) ∙ on
         ∙ first_target v.place (let before = claimed.latest_before in omega (arith, before)));
-    not_tree = λ is on. fresh_not place tree lt claimed.tree_before (sym same ∙ is) tree_is
+    not_tree = λ is on.
+        fresh_not place tree lt claimed.tree_before (sym same ∙ is) tree_is
         (sym (first_target place (omega (arith, lt))) ∙ on
         ∙ first_target tree (let before = claimed.tree_before in omega (arith, before)));
   }
@@ -333,8 +336,9 @@ module _ (is_tree : Term → Type 0) (tree_of : Term → DocTree)
         known = λ place lt.
             still_on (known_of a.seat.me place) (known_of c.seat.me place)
             (known_of d.seat.me place) (known_made place lt)
-            (λ alike. wrote_known (HoldsVersions is_tree tree_of) (picks_made tree_of c v.place tree)
-            c d 0 0 (values.Held v.place) (values.Held fresh) found wrote made.many place
+            (λ alike. wrote_known (HoldsVersions is_tree tree_of)
+            (picks_made tree_of c v.place tree) c d 0 0 (values.Held v.place) (values.Held fresh)
+            found wrote made.many place
             (omega (arith, lt, long)) (λ is. not_anchor place lt (sym alike ∙ is))
             (λ is other named on. not_box place lt other named on));
         claims = wrote_claims (HoldsVersions is_tree tree_of) (picks_made tree_of c v.place tree) c

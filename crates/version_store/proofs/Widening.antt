@@ -101,7 +101,8 @@ module _ (a b : Bound Pass) (fresh : ℕ) (got : Claimed a fresh b) where
   pub claimed_root : (v : HeldVersion) → IsHeld a v → root_at b v.place ≡ root_at a v.place
   claimed_root v is =
       root_known (known_of b.seat.me v.place) v.number is.root
-      (version_still (length a.seat.me.own.held) (got.cell ∷ []) a b claimed_known got.held v.place v.number is.root is.knows.there is.knows).known
+      (version_still (length a.seat.me.own.held) (got.cell ∷ []) a b claimed_known got.held
+      v.place v.number is.root is.knows.there is.knows).known
       ∙ sym (root_known (known_of a.seat.me v.place) v.number is.root is.knows.known)
 
   -- the claimed cell stood at no place

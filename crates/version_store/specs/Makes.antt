@@ -19,8 +19,8 @@ pub record IsClaimed (m : Bound Pass) (fresh latest tree : ℕ) : Type 0 where
   pub tree_before : tree < fresh
   pub apart : (place : ℕ) → place < fresh → target m.seat.me place ≢ target m.seat.me fresh
 
--- The making leaves what is known at this place: it has another cell than the claimed one, and where
--- this is fresh, than the version and the tree.
+-- The making leaves what is known at this place: it has another cell than the claimed one, and
+-- where this is fresh, than the version and the tree.
 pub record IsSpared (m : Bound Pass) (fresh latest tree place : ℕ) : Type 0 where
   pub not_claimed : target m.seat.me place ≢ target m.seat.me fresh
   pub not_latest : known_fresh (known_of m.seat.me place) ≡ true

@@ -1,6 +1,7 @@
 //! The commit: a new box over the version that a mutator has, and one exchange of the anchor's
 //! field.
-ghost use Rattle.std.specs.Prelude.{◌≡◌, ◌<◌, ◌≤◌, ◌+◌, ◌↔◌, IfErr, IfOk, OnOk, length, [], true, false};
+ghost use Rattle.std.specs.Prelude.{◌≡◌, ◌<◌, ◌≤◌, ◌+◌, ◌↔◌, IfErr, IfOk, OnOk, length, []};
+ghost use Rattle.std.specs.Prelude.{true, false};
 ghost use Rattle.cell_words.specs.declared.fields.Field.TheVariants as field;
 ghost use Rattle.core_machine.specs.Words.{same_field};
 ghost use Rattle.free_cells.specs.Hints.{queue_of};

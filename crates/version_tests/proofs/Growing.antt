@@ -1,12 +1,14 @@
 -- What each call adds to what a test knows.
 use Rattle.std.proofs.Common.{◌≡◌, ◌≤◌, ◌<◌, ◌+◌, ℕ, true, List, [], ◌∷◌, length, Result, Ok, Err}
-use Rattle.std.proofs.Common.{inl, inr, OnOk, IfErr, refl, sym, ◌∙◌, ap, subst, arith}
+use Rattle.std.proofs.Common.{◌++◌, take, drop, inl, inr, OnOk, IfErr, refl, sym, ◌∙◌, ap, subst}
+use Rattle.std.proofs.Common.{arith}
 use Rattle.std.proofs.lemmas.Bool.{cases_lt}
 use Rattle.std.proofs.lemmas.List.{length_push}
 use Rattle.cell_words.specs.Term.{Term}
 use Rattle.core_machine.specs.declared.events.Event.TheVariants as event
 use Rattle.core_machine.specs.declared.events.Found.{Found}
 use Rattle.core_machine.specs.declared.events.Taken.{Taken}
+use Rattle.core_machine.specs.declared.places.Held.{Held}
 use Rattle.doc_tree.specs.Tree.{DocTree}
 use Rattle.heap_table.specs.Seats.{HeapId, SeatView}
 use Rattle.mutator_events.specs.Events.{tells}
@@ -33,6 +35,7 @@ pub grows_by : (cells : List ℕ) (commits : ℕ) (a b : Bound Pass) → IsSameM
     → Grows (length cells) commits a b
 grows_by cells commits a b same lasts holds made = record {
   same = same;
+  longer = let many = many_held a b cells holds.held in omega (arith, many);
   held = let many = many_held a b cells holds.held in omega (arith, many);
   keep = lasts.keep;
   made = made;
@@ -52,6 +55,7 @@ grows_then p q r s a b c first second =
     let four = second.made in
     record {
       same = same_then a b c first.same second.same;
+      longer = let more = first.longer in let most = second.longer in omega (arith, more, most);
       held = omega (arith, one, two);
       keep = second.keep ∙ first.keep;
       made = omega (arith, three, four);
@@ -122,6 +126,7 @@ works_grown p q commits more keep a b works grows =
     let four = grows.made in
     record {
       inside = grows.same.inside ∙ works.inside;
+      some = let least = works.some in let more = grows.longer in omega (arith, least, more);
       held = omega (arith, one, two);
       room = subst (λ (n : ℕ). 300 ≤ n) (sym grows.same.room) works.room;
       keep_is = grows.keep ∙ works.keep_is;
@@ -132,6 +137,29 @@ pub cut_same : (a b : Bound Pass) (n : ℕ) (p : Found)
     → b ≡ takes a (event.Keep a.seat.me.number n 0 0) p → IsSameMutator a b
 cut_same a b n p told = goes_same a b (cut_goes a b n p told)
 
+-- the first place alone
+one_left : (held : List Held) → 1 ≤ length held → length (take 1 held ++ take 0 (drop 0 held)) ≡ 1
+one_left [] some = absurd (omega (arith, some))
+one_left (p ∷ held) some = refl
+
+pub works_cut : (places commits most keep : ℕ) (a b : Bound Pass) (p : Found) → commits ≤ most
+    → Works places commits keep a → b ≡ takes a (event.Keep a.seat.me.number 1 0 0) p
+    → Works 1 most keep b
+works_cut places commits most keep a b p few works told =
+    let same = cut_same a b 1 p told in
+    let one = ap (λ (m : Bound Pass). length m.seat.me.own.held) told
+    ∙ one_left a.seat.me.own.held works.some in
+    record {
+      inside = same.inside ∙ works.inside;
+      some = omega (arith, one);
+      held = omega (arith, one);
+      room = subst (λ (n : ℕ). 300 ≤ n) (sym same.room) works.room;
+      keep_is = ap (λ (m : Bound Pass). m.seat.me.pass.keep) told ∙ works.keep_is;
+      made =
+          let alike = ap (λ (m : Bound Pass). length m.seat.me.pass.commits) told in
+          let made = works.made in omega (arith, alike, made, few);
+    }
+
 pub calm_same : (F : List Taken → Type 0) (a b : Bound Pass) → Calm F a b → IsSameMutator a b
 calm_same F a b calm = goes_same a b (calm_goes F a b calm)
 
@@ -140,6 +168,8 @@ pub works_calm : (F : List Taken → Type 0) (p commits keep : ℕ) (a b : Bound
     → Works p commits keep a → Calm F a b → Works p commits keep b
 works_calm F p commits keep a b works calm = record {
   inside = calm.kept.inside ∙ works.inside;
+  some = let same = many_same b.seat.me.own.held a.seat.me.own.held calm.kept.held in
+      let least = works.some in omega (arith, same, least);
   held = let same = many_same b.seat.me.own.held a.seat.me.own.held calm.kept.held in
       let held = works.held in omega (arith, same, held);
   room = subst (λ (n : ℕ). 300 ≤ n) (sym calm.kept.room) works.room;

@@ -44,6 +44,7 @@ comes_in heap seat keep found b new told inside held =
     let pass = ap (λ (m : Bound Pass). m.seat.me.pass) told in
     record {
       inside = inside;
+      some = omega (arith, many, one);
       held = omega (arith, many, one);
       room = let same = ap (λ (m : Bound Pass). m.seat.me.room) told in
           let room = new.room in omega (arith, same, room);

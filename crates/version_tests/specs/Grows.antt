@@ -27,9 +27,10 @@ pub record IsOf (heap : HeapId) (m : Bound Pass) : Type 0 where
   pub heap_is : m.heap ≡ heap
   pub seat_is : IsSeatOf heap m.seat
 
--- a mutator that is in, with no more than so many places and commits
+-- a mutator that is in, with some places and no more than so many, and as many commits at most
 pub record Works (places commits keep : ℕ) (m : Bound Pass) : Type 0 where
   pub inside : m.seat.me.presence.inside ≡ true
+  pub some : 1 ≤ length m.seat.me.own.held
   pub held : length m.seat.me.own.held ≤ places
   pub room : 300 ≤ m.seat.me.room
   pub keep_is : m.seat.me.pass.keep ≡ keep
@@ -38,6 +39,7 @@ pub record Works (places commits keep : ℕ) (m : Bound Pass) : Type 0 where
 -- what a call adds to that, and which versions are held still
 pub record Grows (places commits : ℕ) (old new : Bound Pass) : Type 0 where
   pub same : IsSameMutator old new
+  pub longer : length old.seat.me.own.held ≤ length new.seat.me.own.held
   pub held : length new.seat.me.own.held ≤ length old.seat.me.own.held + places
   pub keep : new.seat.me.pass.keep ≡ old.seat.me.pass.keep
   pub made : length new.seat.me.pass.commits ≤ length old.seat.me.pass.commits + commits

@@ -1,6 +1,6 @@
 //! Threads that commit again and again, and answer handshakes between two commits.
 ghost use Rattle.free_cells.specs.Passes.{IsHintPass};
-ghost use Rattle.std.specs.Prelude.{◌≡◌, ◌≤◌, IfOk, true};
+ghost use Rattle.std.specs.Prelude.{◌≡◌, ◌≤◌, ◌+◌, IfOk, true};
 ghost use Rattle.version_store.specs.Lasts.{IsSameMutator};
 ghost use Rattle.version_tests.specs.Grows.{IsNew, IsOver, Works};
 

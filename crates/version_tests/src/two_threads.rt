@@ -56,13 +56,15 @@ fn each_number_is_made_once_and_the_chain_is_kept(rt: HostRuntime) -> Result<(),
     let ((collector, _), (one, two)) = thread::join(
         &rt,
         move ||
-            requires { IsIdle shared.now collector × IsHintPass hints.now pass × (hinted_of hints.now ≡ shared.now.shape.cells) }
+            requires { IsIdle shared.now collector × IsHintPass hints.now pass
+                × (hinted_of hints.now ≡ shared.now.shape.cells) }
             ensures { IsSeatOf shared.entry.now result.0 }
         { serve_on(&rt, shared, collector, stack, hints, pass) },
         move || -> (Done, Done)
             requires { IsNew shared.now KEEP first.seat × IsHintPass hints.now first.pass
                 × IsNew shared.now KEEP second.seat × IsHintPass hints.now second.pass }
-            ensures { IsOver shared.entry.now result.0.seat × IsOver shared.entry.now result.1.seat }
+            ensures { IsOver shared.entry.now result.0.seat
+                × IsOver shared.entry.now result.1.seat }
         { run_both(&rt, shared, hints, first, second) },
     );
     assert_eq!(rt; (one.numbers.len(), two.numbers.len()), (EACH, EACH));

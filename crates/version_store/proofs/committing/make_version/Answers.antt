@@ -35,12 +35,15 @@ fill-requires-2-clause-may g c =
     let fields = field.Num c.args.number ∷ field.Null ∷ field.Null ∷ field.Null ∷ field.Null ∷ [] in
     let filled = filled_number m m a c.args.fresh c.args.latest c.args.tree c.args.number may
     c.fill.ensures.told in
-    may_fill m a c.args.fresh c.args.latest c.args.tree fields filled may.there may.inside 1 _ (omega arith)
-    (names_place m a c.args.fresh c.args.latest c.args.tree fields filled may.there may.inside c.args.tree may.tree_before
-    may.tree_is (spared_settled m c.args.fresh c.args.latest c.args.tree c.args.tree may.tree_apart
+    may_fill m a c.args.fresh c.args.latest c.args.tree fields filled may.there may.inside 1 _
+    (omega arith)
+    (names_place m a c.args.fresh c.args.latest c.args.tree fields filled may.there may.inside
+    c.args.tree may.tree_before may.tree_is
+    (spared_settled m c.args.fresh c.args.latest c.args.tree c.args.tree may.tree_apart
     may.tree_is))
-    (sealed_place m a c.args.fresh c.args.latest c.args.tree fields filled may.there may.inside c.args.tree may.tree_before
-    may.tree_is (spared_settled m c.args.fresh c.args.latest c.args.tree c.args.tree may.tree_apart
+    (sealed_place m a c.args.fresh c.args.latest c.args.tree fields filled may.there may.inside
+    c.args.tree may.tree_before may.tree_is
+    (spared_settled m c.args.fresh c.args.latest c.args.tree c.args.tree may.tree_apart
     may.tree_is)) refl
 
 pub fill-requires-2-clause-rule : goal.fill-requires-2-clause-rule
@@ -69,13 +72,14 @@ fill-requires-3-clause-may g c =
     let filled = filled_tree m a b c.args.fresh c.args.latest c.args.tree c.args.number may
     (filled_number m m a c.args.fresh c.args.latest c.args.tree c.args.number may
     c.fill.ensures.told) c.fill-2.ensures.told in
-    may_fill m b c.args.fresh c.args.latest c.args.tree fields filled may.there may.inside 2 _ (omega arith)
-    (names_place m b c.args.fresh c.args.latest c.args.tree fields filled may.there may.inside c.args.latest
-    may.latest_before may.latest_is
+    may_fill m b c.args.fresh c.args.latest c.args.tree fields filled may.there may.inside 2 _
+    (omega arith)
+    (names_place m b c.args.fresh c.args.latest c.args.tree fields filled may.there may.inside
+    c.args.latest may.latest_before may.latest_is
     (spared_settled m c.args.fresh c.args.latest c.args.tree c.args.latest may.latest_apart
     may.latest_is))
-    (sealed_place m b c.args.fresh c.args.latest c.args.tree fields filled may.there may.inside c.args.latest
-    may.latest_before may.latest_is
+    (sealed_place m b c.args.fresh c.args.latest c.args.tree fields filled may.there may.inside
+    c.args.latest may.latest_before may.latest_is
     (spared_settled m c.args.fresh c.args.latest c.args.tree c.args.latest may.latest_apart
     may.latest_is)) refl
 

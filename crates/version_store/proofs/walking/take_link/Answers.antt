@@ -21,8 +21,8 @@ returns g c =
     let s = g.S.Spelling in
     let need = c.requires in
     record {
-      taken = was_taken c.args.m.now c.args.newest c.args.oldest c.args.before need.inside need.newest
-          need.oldest need.before need.later need.due s.is_tree s.tree_of s.is_record
+      taken = was_taken c.args.m.now c.args.newest c.args.oldest c.args.before need.inside
+          need.newest need.oldest need.before need.later need.due s.is_tree s.tree_of s.is_record
           c.update.new.self need.many
           (either_way (λ (m : Moved). m.found) _ c.update.result c.update.ensures.made
           c.update.ensures.moved);
