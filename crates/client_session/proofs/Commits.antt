@@ -1,7 +1,6 @@
 -- The ends of a commit.
 use Rattle.std.proofs.Common.{◌≡◌, ℕ, ◌+◌, ◌≤◌, ◌<◌, sym, subst, arith, Some}
-use Rattle.std.proofs.Common.{refl, Ok}
-use Rattle.std.proofs.Common.{Err}
+use Rattle.std.proofs.Common.{refl, Ok, Err}
 use Rattle.client_session.specs.Turns.{Answered, Outrun, account_of, bounds}
 use Rattle.client_session.specs.declared.given.Given.{Given}
 use Rattle.client_session.specs.declared.journal.Journal.{Journal}
@@ -9,8 +8,8 @@ use Rattle.client_turns.specs.Progress.{MakesNone}
 use Rattle.client_turns.specs.State.{ClientState, IsReady, Lasts, Rests}
 use Rattle.client_turns.specs.Turns.{Begun, Turned}
 use Rattle.client_turns.proofs.States.{none_lost, none_then, rests_none}
-use Rattle.client_turns.proofs.Turning.{begun_full, begun_ok, begun_on, begun_refused, begun_worn}
-use Rattle.client_turns.proofs.Turning.{commit_made, made_on}
+use Rattle.client_turns.proofs.Turning.{begun_full, begun_trimmed, begun_on, begun_refused}
+use Rattle.client_turns.proofs.Turning.{begun_worn, commit_made, made_on}
 use Rattle.doc_model.specs.Answers.{full_place, refusal}
 use Rattle.doc_model.specs.declared.command.Command.{Command}
 use Rattle.doc_model.specs.declared.command.Reply.{Reply}
@@ -86,7 +85,7 @@ module _ (j : Journal) (c : Command) (v : ℕ) {s t : ClientState} where
           let on = made_on (made_on made (rests_none one)) (rests_none two) in
           let seen = made.seen in
           record {
-            turned = begun_ok (bounds j.limits) j.log.client (account_of j s) c v newest tree begun
+            turned = begun_trimmed (bounds j.limits) j.log.client (account_of j s) c v newest tree begun
                 below on ready (omega (arith, seen, low)) due;
             kept = refl;
           }

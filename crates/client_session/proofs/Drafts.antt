@@ -1,6 +1,6 @@
 -- The ends of the commands that make the draft.
-use Rattle.std.proofs.Common.{◌≡◌, ℕ, List, sym, ◌∙◌, ap, subst, Some, None, Ok}
-use Rattle.std.proofs.Common.{Err, refl}
+use Rattle.std.proofs.Common.{◌≡◌, ℕ, List, sym, ◌∙◌, ap, subst, Some, None, Ok, Err}
+use Rattle.std.proofs.Common.{refl}
 use Rattle.client_session.specs.Handles.{Edits, Handles}
 use Rattle.client_session.specs.Turns.{Answered, Begins, MayTurn, account_of, bounds}
 use Rattle.client_session.specs.declared.given.Given.{Given}

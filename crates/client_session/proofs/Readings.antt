@@ -1,7 +1,6 @@
 -- The ends of the commands that read.
 use Rattle.std.proofs.Common.{◌≡◌, ℕ, ◌+◌, ◌-◌, ◌≤◌, ◌<◌, List, [], refl}
-use Rattle.std.proofs.Common.{sym, ◌∙◌, ap, subst}
-use Rattle.std.proofs.Common.{arith}
+use Rattle.std.proofs.Common.{sym, ◌∙◌, ap, subst, arith}
 use Rattle.client_session.specs.Handles.{Handles}
 use Rattle.client_session.specs.Turns.{Answered, IsPlain, MayTurn, Opens, Outrun, account_of}
 use Rattle.client_session.specs.Turns.{bounds}

@@ -1,47 +1,17 @@
 -- How a command ends, where nothing was made before it or behind it.
-use Rattle.std.proofs.Common.{◌≡◌, ℕ, ◌∙◌, ap, subst, arith, length, Option, Some}
-use Rattle.std.proofs.Common.{None}
-use Rattle.std.proofs.Common.{Result, Ok, Err}
+use Rattle.std.proofs.Common.{◌≡◌, ap, subst, arith, length, Option, Some, None, Result, Ok}
+use Rattle.std.proofs.Common.{Err}
 use Rattle.client_session.specs.Turns.{Answered, Ends, MayTurn, account_of, bounds}
 use Rattle.client_session.specs.declared.given.Given.{Given}
 use Rattle.client_session.specs.declared.journal.Journal.{Journal}
 use Rattle.client_session.proofs.Rooms.{may_on}
 use Rattle.client_turns.specs.State.{ClientState}
-use Rattle.client_turns.specs.Turns.{Lost, Turned, entry_for}
-use Rattle.client_turns.proofs.States.{lasts_then, lost_none, lost_then, small_then}
-use Rattle.client_turns.proofs.Turning.{lost_turned}
-use Rattle.client_turns.proofs.Meeting.{met_on}
-use Rattle.doc_model.specs.Answers.{Limits}
+use Rattle.client_turns.specs.Turns.{Lost, Turned}
+use Rattle.client_turns.proofs.States.{lost_none, lost_then}
+use Rattle.client_turns.proofs.Turning.{lost_turned, turned_on}
 use Rattle.doc_model.specs.declared.answer.Account.{Account}
 use Rattle.doc_model.specs.declared.command.Command.{Command}
-use Rattle.doc_model.specs.declared.command.Reply.{Reply}
 use Rattle.doc_tree.specs.Tree.{DocTree}
-
--- a command that was answered, and then a lost turn
-turned_lost : (l : Limits) (client : ℕ) (m : Account) (c : Command) {s t u : ClientState}
-    {r : Reply} {place : ℕ} → Turned l client m c s t r place → Lost t u
-    → Turned l client m c s u r place
-turned_lost l client m c {s = s} {t = t} {u = u} {r = r} {place = place} turned lost =
-    let answers = turned.answers in
-    record {
-      lasts = lasts_then turned.lasts lost.lasts;
-      ready = lost.ready;
-      commits = lost.commits ∙ turned.commits;
-      answers = record {
-        made = answers.made;
-        drafted = answers.drafted;
-        rises = answers.rises;
-        seen = let x = answers.seen in let y = lost.lasts.passes.seen in omega (arith, x, y);
-        is = λ trees fits. answers.is trees (lost.lasts.passes.narrows trees fits);
-        made_is = λ trees fits. answers.made_is trees (lost.lasts.passes.narrows trees fits);
-        left = lost.draft ∙ answers.left;
-      };
-      meets = met_on s.cells (entry_for client m c r place) turned.meets lost.lasts.grown;
-      rose = λ ok. let x = turned.rose ok in let y = lost.lasts.claims in omega (arith, x, y);
-      trimmed = λ ok due.
-          let x = turned.trimmed ok due in let y = lost.lasts.passes.cut in omega (arith, x, y);
-      small = λ plain. small_then s t u (turned.small plain) lost.small;
-    }
 
 pub may_lost : {j : Journal} {s t : ClientState} → MayTurn j s → Lost s t → MayTurn j t
 may_lost may lost = may_on may (lost_none lost)
@@ -63,7 +33,7 @@ module _ (j : Journal) (c : Command) (s t u : ClientState) where
 
   pub answered_on : (g : Given) → Answered j c s t g → Lost t u → Answered j c s u g
   answered_on g ended lost = record {
-    turned = turned_lost (bounds j.limits) j.log.client (account_of j s) c ended.turned lost;
+    turned = turned_on (bounds j.limits) j.log.client (account_of j s) c ended.turned lost;
     kept = ended.kept;
   }
 

@@ -1,8 +1,7 @@
 -- Turns of a session: what a command needs, and how it ends.
 -- Source: this project's.
 use Rattle.std.specs.Prelude.{ℕ, ◌≡◌, ◌≤◌, ◌<◌, ◌++◌, [], ◌∷◌, Option}
-use Rattle.std.specs.Prelude.{Some, None, Result, Ok, Err}
-use Rattle.std.specs.Prelude.{false, length}
+use Rattle.std.specs.Prelude.{Some, None, Result, Ok, Err, false, length}
 use Rattle.client_session.specs.Handles.{Handles}
 use Rattle.client_session.specs.declared.given.Given.{Given}
 use Rattle.client_session.specs.declared.given.Opened.{Opened}

@@ -1,7 +1,6 @@
 //! What a session needs of its client's heap.
 ghost use Rattle.std.specs.Prelude.{◌≡◌, ◌+◌, ◌≤◌, ◌<◌, ℕ, Bool, true, IfOk};
-ghost use Rattle.std.specs.Prelude.{IfSome, OnErr, OnOk, []};
-ghost use Rattle.std.specs.Prelude.{◌∷◌, Err, None, length};
+ghost use Rattle.std.specs.Prelude.{IfSome, OnErr, OnOk, [], ◌∷◌, Err, None, length};
 ghost use Rattle.std.specs.Option.{option_map};
 ghost use Rattle.cell_words.specs.declared.fields.Field.TheVariants as field;
 ghost use Rattle.client_session.specs.Handles.{Edits, Handles, Still};

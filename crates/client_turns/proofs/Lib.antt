@@ -3,6 +3,7 @@ pub mod Commands
 pub mod Meeting
 pub mod Reading
 pub mod Running
+pub mod Sample
 pub mod Spared
 pub mod States
 pub mod Stepping

@@ -181,6 +181,11 @@ pub tied : (l : Limits) (s : ClientState) (last : ℕ) (log : ClientLog) → IsI
 tied l s last log step =
     record { own = step.own; commits = step.commits; follows = step.keeps_up.follows }
 
+pub made_claimed : (l : Limits) (s : ClientState) (last : ℕ) (log : ClientLog)
+    → IsInStep l s last log → length (commit_numbers s.pass) ≤ s.claims
+made_claimed l s last log step =
+    subst (λ (ns : List ℕ). length ns ≤ s.claims) step.commits step.claims
+
 -- a pass that grows with no commit, as at a client's end, keeps a log tied
 pub tied_on : (l : Limits) (p q : Pass) (log : ClientLog) → Grows p q
     → commit_numbers q ≡ commit_numbers p → Tied l p log → Tied l q log

@@ -31,7 +31,7 @@ use Rattle.client_turns.proofs.Answering.{seen_plain}
 use Rattle.client_turns.proofs.Meeting.{draft_full_met, draft_met, full_met, met_late, met_on}
 use Rattle.client_turns.proofs.Meeting.{shown_met}
 use Rattle.client_turns.proofs.Reading.{known_on, read_late, read_on, tree_made}
-use Rattle.client_turns.proofs.States.{committed_commits, lasts_then, small_then}
+use Rattle.client_turns.proofs.States.{committed_commits, lasts_then, lost_none, small_then}
 
 -- A version was made.
 
@@ -268,12 +268,12 @@ module _ (l : Limits) (client : ℕ) (m : Account) (c : Command) where
   begun_full v edited begun needs ready had =
       full_turned v needs begun.account begun.read ready had
 
-  -- the version is made; the latest one behind it was read, and what is older than is kept cut off
-  pub begun_ok : {s t u : ClientState} (v newest : ℕ) (tree : DocTree)
-      → Begun l m c v s t (Ok tree) → v < l.versions → Made v tree t u → IsReady u
-      → v + 1 ≤ newest → newest + 1 ≤ u.pass.cut + l.keep
+  -- the version is made, and what is older than is kept cut off
+  pub begun_ok : {s t u : ClientState} (v : ℕ) (tree : DocTree) → Begun l m c v s t (Ok tree)
+      → v < l.versions → Made v tree t u → IsReady u
+      → (l.keep ≤ v + 1 → v + 1 + 1 ≤ u.pass.cut + l.keep)
       → Turned l client m c s u (reply.Committed (v + 1)) (v + 1)
-  begun_ok {s = s} {t = t} {u = u} v newest tree begun below made ready later due = record {
+  begun_ok {s = s} {t = t} {u = u} v tree begun below made ready due = record {
     lasts = lasts_then begun.read.none.lasts made.lasts;
     ready = ready;
     commits = made.commits ∙ ap (λ (ns : List ℕ). ns ++ (v + 1) ∷ []) begun.read.none.commits;
@@ -287,24 +287,62 @@ module _ (l : Limits) (client : ℕ) (m : Account) (c : Command) where
         (subst (λ (n : ℕ). Shows (version_asks begun.read.cell n) s.marks t.marks)
         (sym (seen_made l client m c v)) begun.read.shows)) made.lasts.grown;
     rose = λ _. let x = begun.read.none.lasts.claims in let y = made.rose in omega (arith, x, y);
-    trimmed = λ _ _. omega (arith, later, due);
+    trimmed = λ _ many. due many;
     small = λ _. small_then s t u begun.read.none.small made.small;
   }
+
+  -- by a latest version that was read behind it
+  pub begun_trimmed : {s t u : ClientState} (v newest : ℕ) (tree : DocTree)
+      → Begun l m c v s t (Ok tree) → v < l.versions → Made v tree t u → IsReady u
+      → v + 1 ≤ newest → newest + 1 ≤ u.pass.cut + l.keep
+      → Turned l client m c s u (reply.Committed (v + 1)) (v + 1)
+  begun_trimmed v newest tree begun below made ready later due =
+      begun_ok v tree begun below made ready (λ _. omega (arith, later, due))
+
+  -- Calls before, and behind.
+
+  pub turned_late : {s t u : ClientState} {r : Reply} {place : ℕ} → MakesNone s t
+      → Turned l client m c t u r place → Turned l client m c s u r place
+  turned_late {s = s} {t = t} {u = u} {r = r} {place = place} none turned =
+      let e = entry_for client m c r place in
+      record {
+        lasts = lasts_then none.lasts turned.lasts;
+        ready = turned.ready;
+        commits = turned.commits
+            ∙ ap (λ (ns : List ℕ). ns ++ new_numbers (is_ok r) place) none.commits;
+        answers = turned.answers;
+        meets = met_late s.cells e none.lasts.grown
+            (subst (λ (n : ℕ). Had (Demand n e) t.marks u.marks) none.lasts.cells turned.meets);
+        rose = λ ok. let x = none.lasts.claims in let y = turned.rose ok in omega (arith, x, y);
+        trimmed = turned.trimmed;
+        small = λ plain. small_then s t u none.small (turned.small plain);
+      }
+
+  pub turned_on : {s t u : ClientState} {r : Reply} {place : ℕ} → Turned l client m c s t r place
+      → Lost t u → Turned l client m c s u r place
+  turned_on {s = s} {t = t} {u = u} {r = r} {place = place} turned lost =
+      let grows = lost.lasts.passes in
+      record {
+        lasts = lasts_then turned.lasts lost.lasts;
+        ready = lost.ready;
+        commits = lost.commits ∙ turned.commits;
+        answers = record {
+          made = turned.answers.made;
+          drafted = turned.answers.drafted;
+          rises = turned.answers.rises;
+          seen = let x = turned.answers.seen in let y = grows.seen in omega (arith, x, y);
+          is = λ trees fits. turned.answers.is trees (grows.narrows trees fits);
+          made_is = λ trees fits. turned.answers.made_is trees (grows.narrows trees fits);
+          left = lost.draft ∙ turned.answers.left;
+        };
+        meets = met_on s.cells (entry_for client m c r place) turned.meets lost.lasts.grown;
+        rose = λ ok. let x = turned.rose ok in let y = lost.lasts.claims in omega (arith, x, y);
+        trimmed = λ ok due.
+            let x = turned.trimmed ok due in let y = grows.cut in omega (arith, x, y);
+        small = λ plain. small_then s t u (turned.small plain) lost.small;
+      }
 
   -- A lost turn before.
   pub lost_turned : {s t u : ClientState} {r : Reply} {place : ℕ} → Lost s t
       → Turned l client m c t u r place → Turned l client m c s u r place
-  lost_turned {s = s} {t = t} {u = u} {r = r} {place = place} lost turned =
-      let e = entry_for client m c r place in
-      record {
-        lasts = lasts_then lost.lasts turned.lasts;
-        ready = turned.ready;
-        commits = turned.commits
-            ∙ ap (λ (ns : List ℕ). ns ++ new_numbers (is_ok r) place) lost.commits;
-        answers = turned.answers;
-        meets = met_late s.cells e lost.lasts.grown
-            (subst (λ (n : ℕ). Had (Demand n e) t.marks u.marks) lost.lasts.cells turned.meets);
-        rose = λ ok. let x = lost.lasts.claims in let y = turned.rose ok in omega (arith, x, y);
-        trimmed = turned.trimmed;
-        small = λ plain. small_then s t u lost.small (turned.small plain);
-      }
+  lost_turned lost turned = turned_late (lost_none lost) turned

@@ -1,5 +1,5 @@
 //! Laws on a client's log, its pass and its trail: the contracts of functions that do nothing.
-ghost use Rattle.std.specs.Prelude.{ℕ, ◌≡◌, ◌++◌, true, List, [], ◌∷◌, length, is_some};
+ghost use Rattle.std.specs.Prelude.{ℕ, ◌≡◌, ◌≤◌, ◌++◌, true, List, [], ◌∷◌, length, is_some};
 ghost use Rattle.doc_model.specs.Answers.{Limits, full_place, is_full};
 ghost use Rattle.doc_model.specs.ClientLog.{ClientLog};
 ghost use Rattle.doc_model.specs.declared.answer.Account.{Account};
@@ -36,10 +36,13 @@ pub fn a_turn_keeps_in_step()
 {}
 
 /// A log in step is tied to the pass: its new versions are those that the pass has made, and it
-/// follows from each list of versions that the pass allows.
+/// follows from each list of versions that the pass allows. Each version that was made took a
+/// claim.
 pub fn a_log_in_step_is_tied()
-    ensures { (l : Limits) (s : ClientState) (last : ℕ) (log : ClientLog) → IsInStep l s last log
-        → Tied l s.pass log }
+    ensures tied { (l : Limits) (s : ClientState) (last : ℕ) (log : ClientLog)
+        → IsInStep l s last log → Tied l s.pass log }
+    ensures made { (l : Limits) (s : ClientState) (last : ℕ) (log : ClientLog)
+        → IsInStep l s last log → length (commit_numbers s.pass) ≤ s.claims }
 {}
 
 /// A command is answered that the heap was full only where it needs cells; get, list, size, old and
