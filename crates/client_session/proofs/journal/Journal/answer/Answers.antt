@@ -1,0 +1,30 @@
+use Rattle.std.proofs.Common.{refl}
+use Rattle.client_session.specs.Turns.{bounds}
+use Rattle.client_session.specs.declared.journal.Journal.{Journal}
+use Rattle.client_session.proofs.Entering.{entered_step, lost_step, may_of, same_step}
+use Rattle.client_session.proofs.journal.Journal.answer.Goals as goal
+
+pub turns-requires-clause-may : goal.turns-requires-clause-may
+turns-requires-clause-may g c =
+    let j = c.args.self.now in
+    let now : Journal = record { limits = j.limits; last = j.last; log = c.reserve.new.self } in
+    may_of j now (g.H.ClientHeap.state c.args.heap.now) c.requires.step c.requires.few refl refl
+
+pub returns-in_err-given-clause-step : goal.returns-in_err-given-clause-step
+returns-in_err-given-clause-step g c =
+    let j = c.args.self.now in
+    lost_step (bounds j.limits) j.last j.log c.reserve.new.self c.requires.step
+    c.reserve.ensures.client c.reserve.ensures.entries c.in_err-given.ensures.lost
+
+pub returns-clause-step : goal.returns-clause-step
+returns-clause-step g c =
+    let j = c.args.self.now in
+    let s = g.H.ClientHeap.state c.args.heap.now in
+    let now : Journal = record { limits = j.limits; last = j.last; log = c.reserve.new.self } in
+    let answered = c.in_ok-given.ensures.answered in
+    let entered = c.enter-reply.ensures in
+    entered_step now c.enter-reply.new.self c.args.command.now c.in_ok-copied.copied
+    c.in_ok-given.given.reply c.in_ok-given.given.kept c.in_ok-given.given.place
+    (same_step (bounds j.limits) s j.last j.log c.reserve.new.self c.reserve.ensures.client
+    c.reserve.ensures.entries c.requires.step) answered.turned c.in_ok-copied.ensures
+    answered.kept entered.entries entered.limits entered.client entered.last

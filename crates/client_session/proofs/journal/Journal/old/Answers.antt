@@ -1,0 +1,60 @@
+use Rattle.std.proofs.Common.{◌≡◌, ◌-◌, ◌+◌, ◌≤◌, ◌<◌, ℕ, arith, ap, sym}
+use Rattle.std.proofs.Common.{◌∙◌}
+use Rattle.client_session.proofs.Readings.{old_before_ends, old_ends, old_gone_ends}
+use Rattle.client_session.proofs.journal.Journal.old.Goals as goal
+use Rattle.client_turns.proofs.Reading.{read_current}
+use Rattle.client_turns.proofs.States.{rests_none}
+use Rattle.doc_tree.specs.Tree.{DocTree}
+use Rattle.version_rule.specs.Pass.{reading}
+
+pub returns-then-from-shown : goal.returns-then-from-shown
+returns-then-from-shown g c =
+    let latest = c.current-latest.ensures in
+    let v = c.current-latest.result.number in
+    let read = read_current v latest.shows.0 latest.shows.1 latest.pass latest.seen
+    (rests_none latest.rests) in
+    let far : v < c.args.back = omega (arith, c.if-from-shown.true, c.from.ensures) in
+    record {
+      ends = old_before_ends c.args.self.now c.requires.may c.requires.room c.args.path.now v
+          c.args.back read latest.rests far;
+    }
+
+pub returns-then-back-self : goal.returns-then-back-self
+returns-then-back-self g c =
+    let latest = c.current-latest.ensures in
+    let v = c.current-latest.result.number in
+    let read = read_current v latest.shows.0 latest.shows.1 latest.pass latest.seen
+    (rests_none latest.rests) in
+    let is : v - c.args.back ≡ v - c.from-2.result =
+    ap (λ (n : ℕ). v - n) (sym c.from-2.ensures) in
+    let there : c.args.back ≤ v = omega (arith, c.if-from-shown.false, c.from.ensures) in
+    record {
+      ends = old_gone_ends c.args.self.now c.requires.may c.requires.room c.args.path.now v
+          c.args.back read latest.rests (v - c.from-2.result) is there c.if-back-self.true;
+    }
+
+pub returns-in_ok-given-in-Some : goal.returns-in_ok-given-in-Some
+returns-in_ok-given-in-Some g c =
+    let h = g.H.ClientHeap in
+    let latest = c.current-latest.ensures in
+    let v = c.current-latest.result.number in
+    let read = read_current v latest.shows.0 latest.shows.1 latest.pass latest.seen
+    (rests_none latest.rests) in
+    let older = c.in-Some.ensures in
+    let number = c.in-Some.found.number in
+    let total : number + c.args.back ≡ v = omega (arith, older.number, c.from-3.ensures) in
+    let is : v - c.args.back ≡ v - c.from-2.result =
+    ap (λ (n : ℕ). v - n) (sym c.from-2.ensures) in
+    let t = h.state c.older.new.self in
+    let u = h.state c.tree-root.new.self in
+    let root = (h.shown c.tree-root.new.self).tree c.tree-root.result in
+    let pass : u.pass ≡ reading number root t.pass =
+    c.tree-root.ensures.pass
+    ∙ ap (λ (d : DocTree). reading number d t.pass) (sym c.tree-root.ensures.tree) in
+    let given = c.in_ok-given-in-Some.ensures in
+    record {
+      ends = old_ends c.args.self.now c.requires.may c.requires.room c.args.path.now v c.args.back
+          read latest.rests number (v - c.from-2.result) root c.in_ok-given-in-Some.given total is
+          c.if-back-self.false older.rests pass c.tree-root.ensures.rests given.told given.kept
+          given.place given.plain given.rests (given.shows c.tree-root.ensures.shared);
+    }

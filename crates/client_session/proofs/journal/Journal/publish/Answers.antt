@@ -1,0 +1,45 @@
+use Rattle.std.proofs.Common.{◌∙◌, arith, ap, refl}
+use Rattle.client_session.proofs.Editing.{edited_begun, edits_none}
+use Rattle.client_session.proofs.Rooms.{full_ends, may_on}
+use Rattle.client_session.proofs.journal.Journal.publish.Goals as goal
+use Rattle.client_turns.proofs.Spared.{attach_spared}
+use Rattle.client_turns.proofs.States.{none_then}
+use Rattle.doc_model.specs.declared.command.Command.TheVariants as command
+use Rattle.doc_tree.specs.Edits.{attach}
+use Rattle.doc_tree.specs.Tree.{DocTree}
+
+pub finish-ended-requires : goal.finish-ended-requires
+finish-ended-requires g c =
+    let begins = c.in-Ok.ensures.begins in
+    let edits = c.attach-edited.ensures in
+    record {
+      may = may_on c.requires.may (none_then begins.read.none (edits_none edits.edits));
+      room = let x = begins.room in let y = edits.edits.room in omega (arith, x, y);
+      version = edits.still.versions c.in-Ok.opened.version begins.holds.version;
+      node = edits.node;
+    }
+
+pub returns-in-Ok : goal.returns-in-Ok
+returns-in-Ok g c =
+    let h = g.H.ClientHeap in
+    let j = c.args.self.now in
+    let path = c.args.path.now in
+    let s = h.state c.args.heap.now in
+    let begins = c.in-Ok.ensures.begins in
+    let root = (h.shown c.begin.new.heap).tree c.in-Ok.opened.root in
+    let publish = command.Publish path in
+    record {
+      ends = c.finish-ended.ensures.ends publish s
+          (edited_begun j publish c.in-Ok.opened 0 (attach path s.draft) _ c.requires.may
+          begins c.attach-edited.ensures.edits
+          (c.attach-edited.ensures.tree
+          ∙ ap (λ (d : DocTree). attach path d root)
+          (c.draft-draft.ensures.tree ∙ begins.read.none.draft))
+          (attach_spared path s.draft) (λ trees. refl)) refl;
+    }
+
+pub returns-in-Err : goal.returns-in-Err
+returns-in-Err g c = record {
+  ends = full_ends c.args.self.now (command.Publish c.args.path.now) c.in-Err.shown
+      c.requires.may refl c.in-Err.ensures.full;
+}

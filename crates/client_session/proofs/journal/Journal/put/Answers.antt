@@ -1,0 +1,39 @@
+use Rattle.std.proofs.Common.{arith, refl}
+use Rattle.client_session.proofs.Editing.{edited_begun, edits_none}
+use Rattle.client_session.proofs.Rooms.{full_ends, may_on}
+use Rattle.client_session.proofs.journal.Journal.put.Goals as goal
+use Rattle.client_turns.proofs.Spared.{set_text_spared}
+use Rattle.client_turns.proofs.States.{none_then}
+use Rattle.doc_model.specs.declared.command.Command.TheVariants as command
+use Rattle.doc_tree.specs.Edits.{set_text}
+
+pub finish-ended-requires : goal.finish-ended-requires
+finish-ended-requires g c =
+    let begins = c.in-Ok.ensures.begins in
+    let edits = c.set_text-edited.ensures in
+    record {
+      may = may_on c.requires.may (none_then begins.read.none (edits_none edits.edits));
+      room = let x = begins.room in let y = edits.edits.room in omega (arith, x, y);
+      version = edits.still.versions c.in-Ok.opened.version begins.holds.version;
+      node = edits.node;
+    }
+
+pub returns-in-Ok : goal.returns-in-Ok
+returns-in-Ok g c =
+    let h = g.H.ClientHeap in
+    let j = c.args.self.now in
+    let path = c.args.path.now in
+    let text = c.args.text.now in
+    let put = command.Put path text in
+    record {
+      ends = c.finish-ended.ensures.ends put (h.state c.args.heap.now)
+          (edited_begun j put c.in-Ok.opened 0 (set_text path text) _ c.requires.may
+          c.in-Ok.ensures.begins c.set_text-edited.ensures.edits c.set_text-edited.ensures.tree
+          (set_text_spared path text) (λ trees. refl)) refl;
+    }
+
+pub returns-in-Err : goal.returns-in-Err
+returns-in-Err g c = record {
+  ends = full_ends c.args.self.now (command.Put c.args.path.now c.args.text.now) c.in-Err.shown
+      c.requires.may refl c.in-Err.ensures.full;
+}

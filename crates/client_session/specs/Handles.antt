@@ -1,0 +1,39 @@
+-- What a client holds while it works on a command: nodes and versions; and what the calls that make
+-- nodes leave.
+-- Source: this project's.
+use Rattle.std.specs.Prelude.{ℕ, ◌≡◌, ◌≤◌, ◌+◌, Result, Ok, Err}
+use Rattle.doc_tree.specs.declared.edit.EditFault.{EditFault}
+use Rattle.client_session.specs.declared.held.HeldVersion.{HeldVersion}
+use Rattle.client_turns.specs.State.{ClientState, Lasts}
+use Rattle.doc_tree.specs.Tree.{DocTree}
+
+pub record Handles (At : Type 0) : Type 1 where
+  -- a node stands there, and this is its tree
+  pub is_node : At → Type 0
+  pub tree : At → DocTree
+  -- the version is held, and this is its tree
+  pub is_version : HeldVersion → Type 0
+  pub root : HeldVersion → DocTree
+
+-- whatever is held is held still, and is what it was
+pub record Still {At : Type 0} (old new : Handles At) : Type 0 where
+  pub nodes : (a : At) → old.is_node a → new.is_node a
+  pub trees : (a : At) → old.is_node a → new.tree a ≡ old.tree a
+  pub versions : (v : HeldVersion) → old.is_version v → new.is_version v
+  pub roots : (v : HeldVersion) → old.is_version v → new.root v ≡ old.root v
+
+-- A call that edits a tree, and takes so many places beside those of one edit and of its records.
+-- It makes no version and no draft.
+pub record Edits (places : ℕ) (old new : ClientState) : Type 0 where
+  pub lasts : Lasts old new
+  pub pass : new.pass ≡ old.pass
+  pub draft : new.draft ≡ old.draft
+  pub base : new.base ≡ old.base
+  pub room : old.room ≤ new.room + (places + 10_477)
+  pub spare : old.spare ≤ new.spare + 2_285
+
+-- the tree of the node that an edit gave, or why there is none
+abbrev pub answered : {A : Type 0} → (A → DocTree) → Result A EditFault
+    → Result DocTree EditFault
+answered tree (Ok a) = Ok (tree a)
+answered tree (Err e) = Err e

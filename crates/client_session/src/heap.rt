@@ -1,0 +1,224 @@
+//! What a session needs of its client's heap.
+ghost use Rattle.std.specs.Prelude.{◌≡◌, ◌+◌, ◌≤◌, ◌<◌, ℕ, Bool, true, IfOk};
+ghost use Rattle.std.specs.Prelude.{IfSome, OnErr, OnOk, [], ◌∷◌, Err, None, length};
+ghost use Rattle.std.specs.Option.{option_map};
+ghost use Rattle.cell_words.specs.declared.fields.Field.TheVariants as field;
+ghost use Rattle.client_session.specs.Handles.{Edits, Handles, Still};
+ghost use Rattle.client_turns.specs.Demands.{version_asks};
+ghost use Rattle.client_turns.specs.State.{ClientState, IsReady, Lasts, Rests, StaysSmall};
+ghost use Rattle.client_session.specs.Handles.{answered};
+ghost use Rattle.doc_records.specs.Texts.{name_asks, text_asks};
+ghost use Rattle.doc_tree.specs.Edits.{attach, delete, set_text};
+ghost use Rattle.doc_tree.specs.Tree.{count, names_of, node};
+ghost use Rattle.trails.specs.Asks.{Shows, gave};
+ghost use Rattle.trails.specs.Claims.{IsFull};
+ghost use Rattle.trails.specs.Stretches.{Had};
+ghost use Rattle.version_rule.specs.Pass.{commit_numbers, committed, reading, seeing};
+
+use crate::held::{CommitRefusal, HeapFull, HeldVersion};
+use doc_tree::{EditFault, Names, NoMemory, Path, Text};
+use std::alloc::Global;
+use std::sync::Wait;
+
+/// The cells, private records and draft of one client. What a call hands out stands until `settle`
+/// or `make_room`; the draft stays.
+///
+/// A call that reads asks for 8,192 places, since it may hold cells on its way. An edit asks for as
+/// many more as that once all places but the draft's are given back, there is room again for every
+/// reading; so does a new draft.
+pub trait ClientHeap {
+    type At: Copy;
+
+    ghost state: { Self → ClientState };
+
+    ghost shown: { Self → Handles Self.At };
+
+    /// The node is one of the shared heap.
+    ghost shared: { Self.At → Bool };
+
+    /// The latest version.
+    fn current(&mut self) -> HeldVersion
+        requires room { 8192 ≤ (state self.old).room }
+        ensures shows { (cell : ℕ) × Shows (version_asks cell result.number)
+            (state self.old).marks (state self.new).marks }
+        ensures pass { (state self.new).pass ≡ seeing result.number (state self.old).pass }
+        ensures seen { (state self.old).pass.seen ≤ result.number }
+        ensures version { (shown self.new).is_version result }
+        ensures rests { Rests 1 (state self.old) (state self.new) }
+        ensures still { Still (shown self.old) (shown self.new) };
+
+    /// The root of a version's tree, which the pass has read from then on.
+    fn tree(&mut self, v: HeldVersion) -> Self::At
+        requires room { 8192 ≤ (state self.old).room }
+        requires version { (shown self.old).is_version v }
+        ensures pass { (state self.new).pass
+            ≡ reading v.number ((shown self.old).root v) (state self.old).pass }
+        ensures node { (shown self.new).is_node result }
+        ensures tree { (shown self.new).tree result ≡ (shown self.old).root v }
+        ensures shared { shared result ≡ true }
+        ensures rests { Rests 1 (state self.old) (state self.new) }
+        ensures still { Still (shown self.old) (shown self.new) };
+
+    /// The version so many before, or none where a newer one has cut it off.
+    fn older(&mut self, v: HeldVersion, back: u64) -> Option<HeldVersion>
+        requires room { 8192 ≤ (state self.old).room }
+        requires version { (shown self.old).is_version v }
+        requires back { back ≤ v.number }
+        requires kept { back < (state self.old).pass.keep }
+        ensures number { IfSome result (λ older. older.number + back ≡ v.number) }
+        ensures version { IfSome result (λ older. (shown self.new).is_version older) }
+        ensures pass { IfSome result (λ older. (state self.new).pass ≡ (state self.old).pass) }
+        ensures newer { result ≡ None → v.number < (state self.new).pass.seen }
+        ensures rests { Rests 1 (state self.old) (state self.new) }
+        ensures still { Still (shown self.old) (shown self.new) };
+
+    /// The node at a path below a node.
+    fn node(&mut self, root: Self::At, path: &Path) -> Option<Self::At>
+        requires room { 8192 ≤ (state self.old).room }
+        requires node { (shown self.old).is_node root }
+        ensures tree { option_map (shown self.new).tree result
+            ≡ node path.now ((shown self.old).tree root) }
+        ensures node { IfSome result (λ at. (shown self.new).is_node at) }
+        ensures shared { shared root ≡ true → IfSome result (λ at. shared at ≡ true) }
+        ensures pass { (state self.new).pass ≡ (state self.old).pass }
+        ensures rests { Rests 8 (state self.old) (state self.new) }
+        ensures still { Still (shown self.old) (shown self.new) };
+
+    /// The text of a node.
+    fn text(&mut self, alloc: Global, at: Self::At) -> Result<Text, NoMemory>
+        requires room { 8192 ≤ (state self.old).room }
+        requires node { (shown self.old).is_node at }
+        ensures text { IfOk result (λ text. text ≡ ((shown self.old).tree at).text) }
+        ensures shows { OnOk result (shared at ≡ true
+            → Shows (text_asks ((shown self.old).tree at).text)
+            (state self.old).marks (state self.new).marks) }
+        ensures pass { (state self.new).pass ≡ (state self.old).pass }
+        ensures rests { Rests 0 (state self.old) (state self.new) }
+        ensures still { Still (shown self.old) (shown self.new) };
+
+    /// The names of its children.
+    fn names(&mut self, alloc: Global, at: Self::At) -> Result<Names, NoMemory>
+        requires room { 8192 ≤ (state self.old).room }
+        requires node { (shown self.old).is_node at }
+        ensures names { IfOk result (λ names. names ≡ names_of ((shown self.old).tree at).kids) }
+        ensures shows { OnOk result (shared at ≡ true
+            → Shows (name_asks (names_of ((shown self.old).tree at).kids))
+            (state self.old).marks (state self.new).marks) }
+        ensures pass { (state self.new).pass ≡ (state self.old).pass }
+        ensures rests { Rests 0 (state self.old) (state self.new) }
+        ensures still { Still (shown self.old) (shown self.new) };
+
+    /// How many nodes its tree has.
+    fn count(&mut self, at: Self::At) -> u64
+        requires room { 8192 ≤ (state self.old).room }
+        requires node { (shown self.old).is_node at }
+        ensures count { result ≡ count ((shown self.old).tree at) }
+        ensures shows { shared at ≡ true → Shows (gave (field.Num result) ∷ [])
+            (state self.old).marks (state self.new).marks }
+        ensures pass { (state self.new).pass ≡ (state self.old).pass }
+        ensures rests { Rests 0 (state self.old) (state self.new) }
+        ensures still { Still (shown self.old) (shown self.new) };
+
+    /// The client's draft.
+    fn draft(&self) -> Self::At
+        ensures node { (shown self.now).is_node result }
+        ensures tree { (shown self.now).tree result ≡ (state self.now).draft };
+
+    /// The tree with a text at a path, as doc_tree's edit of that name; so the two below.
+    fn set_text(&mut self, root: Self::At, path: &Path, text: &Text) -> Result<Self::At, EditFault>
+        requires room { 20000 ≤ (state self.old).room }
+        requires spare { 2285 ≤ (state self.old).spare }
+        requires node { (shown self.old).is_node root }
+        ensures tree { answered (shown self.new).tree result
+            ≡ set_text path.now text.now ((shown self.old).tree root) }
+        ensures node { IfOk result (λ at. (shown self.new).is_node at) }
+        ensures edits { Edits 0 (state self.old) (state self.new) }
+        ensures still { Still (shown self.old) (shown self.new) };
+
+    /// The tree without the node at a path.
+    fn delete(&mut self, root: Self::At, path: &Path) -> Result<Self::At, EditFault>
+        requires room { 20000 ≤ (state self.old).room }
+        requires spare { 2285 ≤ (state self.old).spare }
+        requires node { (shown self.old).is_node root }
+        ensures tree { answered (shown self.new).tree result
+            ≡ delete path.now ((shown self.old).tree root) }
+        ensures node { IfOk result (λ at. (shown self.new).is_node at) }
+        ensures edits { Edits 0 (state self.old) (state self.new) }
+        ensures still { Still (shown self.old) (shown self.new) };
+
+    /// The tree with another node's tree at a path.
+    fn attach(&mut self, root: Self::At, path: &Path, sub: Self::At) -> Result<Self::At, EditFault>
+        requires room { 20000 ≤ (state self.old).room }
+        requires spare { 2285 ≤ (state self.old).spare }
+        requires node { (shown self.old).is_node root }
+        requires sub { (shown self.old).is_node sub }
+        ensures tree { answered (shown self.new).tree result
+            ≡ attach path.now ((shown self.old).tree sub) ((shown self.old).tree root) }
+        ensures node { IfOk result (λ at. (shown self.new).is_node at) }
+        ensures edits { Edits 0 (state self.old) (state self.new) }
+        ensures still { Still (shown self.old) (shown self.new) };
+
+    /// The node's tree is the draft from then on, and the places that are held stay.
+    fn set_draft(&mut self, at: Self::At)
+        requires room { 9100 ≤ (state self.old).room }
+        requires node { (shown self.old).is_node at }
+        ensures draft { (state self.new).draft ≡ (shown self.old).tree at }
+        ensures pass { (state self.new).pass ≡ (state self.old).pass }
+        ensures room { (state self.old).room ≤ (state self.new).room }
+        ensures lasts { Lasts (state self.old) (state self.new) };
+
+    /// Makes the next version, with the node's tree, over a version that is held: the node is
+    /// promoted, and then committed. It is not tried again where another client was faster.
+    fn publish<R: Wait>(
+        &mut self,
+        rt: &R,
+        v: HeldVersion,
+        at: Self::At,
+        versions: u64,
+    ) -> Result<u64, CommitRefusal>
+        requires room { 8192 ≤ (state self.old).room }
+        requires version { (shown self.old).is_version v }
+        requires node { (shown self.old).is_node at }
+        requires below { v.number < versions }
+        requires few { length (commit_numbers (state self.old).pass) < 100000 }
+        ensures number { IfOk result (λ number. number ≡ v.number + 1) }
+        ensures pass { OnOk result ((state self.new).pass ≡ committed (v.number + 1)
+            ((shown self.old).root v) ((shown self.old).tree at) (state self.old).pass) }
+        ensures rose { OnOk result ((state self.old).claims < (state self.new).claims) }
+        ensures same { OnErr result (commit_numbers (state self.new).pass
+            ≡ commit_numbers (state self.old).pass) }
+        ensures moved { result ≡ Err CommitRefusal.Moved → v.number < (state self.new).pass.seen }
+        ensures full { result ≡ Err CommitRefusal.Full → Had (IsFull (state self.old).cells)
+            (state self.old).marks (state self.new).marks }
+        ensures draft { (state self.new).draft ≡ (state self.old).draft }
+        ensures base { (state self.new).base ≡ (state self.old).base }
+        ensures room { (state self.old).room ≤ (state self.new).room + 1 }
+        ensures lasts { Lasts (state self.old) (state self.new) };
+
+    /// Cuts off what is older than is kept.
+    fn trim(&mut self, v: HeldVersion, keep: u64)
+        requires room { 8192 ≤ (state self.old).room }
+        requires version { (shown self.old).is_version v }
+        requires keep { keep ≡ (state self.old).pass.keep }
+        ensures due { v.number + 1 ≤ (state self.new).pass.cut + keep }
+        ensures rests { Rests 0 (state self.old) (state self.new) };
+
+    /// Makes room for an edit, by a minor collection where there is too little.
+    fn make_room<R: Wait>(&mut self, rt: &R) -> Result<(), HeapFull>
+        requires ready { IsReady (state self.old) }
+        ensures room { OnOk result (20480 ≤ (state self.new).room) }
+        ensures spare { OnOk result (2285 ≤ (state self.new).spare) }
+        ensures full { OnErr result (Had (IsFull (state self.old).cells)
+            (state self.old).marks (state self.new).marks) }
+        ensures kept { (state self.old).room ≤ (state self.new).room }
+        ensures pass { (state self.new).pass ≡ (state self.old).pass }
+        ensures draft { (state self.new).draft ≡ (state self.old).draft }
+        ensures small { StaysSmall (state self.old) (state self.new) }
+        ensures lasts { Lasts (state self.old) (state self.new) };
+
+    /// Gives back all places but those that the draft needs.
+    fn settle(&mut self)
+        ensures room { 9100 ≤ (state self.new).room }
+        ensures pass { (state self.new).pass ≡ (state self.old).pass }
+        ensures rests { Rests 0 (state self.old) (state self.new) };
+}

@@ -1,0 +1,50 @@
+//! What a client keeps of its commands.
+ghost use Rattle.std.specs.Prelude.{◌≡◌, ◌≤◌, []};
+
+use doc_model::Log;
+use std::alloc::Global;
+
+/// How many versions can be asked for, and the number of the last that can be made.
+#[derive(Clone, Copy, Debug, PartialEq, Eq)]
+pub struct Limits {
+    pub keep: u32,
+    pub versions: u32,
+}
+
+/// A client's log, with the place of its last entry. The commands that it answers are calls of
+/// `answer`.
+#[derive(Debug, Drop)]
+pub struct Journal {
+    pub(crate) limits: Limits,
+    pub(crate) last: u64,
+    pub(crate) log: Log,
+}
+
+impl Journal {
+    /// The journal of a client that was answered nothing yet.
+    pub fn new(alloc: Global, client: u32, limits: Limits) -> Journal
+        requires client { (1 ≤ client) × (client ≤ 64) }
+        ensures limits { result.limits ≡ limits }
+        ensures last { result.last ≡ 0 }
+        ensures client { result.log.client ≡ client }
+        ensures entries { result.log.entries ≡ [] }
+    {
+        Journal {
+            limits,
+            last: 0,
+            log: Log::new(alloc, client),
+        }
+    }
+
+    pub fn log(&self) -> &Log
+        ensures { result.now ≡ self.now.log }
+    {
+        &self.log
+    }
+
+    pub fn into_log(self) -> Log
+        ensures { result ≡ self.log }
+    {
+        self.log
+    }
+}

@@ -1,0 +1,26 @@
+//! A client's session: its commands one after another, over whatever holds its cells, its private
+//! records and its draft.
+//!
+//! What a session needs of the heap is the trait `ClientHeap`, in the words of trees and versions.
+//! A command is one turn: it reads the latest version, and what it makes becomes the next one, or
+//! else the draft. Where another client was faster the turn begins again. The layer above may rely
+//! on this: every answer is that of the store's definitions, over each list of versions that the
+//! pass allows; the log stays in step with the pass and with the trail; and after want of memory
+//! nothing was made.
+//!
+//! Reading order: specs/Handles, Turns; then `held`, `heap`, `journal`, `given`, `reading`,
+//! `drafting`, `committing`, `turns`.
+#![tactic(auto)]
+
+mod committing;
+mod drafting;
+mod given;
+mod heap;
+mod held;
+mod journal;
+mod reading;
+mod turns;
+
+pub use crate::heap::ClientHeap;
+pub use crate::held::{CommitRefusal, HeapFull, HeldVersion};
+pub use crate::journal::{Journal, Limits};

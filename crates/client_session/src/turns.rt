@@ -1,0 +1,146 @@
+//! Answering: a turn for each try, until one has an answer; then the entry.
+ghost use Rattle.std.specs.Prelude.{◌≡◌, ◌≤◌, ◌<◌, ◌+◌, IfOk, OnErr, length};
+ghost use Rattle.std.specs.Prelude.{[], ◌∷◌, ◌++◌};
+ghost use Rattle.client_session.specs.Turns.{Answered, Ends, Enters, InStep, MayTurn};
+ghost use Rattle.client_turns.specs.State.{IsReady};
+ghost use Rattle.client_turns.specs.Turns.{Lost};
+
+use crate::given::Given;
+use crate::heap::ClientHeap;
+use crate::journal::Journal;
+use doc_model::{Command, Entry, Reply};
+use doc_tree::NoMemory;
+use std::alloc::Global;
+use std::sync::Wait;
+
+impl Journal {
+    /// One try of a command.
+    fn try_once<H: ClientHeap, R: Wait>(
+        &self,
+        alloc: Global,
+        rt: &R,
+        heap: &mut H,
+        command: &Command,
+    ) -> Result<Option<Given>, NoMemory>
+        requires may { MayTurn self.now (H.state heap.old) }
+        requires room { 9100 ≤ (H.state heap.old).room }
+        ensures ends { Ends self.now command.now (H.state heap.old) (H.state heap.new) result }
+    {
+        match command {
+            Command::Put { path, text } => self.put(rt, heap, path, text),
+            Command::Del { path } => self.del(rt, heap, path),
+            Command::Copy { from, to } => self.copy(rt, heap, from, to),
+            Command::Get { path } => self.get(alloc, heap, path),
+            Command::List { path } => self.list(alloc, heap, path),
+            Command::Size { path } => self.size(heap, path),
+            Command::Old { back, path } => self.old(alloc, heap, *back, path),
+            Command::DraftPut { path, text } => self.draft_put(rt, heap, path, text),
+            Command::DraftGet { path } => self.draft_get(alloc, heap, path),
+            Command::Take { path } => self.take(rt, heap, path),
+            Command::Publish { path } => self.publish(rt, heap, path),
+        }
+    }
+
+    /// A turn: a try, with only the draft's places held before it and after it.
+    fn turn<H: ClientHeap, R: Wait>(
+        &self,
+        alloc: Global,
+        rt: &R,
+        heap: &mut H,
+        command: &Command,
+    ) -> Result<Option<Given>, NoMemory>
+        requires may { MayTurn self.now (H.state heap.old) }
+        requires ready { IsReady (H.state heap.old) }
+        ensures ends { Ends self.now command.now (H.state heap.old) (H.state heap.new) result }
+    {
+        heap.settle();
+        let ended = self.try_once(alloc, rt, heap, command);
+        heap.settle();
+        ended
+    }
+
+    /// Turns, until one is not lost.
+    fn turns<H: ClientHeap, R: Wait>(
+        &self,
+        alloc: Global,
+        rt: &R,
+        heap: &mut H,
+        command: &Command,
+    ) -> Result<Given, NoMemory>
+        requires may { MayTurn self.now (H.state heap.old) }
+        requires ready { IsReady (H.state heap.old) }
+        ensures answered { IfOk result (λ given.
+            Answered self.now command.now (H.state heap.old) (H.state heap.new) given) }
+        ensures lost { OnErr result (Lost (H.state heap.old) (H.state heap.new)) }
+    {
+        for _ in rt.forever() {
+            let ended = self.turn(alloc, rt, heap, command)?;
+            match ended {
+                Some(given) => return Ok(given),
+                None => {}
+            }
+        }
+        unreachable!()
+    }
+
+    /// Answers the client's next command, with an entry in its log. A turn that another client cut
+    /// short is taken again, from the newer version. All memory is taken before a version is made:
+    /// where it is wanting nothing is made, and the draft and the log are as before.
+    pub fn answer<H: ClientHeap, R: Wait>(
+        &mut self,
+        alloc: Global,
+        rt: &R,
+        heap: &mut H,
+        command: &Command,
+    ) -> Result<Reply, NoMemory>
+        requires step { InStep self.old (H.state heap.old) }
+        requires ready { IsReady (H.state heap.old) }
+        requires few { length self.old.log.entries < 100_000 }
+        requires client { (1 ≤ self.old.log.client) × (self.old.log.client ≤ 64) }
+        ensures enters { IfOk result (λ reply. Enters self.old self.new command.now reply
+            (H.state heap.old) (H.state heap.new)) }
+        ensures step { InStep self.new (H.state heap.new) }
+        ensures ready { IsReady (H.state heap.new) }
+        ensures limits { self.new.limits ≡ self.old.limits }
+        ensures client { self.new.log.client ≡ self.old.log.client }
+        ensures last { OnErr result (self.new.last ≡ self.old.last) }
+        ensures entries { OnErr result (self.new.log.entries ≡ self.old.log.entries) }
+        ensures lost { OnErr result (Lost (H.state heap.old) (H.state heap.new)) }
+    {
+        self.log.reserve(1)?;
+        let copied = command.copy()?;
+        let given = self.turns(alloc, rt, heap, command)?;
+        let reply = self.enter(copied, given);
+        Ok(reply)
+    }
+
+    /// Takes an answer into the log, and hands its reply on.
+    fn enter(&mut self, command: Command, given: Given) -> Reply
+        requires spare { 1 ≤ self.old.log.spare }
+        requires few { length self.old.log.entries < 100_000 }
+        ensures reply { result ≡ given.reply }
+        ensures entries { self.new.log.entries ≡ self.old.log.entries ++ record {
+          client = self.old.log.client;
+          number = length self.old.log.entries + 1;
+          command = command;
+          reply = given.kept;
+          place = given.place;
+        } ∷ [] }
+        ensures client { self.new.log.client ≡ self.old.log.client }
+        ensures last { self.new.last ≡ given.place }
+        ensures limits { self.new.limits ≡ self.old.limits }
+    {
+        let Given { reply, kept, place } = given;
+        let number = self.log.entries().len() as u32 + 1;
+        let client = self.log.client();
+        self.log.push(Entry {
+            client,
+            number,
+            command,
+            reply: kept,
+            place,
+        });
+        self.last = place;
+        reply
+    }
+}
