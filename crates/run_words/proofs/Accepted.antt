@@ -3,8 +3,10 @@
 -- A parse gives each entry that it makes a value that passed the parser of an argument with the
 -- entry's id. Building a command adds no argument with an id of the command's own, and leaves the
 -- parsers of those that it has.
-use Rattle.std.proofs.Common.{◌≡◌, ◌∙◌, ◌<◌, ◌≤◌, ◌⊎◌, ap, ℕ, true, List, [], ◌∷◌, length, map}
-use Rattle.std.proofs.Common.{Option, Some, None, refl, sym, subst, inl, inr, arith, suc, zero, false}
+use Rattle.std.proofs.Common.{◌≡◌, ◌∙◌, ◌<◌, ◌≤◌, ◌⊎◌, ap, ℕ, true}
+use Rattle.std.proofs.Common.{List, [], ◌∷◌, length, map}
+use Rattle.std.proofs.Common.{Option, Some, None, refl, sym, subst, inl, inr, arith, suc, zero}
+use Rattle.std.proofs.Common.{false}
 use Rattle.std.proofs.lemmas.Bool.{cases_lt}
 use Rattle.std.specs.List.{All, slice_index_or}
 use Rattle.std.specs.Prelude.{option_map, slice_get}
@@ -13,7 +15,8 @@ use Rattle.std.specs.Borrow.{Bor}
 use Rattle.std.proofs.lemmas.List.Elements.{All-get_or}
 use Rattle.std.proofs.lemmas.Slice.Eq.{bytes_eq-Decides}
 use Rattle.clap.specs.Built.{IsAuto, IsParsedFrom, NamesNoGroup}
-use Rattle.clap.specs.Facts.{Entry, EntryPasses, HasReading, PassesArg, args_of, groups_of, parser_of}
+use Rattle.clap.specs.Facts.{Entry, EntryPasses, HasReading, PassesArg, args_of, groups_of}
+use Rattle.clap.specs.Facts.{parser_of}
 use Rattle.clap.specs.Facts.{parser_of_value}
 use Rattle.clap.specs.Matches.{found_of, matched_of, one_text}
 use Rattle.clap.specs.Simple.{app_of, is_simple}

@@ -1,5 +1,6 @@
 -- A list's first element, and those behind it as the code takes them.
-use Rattle.std.proofs.Common.{◌≡◌, ◌-◌, ◌≤◌, ℕ, List, [], ◌∷◌, length, take, drop, get_or, take_all}
+use Rattle.std.proofs.Common.{◌≡◌, ◌-◌, ◌≤◌, ℕ, List, [], ◌∷◌, length, take}
+use Rattle.std.proofs.Common.{drop, get_or, take_all}
 use Rattle.std.proofs.Common.{refl, arith}
 
 pub first_and_behind : {X : Type 0} (xs : List X) (x : X) → 1 ≤ length xs → x ≡ get_or xs 0 x

@@ -1,5 +1,6 @@
 -- What a command reads in words that it takes, and in words that it refuses.
-use Rattle.std.proofs.Common.{◌≡◌, ◌∙◌, ap, sym, subst, List, [], ◌∷◌, Option, Some, None, refl}
+use Rattle.std.proofs.Common.{◌≡◌, ◌∙◌, ap, sym, subst, List, [], ◌∷◌, Option}
+use Rattle.std.proofs.Common.{Some, None, refl}
 use Rattle.std.specs.Prelude.{Result, Err, ok_or, option_map}
 use Rattle.clap.specs.Words.{App, Kinds, Row, Text, fault_of, matches_of}
 use Rattle.run_words.specs.Requests.{Gives, read_by, taken}

@@ -6,8 +6,10 @@
 -- that is printed is one of those that are made, and a run has a file. (No command line reaches the
 -- second, since `clap` takes no `run` without one; so no proof has to go through its walk.)
 -- Source: this project's own.
-use Rattle.std.specs.Prelude.{◌≡◌, ℕ, Bool, List, [], ◌∷◌, Option, Some, None, Result, Ok, Err}
-use Rattle.std.specs.Prelude.{bytes_eq, codes, cond, if◌then◌else◌, map, nat_le, option_and_then}
+use Rattle.std.specs.Prelude.{◌≡◌, ℕ, Bool, List, [], ◌∷◌, Option, Some, None, Result}
+use Rattle.std.specs.Prelude.{Ok, Err}
+use Rattle.std.specs.Prelude.{bytes_eq, codes, cond, if◌then◌else◌, map, nat_le}
+use Rattle.std.specs.Prelude.{option_and_then}
 use Rattle.std.specs.Prelude.{option_map, unwrap_or}
 use Rattle.clap.specs.Words.{App, Kinds, Row, Text, all_of, fault_of, first_of, matches_of}
 use Rattle.clap.specs.Words.{one_of}

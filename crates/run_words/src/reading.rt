@@ -7,7 +7,8 @@ ghost use Rattle.run_words.specs.Readings.{AreAccepted};
 ghost use Rattle.run_words.specs.Requests.{Gen, Gives, Replay, Run, asked_by, gen_found, gen_of};
 ghost use Rattle.run_words.specs.Requests.{if_printable, if_some_file, replay_of, request_behind};
 ghost use Rattle.run_words.specs.Requests.{request_of, run_asked_by, run_found, run_of};
-ghost use Rattle.std.specs.Prelude.{IfOk, IfSome, map, option_map, string_bytes, ◌≡◌, ◌≤◌};
+ghost use Rattle.std.specs.Prelude.{IfOk, IfSome, map, option_map, string_bytes, ◌≡◌};
+ghost use Rattle.std.specs.Prelude.{◌≤◌};
 
 use crate::commands::{gen_command, replay_command, run_command};
 use crate::limits::{CELLS, CLIENTS, COMMANDS, CYCLES, KEEP, MINOR, START, VERSIONS};
@@ -18,7 +19,8 @@ use std::alloc::{AllocError, Global};
 
 /// What the words behind the program's name ask for.
 pub fn read_words<'a>(alloc: Global, words: &'a [String]) -> Result<Request<'a>, WordsFault>
-    ensures request { Gives asked_by result (request_of (map string_bytes words.entry.now)) }
+    ensures request { Gives asked_by result
+        (request_of (map string_bytes words.entry.now)) }
     ensures within { IfOk result IsWithin }
 {
     match words {
@@ -33,7 +35,8 @@ fn read_behind<'a>(
     word: &str,
     words: &'a [String],
 ) -> Result<Request<'a>, WordsFault>
-    ensures request { Gives asked_by result (request_behind word.now (map string_bytes words.entry.now)) }
+    ensures request { Gives asked_by result
+        (request_behind word.now (map string_bytes words.entry.now)) }
     ensures within { IfOk result IsWithin }
 {
     match word {
@@ -45,7 +48,8 @@ fn read_behind<'a>(
 }
 
 fn run_request<'a>(alloc: Global, words: &'a [String]) -> Result<Request<'a>, WordsFault>
-    ensures request { Gives asked_by result (option_map Run (run_of (map string_bytes words.entry.now))) }
+    ensures request { Gives asked_by result
+        (option_map Run (run_of (map string_bytes words.entry.now))) }
     ensures within { IfOk result IsWithin }
 {
     match run_words(alloc, words) {
@@ -55,7 +59,8 @@ fn run_request<'a>(alloc: Global, words: &'a [String]) -> Result<Request<'a>, Wo
 }
 
 fn replay_request<'a>(alloc: Global, words: &'a [String]) -> Result<Request<'a>, WordsFault>
-    ensures request { Gives asked_by result (option_map Replay (replay_of (map string_bytes words.entry.now))) }
+    ensures request { Gives asked_by result
+        (option_map Replay (replay_of (map string_bytes words.entry.now))) }
     ensures within { IfOk result IsWithin }
 {
     match replay_words(alloc, words) {
@@ -65,7 +70,8 @@ fn replay_request<'a>(alloc: Global, words: &'a [String]) -> Result<Request<'a>,
 }
 
 fn gen_request<'a>(alloc: Global, words: &'a [String]) -> Result<Request<'a>, WordsFault>
-    ensures request { Gives asked_by result (option_map Gen (gen_of (map string_bytes words.entry.now))) }
+    ensures request { Gives asked_by result
+        (option_map Gen (gen_of (map string_bytes words.entry.now))) }
     ensures within { IfOk result IsWithin }
 {
     match gen_words(alloc, words) {
@@ -76,7 +82,8 @@ fn gen_request<'a>(alloc: Global, words: &'a [String]) -> Result<Request<'a>, Wo
 
 // The words behind `run`.
 fn run_words<'a>(alloc: Global, words: &'a [String]) -> Result<RunWords<'a>, WordsFault>
-    ensures run { Gives run_asked_by result (run_of (map string_bytes words.entry.now)) }
+    ensures run { Gives run_asked_by result
+        (run_of (map string_bytes words.entry.now)) }
     ensures within { IfOk result IsRunWithin }
 {
     let command = run_command(alloc)?;
@@ -123,7 +130,8 @@ fn some_file(run: RunWords<'_>) -> Result<RunWords<'_>, WordsFault>
 
 // The words behind `replay`.
 fn replay_words<'a>(alloc: Global, words: &'a [String]) -> Result<&'a str, WordsFault>
-    ensures { Gives (λ name. name.now) result (replay_of (map string_bytes words.entry.now)) }
+    ensures { Gives (λ name. name.now) result
+        (replay_of (map string_bytes words.entry.now)) }
 {
     let command = replay_command(alloc)?;
     match matches_on(command, words) {
@@ -134,7 +142,8 @@ fn replay_words<'a>(alloc: Global, words: &'a [String]) -> Result<&'a str, Words
 
 // The words behind `gen`.
 fn gen_words(alloc: Global, words: &[String]) -> Result<GenWords, WordsFault>
-    ensures made { Gives (λ made. made) result (gen_of (map string_bytes words.now)) }
+    ensures made { Gives (λ made. made) result
+        (gen_of (map string_bytes words.now)) }
     ensures within { IfOk result IsGenWithin }
 {
     let command = gen_command(alloc)?;

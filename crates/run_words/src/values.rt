@@ -20,10 +20,14 @@ pub(crate) fn matches_on<'a>(
     words: &'a [String],
 ) -> Result<ArgMatches<'a>, WordsFault>
     requires simple { is_simple_and_free (app_of command) ≡ true }
-    ensures takes { IfOk result (λ _. fault_of (app_of command.entry) (map string_bytes words.entry.now) ≡ []) }
-    ensures rows { IfOk result (λ matches. rows_of (found_of matches) ≡ matches_of (app_of command.entry) (map string_bytes words.entry.now)) }
-    ensures accepted { IfOk result (λ matches. AreAccepted (app_of command.entry).top.rules (rows_of (found_of matches))) }
-    ensures usage { IfErr result (λ error. error ≡ fault.Usage → fault_of (app_of command.entry) (map string_bytes words.entry.now) ≢ []) }
+    ensures takes { IfOk result (λ _.
+        fault_of (app_of command.entry) (map string_bytes words.entry.now) ≡ []) }
+    ensures rows { IfOk result (λ matches. rows_of (found_of matches)
+        ≡ matches_of (app_of command.entry) (map string_bytes words.entry.now)) }
+    ensures accepted { IfOk result (λ matches.
+        AreAccepted (app_of command.entry).top.rules (rows_of (found_of matches))) }
+    ensures usage { IfErr result (λ error. error ≡ fault.Usage
+        → fault_of (app_of command.entry) (map string_bytes words.entry.now) ≢ []) }
 {
     match command.try_get_matches_from(words) {
         Ok(matches) => Ok(matches),
@@ -34,9 +38,11 @@ pub(crate) fn matches_on<'a>(
 
 /// The number of an argument, if it has one.
 pub(crate) fn number(matches: &ArgMatches<'_>, id: &str, limits: Limits) -> Option<u32>
-    requires { IsNumberWithin id.now limits.least limits.most (rows_of (found_of matches.now)) }
+    requires { IsNumberWithin id.now limits.least limits.most
+        (rows_of (found_of matches.now)) }
     ensures number { result ≡ number_in (one_of id.now (rows_of (found_of matches.now))) }
-    ensures within { IfSome result (λ number. (limits.least ≤ number) × (number ≤ limits.most)) }
+    ensures within { IfSome result (λ number.
+        (limits.least ≤ number) × (number ≤ limits.most)) }
 {
     match wide_number(matches, id, limits) {
         None => None,
@@ -46,9 +52,11 @@ pub(crate) fn number(matches: &ArgMatches<'_>, id: &str, limits: Limits) -> Opti
 
 // The same, as `clap` reads it.
 fn wide_number(matches: &ArgMatches<'_>, id: &str, limits: Limits) -> Option<u64>
-    requires { IsNumberWithin id.now limits.least limits.most (rows_of (found_of matches.now)) }
+    requires { IsNumberWithin id.now limits.least limits.most
+        (rows_of (found_of matches.now)) }
     ensures number { result ≡ number_in (one_of id.now (rows_of (found_of matches.now))) }
-    ensures within { IfSome result (λ number. (limits.least ≤ number) × (number ≤ limits.most)) }
+    ensures within { IfSome result (λ number.
+        (limits.least ≤ number) × (number ≤ limits.most)) }
 {
     let _limits = limits;
     let Ok(number) = matches.try_get_one::<u64>(id) else {
@@ -59,9 +67,11 @@ fn wide_number(matches: &ArgMatches<'_>, id: &str, limits: Limits) -> Option<u64
 
 /// The number of an argument, or what stands for it where it has none.
 pub(crate) fn number_or(matches: &ArgMatches<'_>, id: &str, limits: Limits, otherwise: u32) -> u32
-    requires number { IsNumberWithin id.now limits.least limits.most (rows_of (found_of matches.now)) }
+    requires number { IsNumberWithin id.now limits.least limits.most
+        (rows_of (found_of matches.now)) }
     requires otherwise { (limits.least ≤ otherwise) × (otherwise ≤ limits.most) }
-    ensures number { result ≡ unwrap_or (number_in (one_of id.now (rows_of (found_of matches.now)))) otherwise }
+    ensures number { result
+        ≡ unwrap_or (number_in (one_of id.now (rows_of (found_of matches.now)))) otherwise }
     ensures within { (limits.least ≤ result) × (result ≤ limits.most) }
 {
     number(matches, id, limits).unwrap_or(otherwise)
@@ -83,7 +93,8 @@ pub(crate) fn names<'a>(
     matches: &ArgMatches<'a>,
     id: &str,
 ) -> Result<Vec<&'a str>, AllocError>
-    ensures { IfOk result (λ names. map (λ name. name.now) names.items ≡ names_in (all_of id.now (rows_of (found_of matches.now)))) }
+    ensures { IfOk result (λ names. map (λ name. name.now) names.items
+        ≡ names_in (all_of id.now (rows_of (found_of matches.now)))) }
 {
     match matches.get_strs(id) {
         None => Ok(Vec::new(alloc)),
@@ -93,7 +104,8 @@ pub(crate) fn names<'a>(
 
 /// The text of an argument, if it has one.
 pub(crate) fn name<'a>(matches: &ArgMatches<'a>, id: &str) -> Option<&'a str>
-    ensures { option_map (λ name. name.now) result ≡ first_of id.now (rows_of (found_of matches.now)) }
+    ensures { option_map (λ name. name.now) result
+        ≡ first_of id.now (rows_of (found_of matches.now)) }
 {
     matches.get_str(id)
 }

@@ -1,5 +1,6 @@
 -- One line more of those that are left.
-use Rattle.std.proofs.Common.{append_assoc, ◌≡◌, ◌∙◌, ap, ap₂, sym, ℕ, suc, ◌+◌, ◌-◌, ◌<◌, List}
+use Rattle.std.proofs.Common.{append_assoc, ◌≡◌, ◌∙◌, ap, ap₂, sym, ℕ, suc, ◌+◌}
+use Rattle.std.proofs.Common.{◌-◌, ◌<◌, List}
 use Rattle.std.proofs.Common.{◌++◌, refl, arith}
 use Rattle.script_generator.specs.Draws.{drawn_at, state_after}
 use Rattle.script_generator.specs.Generated.{line_text_of, lines_from}

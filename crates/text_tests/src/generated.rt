@@ -7,7 +7,10 @@ use std::test::Fail;
 fn two_draws_make_a_line(rt: HostRuntime) -> Result<(), Fail> {
     let alloc = rt.alloc();
     let script = generated(alloc, 1, 1, 2)?;
-    assert_eq!(rt; script.as_slice(), b"get c1/n1\ncopy c1/n18 c1/m18\n".as_slice());
+    assert_eq!(rt;
+        script.as_slice(),
+        b"get c1/n1\ncopy c1/n18 c1/m18\n".as_slice()
+    );
     let script = generated(alloc, 7, 16, 9)?;
     let lines = b"put c16/n23 t20599\nput c16/n26 t14586\nput c16/n11 t19179\n\
         copy c16/n12 c16/m12\nput c16/n6 t7270\ndput n6 t26182\ndel c16/n22\ndel c16/n11\n\
