@@ -7,12 +7,14 @@
 //! read of a shared record is one event of the mutator, which the pool's marks show; a new record is
 //! always private. Nothing here takes memory or waits.
 //!
-//! Reading order: specs/Records; then `at`, `records`, `pool`.
+//! Reading order: specs/Records; then `at`, `seat`, `records`, `pool`.
 #![tactic(auto)]
 
 mod at;
 mod pool;
 mod records;
+mod seat;
 
 pub use at::NodeAt;
 pub use records::ClientRecords;
+pub use seat::ClientSeat;

@@ -1,25 +1,21 @@
 //! A mutator and a private heap, borrowed while trees are read and made.
 ghost use Rattle.std.specs.Prelude.{◌≡◌, true};
 
-use heap_rule::Keeping;
+use crate::seat::ClientSeat;
 use minor_heap::MinorHeap;
-use mutator_seat::Mutator;
 
 /// A mutator that is in, and its private heap.
 #[derive(Drop)]
-pub struct ClientRecords<'a, 'h, P: Keeping> {
-    pub(crate) mutator: &'a mut Mutator<'h, P>,
+pub struct ClientRecords<'a, M: ClientSeat> {
+    pub(crate) mutator: &'a mut M,
     pub(crate) minor: &'a mut MinorHeap,
-    ghost inside: { mutator.now.seat.me.presence.inside ≡ true },
+    ghost inside: { (M.bound mutator.now).seat.me.presence.inside ≡ true },
 }
 
-impl<'a, 'h, P: Keeping> ClientRecords<'a, 'h, P> {
+impl<'a, M: ClientSeat> ClientRecords<'a, M> {
     /// The records of a client.
-    pub fn new(
-        mutator: &'a mut Mutator<'h, P>,
-        minor: &'a mut MinorHeap,
-    ) -> ClientRecords<'a, 'h, P>
-        requires inside { mutator.old.seat.me.presence.inside ≡ true }
+    pub fn new(mutator: &'a mut M, minor: &'a mut MinorHeap) -> ClientRecords<'a, M>
+        requires inside { (M.bound mutator.old).seat.me.presence.inside ≡ true }
         ensures mutator { result.mutator.ghost_name ≡ mutator.entry.ghost_name }
         ensures minor { result.minor.ghost_name ≡ minor.entry.ghost_name }
         ensures same { result.mutator.now ≡ mutator.old }

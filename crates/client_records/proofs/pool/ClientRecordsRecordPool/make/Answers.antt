@@ -7,8 +7,9 @@ use Rattle.client_records.proofs.pool.ClientRecordsRecordPool.make.Goals as goal
 pub make-requires : goal.make-requires
 make-requires g c =
     let was = c.args.self.now in
-    let v = was.mutator.now.seat.me in
-    let outside = outside_of was.mutator.now (was.mutator.ghost_name, was.minor.ghost_name) in
+    let m = g.M.ClientSeat.bound was.mutator.now in
+    let v = m.seat.me in
+    let outside = outside_of m (was.mutator.ghost_name, was.minor.ghost_name) in
     let p1 =
     field_fits v outside was.minor.now c.args.first _ c.field_of.ensures c.requires.first in
     let p2 =
@@ -24,8 +25,9 @@ make-requires g c =
 pub returns-clause-term : goal.returns-clause-term
 returns-clause-term g c =
     let was = c.args.self.now in
-    let v = was.mutator.now.seat.me in
-    let outside = outside_of was.mutator.now (was.mutator.ghost_name, was.minor.ghost_name) in
+    let m = g.M.ClientSeat.bound was.mutator.now in
+    let v = m.seat.me in
+    let outside = outside_of m (was.mutator.ghost_name, was.minor.ghost_name) in
     new_term v outside was.minor.now c.make.new.self _
     record {
       room = c.make.ensures.room;
@@ -49,8 +51,9 @@ returns-clause-term g c =
 pub returns-clause-stands : goal.returns-clause-stands
 returns-clause-stands g c =
     let was = c.args.self.now in
-    let v = was.mutator.now.seat.me in
-    let outside = outside_of was.mutator.now (was.mutator.ghost_name, was.minor.ghost_name) in
+    let m = g.M.ClientSeat.bound was.mutator.now in
+    let v = m.seat.me in
+    let outside = outside_of m (was.mutator.ghost_name, was.minor.ghost_name) in
     stands_made v outside was.minor.now c.make.new.self _
     record {
       room = c.make.ensures.room;
@@ -68,8 +71,9 @@ returns-clause-stands g c =
 pub returns-clause-later : goal.returns-clause-later
 returns-clause-later g c =
     let was = c.args.self.now in
-    let v = was.mutator.now.seat.me in
-    let outside = outside_of was.mutator.now (was.mutator.ghost_name, was.minor.ghost_name) in
+    let m = g.M.ClientSeat.bound was.mutator.now in
+    let v = m.seat.me in
+    let outside = outside_of m (was.mutator.ghost_name, was.minor.ghost_name) in
     later_made v outside was.minor.now c.make.new.self _
     record {
       room = c.make.ensures.room;

@@ -6,16 +6,16 @@ use Rattle.doc_records.specs.declared.pool.Part.{Part}
 use Rattle.client_records.specs.declared.at.NodeAt.{NodeAt}
 use Rattle.client_records.specs.Records.{Outside, SharedRead, known_term, outside_of, part_held}
 use Rattle.client_records.proofs.Readings.{event_reads, outside_same}
-use Rattle.client_records.proofs.pool.read_shared.Goals as goal
+use Rattle.client_records.proofs.seat.MutatorClientSeat.read_part.Goals as goal
 
 pub read-requires-clause-rule : goal.read-requires-clause-rule
 read-requires-clause-rule g c =
-    let v = c.args.mutator.now.seat.me in
+    let v = c.args.self.now.seat.me in
     read_picks g.P.Keeping.holds g.P.Keeping.fixed v v.number c.args.place c.args.index
 
 pub returns-clause-reads : goal.returns-clause-reads
 returns-clause-reads g c = λ minor names ordered.
-    let m = c.args.mutator.now in
+    let m = c.args.self.now in
     let v = m.seat.me in
     let told = c.read.ensures.told in
     let w = c.read.new.self.seat.me in

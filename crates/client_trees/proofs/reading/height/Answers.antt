@@ -1,0 +1,23 @@
+use Rattle.std.proofs.Common.{ℕ, ◌≡◌, rules}
+use Rattle.client_trees.proofs.Leaving.{all_given_back, same_minor, same_mutator}
+use Rattle.client_trees.proofs.reading.height.Goals as goal
+
+pub returns-clause-leaves : goal.returns-clause-leaves
+returns-clause-leaves g c =
+    let bound = g.M.ClientSeat.bound in
+    let p = c.new-records.result in
+    let q = c.height-height.new.records in
+    let names : ℕ × ℕ = (p.mutator.ghost_name, p.minor.ghost_name) in
+    let others : ℕ × ℕ = (q.mutator.ghost_name, q.minor.ghost_name) in
+    let later = c.height-height.ensures.later in
+    let m_name = same_mutator (bound p.mutator.now) (bound q.mutator.now) p.minor.now q.minor.now
+    names others later in
+    let m_is : c.m-1.given.0 ≡ q.mutator.now = search (rules, m_name) in
+    let minor_name = same_minor (bound p.mutator.now) (bound q.mutator.now) p.minor.now q.minor.now
+    names others later in
+    let minor_is : c.minor-1.given.0 ≡ q.minor.now = search (rules, minor_name) in
+    all_given_back bound c.args.m.now c.m-1.given.0 p.mutator.now q.mutator.now c.args.minor.now
+    c.minor-1.given.0 p.minor.now q.minor.now names others later c.new-records.ensures.same
+    c.new-records.ensures.records m_is minor_is c.spare-spare.result c.spare-spare-2.result
+    c.spare-spare.ensures.spare c.spare-spare-2.ensures.spare c.height-height.ensures.records
+    c.height-height.ensures.held
