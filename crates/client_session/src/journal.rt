@@ -1,5 +1,8 @@
 //! What a client keeps of its commands.
 ghost use Rattle.std.specs.Prelude.{◌≡◌, ◌≤◌, []};
+ghost use Rattle.client_session.specs.Turns.{InStep};
+ghost use Rattle.client_turns.specs.State.{ClientState};
+ghost use Rattle.doc_tree.specs.Tree.{empty};
 
 use doc_model::Log;
 use std::alloc::Global;
@@ -28,6 +31,8 @@ impl Journal {
         ensures last { result.last ≡ 0 }
         ensures client { result.log.client ≡ client }
         ensures entries { result.log.entries ≡ [] }
+        ensures step { (s : ClientState) → s.pass.keep ≡ limits.keep → s.pass.commits ≡ []
+            → s.draft ≡ empty → InStep result s }
     {
         Journal {
             limits,
