@@ -78,14 +78,18 @@ module _ (j : Journal) (c : Command) (v : ℕ) {s t : ClientState} where
           → Rests 0 w x
           → newest + 1 ≤ x.pass.cut + j.limits.keep → IsReady x
           → Answered j c s x
-          (record { reply = reply.Committed (v + 1); kept = reply.Committed (v + 1); place = v + 1 })
+          (record {
+            reply = reply.Committed (v + 1);
+            kept = reply.Committed (v + 1);
+            place = v + 1;
+          })
       made_ends {u = u} before newest below lasts pass rose draft base low one two due ready =
           let made = commit_made v before tree lasts pass rose draft
           (omega (arith, base)) in
           let on = made_on (made_on made (rests_none one)) (rests_none two) in
           let seen = made.seen in
           record {
-            turned = begun_trimmed (bounds j.limits) j.log.client (account_of j s) c v newest tree begun
-                below on ready (omega (arith, seen, low)) due;
+            turned = begun_trimmed (bounds j.limits) j.log.client (account_of j s) c v newest tree
+                begun below on ready (omega (arith, seen, low)) due;
             kept = refl;
           }

@@ -30,7 +30,8 @@ pub edited_begun : (j : Journal) (c : Command) {At : Type 0} {s t u : ClientStat
     (edited : Result DocTree EditFault)
     → MayTurn j s → Begins s t h o → Edits places t u → edited ≡ f (h.tree o.root)
     → ((d : DocTree) → runs_out (f d) ≡ false)
-    → ((trees : List DocTree) → answer (bounds j.limits) trees o.version.number (account_of j s) c
+    → ((trees : List DocTree)
+    → answer (bounds j.limits) trees o.version.number (account_of j s) c
     ≡ committed (bounds j.limits) o.version.number (f (tree_at trees o.version.number)))
     → Begun (bounds j.limits) (account_of j s) c o.version.number s u edited
 edited_begun j c {s = s} {t = t} {u = u} {h = h} o places f edited may begins edits made spared is =

@@ -187,7 +187,8 @@ pub trait ClientHeap {
         ensures rose { OnOk result ((state self.old).claims < (state self.new).claims) }
         ensures same { OnErr result (commit_numbers (state self.new).pass
             ≡ commit_numbers (state self.old).pass) }
-        ensures moved { result ≡ Err CommitRefusal.Moved → v.number < (state self.new).pass.seen }
+        ensures moved { result ≡ Err CommitRefusal.Moved
+            → v.number < (state self.new).pass.seen }
         ensures full { result ≡ Err CommitRefusal.Full → Had (IsFull (state self.old).cells)
             (state self.old).marks (state self.new).marks }
         ensures draft { (state self.new).draft ≡ (state self.old).draft }
