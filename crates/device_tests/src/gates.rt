@@ -30,7 +30,10 @@ fn the_first_commands_of_two_threads_meet(rt: HostRuntime) {
 fn a_first_command_alone_is_late(rt: HostRuntime) {
     let gate = CrossGate::new(1_000);
     for (client, number) in [(1, 2), (2, 2), (3, 1)] {
-        assert!(rt; gate.go(client, number), "client {client}, command {number}");
+        assert!(rt;
+            gate.go(client, number),
+            "client {client}, command {number}"
+        );
         assert!(rt; !gate.late(), "client {client}, command {number}");
     }
     assert!(rt; gate.go(1, 1));
@@ -42,7 +45,10 @@ fn a_first_command_alone_is_late(rt: HostRuntime) {
 #[test]
 fn an_open_gate_lets_all_begin(rt: HostRuntime) {
     for (client, number) in [(1, 1), (2, 1), (64, 100_000)] {
-        assert!(rt; OpenGate.go(client, number), "client {client}, command {number}");
+        assert!(rt;
+            OpenGate.go(client, number),
+            "client {client}, command {number}"
+        );
         OpenGate.done(client, number);
     }
 }
