@@ -1,0 +1,42 @@
+use Rattle.std.proofs.Common.{[], ◌∷◌, ap, arith}
+use Rattle.client_heap.proofs.Calls.{holds_rests, holds_still, older_sound}
+use Rattle.version_rule.specs.Pass.{commit_numbers}
+use Rattle.client_heap.proofs.heap.OwnHeapClientHeap.older.Goals as goal
+
+pub invariant_of-self : goal.invariant_of-self
+invariant_of-self c =
+    let was = c.args.self.now in
+    record {
+      sound = older_sound was.m.now c.older.new.m was.minor.now c.stored.result c.args.back
+          c.len-records.ensures.ordered c.older.ensures.lasts c.older.ensures.same c.older.result
+          c.older.ensures.older c.older.ensures.held was.draft was.base was.sound;
+      copies = was.copies;
+    }
+
+pub returns-in-Ok-clause-rests : goal.returns-in-Ok-clause-rests
+returns-in-Ok-clause-rests c =
+    let was = c.args.self.now in
+    let did = c.in-Ok.ensures.older in
+    holds_rests was.m.now c.older.new.m was.minor.now (did.cell ∷ []) did.holds
+    c.len-records.ensures.ordered c.older.ensures.lasts c.older.ensures.same was.draft was.base
+    was.sound 1 (omega arith) (ap commit_numbers did.pass)
+
+pub returns-in-Ok-clause-still : goal.returns-in-Ok-clause-still
+returns-in-Ok-clause-still c =
+    let was = c.args.self.now in
+    let did = c.in-Ok.ensures.older in
+    holds_still was.m.now c.older.new.m was.minor.now (did.cell ∷ []) did.holds
+    c.len-records.ensures.ordered c.older.ensures.lasts c.older.ensures.same
+
+pub returns-in-Err-clause-rests : goal.returns-in-Err-clause-rests
+returns-in-Err-clause-rests c =
+    let was = c.args.self.now in
+    holds_rests was.m.now c.older.new.m was.minor.now [] c.in-Err.ensures.held
+    c.len-records.ensures.ordered c.older.ensures.lasts c.older.ensures.same was.draft was.base
+    was.sound 1 (omega arith) (ap commit_numbers c.in-Err.ensures.cut.pass)
+
+pub returns-in-Err-clause-still : goal.returns-in-Err-clause-still
+returns-in-Err-clause-still c =
+    let was = c.args.self.now in
+    holds_still was.m.now c.older.new.m was.minor.now [] c.in-Err.ensures.held
+    c.len-records.ensures.ordered c.older.ensures.lasts c.older.ensures.same

@@ -1,0 +1,29 @@
+use Rattle.std.proofs.Common.{[], ◌∷◌, ap, arith}
+use Rattle.client_heap.proofs.Calls.{holds_rests, holds_sound, holds_still}
+use Rattle.version_rule.specs.Pass.{commit_numbers}
+use Rattle.client_heap.proofs.heap.OwnHeapClientHeap.tree.Goals as goal
+
+pub invariant_of-self : goal.invariant_of-self
+invariant_of-self c =
+    let was = c.args.self.now in
+    let did = c.tree.ensures in
+    record {
+      sound = holds_sound was.m.now c.tree.new.m was.minor.now (did.root.cell ∷ []) did.root.holds
+          c.len-records.ensures.ordered did.lasts did.same was.draft was.base was.sound;
+      copies = was.copies;
+    }
+
+pub returns-clause-rests : goal.returns-clause-rests
+returns-clause-rests c =
+    let was = c.args.self.now in
+    let did = c.tree.ensures in
+    holds_rests was.m.now c.tree.new.m was.minor.now (did.root.cell ∷ []) did.root.holds
+    c.len-records.ensures.ordered did.lasts did.same was.draft was.base was.sound 1 (omega arith)
+    (ap commit_numbers did.root.pass)
+
+pub returns-clause-still : goal.returns-clause-still
+returns-clause-still c =
+    let was = c.args.self.now in
+    let did = c.tree.ensures in
+    holds_still was.m.now c.tree.new.m was.minor.now (did.root.cell ∷ []) did.root.holds
+    c.len-records.ensures.ordered did.lasts did.same

@@ -1,0 +1,4 @@
+pub mod Carries
+pub mod Once
+pub mod Shows
+pub mod Sound

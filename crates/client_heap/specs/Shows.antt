@@ -1,0 +1,40 @@
+-- What a client's mutator and private heap show of the client, in the words of its session.
+-- Source: this project's.
+use Rattle.std.specs.Prelude.{ℕ, ◌+◌, ◌-◌, length}
+use Rattle.client_records.specs.declared.at.NodeAt.{NodeAt}
+use Rattle.client_session.specs.Handles.{Handles}
+use Rattle.client_session.specs.declared.held.HeldVersion.{HeldVersion}
+use Rattle.client_trees.specs.Nodes.{IsTreeAt, tree_at}
+use Rattle.client_turns.specs.State.{ClientState}
+use Rattle.doc_records.specs.Trees.{tree_of}
+use Rattle.minor_heap.specs.Nursery.{Nursery}
+use Rattle.mutator_seat.specs.Bound.{Bound}
+use Rattle.trails.specs.Marks.{marks_of}
+use Rattle.version_rule.specs.Pass.{Pass}
+use Rattle.version_store.specs.Held.{IsHeld, root_at}
+use Rattle.version_store.specs.declared.held.HeldVersion.{HeldVersion as StoreVersion}
+
+-- where a draft stands that a number of first places stay for
+abbrev pub state_of : Bound Pass → Nursery → NodeAt → ℕ → ClientState
+state_of m minor draft base = record {
+  cells = m.seat.me.shape.cells;
+  pass = m.seat.me.pass;
+  marks = marks_of m.seat.me.trail;
+  claims = m.seat.me.own.claims;
+  draft = tree_at m minor draft;
+  base = base;
+  room = m.seat.me.room - (length m.seat.me.own.held + length minor.records);
+  spare = minor.room - length minor.records;
+}
+
+-- a version in the words of the store
+abbrev pub stored : HeldVersion → StoreVersion
+stored v = record { number = v.number; place = v.place }
+
+abbrev pub handles_of : Bound Pass → Nursery → Handles NodeAt
+handles_of m minor = record {
+  is_node = λ a. IsTreeAt m minor a;
+  tree = λ a. tree_at m minor a;
+  is_version = λ v. IsHeld m (stored v);
+  root = λ v. tree_of (root_at m v.place);
+}

@@ -1,0 +1,27 @@
+-- What holds of a client's mutator, private heap and draft between calls.
+-- Source: this project's.
+use Rattle.std.specs.Prelude.{ℕ, ◌≡◌, ◌≤◌, ◌+◌, ◌*◌, true, length}
+use Rattle.client_records.specs.declared.at.NodeAt.{NodeAt}
+use Rattle.client_records.specs.Records.{stands_on, term_at}
+use Rattle.doc_records.specs.Trees.{IsTreeNode}
+use Rattle.minor_heap.specs.Nursery.{Nursery}
+use Rattle.mutator_seat.specs.Bound.{Bound}
+use Rattle.version_rule.specs.Pass.{Pass}
+
+-- The mutator is in. The draft is the node of a lawful tree, and stands on the first places, which
+-- stay; behind these there is room for every reading.
+pub record IsSound (m : Bound Pass) (minor : Nursery) (draft : NodeAt) (base : ℕ) : Type 0 where
+  pub inside : m.seat.me.presence.inside ≡ true
+  pub some : 1 ≤ base
+  pub kept : base ≤ length m.seat.me.own.held
+  pub stands : stands_on m.seat.me.known minor.records base draft
+  pub node : IsTreeNode (term_at m.seat.me.known minor.records draft)
+  -- so many records at least, and four places for each of them
+  pub records : 4_096 ≤ minor.room
+  pub places : 4 * minor.room + 16_384 ≤ m.seat.me.room
+  pub ready : base + length minor.records + 9_100 ≤ m.seat.me.room
+
+-- there is room for an edit
+pub record IsCleared (m : Bound Pass) (minor : Nursery) : Type 0 where
+  pub room : length m.seat.me.own.held + length minor.records + 20_480 ≤ m.seat.me.room
+  pub spare : length minor.records + 2_285 ≤ minor.room

@@ -1,0 +1,97 @@
+//! Minor collections: of the draft, and of nothing.
+ghost use Rattle.std.specs.Prelude.{ℕ, ◌≡◌, ◌<◌, ◌≤◌, ◌+◌, [], OnErr, OnOk};
+ghost use Rattle.std.specs.Prelude.{length, true};
+ghost use Rattle.client_heap.specs.Carries.{Carries, Follows};
+ghost use Rattle.client_records.specs.declared.at.NodeAt.TheVariants as at;
+ghost use Rattle.client_trees.specs.Nodes.{IsTreeAt, tree_at};
+ghost use Rattle.heap_rule.specs.Asks.{known_of};
+ghost use Rattle.trails.specs.Claims.{IsFull};
+ghost use Rattle.trails.specs.Stretches.{Had};
+ghost use Rattle.version_store.specs.Lasts.{marks};
+
+use client_session::HeapFull;
+use document_versions::Documents;
+use free_cells::Hints;
+use minor_heap::{MinorHeap, MinorRef};
+use mutator_seat::Mutator;
+use promotion::Promoter;
+use std::sync::Wait;
+
+/// Copies what a private node reaches into the shared heap, and lets all private records go. The
+/// copy is held behind the anchor, and nothing else is.
+pub(crate) fn share_node<R: Wait>(
+    rt: &R,
+    hints: &mut Hints<'_>,
+    m: &mut Mutator<'_, Documents>,
+    minor: &mut MinorHeap,
+    promoter: &mut Promoter,
+    r: MinorRef,
+) -> Result<(), HeapFull>
+    requires inside { m.old.seat.me.presence.inside ≡ true }
+    requires some { 1 ≤ length m.old.seat.me.own.held }
+    requires node { IsTreeAt m.old minor.old (at.Minor r) }
+    requires copies { minor.old.room ≤ promoter.old }
+    requires room { length m.old.seat.me.own.held + length minor.old.records + 1
+        ≤ m.old.seat.me.room }
+    ensures node { OnOk result (IsTreeAt m.new minor.new (at.Shared 1)) }
+    ensures tree { OnOk result (tree_at m.new minor.new (at.Shared 1)
+        ≡ tree_at m.old minor.old (at.Minor r)) }
+    ensures held { OnOk result (length m.new.seat.me.own.held ≡ 2) }
+    ensures emptied { OnOk result (minor.new.records ≡ []) }
+    ensures full { OnErr result (Had (IsFull m.old.seat.me.shape.cells) (marks m.old)
+        (marks m.new)) }
+    ensures refused { OnErr result (Carries (length m.old.seat.me.own.held) m.old m.new minor.old
+        minor.new) }
+    ensures same { OnErr result (length m.new.seat.me.own.held ≡ length m.old.seat.me.own.held) }
+    ensures unchanged { OnErr result (minor.new.records ≡ minor.old.records) }
+    ensures follows { Follows m.old m.new minor.old minor.new }
+    ensures pass { m.new.seat.me.pass ≡ m.old.seat.me.pass }
+    ensures promoter { promoter.new ≡ promoter.old }
+{
+    // What is held is what the trail left, and no more records stand than there is room for.
+    let _held = m.held_len();
+    let _records = minor.len();
+    let _spare = minor.spare();
+    match promoter.collect(rt, hints, m, minor, &[r], 1) {
+        Ok(_) => Ok(()),
+        Err(_) => Err(HeapFull),
+    }
+}
+
+/// Lets all private records go. Of the held list so many first places stay.
+pub(crate) fn clear_records<R: Wait>(
+    rt: &R,
+    hints: &mut Hints<'_>,
+    m: &mut Mutator<'_, Documents>,
+    minor: &mut MinorHeap,
+    promoter: &mut Promoter,
+    base: usize,
+) -> Result<(), HeapFull>
+    requires inside { m.old.seat.me.presence.inside ≡ true }
+    requires some { 1 ≤ base }
+    requires kept { base ≤ length m.old.seat.me.own.held }
+    requires copies { minor.old.room ≤ promoter.old }
+    requires room { length m.old.seat.me.own.held + length minor.old.records
+        ≤ m.old.seat.me.room }
+    ensures known { OnOk result ((p : ℕ) → p < base
+        → known_of m.new.seat.me p ≡ known_of m.old.seat.me p) }
+    ensures held { OnOk result (length m.new.seat.me.own.held ≡ base) }
+    ensures emptied { OnOk result (minor.new.records ≡ []) }
+    ensures full { OnErr result (Had (IsFull m.old.seat.me.shape.cells) (marks m.old)
+        (marks m.new)) }
+    ensures refused { OnErr result (Carries (length m.old.seat.me.own.held) m.old m.new minor.old
+        minor.new) }
+    ensures same { OnErr result (length m.new.seat.me.own.held ≡ length m.old.seat.me.own.held) }
+    ensures unchanged { OnErr result (minor.new.records ≡ minor.old.records) }
+    ensures follows { Follows m.old m.new minor.old minor.new }
+    ensures pass { m.new.seat.me.pass ≡ m.old.seat.me.pass }
+    ensures promoter { promoter.new ≡ promoter.old }
+{
+    let _held = m.held_len();
+    let _records = minor.len();
+    let _spare = minor.spare();
+    match promoter.collect(rt, hints, m, minor, &[], base) {
+        Ok(_) => Ok(()),
+        Err(_) => Err(HeapFull),
+    }
+}

@@ -1,0 +1,197 @@
+//! The draft: a node becomes it, and a minor collection moves it.
+ghost use Rattle.std.specs.Prelude.{◌≡◌, ◌+◌, ◌<◌, ◌≤◌, OnErr, OnOk, length};
+ghost use Rattle.std.specs.Prelude.{max, true};
+ghost use Rattle.client_heap.specs.Carries.{Carries, Follows};
+ghost use Rattle.client_heap.specs.Sound.{IsCleared, IsSound};
+ghost use Rattle.client_records.specs.declared.at.NodeAt.TheVariants as at;
+ghost use Rattle.client_trees.specs.Nodes.{IsTreeAt, tree_at};
+ghost use Rattle.trails.specs.Claims.{IsFull};
+ghost use Rattle.trails.specs.Stretches.{Had};
+ghost use Rattle.version_store.specs.Lasts.{marks};
+
+use crate::collecting::{clear_records, share_node};
+use crate::places::keep_alone;
+use client_session::HeapFull;
+use client_trees::NodeAt;
+use document_versions::Documents;
+use free_cells::Hints;
+use minor_heap::{MinorHeap, MinorRef};
+use mutator_seat::Mutator;
+use promotion::Promoter;
+use std::sync::Wait;
+
+/// Makes a node the draft. For a shared one the place behind the anchor is enough; for a private
+/// one all places stay that are held.
+pub(crate) fn make_draft(
+    m: &mut Mutator<'_, Documents>,
+    minor: &MinorHeap,
+    draft: &mut NodeAt,
+    base: &mut usize,
+    at: NodeAt,
+)
+    requires sound { IsSound m.old minor.now draft.old base.old }
+    requires node { IsTreeAt m.old minor.now at }
+    requires room { length m.old.seat.me.own.held + length minor.now.records + 9100
+        ≤ m.old.seat.me.room }
+    ensures sound { IsSound m.new minor.now draft.new base.new }
+    ensures tree { tree_at m.new minor.now draft.new ≡ tree_at m.old minor.now at }
+    ensures pass { m.new.seat.me.pass ≡ m.old.seat.me.pass }
+    ensures held { length m.new.seat.me.own.held ≤ length m.old.seat.me.own.held }
+    ensures follows { Follows m.old m.new minor.now minor.now }
+{
+    let held = m.held_len();
+    match at {
+        NodeAt::Shared(place) => {
+            if 2 <= held {
+                keep_alone(m, minor, place);
+                *draft = NodeAt::Shared(1);
+                *base = 2;
+            } else {
+                *draft = at;
+                *base = held;
+            }
+        }
+        NodeAt::Minor(_) => {
+            *draft = at;
+            *base = held;
+        }
+    }
+}
+
+/// Collects the records of a private draft, which becomes shared.
+fn share_draft<R: Wait>(
+    rt: &R,
+    hints: &mut Hints<'_>,
+    m: &mut Mutator<'_, Documents>,
+    minor: &mut MinorHeap,
+    promoter: &mut Promoter,
+    r: MinorRef,
+    base: usize,
+) -> Result<(), HeapFull>
+    requires sound { IsSound m.old minor.old (at.Minor r) base }
+    requires copies { minor.old.room ≤ promoter.old }
+    requires ready { length m.old.seat.me.own.held + length minor.old.records + 9000
+        ≤ m.old.seat.me.room }
+    ensures shared { OnOk result (IsSound m.new minor.new (at.Shared 1) 2) }
+    ensures tree { OnOk result (tree_at m.new minor.new (at.Shared 1)
+        ≡ tree_at m.old minor.old (at.Minor r)) }
+    ensures cleared { OnOk result (IsCleared m.new minor.new) }
+    ensures sound { OnErr result (IsSound m.new minor.new (at.Minor r) base) }
+    ensures same { OnErr result (tree_at m.new minor.new (at.Minor r)
+        ≡ tree_at m.old minor.old (at.Minor r)) }
+    ensures full { OnErr result (Had (IsFull m.old.seat.me.shape.cells) (marks m.old)
+        (marks m.new)) }
+    ensures kept { length m.new.seat.me.own.held + length minor.new.records
+        ≤ length m.old.seat.me.own.held + length minor.old.records }
+    ensures follows { Follows m.old m.new minor.old minor.new }
+    ensures pass { m.new.seat.me.pass ≡ m.old.seat.me.pass }
+    ensures promoter { promoter.new ≡ promoter.old }
+{
+    let _ = base;
+    match share_node(rt, hints, m, minor, promoter, r) {
+        Ok(()) => Ok(()),
+        Err(full) => Err(full),
+    }
+}
+
+/// Lets all private records go beside a shared draft.
+fn clear_around<R: Wait>(
+    rt: &R,
+    hints: &mut Hints<'_>,
+    m: &mut Mutator<'_, Documents>,
+    minor: &mut MinorHeap,
+    promoter: &mut Promoter,
+    place: usize,
+    base: usize,
+) -> Result<(), HeapFull>
+    requires sound { IsSound m.old minor.old (at.Shared place) base }
+    requires few { base ≤ 2 }
+    requires copies { minor.old.room ≤ promoter.old }
+    requires ready { length m.old.seat.me.own.held + length minor.old.records + 9000
+        ≤ m.old.seat.me.room }
+    ensures sound { IsSound m.new minor.new (at.Shared place) base }
+    ensures tree { tree_at m.new minor.new (at.Shared place)
+        ≡ tree_at m.old minor.old (at.Shared place) }
+    ensures cleared { OnOk result (IsCleared m.new minor.new) }
+    ensures full { OnErr result (Had (IsFull m.old.seat.me.shape.cells) (marks m.old)
+        (marks m.new)) }
+    ensures kept { length m.new.seat.me.own.held + length minor.new.records
+        ≤ length m.old.seat.me.own.held + length minor.old.records }
+    ensures follows { Follows m.old m.new minor.old minor.new }
+    ensures pass { m.new.seat.me.pass ≡ m.old.seat.me.pass }
+    ensures promoter { promoter.new ≡ promoter.old }
+{
+    let _ = place;
+    match clear_records(rt, hints, m, minor, promoter, base) {
+        Ok(()) => Ok(()),
+        Err(full) => Err(full),
+    }
+}
+
+/// Holds a shared draft behind the anchor, and nothing else.
+fn draw_in(m: &mut Mutator<'_, Documents>, minor: &MinorHeap, place: usize, base: usize)
+    requires sound { IsSound m.old minor.now (at.Shared place) base }
+    requires many { 2 < base }
+    ensures sound { IsSound m.new minor.now (at.Shared 1) 2 }
+    ensures tree { tree_at m.new minor.now (at.Shared 1)
+        ≡ tree_at m.old minor.now (at.Shared place) }
+    ensures held { length m.new.seat.me.own.held ≤ length m.old.seat.me.own.held }
+    ensures follows { Follows m.old m.new minor.now minor.now }
+    ensures pass { m.new.seat.me.pass ≡ m.old.seat.me.pass }
+{
+    let _ = base;
+    keep_alone(m, minor, place);
+}
+
+/// Lets all private records go but those of the draft, which become shared, where there is too
+/// little room for an edit.
+pub(crate) fn make_room<R: Wait>(
+    rt: &R,
+    hints: &mut Hints<'_>,
+    m: &mut Mutator<'_, Documents>,
+    minor: &mut MinorHeap,
+    promoter: &mut Promoter,
+    draft: &mut NodeAt,
+    base: &mut usize,
+) -> Result<(), HeapFull>
+    requires sound { IsSound m.old minor.old draft.old base.old }
+    requires copies { minor.old.room ≤ promoter.old }
+    requires ready { length m.old.seat.me.own.held + length minor.old.records + 9000
+        ≤ m.old.seat.me.room }
+    ensures sound { IsSound m.new minor.new draft.new base.new }
+    ensures cleared { OnOk result (IsCleared m.new minor.new) }
+    ensures full { OnErr result (Had (IsFull m.old.seat.me.shape.cells) (marks m.old)
+        (marks m.new)) }
+    ensures kept { length m.new.seat.me.own.held + length minor.new.records
+        ≤ length m.old.seat.me.own.held + length minor.old.records }
+    ensures tree { tree_at m.new minor.new draft.new ≡ tree_at m.old minor.old draft.old }
+    ensures small { base.new ≤ max base.old 2 }
+    ensures follows { Follows m.old m.new minor.old minor.new }
+    ensures pass { m.new.seat.me.pass ≡ m.old.seat.me.pass }
+    ensures promoter { promoter.new ≡ promoter.old }
+{
+    let records = minor.len() as usize;
+    if 2285 <= minor.spare() && 20480 + records <= m.room() {
+        return Ok(());
+    }
+    match *draft {
+        NodeAt::Minor(r) => {
+            share_draft(rt, hints, m, minor, promoter, r, *base)?;
+            *draft = NodeAt::Shared(1);
+            *base = 2;
+            Ok(())
+        }
+        NodeAt::Shared(place) => {
+            if 2 < *base {
+                draw_in(m, minor, place, *base);
+                *draft = NodeAt::Shared(1);
+                *base = 2;
+                let cleared = clear_around(rt, hints, m, minor, promoter, 1, 2);
+                cleared
+            } else {
+                let cleared = clear_around(rt, hints, m, minor, promoter, place, *base);
+                cleared
+            }
+        }
+    }
+}

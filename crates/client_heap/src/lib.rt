@@ -1,0 +1,19 @@
+//! The heap of one client, as its session works on it: a mutator with the versions and trees that
+//! it holds, a private heap, and the draft.
+//!
+//! The layer above may rely on this: `OwnHeap` is a `ClientHeap`, so all that is proved of a
+//! session holds over it. Between commands the first places of the held list stay, which are the
+//! anchor's and those that the draft needs. A draft that a minor collection moved stands on two.
+//!
+//! Reading order: specs/Shows, Carries, Sound; then `places`, `walking`, `collecting`,
+//! `drafting`, `publishing`, `heap`.
+#![tactic(auto)]
+
+mod collecting;
+mod drafting;
+mod heap;
+mod places;
+mod publishing;
+mod walking;
+
+pub use heap::OwnHeap;

@@ -1,0 +1,38 @@
+//! Giving places of the held list back.
+ghost use Rattle.std.specs.Prelude.{◌≡◌, ◌<◌, ◌≤◌, length, true};
+ghost use Rattle.client_heap.specs.Carries.{Carries};
+ghost use Rattle.heap_rule.specs.Asks.{known_of};
+
+use document_versions::Documents;
+use minor_heap::MinorHeap;
+use mutator_seat::Mutator;
+
+/// Gives back all places but the first so many.
+pub(crate) fn cut_back(m: &mut Mutator<'_, Documents>, minor: &MinorHeap, places: usize)
+    requires inside { m.old.seat.me.presence.inside ≡ true }
+    requires some { 1 ≤ places }
+    requires kept { places ≤ length m.old.seat.me.own.held }
+    ensures carries { Carries places m.old m.new minor.now minor.now }
+    ensures held { length m.new.seat.me.own.held ≡ places }
+    ensures pass { m.new.seat.me.pass ≡ m.old.seat.me.pass }
+{
+    // As much is known as is held, and records name older ones.
+    let _held = m.held_len();
+    let _records = minor.len();
+    m.cut(places);
+}
+
+/// Holds the cell of a place behind the anchor, and nothing else.
+pub(crate) fn keep_alone(m: &mut Mutator<'_, Documents>, minor: &MinorHeap, place: usize)
+    requires inside { m.old.seat.me.presence.inside ≡ true }
+    requires there { place < length m.old.seat.me.own.held }
+    requires room { 2 ≤ m.old.seat.me.room }
+    ensures carries { Carries 1 m.old m.new minor.now minor.now }
+    ensures held { length m.new.seat.me.own.held ≡ 2 }
+    ensures known { known_of m.new.seat.me 1 ≡ known_of m.old.seat.me place }
+    ensures pass { m.new.seat.me.pass ≡ m.old.seat.me.pass }
+{
+    let _held = m.held_len();
+    let _records = minor.len();
+    m.keep(1, place, 1);
+}

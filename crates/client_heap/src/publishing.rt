@@ -1,0 +1,147 @@
+//! Making the next version: the node is promoted, and then committed.
+ghost use Rattle.std.specs.Prelude.{◌≡◌, ◌<◌, ◌≤◌, ◌+◌, Err, IfOk, OnErr};
+ghost use Rattle.std.specs.Prelude.{OnOk, length, true};
+ghost use Rattle.client_heap.specs.Carries.{Carries};
+ghost use Rattle.client_heap.specs.Shows.{stored};
+ghost use Rattle.client_records.specs.declared.at.NodeAt.TheVariants as at;
+ghost use Rattle.client_trees.specs.Nodes.{IsTreeAt, tree_at};
+ghost use Rattle.doc_records.specs.Trees.{tree_of};
+ghost use Rattle.trails.specs.Claims.{IsFull};
+ghost use Rattle.trails.specs.Stretches.{Had};
+ghost use Rattle.version_rule.specs.Pass.{commit_numbers, committed};
+ghost use Rattle.version_store.specs.Held.{IsHeld, root_at};
+ghost use Rattle.version_store.specs.Lasts.{marks};
+
+use client_session::{CommitRefusal, HeldVersion};
+use client_trees::NodeAt;
+use document_versions::Documents;
+use free_cells::Hints;
+use minor_heap::{MinorHeap, MinorRef};
+use mutator_seat::Mutator;
+use promotion::Promoter;
+use std::sync::Wait;
+use version_store::CommitFault;
+
+/// A private node as a shared one, at the end of the held list.
+fn share<R: Wait>(
+    rt: &R,
+    hints: &mut Hints<'_>,
+    m: &mut Mutator<'_, Documents>,
+    minor: &MinorHeap,
+    promoter: &mut Promoter,
+    r: MinorRef,
+) -> Result<usize, CommitRefusal>
+    requires inside { m.old.seat.me.presence.inside ≡ true }
+    requires node { IsTreeAt m.old minor.now (at.Minor r) }
+    requires copies { minor.now.room ≤ promoter.old }
+    requires room { length m.old.seat.me.own.held + length minor.now.records
+        ≤ m.old.seat.me.room }
+    ensures node { IfOk result (λ place. IsTreeAt m.new minor.now (at.Shared place)) }
+    ensures tree { IfOk result (λ place. tree_at m.new minor.now (at.Shared place)
+        ≡ tree_at m.old minor.now (at.Minor r)) }
+    ensures full { OnErr result (result ≡ Err CommitRefusal.Full) }
+    ensures shows { OnErr result (Had (IsFull m.old.seat.me.shape.cells) (marks m.old)
+        (marks m.new)) }
+    ensures carries { Carries (length m.old.seat.me.own.held) m.old m.new minor.now minor.now }
+    ensures held { length m.new.seat.me.own.held ≤ length m.old.seat.me.own.held + 1 }
+    ensures pass { m.new.seat.me.pass ≡ m.old.seat.me.pass }
+    ensures promoter { promoter.new ≡ promoter.old }
+{
+    let _held = m.held_len();
+    let _records = minor.len();
+    let _spare = minor.spare();
+    match promoter.promote(rt, hints, m, minor, r) {
+        Ok(place) => Ok(place),
+        Err(_) => Err(CommitRefusal::Full),
+    }
+}
+
+/// Makes the next version, with the tree of a shared node.
+fn commit_shared<R: Wait>(
+    rt: &R,
+    hints: &mut Hints<'_>,
+    m: &mut Mutator<'_, Documents>,
+    minor: &MinorHeap,
+    v: HeldVersion,
+    place: usize,
+    versions: u64,
+) -> Result<u64, CommitRefusal>
+    requires inside { m.old.seat.me.presence.inside ≡ true }
+    requires room { length m.old.seat.me.own.held + 128 ≤ m.old.seat.me.room }
+    requires version { IsHeld m.old (stored v) }
+    requires node { IsTreeAt m.old minor.now (at.Shared place) }
+    requires below { v.number < versions }
+    requires few { length (commit_numbers m.old.seat.me.pass) < 100000 }
+    ensures number { IfOk result (λ number. number ≡ v.number + 1) }
+    ensures pass { OnOk result (m.new.seat.me.pass ≡ committed (v.number + 1)
+        (tree_of (root_at m.old v.place)) (tree_at m.old minor.now (at.Shared place))
+        m.old.seat.me.pass) }
+    ensures rose { OnOk result (m.old.seat.me.own.claims < m.new.seat.me.own.claims) }
+    ensures same { OnErr result (commit_numbers m.new.seat.me.pass
+        ≡ commit_numbers m.old.seat.me.pass) }
+    ensures moved { result ≡ Err CommitRefusal.Moved → v.number < m.new.seat.me.pass.seen }
+    ensures full { result ≡ Err CommitRefusal.Full → Had (IsFull m.old.seat.me.shape.cells)
+        (marks m.old) (marks m.new) }
+    ensures carries { Carries (length m.old.seat.me.own.held) m.old m.new minor.now minor.now }
+    ensures held { length m.new.seat.me.own.held ≡ length m.old.seat.me.own.held }
+{
+    let _held = m.held_len();
+    let _records = minor.len();
+    let version = version_store::HeldVersion {
+        number: v.number,
+        place: v.place,
+    };
+    match version_store::commit(rt, hints, m, version, place, versions) {
+        Ok(number) => Ok(number),
+        Err(CommitFault::Moved { .. }) => Err(CommitRefusal::Moved),
+        Err(CommitFault::Full(_)) => Err(CommitRefusal::Full),
+        Err(CommitFault::Worn) => unreachable!(),
+    }
+}
+
+/// Makes the next version, with the tree of a node.
+pub(crate) fn publish<R: Wait>(
+    rt: &R,
+    hints: &mut Hints<'_>,
+    m: &mut Mutator<'_, Documents>,
+    minor: &MinorHeap,
+    promoter: &mut Promoter,
+    v: HeldVersion,
+    node: NodeAt,
+    versions: u64,
+) -> Result<u64, CommitRefusal>
+    requires inside { m.old.seat.me.presence.inside ≡ true }
+    requires room { length m.old.seat.me.own.held + length minor.now.records + 8192
+        ≤ m.old.seat.me.room }
+    requires copies { minor.now.room ≤ promoter.old }
+    requires version { IsHeld m.old (stored v) }
+    requires node { IsTreeAt m.old minor.now node }
+    requires below { v.number < versions }
+    requires few { length (commit_numbers m.old.seat.me.pass) < 100000 }
+    ensures number { IfOk result (λ number. number ≡ v.number + 1) }
+    ensures pass { OnOk result (m.new.seat.me.pass ≡ committed (v.number + 1)
+        (tree_of (root_at m.old v.place)) (tree_at m.old minor.now node) m.old.seat.me.pass) }
+    ensures rose { OnOk result (m.old.seat.me.own.claims < m.new.seat.me.own.claims) }
+    ensures same { OnErr result (commit_numbers m.new.seat.me.pass
+        ≡ commit_numbers m.old.seat.me.pass) }
+    ensures moved { result ≡ Err CommitRefusal.Moved → v.number < m.new.seat.me.pass.seen }
+    ensures full { result ≡ Err CommitRefusal.Full → Had (IsFull m.old.seat.me.shape.cells)
+        (marks m.old) (marks m.new) }
+    ensures carries { Carries (length m.old.seat.me.own.held) m.old m.new minor.now minor.now }
+    ensures held { length m.new.seat.me.own.held ≤ length m.old.seat.me.own.held + 1 }
+    ensures promoter { promoter.new ≡ promoter.old }
+{
+    match node {
+        NodeAt::Shared(place) => {
+            let made = commit_shared(rt, hints, m, minor, v, place, versions);
+            made
+        }
+        NodeAt::Minor(r) => match share(rt, hints, m, minor, promoter, r) {
+            Ok(place) => {
+                let promoted = commit_shared(rt, hints, m, minor, v, place, versions);
+                promoted
+            }
+            Err(refusal) => Err(refusal),
+        },
+    }
+}
