@@ -3,32 +3,27 @@ ghost use Rattle.std.specs.Prelude.{◌≡◌, ◌≤◌};
 ghost use Rattle.client_heap.specs.Once.{sound_once};
 ghost use Rattle.client_heap.specs.Sound.{IsSound};
 
-use crate::drafting::{make_draft, make_room};
-use crate::places::cut_back;
-use crate::publishing::publish;
-use crate::walking::node_below;
+use crate::seat::StoreSeat;
 use client_session::{ClientHeap, CommitRefusal, HeapFull, HeldVersion};
 use client_trees::NodeAt;
 use doc_tree::{EditFault, Names, NoMemory, Path, Text};
-use document_versions::Documents;
-use free_cells::Hints;
 use minor_heap::MinorHeap;
-use mutator_seat::Mutator;
 use promotion::Promoter;
 use std::alloc::Global;
 use std::sync::Wait;
 
 /// What a client works on, borrowed for a command.
 #[derive(Drop)]
-pub struct OwnHeap<'a, 'h, 'q> {
-    m: &'a mut Mutator<'h, Documents>,
-    hints: &'a mut Hints<'q>,
+pub struct OwnHeap<'a, M: StoreSeat<Q>, Q> {
+    m: &'a mut M,
+    hints: &'a mut Q,
     minor: &'a mut MinorHeap,
     promoter: &'a mut Promoter,
     draft: NodeAt,
     /// so many places of the held list stay between commands
     base: usize,
-    ghost sound: { IsSound m.now minor.now draft base } by { sound_once m.now minor.now draft base },
+    ghost sound: { IsSound (M.bound m.now) minor.now draft base }
+        by { sound_once (M.bound m.now) minor.now draft base },
     ghost copies: { minor.now.room ≤ promoter.now },
 }
 
@@ -43,20 +38,25 @@ fn stored(v: HeldVersion) -> version_store::HeldVersion
     }
 }
 
-impl<'a, 'h, 'q> OwnHeap<'a, 'h, 'q> {
+impl<'a, M: StoreSeat<Q>, Q> OwnHeap<'a, M, Q> {
     /// What a client works on while it answers a command.
     pub fn new(
-        m: &'a mut Mutator<'h, Documents>,
-        hints: &'a mut Hints<'q>,
+        m: &'a mut M,
+        hints: &'a mut Q,
         minor: &'a mut MinorHeap,
         promoter: &'a mut Promoter,
         draft: NodeAt,
         base: usize,
-    ) -> OwnHeap<'a, 'h, 'q>
-        requires sound { IsSound m.old minor.old draft base }
+    ) -> OwnHeap<'a, M, Q>
+        requires sound { IsSound (M.bound m.old) minor.old draft base }
         requires copies { minor.old.room ≤ promoter.old }
+        ensures m_name { result.m.ghost_name ≡ m.entry.ghost_name }
+        ensures hints_name { result.hints.ghost_name ≡ hints.entry.ghost_name }
+        ensures minor_name { result.minor.ghost_name ≡ minor.entry.ghost_name }
+        ensures promoter_name { result.promoter.ghost_name ≡ promoter.entry.ghost_name }
         ensures mutator { result.m.now ≡ m.old }
         ensures records { result.minor.now ≡ minor.old }
+        ensures promoter { result.promoter.now ≡ promoter.old }
         ensures draft { result.draft ≡ draft }
         ensures base { result.base ≡ base }
     {
@@ -85,21 +85,21 @@ impl<'a, 'h, 'q> OwnHeap<'a, 'h, 'q> {
     }
 }
 
-impl<'a, 'h, 'q> ClientHeap for OwnHeap<'a, 'h, 'q> {
+impl<'a, M: StoreSeat<Q>, Q> ClientHeap for OwnHeap<'a, M, Q> {
     ghost use Rattle.client_heap.specs.Shows.{handles_of, state_of};
     ghost use Rattle.client_records.specs.Records.{is_shared};
 
     type At = NodeAt;
 
-    ghost state = { λ h. state_of h.m.now h.minor.now h.draft h.base };
+    ghost state = { λ h. state_of (M.bound h.m.now) h.minor.now h.draft h.base };
 
-    ghost shown = { λ h. handles_of h.m.now h.minor.now };
+    ghost shown = { λ h. handles_of (M.bound h.m.now) h.minor.now };
 
     ghost shared = { is_shared };
 
     fn current(&mut self) -> HeldVersion {
         let _records = self.minor.len();
-        let found = version_store::current(self.m);
+        let found = self.m.current();
         HeldVersion {
             number: found.number,
             place: found.place,
@@ -108,12 +108,12 @@ impl<'a, 'h, 'q> ClientHeap for OwnHeap<'a, 'h, 'q> {
 
     fn tree(&mut self, v: HeldVersion) -> NodeAt {
         let _records = self.minor.len();
-        NodeAt::Shared(version_store::tree(self.m, stored(v)))
+        NodeAt::Shared(self.m.tree(stored(v)))
     }
 
     fn older(&mut self, v: HeldVersion, back: u64) -> Option<HeldVersion> {
         let _records = self.minor.len();
-        match version_store::older(self.m, stored(v), back) {
+        match self.m.older(stored(v), back) {
             Ok(found) => Some(HeldVersion {
                 number: found.number,
                 place: found.place,
@@ -123,19 +123,19 @@ impl<'a, 'h, 'q> ClientHeap for OwnHeap<'a, 'h, 'q> {
     }
 
     fn node(&mut self, root: NodeAt, path: &Path) -> Option<NodeAt> {
-        node_below(self.m, self.minor, root, path.names())
+        self.m.node_below(self.minor, root, path.names())
     }
 
     fn text(&mut self, alloc: Global, at: NodeAt) -> Result<Text, NoMemory> {
-        client_trees::text_of(alloc, self.m, self.minor, at)
+        self.m.text_of(alloc, self.minor, at)
     }
 
     fn names(&mut self, alloc: Global, at: NodeAt) -> Result<Names, NoMemory> {
-        client_trees::names(alloc, self.m, self.minor, at)
+        self.m.names(alloc, self.minor, at)
     }
 
     fn count(&mut self, at: NodeAt) -> u64 {
-        client_trees::count(self.m, self.minor, at)
+        self.m.count(self.minor, at)
     }
 
     fn draft(&self) -> NodeAt {
@@ -143,19 +143,20 @@ impl<'a, 'h, 'q> ClientHeap for OwnHeap<'a, 'h, 'q> {
     }
 
     fn set_text(&mut self, root: NodeAt, path: &Path, text: &Text) -> Result<NodeAt, EditFault> {
-        client_trees::set_text(self.m, self.minor, root, path, text)
+        self.m.set_text(self.minor, root, path, text)
     }
 
     fn delete(&mut self, root: NodeAt, path: &Path) -> Result<NodeAt, EditFault> {
-        client_trees::delete(self.m, self.minor, root, path)
+        self.m.delete(self.minor, root, path)
     }
 
     fn attach(&mut self, root: NodeAt, path: &Path, sub: NodeAt) -> Result<NodeAt, EditFault> {
-        client_trees::attach(self.m, self.minor, root, path, sub)
+        self.m.attach(self.minor, root, path, sub)
     }
 
     fn set_draft(&mut self, at: NodeAt) {
-        make_draft(self.m, self.minor, &mut self.draft, &mut self.base, at);
+        self.m
+            .make_draft(self.minor, &mut self.draft, &mut self.base, at);
     }
 
     fn publish<R: Wait>(
@@ -165,10 +166,9 @@ impl<'a, 'h, 'q> ClientHeap for OwnHeap<'a, 'h, 'q> {
         at: NodeAt,
         versions: u64,
     ) -> Result<u64, CommitRefusal> {
-        publish(
+        self.m.publish(
             rt,
             self.hints,
-            self.m,
             self.minor,
             self.promoter,
             v,
@@ -179,14 +179,13 @@ impl<'a, 'h, 'q> ClientHeap for OwnHeap<'a, 'h, 'q> {
 
     fn trim(&mut self, v: HeldVersion, keep: u64) {
         let _records = self.minor.len();
-        version_store::trim(self.m, stored(v), keep);
+        self.m.trim(stored(v), keep);
     }
 
     fn make_room<R: Wait>(&mut self, rt: &R) -> Result<(), HeapFull> {
-        make_room(
+        self.m.make_room(
             rt,
             self.hints,
-            self.m,
             self.minor,
             self.promoter,
             &mut self.draft,
@@ -195,6 +194,6 @@ impl<'a, 'h, 'q> ClientHeap for OwnHeap<'a, 'h, 'q> {
     }
 
     fn settle(&mut self) {
-        cut_back(self.m, self.minor, self.base);
+        self.m.cut_back(self.minor, self.base);
     }
 }

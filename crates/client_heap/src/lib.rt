@@ -6,7 +6,7 @@
 //! anchor's and those that the draft needs. A draft that a minor collection moved stands on two.
 //!
 //! Reading order: specs/Shows, Carries, Sound; then `places`, `walking`, `collecting`,
-//! `drafting`, `publishing`, `heap`.
+//! `drafting`, `publishing`, `seat`, `heap`.
 #![tactic(auto)]
 
 mod collecting;
@@ -14,6 +14,8 @@ mod drafting;
 mod heap;
 mod places;
 mod publishing;
+mod seat;
 mod walking;
 
 pub use heap::OwnHeap;
+pub use seat::StoreSeat;

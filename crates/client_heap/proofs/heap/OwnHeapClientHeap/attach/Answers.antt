@@ -3,27 +3,30 @@ use Rattle.client_heap.proofs.Calls.{left_edits, left_sound, left_still}
 use Rattle.client_heap.proofs.heap.OwnHeapClientHeap.attach.Goals as goal
 
 pub invariant_of-self : goal.invariant_of-self
-invariant_of-self c =
+invariant_of-self g c =
+    let bound = g.M.StoreSeat.bound in
     let was = c.args.self.now in
     let did = c.attach.ensures in
     let room = c.requires.room in
     let same = did.leaves.records_room in
     let fits = was.copies in
     record {
-      sound = left_sound was.m.now c.attach.new.m was.minor.now c.attach.new.minor did.leaves
+      sound = left_sound (bound was.m.now) (bound c.attach.new.self) was.minor.now c.attach.new.minor did.leaves
           was.draft was.base was.sound did.records did.held (omega (arith, room));
       copies = omega (arith, same, fits);
     }
 
 pub returns-clause-edits : goal.returns-clause-edits
-returns-clause-edits c =
+returns-clause-edits g c =
+    let bound = g.M.StoreSeat.bound in
     let was = c.args.self.now in
     let did = c.attach.ensures in
-    left_edits was.m.now c.attach.new.m was.minor.now c.attach.new.minor did.leaves was.draft
+    left_edits (bound was.m.now) (bound c.attach.new.self) was.minor.now c.attach.new.minor did.leaves was.draft
     was.base
     was.sound did.records did.held
 
 pub returns-clause-still : goal.returns-clause-still
-returns-clause-still c =
+returns-clause-still g c =
+    let bound = g.M.StoreSeat.bound in
     let was = c.args.self.now in
-    left_still was.m.now c.attach.new.m was.minor.now c.attach.new.minor c.attach.ensures.leaves
+    left_still (bound was.m.now) (bound c.attach.new.self) was.minor.now c.attach.new.minor c.attach.ensures.leaves

@@ -4,27 +4,30 @@ use Rattle.version_rule.specs.Pass.{commit_numbers}
 use Rattle.client_heap.proofs.heap.OwnHeapClientHeap.current.Goals as goal
 
 pub invariant_of-self : goal.invariant_of-self
-invariant_of-self c =
+invariant_of-self g c =
+    let bound = g.M.StoreSeat.bound in
     let was = c.args.self.now in
     let did = c.current-found.ensures in
     record {
-      sound = holds_sound was.m.now c.current-found.new.m was.minor.now (did.latest.cell ∷ [])
+      sound = holds_sound (bound was.m.now) (bound c.current-found.new.self) was.minor.now (did.latest.cell ∷ [])
           did.latest.holds c.len-records.ensures.ordered did.lasts did.same was.draft was.base
           was.sound;
       copies = was.copies;
     }
 
 pub returns-clause-rests : goal.returns-clause-rests
-returns-clause-rests c =
+returns-clause-rests g c =
+    let bound = g.M.StoreSeat.bound in
     let was = c.args.self.now in
     let did = c.current-found.ensures in
-    holds_rests was.m.now c.current-found.new.m was.minor.now (did.latest.cell ∷ [])
+    holds_rests (bound was.m.now) (bound c.current-found.new.self) was.minor.now (did.latest.cell ∷ [])
     did.latest.holds c.len-records.ensures.ordered did.lasts did.same was.draft was.base was.sound
     1 (omega arith) (ap commit_numbers did.latest.pass)
 
 pub returns-clause-still : goal.returns-clause-still
-returns-clause-still c =
+returns-clause-still g c =
+    let bound = g.M.StoreSeat.bound in
     let was = c.args.self.now in
     let did = c.current-found.ensures in
-    holds_still was.m.now c.current-found.new.m was.minor.now (did.latest.cell ∷ [])
+    holds_still (bound was.m.now) (bound c.current-found.new.self) was.minor.now (did.latest.cell ∷ [])
     did.latest.holds c.len-records.ensures.ordered did.lasts did.same

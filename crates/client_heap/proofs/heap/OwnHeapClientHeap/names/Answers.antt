@@ -3,22 +3,25 @@ use Rattle.client_heap.proofs.Calls.{all_rests, all_sound, all_still}
 use Rattle.client_heap.proofs.heap.OwnHeapClientHeap.names.Goals as goal
 
 pub invariant_of-self : goal.invariant_of-self
-invariant_of-self c =
+invariant_of-self g c =
+    let bound = g.M.StoreSeat.bound in
     let was = c.args.self.now in
     record {
-      sound = all_sound was.m.now c.names.new.m was.minor.now c.names.new.minor
+      sound = all_sound (bound was.m.now) (bound c.names.new.self) was.minor.now c.names.new.minor
           c.names.ensures.leaves was.draft was.base was.sound;
       copies = let room = c.names.ensures.leaves.leaves.records_room in
           let fits = was.copies in omega (arith, room, fits);
     }
 
 pub returns-clause-rests : goal.returns-clause-rests
-returns-clause-rests c =
+returns-clause-rests g c =
+    let bound = g.M.StoreSeat.bound in
     let was = c.args.self.now in
-    all_rests was.m.now c.names.new.m was.minor.now c.names.new.minor c.names.ensures.leaves
+    all_rests (bound was.m.now) (bound c.names.new.self) was.minor.now c.names.new.minor c.names.ensures.leaves
     was.draft was.base was.sound
 
 pub returns-clause-still : goal.returns-clause-still
-returns-clause-still c =
+returns-clause-still g c =
+    let bound = g.M.StoreSeat.bound in
     let was = c.args.self.now in
-    all_still was.m.now c.names.new.m was.minor.now c.names.new.minor c.names.ensures.leaves
+    all_still (bound was.m.now) (bound c.names.new.self) was.minor.now c.names.new.minor c.names.ensures.leaves

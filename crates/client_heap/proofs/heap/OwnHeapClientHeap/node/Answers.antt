@@ -5,13 +5,15 @@ use Rattle.version_rule.specs.Pass.{commit_numbers}
 use Rattle.client_heap.proofs.heap.OwnHeapClientHeap.node.Goals as goal
 
 pub node_below-requires-clause-room : goal.node_below-requires-clause-room
-node_below-requires-clause-room c =
+node_below-requires-clause-room g c =
+    let bound = g.M.StoreSeat.bound in
     let few = path_short c.args.path.now c.names.ensures.path in
     let same = ap (λ (xs : _). length xs) c.names.ensures.names in
     let room = c.requires.room in omega (arith, few, same, room)
 
 pub invariant_of-self : goal.invariant_of-self
-invariant_of-self c =
+invariant_of-self g c =
+    let bound = g.M.StoreSeat.bound in
     let was = c.args.self.now in
     let did = c.node_below.ensures in
     let same = ap (λ (x : _). length x.records) did.minor in
@@ -19,24 +21,26 @@ invariant_of-self c =
     let room = did.carries.follows.minor_room in
     let fits = was.copies in
     record {
-      sound = sound_on _ was.m.now c.node_below.new.m was.minor.now c.node_below.new.minor
+      sound = sound_on _ (bound was.m.now) (bound c.node_below.new.self) was.minor.now c.node_below.new.minor
           did.carries was.draft was.base was.sound was.sound.kept (omega (arith, same, ready));
       copies = omega (arith, room, fits);
     }
 
 pub returns-clause-rests : goal.returns-clause-rests
-returns-clause-rests c =
+returns-clause-rests g c =
+    let bound = g.M.StoreSeat.bound in
     let was = c.args.self.now in
     let did = c.node_below.ensures in
     let few = path_short c.args.path.now c.names.ensures.path in
     let same = ap (λ (xs : _). length xs) c.names.ensures.names in
     let held = did.held in
-    rests_on _ was.m.now c.node_below.new.m was.minor.now c.node_below.new.minor did.carries
+    rests_on _ (bound was.m.now) (bound c.node_below.new.self) was.minor.now c.node_below.new.minor did.carries
     was.draft was.base was.sound was.sound.kept 8 (ap commit_numbers did.pass)
     (ap (λ (x : _). length x.records) did.minor) (omega (arith, few, same, held))
 
 pub returns-clause-still : goal.returns-clause-still
-returns-clause-still c =
+returns-clause-still g c =
+    let bound = g.M.StoreSeat.bound in
     let was = c.args.self.now in
-    still_on was.m.now c.node_below.new.m was.minor.now c.node_below.new.minor
+    still_on (bound was.m.now) (bound c.node_below.new.self) was.minor.now c.node_below.new.minor
     c.node_below.ensures.carries

@@ -4,39 +4,44 @@ use Rattle.version_rule.specs.Pass.{commit_numbers}
 use Rattle.client_heap.proofs.heap.OwnHeapClientHeap.older.Goals as goal
 
 pub invariant_of-self : goal.invariant_of-self
-invariant_of-self c =
+invariant_of-self g c =
+    let bound = g.M.StoreSeat.bound in
     let was = c.args.self.now in
     record {
-      sound = older_sound was.m.now c.older.new.m was.minor.now c.stored.result c.args.back
+      sound = older_sound (bound was.m.now) (bound c.older.new.self) was.minor.now c.stored.result c.args.back
           c.len-records.ensures.ordered c.older.ensures.lasts c.older.ensures.same c.older.result
           c.older.ensures.older c.older.ensures.held was.draft was.base was.sound;
       copies = was.copies;
     }
 
 pub returns-in-Ok-clause-rests : goal.returns-in-Ok-clause-rests
-returns-in-Ok-clause-rests c =
+returns-in-Ok-clause-rests g c =
+    let bound = g.M.StoreSeat.bound in
     let was = c.args.self.now in
     let did = c.in-Ok.ensures.older in
-    holds_rests was.m.now c.older.new.m was.minor.now (did.cell ∷ []) did.holds
+    holds_rests (bound was.m.now) (bound c.older.new.self) was.minor.now (did.cell ∷ []) did.holds
     c.len-records.ensures.ordered c.older.ensures.lasts c.older.ensures.same was.draft was.base
     was.sound 1 (omega arith) (ap commit_numbers did.pass)
 
 pub returns-in-Ok-clause-still : goal.returns-in-Ok-clause-still
-returns-in-Ok-clause-still c =
+returns-in-Ok-clause-still g c =
+    let bound = g.M.StoreSeat.bound in
     let was = c.args.self.now in
     let did = c.in-Ok.ensures.older in
-    holds_still was.m.now c.older.new.m was.minor.now (did.cell ∷ []) did.holds
+    holds_still (bound was.m.now) (bound c.older.new.self) was.minor.now (did.cell ∷ []) did.holds
     c.len-records.ensures.ordered c.older.ensures.lasts c.older.ensures.same
 
 pub returns-in-Err-clause-rests : goal.returns-in-Err-clause-rests
-returns-in-Err-clause-rests c =
+returns-in-Err-clause-rests g c =
+    let bound = g.M.StoreSeat.bound in
     let was = c.args.self.now in
-    holds_rests was.m.now c.older.new.m was.minor.now [] c.in-Err.ensures.held
+    holds_rests (bound was.m.now) (bound c.older.new.self) was.minor.now [] c.in-Err.ensures.held
     c.len-records.ensures.ordered c.older.ensures.lasts c.older.ensures.same was.draft was.base
     was.sound 1 (omega arith) (ap commit_numbers c.in-Err.ensures.cut.pass)
 
 pub returns-in-Err-clause-still : goal.returns-in-Err-clause-still
-returns-in-Err-clause-still c =
+returns-in-Err-clause-still g c =
+    let bound = g.M.StoreSeat.bound in
     let was = c.args.self.now in
-    holds_still was.m.now c.older.new.m was.minor.now [] c.in-Err.ensures.held
+    holds_still (bound was.m.now) (bound c.older.new.self) was.minor.now [] c.in-Err.ensures.held
     c.len-records.ensures.ordered c.older.ensures.lasts c.older.ensures.same

@@ -4,18 +4,20 @@ use Rattle.client_heap.proofs.heap.OwnHeapClientHeap.publish.Goals as goal
 
 pub invariant_of-self : goal.invariant_of-self
 invariant_of-self g c =
+    let bound = g.M.StoreSeat.bound in
     let was = c.args.self.now in
     let did = c.publish.ensures in
     let same = did.promoter in
     let fits = was.copies in
     record {
-      sound = sound_on _ was.m.now c.publish.new.m was.minor.now was.minor.now did.carries
+      sound = sound_on _ (bound was.m.now) (bound c.publish.new.self) was.minor.now was.minor.now did.carries
           was.draft was.base was.sound was.sound.kept was.sound.ready;
       copies = omega (arith, same, fits);
     }
 
 pub returns-clause-draft : goal.returns-clause-draft
 returns-clause-draft g c =
+    let bound = g.M.StoreSeat.bound in
     let was = c.args.self.now in
-    draft_on _ was.m.now c.publish.new.m was.minor.now was.minor.now c.publish.ensures.carries
+    draft_on _ (bound was.m.now) (bound c.publish.new.self) was.minor.now was.minor.now c.publish.ensures.carries
     was.draft was.base was.sound was.sound.kept

@@ -4,26 +4,29 @@ use Rattle.version_rule.specs.Pass.{commit_numbers}
 use Rattle.client_heap.proofs.heap.OwnHeapClientHeap.tree.Goals as goal
 
 pub invariant_of-self : goal.invariant_of-self
-invariant_of-self c =
+invariant_of-self g c =
+    let bound = g.M.StoreSeat.bound in
     let was = c.args.self.now in
     let did = c.tree.ensures in
     record {
-      sound = holds_sound was.m.now c.tree.new.m was.minor.now (did.root.cell ∷ []) did.root.holds
+      sound = holds_sound (bound was.m.now) (bound c.tree.new.self) was.minor.now (did.root.cell ∷ []) did.root.holds
           c.len-records.ensures.ordered did.lasts did.same was.draft was.base was.sound;
       copies = was.copies;
     }
 
 pub returns-clause-rests : goal.returns-clause-rests
-returns-clause-rests c =
+returns-clause-rests g c =
+    let bound = g.M.StoreSeat.bound in
     let was = c.args.self.now in
     let did = c.tree.ensures in
-    holds_rests was.m.now c.tree.new.m was.minor.now (did.root.cell ∷ []) did.root.holds
+    holds_rests (bound was.m.now) (bound c.tree.new.self) was.minor.now (did.root.cell ∷ []) did.root.holds
     c.len-records.ensures.ordered did.lasts did.same was.draft was.base was.sound 1 (omega arith)
     (ap commit_numbers did.root.pass)
 
 pub returns-clause-still : goal.returns-clause-still
-returns-clause-still c =
+returns-clause-still g c =
+    let bound = g.M.StoreSeat.bound in
     let was = c.args.self.now in
     let did = c.tree.ensures in
-    holds_still was.m.now c.tree.new.m was.minor.now (did.root.cell ∷ []) did.root.holds
+    holds_still (bound was.m.now) (bound c.tree.new.self) was.minor.now (did.root.cell ∷ []) did.root.holds
     c.len-records.ensures.ordered did.lasts did.same

@@ -3,19 +3,21 @@ use Rattle.client_heap.proofs.Calls.{holds_rests, holds_sound, trim_commits}
 use Rattle.client_heap.proofs.heap.OwnHeapClientHeap.trim.Goals as goal
 
 pub invariant_of-self : goal.invariant_of-self
-invariant_of-self c =
+invariant_of-self g c =
+    let bound = g.M.StoreSeat.bound in
     let was = c.args.self.now in
     let did = c.trim.ensures in
     record {
-      sound = holds_sound was.m.now c.trim.new.m was.minor.now [] did.held
+      sound = holds_sound (bound was.m.now) (bound c.trim.new.self) was.minor.now [] did.held
           c.len-records.ensures.ordered did.lasts did.same was.draft was.base was.sound;
       copies = was.copies;
     }
 
 pub returns-clause-rests : goal.returns-clause-rests
-returns-clause-rests c =
+returns-clause-rests g c =
+    let bound = g.M.StoreSeat.bound in
     let was = c.args.self.now in
     let did = c.trim.ensures in
-    holds_rests was.m.now c.trim.new.m was.minor.now [] did.held c.len-records.ensures.ordered
+    holds_rests (bound was.m.now) (bound c.trim.new.self) was.minor.now [] did.held c.len-records.ensures.ordered
     did.lasts did.same was.draft was.base was.sound 0 (omega arith)
-    (trim_commits was.m.now c.trim.new.m c.stored.result c.args.keep did.trims did.nothing)
+    (trim_commits (bound was.m.now) (bound c.trim.new.self) c.stored.result c.args.keep did.trims did.nothing)

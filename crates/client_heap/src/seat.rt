@@ -1,0 +1,651 @@
+//! A mutator of documents, with hints: what a client's heap needs of both.
+ghost use Rattle.std.specs.Prelude.{◌≡◌, ◌<◌, ◌≤◌, ◌+◌, IfErr, IfOk, OnErr, OnOk, Err};
+ghost use Rattle.std.specs.Prelude.{[], ◌∷◌, length, max, true};
+ghost use Rattle.std.specs.Option.{ForSome, option_map};
+ghost use Rattle.std.specs.Result.{ForOk};
+ghost use Rattle.cell_words.specs.declared.fields.Field.TheVariants as field;
+ghost use Rattle.client_heap.specs.Carries.{Carries, Follows};
+ghost use Rattle.client_heap.specs.Shows.{stored};
+ghost use Rattle.client_heap.specs.Sound.{IsCleared, IsSound};
+ghost use Rattle.client_records.specs.Records.{is_shared};
+ghost use Rattle.client_trees.specs.Leaves.{Leaves, LeavesAll};
+ghost use Rattle.client_trees.specs.Nodes.{IsTreeAt, tree_at};
+ghost use Rattle.doc_edits.specs.Edits.{answered};
+ghost use Rattle.doc_records.specs.Texts.{name_asks, text_asks};
+ghost use Rattle.doc_records.specs.Trees.{IsTreeNode, tree_of};
+ghost use Rattle.doc_tree.specs.Edits.{attach, delete, set_text};
+ghost use Rattle.doc_tree.specs.Tree.{count, names_of, node};
+ghost use Rattle.heap_rule.specs.Asks.{target};
+ghost use Rattle.mutator_seat.specs.Bound.{Bound};
+ghost use Rattle.trails.specs.Asks.{Shows, gave};
+ghost use Rattle.trails.specs.Claims.{IsFull};
+ghost use Rattle.trails.specs.Marks.{marks_of};
+ghost use Rattle.trails.specs.Stretches.{Had};
+ghost use Rattle.version_rule.specs.Pass.{Pass, commit_numbers, committed};
+ghost use Rattle.version_store.specs.Calls.{Holds, version_asks};
+ghost use Rattle.version_store.specs.Commits.{FindsNewer};
+ghost use Rattle.version_store.specs.Held.{GivesLatest, GivesRoot, IsHeld, root_at};
+ghost use Rattle.version_store.specs.Lasts.{IsSameMutator, LastsAcross, marks};
+ghost use Rattle.version_store.specs.Older.{GivesOlder, Trims};
+
+use crate::drafting;
+use crate::places;
+use crate::publishing;
+use crate::walking;
+use client_session::{CommitRefusal, HeapFull, HeldVersion};
+use client_trees::NodeAt;
+use doc_tree::{EditFault, Name, Names, NoMemory, Path, Text};
+use document_versions::Documents;
+use free_cells::Hints;
+use minor_heap::MinorHeap;
+use mutator_seat::Mutator;
+use promotion::Promoter;
+use std::alloc::Global;
+use std::sync::Wait;
+use version_store::Cut;
+
+/// A mutator of documents, and the hints that it works with, as types that name no lifetime: what
+/// is lent in a struct is known again at the end where its type is a parameter.
+pub trait StoreSeat<Q> {
+    ghost bound: { Self → Bound Pass };
+
+    /// The latest version.
+    fn current(&mut self) -> version_store::HeldVersion
+        requires inside { (bound self.old).seat.me.presence.inside ≡ true }
+        requires room { length (bound self.old).seat.me.own.held + 128
+            ≤ (bound self.old).seat.me.room }
+        ensures latest { GivesLatest (bound self.old) (bound self.new) result }
+        ensures seen { (bound self.new).seat.me.pass.seen ≡ result.number }
+        ensures shows { Shows (version_asks (target (bound self.new).seat.me result.place)
+            result.number) (marks (bound self.old)) (marks (bound self.new)) }
+        ensures lasts { LastsAcross (bound self.old) (bound self.new) }
+        ensures same { IsSameMutator (bound self.old) (bound self.new) };
+
+    /// The root of a version's tree.
+    fn tree(&mut self, v: version_store::HeldVersion) -> usize
+        requires inside { (bound self.old).seat.me.presence.inside ≡ true }
+        requires room { length (bound self.old).seat.me.own.held + 128
+            ≤ (bound self.old).seat.me.room }
+        requires version { IsHeld (bound self.old) v }
+        ensures root { GivesRoot IsTreeNode tree_of (bound self.old) (bound self.new) v result }
+        ensures lasts { LastsAcross (bound self.old) (bound self.new) }
+        ensures same { IsSameMutator (bound self.old) (bound self.new) };
+
+    /// The version so many below, or a newer one that was read.
+    fn older(
+        &mut self,
+        v: version_store::HeldVersion,
+        back: u64,
+    ) -> Result<version_store::HeldVersion, Cut>
+        requires inside { (bound self.old).seat.me.presence.inside ≡ true }
+        requires room { length (bound self.old).seat.me.own.held + 128
+            ≤ (bound self.old).seat.me.room }
+        requires version { IsHeld (bound self.old) v }
+        requires back { back ≤ v.number }
+        requires kept { back < (bound self.old).seat.me.pass.keep }
+        ensures older { IfOk result (λ older.
+            GivesOlder (bound self.old) (bound self.new) v back older) }
+        ensures cut { IfErr result (λ cut.
+            FindsNewer (bound self.old) (bound self.new) v cut.newer) }
+        ensures held { OnErr result (Holds [] (bound self.old) (bound self.new)) }
+        ensures lasts { LastsAcross (bound self.old) (bound self.new) }
+        ensures same { IsSameMutator (bound self.old) (bound self.new) };
+
+    /// Cuts off what is older than the `keep` versions up to this one.
+    fn trim(&mut self, v: version_store::HeldVersion, keep: u64)
+        requires inside { (bound self.old).seat.me.presence.inside ≡ true }
+        requires room { length (bound self.old).seat.me.own.held + 128
+            ≤ (bound self.old).seat.me.room }
+        requires version { IsHeld (bound self.old) v }
+        requires setting { keep ≡ (bound self.old).seat.me.pass.keep }
+        ensures trims { keep ≤ v.number → Trims (bound self.old) (bound self.new) v keep }
+        ensures nothing { v.number < keep → bound self.new ≡ bound self.old }
+        ensures held { Holds [] (bound self.old) (bound self.new) }
+        ensures lasts { LastsAcross (bound self.old) (bound self.new) }
+        ensures same { IsSameMutator (bound self.old) (bound self.new) };
+
+    /// The node at the end of a way down from a node.
+    fn node_below(&mut self, minor: &mut MinorHeap, at: NodeAt, names: &[Name]) -> Option<NodeAt>
+        requires inside { (bound self.old).seat.me.presence.inside ≡ true }
+        requires node { IsTreeAt (bound self.old) minor.old at }
+        requires room { length (bound self.old).seat.me.own.held + (8192 + length names.now)
+            ≤ (bound self.old).seat.me.room }
+        ensures tree { option_map (tree_at (bound self.new) minor.new) result
+            ≡ node names.now (tree_at (bound self.old) minor.old at) }
+        ensures node { ForSome result (IsTreeAt (bound self.new) minor.new) }
+        ensures shared { is_shared at ≡ true → ForSome result (λ a. is_shared a ≡ true) }
+        ensures carries { Carries (length (bound self.old).seat.me.own.held)
+            (bound self.old) (bound self.new) minor.old minor.new }
+        ensures pass { (bound self.new).seat.me.pass ≡ (bound self.old).seat.me.pass }
+        ensures minor { minor.new ≡ minor.old }
+        ensures held { length (bound self.new).seat.me.own.held
+            ≤ length (bound self.old).seat.me.own.held + length names.now };
+
+    /// The text of a node.
+    fn text_of(
+        &mut self,
+        alloc: Global,
+        minor: &mut MinorHeap,
+        at: NodeAt,
+    ) -> Result<Text, NoMemory>
+        requires inside { (bound self.old).seat.me.presence.inside ≡ true }
+        requires node { IsTreeAt (bound self.old) minor.old at }
+        requires room { length (bound self.old).seat.me.own.held + 8192
+            ≤ (bound self.old).seat.me.room }
+        ensures text { IfOk result (λ text. text
+            ≡ (tree_at (bound self.old) minor.old at).text) }
+        ensures leaves { LeavesAll (bound self.old) (bound self.new) minor.old minor.new }
+        ensures shows { OnOk result (is_shared at ≡ true
+            → Shows (text_asks (tree_at (bound self.old) minor.old at).text)
+            (marks_of (bound self.old).seat.me.trail) (marks_of (bound self.new).seat.me.trail)) };
+
+    /// The names of a node's children.
+    fn names(
+        &mut self,
+        alloc: Global,
+        minor: &mut MinorHeap,
+        at: NodeAt,
+    ) -> Result<Names, NoMemory>
+        requires inside { (bound self.old).seat.me.presence.inside ≡ true }
+        requires node { IsTreeAt (bound self.old) minor.old at }
+        requires room { length (bound self.old).seat.me.own.held + 8192
+            ≤ (bound self.old).seat.me.room }
+        ensures names { IfOk result (λ names. names
+            ≡ names_of (tree_at (bound self.old) minor.old at).kids) }
+        ensures leaves { LeavesAll (bound self.old) (bound self.new) minor.old minor.new }
+        ensures shows { OnOk result (is_shared at ≡ true
+            → Shows (name_asks (names_of (tree_at (bound self.old) minor.old at).kids))
+            (marks_of (bound self.old).seat.me.trail) (marks_of (bound self.new).seat.me.trail)) };
+
+    /// How many nodes the tree of a node has.
+    fn count(&mut self, minor: &mut MinorHeap, at: NodeAt) -> u64
+        requires inside { (bound self.old).seat.me.presence.inside ≡ true }
+        requires node { IsTreeAt (bound self.old) minor.old at }
+        requires room { length (bound self.old).seat.me.own.held + 8192
+            ≤ (bound self.old).seat.me.room }
+        ensures count { result ≡ count (tree_at (bound self.old) minor.old at) }
+        ensures leaves { LeavesAll (bound self.old) (bound self.new) minor.old minor.new }
+        ensures shows { is_shared at ≡ true → Shows (gave (field.Num result) ∷ [])
+            (marks_of (bound self.old).seat.me.trail) (marks_of (bound self.new).seat.me.trail) };
+
+    /// The tree with a text at a path.
+    fn set_text(
+        &mut self,
+        minor: &mut MinorHeap,
+        root: NodeAt,
+        path: &Path,
+        text: &Text,
+    ) -> Result<NodeAt, EditFault>
+        requires inside { (bound self.old).seat.me.presence.inside ≡ true }
+        requires node { IsTreeAt (bound self.old) minor.old root }
+        requires room { length (bound self.old).seat.me.own.held + 8192
+            ≤ (bound self.old).seat.me.room }
+        requires spare { length minor.old.records + 2285 ≤ minor.old.room }
+        ensures tree { answered (tree_at (bound self.new) minor.new) result
+            ≡ set_text path.now text.now (tree_at (bound self.old) minor.old root) }
+        ensures node { ForOk result (IsTreeAt (bound self.new) minor.new) }
+        ensures leaves { Leaves (bound self.old) (bound self.new) minor.old minor.new }
+        ensures held { length (bound self.new).seat.me.own.held
+            ≤ length (bound self.old).seat.me.own.held + 8192 }
+        ensures refused { OnErr result (length (bound self.new).seat.me.own.held
+            ≡ length (bound self.old).seat.me.own.held) }
+        ensures records { length minor.new.records ≤ length minor.old.records + 509 };
+
+    /// The tree without the node at a path.
+    fn delete(
+        &mut self,
+        minor: &mut MinorHeap,
+        root: NodeAt,
+        path: &Path,
+    ) -> Result<NodeAt, EditFault>
+        requires inside { (bound self.old).seat.me.presence.inside ≡ true }
+        requires node { IsTreeAt (bound self.old) minor.old root }
+        requires room { length (bound self.old).seat.me.own.held + 8192
+            ≤ (bound self.old).seat.me.room }
+        requires spare { length minor.old.records + 2285 ≤ minor.old.room }
+        ensures tree { answered (tree_at (bound self.new) minor.new) result
+            ≡ delete path.now (tree_at (bound self.old) minor.old root) }
+        ensures node { ForOk result (IsTreeAt (bound self.new) minor.new) }
+        ensures leaves { Leaves (bound self.old) (bound self.new) minor.old minor.new }
+        ensures held { length (bound self.new).seat.me.own.held
+            ≤ length (bound self.old).seat.me.own.held + 8192 }
+        ensures refused { OnErr result (length (bound self.new).seat.me.own.held
+            ≡ length (bound self.old).seat.me.own.held) }
+        ensures records { length minor.new.records ≤ length minor.old.records + 509 };
+
+    /// The tree with another node's tree at a path.
+    fn attach(
+        &mut self,
+        minor: &mut MinorHeap,
+        root: NodeAt,
+        path: &Path,
+        sub: NodeAt,
+    ) -> Result<NodeAt, EditFault>
+        requires inside { (bound self.old).seat.me.presence.inside ≡ true }
+        requires node { IsTreeAt (bound self.old) minor.old root }
+        requires sub { IsTreeAt (bound self.old) minor.old sub }
+        requires room { length (bound self.old).seat.me.own.held + 8192
+            ≤ (bound self.old).seat.me.room }
+        requires spare { length minor.old.records + 2285 ≤ minor.old.room }
+        ensures tree { answered (tree_at (bound self.new) minor.new) result
+            ≡ attach path.now (tree_at (bound self.old) minor.old sub)
+            (tree_at (bound self.old) minor.old root) }
+        ensures node { ForOk result (IsTreeAt (bound self.new) minor.new) }
+        ensures leaves { Leaves (bound self.old) (bound self.new) minor.old minor.new }
+        ensures held { length (bound self.new).seat.me.own.held
+            ≤ length (bound self.old).seat.me.own.held + 8192 }
+        ensures refused { OnErr result (length (bound self.new).seat.me.own.held
+            ≡ length (bound self.old).seat.me.own.held) }
+        ensures records { length minor.new.records ≤ length minor.old.records + 509 };
+
+    /// Makes a node the draft.
+    fn make_draft(
+        &mut self,
+        minor: &MinorHeap,
+        draft: &mut NodeAt,
+        base: &mut usize,
+        at: NodeAt,
+    )
+        requires sound { IsSound (bound self.old) minor.now draft.old base.old }
+        requires node { IsTreeAt (bound self.old) minor.now at }
+        requires room { length (bound self.old).seat.me.own.held + length minor.now.records + 9100
+            ≤ (bound self.old).seat.me.room }
+        ensures sound { IsSound (bound self.new) minor.now draft.new base.new }
+        ensures tree { tree_at (bound self.new) minor.now draft.new
+            ≡ tree_at (bound self.old) minor.now at }
+        ensures pass { (bound self.new).seat.me.pass ≡ (bound self.old).seat.me.pass }
+        ensures held { length (bound self.new).seat.me.own.held
+            ≤ length (bound self.old).seat.me.own.held }
+        ensures follows { Follows (bound self.old) (bound self.new) minor.now minor.now };
+
+    /// Makes the next version, with the tree of a node.
+    fn publish<R: Wait>(
+        &mut self,
+        rt: &R,
+        hints: &mut Q,
+        minor: &MinorHeap,
+        promoter: &mut Promoter,
+        v: HeldVersion,
+        node: NodeAt,
+        versions: u64,
+    ) -> Result<u64, CommitRefusal>
+        requires inside { (bound self.old).seat.me.presence.inside ≡ true }
+        requires room { length (bound self.old).seat.me.own.held + length minor.now.records + 8192
+            ≤ (bound self.old).seat.me.room }
+        requires copies { minor.now.room ≤ promoter.old }
+        requires version { IsHeld (bound self.old) (stored v) }
+        requires node { IsTreeAt (bound self.old) minor.now node }
+        requires below { v.number < versions }
+        requires few { length (commit_numbers (bound self.old).seat.me.pass) < 100000 }
+        ensures number { IfOk result (λ number. number ≡ v.number + 1) }
+        ensures pass { OnOk result ((bound self.new).seat.me.pass ≡ committed (v.number + 1)
+            (tree_of (root_at (bound self.old) v.place))
+            (tree_at (bound self.old) minor.now node) (bound self.old).seat.me.pass) }
+        ensures rose { OnOk result ((bound self.old).seat.me.own.claims
+            < (bound self.new).seat.me.own.claims) }
+        ensures same { OnErr result (commit_numbers (bound self.new).seat.me.pass
+            ≡ commit_numbers (bound self.old).seat.me.pass) }
+        ensures moved { result ≡ Err CommitRefusal.Moved
+            → v.number < (bound self.new).seat.me.pass.seen }
+        ensures full { result ≡ Err CommitRefusal.Full
+            → Had (IsFull (bound self.old).seat.me.shape.cells)
+            (marks (bound self.old)) (marks (bound self.new)) }
+        ensures carries { Carries (length (bound self.old).seat.me.own.held)
+            (bound self.old) (bound self.new) minor.now minor.now }
+        ensures held { length (bound self.new).seat.me.own.held
+            ≤ length (bound self.old).seat.me.own.held + 1 }
+        ensures promoter { promoter.new ≡ promoter.old };
+
+    /// Makes room for an edit, by a minor collection where there is too little.
+    fn make_room<R: Wait>(
+        &mut self,
+        rt: &R,
+        hints: &mut Q,
+        minor: &mut MinorHeap,
+        promoter: &mut Promoter,
+        draft: &mut NodeAt,
+        base: &mut usize,
+    ) -> Result<(), HeapFull>
+        requires sound { IsSound (bound self.old) minor.old draft.old base.old }
+        requires copies { minor.old.room ≤ promoter.old }
+        requires ready { length (bound self.old).seat.me.own.held + length minor.old.records + 9000
+            ≤ (bound self.old).seat.me.room }
+        ensures sound { IsSound (bound self.new) minor.new draft.new base.new }
+        ensures cleared { OnOk result (IsCleared (bound self.new) minor.new) }
+        ensures full { OnErr result (Had (IsFull (bound self.old).seat.me.shape.cells)
+            (marks (bound self.old)) (marks (bound self.new))) }
+        ensures kept { length (bound self.new).seat.me.own.held + length minor.new.records
+            ≤ length (bound self.old).seat.me.own.held + length minor.old.records }
+        ensures tree { tree_at (bound self.new) minor.new draft.new
+            ≡ tree_at (bound self.old) minor.old draft.old }
+        ensures small { base.new ≤ max base.old 2 }
+        ensures follows { Follows (bound self.old) (bound self.new) minor.old minor.new }
+        ensures pass { (bound self.new).seat.me.pass ≡ (bound self.old).seat.me.pass }
+        ensures promoter { promoter.new ≡ promoter.old };
+
+    /// Gives back all places but the first so many.
+    fn cut_back(&mut self, minor: &MinorHeap, places: usize)
+        requires inside { (bound self.old).seat.me.presence.inside ≡ true }
+        requires some { 1 ≤ places }
+        requires kept { places ≤ length (bound self.old).seat.me.own.held }
+        ensures carries { Carries places (bound self.old) (bound self.new) minor.now minor.now }
+        ensures held { length (bound self.new).seat.me.own.held ≡ places }
+        ensures pass { (bound self.new).seat.me.pass ≡ (bound self.old).seat.me.pass };
+}
+
+impl<'h, 'q> StoreSeat<Hints<'q>> for Mutator<'h, Documents> {
+    ghost bound = { λ m. m };
+
+    fn current(&mut self) -> version_store::HeldVersion
+        requires inside { self.old.seat.me.presence.inside ≡ true }
+        requires room { length self.old.seat.me.own.held + 128
+            ≤ self.old.seat.me.room }
+        ensures latest { GivesLatest self.old self.new result }
+        ensures seen { self.new.seat.me.pass.seen ≡ result.number }
+        ensures shows { Shows (version_asks (target self.new.seat.me result.place)
+            result.number) (marks self.old) (marks self.new) }
+        ensures lasts { LastsAcross self.old self.new }
+        ensures same { IsSameMutator self.old self.new }
+    {
+        version_store::current(self)
+    }
+
+    fn tree(&mut self, v: version_store::HeldVersion) -> usize
+        requires inside { self.old.seat.me.presence.inside ≡ true }
+        requires room { length self.old.seat.me.own.held + 128
+            ≤ self.old.seat.me.room }
+        requires version { IsHeld self.old v }
+        ensures root { GivesRoot IsTreeNode tree_of self.old self.new v result }
+        ensures lasts { LastsAcross self.old self.new }
+        ensures same { IsSameMutator self.old self.new }
+    {
+        version_store::tree(self, v)
+    }
+
+    fn older(
+        &mut self,
+        v: version_store::HeldVersion,
+        back: u64,
+    ) -> Result<version_store::HeldVersion, Cut>
+        requires inside { self.old.seat.me.presence.inside ≡ true }
+        requires room { length self.old.seat.me.own.held + 128
+            ≤ self.old.seat.me.room }
+        requires version { IsHeld self.old v }
+        requires back { back ≤ v.number }
+        requires kept { back < self.old.seat.me.pass.keep }
+        ensures older { IfOk result (λ older.
+            GivesOlder self.old self.new v back older) }
+        ensures cut { IfErr result (λ cut.
+            FindsNewer self.old self.new v cut.newer) }
+        ensures held { OnErr result (Holds [] self.old self.new) }
+        ensures lasts { LastsAcross self.old self.new }
+        ensures same { IsSameMutator self.old self.new }
+    {
+        version_store::older(self, v, back)
+    }
+
+    fn trim(&mut self, v: version_store::HeldVersion, keep: u64)
+        requires inside { self.old.seat.me.presence.inside ≡ true }
+        requires room { length self.old.seat.me.own.held + 128
+            ≤ self.old.seat.me.room }
+        requires version { IsHeld self.old v }
+        requires setting { keep ≡ self.old.seat.me.pass.keep }
+        ensures trims { keep ≤ v.number → Trims self.old self.new v keep }
+        ensures nothing { v.number < keep → self.new ≡ self.old }
+        ensures held { Holds [] self.old self.new }
+        ensures lasts { LastsAcross self.old self.new }
+        ensures same { IsSameMutator self.old self.new }
+    {
+        version_store::trim(self, v, keep);
+    }
+
+    fn node_below(&mut self, minor: &mut MinorHeap, at: NodeAt, names: &[Name]) -> Option<NodeAt>
+        requires inside { self.old.seat.me.presence.inside ≡ true }
+        requires node { IsTreeAt self.old minor.old at }
+        requires room { length self.old.seat.me.own.held + (8192 + length names.now)
+            ≤ self.old.seat.me.room }
+        ensures tree { option_map (tree_at self.new minor.new) result
+            ≡ node names.now (tree_at self.old minor.old at) }
+        ensures node { ForSome result (IsTreeAt self.new minor.new) }
+        ensures shared { is_shared at ≡ true → ForSome result (λ a. is_shared a ≡ true) }
+        ensures carries { Carries (length self.old.seat.me.own.held)
+            self.old self.new minor.old minor.new }
+        ensures pass { self.new.seat.me.pass ≡ self.old.seat.me.pass }
+        ensures minor { minor.new ≡ minor.old }
+        ensures held { length self.new.seat.me.own.held
+            ≤ length self.old.seat.me.own.held + length names.now }
+    {
+        walking::node_below(self, minor, at, names)
+    }
+
+    fn text_of(
+        &mut self,
+        alloc: Global,
+        minor: &mut MinorHeap,
+        at: NodeAt,
+    ) -> Result<Text, NoMemory>
+        requires inside { self.old.seat.me.presence.inside ≡ true }
+        requires node { IsTreeAt self.old minor.old at }
+        requires room { length self.old.seat.me.own.held + 8192
+            ≤ self.old.seat.me.room }
+        ensures text { IfOk result (λ text. text
+            ≡ (tree_at self.old minor.old at).text) }
+        ensures leaves { LeavesAll self.old self.new minor.old minor.new }
+        ensures shows { OnOk result (is_shared at ≡ true
+            → Shows (text_asks (tree_at self.old minor.old at).text)
+            (marks_of self.old.seat.me.trail) (marks_of self.new.seat.me.trail)) }
+    {
+        client_trees::text_of(alloc, self, minor, at)
+    }
+
+    fn names(
+        &mut self,
+        alloc: Global,
+        minor: &mut MinorHeap,
+        at: NodeAt,
+    ) -> Result<Names, NoMemory>
+        requires inside { self.old.seat.me.presence.inside ≡ true }
+        requires node { IsTreeAt self.old minor.old at }
+        requires room { length self.old.seat.me.own.held + 8192
+            ≤ self.old.seat.me.room }
+        ensures names { IfOk result (λ names. names
+            ≡ names_of (tree_at self.old minor.old at).kids) }
+        ensures leaves { LeavesAll self.old self.new minor.old minor.new }
+        ensures shows { OnOk result (is_shared at ≡ true
+            → Shows (name_asks (names_of (tree_at self.old minor.old at).kids))
+            (marks_of self.old.seat.me.trail) (marks_of self.new.seat.me.trail)) }
+    {
+        client_trees::names(alloc, self, minor, at)
+    }
+
+    fn count(&mut self, minor: &mut MinorHeap, at: NodeAt) -> u64
+        requires inside { self.old.seat.me.presence.inside ≡ true }
+        requires node { IsTreeAt self.old minor.old at }
+        requires room { length self.old.seat.me.own.held + 8192
+            ≤ self.old.seat.me.room }
+        ensures count { result ≡ count (tree_at self.old minor.old at) }
+        ensures leaves { LeavesAll self.old self.new minor.old minor.new }
+        ensures shows { is_shared at ≡ true → Shows (gave (field.Num result) ∷ [])
+            (marks_of self.old.seat.me.trail) (marks_of self.new.seat.me.trail) }
+    {
+        client_trees::count(self, minor, at)
+    }
+
+    fn set_text(
+        &mut self,
+        minor: &mut MinorHeap,
+        root: NodeAt,
+        path: &Path,
+        text: &Text,
+    ) -> Result<NodeAt, EditFault>
+        requires inside { self.old.seat.me.presence.inside ≡ true }
+        requires node { IsTreeAt self.old minor.old root }
+        requires room { length self.old.seat.me.own.held + 8192
+            ≤ self.old.seat.me.room }
+        requires spare { length minor.old.records + 2285 ≤ minor.old.room }
+        ensures tree { answered (tree_at self.new minor.new) result
+            ≡ set_text path.now text.now (tree_at self.old minor.old root) }
+        ensures node { ForOk result (IsTreeAt self.new minor.new) }
+        ensures leaves { Leaves self.old self.new minor.old minor.new }
+        ensures held { length self.new.seat.me.own.held
+            ≤ length self.old.seat.me.own.held + 8192 }
+        ensures refused { OnErr result (length self.new.seat.me.own.held
+            ≡ length self.old.seat.me.own.held) }
+        ensures records { length minor.new.records ≤ length minor.old.records + 509 }
+    {
+        client_trees::set_text(self, minor, root, path, text)
+    }
+
+    fn delete(
+        &mut self,
+        minor: &mut MinorHeap,
+        root: NodeAt,
+        path: &Path,
+    ) -> Result<NodeAt, EditFault>
+        requires inside { self.old.seat.me.presence.inside ≡ true }
+        requires node { IsTreeAt self.old minor.old root }
+        requires room { length self.old.seat.me.own.held + 8192
+            ≤ self.old.seat.me.room }
+        requires spare { length minor.old.records + 2285 ≤ minor.old.room }
+        ensures tree { answered (tree_at self.new minor.new) result
+            ≡ delete path.now (tree_at self.old minor.old root) }
+        ensures node { ForOk result (IsTreeAt self.new minor.new) }
+        ensures leaves { Leaves self.old self.new minor.old minor.new }
+        ensures held { length self.new.seat.me.own.held
+            ≤ length self.old.seat.me.own.held + 8192 }
+        ensures refused { OnErr result (length self.new.seat.me.own.held
+            ≡ length self.old.seat.me.own.held) }
+        ensures records { length minor.new.records ≤ length minor.old.records + 509 }
+    {
+        client_trees::delete(self, minor, root, path)
+    }
+
+    fn attach(
+        &mut self,
+        minor: &mut MinorHeap,
+        root: NodeAt,
+        path: &Path,
+        sub: NodeAt,
+    ) -> Result<NodeAt, EditFault>
+        requires inside { self.old.seat.me.presence.inside ≡ true }
+        requires node { IsTreeAt self.old minor.old root }
+        requires sub { IsTreeAt self.old minor.old sub }
+        requires room { length self.old.seat.me.own.held + 8192
+            ≤ self.old.seat.me.room }
+        requires spare { length minor.old.records + 2285 ≤ minor.old.room }
+        ensures tree { answered (tree_at self.new minor.new) result
+            ≡ attach path.now (tree_at self.old minor.old sub)
+            (tree_at self.old minor.old root) }
+        ensures node { ForOk result (IsTreeAt self.new minor.new) }
+        ensures leaves { Leaves self.old self.new minor.old minor.new }
+        ensures held { length self.new.seat.me.own.held
+            ≤ length self.old.seat.me.own.held + 8192 }
+        ensures refused { OnErr result (length self.new.seat.me.own.held
+            ≡ length self.old.seat.me.own.held) }
+        ensures records { length minor.new.records ≤ length minor.old.records + 509 }
+    {
+        client_trees::attach(self, minor, root, path, sub)
+    }
+
+    fn make_draft(
+        &mut self,
+        minor: &MinorHeap,
+        draft: &mut NodeAt,
+        base: &mut usize,
+        at: NodeAt,
+    )
+        requires sound { IsSound self.old minor.now draft.old base.old }
+        requires node { IsTreeAt self.old minor.now at }
+        requires room { length self.old.seat.me.own.held + length minor.now.records + 9100
+            ≤ self.old.seat.me.room }
+        ensures sound { IsSound self.new minor.now draft.new base.new }
+        ensures tree { tree_at self.new minor.now draft.new
+            ≡ tree_at self.old minor.now at }
+        ensures pass { self.new.seat.me.pass ≡ self.old.seat.me.pass }
+        ensures held { length self.new.seat.me.own.held
+            ≤ length self.old.seat.me.own.held }
+        ensures follows { Follows self.old self.new minor.now minor.now }
+    {
+        drafting::make_draft(self, minor, draft, base, at);
+    }
+
+    fn publish<R: Wait>(
+        &mut self,
+        rt: &R,
+        hints: &mut Hints<'q>,
+        minor: &MinorHeap,
+        promoter: &mut Promoter,
+        v: HeldVersion,
+        node: NodeAt,
+        versions: u64,
+    ) -> Result<u64, CommitRefusal>
+        requires inside { self.old.seat.me.presence.inside ≡ true }
+        requires room { length self.old.seat.me.own.held + length minor.now.records + 8192
+            ≤ self.old.seat.me.room }
+        requires copies { minor.now.room ≤ promoter.old }
+        requires version { IsHeld self.old (stored v) }
+        requires node { IsTreeAt self.old minor.now node }
+        requires below { v.number < versions }
+        requires few { length (commit_numbers self.old.seat.me.pass) < 100000 }
+        ensures number { IfOk result (λ number. number ≡ v.number + 1) }
+        ensures pass { OnOk result (self.new.seat.me.pass ≡ committed (v.number + 1)
+            (tree_of (root_at self.old v.place))
+            (tree_at self.old minor.now node) self.old.seat.me.pass) }
+        ensures rose { OnOk result (self.old.seat.me.own.claims
+            < self.new.seat.me.own.claims) }
+        ensures same { OnErr result (commit_numbers self.new.seat.me.pass
+            ≡ commit_numbers self.old.seat.me.pass) }
+        ensures moved { result ≡ Err CommitRefusal.Moved
+            → v.number < self.new.seat.me.pass.seen }
+        ensures full { result ≡ Err CommitRefusal.Full
+            → Had (IsFull self.old.seat.me.shape.cells)
+            (marks self.old) (marks self.new) }
+        ensures carries { Carries (length self.old.seat.me.own.held)
+            self.old self.new minor.now minor.now }
+        ensures held { length self.new.seat.me.own.held
+            ≤ length self.old.seat.me.own.held + 1 }
+        ensures promoter { promoter.new ≡ promoter.old }
+    {
+        publishing::publish(rt, hints, self, minor, promoter, v, node, versions)
+    }
+
+    fn make_room<R: Wait>(
+        &mut self,
+        rt: &R,
+        hints: &mut Hints<'q>,
+        minor: &mut MinorHeap,
+        promoter: &mut Promoter,
+        draft: &mut NodeAt,
+        base: &mut usize,
+    ) -> Result<(), HeapFull>
+        requires sound { IsSound self.old minor.old draft.old base.old }
+        requires copies { minor.old.room ≤ promoter.old }
+        requires ready { length self.old.seat.me.own.held + length minor.old.records + 9000
+            ≤ self.old.seat.me.room }
+        ensures sound { IsSound self.new minor.new draft.new base.new }
+        ensures cleared { OnOk result (IsCleared self.new minor.new) }
+        ensures full { OnErr result (Had (IsFull self.old.seat.me.shape.cells)
+            (marks self.old) (marks self.new)) }
+        ensures kept { length self.new.seat.me.own.held + length minor.new.records
+            ≤ length self.old.seat.me.own.held + length minor.old.records }
+        ensures tree { tree_at self.new minor.new draft.new
+            ≡ tree_at self.old minor.old draft.old }
+        ensures small { base.new ≤ max base.old 2 }
+        ensures follows { Follows self.old self.new minor.old minor.new }
+        ensures pass { self.new.seat.me.pass ≡ self.old.seat.me.pass }
+        ensures promoter { promoter.new ≡ promoter.old }
+    {
+        drafting::make_room(rt, hints, self, minor, promoter, draft, base)
+    }
+
+    fn cut_back(&mut self, minor: &MinorHeap, places: usize)
+        requires inside { self.old.seat.me.presence.inside ≡ true }
+        requires some { 1 ≤ places }
+        requires kept { places ≤ length self.old.seat.me.own.held }
+        ensures carries { Carries places self.old self.new minor.now minor.now }
+        ensures held { length self.new.seat.me.own.held ≡ places }
+        ensures pass { self.new.seat.me.pass ≡ self.old.seat.me.pass }
+    {
+        places::cut_back(self, minor, places);
+    }
+}
