@@ -28,6 +28,7 @@ pub(crate) fn begin<H: ClientHeap, R: Wait>(rt: &R, heap: &mut H) -> Result<Open
         Begins (H.state heap.old) (H.state heap.new) (H.shown heap.new) opened) }
     ensures shared { IfOk result (λ opened. H.shared opened.root ≡ true) }
     ensures full { IfErr result (λ shown. FindsFull (H.state heap.old) (H.state heap.new) shown) }
+    ensures lent { H.lent heap.new ≡ H.lent heap.old }
 {
     match heap.make_room(rt) {
         Ok(()) => Ok(open(heap)),
@@ -50,6 +51,7 @@ fn attached<H: ClientHeap>(
     ensures node { IfOk result (λ at. (H.shown heap.new).is_node at) }
     ensures edits { Edits 8 (H.state heap.old) (H.state heap.new) }
     ensures still { Still (H.shown heap.old) (H.shown heap.new) }
+    ensures lent { H.lent heap.new ≡ H.lent heap.old }
 {
     match heap.node(root, from) {
         Some(sub) => {
@@ -79,6 +81,7 @@ impl Journal {
             (H.state heap.old) (Ok ((H.shown heap.old).tree at))
             → full_place version.number (account_of self.now s) c ≡ Some version.number
             → Ends self.now c s (H.state heap.new) result }
+        ensures lent { H.lent heap.new ≡ H.lent heap.old }
     {
         let shown = version.number;
         let versions = u64::from(self.limits.versions);
@@ -113,6 +116,7 @@ impl Journal {
             (H.state heap.old) (answered (H.shown heap.old).tree edited)
             → full_place version.number (account_of self.now s) c ≡ Some version.number
             → Ends self.now c s (H.state heap.new) result }
+        ensures lent { H.lent heap.new ≡ H.lent heap.old }
     {
         match edited {
             Ok(at) => {
@@ -138,6 +142,7 @@ impl Journal {
         requires room { 9100 ≤ (H.state heap.old).room }
         ensures ends { Ends self.now (command.Put path.now text.now) (H.state heap.old)
             (H.state heap.new) result }
+        ensures lent { H.lent heap.new ≡ H.lent heap.old }
     {
         match begin(rt, heap) {
             Ok(opened) => {
@@ -160,6 +165,7 @@ impl Journal {
         requires room { 9100 ≤ (H.state heap.old).room }
         ensures ends { Ends self.now (command.Del path.now) (H.state heap.old) (H.state heap.new)
             result }
+        ensures lent { H.lent heap.new ≡ H.lent heap.old }
     {
         match begin(rt, heap) {
             Ok(opened) => {
@@ -183,6 +189,7 @@ impl Journal {
         requires room { 9100 ≤ (H.state heap.old).room }
         ensures ends { Ends self.now (command.Copy «from».now to.now) (H.state heap.old)
             (H.state heap.new) result }
+        ensures lent { H.lent heap.new ≡ H.lent heap.old }
     {
         match begin(rt, heap) {
             Ok(opened) => {
@@ -205,6 +212,7 @@ impl Journal {
         requires room { 9100 ≤ (H.state heap.old).room }
         ensures ends { Ends self.now (command.Publish path.now) (H.state heap.old)
             (H.state heap.new) result }
+        ensures lent { H.lent heap.new ≡ H.lent heap.old }
     {
         match begin(rt, heap) {
             Ok(opened) => {

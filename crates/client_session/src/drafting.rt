@@ -42,6 +42,7 @@ impl Journal {
         requires room { 9100 ≤ (H.state heap.old).room }
         ensures ends { Ends self.now (command.DraftPut path.now text.now) (H.state heap.old)
             (H.state heap.new) result }
+        ensures lent { H.lent heap.new ≡ H.lent heap.old }
     {
         let shown = self.last;
         match heap.make_room(rt) {
@@ -73,6 +74,7 @@ impl Journal {
         requires room { 9100 ≤ (H.state heap.old).room }
         ensures ends { Ends self.now (command.Take path.now) (H.state heap.old)
             (H.state heap.new) result }
+        ensures lent { H.lent heap.new ≡ H.lent heap.old }
     {
         match begin(rt, heap) {
             Ok(opened) => {

@@ -23,15 +23,20 @@ use std::sync::Wait;
 /// The cells, private records and draft of one client. What a call hands out stands until `settle`
 /// or `make_room`; the draft stays.
 ///
-/// A call that reads asks for 8,192 places, since it may hold cells on its way. An edit asks for as
-/// many more as that once all places but the draft's are given back, there is room again for every
-/// reading; so does a new draft.
+/// A call that reads asks for 8,192 places, since it may hold cells on its way, and one that goes
+/// down a path for eight more, which it may keep. An edit asks for as many more as that once all
+/// places but the draft's are given back, there is room again for every reading; so does a new
+/// draft.
 pub trait ClientHeap {
     type At: Copy;
 
     ghost state: { Self → ClientState };
 
     ghost shown: { Self → Handles Self.At };
+
+    /// The names of what the heap borrows. No call changes them: whoever lends it something knows
+    /// behind each call that this is what the heap has.
+    ghost lent: { Self → ℕ × (ℕ × (ℕ × ℕ)) };
 
     /// The node is one of the shared heap.
     ghost shared: { Self.At → Bool };
@@ -45,7 +50,8 @@ pub trait ClientHeap {
         ensures seen { (state self.old).pass.seen ≤ result.number }
         ensures version { (shown self.new).is_version result }
         ensures rests { Rests 1 (state self.old) (state self.new) }
-        ensures still { Still (shown self.old) (shown self.new) };
+        ensures still { Still (shown self.old) (shown self.new) }
+        ensures lent { lent self.new ≡ lent self.old };
 
     /// The root of a version's tree, which the pass has read from then on.
     fn tree(&mut self, v: HeldVersion) -> Self::At
@@ -57,7 +63,8 @@ pub trait ClientHeap {
         ensures tree { (shown self.new).tree result ≡ (shown self.old).root v }
         ensures shared { shared result ≡ true }
         ensures rests { Rests 1 (state self.old) (state self.new) }
-        ensures still { Still (shown self.old) (shown self.new) };
+        ensures still { Still (shown self.old) (shown self.new) }
+        ensures lent { lent self.new ≡ lent self.old };
 
     /// The version so many before, or none where a newer one has cut it off.
     fn older(&mut self, v: HeldVersion, back: u64) -> Option<HeldVersion>
@@ -70,11 +77,12 @@ pub trait ClientHeap {
         ensures pass { IfSome result (λ older. (state self.new).pass ≡ (state self.old).pass) }
         ensures newer { result ≡ None → v.number < (state self.new).pass.seen }
         ensures rests { Rests 1 (state self.old) (state self.new) }
-        ensures still { Still (shown self.old) (shown self.new) };
+        ensures still { Still (shown self.old) (shown self.new) }
+        ensures lent { lent self.new ≡ lent self.old };
 
     /// The node at a path below a node.
     fn node(&mut self, root: Self::At, path: &Path) -> Option<Self::At>
-        requires room { 8192 ≤ (state self.old).room }
+        requires room { 8200 ≤ (state self.old).room }
         requires node { (shown self.old).is_node root }
         ensures tree { option_map (shown self.new).tree result
             ≡ node path.now ((shown self.old).tree root) }
@@ -82,7 +90,8 @@ pub trait ClientHeap {
         ensures shared { shared root ≡ true → IfSome result (λ at. shared at ≡ true) }
         ensures pass { (state self.new).pass ≡ (state self.old).pass }
         ensures rests { Rests 8 (state self.old) (state self.new) }
-        ensures still { Still (shown self.old) (shown self.new) };
+        ensures still { Still (shown self.old) (shown self.new) }
+        ensures lent { lent self.new ≡ lent self.old };
 
     /// The text of a node.
     fn text(&mut self, alloc: Global, at: Self::At) -> Result<Text, NoMemory>
@@ -94,7 +103,8 @@ pub trait ClientHeap {
             (state self.old).marks (state self.new).marks) }
         ensures pass { (state self.new).pass ≡ (state self.old).pass }
         ensures rests { Rests 0 (state self.old) (state self.new) }
-        ensures still { Still (shown self.old) (shown self.new) };
+        ensures still { Still (shown self.old) (shown self.new) }
+        ensures lent { lent self.new ≡ lent self.old };
 
     /// The names of its children.
     fn names(&mut self, alloc: Global, at: Self::At) -> Result<Names, NoMemory>
@@ -106,7 +116,8 @@ pub trait ClientHeap {
             (state self.old).marks (state self.new).marks) }
         ensures pass { (state self.new).pass ≡ (state self.old).pass }
         ensures rests { Rests 0 (state self.old) (state self.new) }
-        ensures still { Still (shown self.old) (shown self.new) };
+        ensures still { Still (shown self.old) (shown self.new) }
+        ensures lent { lent self.new ≡ lent self.old };
 
     /// How many nodes its tree has.
     fn count(&mut self, at: Self::At) -> u64
@@ -117,7 +128,8 @@ pub trait ClientHeap {
             (state self.old).marks (state self.new).marks }
         ensures pass { (state self.new).pass ≡ (state self.old).pass }
         ensures rests { Rests 0 (state self.old) (state self.new) }
-        ensures still { Still (shown self.old) (shown self.new) };
+        ensures still { Still (shown self.old) (shown self.new) }
+        ensures lent { lent self.new ≡ lent self.old };
 
     /// The client's draft.
     fn draft(&self) -> Self::At
@@ -133,7 +145,8 @@ pub trait ClientHeap {
             ≡ set_text path.now text.now ((shown self.old).tree root) }
         ensures node { IfOk result (λ at. (shown self.new).is_node at) }
         ensures edits { Edits 0 (state self.old) (state self.new) }
-        ensures still { Still (shown self.old) (shown self.new) };
+        ensures still { Still (shown self.old) (shown self.new) }
+        ensures lent { lent self.new ≡ lent self.old };
 
     /// The tree without the node at a path.
     fn delete(&mut self, root: Self::At, path: &Path) -> Result<Self::At, EditFault>
@@ -144,7 +157,8 @@ pub trait ClientHeap {
             ≡ delete path.now ((shown self.old).tree root) }
         ensures node { IfOk result (λ at. (shown self.new).is_node at) }
         ensures edits { Edits 0 (state self.old) (state self.new) }
-        ensures still { Still (shown self.old) (shown self.new) };
+        ensures still { Still (shown self.old) (shown self.new) }
+        ensures lent { lent self.new ≡ lent self.old };
 
     /// The tree with another node's tree at a path.
     fn attach(&mut self, root: Self::At, path: &Path, sub: Self::At) -> Result<Self::At, EditFault>
@@ -156,7 +170,8 @@ pub trait ClientHeap {
             ≡ attach path.now ((shown self.old).tree sub) ((shown self.old).tree root) }
         ensures node { IfOk result (λ at. (shown self.new).is_node at) }
         ensures edits { Edits 0 (state self.old) (state self.new) }
-        ensures still { Still (shown self.old) (shown self.new) };
+        ensures still { Still (shown self.old) (shown self.new) }
+        ensures lent { lent self.new ≡ lent self.old };
 
     /// The node's tree is the draft from then on, and the places that are held stay.
     fn set_draft(&mut self, at: Self::At)
@@ -165,7 +180,8 @@ pub trait ClientHeap {
         ensures draft { (state self.new).draft ≡ (shown self.old).tree at }
         ensures pass { (state self.new).pass ≡ (state self.old).pass }
         ensures room { (state self.old).room ≤ (state self.new).room }
-        ensures lasts { Lasts (state self.old) (state self.new) };
+        ensures lasts { Lasts (state self.old) (state self.new) }
+        ensures lent { lent self.new ≡ lent self.old };
 
     /// Makes the next version, with the node's tree, over a version that is held: the node is
     /// promoted, and then committed. It is not tried again where another client was faster.
@@ -194,7 +210,8 @@ pub trait ClientHeap {
         ensures draft { (state self.new).draft ≡ (state self.old).draft }
         ensures base { (state self.new).base ≡ (state self.old).base }
         ensures room { (state self.old).room ≤ (state self.new).room + 1 }
-        ensures lasts { Lasts (state self.old) (state self.new) };
+        ensures lasts { Lasts (state self.old) (state self.new) }
+        ensures lent { lent self.new ≡ lent self.old };
 
     /// Cuts off what is older than is kept.
     fn trim(&mut self, v: HeldVersion, keep: u64)
@@ -202,7 +219,8 @@ pub trait ClientHeap {
         requires version { (shown self.old).is_version v }
         requires keep { keep ≡ (state self.old).pass.keep }
         ensures due { v.number + 1 ≤ (state self.new).pass.cut + keep }
-        ensures rests { Rests 0 (state self.old) (state self.new) };
+        ensures rests { Rests 0 (state self.old) (state self.new) }
+        ensures lent { lent self.new ≡ lent self.old };
 
     /// Makes room for an edit, by a minor collection where there is too little.
     fn make_room<R: Wait>(&mut self, rt: &R) -> Result<(), HeapFull>
@@ -215,11 +233,13 @@ pub trait ClientHeap {
         ensures pass { (state self.new).pass ≡ (state self.old).pass }
         ensures draft { (state self.new).draft ≡ (state self.old).draft }
         ensures small { StaysSmall (state self.old) (state self.new) }
-        ensures lasts { Lasts (state self.old) (state self.new) };
+        ensures lasts { Lasts (state self.old) (state self.new) }
+        ensures lent { lent self.new ≡ lent self.old };
 
     /// Gives back all places but those that the draft needs.
     fn settle(&mut self)
         ensures room { 9100 ≤ (state self.new).room }
         ensures pass { (state self.new).pass ≡ (state self.old).pass }
-        ensures rests { Rests 0 (state self.old) (state self.new) };
+        ensures rests { Rests 0 (state self.old) (state self.new) }
+        ensures lent { lent self.new ≡ lent self.old };
 }

@@ -18,9 +18,9 @@ pub struct Limits {
 /// `answer`.
 #[derive(Debug, Drop)]
 pub struct Journal {
-    pub(crate) limits: Limits,
-    pub(crate) last: u64,
-    pub(crate) log: Log,
+    pub limits: Limits,
+    pub last: u64,
+    pub log: Log,
 }
 
 impl Journal {

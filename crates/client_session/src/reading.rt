@@ -20,6 +20,7 @@ pub(crate) fn open<H: ClientHeap>(heap: &mut H) -> Opened<H::At>
     requires room { 9100 ≤ (H.state heap.old).room }
     ensures opens { Opens (H.state heap.old) (H.state heap.new) (H.shown heap.new) result }
     ensures shared { H.shared result.root ≡ true }
+    ensures lent { H.lent heap.new ≡ H.lent heap.old }
 {
     let version = heap.current();
     let root = heap.tree(version);
@@ -47,6 +48,7 @@ fn text_given<H: ClientHeap>(
     ensures place { IfOk result (λ given. given.place ≡ place) }
     ensures pass { (H.state heap.new).pass ≡ (H.state heap.old).pass }
     ensures rests { Rests 8 (H.state heap.old) (H.state heap.new) }
+    ensures lent { H.lent heap.new ≡ H.lent heap.old }
 {
     match heap.node(root, path) {
         Some(at) => {
@@ -82,6 +84,7 @@ fn names_given<H: ClientHeap>(
     ensures place { IfOk result (λ given. given.place ≡ shown) }
     ensures pass { (H.state heap.new).pass ≡ (H.state heap.old).pass }
     ensures rests { Rests 8 (H.state heap.old) (H.state heap.new) }
+    ensures lent { H.lent heap.new ≡ H.lent heap.old }
 {
     match heap.node(root, path) {
         Some(at) => {
@@ -110,6 +113,7 @@ fn count_given<H: ClientHeap>(heap: &mut H, root: H::At, path: &Path, shown: u64
     ensures place { result.place ≡ shown }
     ensures pass { (H.state heap.new).pass ≡ (H.state heap.old).pass }
     ensures rests { Rests 8 (H.state heap.old) (H.state heap.new) }
+    ensures lent { H.lent heap.new ≡ H.lent heap.old }
 {
     match heap.node(root, path) {
         Some(at) => {
@@ -132,6 +136,7 @@ impl Journal {
         requires room { 9100 ≤ (H.state heap.old).room }
         ensures ends { Ends self.now (command.Get path.now) (H.state heap.old) (H.state heap.new)
             result }
+        ensures lent { H.lent heap.new ≡ H.lent heap.old }
     {
         let opened = open(heap);
         let shown = opened.version.number;
@@ -150,6 +155,7 @@ impl Journal {
         requires room { 9100 ≤ (H.state heap.old).room }
         ensures ends { Ends self.now (command.List path.now) (H.state heap.old) (H.state heap.new)
             result }
+        ensures lent { H.lent heap.new ≡ H.lent heap.old }
     {
         let opened = open(heap);
         let given = names_given(alloc, heap, opened.root, path, opened.version.number)?;
@@ -166,6 +172,7 @@ impl Journal {
         requires room { 9100 ≤ (H.state heap.old).room }
         ensures ends { Ends self.now (command.Size path.now) (H.state heap.old) (H.state heap.new)
             result }
+        ensures lent { H.lent heap.new ≡ H.lent heap.old }
     {
         let opened = open(heap);
         let given = count_given(heap, opened.root, path, opened.version.number);
@@ -185,6 +192,7 @@ impl Journal {
         requires room { 9100 ≤ (H.state heap.old).room }
         ensures ends { Ends self.now (command.Old back path.now) (H.state heap.old)
             (H.state heap.new) result }
+        ensures lent { H.lent heap.new ≡ H.lent heap.old }
     {
         let latest = heap.current();
         let shown = latest.number;
@@ -216,6 +224,7 @@ impl Journal {
         requires room { 9100 ≤ (H.state heap.old).room }
         ensures ends { Ends self.now (command.DraftGet path.now) (H.state heap.old)
             (H.state heap.new) result }
+        ensures lent { H.lent heap.new ≡ H.lent heap.old }
     {
         let draft = heap.draft();
         let given = text_given(alloc, heap, draft, path, self.last, self.last)?;

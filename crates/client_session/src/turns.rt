@@ -25,6 +25,7 @@ impl Journal {
         requires may { MayTurn self.now (H.state heap.old) }
         requires room { 9100 ≤ (H.state heap.old).room }
         ensures ends { Ends self.now command.now (H.state heap.old) (H.state heap.new) result }
+        ensures lent { H.lent heap.new ≡ H.lent heap.old }
     {
         match command {
             Command::Put { path, text } => self.put(rt, heap, path, text),
@@ -52,6 +53,7 @@ impl Journal {
         requires may { MayTurn self.now (H.state heap.old) }
         requires ready { IsReady (H.state heap.old) }
         ensures ends { Ends self.now command.now (H.state heap.old) (H.state heap.new) result }
+        ensures lent { H.lent heap.new ≡ H.lent heap.old }
     {
         heap.settle();
         let ended = self.try_once(alloc, rt, heap, command);
@@ -72,6 +74,7 @@ impl Journal {
         ensures answered { IfOk result (λ given.
             Answered self.now command.now (H.state heap.old) (H.state heap.new) given) }
         ensures lost { OnErr result (Lost (H.state heap.old) (H.state heap.new)) }
+        ensures lent { H.lent heap.new ≡ H.lent heap.old }
     {
         for _ in rt.forever() {
             let ended = self.turn(alloc, rt, heap, command)?;
@@ -106,6 +109,7 @@ impl Journal {
         ensures last { OnErr result (self.new.last ≡ self.old.last) }
         ensures entries { OnErr result (self.new.log.entries ≡ self.old.log.entries) }
         ensures lost { OnErr result (Lost (H.state heap.old) (H.state heap.new)) }
+        ensures lent { H.lent heap.new ≡ H.lent heap.old }
     {
         self.log.reserve(1)?;
         let copied = command.copy()?;

@@ -19,23 +19,20 @@ finish-ended-requires g c =
       node = edits.node;
     }
 
-pub returns-in-Ok : goal.returns-in-Ok
-returns-in-Ok g c =
+pub returns-in-Ok-clause-ends : goal.returns-in-Ok-clause-ends
+returns-in-Ok-clause-ends g c =
     let h = g.H.ClientHeap in
     let j = c.args.self.now in
     let source = c.args.«from».now in
     let to = c.args.to.now in
     let copy = command.Copy source to in
-    record {
-      ends = c.finish-ended.ensures.ends copy (h.state c.args.heap.now)
-          (edited_begun j copy c.in-Ok.opened 8
-          (λ (d : DocTree). attached to d (node source d)) _ c.requires.may
-          c.in-Ok.ensures.begins c.attached-edited.ensures.edits c.attached-edited.ensures.tree
-          (λ d. attached_spared to d (node source d)) (λ trees. refl)) refl;
-    }
+    c.finish-ended.ensures.ends copy (h.state c.args.heap.now)
+    (edited_begun j copy c.in-Ok.opened 8
+    (λ (d : DocTree). attached to d (node source d)) _ c.requires.may
+    c.in-Ok.ensures.begins c.attached-edited.ensures.edits c.attached-edited.ensures.tree
+    (λ d. attached_spared to d (node source d)) (λ trees. refl)) refl
 
-pub returns-in-Err : goal.returns-in-Err
-returns-in-Err g c = record {
-  ends = full_ends c.args.self.now (command.Copy c.args.«from».now c.args.to.now) c.in-Err.shown
-      c.requires.may refl c.in-Err.ensures.full;
-}
+pub returns-in-Err-clause-ends : goal.returns-in-Err-clause-ends
+returns-in-Err-clause-ends g c =
+    full_ends c.args.self.now (command.Copy c.args.«from».now c.args.to.now) c.in-Err.shown
+    c.requires.may refl c.in-Err.ensures.full

@@ -4,32 +4,28 @@ use Rattle.client_session.proofs.Rooms.{same_none}
 use Rattle.client_session.proofs.journal.Journal.draft_put.Goals as goal
 use Rattle.doc_tree.specs.Edits.{set_text}
 
-pub returns-in-Err : goal.returns-in-Err
-returns-in-Err g c =
+pub returns-in-Err-clause-ends : goal.returns-in-Err-clause-ends
+returns-in-Err-clause-ends g c =
     let made = c.in-Err.ensures in
-    record {
-      ends = dput_full_ends c.args.self.now c.args.path.now c.requires.may c.args.text.now
-          (same_none made.pass made.draft made.small made.lasts)
-          (let x = made.kept in omega (arith, x, c.requires.room)) made.full;
-    }
+    dput_full_ends c.args.self.now c.args.path.now c.requires.may c.args.text.now
+    (same_none made.pass made.draft made.small made.lasts)
+    (let x = made.kept in omega (arith, x, c.requires.room)) made.full
 
-pub returns-in-Ok-refused : goal.returns-in-Ok-refused
-returns-in-Ok-refused g c =
+pub returns-in-Ok-refused-clause-ends : goal.returns-in-Ok-refused-clause-ends
+returns-in-Ok-refused-clause-ends g c =
     let h = g.H.ClientHeap in
     let made = c.in-Ok.ensures in
     let told = c.in-Ok-refused.ensures in
     let room : 9_000 ≤ (h.state c.set_text.new.self).room =
     (let x = made.room in let y = c.set_text.ensures.edits.room in omega (arith, x, y)) in
-    record {
-      ends = dput_refused_ends c.args.self.now c.args.path.now c.requires.may c.args.text.now
-          c.in-Err-set_text.fault c.in-Ok-refused.given 0
-          (same_none made.pass made.draft made.small made.lasts) c.set_text.ensures.edits
-          (ap (set_text c.args.path.now c.args.text.now) (sym c.draft-draft.ensures.tree)
-          ∙ sym c.in-Err-set_text.ensures.tree) room told.reply told.kept told.place;
-    }
+    dput_refused_ends c.args.self.now c.args.path.now c.requires.may c.args.text.now
+    c.in-Err-set_text.fault c.in-Ok-refused.given 0
+    (same_none made.pass made.draft made.small made.lasts) c.set_text.ensures.edits
+    (ap (set_text c.args.path.now c.args.text.now) (sym c.draft-draft.ensures.tree)
+    ∙ sym c.in-Err-set_text.ensures.tree) room told.reply told.kept told.place
 
-pub returns-in-Ok-set_text : goal.returns-in-Ok-set_text
-returns-in-Ok-set_text g c =
+pub returns-in-Ok-set_text-clause-ends : goal.returns-in-Ok-set_text-clause-ends
+returns-in-Ok-set_text-clause-ends g c =
     let h = g.H.ClientHeap in
     let made = c.in-Ok.ensures in
     let set = c.set_draft.ensures in
@@ -39,9 +35,7 @@ returns-in-Ok-set_text g c =
     let y = c.set_text.ensures.edits.room in
     let z = set.room in
     omega (arith, x, y, z)) in
-    record {
-      ends = dput_ends c.args.self.now c.args.path.now c.requires.may c.args.text.now tree 0
-          (same_none made.pass made.draft made.small made.lasts) c.set_text.ensures.edits
-          (ap (set_text c.args.path.now c.args.text.now) (sym c.draft-draft.ensures.tree)
-          ∙ sym c.in-Ok-set_text.ensures.tree) (drafts_of set.pass set.draft set.lasts) room;
-    }
+    dput_ends c.args.self.now c.args.path.now c.requires.may c.args.text.now tree 0
+    (same_none made.pass made.draft made.small made.lasts) c.set_text.ensures.edits
+    (ap (set_text c.args.path.now c.args.text.now) (sym c.draft-draft.ensures.tree)
+    ∙ sym c.in-Ok-set_text.ensures.tree) (drafts_of set.pass set.draft set.lasts) room

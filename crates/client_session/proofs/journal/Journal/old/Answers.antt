@@ -7,20 +7,18 @@ use Rattle.client_turns.proofs.States.{rests_none}
 use Rattle.doc_tree.specs.Tree.{DocTree}
 use Rattle.version_rule.specs.Pass.{reading}
 
-pub returns-then-from-shown : goal.returns-then-from-shown
-returns-then-from-shown g c =
+pub returns-then-from-shown-clause-ends : goal.returns-then-from-shown-clause-ends
+returns-then-from-shown-clause-ends g c =
     let latest = c.current-latest.ensures in
     let v = c.current-latest.result.number in
     let read = read_current v latest.shows.0 latest.shows.1 latest.pass latest.seen
     (rests_none latest.rests) in
     let far : v < c.args.back = omega (arith, c.if-from-shown.true, c.from.ensures) in
-    record {
-      ends = old_before_ends c.args.self.now c.requires.may c.requires.room c.args.path.now v
-          c.args.back read latest.rests far;
-    }
+    old_before_ends c.args.self.now c.requires.may c.requires.room c.args.path.now v
+    c.args.back read latest.rests far
 
-pub returns-then-back-self : goal.returns-then-back-self
-returns-then-back-self g c =
+pub returns-then-back-self-clause-ends : goal.returns-then-back-self-clause-ends
+returns-then-back-self-clause-ends g c =
     let latest = c.current-latest.ensures in
     let v = c.current-latest.result.number in
     let read = read_current v latest.shows.0 latest.shows.1 latest.pass latest.seen
@@ -28,13 +26,11 @@ returns-then-back-self g c =
     let is : v - c.args.back ≡ v - c.from-2.result =
     ap (λ (n : ℕ). v - n) (sym c.from-2.ensures) in
     let there : c.args.back ≤ v = omega (arith, c.if-from-shown.false, c.from.ensures) in
-    record {
-      ends = old_gone_ends c.args.self.now c.requires.may c.requires.room c.args.path.now v
-          c.args.back read latest.rests (v - c.from-2.result) is there c.if-back-self.true;
-    }
+    old_gone_ends c.args.self.now c.requires.may c.requires.room c.args.path.now v
+    c.args.back read latest.rests (v - c.from-2.result) is there c.if-back-self.true
 
-pub returns-in_ok-given-in-Some : goal.returns-in_ok-given-in-Some
-returns-in_ok-given-in-Some g c =
+pub returns-in_ok-given-in-Some-clause-ends : goal.returns-in_ok-given-in-Some-clause-ends
+returns-in_ok-given-in-Some-clause-ends g c =
     let h = g.H.ClientHeap in
     let latest = c.current-latest.ensures in
     let v = c.current-latest.result.number in
@@ -52,9 +48,7 @@ returns-in_ok-given-in-Some g c =
     c.tree-root.ensures.pass
     ∙ ap (λ (d : DocTree). reading number d t.pass) (sym c.tree-root.ensures.tree) in
     let given = c.in_ok-given-in-Some.ensures in
-    record {
-      ends = old_ends c.args.self.now c.requires.may c.requires.room c.args.path.now v c.args.back
-          read latest.rests number (v - c.from-2.result) root c.in_ok-given-in-Some.given total is
-          c.if-back-self.false older.rests pass c.tree-root.ensures.rests given.told given.kept
-          given.place given.plain given.rests (given.shows c.tree-root.ensures.shared);
-    }
+    old_ends c.args.self.now c.requires.may c.requires.room c.args.path.now v c.args.back
+    read latest.rests number (v - c.from-2.result) root c.in_ok-given-in-Some.given total is
+    c.if-back-self.false older.rests pass c.tree-root.ensures.rests given.told given.kept
+    given.place given.plain given.rests (given.shows c.tree-root.ensures.shared)

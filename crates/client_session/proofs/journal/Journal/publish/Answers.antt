@@ -19,8 +19,8 @@ finish-ended-requires g c =
       node = edits.node;
     }
 
-pub returns-in-Ok : goal.returns-in-Ok
-returns-in-Ok g c =
+pub returns-in-Ok-clause-ends : goal.returns-in-Ok-clause-ends
+returns-in-Ok-clause-ends g c =
     let h = g.H.ClientHeap in
     let j = c.args.self.now in
     let path = c.args.path.now in
@@ -28,18 +28,15 @@ returns-in-Ok g c =
     let begins = c.in-Ok.ensures.begins in
     let root = (h.shown c.begin.new.heap).tree c.in-Ok.opened.root in
     let publish = command.Publish path in
-    record {
-      ends = c.finish-ended.ensures.ends publish s
-          (edited_begun j publish c.in-Ok.opened 0 (attach path s.draft) _ c.requires.may
-          begins c.attach-edited.ensures.edits
-          (c.attach-edited.ensures.tree
-          ∙ ap (λ (d : DocTree). attach path d root)
-          (c.draft-draft.ensures.tree ∙ begins.read.none.draft))
-          (attach_spared path s.draft) (λ trees. refl)) refl;
-    }
+    c.finish-ended.ensures.ends publish s
+    (edited_begun j publish c.in-Ok.opened 0 (attach path s.draft) _ c.requires.may
+    begins c.attach-edited.ensures.edits
+    (c.attach-edited.ensures.tree
+    ∙ ap (λ (d : DocTree). attach path d root)
+    (c.draft-draft.ensures.tree ∙ begins.read.none.draft))
+    (attach_spared path s.draft) (λ trees. refl)) refl
 
-pub returns-in-Err : goal.returns-in-Err
-returns-in-Err g c = record {
-  ends = full_ends c.args.self.now (command.Publish c.args.path.now) c.in-Err.shown
-      c.requires.may refl c.in-Err.ensures.full;
-}
+pub returns-in-Err-clause-ends : goal.returns-in-Err-clause-ends
+returns-in-Err-clause-ends g c =
+    full_ends c.args.self.now (command.Publish c.args.path.now) c.in-Err.shown
+    c.requires.may refl c.in-Err.ensures.full

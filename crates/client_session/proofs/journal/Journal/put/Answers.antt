@@ -18,22 +18,19 @@ finish-ended-requires g c =
       node = edits.node;
     }
 
-pub returns-in-Ok : goal.returns-in-Ok
-returns-in-Ok g c =
+pub returns-in-Ok-clause-ends : goal.returns-in-Ok-clause-ends
+returns-in-Ok-clause-ends g c =
     let h = g.H.ClientHeap in
     let j = c.args.self.now in
     let path = c.args.path.now in
     let text = c.args.text.now in
     let put = command.Put path text in
-    record {
-      ends = c.finish-ended.ensures.ends put (h.state c.args.heap.now)
-          (edited_begun j put c.in-Ok.opened 0 (set_text path text) _ c.requires.may
-          c.in-Ok.ensures.begins c.set_text-edited.ensures.edits c.set_text-edited.ensures.tree
-          (set_text_spared path text) (λ trees. refl)) refl;
-    }
+    c.finish-ended.ensures.ends put (h.state c.args.heap.now)
+    (edited_begun j put c.in-Ok.opened 0 (set_text path text) _ c.requires.may
+    c.in-Ok.ensures.begins c.set_text-edited.ensures.edits c.set_text-edited.ensures.tree
+    (set_text_spared path text) (λ trees. refl)) refl
 
-pub returns-in-Err : goal.returns-in-Err
-returns-in-Err g c = record {
-  ends = full_ends c.args.self.now (command.Put c.args.path.now c.args.text.now) c.in-Err.shown
-      c.requires.may refl c.in-Err.ensures.full;
-}
+pub returns-in-Err-clause-ends : goal.returns-in-Err-clause-ends
+returns-in-Err-clause-ends g c =
+    full_ends c.args.self.now (command.Put c.args.path.now c.args.text.now) c.in-Err.shown
+    c.requires.may refl c.in-Err.ensures.full

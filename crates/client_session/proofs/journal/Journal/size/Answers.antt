@@ -6,8 +6,8 @@ use Rattle.client_turns.proofs.Commands.{size_is}
 use Rattle.doc_model.specs.declared.command.Command.TheVariants as command
 use Rattle.doc_tree.specs.Tree.{node}
 
-pub returns : goal.returns
-returns g c =
+pub returns-clause-ends : goal.returns-clause-ends
+returns-clause-ends g c =
     let h = g.H.ClientHeap in
     let j = c.args.self.now in
     let path = c.args.path.now in
@@ -17,11 +17,9 @@ returns g c =
     let now = (h.shown c.open-opened.new.heap).tree o.root in
     let read = c.count_given-given.ensures in
     let given = c.count_given-given.result in
-    record {
-      ends = opened_ends j (command.Size path) c.requires.may given c.requires.room
-          c.open-opened.ensures.opens read.kept read.place read.plain read.rests
-          (read.shows c.open-opened.ensures.shared)
-          (λ trees fits. size_is (bounds j.limits) (account_of j s) u.pass o.version.number now
-          (opens_knows c.open-opened.ensures.opens read.rests) path (node path now) refl trees fits
-          ∙ read.told);
-    }
+    opened_ends j (command.Size path) c.requires.may given c.requires.room
+    c.open-opened.ensures.opens read.kept read.place read.plain read.rests
+    (read.shows c.open-opened.ensures.shared)
+    (λ trees fits. size_is (bounds j.limits) (account_of j s) u.pass o.version.number now
+    (opens_knows c.open-opened.ensures.opens read.rests) path (node path now) refl trees fits
+    ∙ read.told)

@@ -10,8 +10,8 @@ try_once-ended-requires g c =
       room = settled.room;
     }
 
-pub returns : goal.returns
-returns g c =
+pub returns-clause-ends : goal.returns-clause-ends
+returns-clause-ends g c =
     let state = g.H.ClientHeap.state in
     let before = c.settle.ensures in
     let behind = c.settle-2.ensures in
@@ -21,9 +21,7 @@ returns g c =
     let t = state c.settle.new.self in
     let u = state c.try_once-ended.new.heap in
     let w = state c.settle-2.new.self in
-    record {
-      ends = ends_on j command s u w c.try_once-ended.result
-          (ends_late j command s t u c.try_once-ended.result
-          (rests_ready before.room before.rests) c.try_once-ended.ensures.ends)
-          (rests_ready behind.room behind.rests);
-    }
+    ends_on j command s u w c.try_once-ended.result
+    (ends_late j command s t u c.try_once-ended.result
+    (rests_ready before.room before.rests) c.try_once-ended.ensures.ends)
+    (rests_ready behind.room behind.rests)

@@ -1,18 +1,19 @@
+use Rattle.std.proofs.Common.{◌∙◌, refl}
 use Rattle.client_session.proofs.Turning.{answered_late}
 use Rattle.client_session.proofs.journal.Journal.turns.Goals as goal
 use Rattle.client_turns.proofs.States.{lost_still, lost_then}
 
 pub loop-init : goal.loop-init
-loop-init g c = lost_still (g.H.ClientHeap.state c.args.heap.now) c.requires.ready
+loop-init g c = (lost_still (g.H.ClientHeap.state c.args.heap.now) c.requires.ready, refl)
 
 pub returns-in-Some-ended-clause-answered : goal.returns-in-Some-ended-clause-answered
 returns-in-Some-ended-clause-answered g c =
     let state = g.H.ClientHeap.state in
     answered_late c.args.self.now c.args.command.now (state c.args.heap.now) (state c.loop.heap)
-    (state c.turn.new.heap) c.in-Some-ended.given c.loop.invariant
+    (state c.turn.new.heap) c.in-Some-ended.given c.loop.invariant.0
     (rw c.in-Some-ended.is at c.in_ok-ended.ensures.ends)
 
 pub loop-preserved : goal.loop-preserved
 loop-preserved g c =
     let outrun = rw c.in-None-ended.is at c.in_ok-ended.ensures.ends in
-    lost_then c.loop.invariant outrun.lost
+    (lost_then c.loop.invariant.0 outrun.lost, c.in_ok-ended.ensures.lent ∙ c.loop.invariant.1)
