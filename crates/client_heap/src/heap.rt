@@ -97,6 +97,9 @@ impl<'a, M: StoreSeat<Q>, Q> ClientHeap for OwnHeap<'a, M, Q> {
 
     ghost shared = { is_shared };
 
+    ghost lent = { λ h. (h.m.ghost_name, (h.hints.ghost_name, (h.minor.ghost_name,
+        h.promoter.ghost_name))) };
+
     fn current(&mut self) -> HeldVersion {
         let _records = self.minor.len();
         let found = self.m.current();
