@@ -22,8 +22,7 @@ pub struct OwnHeap<'a, M: StoreSeat<Q>, Q> {
     draft: NodeAt,
     /// so many places of the held list stay between commands
     base: usize,
-    ghost sound: { IsSound (M.bound m.now) minor.now draft base }
-        by { sound_once (M.bound m.now) minor.now draft base },
+    ghost sound: { IsSound (M.bound m.now) minor.now draft base } by { sound_once (M.bound m.now) minor.now draft base },
     ghost copies: { minor.now.room ≤ promoter.now },
 }
 
@@ -97,8 +96,16 @@ impl<'a, M: StoreSeat<Q>, Q> ClientHeap for OwnHeap<'a, M, Q> {
 
     ghost shared = { is_shared };
 
-    ghost lent = { λ h. (h.m.ghost_name, (h.hints.ghost_name, (h.minor.ghost_name,
-        h.promoter.ghost_name))) };
+    ghost lent = { λ h. (
+      h.m.ghost_name,
+      (
+        h.hints.ghost_name,
+        (
+          h.minor.ghost_name,
+          h.promoter.ghost_name,
+        ),
+      ),
+    ) };
 
     fn current(&mut self) -> HeldVersion {
         let _records = self.minor.len();
@@ -169,15 +176,8 @@ impl<'a, M: StoreSeat<Q>, Q> ClientHeap for OwnHeap<'a, M, Q> {
         at: NodeAt,
         versions: u64,
     ) -> Result<u64, CommitRefusal> {
-        self.m.publish(
-            rt,
-            self.hints,
-            self.minor,
-            self.promoter,
-            v,
-            at,
-            versions,
-        )
+        self.m
+            .publish(rt, self.hints, self.minor, self.promoter, v, at, versions)
     }
 
     fn trim(&mut self, v: HeldVersion, keep: u64) {

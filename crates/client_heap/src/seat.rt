@@ -28,10 +28,7 @@ ghost use Rattle.version_store.specs.Held.{GivesLatest, GivesRoot, IsHeld, root_
 ghost use Rattle.version_store.specs.Lasts.{IsSameMutator, LastsAcross, marks};
 ghost use Rattle.version_store.specs.Older.{GivesOlder, Trims};
 
-use crate::drafting;
-use crate::places;
-use crate::publishing;
-use crate::walking;
+use crate::{drafting, places, publishing, walking};
 use client_session::{CommitRefusal, HeapFull, HeldVersion};
 use client_trees::NodeAt;
 use doc_tree::{EditFault, Name, Names, NoMemory, Path, Text};
@@ -140,12 +137,7 @@ pub trait StoreSeat<Q> {
             (marks_of (bound self.old).seat.me.trail) (marks_of (bound self.new).seat.me.trail)) };
 
     /// The names of a node's children.
-    fn names(
-        &mut self,
-        alloc: Global,
-        minor: &mut MinorHeap,
-        at: NodeAt,
-    ) -> Result<Names, NoMemory>
+    fn names(&mut self, alloc: Global, minor: &mut MinorHeap, at: NodeAt) -> Result<Names, NoMemory>
         requires inside { (bound self.old).seat.me.presence.inside ≡ true }
         requires node { IsTreeAt (bound self.old) minor.old at }
         requires room { length (bound self.old).seat.me.own.held + 8192
@@ -239,13 +231,7 @@ pub trait StoreSeat<Q> {
         ensures records { length minor.new.records ≤ length minor.old.records + 509 };
 
     /// Makes a node the draft.
-    fn make_draft(
-        &mut self,
-        minor: &MinorHeap,
-        draft: &mut NodeAt,
-        base: &mut usize,
-        at: NodeAt,
-    )
+    fn make_draft(&mut self, minor: &MinorHeap, draft: &mut NodeAt, base: &mut usize, at: NodeAt)
         requires sound { IsSound (bound self.old) minor.now draft.old base.old }
         requires node { IsTreeAt (bound self.old) minor.now at }
         requires room { length (bound self.old).seat.me.own.held + length minor.now.records + 9100
@@ -438,12 +424,7 @@ impl<'h, 'q> StoreSeat<Hints<'q>> for Mutator<'h, Documents> {
         client_trees::text_of(alloc, self, minor, at)
     }
 
-    fn names(
-        &mut self,
-        alloc: Global,
-        minor: &mut MinorHeap,
-        at: NodeAt,
-    ) -> Result<Names, NoMemory>
+    fn names(&mut self, alloc: Global, minor: &mut MinorHeap, at: NodeAt) -> Result<Names, NoMemory>
         requires inside { self.old.seat.me.presence.inside ≡ true }
         requires node { IsTreeAt self.old minor.old at }
         requires room { length self.old.seat.me.own.held + 8192
@@ -547,13 +528,7 @@ impl<'h, 'q> StoreSeat<Hints<'q>> for Mutator<'h, Documents> {
         client_trees::attach(self, minor, root, path, sub)
     }
 
-    fn make_draft(
-        &mut self,
-        minor: &MinorHeap,
-        draft: &mut NodeAt,
-        base: &mut usize,
-        at: NodeAt,
-    )
+    fn make_draft(&mut self, minor: &MinorHeap, draft: &mut NodeAt, base: &mut usize, at: NodeAt)
         requires sound { IsSound self.old minor.now draft.old base.old }
         requires node { IsTreeAt self.old minor.now at }
         requires room { length self.old.seat.me.own.held + length minor.now.records + 9100
