@@ -1,0 +1,51 @@
+//! An answer over whatever stands for a mutator and its hints.
+ghost use Rattle.std.specs.Prelude.{◌≡◌, ◌<◌, IfOk, OnErr, length};
+ghost use Rattle.client_heap.specs.Shows.{state_of};
+ghost use Rattle.client_run.specs.Own.{MayAnswer};
+ghost use Rattle.client_session.specs.Turns.{Enters};
+ghost use Rattle.client_turns.specs.Turns.{Lost};
+
+use client_heap::{OwnHeap, StoreSeat};
+use client_session::Journal;
+use client_trees::NodeAt;
+use doc_model::{Command, Reply};
+use doc_tree::NoMemory;
+use minor_heap::MinorHeap;
+use promotion::Promoter;
+use std::alloc::Global;
+use std::sync::Wait;
+
+/// Answers the next command. The mutator and the private heap are lent for it, and come back with
+/// all that the next one needs.
+pub(crate) fn answer_over<M: StoreSeat<Q>, Q, R: Wait>(
+    alloc: Global,
+    rt: &R,
+    hints: &mut Q,
+    m: &mut M,
+    journal: &mut Journal,
+    minor: &mut MinorHeap,
+    promoter: &mut Promoter,
+    draft: &mut NodeAt,
+    base: &mut usize,
+    command: &Command,
+) -> Result<Reply, NoMemory>
+    requires may { MayAnswer journal.old (M.bound m.old) minor.old promoter.old draft.old base.old }
+    requires few { length journal.old.log.entries < 100000 }
+    ensures enters { IfOk result (λ reply. Enters journal.old journal.new command.now reply
+        (state_of (M.bound m.old) minor.old draft.old base.old)
+        (state_of (M.bound m.new) minor.new draft.new base.new)) }
+    ensures may { MayAnswer journal.new (M.bound m.new) minor.new promoter.new draft.new base.new }
+    ensures limits { journal.new.limits ≡ journal.old.limits }
+    ensures client { journal.new.log.client ≡ journal.old.log.client }
+    ensures last { OnErr result (journal.new.last ≡ journal.old.last) }
+    ensures entries { OnErr result (journal.new.log.entries ≡ journal.old.log.entries) }
+    ensures lost { OnErr result (Lost
+        (state_of (M.bound m.old) minor.old draft.old base.old)
+        (state_of (M.bound m.new) minor.new draft.new base.new)) }
+{
+    let mut heap = OwnHeap::new(m, hints, minor, promoter, *draft, *base);
+    let answered = journal.answer(alloc, rt, &mut heap, command);
+    *draft = heap.draft_at();
+    *base = heap.base();
+    answered
+}
