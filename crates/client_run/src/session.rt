@@ -136,7 +136,12 @@ impl Session {
     pub fn into_log(self) -> Log
         ensures { result ≡ self.journal.log }
     {
-        let Session { journal, minor: _minor, promoter: _promoter, .. } = self;
+        let Session {
+            journal,
+            minor: _minor,
+            promoter: _promoter,
+            ..
+        } = self;
         journal.into_log()
     }
 }
