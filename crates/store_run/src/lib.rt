@@ -1,0 +1,2 @@
+//! A run of clients: from the opening of a heap to its close.
+#![tactic(auto)]
