@@ -29,7 +29,7 @@ use Rattle.client_turns.specs.Turns.{new_numbers}
 
 -- The numbers of the versions that a log made.
 
-oks_append : (ds es : List Entry) → ok_places (ds ++ es) ≡ ok_places ds ++ ok_places es
+pub oks_append : (ds es : List Entry) → ok_places (ds ++ es) ≡ ok_places ds ++ ok_places es
 oks_append ds es =
     ap (λ (xs : List Entry). map (λ e. e.place) xs)
     (filter-append (λ (e : Entry). is_ok e.reply) ds es)

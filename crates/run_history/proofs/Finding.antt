@@ -1,18 +1,15 @@
 -- Where an element of joined lists stands, and the last of rising numbers.
 use Rattle.std.proofs.Common.{◌≡◌, ℕ, zero, suc, ◌+◌, ◌<◌, List, [], ◌∷◌}
-use Rattle.std.proofs.Common.{◌++◌, map, filter, flat_map}
+use Rattle.std.proofs.Common.{◌++◌, flat_map}
 use Rattle.std.proofs.Common.{inl, inr, refl, ◌∙◌, ap, subst, arith}
 use Rattle.std.specs.List.{Contains}
-use Rattle.std.proofs.lemmas.List.{map-append}
 use Rattle.std.proofs.lemmas.List.Elements.{Contains-append_cases, Contains-append_right}
-use Rattle.std.proofs.lemmas.List.Elements.{filter-append}
 use mathlib.Core.Option.{some}
 use lib.ListN.{get_elem?}
+use Rattle.client_turns.proofs.Stepping.{oks_append}
 use Rattle.doc_model.specs.Agreement.{ok_places, rising}
-use Rattle.doc_model.specs.Answers.{is_ok}
 use Rattle.doc_model.specs.ClientLog.{ClientLog}
 use Rattle.doc_model.specs.Merge.{all_entries}
-use Rattle.doc_model.specs.declared.command.Entry.{Entry}
 
 -- the list of one of these has it
 pub record IsFoundIn {A B : Type 0} (f : A → List B) (xs : List A) (b : B) : Type 0 where
@@ -46,13 +43,6 @@ last_risen n (suc k) m is =
     (last_risen (n + 1) k m (omega (arith, is)))
 
 -- The numbers of the versions that the logs made are those of each log, one log after another.
-
-oks_append : (ds es : List Entry) → ok_places (ds ++ es) ≡ ok_places ds ++ ok_places es
-oks_append ds es =
-    ap (λ (xs : List Entry). map (λ e. e.place) xs)
-    (filter-append (λ (e : Entry). is_ok e.reply) ds es)
-    ∙ map-append (λ (e : Entry). e.place) (filter (λ (e : Entry). is_ok e.reply) ds)
-    (filter (λ (e : Entry). is_ok e.reply) es)
 
 abbrev pub oks_of : ClientLog → List ℕ
 oks_of g = ok_places g.entries
