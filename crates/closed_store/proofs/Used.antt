@@ -24,18 +24,18 @@ cell_there image s shows c lt =
 pub used_yes : (image : ImageView) (c used : ℕ) (b : Bool) → c < image.cells
     → ((s : State) → Shows image s → b ≡ is_used (colour_of s c)) → b ≡ true
     → UsedOf image c used → UsedOf image (c + 1) (used + 1)
-used_yes image c used b lt is yes so_far s shows =
+used_yes image c used b lt is used_is so_far s shows =
     let step = count_by_more_yes is_used s.colours c colour.Blue (cell_there image s shows c lt)
-    (sym (is s shows) ∙ yes) in
+    (sym (is s shows) ∙ used_is) in
     let before = so_far s shows in
     omega (arith, step, before)
 
 pub used_no : (image : ImageView) (c used : ℕ) (b : Bool) → c < image.cells
     → ((s : State) → Shows image s → b ≡ is_used (colour_of s c)) → b ≡ false
     → UsedOf image c used → UsedOf image (c + 1) used
-used_no image c used b lt is no so_far s shows =
+used_no image c used b lt is free_is so_far s shows =
     let step = count_by_more_no is_used s.colours c colour.Blue (cell_there image s shows c lt)
-    (sym (is s shows) ∙ no) in
+    (sym (is s shows) ∙ free_is) in
     let before = so_far s shows in
     omega (arith, step, before)
 
