@@ -1,8 +1,7 @@
 -- What the anchor leads to is reachable; and where nobody is in, a reachable box is one of the map.
-use Rattle.std.proofs.Common.{◌≡◌, ◌∙◌, ℕ, Bool, true, false, List, [], Option, Some, None, refl}
-use Rattle.std.proofs.Common.{sym, ap, subst, arith}
+use Rattle.std.proofs.Common.{◌≡◌, ◌∙◌, ℕ, Bool, true, false, List, [], Option, Some}
+use Rattle.std.proofs.Common.{None, refl, sym, ap, arith}
 use Rattle.std.proofs.lemmas.List.{get_or_past}
-use Rattle.cell_words.specs.declared.fields.Field.{Field}
 use Rattle.cell_words.specs.declared.fields.Field.TheVariants as field
 use Rattle.cell_words.specs.declared.presences.Presence.{Presence}
 use Rattle.core_machine.specs.State.{State, field_of, held_of, no_presence, presence_in}
@@ -35,7 +34,8 @@ module _ (fixed : ℕ → Bool) (s : State) (l : Lore) (consistent : IsConsisten
   old_is x (Some i) is =
       let none : held_of s i ≡ [] = (consistent.mutators.out i (out i)).0 in
       let no : false ≡ true =
-      sym (ap (λ (places : List Held). has (cells_in places) x) none) ∙ facts.freshed.held x i is in
+      sym (ap (λ (places : List Held). has (cells_in places) x) none)
+      ∙ facts.freshed.held x i is in
       absurd cc
 
   pub box_in : (x : ℕ) → Reachable s x → field_of s x 5 ≡ field.Num 2 → In s l x

@@ -1,29 +1,30 @@
--- From the versions in the map of boxes to those in the words: each box of the chain has its number,
--- its root and its link in its fields, and the root's cell denotes the version's term.
-use Rattle.std.proofs.Common.{◌≡◌, ◌≤◌, ◌+◌, ◌-◌, ◌⊎◌, ◌∙◌, ℕ, List, [], ◌∷◌, length, min, Some, refl}
-use Rattle.std.proofs.Common.{sym, ap, subst, arith}
+-- From the versions in the map of boxes to those in the words: each box of the chain has its
+-- number, its root and its link in its fields, and the root's cell denotes the version's term.
+use Rattle.std.proofs.Common.{◌≡◌, ◌≤◌, ◌+◌, ◌-◌, ◌∙◌, ℕ, List}
+use Rattle.std.proofs.Common.{◌∷◌, length, min, Some, sym, ap, arith}
 use mathlib.Core.Option.{some}
 use lib.ListN.{get_elem?}
 use Rattle.cell_words.specs.declared.fields.Field.{Field}
 use Rattle.cell_words.specs.declared.fields.Field.TheVariants as field
-use Rattle.cell_words.specs.Term.{Term, null, num}
-use Rattle.closed_store.specs.Chain.{IsChain, IsVersionAt, ShowsVersions, last as ends, more as links}
+use Rattle.cell_words.specs.Term.{null, num}
+use Rattle.closed_store.specs.Chain.{IsChain, IsVersionAt, ShowsVersions, last as ends}
+use Rattle.closed_store.specs.Chain.{more as links}
 use Rattle.closed_store.specs.Closing.{EndedStore}
 use Rattle.core_machine.specs.InRange.{IsShaped}
 use Rattle.core_machine.specs.State.{State, field_of}
 use Rattle.dlg_core.specs.Collects.{AreOut}
 use Rattle.dlg_core.specs.Consistent.{IsConsistent}
-use Rattle.dlg_core.specs.Reachable.{anchor, named}
+use Rattle.dlg_core.specs.Reachable.{named}
 use Rattle.doc_model.specs.Store.{tree_at}
 use Rattle.doc_records.specs.Trees.{IsTreeNode, tree_of}
 use Rattle.document_versions.specs.Spelled.{node_is_record}
-use Rattle.heap_rule.specs.Boxes.{Map, Payload, boxes_of, payload_of}
+use Rattle.heap_rule.specs.Boxes.{Payload, boxes_of, payload_of}
 use Rattle.heap_rule.specs.Facts.{Facts}
 use Rattle.heap_rule.specs.Lore.{Lore, Named, Plain, named_or}
 use Rattle.heap_rule.specs.Shape.{Shape}
 use Rattle.heap_rule.specs.declared.view.View.{View}
 use Rattle.heap_rule.proofs.Maps.{In, entry_names, in_map, of_map}
-use Rattle.version_rule.specs.Chains.{Among, Chain, Stays, last, more}
+use Rattle.version_rule.specs.Chains.{Chain, Stays, last, more}
 use Rattle.version_rule.specs.Pass.{Pass}
 use Rattle.version_rule.specs.Shrinks.{num_inj, same_entry}
 use Rattle.version_rule.specs.Versions.{HoldsVersions, IsVersion, is_fixed}
@@ -47,7 +48,8 @@ module _ (s : State) (l : Lore) (facts : Facts is_fixed s l) (passes : List Pass
     null_there : (f : ℕ) → box f ≡ Plain null → field_of s cell f ≡ field.Null
     null_there f is = null_word s l facts cell f there.reached (entry f ∙ is)
 
-    named_there : (f other : ℕ) → box f ≡ Named other → field_of s cell f ≡ field.Cell other
+    named_there : (f other : ℕ) → box f ≡ Named other
+        → field_of s cell f ≡ field.Cell other
     named_there f other is = entry_names l.terms (field_of s cell f) other (entry f ∙ is)
 
     version_at : (number : ℕ) (link : Field) → box 0 ≡ Plain (num number)

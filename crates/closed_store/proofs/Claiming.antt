@@ -3,9 +3,10 @@
 -- The stretch of that claim found each cell used. So an event of the run did, and the cell was a
 -- first row or was claimed before it (FoundUsedWasClaimed). A claim gets one cell, so there are as
 -- many claims that got one as cells that were claimed; and each of them is counted.
-use Rattle.std.proofs.Common.{◌≡◌, ◌≢◌, ◌<◌, ◌≤◌, ◌+◌, ◌==◌, ◌⊎◌, ◌++◌, ◌∙◌, ℕ, Bool, true, false}
-use Rattle.std.proofs.Common.{cond, List, [], ◌∷◌, length, Option, Some, inl, inr, get_or, refl, sym}
-use Rattle.std.proofs.Common.{ap, arith}
+use Rattle.std.proofs.Common.{◌≡◌, ◌≢◌, ◌<◌, ◌≤◌, ◌+◌, ◌==◌}
+use Rattle.std.proofs.Common.{◌⊎◌, ◌++◌, ◌∙◌, ℕ, Bool, true, false, cond, List}
+use Rattle.std.proofs.Common.{[], ◌∷◌, length, Option, Some, inl, inr, get_or, refl, sym, ap}
+use Rattle.std.proofs.Common.{arith}
 use Rattle.std.specs.List.{count_by, list_any}
 use Rattle.std.proofs.lemmas.Bool.{and_parts, eqb-true, or_cases, or_left, or_right}
 use Rattle.std.proofs.lemmas.List.Folds.{list_any-append, list_any_at}
@@ -88,7 +89,8 @@ not_blue : (x : Colour) → is_used x ≡ true → x ≢ colour.Blue
 not_blue colour.Blue is e = absurd cc
 not_blue x is e = absurd cc
 
-tries_used : (c : ℕ) (e : Event) (found : Found) → claims_used c e found ≡ true → TriesUsed c e found
+tries_used : (c : ℕ) (e : Event) (found : Found) → claims_used c e found ≡ true
+    → TriesUsed c e found
 tries_used c (event.Claim i d) (finds.Colour x) is =
     let parts = and_parts (d == c) (is_used x) is in
     record {
@@ -101,8 +103,8 @@ tries_used c (event.Claim i d) (finds.Colour x) is =
 tries_used c e found is = absurd cc
 
 -- a cell that was claimed before was so in the whole
-claimed_whole : (ts before later : List Taken) (t : Taken) (c : ℕ) → ts ≡ before ++ (t ∷ later)
-    → IsClaimed before c → list_any (gets_this c) ts ≡ true
+claimed_whole : (ts before later : List Taken) (t : Taken) (c : ℕ)
+    → ts ≡ before ++ (t ∷ later) → IsClaimed before c → list_any (gets_this c) ts ≡ true
 claimed_whole ts before later t c split is =
     let there : gets_this c is.1 ≡ true = gets_cell c is.1 is.4 in
     let at : gets_this c (get_or before is.0 is.1) ≡ true =

@@ -1,6 +1,7 @@
 -- Counting: the numbers below an end that pass a test, and the cells that are used or free.
-use Rattle.std.proofs.Common.{◌≡◌, ◌<◌, ◌≤◌, ◌+◌, ◌==◌, ◌||◌, ◌∙◌, ℕ, zero, suc, Bool, true, false, cond}
-use Rattle.std.proofs.Common.{List, [], ◌∷◌, length, inl, inr, refl, sym, ap, arith}
+use Rattle.std.proofs.Common.{◌≡◌, ◌<◌, ◌≤◌, ◌+◌, ◌==◌, ◌||◌, ◌∙◌}
+use Rattle.std.proofs.Common.{ℕ, zero, suc, Bool, true, false, cond, List, [], ◌∷◌, length}
+use Rattle.std.proofs.Common.{inl, inr, refl, sym, ap, arith}
 use Rattle.std.specs.List.{count_by}
 use Rattle.std.proofs.lemmas.Bool.{cases_eq, cases_lt, ne_eqb}
 use Rattle.std.proofs.lemmas.List.Sums.{sum_by-cons}
@@ -21,14 +22,15 @@ below p zero = 0
 below p (suc n) = one_if (p n) + below p n
 
 -- where all from a number on pass, they are as many as those
-pub below_all : (p : ℕ → Bool) (from n : ℕ) → ((c : ℕ) → from ≤ c → c < n → p c ≡ true)
-    → n ≤ from + below p n
+pub below_all : (p : ℕ → Bool) (from n : ℕ)
+    → ((c : ℕ) → from ≤ c → c < n → p c ≡ true) → n ≤ from + below p n
 below_all p from zero all = omega arith
 below_all p from (suc n) all =
     let before = below_all p from n (λ c low lt. all c low (omega (arith, lt))) in
     one (p n) refl before
   where
-    one : (b : Bool) → p n ≡ b → n ≤ from + below p n → suc n ≤ from + (one_if (p n) + below p n)
+    one : (b : Bool) → p n ≡ b → n ≤ from + below p n
+        → suc n ≤ from + (one_if (p n) + below p n)
     one true is before = let more : one_if (p n) ≡ 1 = ap one_if is in omega (arith, before, more)
     one false is before = elim (cases_lt from (suc n)) [
       | inl low ↦ absurd (let yes = all n (omega (arith, low)) (omega arith) in
@@ -50,7 +52,8 @@ below_either p q r (suc n) is =
     either true b = omega arith
     either false b = omega arith
 
-pub below_none : (p : ℕ → Bool) (n : ℕ) → ((c : ℕ) → c < n → p c ≡ false) → below p n ≡ 0
+pub below_none : (p : ℕ → Bool) (n : ℕ) → ((c : ℕ) → c < n → p c ≡ false)
+    → below p n ≡ 0
 below_none p zero none = refl
 below_none p (suc n) none =
     let here : one_if (p n) ≡ 0 = ap one_if (none n (omega arith)) in

@@ -1,17 +1,18 @@
--- From the terms that lore has of records to what the fields denote: a reachable record has the term
--- of its five fields, and these name records again.
-use Rattle.std.proofs.Common.{◌≡◌, ◌<◌, ◌∙◌, ℕ, Bool, true, false, Option, Some, None, refl, sym, ap}
-use Rattle.std.proofs.Common.{subst, arith}
+-- From the terms that lore has of records to what the fields denote: a reachable record has the
+-- term of its five fields, and these name records again.
+use Rattle.std.proofs.Common.{◌≡◌, ◌<◌, ◌∙◌, ℕ, Bool, true, false, Option, Some}
+use Rattle.std.proofs.Common.{None, refl, sym, ap, arith}
 use Rattle.std.proofs.lemmas.Bool.{eqb-true}
 use Rattle.cell_words.specs.declared.fields.Field.{Field}
 use Rattle.cell_words.specs.declared.fields.Field.TheVariants as field
 use Rattle.cell_words.specs.Term.{Term, null, num, five}
-use Rattle.closed_store.specs.Chain.{Denotes, IsRecord}
+use Rattle.closed_store.specs.Chain.{Denotes}
 use Rattle.core_machine.specs.State.{State, field_of}
 use Rattle.core_machine.specs.Words.{is_box_kind}
 use Rattle.dlg_core.specs.Reachable.{Reachable, named}
 use Rattle.heap_rule.specs.Facts.{Facts, IsPlain, TermFits, is_record_kind}
-use Rattle.heap_rule.specs.Lore.{Entry, Lore, Named, Plain, Terms, entry_of, five_of, named_or, term_of}
+use Rattle.heap_rule.specs.Lore.{Entry, Lore, Named, Plain, Terms, entry_of, five_of, named_or}
+use Rattle.heap_rule.specs.Lore.{term_of}
 
 pub record_kind : (kind : Field) → is_record_kind kind ≡ true → kind ≡ field.Num 1
 record_kind field.Null is = absurd cc
@@ -40,7 +41,8 @@ record Recorded (terms : Terms) (row : ℕ → Field) (t : Term) : Type 0 where
   plain : (f : ℕ) → f < 5 → IsPlain (entry_of terms (row f))
 
 recorded : (terms : Terms) (row : ℕ → Field) (o : Option Term) (t : Term) (b : Bool)
-    → is_record_kind (row 5) ≡ b → TermFits b terms row o → o ≡ Some t → Recorded terms row t
+    → is_record_kind (row 5) ≡ b → TermFits b terms row o → o ≡ Some t
+    → Recorded terms row t
 recorded terms row o t true kind fits is = record {
   kind_is = record_kind (row 5) kind;
   term_is = let same : Some (five_of terms row) ≡ Some t = sym fits.0 ∙ is in cc;
@@ -61,7 +63,8 @@ parts_are : (terms : Terms) (row : ℕ → Field) (a b c d e : Term)
     → Recorded terms row (five a b c d e) → HasParts terms row a b c d e
 parts_are terms row a b c d e is =
     let same = is.term_is in
-    let of : (f : ℕ) → f < 5 → entry_of terms (row f) ≡ Plain (term_of (entry_of terms (row f))) =
+    let of : (f : ℕ) → f < 5
+    → entry_of terms (row f) ≡ Plain (term_of (entry_of terms (row f))) =
     (λ f lt. plain_is (entry_of terms (row f)) (is.plain f lt)) in
     let first_is : term_of (entry_of terms (row 0)) ≡ a = cc in
     let second_is : term_of (entry_of terms (row 1)) ≡ b = cc in
@@ -77,14 +80,15 @@ parts_are terms row a b c d e is =
     }
 
 module _ (fixed : ℕ → Bool) (s : State) (l : Lore) (facts : Facts fixed s l) where
-  record_there : (x : ℕ) (t : Term) → Reachable s x → entry_of l.terms (field.Cell x) ≡ Plain t
-      → Recorded l.terms (field_of s x) t
+  record_there : (x : ℕ) (t : Term) → Reachable s x
+      → entry_of l.terms (field.Cell x) ≡ Plain t → Recorded l.terms (field_of s x) t
   record_there x t reached is =
       recorded l.terms (field_of s x) (l.terms x) t (is_record_kind (field_of s x 5)) refl
       (facts.termed x reached) (term_there x (l.terms x) t is)
 
   -- a field that stands for a term denotes it
-  pub denotes : (t : Term) (value : Field) → ((c : ℕ) → value ≡ field.Cell c → Reachable s c)
+  pub denotes : (t : Term) (value : Field)
+      → ((c : ℕ) → value ≡ field.Cell c → Reachable s c)
       → entry_of l.terms value ≡ Plain t → Denotes s value t
   denotes null field.Null reached is = tt
   denotes (num n) field.Null reached is = absurd cc

@@ -1,7 +1,7 @@
 -- Events that get a cell: one gets one cell at most, and each is counted as a claim of its mutator.
-use Rattle.std.proofs.Common.{◌≡◌, ◌<◌, ◌≤◌, ◌+◌, ◌*◌, ◌==◌, ◌||◌, ◌∙◌, ℕ, Bool, true, false, List}
-use Rattle.std.proofs.Common.{[], ◌∷◌, length, length-set, replicate, set, inl, inr, refl, sym, ap}
-use Rattle.std.proofs.Common.{arith}
+use Rattle.std.proofs.Common.{◌≡◌, ◌<◌, ◌≤◌, ◌+◌, ◌*◌, ◌==◌, ◌∙◌}
+use Rattle.std.proofs.Common.{ℕ, Bool, true, false, List, [], ◌∷◌, length, length-set}
+use Rattle.std.proofs.Common.{replicate, set, inl, inr, refl, sym, ap, arith}
 use Rattle.std.specs.List.{count_by, list_any}
 use Rattle.std.proofs.lemmas.Bool.{cases_lt, eq-eqb}
 use Rattle.std.proofs.lemmas.List.{get_or_past, length-replicate}
@@ -68,7 +68,8 @@ gets_one n e found = none n
     none n = let zero_is = below_none (λ c. false) n (λ c lt. refl) in omega (arith, zero_is)
 
 -- so as many cells at most were got as events got one
-pub got_few : (n : ℕ) (ts : List Taken) → below (λ c. list_any (gets_this c) ts) n ≤ count_by gets ts
+pub got_few : (n : ℕ) (ts : List Taken)
+    → below (λ c. list_any (gets_this c) ts) n ≤ count_by gets ts
 got_few n [] = let none = below_none (λ c. false) n (λ c lt. refl) in omega (arith, none)
 got_few n (t ∷ ts) =
     let here = gets_one n t.event t.found in
@@ -126,8 +127,10 @@ same_claims : (s : State) (i : ℕ) (own : Own) → own.claims ≡ (own_of s i).
     → claims_in (set s.owns i own) ≡ claims_of s + 0
 same_claims s i own is = let same = claims_same s.owns i own is in omega (arith, same)
 
-claims_told : (s : State) (i c : ℕ) (found : Colour) → i < length s.owns → colour_of s c ≡ found
-    → claims_of (after s (event.Claim i c)) ≡ claims_of s + one_if (gets_by (finds.Colour found))
+claims_told : (s : State) (i c : ℕ) (found : Colour) → i < length s.owns
+    → colour_of s c ≡ found
+    → claims_of (after s (event.Claim i c))
+    ≡ claims_of s + one_if (gets_by (finds.Colour found))
 claims_told s i c colour.Blue lt is =
     let same : claims_of (after s (event.Claim i c))
     ≡ claims_in (set s.owns i (having_claimed (own_of s i) c colour.Blue)) =
@@ -176,7 +179,8 @@ claims_along s (t ∷ ts) paired runs =
 
 pub start_paired : (h : Shape) (rooms : List ℕ) → IsPaired (start h rooms)
 start_paired h rooms =
-    length-replicate (length rooms) opening_presence ∙ sym (length-replicate (length rooms) no_own)
+    length-replicate (length rooms) opening_presence
+    ∙ sym (length-replicate (length rooms) no_own)
 
 pub start_claims : (h : Shape) (rooms : List ℕ) → claims_of (start h rooms) ≡ 0
 start_claims h rooms =

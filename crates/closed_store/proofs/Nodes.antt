@@ -1,6 +1,7 @@
--- The count of nodes that the root of the latest version has: it is a field of the root's record, and
--- the term that this record spells says the tree's.
-use Rattle.std.proofs.Common.{◌≡◌, ◌+◌, ◌-◌, ◌∙◌, ℕ, List, ◌∷◌, length, ap, subst}
+-- The count of nodes that the root of the latest version has: it is a field of the root's record,
+-- and the term that this record spells says the tree's.
+use Rattle.std.proofs.Common.{◌≡◌, ◌+◌, ◌-◌, ◌∙◌, ℕ, List, ◌∷◌, length}
+use Rattle.std.proofs.Common.{ap, subst}
 use Rattle.cell_words.specs.declared.fields.Field.{Field}
 use Rattle.cell_words.specs.declared.fields.Field.TheVariants as field
 use Rattle.cell_words.specs.Term.{Term, null, num, five}

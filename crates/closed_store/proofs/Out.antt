@@ -1,10 +1,10 @@
 -- Who is out at the close: whose seat was joined is over, and past the last mutator there is none.
-use Rattle.std.proofs.Common.{◌≡◌, ◌<◌, ◌≤◌, ◌∙◌, ℕ, List, length, false, inl, inr, ap, sym, arith}
+use Rattle.std.proofs.Common.{◌≤◌, ℕ, List, length, inl, inr, ap, arith}
 use Rattle.std.proofs.lemmas.Bool.{cases_lt}
 use Rattle.std.proofs.lemmas.List.{get_or_past}
 use Rattle.cell_words.specs.declared.presences.Presence.{Presence}
 use Rattle.closed_store.specs.Closing.{AreJoined, EndedStore}
-use Rattle.core_machine.specs.State.{no_presence, presence_of}
+use Rattle.core_machine.specs.State.{no_presence}
 use Rattle.dlg_core.specs.Collects.{AreOut}
 use Rattle.heap_rule.specs.Shape.{Shape}
 use Rattle.heap_rule.specs.declared.view.View.{View}

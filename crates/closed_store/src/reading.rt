@@ -38,8 +38,8 @@ fn is_used(image: &Image, cell: u32) -> bool
 }
 
 /// How many nodes the tree of the latest version has, where the words show versions: as the root's
-/// record says. The anchor names the box of that version, and the box the root. Of other words it is
-/// a number without meaning, and 0 where a word on the way is of another form.
+/// record says. The anchor names the box of that version, and the box the root. Of other words it
+/// is a number without meaning, and 0 where a word on the way is of another form.
 pub fn latest_nodes(image: &Image) -> u64
     ensures nodes { (s : State) (keep : ℕ) (trees : List DocTree) → Shows image.now s
         → ShowsVersions s keep trees → result ≡ count (tree_at trees (length trees - 1)) }

@@ -22,20 +22,22 @@ pub fn who_was_joined_is_out()
         → AreJoined h.mutators v.places → AreOut ended.shows.core }
 {}
 
-/// Where no mutator is in, and some pass has cut the link of the oldest version that stays, the words
-/// show as many versions as stay, or all that there are, and no other box that the anchor leads to.
+/// Where no mutator is in, and some pass has cut the link of the oldest version that stays, the
+/// words show as many versions as stay, or all that there are, and no other box that the anchor
+/// leads to.
 pub fn the_words_show_the_versions()
-    ensures { (h : Shape) (words : List ℕ) (v : View Pass) (ended : EndedStore h words v) (i : ℕ)
-        (p : Pass) → get_elem? ended.shows.passes i ≡ some p
-        → length ended.shows.kept.trees ≤ p.cut + ended.shows.kept.keep → AreOut ended.shows.core
+    ensures { (h : Shape) (words : List ℕ) (v : View Pass) (ended : EndedStore h words v)
+        (i : ℕ) (p : Pass) → get_elem? ended.shows.passes i ≡ some p
+        → length ended.shows.kept.trees ≤ p.cut + ended.shows.kept.keep
+        → AreOut ended.shows.core
         → ShowsVersions ended.shows.core ended.shows.kept.keep ended.shows.kept.trees }
 {}
 
 /// Where the trail of a joined mutator has a stretch that found the heap full, as many cells were
 /// claimed as there are beside the first rows, or more.
 pub fn a_full_heap_was_claimed_whole()
-    ensures { (h : Shape) (words : List ℕ) (v : View Pass) (ended : EndedStore h words v) (i : ℕ)
-        (share : Share Pass) (before stretch after : List Mark)
+    ensures { (h : Shape) (words : List ℕ) (v : View Pass) (ended : EndedStore h words v)
+        (i : ℕ) (share : Share Pass) (before stretch after : List Mark)
         → get_elem? v.places i ≡ some (places.Joined share)
         → marks_of share.trail ≡ before ++ (stretch ++ after) → IsFull h.cells stretch
         → h.cells ≤ claims_of ended.shows.core + length h.first }

@@ -1,4 +1,4 @@
-use Rattle.std.proofs.Common.{◌≡◌, ◌∙◌, ap}
+use Rattle.std.proofs.Common.{◌∙◌, ap}
 use Rattle.cell_words.specs.declared.fields.Field.{Field}
 use Rattle.closed_store.specs.Words.{field_behind, number_of}
 use Rattle.closed_store.proofs.Nodes.{latest_count}
