@@ -5,10 +5,11 @@
 -- many claims that got one as cells that were claimed; and each of them is counted.
 use Rattle.std.proofs.Common.{◌≡◌, ◌≢◌, ◌<◌, ◌≤◌, ◌+◌, ◌==◌}
 use Rattle.std.proofs.Common.{◌⊎◌, ◌++◌, ◌∙◌, ℕ, Bool, true, false, cond, List}
-use Rattle.std.proofs.Common.{[], ◌∷◌, length, Option, Some, inl, inr, get_or, refl, sym, ap}
-use Rattle.std.proofs.Common.{arith}
-use Rattle.std.specs.List.{count_by, list_any}
+use Rattle.std.proofs.Common.{[], ◌∷◌, length, Option, Some, inl, inr, refl, sym, ap}
+use Rattle.std.proofs.Common.{subst, arith}
+use Rattle.std.specs.List.{list_any}
 use Rattle.std.proofs.lemmas.Bool.{and_parts, eqb-true, or_cases, or_left, or_right}
+use Rattle.std.proofs.lemmas.List.{get_or_append_left, length-append}
 use Rattle.std.proofs.lemmas.List.Folds.{list_any-append, list_any_at}
 use mathlib.Core.Option.{some}
 use lib.ListN.{get_elem?}
@@ -16,7 +17,7 @@ use Rattle.cell_words.specs.declared.colours.Colour.{Colour}
 use Rattle.cell_words.specs.declared.colours.Colour.TheVariants as colour
 use Rattle.closed_store.specs.Closing.{EndedStore}
 use Rattle.closed_store.proofs.Counting.{below_all}
-use Rattle.closed_store.proofs.Getting.{claims_along, gets, gets_cell, gets_this, got_few}
+use Rattle.closed_store.proofs.Getting.{claims_along, gets_cell, gets_this, got_few}
 use Rattle.closed_store.proofs.Getting.{start_claims, start_paired}
 use Rattle.core_machine.specs.declared.events.Event.{Event}
 use Rattle.core_machine.specs.declared.events.Event.TheVariants as event
@@ -102,17 +103,26 @@ tries_used c (event.Claim i d) (finds.Colour x) is =
     }
 tries_used c e found is = absurd cc
 
--- a cell that was claimed before was so in the whole
-claimed_whole : (ts before later : List Taken) (t : Taken) (c : ℕ)
-    → ts ≡ before ++ (t ∷ later) → IsClaimed before c → list_any (gets_this c) ts ≡ true
-claimed_whole ts before later t c split is =
-    let there : gets_this c is.1 ≡ true = gets_cell c is.1 is.4 in
-    let at : gets_this c (get_or before is.0 is.1) ≡ true =
-    ap (λ (u : Taken). gets_this c u) is.3 ∙ there in
-    let front = list_any_at (gets_this c) before is.0 is.1 is.2 at in
-    ap (λ (us : List Taken). list_any (gets_this c) us) split
-    ∙ list_any-append (gets_this c) before (t ∷ later)
-    ∙ or_left (list_any (gets_this c) before) (list_any (gets_this c) (t ∷ later)) front
+-- what was claimed in the first of the events was so in all of them
+claimed_on : (ts before later : List Taken) (t : Taken) (c : ℕ) → ts ≡ before ++ (t ∷ later)
+    → IsClaimed before c → IsClaimed ts c
+claimed_on ts before later t c split is =
+    let there = is.2 in
+    let more = length-append before (t ∷ later) in
+    let lt : is.0 < length (before ++ (t ∷ later)) = omega (arith, there, more) in
+    subst (λ (us : List Taken). IsClaimed us c) (sym split) (
+      is.0,
+      is.1,
+      lt,
+      get_or_append_left before (t ∷ later) is.1 is.0 there ∙ is.3,
+      is.4,
+    )
+
+-- some event got what was claimed
+claimed_got : (ts : List Taken) (c : ℕ) → IsClaimed ts c → list_any (gets_this c) ts ≡ true
+claimed_got ts c is =
+    list_any_at (gets_this c) ts is.0 is.1 is.2
+    (ap (λ (u : Taken). gets_this c u) is.3 ∙ gets_cell c is.1 is.4)
 
 -- the stretch found the cell used, and so the trail has such an event
 used_in_trail : (cells c : ℕ) (trail : List Taken) (before stretch after : List Mark)
@@ -133,45 +143,47 @@ used_in_trail cells c trail before stretch after split full lt =
     ∙ or_right (list_any p before) (list_any p (stretch ++ after)) outer in
     sym (used_shown no_own c trail) ∙ whole
 
-module _ (h : Shape) (run : List Taken) (claimed : FoundUsedWasClaimed h run) where
-  -- a cell that was found used is a first row, or some event got it
-  got_or_first : (c : ℕ) → list_any (finds_used c) run ≡ true
-      → (c < length h.first) ⊎ (list_any (gets_this c) run ≡ true)
-  got_or_first c any =
-      let is = passes_there (finds_used c) run any in
-      let tries = tries_used c is.passing.event is.passing.found is.passes in
-      elim (claimed is.before is.later is.passing tries.claimer c tries.shade is.split tries.claims
-      tries.found_is tries.used) [
-        | inl first ↦ inl first
-        | inr got ↦ inr (claimed_whole run is.before is.later is.passing c is.split got)
-      ]
+-- a cell that was found used is a first row, or was claimed
+claimed_or_first : (h : Shape) (run : List Taken) (c : ℕ) → FoundUsedWasClaimed h run
+    → list_any (finds_used c) run ≡ true → (c < length h.first) ⊎ IsClaimed run c
+claimed_or_first h run c claimed any =
+    let is = passes_there (finds_used c) run any in
+    let tries = tries_used c is.passing.event is.passing.found is.passes in
+    elim (claimed is.before is.later is.passing tries.claimer c tries.shade is.split tries.claims
+    tries.found_is tries.used) [
+      | inl first ↦ inl first
+      | inr before ↦ inr (claimed_on run is.before is.later is.passing c is.split before)
+    ]
 
-  -- the cells that are no first rows were got
-  all_got : (n : ℕ) → ((c : ℕ) → c < n → list_any (finds_used c) run ≡ true)
-      → n ≤ length h.first + count_by gets run
-  all_got n found =
-      let got = below_all (λ c. list_any (gets_this c) run) (length h.first) n
-      (λ c low lt. elim (got_or_first c (found c lt)) [
+module _ (h : Shape) (words : List ℕ) (v : View Pass) (ended : EndedStore h words v) (i : ℕ)
+    (share : Share Pass) (before stretch after : List Mark)
+    (at : get_elem? v.places i ≡ some (places.Joined share))
+    (split : marks_of share.trail ≡ before ++ (stretch ++ after))
+    (full : IsFull h.cells stretch) where
+  -- each cell that is no first row was claimed
+  pub each_claimed : (c : ℕ) → length h.first ≤ c → c < h.cells
+      → IsClaimed ended.shows.run c
+  each_claimed c low lt =
+      let run = ended.shows.run in
+      let joined = ended.collector.joined i share at in
+      let any : list_any (finds_used c) run ≡ true =
+      of_trail (finds_used c) (Some i) run
+      (ap (λ (ts : List Taken). list_any (finds_used c) ts) joined.trail
+      ∙ used_in_trail h.cells c share.trail before stretch after split full lt) in
+      elim (claimed_or_first h run c ended.shows.found_claimed any) [
         | inl first ↦ absurd (omega (arith, first, low))
         | inr is ↦ is
-      ]) in
-      let few = got_few n run in
-      omega (arith, got, few)
+      ]
 
-pub claimed_whole_heap : (h : Shape) (words : List ℕ) (v : View Pass)
-    (ended : EndedStore h words v) (i : ℕ) (share : Share Pass) (before stretch after : List Mark)
-    → get_elem? v.places i ≡ some (places.Joined share)
-    → marks_of share.trail ≡ before ++ (stretch ++ after) → IsFull h.cells stretch
-    → h.cells ≤ claims_of ended.shows.core + length h.first
-claimed_whole_heap h words v ended i share before stretch after at split full =
-    let e = ended.shows in
-    let from = start h e.core.rooms in
-    let joined = ended.collector.joined i share at in
-    let all = all_got h e.run e.found_claimed h.cells
-    (λ c lt. of_trail (finds_used c) (Some i) e.run
-    (ap (λ (ts : List Taken). list_any (finds_used c) ts) joined.trail
-    ∙ used_in_trail h.cells c share.trail before stretch after split full lt)) in
-    let counted = claims_along from e.run (start_paired h e.core.rooms) e.last_of.legal in
-    let none = start_claims h e.core.rooms in
-    let same : claims_of (last from e.run) ≡ claims_of e.core = ap claims_of e.last_of.ends in
-    omega (arith, all, counted, none, same)
+  -- so they were got by as many events at least, each of which counts as a claim
+  pub all_claimed : h.cells ≤ claims_of ended.shows.core + length h.first
+  all_claimed =
+      let e = ended.shows in
+      let from = start h e.core.rooms in
+      let got = below_all (λ c. list_any (gets_this c) e.run) (length h.first) h.cells
+      (λ c low lt. claimed_got e.run c (each_claimed c low lt)) in
+      let few = got_few h.cells e.run in
+      let counted = claims_along from e.run (start_paired h e.core.rooms) e.last_of.legal in
+      let none = start_claims h e.core.rooms in
+      let same : claims_of (last from e.run) ≡ claims_of e.core = ap claims_of e.last_of.ends in
+      omega (arith, got, few, counted, none, same)
