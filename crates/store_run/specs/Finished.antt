@@ -11,6 +11,7 @@ use mathlib.Core.Option.{some}
 use lib.ListN.{get_elem?}
 use Rattle.client_turns.specs.Runs.{ShowsRun, was_full}
 use Rattle.closed_store.specs.Chain.{ShowsVersions}
+use Rattle.closed_store.specs.Closing.{EndedStore}
 use Rattle.collector.specs.Cycles.{Served}
 use Rattle.core_machine.specs.State.{State, free_count_of}
 use Rattle.core_machine.specs.declared.events.Event.TheVariants as event
@@ -33,7 +34,7 @@ use Rattle.heap_rule.specs.declared.view.Place.TheVariants as places
 use Rattle.heap_rule.specs.declared.view.Share.{Share}
 use Rattle.heap_rule.specs.declared.view.View.{View}
 use Rattle.heap_table.specs.Images.{ImageView, Shows}
-use Rattle.store_run.specs.Opened.{EndedStore, limits_of, shape_of}
+use Rattle.store_run.specs.Opened.{limits_of, shape_of}
 use Rattle.store_run.specs.declared.options.Options.{Options}
 use Rattle.trails.specs.Marks.{marks_of}
 use Rattle.version_rule.specs.Pass.{Pass}

@@ -2,16 +2,12 @@
 -- Source: this project's.
 use Rattle.std.specs.Prelude.{ℕ, ◌≤◌, List, Vec, map}
 use Rattle.std.specs.declared.alloc.Global.{Global}
+use Rattle.client_run.specs.declared.session.Limits.{Limits as ClientLimits}
 use Rattle.doc_model.specs.Answers.{Limits}
 use Rattle.doc_model.specs.declared.command.Command.{Command}
-use Rattle.doc_records.specs.Trees.{IsTreeNode, tree_of}
-use Rattle.heap_rule.specs.Laws.{Ended}
 use Rattle.heap_rule.specs.Shape.{Shape}
-use Rattle.heap_rule.specs.declared.view.View.{View}
 use Rattle.store_run.specs.declared.options.Options.{Options}
 use Rattle.version_rule.specs.Opening.{first_rows}
-use Rattle.version_rule.specs.Pass.{Pass, opening_pass}
-use Rattle.version_rule.specs.Versions.{HoldsVersions, is_fixed}
 
 -- each number is within its range
 pub record IsWithin (o : Options) : Type 0 where
@@ -29,6 +25,10 @@ lists_of scripts = map (λ script. script.items) scripts
 abbrev pub limits_of : Options → Limits
 limits_of o = record { keep = o.keep; versions = o.versions }
 
+-- with the room of the private records
+abbrev pub client_limits : Options → ClientLimits
+client_limits o = record { keep = o.keep; versions = o.versions; minor = o.minor }
+
 -- the heap: a mutator for each client; the setting is how many versions stay
 abbrev pub shape_of : Options → ℕ → Shape
 shape_of o clients = record {
@@ -37,8 +37,3 @@ shape_of o clients = record {
   setting = o.keep;
   first = first_rows;
 }
-
--- a heap of versions was closed: these were its words, and this is what the collector's seat had
-abbrev pub EndedStore : Shape → List ℕ → View Pass → Type 0
-EndedStore h words v =
-    Ended opening_pass (HoldsVersions IsTreeNode tree_of) is_fixed h (Unit {0}) words v

@@ -6,12 +6,16 @@
 //! are a legal history of one store, whose kept versions stand in the image; the totals are those
 //! of the image and the logs. How a script is read and a log written is left to that layer.
 //!
-//! Reading order: specs/Opened, Finished; then `options`, `finished`, `running`.
+//! Reading order: specs/Opened, Finished; then `options`, `finished`; specs/Parts; then `opening`,
+//! `taking_back`, `totals`, `running`.
 #![tactic(auto)]
 
 mod finished;
+mod opening;
 mod options;
 mod running;
+mod taking_back;
+mod totals;
 
 pub use finished::Finished;
 pub use options::Options;

@@ -4,7 +4,11 @@ ghost use Rattle.store_run.specs.Finished.{Comes};
 ghost use Rattle.store_run.specs.Opened.{IsWithin, lists_of};
 
 use crate::finished::Finished;
+use crate::opening::{Opened, open_store};
 use crate::options::Options;
+use crate::taking_back::take_back;
+use crate::totals::totals_of;
+use client_threads::run_beside;
 use collector::NoMemory;
 use doc_model::Command;
 use outside::Gate;
@@ -31,5 +35,38 @@ pub fn run_clients<R: Threads + Wait + Sync, G: Gate + Sync>(
     ensures { IfOk result (λ f. Comes options.now (lists_of scripts.now) f.logs.items f.image
         f.passes f.totals) }
 {
-    unreachable!()
+    let mut logs = Vec::with_capacity(alloc, scripts.len())?;
+    let limits = options.client_limits();
+    let Opened {
+        heap,
+        queue,
+        keeper,
+        clients,
+    } = open_store(alloc, rt, scripts, options)?;
+    let (clients, seat) = run_beside(
+        alloc,
+        rt,
+        gate,
+        &heap,
+        &queue,
+        scripts,
+        limits,
+        keeper,
+        options.cycles,
+        clients,
+    );
+    let mut seat = seat;
+    let failed = take_back(&heap, limits, scripts, clients, &mut seat, &mut logs);
+    let freed = seat.freed();
+    let (image, passes) = seat.close(heap);
+    if failed {
+        return Err(NoMemory);
+    }
+    let totals = totals_of(&image, freed, &logs);
+    Ok(Finished {
+        logs,
+        image,
+        passes,
+        totals,
+    })
 }
