@@ -4,8 +4,8 @@
 -- All is said of one heap that was opened for this run and closed behind it: of the core state that
 -- its words show at the close, and of the trails and passes that its seats left.
 -- Source: this project's.
-use Rattle.std.specs.Prelude.{ℕ, ◌≡◌, ◌≤◌, ◌<◌, ◌+◌, ◌-◌, ◌++◌, ◌⊎◌, true, false, List, [], ◌∷◌}
-use Rattle.std.specs.Prelude.{zero, suc, length, map}
+use Rattle.std.specs.Prelude.{ℕ, zero, suc, ◌≡◌, ◌≤◌, ◌<◌, ◌+◌, ◌-◌, ◌++◌, ◌⊎◌, true, false}
+use Rattle.std.specs.Prelude.{List, [], ◌∷◌, length, map}
 use Rattle.std.specs.List.{list_any}
 use mathlib.Core.Option.{some}
 use lib.ListN.{get_elem?}
@@ -95,7 +95,8 @@ pub record Comes (o : Options) (scripts : List (List Command)) (logs : List Clie
   pub ended : EndedStore (shape_of o (length scripts)) image.words passes
   pub shown : Shows image ended.shows.core
   -- each log is tied to what its own mutator left
-  pub tied : (i : ℕ) → i < length scripts → IsTiedTo (limits_of o) o.cells logs passes.places i
+  pub tied : (i : ℕ) → i < length scripts
+      → IsTiedTo (limits_of o) o.cells logs passes.places i
   -- the logs agree on the versions of that heap, and merged they are a legal history
   pub agree : Agree (limits_of o) ended.shows.kept.trees logs
   pub merged : (entries : List Entry) → IsMerge logs entries
