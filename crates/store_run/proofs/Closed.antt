@@ -57,46 +57,60 @@ record FoundFull (logs : List ClientLog) : Type 0 where
   pub entry_at : get_elem? log.entries place ≡ some entry
   pub full : was_full entry ≡ true
 
--- where one of a list passes a test, one of its places has one that does
-any_at : (es : List Entry) → list_any was_full es ≡ true
-    → (k : ℕ) × (e : Entry) × (get_elem? es k ≡ some e) × (was_full e ≡ true)
-any_at [] h = absurd cc
-any_at (e ∷ es) h = by_first (was_full e) refl
-  where
-    by_first : (b : Bool) → was_full e ≡ b
-        → (k : ℕ) × (d : Entry) × (get_elem? (e ∷ es) k ≡ some d) × (was_full d ≡ true)
-    by_first true is = (0, e, refl, is)
-    by_first false is =
-        let rest = subst (λ (b : Bool). (b || list_any was_full es) ≡ true) is h in
-        let later = any_at es rest in (suc later.0, later.1, later.2, later.3)
+-- one of these entries did
+record FoundIn (es : List Entry) : Type 0 where
+  pub place : ℕ
+  pub entry : Entry
+  pub entry_at : get_elem? es place ≡ some entry
+  pub full : was_full entry ≡ true
+
+found_first : (e : Entry) (es : List Entry) (b : Bool) → was_full e ≡ b
+    → (b || list_any was_full es) ≡ true → (list_any was_full es ≡ true → FoundIn es)
+    → FoundIn (e ∷ es)
+found_first e es true is h later =
+    record { place = 0; entry = e; entry_at = refl; full = is }
+found_first e es false is h later =
+    let found = later h in record {
+      place = suc found.place;
+      entry = found.entry;
+      entry_at = found.entry_at;
+      full = found.full;
+    }
+
+found_in : (es : List Entry) → list_any was_full es ≡ true → FoundIn es
+found_in [] h = absurd cc
+found_in (e ∷ es) h = found_first e es (was_full e) refl h (λ rest. found_in es rest)
+
+full_first : (g : ClientLog) (logs : List ClientLog) (b : Bool)
+    → list_any was_full g.entries ≡ b → (b || list_any was_full (all_entries logs)) ≡ true
+    → (list_any was_full (all_entries logs) ≡ true → FoundFull logs) → FoundFull (g ∷ logs)
+full_first g logs true is h later =
+    let found = found_in g.entries is in record {
+      client = 0;
+      log = g;
+      log_at = refl;
+      place = found.place;
+      entry = found.entry;
+      entry_at = found.entry_at;
+      full = found.full;
+    }
+full_first g logs false is h later =
+    let found = later h in record {
+      client = suc found.client;
+      log = found.log;
+      log_at = found.log_at;
+      place = found.place;
+      entry = found.entry;
+      entry_at = found.entry_at;
+      full = found.full;
+    }
 
 full_log : (logs : List ClientLog) → list_any was_full (all_entries logs) ≡ true → FoundFull logs
 full_log [] h = absurd cc
-full_log (g ∷ logs) h = by_log (list_any was_full g.entries) refl
-  where
-    by_log : (b : Bool) → list_any was_full g.entries ≡ b → FoundFull (g ∷ logs)
-    by_log true is =
-        let found = any_at g.entries is in record {
-          client = 0;
-          log = g;
-          log_at = refl;
-          place = found.0;
-          entry = found.1;
-          entry_at = found.2;
-          full = found.3;
-        }
-    by_log false is =
-        let rest = subst (λ (b : Bool). (b || list_any was_full (all_entries logs)) ≡ true) is
-        (sym (list_any-append was_full g.entries (all_entries logs)) ∙ h) in
-        let later = full_log logs rest in record {
-          client = suc later.client;
-          log = later.log;
-          log_at = later.log_at;
-          place = later.place;
-          entry = later.entry;
-          entry_at = later.entry_at;
-          full = later.full;
-        }
+full_log (g ∷ logs) h =
+    full_first g logs (list_any was_full g.entries) refl
+    (sym (list_any-append was_full g.entries (all_entries logs)) ∙ h)
+    (λ rest. full_log logs rest)
 
 rows_are : AreRows first_rows
 rows_are zero lt = refl
@@ -107,7 +121,7 @@ rows_are (suc (suc (suc c))) lt = absurd (omega (arith, lt))
 sound : (o : Options) (clients : ℕ) → IsWithin o → IsSound (shape_of o clients)
 sound o clients within = record {
   rows = rows_are;
-  first = tt;
+  first = refl;
   fit = let least = within.cells.0 in omega (arith, least);
   few = within.cells.1;
 }
@@ -125,7 +139,7 @@ there (y ∷ ys) (suc i) x h = let rest = there ys i x h in omega (arith, rest)
 -- What is known where the heap of a run is closed: of its clients, and of its collector.
 pub record AtClose (o : Options) (scripts : List (List Command)) (logs : List ClientLog)
     (v : View Pass) : Type 0 where
-  pub some : 1 ≤ length scripts
+  pub least : 1 ≤ length scripts
   pub within : IsWithin o
   pub many : length logs ≡ length scripts
   pub left : AreLeft (limits_of o) o.cells logs v.places (length scripts)
@@ -155,7 +169,7 @@ module _ (o : Options) (scripts : List (List Command)) (logs : List ClientLog)
   module _ (ended : EndedStore (shape_of o (length scripts)) image.words v)
       (shown : Shows image ended.shows.core) where
     agreed : LogsAgree (limits_of o) (shape_of o (length scripts)) image.words v logs ended
-    agreed = logs_agree (limits_of o) (shape_of o (length scripts)) image.words v logs ended at.some
+    agreed = logs_agree (limits_of o) (shape_of o (length scripts)) image.words v logs ended at.least
         at.many at.left
 
     stay : ShowsVersions ended.shows.core o.keep ended.shows.kept.trees
@@ -192,8 +206,8 @@ module _ (o : Options) (scripts : List (List Command)) (logs : List ClientLog)
 
     full_here : list_any was_full (all_entries logs) ≡ true
         → o.cells ≤ claims_of ended.shows.core + 3
-    full_here some =
-        let found = full_log logs some in
+    full_here met =
+        let found = full_log logs met in
         let within = there logs found.client found.log found.log_at in
         let one = at.left found.client (omega (arith, within, at.many)) in
         let its = agreed.clients found.client found.log one.share found.log_at one.share_at in
@@ -216,6 +230,7 @@ module _ (o : Options) (scripts : List (List Command)) (logs : List ClientLog)
 
     comes_here : (totals : Totals) → AreCounted logs image v o.cells totals
         → map commands_of logs ≡ scripts → Comes o scripts logs image v totals
+    unfolding counted_here
     comes_here totals are answered =
         let totals_are = are.are (counted_here are.freed are.freed_is) in
         let cycles = totals_are.cycles ∙ cycles_here in
@@ -237,7 +252,7 @@ module _ (o : Options) (scripts : List (List Command)) (logs : List ClientLog)
           stay = stay;
           made = agreed.made ∙ ap (λ (n : ℕ). n + 1) (sym a);
           claims = omega (arith, claimed, a, b);
-          full = λ some. let whole = full_here some in omega (arith, whole, b);
+          full = λ met. let whole = full_here met in omega (arith, whole, b);
           service = record {
             off = off_first at.held_back;
             off_is = off_or_not at.held_back;

@@ -62,3 +62,26 @@ few_entries (g ∷ logs) short =
     (All-tail (λ (g : ClientLog). length g.entries ≤ 100_000) g logs short) in
     let sum = length-append g.entries (all_entries logs) in
     omega (arith, one, rest, sum)
+
+-- So the next log's entries can be counted too, and the new versions among them.
+module _ (logs : List ClientLog) (i : ℕ) (log : ClientLog) (few : length logs ≤ 64)
+    (short : All (λ (g : ClientLog). length g.entries ≤ 100_000) logs) (lt : i < length logs)
+    (is : log ≡ get_or logs i log) where
+  pub entries_fit : (count : ℕ)
+      → count + length (all_entries (drop i logs)) ≡ length (all_entries logs)
+      → count + length log.entries ≤ 6_400_000
+  entries_fit count so_far =
+      let next = entries_next logs i log lt in
+      let its = ap (λ (g : ClientLog). length g.entries) is in
+      let all = few_entries logs short in
+      omega (arith, next, its, all, so_far, few)
+
+  pub made_fit : (count : ℕ)
+      → count + length (ok_places (all_entries (drop i logs))) ≡ length (ok_places (all_entries logs))
+      → count + length (ok_places log.entries) ≤ 6_400_000
+  made_fit count so_far =
+      let next = made_next logs i log lt in
+      let its = ap (λ (g : ClientLog). length (ok_places g.entries)) is in
+      let all = few_entries logs short in
+      let fewer = made_few (all_entries logs) in
+      omega (arith, next, its, all, so_far, few, fewer)

@@ -23,7 +23,7 @@ use Rattle.version_rule.specs.Pass.{Pass}
 pub logs_agree : (l : Limits) (h : Shape) (words : List ℕ) (v : View Pass) (logs : List ClientLog)
     (ended : EndedStore h words v) → 1 ≤ h.mutators → length logs ≡ h.mutators
     → AreLeft l h.cells logs v.places h.mutators → LogsAgree l h words v logs ended
-logs_agree l h words v logs ended some many left = ?
+logs_agree l h words v logs ended least many left = ?
 
 pub are_out : (h : Shape) (words : List ℕ) (v : View Pass) (ended : EndedStore h words v)
     → AreJoined h.mutators v.places → AreOut ended.shows.core

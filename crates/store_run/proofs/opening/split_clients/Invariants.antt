@@ -17,7 +17,7 @@ invariant-loop-place l = record {
   room : vec_capacity l.clients ≡ length l.scripts;
   seat : IsSeatOf l.heap l.seat;
   still : IsStill l.fn.seat l.seat;
-  places : length l.seat.me.places ≡ length l.scripts;
+  many_places : length l.seat.me.places ≡ length l.scripts;
   unsplit : (i : ℕ) → l.place ≤ i → i < length l.scripts
       → get_elem? l.seat.me.places i ≡ some places.Unsplit;
   pass : IsHintPass l.queue l.pass;

@@ -8,6 +8,6 @@ abbrev pub invariant-loop-client : goal.invariant-loop-client
 invariant-loop-client l = record {
   left : into_iter_len l.client-iterator ≡ length (into_iter_items l.client-iterator);
   room : vec_len l.logs + length (into_iter_items l.client-iterator) ≤ vec_capacity l.logs;
-  taking : Taking l.heap l.limits l.scripts (into_iter_items l.client-iterator) l.logs.items
+  taking : Taking l.heap l.fn.limits l.scripts (into_iter_items l.client-iterator) l.logs.items
       l.failed l.fn.seat l.seat;
 }
