@@ -4,7 +4,8 @@
 -- All of it is said of the words alone. What a heap's cells are beyond its words, as the terms of
 -- records, is not in it: a field denotes a term if the cells that it leads to spell this term.
 -- Source: this project's.
-use Rattle.std.specs.Prelude.{ℕ, ◌≡◌, ◌+◌, ◌-◌, ◌⊎◌, List, [], ◌∷◌, length, min}
+use Rattle.std.specs.Prelude.{ℕ, ◌≡◌, ◌+◌, ◌-◌, ◌⊎◌, List, [], ◌∷◌}
+use Rattle.std.specs.Prelude.{length, min}
 use Rattle.cell_words.specs.declared.fields.Field.{Field}
 use Rattle.cell_words.specs.declared.fields.Field.TheVariants as field
 use Rattle.cell_words.specs.Term.{Term, null, num, five}
@@ -40,7 +41,8 @@ Denotes s (field.Cell x) (five a b c d e) =
     (Denotes s (field_of s x 2) c) (Denotes s (field_of s x 3) d) (Denotes s (field_of s x 4) e)
 
 -- the cell is the box of the version with this number, this tree and this link
-pub record IsVersionAt (s : State) (cell number : ℕ) (tree : DocTree) (link : Field) : Type 0 where
+pub record IsVersionAt (s : State) (cell number : ℕ) (tree : DocTree) (link : Field)
+    : Type 0 where
   pub kind : field_of s cell 5 ≡ field.Num 2
   pub number_is : field_of s cell 0 ≡ field.Num number
   pub root : ℕ
@@ -55,7 +57,8 @@ pub record IsVersionAt (s : State) (cell number : ℕ) (tree : DocTree) (link : 
 
 -- the cells are the boxes of the versions from this number on, the newest first: each is linked to
 -- the next, and the last to nothing
-pub data IsChain (s : State) (trees : List DocTree) : (number : ℕ) → (cells : List ℕ) → Type 0 where
+pub data IsChain (s : State) (trees : List DocTree) : (number : ℕ) → (cells : List ℕ)
+    → Type 0 where
   last : {cell number : ℕ} → IsVersionAt s cell number (tree_at trees number) field.Null
       → IsChain s trees number (cell ∷ [])
   more : {cell older number : ℕ} {cells : List ℕ}

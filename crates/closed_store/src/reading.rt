@@ -3,8 +3,8 @@
 ghost use Rattle.std.specs.Prelude.{List, length, ℕ, ◌≡◌, ◌<◌, ◌≤◌, ◌-◌};
 ghost use Rattle.closed_store.specs.Chain.{ShowsVersions};
 ghost use Rattle.closed_store.specs.Words.{field_behind, number_of as number_in};
-ghost use Rattle.core_machine.specs.State.{State, field_of};
-ghost use Rattle.dlg_core.specs.Sums.{used_count_of};
+ghost use Rattle.core_machine.specs.State.{State, colour_of, field_of};
+ghost use Rattle.dlg_core.specs.Sums.{is_used as counts, used_count_of};
 ghost use Rattle.doc_model.specs.Store.{tree_at};
 ghost use Rattle.doc_tree.specs.Tree.{DocTree, count};
 ghost use Rattle.heap_table.specs.Images.{Shows};
@@ -19,16 +19,27 @@ pub fn used_cells(image: &Image) -> u64
 {
     let mut used = 0;
     for cell in 0..image.cells() {
-        if image.colour(cell) != Colour::Blue {
+        if is_used(image, cell) {
             used += 1;
         }
     }
     used
 }
 
+// Whether a cell is not free.
+fn is_used(image: &Image, cell: u32) -> bool
+    requires { cell < image.now.cells }
+    ensures used { (s : State) → Shows image.now s → result ≡ counts (colour_of s cell) }
+{
+    match image.colour(cell) {
+        Colour::Blue => false,
+        Colour::White | Colour::Gray | Colour::Black => true,
+    }
+}
+
 /// How many nodes the tree of the latest version has, where the words show versions: as the root's
-/// record says. The anchor names the box of that version, and the box the root. Of other words it is
-/// a number without meaning, and 0 where a word on the way is of another form.
+/// record says. The anchor names the box of that version, and the box the root. Of other words it
+/// is a number without meaning, and 0 where a word on the way is of another form.
 pub fn latest_nodes(image: &Image) -> u64
     ensures nodes { (s : State) (keep : ℕ) (trees : List DocTree) → Shows image.now s
         → ShowsVersions s keep trees → result ≡ count (tree_at trees (length trees - 1)) }
