@@ -8,14 +8,17 @@ use Rattle.std.proofs.lemmas.List.Elements.{All-head, All-tail}
 use Rattle.atomic_table.proofs.Lists.{at_last, at_longer, set_else, set_here}
 use mathlib.Core.Option.{some}
 use lib.ListN.{get_elem?}
-use Rattle.client_threads.specs.Clients.{AllFrom, script_of}
+use Rattle.client_run.specs.declared.session.Limits.{Limits as ClientLimits}
+use Rattle.client_threads.specs.Clients.{AllFrom, AllReady, IsReady, script_of}
 use Rattle.client_threads.specs.declared.clients.Client.{Client}
 use Rattle.doc_model.specs.Answers.{Limits}
 use Rattle.doc_model.specs.ClientLog.{ClientLog}
 use Rattle.doc_model.specs.declared.command.Command.{Command}
+use Rattle.free_cells.specs.declared.queue.FreeQueue.{FreeQueue}
 use Rattle.heap_rule.specs.declared.view.Place.{Place}
 use Rattle.heap_rule.specs.declared.view.Place.TheVariants as places
 use Rattle.heap_rule.specs.declared.view.Share.{Share}
+use Rattle.heap_table.specs.Seats.{HeapId}
 use Rattle.run_history.specs.Left.{AreLeft, IsLeft}
 use Rattle.store_run.specs.Opened.{lists_of}
 use Rattle.version_rule.specs.Pass.{Pass}
@@ -98,3 +101,16 @@ unsplit_next at place count are i from below =
     subst (λ p. p ≡ some places.Unsplit)
     (sym (set_else at place i places.Away (λ e. omega (arith, from, e))))
     (are i (omega (arith, from)) below)
+
+-- one more client is ready, at the next place
+pub ready_push : (heap : HeapId) (queue : FreeQueue) (l : ClientLimits)
+    (scripts : List (Vec Command Global)) (clients : List Client) (client : Client) (place : ℕ)
+    → AllReady heap queue l scripts clients → length clients ≡ place
+    → All (λ (script : Vec Command Global). length script.items ≤ 100_000) scripts
+    → ((script : List Command) → length script ≤ 100_000
+    → IsReady heap queue l script place client)
+    → AllReady heap queue l scripts (clients ++ client ∷ [])
+ready_push heap queue l scripts clients client place all many short is =
+    let here : place ≡ 0 + length clients = omega (arith, many) in
+    all_from_push (λ at c. IsReady heap queue l (script_of scripts at) at c) 0 clients client all
+    (subst (λ (at : ℕ). IsReady heap queue l (script_of scripts at) at client) here (is (script_of scripts place) (script_short scripts place short)))

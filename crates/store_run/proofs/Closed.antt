@@ -16,6 +16,9 @@ use Rattle.client_threads.specs.Serving.{off_first}
 use Rattle.client_turns.specs.Runs.{was_full}
 use Rattle.closed_store.specs.Chain.{ShowsVersions}
 use Rattle.closed_store.specs.Closing.{AreJoined, EndedStore}
+use Rattle.closed_store.proofs.Chaining.{versions_shown}
+use Rattle.closed_store.proofs.Claiming.{all_claimed}
+use Rattle.closed_store.proofs.Out.{joined_out}
 use Rattle.collector.specs.Cycles.{Served}
 use Rattle.collector.proofs.Leaving.{tidy_at_close}
 use Rattle.core_machine.specs.Collector.{Collector}
@@ -39,13 +42,13 @@ use Rattle.heap_rule.specs.declared.view.View.{View}
 use Rattle.heap_table.specs.Images.{ImageView, Shows}
 use Rattle.run_history.specs.Agreed.{LogsAgree}
 use Rattle.run_history.specs.Left.{AreLeft}
+use Rattle.run_history.proofs.Agreeing.{logs_agree}
 use Rattle.store_run.specs.Finished.{Comes, IsService, IsTiedTo, IsTotals, commands_of, duty_on}
 use Rattle.store_run.specs.Opened.{IsWithin, limits_of, lists_of, shape_of}
 use Rattle.store_run.specs.Parts.{IsCounted}
 use Rattle.store_run.specs.declared.options.Options.{Options}
 use Rattle.version_rule.specs.Opening.{first_rows}
 use Rattle.version_rule.specs.Pass.{Pass}
-use Rattle.store_run.proofs.Laws.{all_counted, are_out, claimed_whole, logs_agree, words_show}
 
 -- an entry of a log that found the heap full
 record FoundFull (logs : List ClientLog) : Type 0 where
@@ -175,9 +178,9 @@ module _ (o : Options) (scripts : List (List Command)) (logs : List ClientLog)
     stay : ShowsVersions ended.shows.core o.keep ended.shows.kept.trees
     stay =
         subst (λ (keep : ℕ). ShowsVersions ended.shows.core keep ended.shows.kept.trees) agreed.keep
-        (words_show (shape_of o (length scripts)) image.words v ended agreed.cut.client
+        (versions_shown (shape_of o (length scripts)) image.words v ended agreed.cut.client
         agreed.cut.pass agreed.cut.pass_at agreed.cut.far
-        (are_out (shape_of o (length scripts)) image.words v ended joined))
+        (joined_out (shape_of o (length scripts)) image.words v ended joined))
 
     counted_here : (freed : ℕ) → v.part.number_freed ≡ freed → IsCounted image freed
     counted_here freed is = record {
@@ -212,7 +215,7 @@ module _ (o : Options) (scripts : List (List Command)) (logs : List ClientLog)
         let one = at.left found.client (omega (arith, within, at.many)) in
         let its = agreed.clients found.client found.log one.share found.log_at one.share_at in
         let had = its.full found.place found.entry found.entry_at found.full in
-        claimed_whole (shape_of o (length scripts)) image.words v ended found.client one.share
+        all_claimed (shape_of o (length scripts)) image.words v ended found.client one.share
         had.before had.stretch had.after one.share_at had.is had.meets
 
     tidy_here : at.made < o.cycles → IsTidy ended.shows.core

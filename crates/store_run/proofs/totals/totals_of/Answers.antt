@@ -1,13 +1,13 @@
 use Rattle.std.proofs.Common.{◌≡◌, ◌∙◌, ap, arith, sym}
 use Rattle.cell_words.specs.declared.controls.Control.{Control}
-use Rattle.store_run.proofs.Laws.{all_counted}
+use Rattle.closed_store.proofs.Counting.{free_and_used}
 use Rattle.store_run.proofs.totals.totals_of.Goals as goal
 
 pub returns-clause-totals : goal.returns-clause-totals
 returns-clause-totals c = λ at.
     let used = c.used_cells-used.ensures.used at.core at.shown in
     let claims = at.balanced.claims in
-    let all = all_counted at.core at.shaped in
+    let all = free_and_used at.core at.shaped in
     record {
       commands = c.commands_in.ensures.count;
       versions = c.versions_in.ensures.count;
