@@ -1,5 +1,6 @@
 -- Clients and scripts by their places, and what is left when one more client is taken back.
-use Rattle.std.proofs.Common.{◌≡◌, ◌≤◌, ◌<◌, ◌+◌, ℕ, zero, suc, List, [], ◌∷◌, ◌++◌, length, take}
+use Rattle.std.proofs.Common.{◌≡◌, ◌≤◌, ◌<◌, ◌+◌, ℕ, zero, suc, List, []}
+use Rattle.std.proofs.Common.{◌∷◌, ◌++◌, length, take}
 use Rattle.std.proofs.Common.{All, inl, inr, refl, sym, ap, subst, arith, slice_set}
 use Rattle.std.specs.Prelude.{Vec}
 use Rattle.std.specs.declared.alloc.Global.{Global}
@@ -31,8 +32,7 @@ all_from_push holds place [] client all is =
     let here : place + 0 ≡ place = omega arith in
     (subst (λ (n : ℕ). holds n client) here is, tt)
 all_from_push holds place (c ∷ clients) client all is =
-    let next : place + suc (length clients) ≡ (place + 1) + length clients = omega arith in
-    (
+    let next : place + suc (length clients) ≡ (place + 1) + length clients = omega arith in (
       all.0,
       all_from_push holds (place + 1) clients client all.1
           (subst (λ (n : ℕ). holds n client) next is),
@@ -43,7 +43,8 @@ pub script_short : (scripts : List (Vec Command Global)) (place : ℕ)
     → length (script_of scripts place) ≤ 100_000
 script_short [] place short = omega arith
 script_short (script ∷ scripts) zero short =
-    All-head (λ (script : Vec Command Global). length script.items ≤ 100_000) script scripts short
+    All-head (λ (script : Vec Command Global). length script.items ≤ 100_000) script scripts
+    short
 script_short (script ∷ scripts) (suc place) short =
     script_short scripts place
     (All-tail (λ (script : Vec Command Global). length script.items ≤ 100_000) script scripts
@@ -72,7 +73,7 @@ pub left_push : (l : Limits) (cells count : ℕ) (logs : List ClientLog) (log : 
     → AreLeft l cells (logs ++ log ∷ []) (slice_set at count (places.Joined share)) (count + 1)
 left_push l cells count logs log at share many lt left is = λ i below.
     elim (cases_lt i count) [
-      inl before ↦ let old = left i before in record {
+      | inl before ↦ let old = left i before in record {
         log = old.log;
         log_at = at_longer logs (log ∷ []) i old.log old.log_at;
         share = old.share;
@@ -113,4 +114,5 @@ pub ready_push : (heap : HeapId) (queue : FreeQueue) (l : ClientLimits)
 ready_push heap queue l scripts clients client place all many short is =
     let here : place ≡ 0 + length clients = omega (arith, many) in
     all_from_push (λ at c. IsReady heap queue l (script_of scripts at) at c) 0 clients client all
-    (subst (λ (at : ℕ). IsReady heap queue l (script_of scripts at) at client) here (is (script_of scripts place) (script_short scripts place short)))
+    (subst (λ (at : ℕ). IsReady heap queue l (script_of scripts at) at client) here
+    (is (script_of scripts place) (script_short scripts place short)))

@@ -2,8 +2,10 @@
 --
 -- counted   the state that the image shows, with the versions that stay
 -- comes     all of it
-use Rattle.std.proofs.Common.{◌≡◌, ◌≤◌, ◌<◌, ◌+◌, ◌++◌, ◌⊎◌, ℕ, zero, suc, Bool, true, false, List}
-use Rattle.std.proofs.Common.{[], ◌∷◌, length, map, inl, inr, refl, sym, ◌∙◌, ap, subst, arith}
+use Rattle.std.proofs.Common.{◌≡◌, ◌≤◌, ◌<◌, ◌+◌, ◌++◌, ◌⊎◌, ℕ}
+use Rattle.std.proofs.Common.{zero, suc, Bool, true, false, List}
+use Rattle.std.proofs.Common.{[], ◌∷◌, length, map, inl, inr, refl, sym, ◌∙◌, ap, subst}
+use Rattle.std.proofs.Common.{arith}
 use Rattle.std.proofs.Common.{append_assoc}
 use Rattle.std.specs.Prelude.{Vec, ◌||◌}
 use Rattle.std.specs.declared.alloc.Global.{Global}
@@ -86,7 +88,8 @@ found_in (e ∷ es) h = found_first e es (was_full e) refl h (λ rest. found_in 
 
 full_first : (g : ClientLog) (logs : List ClientLog) (b : Bool)
     → list_any was_full g.entries ≡ b → (b || list_any was_full (all_entries logs)) ≡ true
-    → (list_any was_full (all_entries logs) ≡ true → FoundFull logs) → FoundFull (g ∷ logs)
+    → (list_any was_full (all_entries logs) ≡ true → FoundFull logs)
+    → FoundFull (g ∷ logs)
 full_first g logs true is h later =
     let found = found_in g.entries is in record {
       client = 0;
@@ -108,7 +111,8 @@ full_first g logs false is h later =
       full = found.full;
     }
 
-full_log : (logs : List ClientLog) → list_any was_full (all_entries logs) ≡ true → FoundFull logs
+full_log : (logs : List ClientLog) → list_any was_full (all_entries logs) ≡ true
+    → FoundFull logs
 full_log [] h = absurd cc
 full_log (g ∷ logs) h =
     full_first g logs (list_any was_full g.entries) refl
@@ -172,12 +176,13 @@ module _ (o : Options) (scripts : List (List Command)) (logs : List ClientLog)
   module _ (ended : EndedStore (shape_of o (length scripts)) image.words v)
       (shown : Shows image ended.shows.core) where
     agreed : LogsAgree (limits_of o) (shape_of o (length scripts)) image.words v logs ended
-    agreed = logs_agree (limits_of o) (shape_of o (length scripts)) image.words v logs ended at.least
-        at.many at.left
+    agreed = logs_agree (limits_of o) (shape_of o (length scripts)) image.words v logs ended
+        at.least at.many at.left
 
     stay : ShowsVersions ended.shows.core o.keep ended.shows.kept.trees
     stay =
-        subst (λ (keep : ℕ). ShowsVersions ended.shows.core keep ended.shows.kept.trees) agreed.keep
+        subst (λ (keep : ℕ). ShowsVersions ended.shows.core keep ended.shows.kept.trees)
+        agreed.keep
         (versions_shown (shape_of o (length scripts)) image.words v ended agreed.cut.client
         agreed.cut.pass agreed.cut.pass_at agreed.cut.far
         (joined_out (shape_of o (length scripts)) image.words v ended joined))

@@ -1,5 +1,6 @@
 -- Entries and new versions, counted log by log.
-use Rattle.std.proofs.Common.{◌≡◌, ◌≤◌, ◌<◌, ◌+◌, ◌*◌, ℕ, List, [], ◌∷◌, ◌++◌, length, drop, get_or}
+use Rattle.std.proofs.Common.{◌≡◌, ◌≤◌, ◌<◌, ◌+◌, ◌*◌, ℕ, List, []}
+use Rattle.std.proofs.Common.{◌∷◌, ◌++◌, length, drop, get_or}
 use Rattle.std.proofs.Common.{All, refl, sym, ◌∙◌, ap, arith, map, filter}
 use Rattle.std.specs.List.{count_by}
 use Rattle.std.proofs.lemmas.List.{at_drop_more, length-append, length-map}
@@ -11,9 +12,9 @@ use Rattle.doc_model.specs.ClientLog.{ClientLog}
 use Rattle.doc_model.specs.Merge.{all_entries}
 use Rattle.doc_model.specs.declared.command.Entry.{Entry}
 
-
 -- how many versions so many entries made
-pub made_count : (es : List Entry) → length (ok_places es) ≡ count_by (λ (e : Entry). is_ok e.reply) es
+pub made_count : (es : List Entry)
+    → length (ok_places es) ≡ count_by (λ (e : Entry). is_ok e.reply) es
 made_count es =
     length-map (filter (λ (e : Entry). is_ok e.reply) es) (λ (e : Entry). e.place)
     ∙ length-filter (λ (e : Entry). is_ok e.reply) es
@@ -77,7 +78,8 @@ module _ (logs : List ClientLog) (i : ℕ) (log : ClientLog) (few : length logs 
       omega (arith, next, its, all, so_far, few)
 
   pub made_fit : (count : ℕ)
-      → count + length (ok_places (all_entries (drop i logs))) ≡ length (ok_places (all_entries logs))
+      → count + length (ok_places (all_entries (drop i logs)))
+      ≡ length (ok_places (all_entries logs))
       → count + length (ok_places log.entries) ≤ 6_400_000
   made_fit count so_far =
       let next = made_next logs i log lt in

@@ -1,5 +1,6 @@
 -- From the opening of a run and its parts to what stands where its heap is closed.
-use Rattle.std.proofs.Common.{◌≡◌, ◌≤◌, ◌+◌, ◌++◌, ℕ, List, [], ◌∷◌, All, length, map, drop, get_or}
+use Rattle.std.proofs.Common.{◌≡◌, ◌≤◌, ◌+◌, ◌++◌, ℕ, List, [], ◌∷◌}
+use Rattle.std.proofs.Common.{All, length, map, drop, get_or}
 use Rattle.std.proofs.Common.{refl, sym, ◌∙◌, ap, subst, arith}
 use Rattle.std.specs.Prelude.{Vec}
 use Rattle.std.specs.declared.alloc.Global.{Global}
@@ -9,7 +10,6 @@ use Rattle.cell_words.specs.declared.controls.Control.{Control}
 use Rattle.client_run.specs.declared.session.Limits.{Limits as ClientLimits}
 use Rattle.client_threads.specs.Clients.{store_limits}
 use Rattle.client_threads.specs.Serving.{Worked, off_first}
-use Rattle.client_threads.specs.declared.keeper.Keeper.{Keeper}
 use Rattle.collector.specs.Cycles.{Served}
 use Rattle.core_machine.specs.declared.events.Taken.{Taken}
 use Rattle.doc_model.specs.ClientLog.{ClientLog}
@@ -70,8 +70,8 @@ at_close o scripts heap first last new logs least within shape is trail cycles w
       added = worked.added;
       trail = taken.still.trail ∙ worked.trail
           ∙ ap (λ (ts : List Taken). ts ++ (off_first worked.held_back ++ worked.added)) trail;
-      served = subst (λ (n : ℕ). Served n o.cycles worked.made worked.freed worked.added) mutators
-          worked.served;
+      served = subst (λ (n : ℕ). Served n o.cycles worked.made worked.freed worked.added)
+          mutators worked.served;
       cycles = omega (arith, ends, begun, cycles);
     }
 
@@ -82,28 +82,19 @@ shaped o scripts h is =
     is ∙ ap (λ (n : ℕ). shape_of o n)
     (sym (length-map scripts (λ (script : Vec Command Global). script.items)))
 
--- The same, from the opening as it was given, with its parts taken out.
-module _ (o : Options) (scripts : List (Vec Command Global)) (made : Opened) (heap : HeapId)
-    (keeper : Keeper) (heap_is : made.heap ≡ heap) (keeper_is : made.keeper ≡ keeper)
+-- The same, from the opening as it was given.
+module _ (o : Options) (scripts : List (Vec Command Global)) (made : Opened)
     (opened : IsOpened o scripts made) where
-  pub shape_there : heap.shape ≡ shape_of o (length (lists_of scripts))
-  shape_there = shaped o scripts heap.shape (ap (λ (h : HeapId). h.shape) (sym heap_is) ∙ opened.shape)
+  pub shape_there : made.heap.shape ≡ shape_of o (length (lists_of scripts))
+  shape_there = shaped o scripts made.heap.shape opened.shape
 
   pub closing : (limits : ClientLimits) (last new : SeatView Pass) (logs : List ClientLog)
       → 1 ≤ length scripts → IsWithin o → limits ≡ client_limits o
-      → Worked o.cycles keeper.seat last
-      → AreTaken (store_limits limits) heap.shape.cells (length scripts) logs last new
+      → Worked o.cycles made.keeper.seat last
+      → AreTaken (store_limits limits) made.heap.shape.cells (length scripts) logs last new
       → AtClose o (lists_of scripts) logs new.me
   closing limits last new logs least within limits_are worked taken =
-      let seat = ap (λ (k : Keeper). k.seat) (sym keeper_is) in
-      let table = ap (λ (h : HeapId). h.table) (sym heap_is) in
-      let shape = ap (λ (h : HeapId). h.shape) (sym heap_is) in
-      at_close o scripts heap keeper.seat last new logs least within (shape ∙ opened.shape)
-      (
-        ap (λ (s : SeatView Pass). s.table) seat ∙ opened.seat.0 ∙ sym table,
-        ap (λ (s : SeatView Pass). s.me.shape) seat ∙ opened.seat.1 ∙ sym shape,
-      )
-      (ap (λ (s : SeatView Pass). s.me.trail) seat ∙ opened.trail)
-      (ap (λ (s : SeatView Pass). s.me.control.cycles) seat ∙ opened.no_cycles) worked
-      (subst (λ (l : ClientLimits). AreTaken (store_limits l) heap.shape.cells (length scripts)
-      logs last new) limits_are taken)
+      at_close o scripts made.heap made.keeper.seat last new logs least within opened.shape
+      opened.seat opened.trail opened.no_cycles worked
+      (subst (λ (l : ClientLimits). AreTaken (store_limits l) made.heap.shape.cells
+      (length scripts) logs last new) limits_are taken)

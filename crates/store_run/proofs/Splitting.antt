@@ -1,5 +1,6 @@
 -- The opening of a store's heap, and a client that is split off.
-use Rattle.std.proofs.Common.{◌≡◌, ◌≤◌, ◌<◌, ℕ, zero, suc, List, ◌∷◌, refl, sym, ◌∙◌, ap, subst}
+use Rattle.std.proofs.Common.{◌≡◌, ◌≤◌, ◌<◌, ℕ, zero, suc, List, ◌∷◌, refl}
+use Rattle.std.proofs.Common.{sym, ◌∙◌, ap, subst}
 use Rattle.std.proofs.Common.{arith, replicate}
 use mathlib.Core.Option.{some}
 use lib.ListN.{get_elem?}
@@ -34,7 +35,8 @@ opens cells mutators keep rows is fewer least most =
     )
 
 -- every one of so many is unsplit at the opening
-pub all_alike : {A : Type 0} (a : A) (n i : ℕ) → i < n → get_elem? (replicate n a) i ≡ some a
+pub all_alike : {A : Type 0} (a : A) (n i : ℕ) → i < n
+    → get_elem? (replicate n a) i ≡ some a
 all_alike a zero i lt = absurd (omega (arith, lt))
 all_alike a (suc n) zero lt = refl
 all_alike a (suc n) (suc i) lt = all_alike a n i (omega (arith, lt))

@@ -1,6 +1,8 @@
 -- How far the clients are taken back, one after the other.
-use Rattle.std.proofs.Common.{◌≡◌, ◌≤◌, ◌<◌, ◌+◌, ◌++◌, ◌||◌, ℕ, Bool, true, false, List, [], ◌∷◌}
-use Rattle.std.proofs.Common.{suc, length, map, take, refl, sym, ◌∙◌, ap, subst, arith, slice_set}
+use Rattle.std.proofs.Common.{◌≡◌, ◌≤◌, ◌<◌, ◌+◌, ◌++◌, ◌||◌, ℕ, Bool}
+use Rattle.std.proofs.Common.{true, false, List, [], ◌∷◌}
+use Rattle.std.proofs.Common.{suc, length, map, take, refl, sym, ◌∙◌, ap, subst, arith}
+use Rattle.std.proofs.Common.{slice_set}
 use Rattle.std.specs.Prelude.{Vec}
 use Rattle.std.specs.declared.alloc.Global.{Global}
 use Rattle.std.proofs.lemmas.Bool.{or_parts}
@@ -38,7 +40,8 @@ pub record Taking (heap : HeapId) (limits : ClientLimits) (scripts : List (Vec C
 module _ (heap : HeapId) (limits : ClientLimits) (scripts : List (Vec Command Global)) where
   pub taking_starts : (clients : List Client) (seat : SeatView Pass)
       → length clients ≡ length scripts → length seat.me.places ≡ length scripts
-      → AllDone heap limits scripts clients → Taking heap limits scripts clients [] false seat seat
+      → AllDone heap limits scripts clients
+      → Taking heap limits scripts clients [] false seat seat
   taking_starts clients seat many places done = record {
     still = record { table = refl; shape = refl; control = refl; trail = refl };
     places = places;

@@ -1,6 +1,7 @@
 -- What stands between the parts of a run: behind the opening, and when all clients are taken back.
 -- Source: this project's.
-use Rattle.std.specs.Prelude.{ℕ, ◌≡◌, ◌≤◌, ◌<◌, ◌++◌, true, false, List, [], length, map, take}
+use Rattle.std.specs.Prelude.{ℕ, ◌≡◌, ◌≤◌, ◌<◌, ◌++◌, true, false, List, []}
+use Rattle.std.specs.Prelude.{length, map, take}
 use Rattle.std.specs.Prelude.{All, Vec}
 use Rattle.std.specs.declared.alloc.Global.{Global}
 use Rattle.cell_words.specs.declared.controls.Stage.TheVariants as stage

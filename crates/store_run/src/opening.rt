@@ -1,7 +1,8 @@
 //! The opening of a run: a store's heap, with a seat, a session and a pass of the hints for each
 //! client, and what the collector works with. All memory of a run but that of its answers is taken
 //! here, so nothing that is begun has to be given up for want of it.
-ghost use Rattle.std.specs.Prelude.{◌≡◌, ◌<◌, ◌≤◌, All, IfOk, List, OnOk, length, replicate};
+ghost use Rattle.std.specs.Prelude.{◌≡◌, ◌<◌, ◌≤◌, All, IfOk, List, OnOk, length};
+ghost use Rattle.std.specs.Prelude.{replicate};
 ghost use mathlib.Core.Option.{some};
 ghost use lib.ListN.{get_elem?};
 ghost use Rattle.cell_words.specs.declared.controls.Stage.TheVariants as stage;
@@ -74,12 +75,9 @@ pub(crate) fn open_store<R: Wait>(
     let stack = MarkStack::with_room(alloc, MARKS)?;
     let keep = u64::from(options.keep);
     let rows = opening_rows();
-    let (heap, mut seat) =
-        ColSeat::<Documents>::open(alloc, options.cells, mutators, keep, &rows)?;
+    let (heap, mut seat) = ColSeat::<Documents>::open(alloc, options.cells, mutators, keep, &rows)?;
     let limits = options.client_limits();
-    let clients = split_clients(
-        alloc, &heap, &queue, limits, scripts, &mut seat, &mut pass,
-    )?;
+    let clients = split_clients(alloc, &heap, &queue, limits, scripts, &mut seat, &mut pass)?;
     begin_duty(&heap, options.cycles, &mut seat);
     Ok(Opened {
         heap,

@@ -1,6 +1,7 @@
 //! The clients behind their threads: each seat is joined, whatever its client came to, and its log
 //! is kept.
-ghost use Rattle.std.specs.Prelude.{◌≡◌, ◌≤◌, ◌-◌, [], false, length, map, vec_capacity};
+ghost use Rattle.std.specs.Prelude.{◌≡◌, ◌≤◌, [], false, true, length, map};
+ghost use Rattle.std.specs.Prelude.{vec_capacity};
 ghost use Rattle.client_threads.specs.Clients.{AllDone, IsDone, store_limits};
 ghost use Rattle.heap_rule.specs.Moves.{joined_view};
 ghost use Rattle.heap_table.specs.Seats.{IsSeatOf};
@@ -36,7 +37,8 @@ pub(crate) fn take_back(
         logs.new.items seat.old seat.new }
     ensures whole { result ≡ false → map commands_of logs.new.items ≡ lists_of scripts.now }
 {
-    let _ = (limits, scripts);
+    let _ = limits;
+    let _ = scripts;
     let mut failed = false;
     for client in clients {
         failed |= client.failed;

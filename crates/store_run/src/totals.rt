@@ -1,5 +1,6 @@
 //! The totals of a run, from its logs and the image of its heap.
-ghost use Rattle.std.specs.Prelude.{◌≡◌, ◌≤◌, ◌<◌, ◌+◌, ◌*◌, ◌^◌, All, length};
+ghost use Rattle.std.specs.Prelude.{◌≡◌, ◌≤◌, ◌<◌, ◌+◌, ◌*◌, ◌^◌, All};
+ghost use Rattle.std.specs.Prelude.{length};
 ghost use Rattle.doc_model.specs.Agreement.{ok_places};
 ghost use Rattle.doc_model.specs.Merge.{all_entries};
 ghost use Rattle.store_run.specs.Finished.{IsTotals};
@@ -18,7 +19,8 @@ pub(crate) fn totals_of(image: &Image, freed: u64, logs: &[Log]) -> Totals
     requires short { All (λ log. length log.entries ≤ 100_000) logs.now }
     requires freed { freed < 2 ^ 63 }
     requires counted { IsCounted image.now freed }
-    ensures totals { (at : IsCounted image.now freed) → IsTotals at.core logs.now at.trees result }
+    ensures totals { (at : IsCounted image.now freed)
+        → IsTotals at.core logs.now at.trees result }
     ensures balance { 3 + result.claimed ≡ result.used + result.freed }
     ensures all_cells { result.used + result.free ≡ image.now.cells }
 {

@@ -1,4 +1,4 @@
-use Rattle.std.proofs.Common.{◌≡◌, ◌≤◌, ◌∙◌, List, All, ap, length, refl, subst, sym}
+use Rattle.std.proofs.Common.{◌≡◌, ◌≤◌, ◌∙◌, List, All, ap, length, subst, sym}
 use Rattle.doc_model.specs.ClientLog.{ClientLog}
 use Rattle.heap_rule.specs.Shape.{Shape}
 use Rattle.heap_rule.specs.declared.view.View.{View}
@@ -23,14 +23,13 @@ totals_of-totals-requires-clause-counted g c =
     let opened = c.in_ok-heap.ensures.opened in
     let new = c.take_back-failed.new.seat in
     let logs = c.take_back-failed.new.logs.items in
-    let at = closing o scripts c.in_ok-heap.field-0 c.in_ok-heap.heap c.in_ok-heap.field-0.keeper
-    c.in_ok-heap.heap-is refl opened c.client_limits-limits.result
+    let at = closing o scripts c.in_ok-heap.field-0 opened c.client_limits-limits.result
     c.run_beside-clients.result.1 new logs c.requires.some c.requires.options
     c.client_limits-limits.ensures.limits c.run_beside-clients.ensures.worked
     c.take_back-failed.ensures.taken in
-    counted o (lists_of scripts) logs c.close-image.result.0 new.me at c.in_ok-heap.heap.shape
-    (shape_there o scripts c.in_ok-heap.field-0 c.in_ok-heap.heap c.in_ok-heap.field-0.keeper
-    c.in_ok-heap.heap-is refl opened) c.close-image.ensures.ended
+    counted o (lists_of scripts) logs c.close-image.result.0 new.me at
+    c.in_ok-heap.field-0.heap.shape (shape_there o scripts c.in_ok-heap.field-0 opened)
+    c.close-image.ensures.ended
     (c.close-image.ensures.shown c.close-image.ensures.ended) c.freed-freed.result
     (sym c.freed-freed.ensures.freed)
 
@@ -43,19 +42,19 @@ returns g c =
     let logs = c.take_back-failed.new.logs.items in
     let image = c.close-image.result.0 in
     let totals = c.totals_of-totals.result in
-    let shape = shape_there o scripts c.in_ok-heap.field-0 c.in_ok-heap.heap c.in_ok-heap.field-0.keeper
-    c.in_ok-heap.heap-is refl opened in
-    let at = closing o scripts c.in_ok-heap.field-0 c.in_ok-heap.heap c.in_ok-heap.field-0.keeper
-    c.in_ok-heap.heap-is refl opened c.client_limits-limits.result
+    let shape = shape_there o scripts c.in_ok-heap.field-0 opened in
+    let at = closing o scripts c.in_ok-heap.field-0 opened c.client_limits-limits.result
     c.run_beside-clients.result.1 new logs c.requires.some c.requires.options
     c.client_limits-limits.ensures.limits c.run_beside-clients.ensures.worked
     c.take_back-failed.ensures.taken in
-    let whole = comes o (lists_of scripts) logs image new.me at c.in_ok-heap.heap.shape shape
+    let whole = comes o (lists_of scripts) logs image new.me at
+    c.in_ok-heap.field-0.heap.shape shape
     c.close-image.ensures.ended (c.close-image.ensures.shown c.close-image.ensures.ended) totals
     record {
       freed = c.freed-freed.result;
       freed_is = sym c.freed-freed.ensures.freed;
-      are = λ counted. subst (λ (gs : List ClientLog). IsTotals counted.core gs counted.trees totals)
+      are = λ counted. subst (λ (gs : List ClientLog).
+          IsTotals counted.core gs counted.trees totals)
           c.deref.ensures.value (c.totals_of-totals.ensures.totals counted);
       balance = c.totals_of-totals.ensures.balance;
       all_cells = c.totals_of-totals.ensures.all_cells ∙ c.close-image.ensures.sizes.0

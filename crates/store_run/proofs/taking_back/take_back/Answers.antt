@@ -23,8 +23,8 @@ loop-client-preserved c =
     let old = c.args.seat.now in
     let mid = c.loop-client.seat in
     let new = c.joined.new.seat in
-    let now = subst (λ (cs : List Client). Taking heap limits scripts cs logs failed old mid) steps.0
-    k.taking in
+    let now = subst (λ (cs : List Client). Taking heap limits scripts cs logs failed old mid)
+    steps.0 k.taking in
     let next = taking_next heap limits scripts c.in-Some.client rest logs failed after
     c.joined.result old mid new now c.joined.ensures.log c.joined.ensures.seat
     (λ so. or_parts failed c.in-Some.client.failed so) in
