@@ -1,0 +1,50 @@
+-- What the collector's thread has, and what becomes of its seat.
+-- Source: this project's.
+use Rattle.std.specs.Prelude.{ℕ, ◌≡◌, ◌≤◌, ◌+◌, ◌++◌, Bool, true, false, List, []}
+use Rattle.std.specs.Prelude.{◌∷◌}
+use Rattle.cell_words.specs.declared.controls.Stage.TheVariants as stage
+use Rattle.collector.specs.Cycles.{Served}
+use Rattle.core_machine.specs.State.{greatest_cycles}
+use Rattle.core_machine.specs.declared.events.Event.TheVariants as event
+use Rattle.core_machine.specs.declared.events.Found.TheVariants as finds
+use Rattle.core_machine.specs.declared.events.Taken.{Taken}
+use Rattle.crossbeam_queue.specs.Passes.{Pass as QueuePass}
+use Rattle.free_cells.specs.Hints.{cells_of as hinted_of}
+use Rattle.free_cells.specs.Passes.{IsHintPass}
+use Rattle.free_cells.specs.declared.counts.Counts.{Counts}
+use Rattle.free_cells.specs.declared.queue.FreeQueue.{FreeQueue}
+use Rattle.heap_rule.specs.Rule.{took}
+use Rattle.heap_table.specs.Seats.{HeapId, IsSeatOf, SeatView}
+use Rattle.version_rule.specs.Pass.{Pass}
+
+-- The collector's seat of this heap, between two cycles, which may make so many more; with a pass
+-- of the hints of the heap's cells.
+pub record IsKeeper (heap : HeapId) (queue : FreeQueue) (cycles : ℕ) (seat : SeatView Pass)
+    (pass : QueuePass ℕ Counts) : Type 0 where
+  pub seat_is : IsSeatOf heap seat
+  pub idle : seat.me.control.stage ≡ stage.Idle
+  pub few : seat.me.control.cycles + cycles ≤ greatest_cycles
+  pub pass_is : IsHintPass queue pass
+  pub cells : hinted_of queue ≡ heap.shape.cells
+
+-- the collector went off duty, if it did
+abbrev pub off_first : Bool → List Taken
+off_first true = took (event.Duty false) finds.Stored ∷ []
+off_first false = []
+
+-- The seat is of the same heap, and the parts of its mutators are where they were. The collector
+-- went off duty, or did not, and then it served: it made at most so many cycles, and is off duty.
+pub record Worked (cycles : ℕ) (old new : SeatView Pass) : Type 0 where
+  pub table : new.table ≡ old.table
+  pub shape : new.me.shape ≡ old.me.shape
+  pub role : new.me.role ≡ old.me.role
+  pub places : new.me.places ≡ old.me.places
+  pub held_back : Bool
+  pub made : ℕ
+  pub freed : ℕ
+  pub added : List Taken
+  pub trail : new.me.trail ≡ old.me.trail ++ (off_first held_back ++ added)
+  pub served : Served old.me.shape.mutators cycles made freed added
+  pub cycles_are : new.me.control.cycles ≡ old.me.control.cycles + made
+  pub idle : new.me.control.stage ≡ stage.Idle
+  pub off_duty : new.me.control.duty ≡ false

