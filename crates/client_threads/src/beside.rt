@@ -38,6 +38,8 @@ pub fn run_beside<R: Threads + Wait + Sync, G: Gate + Sync>(
     ensures many { length result.0.items ≡ length clients.items }
     ensures worked { Worked cycles keeper.seat result.1 }
 {
-    let _ = (alloc, rt, gate, heap, queue, scripts, limits, keeper, cycles, clients);
+    let _ = (
+        alloc, rt, gate, heap, queue, scripts, limits, keeper, cycles, clients,
+    );
     unreachable!()
 }

@@ -93,7 +93,11 @@ fn without_cycles_the_heap_runs_full(rt: HostRuntime) -> Result<(), Fail> {
     assert_eq!(rt; totals.freed, 0);
     assert_eq!(rt; totals.cycles, 0);
     assert_eq!(rt; totals.claimed, 253);
-    let full = logs[0].entries().iter().filter(|entry| entry.reply.is_full()).count();
+    let full = logs[0]
+        .entries()
+        .iter()
+        .filter(|entry| entry.reply.is_full())
+        .count();
     assert_eq!(rt; totals.versions + full as u64, 200);
     Ok(())
 }
