@@ -7,10 +7,8 @@ use Rattle.std.proofs.Common.{zero, suc, Bool, true, false, List}
 use Rattle.std.proofs.Common.{[], ◌∷◌, length, map, inl, inr, refl, sym, ◌∙◌, ap, subst}
 use Rattle.std.proofs.Common.{arith}
 use Rattle.std.proofs.Common.{append_assoc}
-use Rattle.std.specs.Prelude.{Vec, ◌||◌}
-use Rattle.std.specs.declared.alloc.Global.{Global}
+use Rattle.std.specs.Prelude.{◌||◌}
 use Rattle.std.specs.List.{list_any}
-use Rattle.std.proofs.lemmas.List.{length-map}
 use Rattle.std.proofs.lemmas.List.Folds.{list_any-append}
 use mathlib.Core.Option.{some}
 use lib.ListN.{get_elem?}
@@ -24,14 +22,13 @@ use Rattle.closed_store.proofs.Out.{joined_out}
 use Rattle.collector.specs.Cycles.{Served}
 use Rattle.collector.proofs.Leaving.{tidy_at_close}
 use Rattle.core_machine.specs.Collector.{Collector}
-use Rattle.core_machine.specs.State.{State}
 use Rattle.core_machine.specs.declared.events.Event.TheVariants as event
 use Rattle.core_machine.specs.declared.events.Found.TheVariants as finds
 use Rattle.core_machine.specs.declared.events.Taken.{Taken}
 use Rattle.cell_words.specs.declared.controls.Control.{Control}
 use Rattle.dlg_core.specs.Collects.{IsTidy}
 use Rattle.dlg_core.specs.FirstRows.{AreRows}
-use Rattle.dlg_core.specs.Sums.{claims_of, used_count_of}
+use Rattle.dlg_core.specs.Sums.{claims_of}
 use Rattle.doc_model.specs.Agreement.{rising}
 use Rattle.doc_model.specs.ClientLog.{ClientLog}
 use Rattle.doc_model.specs.Merge.{all_entries}
@@ -45,8 +42,8 @@ use Rattle.heap_table.specs.Images.{ImageView, Shows}
 use Rattle.run_history.specs.Agreed.{LogsAgree}
 use Rattle.run_history.specs.Left.{AreLeft}
 use Rattle.run_history.proofs.Agreeing.{logs_agree}
-use Rattle.store_run.specs.Finished.{Comes, IsService, IsTiedTo, IsTotals, commands_of, duty_on}
-use Rattle.store_run.specs.Opened.{IsWithin, limits_of, lists_of, shape_of}
+use Rattle.store_run.specs.Finished.{Comes, IsTiedTo, IsTotals, commands_of, duty_on}
+use Rattle.store_run.specs.Opened.{IsWithin, limits_of, shape_of}
 use Rattle.store_run.specs.Parts.{IsCounted}
 use Rattle.store_run.specs.declared.options.Options.{Options}
 use Rattle.version_rule.specs.Opening.{first_rows}

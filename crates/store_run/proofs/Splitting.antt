@@ -1,5 +1,5 @@
 -- The opening of a store's heap, and a client that is split off.
-use Rattle.std.proofs.Common.{◌≡◌, ◌≤◌, ◌<◌, ℕ, zero, suc, List, ◌∷◌, refl}
+use Rattle.std.proofs.Common.{◌≡◌, ◌≤◌, ◌<◌, ℕ, zero, suc, List, refl}
 use Rattle.std.proofs.Common.{sym, ◌∙◌, ap, subst}
 use Rattle.std.proofs.Common.{arith, replicate}
 use mathlib.Core.Option.{some}

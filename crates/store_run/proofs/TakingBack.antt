@@ -1,11 +1,10 @@
 -- How far the clients are taken back, one after the other.
-use Rattle.std.proofs.Common.{◌≡◌, ◌≤◌, ◌<◌, ◌+◌, ◌++◌, ◌||◌, ℕ, Bool}
-use Rattle.std.proofs.Common.{true, false, List, [], ◌∷◌}
+use Rattle.std.proofs.Common.{◌≡◌, ◌<◌, ◌+◌, ◌++◌, ℕ, Bool}
+use Rattle.std.proofs.Common.{false, List, [], ◌∷◌}
 use Rattle.std.proofs.Common.{suc, length, map, take, refl, sym, ◌∙◌, ap, subst, arith}
 use Rattle.std.proofs.Common.{slice_set}
 use Rattle.std.specs.Prelude.{Vec}
 use Rattle.std.specs.declared.alloc.Global.{Global}
-use Rattle.std.proofs.lemmas.Bool.{or_parts}
 use Rattle.std.proofs.lemmas.List.{length-append, length-map, length-set, map-append, take_all}
 use Rattle.client_run.specs.declared.session.Limits.{Limits as ClientLimits}
 use Rattle.client_threads.specs.Clients.{AllDone, AllFrom, IsDone, script_of, store_limits}

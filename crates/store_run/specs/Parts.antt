@@ -1,7 +1,7 @@
 -- What stands between the parts of a run: behind the opening, and when all clients are taken back.
 -- Source: this project's.
-use Rattle.std.specs.Prelude.{ℕ, ◌≡◌, ◌≤◌, ◌<◌, ◌++◌, true, false, List, []}
-use Rattle.std.specs.Prelude.{length, map, take}
+use Rattle.std.specs.Prelude.{ℕ, ◌≡◌, ◌++◌, List}
+use Rattle.std.specs.Prelude.{length, take}
 use Rattle.std.specs.Prelude.{All, Vec}
 use Rattle.std.specs.declared.alloc.Global.{Global}
 use Rattle.cell_words.specs.declared.controls.Stage.TheVariants as stage
@@ -19,8 +19,8 @@ use Rattle.free_cells.specs.Passes.{IsHintPass}
 use Rattle.heap_table.specs.Images.{ImageView, Shows}
 use Rattle.heap_table.specs.Seats.{IsSeatOf, SeatView}
 use Rattle.run_history.specs.Left.{AreLeft}
-use Rattle.store_run.specs.Finished.{commands_of, duty_on}
-use Rattle.store_run.specs.Opened.{client_limits, lists_of, shape_of}
+use Rattle.store_run.specs.Finished.{duty_on}
+use Rattle.store_run.specs.Opened.{client_limits, shape_of}
 use Rattle.store_run.specs.declared.opening.Opened.{Opened}
 use Rattle.store_run.specs.declared.options.Options.{Options}
 use Rattle.version_rule.specs.Pass.{Pass}

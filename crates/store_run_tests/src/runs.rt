@@ -1,4 +1,6 @@
 //! Runs of one client and of several, with a collector beside them.
+ghost use Rattle.std.specs.Prelude.{◌≤◌, ◌<◌, IfOk, length};
+
 use cmd_text::read_script;
 use doc_model::{Command, Reply, is_legal, merge};
 use outside::OpenGate;
@@ -7,24 +9,40 @@ use std::test::Fail;
 use store_run::{Finished, Options, run_clients};
 
 /// The script with these lines.
-fn script(alloc: Global, text: &[u8]) -> Result<Vec<Command>, Fail> {
+fn script(alloc: Global, text: &[u8]) -> Result<Vec<Command>, Fail>
+    requires { length text.now < 1000 }
+    ensures { IfOk result (λ commands. length commands.items ≤ 100_000) }
+{
     match read_script(alloc, text) {
-        Ok(commands) => Ok(commands),
+        Ok(commands) => {
+            if commands.len() <= 100_000 {
+                Ok(commands)
+            } else {
+                Err(Fail::from("too many commands"))
+            }
+        }
         Err(_) => Err(Fail::from("no script")),
     }
 }
 
 /// So many commands that each make a version of one node's text.
-fn puts(alloc: Global, count: u32) -> Result<Vec<Command>, Fail> {
+fn puts(alloc: Global, count: u32) -> Result<Vec<Command>, Fail>
+    requires { count ≤ 1000 }
+    ensures { IfOk result (λ commands. length commands.items ≤ 100_000) }
+{
     let mut commands = Vec::new(alloc);
-    for _ in 0..count {
+    for _made in 0..count {
         let mut one = script(alloc, b"put a/b x")?;
         match one.pop() {
             Some(command) => commands.push(command)?,
             None => return Err(Fail::from("no command")),
         }
     }
-    Ok(commands)
+    if commands.len() <= 100_000 {
+        Ok(commands)
+    } else {
+        Err(Fail::from("too many commands"))
+    }
 }
 
 const SMALL: Options = Options {

@@ -1,4 +1,4 @@
-use Rattle.std.proofs.Common.{◌≡◌, ◌∙◌, ℕ, List, ap, arith, length, refl, subst, sym}
+use Rattle.std.proofs.Common.{◌≡◌, ◌∙◌, List, ap, arith, length, refl, subst, sym}
 use Rattle.std.proofs.lemmas.List.{length-replicate, length-set, length_push}
 use mathlib.Core.Option.{some}
 use lib.ListN.{get_elem?}
