@@ -1,0 +1,5 @@
+pub mod Going
+pub mod Leaving
+pub mod Places
+pub mod Waiting
+pub mod Working
