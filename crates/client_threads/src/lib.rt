@@ -10,12 +10,10 @@
 #![tactic(auto)]
 
 mod answering;
-mod beside;
 mod clients;
 mod keeper;
 mod running;
 mod serving;
 
-pub use beside::run_beside;
 pub use clients::Client;
 pub use keeper::Keeper;
