@@ -25,7 +25,7 @@ use Rattle.version_store.specs.Held.{IsHeld}
 use Rattle.version_store.specs.Lasts.{IsSameMutator, LastsAcross}
 use Rattle.version_store.specs.declared.held.HeldVersion.{HeldVersion}
 use Rattle.version_store.proofs.Going.{many_held, version_known}
-use Rattle.version_store.proofs.Lasting.{lasts_still, lasts_then}
+use Rattle.version_store.proofs.Lasting.{lasts_still, lasts_then, same_still, same_then}
 use Rattle.client_heap.specs.Carries.{Carries, Follows}
 
 -- on more places
@@ -90,6 +90,7 @@ module _ (places : ℕ) (m n : Bound Pass) (minor : Nursery) (ordered : IsOrdere
       room = same.room;
       cells = ap (λ s. s.cells) same.shape;
       minor_room = refl;
+      same = same;
       lasts = lasts;
     };
     longer = longer;
@@ -121,6 +122,18 @@ module _ (m n : Bound Pass) (old new : Nursery) (left : Leaves m n old new) wher
         claims = let same = left.claims in omega (arith, same);
       }
 
+  pub left_same : IsSameMutator m n
+  left_same = record {
+    heap = left.heap;
+    table = left.table;
+    shape = left.shape;
+    role = left.role;
+    number = left.number;
+    room = left.room;
+    inside = ap (λ p. p.inside) left.presence;
+    over = ap (λ p. p.over) left.presence;
+  }
+
   left_known : (v : HeldVersion) → (is : IsHeld m v)
       → known_of n.seat.me v.place ≡ known_of m.seat.me v.place
   left_known v is =
@@ -142,6 +155,7 @@ module _ (m n : Bound Pass) (old new : Nursery) (left : Leaves m n old new) wher
       room = left.room;
       cells = ap (λ s. s.cells) left.shape;
       minor_room = left.records_room;
+      same = left_same;
       lasts = left_lasts;
     };
     longer = let more = many_held m n left.added left.held in omega (arith, more);
@@ -175,11 +189,12 @@ carries_fewer {places = places} {m = m} {old = old} few le c = record {
 
 pub follows_then : {a b c : Bound Pass} {x y z : Nursery} → Follows a b x y → Follows b c y z
     → Follows a c x z
-follows_then first second = record {
+follows_then {a = a} {b = b} {c = c} first second = record {
   inside = second.inside ∙ first.inside;
   room = second.room ∙ first.room;
   cells = second.cells ∙ first.cells;
   minor_room = second.minor_room ∙ first.minor_room;
+  same = same_then a b c first.same second.same;
   lasts = lasts_then first.lasts second.lasts;
 }
 
@@ -203,6 +218,7 @@ carries_none m minor = record {
     room = refl;
     cells = refl;
     minor_room = refl;
+    same = same_still m;
     lasts = lasts_still m;
   };
   longer = omega arith;

@@ -137,15 +137,6 @@ module _ (F : List Taken → Type 0) (m n : Bound Pass) (adds : Adds F m n) wher
           claims = added_claims;
         }
 
-    pub stays_follows : (old new : Nursery) → new.room ≡ old.room → Follows m n old new
-    stays_follows old new room = record {
-      inside = stays.inside;
-      room = stays.room;
-      cells = ap (λ s. s.cells) stays.shape;
-      minor_room = room;
-      lasts = stays_lasts;
-    }
-
     same_stays : IsSameMutator m n
     same_stays = record {
       heap = stays.heap;
@@ -156,6 +147,16 @@ module _ (F : List Taken → Type 0) (m n : Bound Pass) (adds : Adds F m n) wher
       room = stays.room;
       inside = stays.inside;
       over = stays.over;
+    }
+
+    pub stays_follows : (old new : Nursery) → new.room ≡ old.room → Follows m n old new
+    stays_follows old new room = record {
+      inside = stays.inside;
+      room = stays.room;
+      cells = ap (λ s. s.cells) stays.shape;
+      minor_room = room;
+      same = same_stays;
+      lasts = stays_lasts;
     }
 
     pub stays_carries : (minor : Nursery) → IsOrdered 0 minor.records → (places : ℕ)

@@ -4,5 +4,6 @@ pub mod Commits
 pub mod Copies
 pub mod Drafts
 pub mod Keeping
+pub mod Lending
 pub mod Resting
 pub mod Ways

@@ -8,16 +8,17 @@ use Rattle.minor_heap.specs.Nursery.{Nursery}
 use Rattle.mutator_seat.specs.Bound.{Bound}
 use Rattle.version_rule.specs.Pass.{Pass}
 use Rattle.version_store.specs.Held.{IsHeld, root_at}
-use Rattle.version_store.specs.Lasts.{LastsAcross}
+use Rattle.version_store.specs.Lasts.{IsSameMutator, LastsAcross}
 use Rattle.version_store.specs.declared.held.HeldVersion.{HeldVersion}
 
--- of a mutator and its private heap before and after: it is in or out as it was, on the same heap
--- with the same room
+-- of a mutator and its private heap before and after: it is the same mutator of the same heap, in
+-- or out as it was, with the same room
 pub record Follows (m n : Bound Pass) (old new : Nursery) : Type 0 where
   pub inside : n.seat.me.presence.inside ≡ m.seat.me.presence.inside
   pub room : n.seat.me.room ≡ m.seat.me.room
   pub cells : n.seat.me.shape.cells ≡ m.seat.me.shape.cells
   pub minor_room : new.room ≡ old.room
+  pub same : IsSameMutator m n
   pub lasts : LastsAcross m n
 
 -- and what stood on the first places stands there still

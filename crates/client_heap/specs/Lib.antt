@@ -1,4 +1,5 @@
 pub mod Carries
+pub mod Lent
 pub mod Once
 pub mod Shows
 pub mod Sound

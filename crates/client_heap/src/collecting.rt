@@ -4,6 +4,7 @@ ghost use Rattle.std.specs.Prelude.{length, true};
 ghost use Rattle.client_heap.specs.Carries.{Carries, Follows};
 ghost use Rattle.client_records.specs.declared.at.NodeAt.TheVariants as at;
 ghost use Rattle.client_trees.specs.Nodes.{IsTreeAt, tree_at};
+ghost use Rattle.free_cells.specs.Hints.{queue_of};
 ghost use Rattle.heap_rule.specs.Asks.{known_of};
 ghost use Rattle.trails.specs.Claims.{IsFull};
 ghost use Rattle.trails.specs.Stretches.{Had};
@@ -47,6 +48,7 @@ pub(crate) fn share_node<R: Wait>(
     ensures follows { Follows m.old m.new minor.old minor.new }
     ensures pass { m.new.seat.me.pass ≡ m.old.seat.me.pass }
     ensures promoter { promoter.new ≡ promoter.old }
+    ensures queue { queue_of hints.new ≡ queue_of hints.old }
 {
     // What is held is what the trail left, and no more records stand than there is room for.
     let _held = m.held_len();
@@ -86,6 +88,7 @@ pub(crate) fn clear_records<R: Wait>(
     ensures follows { Follows m.old m.new minor.old minor.new }
     ensures pass { m.new.seat.me.pass ≡ m.old.seat.me.pass }
     ensures promoter { promoter.new ≡ promoter.old }
+    ensures queue { queue_of hints.new ≡ queue_of hints.old }
 {
     let _held = m.held_len();
     let _records = minor.len();

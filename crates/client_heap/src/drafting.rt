@@ -5,6 +5,7 @@ ghost use Rattle.client_heap.specs.Carries.{Carries, Follows};
 ghost use Rattle.client_heap.specs.Sound.{IsCleared, IsSound};
 ghost use Rattle.client_records.specs.declared.at.NodeAt.TheVariants as at;
 ghost use Rattle.client_trees.specs.Nodes.{IsTreeAt, tree_at};
+ghost use Rattle.free_cells.specs.Hints.{queue_of};
 ghost use Rattle.trails.specs.Claims.{IsFull};
 ghost use Rattle.trails.specs.Stretches.{Had};
 ghost use Rattle.version_store.specs.Lasts.{marks};
@@ -86,6 +87,7 @@ fn share_draft<R: Wait>(
     ensures follows { Follows m.old m.new minor.old minor.new }
     ensures pass { m.new.seat.me.pass ≡ m.old.seat.me.pass }
     ensures promoter { promoter.new ≡ promoter.old }
+    ensures queue { queue_of hints.new ≡ queue_of hints.old }
 {
     let _ = base;
     match share_node(rt, hints, m, minor, promoter, r) {
@@ -120,6 +122,7 @@ fn clear_around<R: Wait>(
     ensures follows { Follows m.old m.new minor.old minor.new }
     ensures pass { m.new.seat.me.pass ≡ m.old.seat.me.pass }
     ensures promoter { promoter.new ≡ promoter.old }
+    ensures queue { queue_of hints.new ≡ queue_of hints.old }
 {
     let _ = place;
     match clear_records(rt, hints, m, minor, promoter, base) {
@@ -169,6 +172,7 @@ pub(crate) fn make_room<R: Wait>(
     ensures follows { Follows m.old m.new minor.old minor.new }
     ensures pass { m.new.seat.me.pass ≡ m.old.seat.me.pass }
     ensures promoter { promoter.new ≡ promoter.old }
+    ensures queue { queue_of hints.new ≡ queue_of hints.old }
 {
     let records = minor.len() as usize;
     if 2285 <= minor.spare() && 20480 + records <= m.room() {

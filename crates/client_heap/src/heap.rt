@@ -22,7 +22,8 @@ pub struct OwnHeap<'a, M: StoreSeat<Q>, Q> {
     draft: NodeAt,
     /// so many places of the held list stay between commands
     base: usize,
-    ghost sound: { IsSound (M.bound m.now) minor.now draft base } by { sound_once (M.bound m.now) minor.now draft base },
+    ghost sound: { IsSound (M.bound m.now) minor.now draft base }
+        by { sound_once (M.bound m.now) minor.now draft base },
     ghost copies: { minor.now.room ≤ promoter.now },
 }
 
@@ -85,6 +86,7 @@ impl<'a, M: StoreSeat<Q>, Q> OwnHeap<'a, M, Q> {
 }
 
 impl<'a, M: StoreSeat<Q>, Q> ClientHeap for OwnHeap<'a, M, Q> {
+    ghost use Rattle.client_heap.specs.Lent.{Lent, identity_of};
     ghost use Rattle.client_heap.specs.Shows.{handles_of, state_of};
     ghost use Rattle.client_records.specs.Records.{is_shared};
 
@@ -96,16 +98,18 @@ impl<'a, M: StoreSeat<Q>, Q> ClientHeap for OwnHeap<'a, M, Q> {
 
     ghost shared = { is_shared };
 
-    ghost lent = { λ h. (
-      h.m.ghost_name,
-      (
-        h.hints.ghost_name,
-        (
-          h.minor.ghost_name,
-          h.promoter.ghost_name,
-        ),
-      ),
-    ) };
+    ghost Lent = { Lent };
+
+    ghost lent = { λ h. record {
+      mutator_name = h.m.ghost_name;
+      hints_name = h.hints.ghost_name;
+      minor_name = h.minor.ghost_name;
+      promoter_name = h.promoter.ghost_name;
+      mutator = identity_of (M.bound h.m.now);
+      queue = M.queue h.hints.now;
+      records = h.minor.now.room;
+      copies = h.promoter.now;
+    } };
 
     fn current(&mut self) -> HeldVersion {
         let _records = self.minor.len();

@@ -2,10 +2,11 @@
 //! it holds, a private heap, and the draft.
 //!
 //! The layer above may rely on this: `OwnHeap` is a `ClientHeap`, so all that is proved of a
-//! session holds over it. Between commands the first places of the held list stay, which are the
+//! session holds over it. No call changes which mutator it is, of which queue its hints are, or how
+//! much room there is. Between commands the first places of the held list stay, which are the
 //! anchor's and those that the draft needs. A draft that a minor collection moved stands on two.
 //!
-//! Reading order: specs/Shows, Carries, Sound; then `places`, `walking`, `collecting`,
+//! Reading order: specs/Shows, Carries, Sound, Lent; then `places`, `walking`, `collecting`,
 //! `drafting`, `publishing`, `seat`, `heap`.
 #![tactic(auto)]
 

@@ -6,6 +6,7 @@ ghost use Rattle.client_heap.specs.Shows.{stored};
 ghost use Rattle.client_records.specs.declared.at.NodeAt.TheVariants as at;
 ghost use Rattle.client_trees.specs.Nodes.{IsTreeAt, tree_at};
 ghost use Rattle.doc_records.specs.Trees.{tree_of};
+ghost use Rattle.free_cells.specs.Hints.{queue_of};
 ghost use Rattle.trails.specs.Claims.{IsFull};
 ghost use Rattle.trails.specs.Stretches.{Had};
 ghost use Rattle.version_rule.specs.Pass.{commit_numbers, committed};
@@ -46,6 +47,7 @@ fn share<R: Wait>(
     ensures held { length m.new.seat.me.own.held ≤ length m.old.seat.me.own.held + 1 }
     ensures pass { m.new.seat.me.pass ≡ m.old.seat.me.pass }
     ensures promoter { promoter.new ≡ promoter.old }
+    ensures queue { queue_of hints.new ≡ queue_of hints.old }
 {
     let _held = m.held_len();
     let _records = minor.len();
@@ -84,6 +86,7 @@ fn commit_shared<R: Wait>(
         (marks m.old) (marks m.new) }
     ensures carries { Carries (length m.old.seat.me.own.held) m.old m.new minor.now minor.now }
     ensures held { length m.new.seat.me.own.held ≡ length m.old.seat.me.own.held }
+    ensures queue { queue_of hints.new ≡ queue_of hints.old }
 {
     let _held = m.held_len();
     let _records = minor.len();
@@ -130,6 +133,7 @@ pub(crate) fn publish<R: Wait>(
     ensures carries { Carries (length m.old.seat.me.own.held) m.old m.new minor.now minor.now }
     ensures held { length m.new.seat.me.own.held ≤ length m.old.seat.me.own.held + 1 }
     ensures promoter { promoter.new ≡ promoter.old }
+    ensures queue { queue_of hints.new ≡ queue_of hints.old }
 {
     match node {
         NodeAt::Shared(place) => {

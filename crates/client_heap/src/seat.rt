@@ -1,6 +1,6 @@
 //! A mutator of documents, with hints: what a client's heap needs of both.
-ghost use Rattle.std.specs.Prelude.{◌≡◌, ◌<◌, ◌≤◌, ◌+◌, IfErr, IfOk, OnErr, OnOk, Err};
-ghost use Rattle.std.specs.Prelude.{[], ◌∷◌, length, max, true};
+ghost use Rattle.std.specs.Prelude.{◌≡◌, ◌<◌, ◌≤◌, ◌+◌, IfErr, IfOk, OnErr};
+ghost use Rattle.std.specs.Prelude.{OnOk, Err, [], ◌∷◌, length, max, true};
 ghost use Rattle.std.specs.Option.{ForSome, option_map};
 ghost use Rattle.std.specs.Result.{ForOk};
 ghost use Rattle.cell_words.specs.declared.fields.Field.TheVariants as field;
@@ -15,6 +15,8 @@ ghost use Rattle.doc_records.specs.Texts.{name_asks, text_asks};
 ghost use Rattle.doc_records.specs.Trees.{IsTreeNode, tree_of};
 ghost use Rattle.doc_tree.specs.Edits.{attach, delete, set_text};
 ghost use Rattle.doc_tree.specs.Tree.{count, names_of, node};
+ghost use Rattle.free_cells.specs.Hints.{queue_of};
+ghost use Rattle.free_cells.specs.declared.queue.FreeQueue.{FreeQueue};
 ghost use Rattle.heap_rule.specs.Asks.{target};
 ghost use Rattle.mutator_seat.specs.Bound.{Bound};
 ghost use Rattle.trails.specs.Asks.{Shows, gave};
@@ -45,6 +47,9 @@ use version_store::Cut;
 /// is lent in a struct is known again at the end where its type is a parameter.
 pub trait StoreSeat<Q> {
     ghost bound: { Self → Bound Pass };
+
+    /// The queue that the hints are of.
+    ghost queue: { Q → FreeQueue };
 
     /// The latest version.
     fn current(&mut self) -> version_store::HeldVersion
@@ -280,7 +285,8 @@ pub trait StoreSeat<Q> {
             (bound self.old) (bound self.new) minor.now minor.now }
         ensures held { length (bound self.new).seat.me.own.held
             ≤ length (bound self.old).seat.me.own.held + 1 }
-        ensures promoter { promoter.new ≡ promoter.old };
+        ensures promoter { promoter.new ≡ promoter.old }
+        ensures queue { queue hints.new ≡ queue hints.old };
 
     /// Makes room for an edit, by a minor collection where there is too little.
     fn make_room<R: Wait>(
@@ -307,7 +313,8 @@ pub trait StoreSeat<Q> {
         ensures small { base.new ≤ max base.old 2 }
         ensures follows { Follows (bound self.old) (bound self.new) minor.old minor.new }
         ensures pass { (bound self.new).seat.me.pass ≡ (bound self.old).seat.me.pass }
-        ensures promoter { promoter.new ≡ promoter.old };
+        ensures promoter { promoter.new ≡ promoter.old }
+        ensures queue { queue hints.new ≡ queue hints.old };
 
     /// Gives back all places but the first so many.
     fn cut_back(&mut self, minor: &MinorHeap, places: usize)
@@ -321,6 +328,8 @@ pub trait StoreSeat<Q> {
 
 impl<'h, 'q> StoreSeat<Hints<'q>> for Mutator<'h, Documents> {
     ghost bound = { λ m. m };
+
+    ghost queue = { queue_of };
 
     fn current(&mut self) -> version_store::HeldVersion
         requires inside { self.old.seat.me.presence.inside ≡ true }
@@ -580,6 +589,7 @@ impl<'h, 'q> StoreSeat<Hints<'q>> for Mutator<'h, Documents> {
         ensures held { length self.new.seat.me.own.held
             ≤ length self.old.seat.me.own.held + 1 }
         ensures promoter { promoter.new ≡ promoter.old }
+        ensures queue { queue_of hints.new ≡ queue_of hints.old }
     {
         publishing::publish(rt, hints, self, minor, promoter, v, node, versions)
     }
@@ -609,6 +619,7 @@ impl<'h, 'q> StoreSeat<Hints<'q>> for Mutator<'h, Documents> {
         ensures follows { Follows self.old self.new minor.old minor.new }
         ensures pass { self.new.seat.me.pass ≡ self.old.seat.me.pass }
         ensures promoter { promoter.new ≡ promoter.old }
+        ensures queue { queue_of hints.new ≡ queue_of hints.old }
     {
         drafting::make_room(rt, hints, self, minor, promoter, draft, base)
     }

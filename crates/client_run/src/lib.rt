@@ -1,8 +1,8 @@
 //! A client's session on its mutator: what it keeps from one command to the next, and its answers.
 //!
 //! The layer above may rely on this: all that client_session says of a journal's answers holds, in
-//! the words of the mutator, the private heap and the draft; and what an answer needs of these
-//! holds behind it again.
+//! the words of the mutator, the private heap and the draft; what an answer needs of these holds
+//! behind it again; and the mutator is the same one then, with hints of the same queue.
 //!
 //! Reading order: specs/Own; then `over`, `session`.
 #![tactic(auto)]

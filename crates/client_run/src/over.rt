@@ -4,6 +4,7 @@ ghost use Rattle.client_heap.specs.Shows.{state_of};
 ghost use Rattle.client_run.specs.Own.{MayAnswer};
 ghost use Rattle.client_session.specs.Turns.{Enters};
 ghost use Rattle.client_turns.specs.Turns.{Lost};
+ghost use Rattle.version_store.specs.Lasts.{IsSameMutator};
 
 use client_heap::{OwnHeap, StoreSeat};
 use client_session::Journal;
@@ -34,6 +35,10 @@ pub(crate) fn answer_over<M: StoreSeat<Q>, Q, R: Wait>(
     ensures enters { IfOk result (λ reply. Enters journal.old journal.new command.now reply
         (state_of (M.bound m.old) minor.old draft.old base.old)
         (state_of (M.bound m.new) minor.new draft.new base.new)) }
+    ensures same { IsSameMutator (M.bound m.old) (M.bound m.new) }
+    ensures queue { M.queue hints.new ≡ M.queue hints.old }
+    ensures minor_room { minor.new.room ≡ minor.old.room }
+    ensures promoter { promoter.new ≡ promoter.old }
     ensures may { MayAnswer journal.new (M.bound m.new) minor.new promoter.new draft.new base.new }
     ensures limits { journal.new.limits ≡ journal.old.limits }
     ensures client { journal.new.log.client ≡ journal.old.log.client }

@@ -5,8 +5,10 @@ ghost use Rattle.client_heap.specs.Shows.{state_of};
 ghost use Rattle.client_run.specs.Own.{MayAnswer};
 ghost use Rattle.client_session.specs.Turns.{Enters};
 ghost use Rattle.client_turns.specs.Turns.{Lost};
+ghost use Rattle.free_cells.specs.Hints.{queue_of};
 ghost use Rattle.mutator_seat.specs.Bound.{Bound};
 ghost use Rattle.version_rule.specs.Pass.{Pass};
+ghost use Rattle.version_store.specs.Lasts.{IsSameMutator};
 
 use crate::over::answer_over;
 use client_session::Journal;
@@ -101,6 +103,10 @@ impl Session {
         ensures enters { IfOk result (λ reply. Enters self.old.journal self.new.journal command.now
             reply (state_of m.old self.old.minor self.old.draft self.old.base)
             (state_of m.new self.new.minor self.new.draft self.new.base)) }
+        ensures same { IsSameMutator m.old m.new }
+        ensures queue { queue_of hints.new ≡ queue_of hints.old }
+        ensures minor_room { self.new.minor.room ≡ self.old.minor.room }
+        ensures promoter { self.new.promoter ≡ self.old.promoter }
         ensures may { MayAnswer self.new.journal m.new self.new.minor self.new.promoter
             self.new.draft self.new.base }
         ensures limits { self.new.journal.limits ≡ self.old.journal.limits }

@@ -34,9 +34,11 @@ pub trait ClientHeap {
 
     ghost shown: { Self → Handles Self.At };
 
-    /// The names of what the heap borrows. No call changes them: whoever lends it something knows
-    /// behind each call that this is what the heap has.
-    ghost lent: { Self → ℕ × (ℕ × (ℕ × ℕ)) };
+    /// Of a heap that borrows what it works on, what no call changes of that: whoever lends it
+    /// something knows behind each call that it is this that the heap has, and what of it stayed.
+    ghost Lent: { Type 0 };
+
+    ghost lent: { Self → Lent };
 
     /// The node is one of the shared heap.
     ghost shared: { Self.At → Bool };

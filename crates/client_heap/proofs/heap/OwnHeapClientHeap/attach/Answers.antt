@@ -1,5 +1,7 @@
-use Rattle.std.proofs.Common.{arith}
+use Rattle.std.proofs.Common.{arith, refl}
 use Rattle.client_heap.proofs.Calls.{left_edits, left_sound, left_still}
+use Rattle.client_heap.proofs.Carrying.{left_same}
+use Rattle.client_heap.proofs.Lending.{lent_stays}
 use Rattle.client_heap.proofs.heap.OwnHeapClientHeap.attach.Goals as goal
 
 pub invariant_of-self : goal.invariant_of-self
@@ -11,8 +13,9 @@ invariant_of-self g c =
     let same = did.leaves.records_room in
     let fits = was.copies in
     record {
-      sound = left_sound (bound was.m.now) (bound c.attach.new.self) was.minor.now c.attach.new.minor did.leaves
-          was.draft was.base was.sound did.records did.held (omega (arith, room));
+      sound = left_sound (bound was.m.now) (bound c.attach.new.self) was.minor.now
+          c.attach.new.minor did.leaves was.draft was.base was.sound did.records did.held
+          (omega (arith, room));
       copies = omega (arith, same, fits);
     }
 
@@ -21,12 +24,19 @@ returns-clause-edits g c =
     let bound = g.M.StoreSeat.bound in
     let was = c.args.self.now in
     let did = c.attach.ensures in
-    left_edits (bound was.m.now) (bound c.attach.new.self) was.minor.now c.attach.new.minor did.leaves was.draft
-    was.base
-    was.sound did.records did.held
+    left_edits (bound was.m.now) (bound c.attach.new.self) was.minor.now c.attach.new.minor
+    did.leaves was.draft was.base was.sound did.records did.held
 
 pub returns-clause-still : goal.returns-clause-still
 returns-clause-still g c =
     let bound = g.M.StoreSeat.bound in
     let was = c.args.self.now in
-    left_still (bound was.m.now) (bound c.attach.new.self) was.minor.now c.attach.new.minor c.attach.ensures.leaves
+    left_still (bound was.m.now) (bound c.attach.new.self) was.minor.now c.attach.new.minor
+    c.attach.ensures.leaves
+
+pub returns-clause-lent : goal.returns-clause-lent
+returns-clause-lent g c =
+    let bound = g.M.StoreSeat.bound in
+    let did = c.attach.ensures in
+    lent_stays (bound c.args.self.now.m.now) (bound c.attach.new.self)
+    (left_same _ _ _ _ did.leaves) refl did.leaves.records_room refl

@@ -1,6 +1,7 @@
-use Rattle.std.proofs.Common.{[], ◌∷◌, ap, arith}
+use Rattle.std.proofs.Common.{[], ◌∷◌, ap, arith, refl}
 use Rattle.client_heap.proofs.Calls.{holds_rests, holds_sound, holds_still}
 use Rattle.version_rule.specs.Pass.{commit_numbers}
+use Rattle.client_heap.proofs.Lending.{lent_stays}
 use Rattle.client_heap.proofs.heap.OwnHeapClientHeap.current.Goals as goal
 
 pub invariant_of-self : goal.invariant_of-self
@@ -9,9 +10,9 @@ invariant_of-self g c =
     let was = c.args.self.now in
     let did = c.current-found.ensures in
     record {
-      sound = holds_sound (bound was.m.now) (bound c.current-found.new.self) was.minor.now (did.latest.cell ∷ [])
-          did.latest.holds c.len-records.ensures.ordered did.lasts did.same was.draft was.base
-          was.sound;
+      sound = holds_sound (bound was.m.now) (bound c.current-found.new.self) was.minor.now
+          (did.latest.cell ∷ []) did.latest.holds c.len-records.ensures.ordered did.lasts did.same
+          was.draft was.base was.sound;
       copies = was.copies;
     }
 
@@ -20,14 +21,21 @@ returns-clause-rests g c =
     let bound = g.M.StoreSeat.bound in
     let was = c.args.self.now in
     let did = c.current-found.ensures in
-    holds_rests (bound was.m.now) (bound c.current-found.new.self) was.minor.now (did.latest.cell ∷ [])
-    did.latest.holds c.len-records.ensures.ordered did.lasts did.same was.draft was.base was.sound
-    1 (omega arith) (ap commit_numbers did.latest.pass)
+    holds_rests (bound was.m.now) (bound c.current-found.new.self) was.minor.now
+    (did.latest.cell ∷ []) did.latest.holds c.len-records.ensures.ordered did.lasts did.same
+    was.draft was.base was.sound 1 (omega arith) (ap commit_numbers did.latest.pass)
 
 pub returns-clause-still : goal.returns-clause-still
 returns-clause-still g c =
     let bound = g.M.StoreSeat.bound in
     let was = c.args.self.now in
     let did = c.current-found.ensures in
-    holds_still (bound was.m.now) (bound c.current-found.new.self) was.minor.now (did.latest.cell ∷ [])
-    did.latest.holds c.len-records.ensures.ordered did.lasts did.same
+    holds_still (bound was.m.now) (bound c.current-found.new.self) was.minor.now
+    (did.latest.cell ∷ []) did.latest.holds c.len-records.ensures.ordered did.lasts did.same
+
+pub returns-clause-lent : goal.returns-clause-lent
+returns-clause-lent g c =
+    let bound = g.M.StoreSeat.bound in
+    let did = c.current-found.ensures in
+    lent_stays (bound c.args.self.now.m.now) (bound c.current-found.new.self) did.same refl refl
+    refl

@@ -1,5 +1,7 @@
-use Rattle.std.proofs.Common.{arith}
+use Rattle.std.proofs.Common.{arith, refl}
 use Rattle.client_heap.proofs.Calls.{all_rests, all_sound, all_still}
+use Rattle.client_heap.proofs.Carrying.{left_same}
+use Rattle.client_heap.proofs.Lending.{lent_stays}
 use Rattle.client_heap.proofs.heap.OwnHeapClientHeap.names.Goals as goal
 
 pub invariant_of-self : goal.invariant_of-self
@@ -17,11 +19,19 @@ pub returns-clause-rests : goal.returns-clause-rests
 returns-clause-rests g c =
     let bound = g.M.StoreSeat.bound in
     let was = c.args.self.now in
-    all_rests (bound was.m.now) (bound c.names.new.self) was.minor.now c.names.new.minor c.names.ensures.leaves
-    was.draft was.base was.sound
+    all_rests (bound was.m.now) (bound c.names.new.self) was.minor.now c.names.new.minor
+    c.names.ensures.leaves was.draft was.base was.sound
 
 pub returns-clause-still : goal.returns-clause-still
 returns-clause-still g c =
     let bound = g.M.StoreSeat.bound in
     let was = c.args.self.now in
-    all_still (bound was.m.now) (bound c.names.new.self) was.minor.now c.names.new.minor c.names.ensures.leaves
+    all_still (bound was.m.now) (bound c.names.new.self) was.minor.now c.names.new.minor
+    c.names.ensures.leaves
+
+pub returns-clause-lent : goal.returns-clause-lent
+returns-clause-lent g c =
+    let bound = g.M.StoreSeat.bound in
+    let did = c.names.ensures in
+    lent_stays (bound c.args.self.now.m.now) (bound c.names.new.self)
+    (left_same _ _ _ _ did.leaves.leaves) refl did.leaves.leaves.records_room refl

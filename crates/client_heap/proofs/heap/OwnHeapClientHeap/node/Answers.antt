@@ -1,7 +1,8 @@
-use Rattle.std.proofs.Common.{ap, arith, length}
+use Rattle.std.proofs.Common.{ap, arith, length, refl}
 use Rattle.doc_tree.proofs.Orderly.{path_short}
 use Rattle.client_heap.proofs.Resting.{rests_on, sound_on, still_on}
 use Rattle.version_rule.specs.Pass.{commit_numbers}
+use Rattle.client_heap.proofs.Lending.{lent_stays}
 use Rattle.client_heap.proofs.heap.OwnHeapClientHeap.node.Goals as goal
 
 pub node_below-requires-clause-room : goal.node_below-requires-clause-room
@@ -21,8 +22,9 @@ invariant_of-self g c =
     let room = did.carries.follows.minor_room in
     let fits = was.copies in
     record {
-      sound = sound_on _ (bound was.m.now) (bound c.node_below.new.self) was.minor.now c.node_below.new.minor
-          did.carries was.draft was.base was.sound was.sound.kept (omega (arith, same, ready));
+      sound = sound_on _ (bound was.m.now) (bound c.node_below.new.self) was.minor.now
+          c.node_below.new.minor did.carries was.draft was.base was.sound was.sound.kept
+          (omega (arith, same, ready));
       copies = omega (arith, room, fits);
     }
 
@@ -34,8 +36,8 @@ returns-clause-rests g c =
     let few = path_short c.args.path.now c.names.ensures.path in
     let same = ap (λ (xs : _). length xs) c.names.ensures.names in
     let held = did.held in
-    rests_on _ (bound was.m.now) (bound c.node_below.new.self) was.minor.now c.node_below.new.minor did.carries
-    was.draft was.base was.sound was.sound.kept 8 (ap commit_numbers did.pass)
+    rests_on _ (bound was.m.now) (bound c.node_below.new.self) was.minor.now c.node_below.new.minor
+    did.carries was.draft was.base was.sound was.sound.kept 8 (ap commit_numbers did.pass)
     (ap (λ (x : _). length x.records) did.minor) (omega (arith, few, same, held))
 
 pub returns-clause-still : goal.returns-clause-still
@@ -44,3 +46,10 @@ returns-clause-still g c =
     let was = c.args.self.now in
     still_on (bound was.m.now) (bound c.node_below.new.self) was.minor.now c.node_below.new.minor
     c.node_below.ensures.carries
+
+pub returns-clause-lent : goal.returns-clause-lent
+returns-clause-lent g c =
+    let bound = g.M.StoreSeat.bound in
+    let did = c.node_below.ensures in
+    lent_stays (bound c.args.self.now.m.now) (bound c.node_below.new.self) did.carries.follows.same
+    refl did.carries.follows.minor_room refl

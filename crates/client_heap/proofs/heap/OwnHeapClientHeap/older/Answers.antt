@@ -1,6 +1,7 @@
-use Rattle.std.proofs.Common.{[], ◌∷◌, ap, arith}
+use Rattle.std.proofs.Common.{[], ◌∷◌, ap, arith, refl}
 use Rattle.client_heap.proofs.Calls.{holds_rests, holds_still, older_sound}
 use Rattle.version_rule.specs.Pass.{commit_numbers}
+use Rattle.client_heap.proofs.Lending.{lent_stays}
 use Rattle.client_heap.proofs.heap.OwnHeapClientHeap.older.Goals as goal
 
 pub invariant_of-self : goal.invariant_of-self
@@ -8,9 +9,9 @@ invariant_of-self g c =
     let bound = g.M.StoreSeat.bound in
     let was = c.args.self.now in
     record {
-      sound = older_sound (bound was.m.now) (bound c.older.new.self) was.minor.now c.stored.result c.args.back
-          c.len-records.ensures.ordered c.older.ensures.lasts c.older.ensures.same c.older.result
-          c.older.ensures.older c.older.ensures.held was.draft was.base was.sound;
+      sound = older_sound (bound was.m.now) (bound c.older.new.self) was.minor.now c.stored.result
+          c.args.back c.len-records.ensures.ordered c.older.ensures.lasts c.older.ensures.same
+          c.older.result c.older.ensures.older c.older.ensures.held was.draft was.base was.sound;
       copies = was.copies;
     }
 
@@ -45,3 +46,17 @@ returns-in-Err-clause-still g c =
     let was = c.args.self.now in
     holds_still (bound was.m.now) (bound c.older.new.self) was.minor.now [] c.in-Err.ensures.held
     c.len-records.ensures.ordered c.older.ensures.lasts c.older.ensures.same
+
+pub returns-in-Ok-clause-lent : goal.returns-in-Ok-clause-lent
+returns-in-Ok-clause-lent g c =
+    let bound = g.M.StoreSeat.bound in
+    let did = c.older.ensures in
+    lent_stays (bound c.args.self.now.m.now) (bound c.older.new.self) did.same refl refl
+    refl
+
+pub returns-in-Err-clause-lent : goal.returns-in-Err-clause-lent
+returns-in-Err-clause-lent g c =
+    let bound = g.M.StoreSeat.bound in
+    let did = c.older.ensures in
+    lent_stays (bound c.args.self.now.m.now) (bound c.older.new.self) did.same refl refl
+    refl

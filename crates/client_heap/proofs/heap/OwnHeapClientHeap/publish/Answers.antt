@@ -1,5 +1,6 @@
-use Rattle.std.proofs.Common.{arith}
+use Rattle.std.proofs.Common.{arith, refl}
 use Rattle.client_heap.proofs.Resting.{draft_on, sound_on}
+use Rattle.client_heap.proofs.Lending.{lent_stays}
 use Rattle.client_heap.proofs.heap.OwnHeapClientHeap.publish.Goals as goal
 
 pub invariant_of-self : goal.invariant_of-self
@@ -10,8 +11,8 @@ invariant_of-self g c =
     let same = did.promoter in
     let fits = was.copies in
     record {
-      sound = sound_on _ (bound was.m.now) (bound c.publish.new.self) was.minor.now was.minor.now did.carries
-          was.draft was.base was.sound was.sound.kept was.sound.ready;
+      sound = sound_on _ (bound was.m.now) (bound c.publish.new.self) was.minor.now was.minor.now
+          did.carries was.draft was.base was.sound was.sound.kept was.sound.ready;
       copies = omega (arith, same, fits);
     }
 
@@ -19,5 +20,12 @@ pub returns-clause-draft : goal.returns-clause-draft
 returns-clause-draft g c =
     let bound = g.M.StoreSeat.bound in
     let was = c.args.self.now in
-    draft_on _ (bound was.m.now) (bound c.publish.new.self) was.minor.now was.minor.now c.publish.ensures.carries
-    was.draft was.base was.sound was.sound.kept
+    draft_on _ (bound was.m.now) (bound c.publish.new.self) was.minor.now was.minor.now
+    c.publish.ensures.carries was.draft was.base was.sound was.sound.kept
+
+pub returns-clause-lent : goal.returns-clause-lent
+returns-clause-lent g c =
+    let bound = g.M.StoreSeat.bound in
+    let did = c.publish.ensures in
+    lent_stays (bound c.args.self.now.m.now) (bound c.publish.new.self) did.carries.follows.same
+    did.queue refl did.promoter

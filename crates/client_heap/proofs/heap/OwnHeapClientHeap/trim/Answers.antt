@@ -1,5 +1,6 @@
-use Rattle.std.proofs.Common.{[], arith}
+use Rattle.std.proofs.Common.{[], arith, refl}
 use Rattle.client_heap.proofs.Calls.{holds_rests, holds_sound, trim_commits}
+use Rattle.client_heap.proofs.Lending.{lent_stays}
 use Rattle.client_heap.proofs.heap.OwnHeapClientHeap.trim.Goals as goal
 
 pub invariant_of-self : goal.invariant_of-self
@@ -18,6 +19,14 @@ returns-clause-rests g c =
     let bound = g.M.StoreSeat.bound in
     let was = c.args.self.now in
     let did = c.trim.ensures in
-    holds_rests (bound was.m.now) (bound c.trim.new.self) was.minor.now [] did.held c.len-records.ensures.ordered
-    did.lasts did.same was.draft was.base was.sound 0 (omega arith)
-    (trim_commits (bound was.m.now) (bound c.trim.new.self) c.stored.result c.args.keep did.trims did.nothing)
+    holds_rests (bound was.m.now) (bound c.trim.new.self) was.minor.now [] did.held
+    c.len-records.ensures.ordered did.lasts did.same was.draft was.base was.sound 0 (omega arith)
+    (trim_commits (bound was.m.now) (bound c.trim.new.self) c.stored.result c.args.keep did.trims
+    did.nothing)
+
+pub returns-clause-lent : goal.returns-clause-lent
+returns-clause-lent g c =
+    let bound = g.M.StoreSeat.bound in
+    let did = c.trim.ensures in
+    lent_stays (bound c.args.self.now.m.now) (bound c.trim.new.self) did.same refl refl
+    refl

@@ -1,4 +1,5 @@
-use Rattle.std.proofs.Common.{ℕ, ◌≤◌, ◌++◌, List, [], ◌∷◌, length, sym, ◌∙◌, ap, subst}
+use Rattle.std.proofs.Common.{ℕ, ◌≤◌, ◌++◌, List, [], ◌∷◌, length, sym}
+use Rattle.std.proofs.Common.{◌∙◌, ap, subst}
 use Rattle.minor_heap.specs.declared.fields.MinorField.{MinorField}
 use Rattle.client_run.proofs.Beginning.{first_record, may_begin}
 use Rattle.client_run.proofs.session.Session.new.Goals as goal
