@@ -10,10 +10,12 @@
 #![tactic(auto)]
 
 mod answering;
+mod beside;
 mod clients;
 mod keeper;
 mod running;
 mod serving;
 
+pub use beside::run_beside;
 pub use clients::Client;
 pub use keeper::Keeper;

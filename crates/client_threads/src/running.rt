@@ -1,9 +1,10 @@
 //! Clients from their beginning to their end: one on this thread, and all, each on its own.
-ghost use Rattle.std.specs.Prelude.{◌≡◌, true};
-ghost use Rattle.client_threads.specs.Clients.{IsDone, IsReady, script_of};
+ghost use Rattle.std.specs.Prelude.{◌≡◌, ◌≤◌, length, true, vec_capacity};
+ghost use Rattle.client_threads.specs.Clients.{AllDone, AllReady, IsDone, IsReady, script_of};
 ghost use Rattle.client_threads.specs.Going.{Entered, Left};
 ghost use Rattle.heap_rule.specs.Asks.{MayComeIn};
 ghost use Rattle.heap_table.specs.Seats.{IsSeatOf};
+ghost use Rattle.std.specs.Thread.{IsSync};
 
 use crate::answering::answer_all;
 use crate::clients::Client;
@@ -16,6 +17,7 @@ use mutator_seat::{MutSeat, Mutator};
 use outside::Gate;
 use std::alloc::Global;
 use std::sync::Wait;
+use std::thread::{Threads, join};
 
 /// The mutator of the seat, in.
 fn come_in<'a>(heap: &'a CellHeap<Documents>, seat: MutSeat<Documents>) -> Mutator<'a, Documents>
@@ -49,7 +51,7 @@ fn script_at(scripts: &[Vec<Command>], place: u32) -> &[Command]
 }
 
 /// Answers a client's script, on this thread. Its mutator comes in before and is over behind.
-pub(crate) fn run_client<R: Wait, G: Gate>(
+fn run_client<R: Wait, G: Gate>(
     alloc: Global,
     rt: &R,
     gate: &G,
@@ -83,4 +85,46 @@ pub(crate) fn run_client<R: Wait, G: Gate>(
         pass: hints.into_pass(),
         failed: !whole,
     }
+}
+
+/// Runs the clients, each on a thread of its own: the last one beside all others.
+pub(crate) fn run_each<R: Threads + Wait + Sync, G: Gate + Sync>(
+    alloc: Global,
+    rt: &R,
+    gate: &G,
+    heap: &CellHeap<Documents>,
+    queue: &FreeQueue,
+    scripts: &[Vec<Command>],
+    limits: Limits,
+    clients: Vec<Client>,
+) -> Vec<Client>
+    requires ready { AllReady heap.now queue.now limits scripts.now clients.items }
+    ensures done { AllDone heap.now limits scripts.now result.items }
+    ensures many { length result.items ≡ length clients.items }
+    ensures room { vec_capacity clients ≤ vec_capacity result }
+{
+    let mut clients = clients;
+    let Some(last) = clients.pop() else {
+        return clients;
+    };
+    let (mut clients, last) = join(
+        rt,
+        move || -> Vec<Client>
+            requires { IsSync R.row × IsSync G.row
+                × AllReady heap.now queue.now limits scripts.now clients.items }
+            ensures { AllDone heap.entry.now limits scripts.entry.now result.items
+                × (length result.items ≡ length clients.items)
+                × (vec_capacity clients ≤ vec_capacity result) }
+        { run_each(alloc, rt, gate, heap, queue, scripts, limits, clients) },
+        move || -> Client
+            requires { IsReady heap.now queue.now limits (script_of scripts.now last.place)
+                last.place last }
+            ensures { IsDone heap.entry.now limits (script_of scripts.entry.now last.place)
+                last.place result }
+        { run_client(alloc, rt, gate, heap, queue, scripts, limits, last) },
+    );
+    if clients.push(last).is_err() {
+        unreachable!();
+    }
+    clients
 }

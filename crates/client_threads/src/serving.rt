@@ -87,7 +87,9 @@ pub(crate) fn stand_down(
     requires turn { TurnOf cycles was.now.value turn }
     ensures stands { StandsBy heap.now queue.now cycles was.now.value.seat result }
 {
-    let _ = (queue, cycles, was);
+    let _ = queue;
+    let _ = cycles;
+    let _ = was;
     match turn {
         Turn::Served(seat) => Turn::Served(seat),
         Turn::HandedBack(keeper) => {
