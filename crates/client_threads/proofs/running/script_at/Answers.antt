@@ -1,0 +1,7 @@
+use Rattle.client_threads.proofs.running.script_at.Goals as goal
+
+pub returns-in-Some : goal.returns-in-Some
+returns-in-Some c = ?
+
+pub returns-in-None : goal.returns-in-None
+returns-in-None c = ?
