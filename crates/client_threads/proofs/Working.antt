@@ -24,7 +24,7 @@ role_kept : (old : SeatView Pass) (ts : List Taken) (new : SeatView Pass) → To
     → new.me.role ≡ old.me.role
 role_kept old [] new told = ap (λ (s : SeatView Pass). s.me.role) told
 role_kept old (t ∷ ts) new told =
-    role_kept (tells_at old t.event t.found told.0) ts new told.1.1
+    role_kept (tells_at old t.event t.found told.0) ts new told.2
 
 -- a call of `serve`
 pub serves : (cycles freed made : ℕ) (old new : Bound Pass)

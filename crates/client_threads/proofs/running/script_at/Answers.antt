@@ -1,7 +1,7 @@
 use Rattle.client_threads.proofs.running.script_at.Goals as goal
 
 pub returns-in-Some : goal.returns-in-Some
-returns-in-Some c = ?
+returns-in-Some c = c.in-Some.ensures
 
 pub returns-in-None : goal.returns-in-None
-returns-in-None c = ?
+returns-in-None c = c.in-None.ensures
