@@ -1,7 +1,7 @@
 -- Clients by their places: the last one apart, and together with all others.
-use Rattle.std.proofs.Common.{◌≡◌, ◌+◌, ℕ, List, [], ◌∷◌, ◌++◌, length, sym}
+use Rattle.std.proofs.Common.{◌≡◌, ◌+◌, ℕ, suc, List, [], ◌∷◌, ◌++◌, length, sym}
 use Rattle.std.proofs.Common.{◌∙◌, subst}
-use Rattle.std.proofs.Common.{arith}
+use Rattle.std.proofs.Common.{ap, arith}
 use Rattle.std.specs.Prelude.{Vec}
 use Rattle.std.specs.declared.alloc.Global.{Global}
 use Rattle.client_run.specs.declared.session.Limits.{Limits}
@@ -13,15 +13,15 @@ use Rattle.client_threads.specs.declared.clients.Client.{Client}
 
 module _ (F : ℕ → Client → Type 0) where
   later : (place : ℕ) (xs ys : List Client) → AllFrom F (place + 1 + length xs) ys
-      → AllFrom F (place + (1 + length xs)) ys
+      → AllFrom F (place + suc (length xs)) ys
   later place xs ys all =
-      let same : place + 1 + length xs ≡ place + (1 + length xs) = omega arith in
+      let same : place + 1 + length xs ≡ place + suc (length xs) = omega arith in
       subst (λ (k : ℕ). AllFrom F k ys) same all
 
-  sooner : (place : ℕ) (xs ys : List Client) → AllFrom F (place + (1 + length xs)) ys
+  sooner : (place : ℕ) (xs ys : List Client) → AllFrom F (place + suc (length xs)) ys
       → AllFrom F (place + 1 + length xs) ys
   sooner place xs ys all =
-      let same : place + (1 + length xs) ≡ place + 1 + length xs = omega arith in
+      let same : place + suc (length xs) ≡ place + 1 + length xs = omega arith in
       subst (λ (k : ℕ). AllFrom F k ys) same all
 
   pub all_front : (place : ℕ) (xs ys : List Client) → AllFrom F place (xs ++ ys)
@@ -66,4 +66,4 @@ module _ (heap : HeapId) (queue : FreeQueue) (l : Limits) (scripts : List (Vec C
   done_last front last left now all many others done =
       let at = (all_back ReadyAt 0 front (last ∷ []) all).0 in
       all_both DoneAt 0 left (now ∷ []) others
-      (subst (λ (k : ℕ). DoneAt k now) (at.place_is ∙ sym many) done, tt)
+      (subst (λ (k : ℕ). DoneAt k now) (at.place_is ∙ ap (λ (k : ℕ). 0 + k) (sym many)) done, tt)
