@@ -1,7 +1,7 @@
 -- Clients by their places: the last one apart, and together with all others.
 use Rattle.std.proofs.Common.{◌≡◌, ◌+◌, ℕ, suc, List, [], ◌∷◌, ◌++◌, length, sym}
 use Rattle.std.proofs.Common.{◌∙◌, subst}
-use Rattle.std.proofs.Common.{ap, arith}
+use Rattle.std.proofs.Common.{◌∙◌, ap, arith, subst}
 use Rattle.std.specs.Prelude.{Vec}
 use Rattle.std.specs.declared.alloc.Global.{Global}
 use Rattle.client_run.specs.declared.session.Limits.{Limits}
@@ -66,4 +66,5 @@ module _ (heap : HeapId) (queue : FreeQueue) (l : Limits) (scripts : List (Vec C
   done_last front last left now all many others done =
       let at = (all_back ReadyAt 0 front (last ∷ []) all).0 in
       all_both DoneAt 0 left (now ∷ []) others
-      (subst (λ (k : ℕ). DoneAt k now) (at.place_is ∙ ap (λ (k : ℕ). 0 + k) (sym many)) done, tt)
+      (subst (λ (k : ℕ). DoneAt k now)
+      (at.place_is ∙ ap (λ (k : ℕ). 0 + k) (sym many)) done, tt)
