@@ -22,8 +22,8 @@ pub struct OwnHeap<'a, M: StoreSeat<Q>, Q> {
     draft: NodeAt,
     /// so many places of the held list stay between commands
     base: usize,
-    ghost sound: { IsSound (M.bound m.now) minor.now draft base }
-        by { sound_once (M.bound m.now) minor.now draft base },
+    ghost sound: { IsSound (M.bound m.now) minor.now draft base } by { sound_once (M.bound m.now)
+        minor.now draft base },
     ghost copies: { minor.now.room ≤ promoter.now },
 }
 
@@ -55,6 +55,7 @@ impl<'a, M: StoreSeat<Q>, Q> OwnHeap<'a, M, Q> {
         ensures minor_name { result.minor.ghost_name ≡ minor.entry.ghost_name }
         ensures promoter_name { result.promoter.ghost_name ≡ promoter.entry.ghost_name }
         ensures mutator { result.m.now ≡ m.old }
+        ensures hints { result.hints.now ≡ hints.old }
         ensures records { result.minor.now ≡ minor.old }
         ensures promoter { result.promoter.now ≡ promoter.old }
         ensures draft { result.draft ≡ draft }

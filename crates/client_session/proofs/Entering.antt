@@ -40,6 +40,10 @@ same_step l t last log new client entries step = record {
   turns = subst (λ (es : List Entry). InTurn (Demand t.cells) es t.marks) (sym entries) step.turns;
   claims =
       subst (λ (es : List Entry). length (ok_places es) ≤ t.claims) (sym entries) step.claims;
+  trimmed =
+      subst
+      (λ (es : List Entry). All (λ (made : ℕ). made + 1 ≤ t.pass.cut + l.keep) (ok_places es))
+      (sym entries) step.trimmed;
 }
 
 -- nothing was made

@@ -1,6 +1,7 @@
 -- What a call leaves of a mutator and of its private heap.
 -- Source: this project's.
-use Rattle.std.specs.Prelude.{ℕ, ◌≡◌, ◌<◌, ◌≤◌, ◌+◌, ◌++◌, List, length, Option, Some, None}
+use Rattle.std.specs.Prelude.{ℕ, ◌≡◌, ◌<◌, ◌≤◌, ◌+◌, ◌++◌, List, length}
+use Rattle.std.specs.Prelude.{Option, Some, None}
 use Rattle.client_records.specs.declared.at.NodeAt.{NodeAt}
 use Rattle.client_records.specs.declared.at.NodeAt.TheVariants as at
 use Rattle.client_records.specs.Records.{BeginWith, IsSomething, stands_on, term_at}
@@ -38,7 +39,8 @@ module _ {P : Type 0} where
         → stands_on n.seat.me.known new.records places at
     pub now : (at : NodeAt) → stands_on m.seat.me.known old.records (length m.seat.me.own.held) at
         → stands_on n.seat.me.known new.records (length n.seat.me.own.held) at
-    pub same : (at : NodeAt) → stands_on m.seat.me.known old.records (length m.seat.me.own.held) at
+    pub same : (at : NodeAt)
+        → stands_on m.seat.me.known old.records (length m.seat.me.own.held) at
         → term_at n.seat.me.known new.records at ≡ term_at m.seat.me.known old.records at
 
   -- and nothing is behind what was held, and no record was made

@@ -19,7 +19,8 @@ pub fn empty_node<M: ClientSeat>(m: &mut M, minor: &mut MinorHeap) -> NodeAt
     ensures tree { tree_at (M.bound m.new) minor.new result ≡ empty }
     ensures node { IsTreeAt (M.bound m.new) minor.new result }
     ensures leaves { Leaves (M.bound m.old) (M.bound m.new) minor.old minor.new }
-    ensures held { length (M.bound m.new).seat.me.own.held ≡ length (M.bound m.old).seat.me.own.held }
+    ensures held { length (M.bound m.new).seat.me.own.held
+        ≡ length (M.bound m.old).seat.me.own.held }
     ensures records { length minor.new.records ≡ length minor.old.records + 1 }
 {
     let _spare = minor.spare();
@@ -40,13 +41,15 @@ pub fn set_text<M: ClientSeat>(
 ) -> Result<NodeAt, EditFault>
     requires inside { (M.bound m.old).seat.me.presence.inside ≡ true }
     requires node { IsTreeAt (M.bound m.old) minor.old root }
-    requires room { length (M.bound m.old).seat.me.own.held + 8192 ≤ (M.bound m.old).seat.me.room }
+    requires room { length (M.bound m.old).seat.me.own.held + 8192
+        ≤ (M.bound m.old).seat.me.room }
     requires spare { length minor.old.records + 2285 ≤ minor.old.room }
     ensures tree { answered (tree_at (M.bound m.new) minor.new) result
         ≡ set_text path.now text.now (tree_at (M.bound m.old) minor.old root) }
     ensures node { ForOk result (IsTreeAt (M.bound m.new) minor.new) }
     ensures leaves { Leaves (M.bound m.old) (M.bound m.new) minor.old minor.new }
-    ensures held { length (M.bound m.new).seat.me.own.held ≤ length (M.bound m.old).seat.me.own.held + 8192 }
+    ensures held { length (M.bound m.new).seat.me.own.held
+        ≤ length (M.bound m.old).seat.me.own.held + 8192 }
     ensures refused { OnErr result
         (length (M.bound m.new).seat.me.own.held ≡ length (M.bound m.old).seat.me.own.held) }
     ensures records { length minor.new.records ≤ length minor.old.records + 509 }
@@ -71,13 +74,16 @@ pub fn attach<M: ClientSeat>(
     requires inside { (M.bound m.old).seat.me.presence.inside ≡ true }
     requires node { IsTreeAt (M.bound m.old) minor.old root }
     requires sub { IsTreeAt (M.bound m.old) minor.old sub }
-    requires room { length (M.bound m.old).seat.me.own.held + 8192 ≤ (M.bound m.old).seat.me.room }
+    requires room { length (M.bound m.old).seat.me.own.held + 8192
+        ≤ (M.bound m.old).seat.me.room }
     requires spare { length minor.old.records + 2285 ≤ minor.old.room }
     ensures tree { answered (tree_at (M.bound m.new) minor.new) result
-        ≡ attach path.now (tree_at (M.bound m.old) minor.old sub) (tree_at (M.bound m.old) minor.old root) }
+        ≡ attach path.now (tree_at (M.bound m.old) minor.old sub)
+        (tree_at (M.bound m.old) minor.old root) }
     ensures node { ForOk result (IsTreeAt (M.bound m.new) minor.new) }
     ensures leaves { Leaves (M.bound m.old) (M.bound m.new) minor.old minor.new }
-    ensures held { length (M.bound m.new).seat.me.own.held ≤ length (M.bound m.old).seat.me.own.held + 8192 }
+    ensures held { length (M.bound m.new).seat.me.own.held
+        ≤ length (M.bound m.old).seat.me.own.held + 8192 }
     ensures refused { OnErr result
         (length (M.bound m.new).seat.me.own.held ≡ length (M.bound m.old).seat.me.own.held) }
     ensures records { length minor.new.records ≤ length minor.old.records + 509 }
@@ -99,13 +105,15 @@ pub fn delete<M: ClientSeat>(
 ) -> Result<NodeAt, EditFault>
     requires inside { (M.bound m.old).seat.me.presence.inside ≡ true }
     requires node { IsTreeAt (M.bound m.old) minor.old root }
-    requires room { length (M.bound m.old).seat.me.own.held + 8192 ≤ (M.bound m.old).seat.me.room }
+    requires room { length (M.bound m.old).seat.me.own.held + 8192
+        ≤ (M.bound m.old).seat.me.room }
     requires spare { length minor.old.records + 2285 ≤ minor.old.room }
     ensures tree { answered (tree_at (M.bound m.new) minor.new) result
         ≡ delete path.now (tree_at (M.bound m.old) minor.old root) }
     ensures node { ForOk result (IsTreeAt (M.bound m.new) minor.new) }
     ensures leaves { Leaves (M.bound m.old) (M.bound m.new) minor.old minor.new }
-    ensures held { length (M.bound m.new).seat.me.own.held ≤ length (M.bound m.old).seat.me.own.held + 8192 }
+    ensures held { length (M.bound m.new).seat.me.own.held
+        ≤ length (M.bound m.old).seat.me.own.held + 8192 }
     ensures refused { OnErr result
         (length (M.bound m.new).seat.me.own.held ≡ length (M.bound m.old).seat.me.own.held) }
     ensures records { length minor.new.records ≤ length minor.old.records + 509 }

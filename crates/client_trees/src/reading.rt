@@ -1,5 +1,6 @@
 //! Reading a node. What was read is given back, but for a shared child.
-ghost use Rattle.std.specs.Prelude.{◌≡◌, ◌+◌, ◌≤◌, [], ◌∷◌, true, IfOk, OnOk, length};
+ghost use Rattle.std.specs.Prelude.{◌≡◌, ◌+◌, ◌≤◌, [], ◌∷◌, true};
+ghost use Rattle.std.specs.Prelude.{IfOk, OnOk, length};
 ghost use Rattle.std.specs.Option.{ForSome, option_map};
 ghost use Rattle.cell_words.specs.declared.fields.Field.TheVariants as field;
 ghost use Rattle.client_records.specs.Records.{is_shared};
@@ -25,7 +26,8 @@ pub fn text_of<M: ClientSeat>(
 ) -> Result<Text, NoMemory>
     requires inside { (M.bound m.old).seat.me.presence.inside ≡ true }
     requires node { IsTreeAt (M.bound m.old) minor.old at }
-    requires room { length (M.bound m.old).seat.me.own.held + 8192 ≤ (M.bound m.old).seat.me.room }
+    requires room { length (M.bound m.old).seat.me.own.held + 8192
+        ≤ (M.bound m.old).seat.me.room }
     ensures text { IfOk result (λ text. text ≡ (tree_at (M.bound m.old) minor.old at).text) }
     ensures leaves { LeavesAll (M.bound m.old) (M.bound m.new) minor.old minor.new }
     ensures shows { OnOk result (is_shared at ≡ true
@@ -49,8 +51,10 @@ pub fn names<M: ClientSeat>(
 ) -> Result<Names, NoMemory>
     requires inside { (M.bound m.old).seat.me.presence.inside ≡ true }
     requires node { IsTreeAt (M.bound m.old) minor.old at }
-    requires room { length (M.bound m.old).seat.me.own.held + 8192 ≤ (M.bound m.old).seat.me.room }
-    ensures names { IfOk result (λ names. names ≡ names_of (tree_at (M.bound m.old) minor.old at).kids) }
+    requires room { length (M.bound m.old).seat.me.own.held + 8192
+        ≤ (M.bound m.old).seat.me.room }
+    ensures names { IfOk result
+        (λ names. names ≡ names_of (tree_at (M.bound m.old) minor.old at).kids) }
     ensures leaves { LeavesAll (M.bound m.old) (M.bound m.new) minor.old minor.new }
     ensures shows { OnOk result (is_shared at ≡ true
         → Shows (name_asks (names_of (tree_at (M.bound m.old) minor.old at).kids))
@@ -68,7 +72,8 @@ pub fn names<M: ClientSeat>(
 pub fn count<M: ClientSeat>(m: &mut M, minor: &mut MinorHeap, at: NodeAt) -> u64
     requires inside { (M.bound m.old).seat.me.presence.inside ≡ true }
     requires node { IsTreeAt (M.bound m.old) minor.old at }
-    requires room { length (M.bound m.old).seat.me.own.held + 8192 ≤ (M.bound m.old).seat.me.room }
+    requires room { length (M.bound m.old).seat.me.own.held + 8192
+        ≤ (M.bound m.old).seat.me.room }
     ensures count { result ≡ count (tree_at (M.bound m.old) minor.old at) }
     ensures leaves { LeavesAll (M.bound m.old) (M.bound m.new) minor.old minor.new }
     ensures shows { is_shared at ≡ true → Shows (gave (field.Num result) ∷ [])
@@ -86,7 +91,8 @@ pub fn count<M: ClientSeat>(m: &mut M, minor: &mut MinorHeap, at: NodeAt) -> u64
 pub fn height<M: ClientSeat>(m: &mut M, minor: &mut MinorHeap, at: NodeAt) -> u32
     requires inside { (M.bound m.old).seat.me.presence.inside ≡ true }
     requires node { IsTreeAt (M.bound m.old) minor.old at }
-    requires room { length (M.bound m.old).seat.me.own.held + 8192 ≤ (M.bound m.old).seat.me.room }
+    requires room { length (M.bound m.old).seat.me.own.held + 8192
+        ≤ (M.bound m.old).seat.me.room }
     ensures height { result ≡ height (tree_at (M.bound m.old) minor.old at) }
     ensures leaves { LeavesAll (M.bound m.old) (M.bound m.new) minor.old minor.new }
 {
@@ -108,14 +114,16 @@ pub fn child<M: ClientSeat>(
 ) -> Option<NodeAt>
     requires inside { (M.bound m.old).seat.me.presence.inside ≡ true }
     requires node { IsTreeAt (M.bound m.old) minor.old at }
-    requires room { length (M.bound m.old).seat.me.own.held + 8192 ≤ (M.bound m.old).seat.me.room }
+    requires room { length (M.bound m.old).seat.me.own.held + 8192
+        ≤ (M.bound m.old).seat.me.room }
     ensures child { option_map (tree_at (M.bound m.new) minor.new) result
         ≡ child_of_name name.now (tree_at (M.bound m.old) minor.old at).kids }
     ensures node { ForSome result (IsTreeAt (M.bound m.new) minor.new) }
     ensures shared { is_shared at ≡ true → ForSome result (λ a. is_shared a ≡ true) }
     ensures leaves { Leaves (M.bound m.old) (M.bound m.new) minor.old minor.new }
     ensures minor { minor.new ≡ minor.old }
-    ensures last { IsLast (length (M.bound m.old).seat.me.own.held) (length (M.bound m.new).seat.me.own.held) result }
+    ensures last { IsLast (length (M.bound m.old).seat.me.own.held)
+        (length (M.bound m.new).seat.me.own.held) result }
 {
     let _spare = minor.spare();
     let mut records = ClientRecords::new(m, minor);

@@ -1,9 +1,11 @@
 -- A log stays in step with its pass and its trail: at the opening, behind a turn that was lost, and
 -- behind one that was answered.
 use Rattle.std.proofs.Common.{◌≡◌, ℕ, ◌+◌, ◌<◌, ◌≤◌, Bool, true, false, cond, List, [], ◌∷◌, ◌++◌}
-use Rattle.std.proofs.Common.{All, length, map, filter, refl, sym, ◌∙◌, ap, subst, arith, unwrap_or}
-use Rattle.std.proofs.lemmas.List.{length-append, length_push, map-append}
-use Rattle.std.proofs.lemmas.List.Elements.{All-nil, All-push, filter-append}
+use Rattle.std.proofs.Common.{All, length, map, filter, inl, inr, refl, sym, ◌∙◌, ap, subst}
+use Rattle.std.proofs.Common.{arith, unwrap_or}
+use Rattle.std.proofs.lemmas.Bool.{cases_lt}
+use Rattle.std.proofs.lemmas.List.{append-nil, length-append, length_push, map-append}
+use Rattle.std.proofs.lemmas.List.Elements.{All-nil, All-push, All-weaker, filter-append}
 use Rattle.doc_model.specs.Agreement.{ok_places}
 use Rattle.doc_model.specs.Answers.{Limits, is_ok}
 use Rattle.doc_model.specs.ClientLog.{ClientLog}
@@ -27,7 +29,7 @@ use Rattle.client_turns.specs.Turns.{new_numbers}
 
 -- The numbers of the versions that a log made.
 
-oks_append : (ds es : List Entry) → ok_places (ds ++ es) ≡ ok_places ds ++ ok_places es
+pub oks_append : (ds es : List Entry) → ok_places (ds ++ es) ≡ ok_places ds ++ ok_places es
 oks_append ds es =
     ap (λ (xs : List Entry). map (λ e. e.place) xs)
     (filter-append (λ (e : Entry). is_ok e.reply) ds es)
@@ -51,6 +53,33 @@ claims_more true ns place x y few more rose =
     let lt = rose refl in let is = length-append ns (place ∷ []) in omega (arith, few, lt, is)
 claims_more false ns place x y few more rose =
     let is = length-append {A = ℕ} ns [] in omega (arith, few, more, is)
+
+-- the links are cut far enough for a new version with this number
+abbrev IsTrimmed : ℕ → ℕ → ℕ → Type 0
+IsTrimmed cut keep made = made + 1 ≤ cut + keep
+
+-- what is cut stays cut
+trimmed_on : (keep x y : ℕ) (ns : List ℕ) → x ≤ y → All (IsTrimmed x keep) ns
+    → All (IsTrimmed y keep) ns
+trimmed_on keep x y ns more far =
+    All-weaker (IsTrimmed x keep) (IsTrimmed y keep)
+    (λ (n : ℕ) (was : IsTrimmed x keep n). omega (arith, more, was)) ns far
+
+-- where fewer versions than stay are made, no link has to be cut
+trimmed_one : (keep place x : ℕ) → (keep ≤ place → IsTrimmed x keep place)
+    → IsTrimmed x keep place
+trimmed_one keep place x cut = elim (cases_lt place keep) [
+  | inl few ↦ omega (arith, few)
+  | inr many ↦ cut many
+]
+
+trimmed_more : (b : Bool) (keep place x : ℕ) (ns : List ℕ)
+    → (b ≡ true → keep ≤ place → IsTrimmed x keep place) → All (IsTrimmed x keep) ns
+    → All (IsTrimmed x keep) (ns ++ new_numbers b place)
+trimmed_more true keep place x ns cut far =
+    All-push (IsTrimmed x keep) ns place far (trimmed_one keep place x (cut refl))
+trimmed_more false keep place x ns cut far =
+    subst (λ (ms : List ℕ). All (IsTrimmed x keep) ms) (sym (append-nil ns)) far
 
 -- the account of a client whose log is in step
 pub step_account : (l : Limits) (s : ClientState) (last : ℕ) (log : ClientLog)
@@ -79,6 +108,8 @@ in_step_opening l s log keep none draft entries =
       turns = subst (λ (es : List Entry). InTurn (Demand s.cells) es s.marks) (sym entries) tt;
       claims = let is : length (ok_places log.entries) ≡ 0 =
           ap (λ (es : List Entry). length (ok_places es)) entries in omega (arith, is);
+      trimmed = subst (λ (es : List Entry). All (IsTrimmed s.pass.cut l.keep) (ok_places es))
+          (sym entries) (All-nil (IsTrimmed s.pass.cut l.keep));
     }
 
 -- A turn that was lost.
@@ -100,6 +131,8 @@ in_step_lost l {s = s} {t = t} last log step lost = record {
   turns = subst (λ (n : ℕ). InTurn (Demand n) log.entries t.marks) (sym lost.lasts.cells)
       (turns_grown (Demand s.cells) log.entries s.marks step.turns lost.lasts.grown);
   claims = let x = step.claims in let y = lost.lasts.claims in omega (arith, x, y);
+  trimmed = trimmed_on l.keep s.pass.cut t.pass.cut (ok_places log.entries)
+      lost.lasts.passes.cut step.trimmed;
 }
 
 -- One that was answered.
@@ -172,6 +205,12 @@ in_step_turned l {s = s} {t = t} last log new c r place step turned same entries
           ap (λ (xs : List Entry). length (ok_places xs)) entries
           ∙ ap length (oks_more log.entries e) in
           omega (arith, few, is);
+      trimmed =
+          subst (λ (ns : List ℕ). All (IsTrimmed t.pass.cut l.keep) ns)
+          (sym (ap ok_places entries ∙ oks_more log.entries e))
+          (trimmed_more (is_ok r) l.keep place t.pass.cut (ok_places log.entries) turned.trimmed
+          (trimmed_on l.keep s.pass.cut t.pass.cut (ok_places log.entries)
+          turned.lasts.passes.cut step.trimmed));
     }
 
 -- What a log in step promises.

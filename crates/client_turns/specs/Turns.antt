@@ -95,3 +95,5 @@ pub record IsInStep (l : Limits) (s : ClientState) (last : ℕ) (log : ClientLog
       (account_in s last (length log.entries)) log.entries
   pub turns : InTurn (Demand s.cells) log.entries s.marks
   pub claims : length (ok_places log.entries) ≤ s.claims
+  -- each new version's turn cut the links so far that as many as stay are left
+  pub trimmed : All (λ (made : ℕ). made + 1 ≤ s.pass.cut + l.keep) (ok_places log.entries)

@@ -7,7 +7,7 @@ ghost use Rattle.std.specs.Prelude.{◌≡◌, ◌≤◌, [], IfOk, length};
 use crate::NoMemory;
 use std::alloc::Global;
 use std::marker::Model;
-use std::rc::Rc;
+use std::sync::Arc;
 
 // So many bytes lie in the value at most.
 const MOST_SHORT: usize = 22;
@@ -21,7 +21,7 @@ pub(crate) struct Letters {
 #[derive(Drop)]
 enum Stored {
     Short { len: u8, bytes: [u8; MOST_SHORT] },
-    Long(Rc<Vec<u8>>),
+    Long(Arc<Vec<u8>>),
 }
 
 // By hand, so that a proof above takes a drop as one call and not as a case for each place of the
@@ -53,7 +53,7 @@ impl Letters {
         }
         let all = Vec::from_slice(alloc, bytes)?;
         Ok(Letters {
-            stored: Stored::Long(Rc::new(alloc, all)?),
+            stored: Stored::Long(Arc::new(alloc, all)?),
         })
     }
 

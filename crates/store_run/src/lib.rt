@@ -1,2 +1,22 @@
 //! A run of clients: from the opening of a heap to its close.
+//!
+//! `run_clients` opens a heap for a store of versions, runs each script by a client on a mutator of
+//! that heap, beside the collector, and closes it. The layer above may rely on what `Comes` says:
+//! each log has its script's commands, is tied to what its own mutator left, and merged the logs
+//! are a legal history of one store, whose kept versions stand in the image; the totals are those
+//! of the image and the logs. How a script is read and a log written is left to that layer.
+//!
+//! Reading order: specs/Opened, Finished; then `options`, `finished`; specs/Parts; then `opening`,
+//! `taking_back`, `totals`, `running`.
 #![tactic(auto)]
+
+mod finished;
+mod opening;
+mod options;
+mod running;
+mod taking_back;
+mod totals;
+
+pub use finished::Finished;
+pub use options::Options;
+pub use running::run_clients;

@@ -1,8 +1,17 @@
-use Rattle.std.proofs.Common.{ap}
+use Rattle.std.proofs.Common.{ap, rules}
 use Rattle.client_heap.specs.Lent.{Lent}
 use Rattle.client_heap.proofs.Lending.{same_identity}
 use Rattle.client_run.proofs.over.answer_over.Goals as goal
 
 pub returns-clause-same : goal.returns-clause-same
 returns-clause-same g c =
-    same_identity _ _ (ap (λ (l : Lent). l.mutator) c.answer-answered.ensures.lent)
+    let bound = g.M.StoreSeat.bound in
+    let lent = c.answer-answered.ensures.lent in
+    let same = same_identity (bound c.new-heap.result.m.now)
+    (bound c.answer-answered.new.heap.m.now) (ap (λ (l : Lent). l.mutator) lent) in
+    search (rules, same)
+
+pub returns-clause-queue : goal.returns-clause-queue
+returns-clause-queue g c =
+    let lent = c.answer-answered.ensures.lent in
+    let same = ap (λ (l : Lent). l.queue) lent in search (rules, same)

@@ -1,0 +1,321 @@
+#!/usr/bin/env python3
+"""Runs docheap on many random scripts and checks each output against a store of its own.
+
+stress.py DOCHEAP [--runs N] [--seed S] [--jobs J] [--only NAME]
+
+The checker shares nothing with the program: it reads the scripts by the grammar, folds the merged
+history over whole trees, and compares each reply; it compares the history with the clients' own
+replies, and the totals with both. It prints a line for each kind of run, and where one is wrong
+the folder that has its files.
+"""
+import argparse, concurrent.futures, os, random, shutil, subprocess, sys, tempfile
+
+CHILDREN, HEIGHT, COUNT = 256, 8, 1_000_000_000
+
+
+# Trees: (text, {name: tree}, count, height). A dict is never changed once it stands in a tree.
+
+def node(text, kids):
+    return (text, kids, 1 + sum(k[2] for k in kids.values()), 1 + max(k[3] for k in kids.values()) if kids else 0)
+
+
+EMPTY = node("", {})
+
+
+class Refused(Exception):
+    pass
+
+
+def find(tree, path):
+    for name in path:
+        tree = tree[1].get(name)
+        if tree is None:
+            return None
+    return tree
+
+
+def change(tree, path, at_end):
+    """The tree with what stands at the path changed; nodes on the way are made."""
+    if not path:
+        return at_end(tree)
+    kids = tree[1]
+    if path[0] not in kids and len(kids) >= CHILDREN:
+        raise Refused("many")
+    inner = change(kids.get(path[0], EMPTY), path[1:], at_end)
+    return node(tree[0], {**kids, path[0]: inner})
+
+
+def fits(tree):
+    if tree[3] > HEIGHT:
+        raise Refused("deep")
+    if tree[2] > COUNT:
+        raise Refused("big")
+    return tree
+
+
+def set_text(tree, path, text):
+    return fits(change(tree, path, lambda t: node(text, t[1])))
+
+
+def attach(tree, path, sub):
+    return fits(change(tree, path, lambda t: sub))
+
+
+def delete(tree, path):
+    if find(tree, path) is None:
+        raise Refused("none")
+    if len(path) == 1:
+        return node(tree[0], {n: t for n, t in tree[1].items() if n != path[0]})
+    return node(tree[0], {**tree[1], path[0]: delete(tree[1][path[0]], path[1:])})
+
+
+# Commands of a script.
+
+def read(script):
+    commands = []
+    for line in script.split("\n"):
+        line = line.removesuffix("\r")
+        if not line or line.startswith("#"):
+            continue
+        word, _, rest = line.partition(" ")
+        if word in ("put", "dput"):
+            path, _, text = rest.partition(" ")
+            commands.append((word, path.split("/"), text))
+        elif word in ("copy",):
+            one, other = rest.split(" ")
+            commands.append((word, one.split("/"), other.split("/")))
+        elif word == "old":
+            back, path = rest.split(" ")
+            commands.append((word, path.split("/"), int(back)))
+        else:
+            commands.append((word, rest.split("/"), None))
+    return commands
+
+
+class Store:
+    def __init__(self, clients, keep, versions):
+        self.trees, self.keep, self.versions = [EMPTY], keep, versions
+        self.drafts, self.lasts = [EMPTY] * clients, [0] * clients
+
+    def answer(self, client, command, place):
+        """The reply of the next command of a client, which read the version at its place, or made it."""
+        word, path, more = command
+        c = client - 1
+        if word == "dput":
+            try:
+                self.drafts[c] = set_text(self.drafts[c], path, more)
+                return f"drafted {self.lasts[c]}"
+            except Refused as why:
+                return f"{why} {self.lasts[c]}"
+        if word == "dget":
+            at = find(self.drafts[c], path)
+            return f"none {self.lasts[c]}" if at is None else f"val {self.lasts[c]} {at[0]}"
+        v = len(self.trees) - 1
+        tree = self.trees[v]
+        if word in ("put", "del", "copy", "publish"):
+            try:
+                if word == "put":
+                    made = set_text(tree, path, more)
+                elif word == "del":
+                    made = delete(tree, path)
+                elif word == "copy":
+                    sub = find(tree, path)
+                    if sub is None:
+                        raise Refused("none")
+                    made = attach(tree, more, sub)
+                else:
+                    made = attach(tree, path, self.drafts[c])
+            except Refused as why:
+                return f"{why} {v}"
+            if v == self.versions:
+                return f"worn {v}"
+            self.trees.append(made)
+            return f"ok {v + 1}"
+        if word == "old":
+            if more > v:
+                return f"before {v}"
+            if more >= self.keep:
+                return f"gone {v} {v - more}"
+            at = find(self.trees[v - more], path)
+            return f"none {v - more}" if at is None else f"val {v - more} {at[0]}"
+        at = find(tree, path)
+        if at is None:
+            return f"none {v}"
+        if word == "get":
+            return f"val {v} {at[0]}"
+        if word == "size":
+            return f"num {v} {at[2]}"
+        if word == "list":
+            return " ".join([f"names {v}", *sorted(at[1], key=lambda n: n.encode())])
+        if word == "take":
+            self.drafts[c] = at
+            return f"drafted {v}"
+        raise AssertionError(word)
+
+
+MAY_BE_FULL = ("put", "del", "copy", "publish", "dput", "take")
+
+
+def check(scripts, output, cells, keep, versions, cycles):
+    """What is wrong with the output, or None, and how many replies were full."""
+    commands = [read(s) for s in scripts]
+    lines = output.split("\n")
+    if lines[-1]:
+        return "no line feed at the end", 0
+    lines.pop()
+    at, replies = 0, []
+    for c, own in enumerate(commands, 1):
+        if at >= len(lines) or lines[at] != f"client {c}":
+            return f"line {at + 1}: no heading of client {c}", 0
+        replies.append(lines[at + 1:at + 1 + len(own)])
+        at += 1 + len(own)
+    if lines[at:at + 1] != ["history"]:
+        return f"line {at + 1}: no history", 0
+    many = sum(map(len, commands))
+    history, stats = lines[at + 1:at + 1 + many], lines[at + 1 + many:]
+    store, done, place_before, full = Store(len(scripts), keep, versions), [0] * len(scripts), 0, 0
+    key_before = None
+    for number, line in enumerate(history, 1):
+        place, client, own, reply = line.split(" ", 3)
+        place, client, own = int(place), int(client), int(own)
+        if not 1 <= client <= len(scripts) or own != done[client - 1] + 1:
+            return f"history {number}: out of the client's order", full
+        command = commands[client - 1][own - 1]
+        if replies[client - 1][own - 1] != reply:
+            return f"history {number}: not what the client was answered", full
+        done[client - 1] = own
+        key = (place, not reply.startswith("ok "), client, own)
+        if key_before is not None and key_before >= key:
+            return f"history {number}: not in order", full
+        key_before = key
+        if reply == f"full {place}":
+            full += 1
+            shown = store.lasts[client - 1] if command[0] == "dput" else len(store.trees) - 1
+            if command[0] not in MAY_BE_FULL or place != shown:
+                return f"history {number}: full where it may not be", full
+        else:
+            wanted = store.answer(client, command, place)
+            if wanted != reply:
+                return f"history {number}: {reply!r} and not {wanted!r}", full
+            shown = store.lasts[client - 1] if command[0] in ("dput", "dget") else len(store.trees) - 1
+            if place != shown:
+                return f"history {number}: place {place} and not {shown}", full
+        if place < store.lasts[client - 1]:
+            return f"history {number}: a place that falls", full
+        store.lasts[client - 1] = place
+    if done != [len(c) for c in commands]:
+        return "the history lacks commands", full
+    if not stats or stats[0] != "stats":
+        return "no stats", full
+    found = {}
+    for line in stats[1:]:
+        word, value = line.split(" ")
+        found[word] = int(value)
+    made = len(store.trees) - 1
+    wrong = [what for what, holds in (
+        ("names", list(found) == ["commands", "versions", "claimed", "freed", "used", "free", "cycles"]),
+        ("commands", found.get("commands") == many), ("versions", found.get("versions") == made),
+        ("claims and frees", 3 + found["claimed"] == found["used"] + found["freed"]),
+        ("cells", found["used"] + found["free"] == cells),
+        ("claims", found["claimed"] >= made),
+        ("cycles", found["cycles"] <= cycles),
+        ("a full heap", not full or found["claimed"] >= cells - 3)) if not holds]
+    return ("stats: " + ", ".join(wrong) if wrong else None), full
+
+
+# Kinds of runs: how many clients, cells, versions that stay, and so on.
+
+def words(r, names):
+    return "/".join(r.choice(names) for _ in range(r.randint(1, 3)))
+
+
+def command(r, names):
+    x = r.random()
+    if x < 0.42:
+        return f"put {words(r, names)} {'x' * r.choice((0, 1, 5, 20, 21, 22, 60))}{r.randrange(100)}"
+    if x < 0.50:
+        return f"del {words(r, names)}"
+    if x < 0.56:
+        return f"copy {words(r, names)} {words(r, names)}"
+    if x < 0.60:
+        return f"publish {words(r, names)}"
+    if x < 0.72:
+        return f"get {words(r, names)}"
+    if x < 0.77:
+        return f"list {words(r, names)}"
+    if x < 0.82:
+        return f"size {words(r, names)}"
+    if x < 0.88:
+        return f"old {r.randrange(5)} {words(r, names)}"
+    if x < 0.93:
+        return f"dput {words(r, names)} d{r.randrange(100)}"
+    if x < 0.96:
+        return f"dget {words(r, names)}"
+    return f"take {words(r, names)}"
+
+
+def scripts_of(r, clients, commands, names):
+    return ["".join(command(r, names) + "\n" for _ in range(commands)) for _ in range(clients)]
+
+
+KINDS = {
+    "64 clients, 64 cells": lambda r: (scripts_of(r, 64, 12, "ab"), 64, r.choice((1, 2, 8)), 1_000_000),
+    "2 to 8 clients, keep 1": lambda r: (scripts_of(r, r.randint(2, 8), 60, "abc"), 2048, 1, 1_000_000),
+    "2 to 8 clients, little heap": lambda r: (scripts_of(r, r.randint(2, 8), 40, "abcd"), r.choice((64, 100, 200)), r.randint(1, 4), 1_000_000),
+    "2 clients, few versions": lambda r: (scripts_of(r, 2, 60, "abc"), 4096, r.randint(1, 100), r.randint(1, 30)),
+    "16 clients, large heap": lambda r: (scripts_of(r, 16, 60, "abcdefgh"), 65_536, 8, 1_000_000),
+}
+
+
+def one(docheap, name, seed):
+    r = random.Random(f"{name} {seed}")
+    scripts, cells, keep, versions = KINDS[name](r)
+    cycles = r.choice((4_000_000_000, 4_000_000_000, 4_000_000_000, 0, 1, 3))
+    folder = tempfile.mkdtemp(prefix="docheap-stress-")
+    files = []
+    for c, script in enumerate(scripts, 1):
+        files.append(os.path.join(folder, str(c)))
+        with open(files[-1], "w", encoding="ascii") as it:
+            it.write(script)
+    args = [docheap, "run", "--cells", str(cells), "--minor", "4096", "--keep", str(keep), "--versions",
+            str(versions), "--cycles", str(cycles), "--history", "--stats", *files]
+    try:
+        ran = subprocess.run(args, capture_output=True, timeout=120)
+    except subprocess.TimeoutExpired:
+        return f"no end within two minutes: {' '.join(args)}", 0
+    if ran.returncode:
+        return f"status {ran.returncode}: {' '.join(args)}: {ran.stderr.decode()}", 0
+    wrong, full = check(scripts, ran.stdout.decode(), cells, keep, versions, cycles)
+    if wrong:
+        with open(os.path.join(folder, "output"), "wb") as it:
+            it.write(ran.stdout)
+        return f"{wrong}: {' '.join(args)}", full
+    shutil.rmtree(folder)
+    return None, full
+
+
+def main():
+    p = argparse.ArgumentParser()
+    p.add_argument("docheap")
+    p.add_argument("--runs", type=int, default=200)
+    p.add_argument("--seed", type=int, default=1)
+    p.add_argument("--jobs", type=int, default=1)
+    p.add_argument("--only")
+    args = p.parse_args()
+    bad = 0
+    for name in KINDS:
+        if args.only and args.only not in name:
+            continue
+        with concurrent.futures.ThreadPoolExecutor(args.jobs) as pool:
+            found = list(pool.map(lambda k: one(os.path.abspath(args.docheap), name, k), range(args.seed, args.seed + args.runs)))
+        wrong = [w for w, _ in found if w]
+        bad += len(wrong)
+        some_full = sum(1 for _, full in found if full)
+        print(f"{name}: {len(found)} runs, {len(wrong)} wrong, {some_full} with a full heap", flush=True)
+        for w in wrong[:3]:
+            print("  " + w)
+    return 1 if bad else 0
+
+
+if __name__ == "__main__":
+    sys.exit(main())

@@ -1,0 +1,4 @@
+pub mod Agreeing
+pub mod Finding
+pub mod Indices
+pub mod Turning

@@ -1,0 +1,294 @@
+-- What a run comes to, from what stands at the close of its heap.
+--
+-- counted   the state that the image shows, with the versions that stay
+-- comes     all of it
+use Rattle.std.proofs.Common.{◌≡◌, ◌≤◌, ◌<◌, ◌+◌, ◌++◌, ◌⊎◌, ℕ}
+use Rattle.std.proofs.Common.{zero, suc, Bool, true, false, List}
+use Rattle.std.proofs.Common.{[], ◌∷◌, length, map, inl, inr, refl, sym, ◌∙◌, ap, subst}
+use Rattle.std.proofs.Common.{arith}
+use Rattle.std.proofs.Common.{append_assoc}
+use Rattle.std.specs.Prelude.{Vec, ◌||◌}
+use Rattle.std.specs.declared.alloc.Global.{Global}
+use Rattle.std.specs.List.{list_any}
+use Rattle.std.proofs.lemmas.List.{length-map}
+use Rattle.std.proofs.lemmas.List.Folds.{list_any-append}
+use mathlib.Core.Option.{some}
+use lib.ListN.{get_elem?}
+use Rattle.client_threads.specs.Serving.{off_first}
+use Rattle.client_turns.specs.Runs.{was_full}
+use Rattle.closed_store.specs.Chain.{ShowsVersions}
+use Rattle.closed_store.specs.Closing.{AreJoined, EndedStore}
+use Rattle.closed_store.proofs.Chaining.{versions_shown}
+use Rattle.closed_store.proofs.Claiming.{all_claimed}
+use Rattle.closed_store.proofs.Out.{joined_out}
+use Rattle.collector.specs.Cycles.{Served}
+use Rattle.collector.proofs.Leaving.{tidy_at_close}
+use Rattle.core_machine.specs.Collector.{Collector}
+use Rattle.core_machine.specs.State.{State}
+use Rattle.core_machine.specs.declared.events.Event.TheVariants as event
+use Rattle.core_machine.specs.declared.events.Found.TheVariants as finds
+use Rattle.core_machine.specs.declared.events.Taken.{Taken}
+use Rattle.cell_words.specs.declared.controls.Control.{Control}
+use Rattle.dlg_core.specs.Collects.{IsTidy}
+use Rattle.dlg_core.specs.FirstRows.{AreRows}
+use Rattle.dlg_core.specs.Sums.{claims_of, used_count_of}
+use Rattle.doc_model.specs.Agreement.{rising}
+use Rattle.doc_model.specs.ClientLog.{ClientLog}
+use Rattle.doc_model.specs.Merge.{all_entries}
+use Rattle.doc_model.specs.declared.command.Command.{Command}
+use Rattle.doc_model.specs.declared.command.Entry.{Entry}
+use Rattle.doc_model.specs.declared.totals.Totals.{Totals}
+use Rattle.heap_rule.specs.Rule.{took}
+use Rattle.heap_rule.specs.Shape.{IsSound, Shape}
+use Rattle.heap_rule.specs.declared.view.View.{View}
+use Rattle.heap_table.specs.Images.{ImageView, Shows}
+use Rattle.run_history.specs.Agreed.{LogsAgree}
+use Rattle.run_history.specs.Left.{AreLeft}
+use Rattle.run_history.proofs.Agreeing.{logs_agree}
+use Rattle.store_run.specs.Finished.{Comes, IsService, IsTiedTo, IsTotals, commands_of, duty_on}
+use Rattle.store_run.specs.Opened.{IsWithin, limits_of, lists_of, shape_of}
+use Rattle.store_run.specs.Parts.{IsCounted}
+use Rattle.store_run.specs.declared.options.Options.{Options}
+use Rattle.version_rule.specs.Opening.{first_rows}
+use Rattle.version_rule.specs.Pass.{Pass}
+
+-- an entry of a log that found the heap full
+record FoundFull (logs : List ClientLog) : Type 0 where
+  pub client : ℕ
+  pub log : ClientLog
+  pub log_at : get_elem? logs client ≡ some log
+  pub place : ℕ
+  pub entry : Entry
+  pub entry_at : get_elem? log.entries place ≡ some entry
+  pub full : was_full entry ≡ true
+
+-- one of these entries did
+record FoundIn (es : List Entry) : Type 0 where
+  pub place : ℕ
+  pub entry : Entry
+  pub entry_at : get_elem? es place ≡ some entry
+  pub full : was_full entry ≡ true
+
+found_first : (e : Entry) (es : List Entry) (b : Bool) → was_full e ≡ b
+    → (b || list_any was_full es) ≡ true → (list_any was_full es ≡ true → FoundIn es)
+    → FoundIn (e ∷ es)
+found_first e es true is h later =
+    record { place = 0; entry = e; entry_at = refl; full = is }
+found_first e es false is h later =
+    let found = later h in record {
+      place = suc found.place;
+      entry = found.entry;
+      entry_at = found.entry_at;
+      full = found.full;
+    }
+
+found_in : (es : List Entry) → list_any was_full es ≡ true → FoundIn es
+found_in [] h = absurd cc
+found_in (e ∷ es) h = found_first e es (was_full e) refl h (λ rest. found_in es rest)
+
+full_first : (g : ClientLog) (logs : List ClientLog) (b : Bool)
+    → list_any was_full g.entries ≡ b → (b || list_any was_full (all_entries logs)) ≡ true
+    → (list_any was_full (all_entries logs) ≡ true → FoundFull logs)
+    → FoundFull (g ∷ logs)
+full_first g logs true is h later =
+    let found = found_in g.entries is in record {
+      client = 0;
+      log = g;
+      log_at = refl;
+      place = found.place;
+      entry = found.entry;
+      entry_at = found.entry_at;
+      full = found.full;
+    }
+full_first g logs false is h later =
+    let found = later h in record {
+      client = suc found.client;
+      log = found.log;
+      log_at = found.log_at;
+      place = found.place;
+      entry = found.entry;
+      entry_at = found.entry_at;
+      full = found.full;
+    }
+
+full_log : (logs : List ClientLog) → list_any was_full (all_entries logs) ≡ true
+    → FoundFull logs
+full_log [] h = absurd cc
+full_log (g ∷ logs) h =
+    full_first g logs (list_any was_full g.entries) refl
+    (sym (list_any-append was_full g.entries (all_entries logs)) ∙ h)
+    (λ rest. full_log logs rest)
+
+rows_are : AreRows first_rows
+rows_are zero lt = refl
+rows_are (suc zero) lt = refl
+rows_are (suc (suc zero)) lt = refl
+rows_are (suc (suc (suc c))) lt = absurd (omega (arith, lt))
+
+sound : (o : Options) (clients : ℕ) → IsWithin o → IsSound (shape_of o clients)
+sound o clients within = record {
+  rows = rows_are;
+  first = refl;
+  fit = let least = within.cells.0 in omega (arith, least);
+  few = within.cells.1;
+}
+
+off_or_not : (held : Bool) → (off_first held ≡ []) ⊎ (off_first held
+    ≡ took (event.Duty false) finds.Stored ∷ [])
+off_or_not true = inr refl
+off_or_not false = inl refl
+
+there : {A : Type 0} (xs : List A) (i : ℕ) (x : A) → get_elem? xs i ≡ some x → i < length xs
+there [] i x h = absurd cc
+there (y ∷ ys) zero x h = omega arith
+there (y ∷ ys) (suc i) x h = let rest = there ys i x h in omega (arith, rest)
+
+-- What is known where the heap of a run is closed: of its clients, and of its collector.
+pub record AtClose (o : Options) (scripts : List (List Command)) (logs : List ClientLog)
+    (v : View Pass) : Type 0 where
+  pub least : 1 ≤ length scripts
+  pub within : IsWithin o
+  pub many : length logs ≡ length scripts
+  pub left : AreLeft (limits_of o) o.cells logs v.places (length scripts)
+  -- the collector's trail and its control
+  pub held_back : Bool
+  pub made : ℕ
+  pub freed : ℕ
+  pub added : List Taken
+  pub trail : v.trail ≡ duty_on o.cycles ++ (off_first held_back ++ added)
+  pub served : Served (length scripts) o.cycles made freed added
+  pub cycles : v.control.cycles ≡ made
+
+-- What the totals are known by: each state that the image shows.
+pub record AreCounted (logs : List ClientLog) (image : ImageView) (v : View Pass) (cells : ℕ)
+    (totals : Totals) : Type 0 where
+  pub freed : ℕ
+  pub freed_is : v.part.number_freed ≡ freed
+  pub are : (counted : IsCounted image freed) → IsTotals counted.core logs counted.trees totals
+  pub balance : 3 + totals.claimed ≡ totals.used + totals.freed
+  pub all_cells : totals.used + totals.free ≡ cells
+
+module _ (o : Options) (scripts : List (List Command)) (logs : List ClientLog)
+    (image : ImageView) (v : View Pass) (at : AtClose o scripts logs v) where
+  joined : AreJoined (length scripts) v.places
+  joined = λ i lt. let one = at.left i lt in record { share = one.share; share_at = one.share_at }
+
+  module _ (ended : EndedStore (shape_of o (length scripts)) image.words v)
+      (shown : Shows image ended.shows.core) where
+    agreed : LogsAgree (limits_of o) (shape_of o (length scripts)) image.words v logs ended
+    agreed = logs_agree (limits_of o) (shape_of o (length scripts)) image.words v logs ended
+        at.least at.many at.left
+
+    stay : ShowsVersions ended.shows.core o.keep ended.shows.kept.trees
+    stay =
+        subst (λ (keep : ℕ). ShowsVersions ended.shows.core keep ended.shows.kept.trees)
+        agreed.keep
+        (versions_shown (shape_of o (length scripts)) image.words v ended agreed.cut.client
+        agreed.cut.pass agreed.cut.pass_at agreed.cut.far
+        (joined_out (shape_of o (length scripts)) image.words v ended joined))
+
+    counted_here : (freed : ℕ) → v.part.number_freed ≡ freed → IsCounted image freed
+    counted_here freed is = record {
+      core = ended.shows.core;
+      shown = shown;
+      shaped = ended.shows.shaped;
+      balanced = ended.shows.balanced;
+      freed_is = ap (λ (p : Collector). p.number_freed) ended.collector.part ∙ is;
+      keep = o.keep;
+      trees = ended.shows.kept.trees;
+      versions = stay;
+    }
+
+    tied_here : (i : ℕ) → i < length scripts → IsTiedTo (limits_of o) o.cells logs v.places i
+    tied_here i lt =
+        let one = at.left i lt in
+        let its = agreed.clients i one.log one.share one.log_at one.share_at in
+        record {
+          log = one.log;
+          log_at = one.log_at;
+          share = one.share;
+          share_at = one.share_at;
+          tied = its.tied;
+          shows = its.shows;
+        }
+
+    full_here : list_any was_full (all_entries logs) ≡ true
+        → o.cells ≤ claims_of ended.shows.core + 3
+    full_here met =
+        let found = full_log logs met in
+        let within = there logs found.client found.log found.log_at in
+        let one = at.left found.client (omega (arith, within, at.many)) in
+        let its = agreed.clients found.client found.log one.share found.log_at one.share_at in
+        let had = its.full found.place found.entry found.entry_at found.full in
+        all_claimed (shape_of o (length scripts)) image.words v ended found.client one.share
+        had.before had.stretch had.after one.share_at had.is had.meets
+
+    tidy_here : at.made < o.cycles → IsTidy ended.shows.core
+    tidy_here fewer =
+        let on = duty_on o.cycles in
+        let off = off_first at.held_back in
+        let last = took (event.Duty false) finds.Stored ∷ [] in
+        tidy_at_close (shape_of o (length scripts)) image.words v o.cycles at.made at.freed
+        (on ++ off) at.served.made last (sound o (length scripts) at.within) ended
+        (at.trail ∙ ap (λ (ts : List Taken). on ++ (off ++ ts)) at.served.split
+        ∙ sym (append_assoc on off (at.served.made ++ last))) at.served.cycles fewer
+
+    cycles_here : ended.shows.core.control.cycles ≡ at.made
+    cycles_here = ap (λ (c : Control). c.cycles) ended.collector.control ∙ at.cycles
+
+    comes_here : (totals : Totals) → AreCounted logs image v o.cells totals
+        → map commands_of logs ≡ scripts → Comes o scripts logs image v totals
+    unfolding counted_here
+    comes_here totals are answered =
+        let totals_are = are.are (counted_here are.freed are.freed_is) in
+        let cycles = totals_are.cycles ∙ cycles_here in
+        let most = at.served.cycles.most_are in
+        let claimed = agreed.claimed in
+        let a = totals_are.versions in
+        let b = totals_are.claimed in
+        record {
+          clients = agreed.agree.clients ∙ ap (λ (n : ℕ). rising 0 n) at.many;
+          answered = answered;
+          ended = ended;
+          shown = shown;
+          tied = tied_here;
+          agree = agreed.agree;
+          merged = agreed.legal;
+          totals_are = totals_are;
+          balance = are.balance;
+          all_cells = are.all_cells;
+          stay = stay;
+          made = agreed.made ∙ ap (λ (n : ℕ). n + 1) (sym a);
+          claims = omega (arith, claimed, a, b);
+          full = λ met. let whole = full_here met in omega (arith, whole, b);
+          service = record {
+            off = off_first at.held_back;
+            off_is = off_or_not at.held_back;
+            served = at.added;
+            trail_is = at.trail;
+            freed = at.freed;
+            serves = subst (λ (n : ℕ). Served (length scripts) o.cycles n at.freed at.added)
+                (sym cycles) at.served;
+          };
+          cycles = omega (arith, most, cycles);
+          tidy = λ fewer. tidy_here (omega (arith, fewer, cycles));
+        }
+
+  -- the heap's shape is that of the run
+  pub counted : (h : Shape) → h ≡ shape_of o (length scripts)
+      → (ended : EndedStore h image.words v) → Shows image ended.shows.core
+      → (freed : ℕ) → v.part.number_freed ≡ freed → IsCounted image freed
+  counted h is =
+      subst (λ (k : Shape). (ended : EndedStore k image.words v) → Shows image ended.shows.core
+      → (freed : ℕ) → v.part.number_freed ≡ freed → IsCounted image freed) (sym is)
+      (λ ended shown freed same. counted_here ended shown freed same)
+
+  pub comes : (h : Shape) → h ≡ shape_of o (length scripts)
+      → (ended : EndedStore h image.words v) → Shows image ended.shows.core
+      → (totals : Totals) → AreCounted logs image v o.cells totals
+      → map commands_of logs ≡ scripts → Comes o scripts logs image v totals
+  comes h is =
+      subst (λ (k : Shape). (ended : EndedStore k image.words v) → Shows image ended.shows.core
+      → (totals : Totals) → AreCounted logs image v o.cells totals
+      → map commands_of logs ≡ scripts → Comes o scripts logs image v totals) (sym is)
+      (λ ended shown totals are answered. comes_here ended shown totals are answered)

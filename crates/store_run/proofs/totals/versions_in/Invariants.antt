@@ -1,0 +1,8 @@
+use Rattle.std.proofs.Common.{◌≡◌, ◌+◌, drop, length}
+use Rattle.doc_model.specs.Agreement.{ok_places}
+use Rattle.doc_model.specs.Merge.{all_entries}
+use Rattle.store_run.proofs.totals.versions_in.Given as goal
+
+abbrev pub invariant-loop-log : goal.invariant-loop-log
+invariant-loop-log l = l.count + length (ok_places (all_entries (drop l.log-index l.logs)))
+    ≡ length (ok_places (all_entries l.logs))

@@ -1,0 +1,13 @@
+use cell_heap::{Image, Passes};
+use doc_model::{Log, Totals};
+use document_versions::Documents;
+
+/// What a run comes to: what each client was answered, the heap at its close, what all seats had
+/// then, and the totals.
+#[derive(Drop)]
+pub struct Finished {
+    pub logs: Vec<Log>,
+    pub image: Image,
+    pub passes: Passes<Documents>,
+    pub totals: Totals,
+}
