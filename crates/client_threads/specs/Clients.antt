@@ -1,7 +1,7 @@
 -- What a client has before its run, and what it leaves.
 -- Source: this project's.
-use Rattle.std.specs.Prelude.{ℕ, zero, suc, ◌≡◌, ◌≤◌, ◌+◌, true, false, List, [], ◌∷◌, length}
-use Rattle.std.specs.Prelude.{map, take, Vec}
+use Rattle.std.specs.Prelude.{ℕ, zero, suc, ◌≡◌, ◌≤◌, ◌+◌, true, false, List, []}
+use Rattle.std.specs.Prelude.{◌∷◌, length, map, take, Vec}
 use Rattle.std.specs.declared.alloc.Global.{Global}
 use Rattle.client_run.specs.Own.{MayAnswer}
 use Rattle.client_run.specs.declared.session.Limits.{Limits}

@@ -1,2 +1,3 @@
 pub mod Clients
+pub mod Going
 pub mod Serving

@@ -1,8 +1,12 @@
 -- What the collector's thread has, and what becomes of its seat.
 -- Source: this project's.
-use Rattle.std.specs.Prelude.{ℕ, ◌≡◌, ◌≤◌, ◌+◌, ◌++◌, Bool, true, false, List, []}
-use Rattle.std.specs.Prelude.{◌∷◌}
+use Rattle.std.specs.Prelude.{ℕ, ◌≡◌, ◌≤◌, ◌+◌, ◌++◌, Bool, true, false}
+use Rattle.std.specs.Prelude.{List, [], ◌∷◌}
+use Rattle.cell_heap.specs.Telling.{collector_tells}
 use Rattle.cell_words.specs.declared.controls.Stage.TheVariants as stage
+use Rattle.client_threads.specs.declared.keeper.Keeper.{Keeper}
+use Rattle.client_threads.specs.declared.serving.Turn.{Turn}
+use Rattle.client_threads.specs.declared.serving.Turn.TheVariants as turns
 use Rattle.collector.specs.Cycles.{Served}
 use Rattle.core_machine.specs.State.{greatest_cycles}
 use Rattle.core_machine.specs.declared.events.Event.TheVariants as event
@@ -32,8 +36,23 @@ abbrev pub off_first : Bool → List Taken
 off_first true = took (event.Duty false) finds.Stored ∷ []
 off_first false = []
 
--- The seat is of the same heap, and the parts of its mutators are where they were. The collector
--- went off duty, or did not, and then it served: it made at most so many cycles, and is off duty.
+-- The collector served: it made at most so many cycles, and is off duty. The seat is of the same
+-- heap, and the parts of its mutators are where they were.
+pub record Serves (cycles : ℕ) (old new : SeatView Pass) : Type 0 where
+  pub table : new.table ≡ old.table
+  pub shape : new.me.shape ≡ old.me.shape
+  pub role : new.me.role ≡ old.me.role
+  pub places : new.me.places ≡ old.me.places
+  pub made : ℕ
+  pub freed : ℕ
+  pub added : List Taken
+  pub trail : new.me.trail ≡ old.me.trail ++ added
+  pub served : Served old.me.shape.mutators cycles made freed added
+  pub cycles_are : new.me.control.cycles ≡ old.me.control.cycles + made
+  pub idle : new.me.control.stage ≡ stage.Idle
+  pub off_duty : new.me.control.duty ≡ false
+
+-- It went off duty first, or did not, and then it served.
 pub record Worked (cycles : ℕ) (old new : SeatView Pass) : Type 0 where
   pub table : new.table ≡ old.table
   pub shape : new.me.shape ≡ old.me.shape
@@ -48,3 +67,20 @@ pub record Worked (cycles : ℕ) (old new : SeatView Pass) : Type 0 where
   pub cycles_are : new.me.control.cycles ≡ old.me.control.cycles + made
   pub idle : new.me.control.stage ≡ stage.Idle
   pub off_duty : new.me.control.duty ≡ false
+
+-- the turn: it served, or it was held back
+abbrev pub TurnOf : ℕ → Keeper → Turn → Type 0
+TurnOf cycles keeper (turns.Served now) = Serves cycles keeper.seat now
+TurnOf cycles keeper (turns.HandedBack now) = now ≡ keeper
+
+-- the seat, which went off duty if it did
+abbrev pub off_if : Bool → SeatView Pass → SeatView Pass
+off_if true seat = collector_tells seat (event.Duty false) finds.Stored
+off_if false seat = seat
+
+-- the turn is to be ended: it served, or may do so yet
+abbrev pub StandsBy : HeapId → FreeQueue → ℕ → SeatView Pass → Turn → Type 0
+StandsBy heap queue cycles was (turns.Served now) = Worked cycles was now
+StandsBy heap queue cycles was (turns.HandedBack keeper) =
+    IsKeeper heap queue cycles keeper.seat keeper.pass
+    × ((held_back : Bool) × (keeper.seat ≡ off_if held_back was))

@@ -1,10 +1,12 @@
 //! The run: all clients, beside the collector.
 ghost use Rattle.std.specs.Prelude.{◌≡◌, length};
 ghost use Rattle.client_threads.specs.Clients.{AllDone, AllReady};
-ghost use Rattle.client_threads.specs.Serving.{IsKeeper, Worked};
+ghost use Rattle.client_threads.specs.Serving.{IsKeeper, TurnOf, Worked};
 
 use crate::clients::Client;
 use crate::keeper::Keeper;
+use crate::running::run_each;
+use crate::serving::{Serving, Turn, serve_after, stand_down, take_turn};
 use cell_heap::ColSeat;
 use client_run::Limits;
 use doc_model::Command;
@@ -13,8 +15,10 @@ use free_cells::FreeQueue;
 use heap_table::CellHeap;
 use outside::Gate;
 use std::alloc::Global;
+use std::snapshot::Snapshot;
 use std::sync::Wait;
-use std::thread::Threads;
+use std::sync::atomic::{AtomicBool, Ordering};
+use std::thread::{self, Threads};
 
 /// Runs the clients with their scripts, and the collector, each on a thread of its own. Client k
 /// of the list has script k. The limits are those that the sessions were made with: contracts alone
@@ -38,8 +42,46 @@ pub fn run_beside<R: Threads + Wait + Sync, G: Gate + Sync>(
     ensures many { length result.0.items ≡ length clients.items }
     ensures worked { Worked cycles keeper.seat result.1 }
 {
-    let _ = (
-        alloc, rt, gate, heap, queue, scripts, limits, keeper, cycles, clients,
-    );
-    unreachable!()
+    let held_back = AtomicBool::new(false);
+    let flag = &held_back;
+    let was = Snapshot::of(&keeper);
+    let promise = Serving {
+        cycles,
+        keeper: Snapshot::of(&keeper),
+    };
+    thread::scope(
+        thread::scope_env(),
+        rt,
+        move |scope| -> (Vec<Client>, ColSeat<Documents>)
+            requires { IsKeeper heap.now queue.now cycles keeper.seat keeper.pass
+                × AllReady heap.now queue.now limits scripts.now clients.items
+                × (was.value ≡ keeper) × (promise.keeper.value ≡ keeper)
+                × (promise.cycles ≡ cycles) }
+            ensures { AllDone heap.entry.now limits scripts.entry.now result.0.items
+                × (length result.0.items ≡ length clients.items)
+                × Worked cycles keeper.seat result.1 }
+        {
+            let turn = move || -> Turn
+                requires { IsKeeper heap.now queue.now cycles keeper.seat keeper.pass }
+                ensures { TurnOf cycles keeper result }
+            { take_turn(rt, heap, queue, flag, cycles, keeper) };
+            match scope.spawn_with(promise, turn) {
+                Ok(thread) => {
+                    let clients = run_each(
+                        alloc, rt, gate, heap, queue, scripts, limits, clients,
+                    );
+                    let turn = thread.join(rt);
+                    (clients, serve_after(rt, heap, queue, cycles, &was, turn))
+                }
+                Err(refused) => {
+                    flag.store(true, Ordering::SeqCst);
+                    let turn = stand_down(heap, queue, cycles, &was, (refused.value)());
+                    let clients = run_each(
+                        alloc, rt, gate, heap, queue, scripts, limits, clients,
+                    );
+                    (clients, serve_after(rt, heap, queue, cycles, &was, turn))
+                }
+            }
+        },
+    )
 }

@@ -1,16 +1,20 @@
 //! Clients in threads of their own, beside the collector on one of its own.
 //!
-//! The layer above may rely on this: each client's mutator is over when `run_beside` returns, and
+//! The layer above may rely on this: when `run_beside` returns, each client's mutator is over, and
 //! its log is in step with what its seat has; a client that did not fail answered its whole script.
 //! The collector's seat served once, and is off duty. That anything runs beside anything else is
 //! claimed by no clause.
 //!
-//! Reading order: `clients`, specs/Clients; `running`; `keeper`, specs/Serving; `beside`.
+//! Reading order: `clients`, specs/Clients; specs/Going, `answering`, `running`; `keeper`,
+//! specs/Serving, `serving`; `beside`.
 #![tactic(auto)]
 
+mod answering;
 mod beside;
 mod clients;
 mod keeper;
+mod running;
+mod serving;
 
 pub use beside::run_beside;
 pub use clients::Client;

@@ -1,0 +1,108 @@
+-- Commands one after the other: what was answered is the front of the script.
+use Rattle.std.proofs.Common.{◌≡◌, ◌≤◌, ◌<◌, ℕ, suc, List, [], ◌∷◌}
+use Rattle.std.proofs.Common.{◌++◌, length, take, get_or}
+use Rattle.std.proofs.Common.{refl, sym, ◌∙◌, ap, subst, arith}
+use Rattle.std.proofs.Math.Seq.{take-length, take-suc}
+use Rattle.std.proofs.lemmas.List.{append-nil, append_assoc, length-map, length-take-le, map-append}
+use Rattle.client_heap.specs.Shows.{state_of}
+use Rattle.client_run.specs.declared.session.Session.{Session}
+use Rattle.client_session.specs.Turns.{Enters}
+use Rattle.doc_model.specs.declared.command.Command.{Command}
+use Rattle.doc_model.specs.declared.command.Entry.{Entry}
+use Rattle.doc_model.specs.declared.command.Reply.{Reply}
+use Rattle.mutator_seat.specs.Bound.{Bound}
+use Rattle.version_rule.specs.Pass.{Pass}
+use Rattle.version_store.specs.Lasts.{IsSameMutator}
+use Rattle.version_store.proofs.Lasting.{same_then}
+use Rattle.client_threads.specs.Clients.{commands_of}
+use Rattle.client_threads.specs.Going.{MayGo, Waits, Went, WentSome}
+use Rattle.client_threads.proofs.Waiting.{waits_mutator, waits_same}
+
+-- One command.
+
+module _ (s : Session) (m : Bound Pass) (t : Session) (n : Bound Pass) where
+  pub went_on : (c : Command) (reply : Reply) → MayGo t n → IsSameMutator m n
+      → t.journal.limits ≡ s.journal.limits
+      → t.journal.log.client ≡ s.journal.log.client
+      → Enters s.journal t.journal c reply (state_of m s.minor s.draft s.base)
+      (state_of n t.minor t.draft t.base)
+      → Went (c ∷ []) s m t n
+  went_on c reply may same limits client enters = record {
+    may = may;
+    same = same;
+    limits = limits;
+    client = client;
+    commands = ap commands_of enters.entries
+        ∙ map-append (λ (e : Entry). e.command) s.journal.log.entries _;
+  }
+
+  pub went_none : MayGo t n → IsSameMutator m n → t.journal.limits ≡ s.journal.limits
+      → t.journal.log.client ≡ s.journal.log.client
+      → t.journal.log.entries ≡ s.journal.log.entries → Went [] s m t n
+  went_none may same limits client entries = record {
+    may = may;
+    same = same;
+    limits = limits;
+    client = client;
+    commands = ap commands_of entries ∙ sym (append-nil (commands_of s.journal.log.entries));
+  }
+
+-- behind a wait
+pub waited_went : (more : List Command) (s t : Session) (a m n : Bound Pass) → Waits a m
+    → Went more s m t n → Went more s a t n
+waited_went more s t a m n waits went = record {
+  may = went.may;
+  same = same_then a m n (waits_mutator a m waits) went.same;
+  limits = went.limits;
+  client = went.client;
+  commands = went.commands;
+}
+
+-- Commands one after the other.
+
+pub went_first : (s : Session) (m : Bound Pass) → MayGo s m → Went [] s m s m
+went_first s m may =
+    went_none s m s m may (waits_mutator m m (waits_same m)) refl refl refl
+
+pub went_then : (xs ys : List Command) (s t u : Session) (a b c : Bound Pass) → Went xs s a t b
+    → Went ys t b u c → Went (xs ++ ys) s a u c
+went_then xs ys s t u a b c first second = record {
+  may = second.may;
+  same = same_then a b c first.same second.same;
+  limits = second.limits ∙ first.limits;
+  client = second.client ∙ first.client;
+  commands = second.commands
+      ∙ ap (λ (cs : List Command). cs ++ ys) first.commands
+      ∙ append_assoc (commands_of s.journal.log.entries) xs ys;
+}
+
+module _ (script : List Command) (s : Session) (a : Bound Pass) (i : ℕ) (t : Session)
+    (b : Bound Pass) (first : Went (take i script) s a t b) where
+  pub went_next : (d : Command) → i < length script → (u : Session) (c : Bound Pass)
+      → Went (get_or script i d ∷ []) t b u c → Went (take (suc i) script) s a u c
+  went_next d there u c second =
+      subst (λ (cs : List Command). Went cs s a u c) (sym (take-suc script i d there))
+      (went_then (take i script) (get_or script i d ∷ []) s t u a b c first second)
+
+  pub went_some : (u : Session) (c : Bound Pass) → Went [] t b u c → WentSome script s a u c
+  went_some u c second = record {
+    count = i;
+    went = subst (λ (cs : List Command). Went cs s a u c) (append-nil (take i script))
+        (went_then (take i script) [] s t u a b c first second);
+  }
+
+  -- the log has room for one more
+  pub went_few : i < length script → length script ≤ 100_000 → s.journal.log.entries ≡ []
+      → length t.journal.log.entries < 100_000
+  went_few there short none =
+      let many : length t.journal.log.entries ≡ i =
+      sym (length-map t.journal.log.entries (λ (e : Entry). e.command))
+      ∙ ap (λ (cs : List Command). length cs)
+      (first.commands ∙ ap (λ (es : List Entry). commands_of es ++ take i script) none)
+      ∙ length-take-le i script (omega (arith, there)) in
+      omega (arith, many, there, short)
+
+pub went_all : (script : List Command) (s t : Session) (a b : Bound Pass)
+    → Went (take (length script) script) s a t b → Went script s a t b
+went_all script s t a b went =
+    subst (λ (cs : List Command). Went cs s a t b) (take-length script) went

@@ -1,0 +1,71 @@
+-- What a client's thread knows of its mutator and its session between two calls.
+-- Source: this project's.
+use Rattle.std.specs.Prelude.{ℕ, ◌≡◌, ◌++◌, Bool, true, false, List, [], ◌∷◌}
+use Rattle.std.specs.Prelude.{length, take}
+use Rattle.client_run.specs.Own.{MayAnswer}
+use Rattle.client_run.specs.declared.session.Session.{Session}
+use Rattle.client_threads.specs.Clients.{commands_of}
+use Rattle.doc_model.specs.declared.command.Command.{Command}
+use Rattle.heap_table.specs.Seats.{HeapId, SeatView}
+use Rattle.mutator_seat.specs.Bound.{Bound}
+use Rattle.mutator_seat.specs.Stretches.{Kept}
+use Rattle.trails.specs.Asks.{Grown}
+use Rattle.trails.specs.Marks.{marks_of}
+use Rattle.version_rule.specs.Pass.{Pass}
+use Rattle.version_store.specs.Lasts.{IsSameMutator}
+
+-- Answers to handshakes: the mutator holds and knows what it did, and its trail grew.
+pub record Waits (old new : Bound Pass) : Type 0 where
+  pub kept : Kept old new
+  pub grown : Grown (marks_of old.seat.me.trail) (marks_of new.seat.me.trail)
+
+-- the session may answer by this mutator
+abbrev pub MayGo : Session → Bound Pass → Type 0
+MayGo s m = MayAnswer s.journal m s.minor s.promoter s.draft s.base
+
+-- the command, if it was answered
+abbrev pub answered : Bool → Command → List Command
+answered true command = command ∷ []
+answered false command = []
+
+-- The session answered these commands by this mutator, and may answer on.
+pub record Went (more : List Command) (s : Session) (m : Bound Pass) (t : Session) (n : Bound Pass)
+    : Type 0 where
+  pub may : MayGo t n
+  pub same : IsSameMutator m n
+  pub limits : t.journal.limits ≡ s.journal.limits
+  pub client : t.journal.log.client ≡ s.journal.log.client
+  pub commands : commands_of t.journal.log.entries ≡ commands_of s.journal.log.entries ++ more
+
+-- so it was with a number of the first ones
+pub record WentSome (script : List Command) (s : Session) (m : Bound Pass) (t : Session)
+    (n : Bound Pass) : Type 0 where
+  pub count : ℕ
+  pub went : Went (take count script) s m t n
+
+-- with all of them, or with some
+abbrev pub Answers : Bool → List Command → Session → Bound Pass → Session → Bound Pass
+    → Type 0
+Answers true script s m t n = Went script s m t n
+Answers false script s m t n = WentSome script s m t n
+
+-- The mutator of this seat came in, and holds the anchor alone.
+pub record Entered (heap : HeapId) (seat : SeatView Pass) (m : Bound Pass) : Type 0 where
+  pub heap_is : m.heap ≡ heap
+  pub table : m.seat.table ≡ seat.table
+  pub shape : m.seat.me.shape ≡ seat.me.shape
+  pub number : m.seat.me.number ≡ seat.me.number
+  pub room : m.seat.me.room ≡ seat.me.room
+  pub pass : m.seat.me.pass ≡ seat.me.pass
+  pub inside : m.seat.me.presence.inside ≡ true
+  pub one : length m.seat.me.own.held ≡ 1
+
+-- The mutator went out, and this is its seat: its trail shows no more than before.
+pub record Left (m : Bound Pass) (seat : SeatView Pass) : Type 0 where
+  pub table : seat.table ≡ m.seat.table
+  pub shape : seat.me.shape ≡ m.seat.me.shape
+  pub number : seat.me.number ≡ m.seat.me.number
+  pub pass : seat.me.pass ≡ m.seat.me.pass
+  pub claims : seat.me.own.claims ≡ m.seat.me.own.claims
+  pub marks : marks_of seat.me.trail ≡ marks_of m.seat.me.trail
+  pub over : seat.me.presence.over ≡ true

@@ -1,0 +1,110 @@
+//! A client's commands on its mutator, one after the other.
+//!
+//! Between two commands the mutator answers handshakes, also while the gate sends its client away:
+//! else the collector would wait for it.
+ghost use Rattle.std.specs.Prelude.{◌≡◌, ◌≤◌, ◌<◌, [], length, true};
+ghost use Rattle.client_threads.specs.Going.{Answers, MayGo, Waits, Went, answered};
+
+use client_run::Session;
+use doc_model::Command;
+use document_versions::Documents;
+use free_cells::Hints;
+use mutator_seat::Mutator;
+use outside::Gate;
+use std::alloc::Global;
+use std::sync::Wait;
+
+/// Answers a handshake, if one is asked for.
+fn handshake(m: &mut Mutator<'_, Documents>)
+    requires inside { m.old.seat.me.presence.inside ≡ true }
+    ensures waits { Waits m.old m.new }
+{
+    let _ = m.answer();
+}
+
+/// Waits until the gate lets the command begin.
+fn await_gate<R: Wait, G: Gate>(
+    rt: &R,
+    gate: &G,
+    m: &mut Mutator<'_, Documents>,
+    client: u32,
+    number: u32,
+)
+    requires inside { m.old.seat.me.presence.inside ≡ true }
+    ensures waits { Waits m.old m.new }
+{
+    for _ in rt.forever() {
+        handshake(m);
+        if gate.go(client, number) {
+            return;
+        }
+    }
+    unreachable!()
+}
+
+/// Answers the next command, unless memory is wanting.
+fn answer_next<R: Wait>(
+    alloc: Global,
+    rt: &R,
+    hints: &mut Hints<'_>,
+    m: &mut Mutator<'_, Documents>,
+    session: &mut Session,
+    command: &Command,
+) -> bool
+    requires may { MayGo session.old m.old }
+    requires few { length session.old.journal.log.entries < 100000 }
+    ensures went { Went (answered result command.now) session.old m.old session.new m.new }
+{
+    match session.answer(alloc, rt, hints, m, command) {
+        Ok(_reply) => true,
+        Err(_) => false,
+    }
+}
+
+/// Answers the command with this number, when the gate lets it begin.
+fn take_turn<R: Wait, G: Gate>(
+    alloc: Global,
+    rt: &R,
+    gate: &G,
+    hints: &mut Hints<'_>,
+    m: &mut Mutator<'_, Documents>,
+    session: &mut Session,
+    number: u32,
+    command: &Command,
+) -> bool
+    requires may { MayGo session.old m.old }
+    requires few { length session.old.journal.log.entries < 100000 }
+    ensures went { Went (answered result command.now) session.old m.old session.new m.new }
+{
+    let client = session.log().client();
+    await_gate(rt, gate, m, client, number);
+    let answered = answer_next(alloc, rt, hints, m, session, command);
+    if answered {
+        gate.done(client, number);
+    }
+    answered
+}
+
+/// Answers the commands of a script, up to the first for which memory is wanting.
+pub(crate) fn answer_all<R: Wait, G: Gate>(
+    alloc: Global,
+    rt: &R,
+    gate: &G,
+    hints: &mut Hints<'_>,
+    m: &mut Mutator<'_, Documents>,
+    session: &mut Session,
+    script: &[Command],
+) -> bool
+    requires may { MayGo session.old m.old }
+    requires none { session.old.journal.log.entries ≡ [] }
+    requires short { length script.now ≤ 100000 }
+    ensures answers { Answers result script.now session.old m.old session.new m.new }
+{
+    for (index, command) in script.iter().enumerate() {
+        let number = index as u32 + 1;
+        if !take_turn(alloc, rt, gate, hints, m, session, number, command) {
+            return false;
+        }
+    }
+    true
+}

@@ -1,0 +1,130 @@
+//! Clients from their beginning to their end: one on this thread, and all, each on its own.
+ghost use Rattle.std.specs.Prelude.{◌≡◌, ◌≤◌, length, true, vec_capacity};
+ghost use Rattle.client_threads.specs.Clients.{AllDone, AllReady, IsDone, IsReady, script_of};
+ghost use Rattle.client_threads.specs.Going.{Entered, Left};
+ghost use Rattle.heap_rule.specs.Asks.{MayComeIn};
+ghost use Rattle.heap_table.specs.Seats.{IsSeatOf};
+ghost use Rattle.std.specs.Thread.{IsSync};
+
+use crate::answering::answer_all;
+use crate::clients::Client;
+use client_run::Limits;
+use doc_model::Command;
+use document_versions::Documents;
+use free_cells::FreeQueue;
+use heap_table::CellHeap;
+use mutator_seat::{MutSeat, Mutator};
+use outside::Gate;
+use std::alloc::Global;
+use std::sync::Wait;
+use std::thread::{Threads, join};
+
+/// The mutator of the seat, in.
+fn come_in<'a>(heap: &'a CellHeap<Documents>, seat: MutSeat<Documents>) -> Mutator<'a, Documents>
+    requires seat { IsSeatOf heap.now seat }
+    requires out { MayComeIn seat.me }
+    ensures entered { Entered heap.now seat result }
+{
+    let mut m = Mutator::new(heap, seat);
+    m.begin();
+    m
+}
+
+/// The mutator goes out and is over.
+fn leave(m: Mutator<'_, Documents>) -> MutSeat<Documents>
+    requires inside { m.seat.me.presence.inside ≡ true }
+    ensures left { Left m.entry result }
+{
+    let mut m = m;
+    m.end();
+    m.finish()
+}
+
+/// The script of this place.
+fn script_at(scripts: &[Vec<Command>], place: u32) -> &[Command]
+    ensures script { result.now ≡ script_of scripts.now place }
+{
+    match scripts.get(place as usize) {
+        Some(script) => script.as_slice(),
+        None => &[],
+    }
+}
+
+/// Answers a client's script, on this thread. Its mutator comes in before and is over behind.
+fn run_client<R: Wait, G: Gate>(
+    alloc: Global,
+    rt: &R,
+    gate: &G,
+    heap: &CellHeap<Documents>,
+    queue: &FreeQueue,
+    scripts: &[Vec<Command>],
+    limits: Limits,
+    client: Client,
+) -> Client
+    requires ready { IsReady heap.now queue.now limits (script_of scripts.now client.place)
+        client.place client }
+    ensures done { IsDone heap.now limits (script_of scripts.now client.place) client.place
+        result }
+{
+    let _ = limits;
+    let Client {
+        place,
+        mut session,
+        seat,
+        pass,
+        ..
+    } = client;
+    let script = script_at(scripts, place);
+    let mut hints = queue.hints(pass);
+    let mut m = come_in(heap, seat);
+    let whole = answer_all(alloc, rt, gate, &mut hints, &mut m, &mut session, script);
+    Client {
+        place,
+        session,
+        seat: leave(m),
+        pass: hints.into_pass(),
+        failed: !whole,
+    }
+}
+
+/// Runs the clients, each on a thread of its own: the last one beside all others.
+pub(crate) fn run_each<R: Threads + Wait + Sync, G: Gate + Sync>(
+    alloc: Global,
+    rt: &R,
+    gate: &G,
+    heap: &CellHeap<Documents>,
+    queue: &FreeQueue,
+    scripts: &[Vec<Command>],
+    limits: Limits,
+    clients: Vec<Client>,
+) -> Vec<Client>
+    requires ready { AllReady heap.now queue.now limits scripts.now clients.items }
+    ensures done { AllDone heap.now limits scripts.now result.items }
+    ensures many { length result.items ≡ length clients.items }
+    ensures room { vec_capacity clients ≤ vec_capacity result }
+{
+    let mut clients = clients;
+    let Some(last) = clients.pop() else {
+        return clients;
+    };
+    let (mut clients, last) = join(
+        rt,
+        move || -> Vec<Client>
+            requires { IsSync R.row × IsSync G.row
+                × AllReady heap.now queue.now limits scripts.now clients.items }
+            ensures { AllDone heap.entry.now limits scripts.entry.now result.items
+                × (length result.items ≡ length clients.items)
+                × (vec_capacity clients ≤ vec_capacity result) }
+        { run_each(alloc, rt, gate, heap, queue, scripts, limits, clients) },
+        move || -> Client
+            requires { IsReady heap.now queue.now limits (script_of scripts.now last.place)
+                last.place last }
+            ensures { IsDone heap.entry.now limits (script_of scripts.entry.now last.place)
+                last.place result }
+        { run_client(alloc, rt, gate, heap, queue, scripts, limits, last) },
+    );
+    if clients.push(last).is_err() {
+        unreachable!();
+    }
+    clients
+}

@@ -1,0 +1,124 @@
+//! The collector's turn.
+//!
+//! Where no thread can be made for it the closure comes back, and nothing opens a closure. So it
+//! looks at a flag first: with the flag set it gives all back as it got it. The seat then goes off
+//! duty, so that no claim waits for it, and serves when the clients are through.
+ghost use Rattle.std.specs.Prelude.{◌≡◌};
+ghost use Rattle.client_threads.specs.Serving.{IsKeeper, Serves, StandsBy, TurnOf, Worked};
+
+use crate::keeper::Keeper;
+use cell_heap::ColSeat;
+use collector::Collector;
+use document_versions::Documents;
+use free_cells::FreeQueue;
+use heap_table::CellHeap;
+use std::snapshot::Snapshot;
+use std::sync::Wait;
+use std::sync::atomic::{AtomicBool, Ordering};
+use std::thread::Promise;
+
+/// What became of the collector's turn.
+#[derive(Drop)]
+pub(crate) enum Turn {
+    /// it served
+    Served(ColSeat<Documents>),
+    /// it was held back, or went off duty since
+    HandedBack(Keeper),
+}
+
+/// That the thread gives the seat that it got back, behind its turn.
+#[derive(Drop)]
+pub(crate) struct Serving {
+    pub(crate) cycles: u32,
+    pub(crate) keeper: Snapshot<Keeper>,
+}
+
+impl Promise<Turn> for Serving {
+    ghost use Rattle.client_threads.specs.Serving.{TurnOf};
+
+    ghost kept_by = { λ p turn. TurnOf p.cycles p.keeper.value turn };
+}
+
+/// Serves for so many cycles.
+fn serve<R: Wait>(
+    rt: &R,
+    heap: &CellHeap<Documents>,
+    queue: &FreeQueue,
+    cycles: u32,
+    keeper: Keeper,
+) -> ColSeat<Documents>
+    requires keeper { IsKeeper heap.now queue.now cycles keeper.seat keeper.pass }
+    ensures serves { Serves cycles keeper.seat result }
+{
+    let Keeper { seat, stack, pass } = keeper;
+    let mut hints = queue.hints(pass);
+    let mut collector = Collector::new(heap, seat, heap.mutators(), stack);
+    let _ = collector.serve(rt, &mut hints, cycles);
+    collector.into_seat()
+}
+
+/// Serves, unless the collector is held back.
+pub(crate) fn take_turn<R: Wait>(
+    rt: &R,
+    heap: &CellHeap<Documents>,
+    queue: &FreeQueue,
+    held_back: &AtomicBool,
+    cycles: u32,
+    keeper: Keeper,
+) -> Turn
+    requires keeper { IsKeeper heap.now queue.now cycles keeper.seat keeper.pass }
+    ensures turn { TurnOf cycles keeper result }
+{
+    if held_back.load(Ordering::SeqCst) {
+        return Turn::HandedBack(keeper);
+    }
+    Turn::Served(serve(rt, heap, queue, cycles, keeper))
+}
+
+/// Goes off duty, if it was held back.
+pub(crate) fn stand_down(
+    heap: &CellHeap<Documents>,
+    queue: &FreeQueue,
+    cycles: u32,
+    was: &Snapshot<Keeper>,
+    turn: Turn,
+) -> Turn
+    requires keeper { IsKeeper heap.now queue.now cycles was.now.value.seat was.now.value.pass }
+    requires turn { TurnOf cycles was.now.value turn }
+    ensures stands { StandsBy heap.now queue.now cycles was.now.value.seat result }
+{
+    let _ = queue;
+    let _ = cycles;
+    let _ = was;
+    match turn {
+        Turn::Served(seat) => Turn::Served(seat),
+        Turn::HandedBack(keeper) => {
+            let Keeper {
+                mut seat,
+                stack,
+                pass,
+            } = keeper;
+            seat.duty(heap, false);
+            Turn::HandedBack(Keeper { seat, stack, pass })
+        }
+    }
+}
+
+/// Serves, if it did not serve yet.
+pub(crate) fn serve_after<R: Wait>(
+    rt: &R,
+    heap: &CellHeap<Documents>,
+    queue: &FreeQueue,
+    cycles: u32,
+    was: &Snapshot<Keeper>,
+    turn: Turn,
+) -> ColSeat<Documents>
+    requires stands { StandsBy heap.now queue.now cycles was.now.value.seat turn }
+    ensures worked { Worked cycles was.now.value.seat result }
+{
+    let _ = was;
+    match turn {
+        Turn::Served(seat) => seat,
+        Turn::HandedBack(keeper) => serve(rt, heap, queue, cycles, keeper),
+    }
+}
