@@ -10,12 +10,12 @@ returns g c = record {
   done = done c.args.heap.now c.args.queue.now c.args.limits
       (script_of c.args.scripts.now c.args.client.place) c.args.client.place c.args.client
       (record {
-    place = c.args.client.place;
-    session = c.answer_all-whole.new.session;
-    seat = c.leave.result;
-    pass = c.into_pass.result;
-    failed = not c.answer_all-whole.result;
-  })
+        place = c.args.client.place;
+        session = c.answer_all-whole.new.session;
+        seat = c.leave.result;
+        pass = c.into_pass.result;
+        failed = not c.answer_all-whole.result;
+      })
       c.come_in-m.result c.answer_all-whole.new.m c.answer_all-whole.result c.requires.ready
       c.come_in-m.ensures.entered
       (subst
