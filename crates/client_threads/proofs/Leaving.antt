@@ -9,7 +9,7 @@ use Rattle.client_run.specs.declared.session.Limits.{Limits}
 use Rattle.client_run.specs.declared.session.Session.{Session}
 use Rattle.client_session.specs.Turns.{bounds}
 use Rattle.client_turns.specs.Turns.{IsInStep}
-use Rattle.core_machine.specs.Own.{no_own, own_after}
+use Rattle.core_machine.specs.Own.{no_own}
 use Rattle.core_machine.specs.Trail.{own_along}
 use Rattle.core_machine.specs.declared.events.Event.TheVariants as event
 use Rattle.core_machine.specs.declared.events.Found.{Found}
@@ -20,7 +20,6 @@ use Rattle.doc_model.specs.declared.command.Entry.{Entry}
 use Rattle.free_cells.specs.declared.queue.FreeQueue.{FreeQueue}
 use Rattle.heap_rule.specs.Rule.{took}
 use Rattle.heap_rule.specs.Shape.{Shape}
-use Rattle.heap_rule.specs.declared.view.View.{View}
 use Rattle.heap_table.specs.Seats.{HeapId, SeatView}
 use Rattle.mutator_events.specs.Events.{tells}
 use Rattle.mutator_seat.specs.Bound.{Bound, held_cells, takes}
@@ -29,7 +28,7 @@ use Rattle.trails.proofs.Marks.{marks_push}
 use Rattle.version_rule.specs.Pass.{Pass}
 use Rattle.version_store.proofs.Going.{many_cells}
 use Rattle.client_threads.specs.Clients.{IsDone, IsReady, commands_of, store_limits}
-use Rattle.client_threads.specs.Going.{Answers, Entered, Left, MayGo, Went, WentSome}
+use Rattle.client_threads.specs.Going.{Answers, Entered, Left, MayGo, Went}
 use Rattle.client_threads.specs.declared.clients.Client.{Client}
 
 -- The beginning.
@@ -142,9 +141,10 @@ module _ (heap : HeapId) (queue : FreeQueue) (l : Limits) (script : List Command
   pub done : new.place ≡ place → new.failed ≡ not whole → IsDone heap l script place new
   done at failed = record {
     place_is = at;
-    seat_is =
-        (left.table ∙ front.went.same.table ∙ came.table ∙ ready.seat.seat_is.0,
-        left.shape ∙ shape);
+    seat_is = (
+      left.table ∙ front.went.same.table ∙ came.table ∙ ready.seat.seat_is.0,
+      left.shape ∙ shape,
+    );
     number_is = left.number ∙ front.went.same.number ∙ came.number ∙ ready.seat.number_is;
     over = left.over;
     left = record {

@@ -2,7 +2,7 @@
 --
 -- The held list, what is known of it, the pass and the claims are as before, and the trail shows
 -- more looks: so it is as if a turn was lost.
-use Rattle.std.proofs.Common.{◌≡◌, ◌≤◌, ◌+◌, ℕ, List, [], ◌++◌, length, sym}
+use Rattle.std.proofs.Common.{◌≡◌, ◌≤◌, ℕ, List, [], ◌++◌, length, sym}
 use Rattle.std.proofs.Common.{◌∙◌, ap, subst}
 use Rattle.std.proofs.Common.{arith}
 use Rattle.std.proofs.lemmas.List.{append-nil, append_assoc}
@@ -20,9 +20,8 @@ use Rattle.core_machine.specs.declared.events.Taken.{Taken}
 use Rattle.doc_records.specs.Trees.{IsTreeNode, tree_of}
 use Rattle.heap_rule.specs.declared.known.Known.{Known}
 use Rattle.mutator_seat.specs.Bound.{Bound}
-use Rattle.mutator_seat.specs.Stretches.{Calm, Kept}
+use Rattle.mutator_seat.specs.Stretches.{Calm}
 use Rattle.mutator_seat.proofs.Calm.{kept_same, kept_then}
-use Rattle.trails.specs.Asks.{Grown}
 use Rattle.trails.specs.Marks.{Mark, marks_from, marks_of}
 use Rattle.trails.proofs.Marks.{marks_append}
 use Rattle.version_rule.specs.Fits.{Grows}

@@ -1,3 +1,7 @@
+use Rattle.std.proofs.Common.{◌≡◌, ◌+◌, ℕ, suc, [], ◌∷◌, length, take}
+use Rattle.std.proofs.Common.{arith, subst}
+use Rattle.doc_model.specs.declared.command.Command.{Command}
+use Rattle.client_threads.specs.Going.{Went}
 use Rattle.client_threads.proofs.Going.{went_all, went_few, went_first, went_next, went_some}
 use Rattle.client_threads.proofs.answering.answer_all.Goals as goal
 
@@ -21,7 +25,27 @@ returns-then-not-take_turn g c = record {
 }
 
 pub loop-index-preserved : goal.loop-index-preserved
-loop-index-preserved g c = ?
+loop-index-preserved g c =
+    let same : suc c.loop-index.index ≡ c.loop-index.index + 1 = omega arith in
+    subst
+    (λ (k : ℕ). Went (take k c.args.script.now) c.args.session.now c.args.m.now
+    c.take_turn.new.session c.take_turn.new.m) same
+    (went_next c.args.script.now c.args.session.now c.args.m.now c.loop-index.index
+    c.loop-index.session c.loop-index.m c.loop-index.invariant c.index-script-index.result
+    c.loop-index-test.true c.take_turn.new.session c.take_turn.new.m
+    (subst
+    (λ (d : Command). Went (d ∷ []) c.loop-index.session c.loop-index.m c.take_turn.new.session
+    c.take_turn.new.m) c.index-script-index.is c.if-not-take_turn.ensures.went))
 
 pub returns : goal.returns
-returns g c = ?
+returns g c =
+    let last = c.loop-index.auto.index-end in
+    let past = c.loop-index-test.false in
+    let same : c.loop-index.index ≡ length c.args.script.now = omega (arith, last, past) in
+    record {
+      answers = went_all c.args.script.now c.args.session.now c.loop-index.session c.args.m.now
+          c.loop-index.m
+          (subst
+          (λ (k : ℕ). Went (take k c.args.script.now) c.args.session.now c.args.m.now
+          c.loop-index.session c.loop-index.m) same c.loop-index.invariant);
+    }
