@@ -1,6 +1,5 @@
 -- Clients by their places: the last one apart, and together with all others.
 use Rattle.std.proofs.Common.{◌≡◌, ◌+◌, ℕ, suc, List, [], ◌∷◌, ◌++◌, length, sym}
-use Rattle.std.proofs.Common.{◌∙◌, subst}
 use Rattle.std.proofs.Common.{◌∙◌, ap, arith, subst}
 use Rattle.std.specs.Prelude.{Vec}
 use Rattle.std.specs.declared.alloc.Global.{Global}
@@ -45,26 +44,28 @@ module _ (F : ℕ → Client → Type 0) where
       (front.0, all_both (place + 1) xs ys front.1 (sooner place xs ys back))
 
 module _ (heap : HeapId) (queue : FreeQueue) (l : Limits) (scripts : List (Vec Command Global))
-    where
-  abbrev pub ReadyAt : ℕ → Client → Type 0
-  ReadyAt place client = IsReady heap queue l (script_of scripts place) place client
+  where
+    abbrev pub ReadyAt : ℕ → Client → Type 0
+    ReadyAt place client = IsReady heap queue l (script_of scripts place) place client
 
-  abbrev pub DoneAt : ℕ → Client → Type 0
-  DoneAt place client = IsDone heap l (script_of scripts place) place client
+    abbrev pub DoneAt : ℕ → Client → Type 0
+    DoneAt place client = IsDone heap l (script_of scripts place) place client
 
-  -- the last one is ready at the place that it has
-  pub ready_last : (front : List Client) (last : Client)
-      → AllFrom ReadyAt 0 (front ++ last ∷ []) → ReadyAt last.place last
-  ready_last front last all =
-      let at = (all_back ReadyAt 0 front (last ∷ []) all).0 in
-      subst (λ (k : ℕ). ReadyAt k last) (sym at.place_is) at
+    -- the last one is ready at the place that it has
+    pub ready_last : (front : List Client) (last : Client)
+        → AllFrom ReadyAt 0 (front ++ last ∷ []) → ReadyAt last.place last
+    ready_last front last all =
+        let at = (all_back ReadyAt 0 front (last ∷ []) all).0 in
+        subst (λ (k : ℕ). ReadyAt k last) (sym at.place_is) at
 
-  -- and done there, behind all others
-  pub done_last : (front : List Client) (last : Client) (left : List Client) (now : Client)
-      → AllFrom ReadyAt 0 (front ++ last ∷ []) → length left ≡ length front
-      → AllFrom DoneAt 0 left → DoneAt last.place now → AllFrom DoneAt 0 (left ++ now ∷ [])
-  done_last front last left now all many others done =
-      let at = (all_back ReadyAt 0 front (last ∷ []) all).0 in
-      all_both DoneAt 0 left (now ∷ []) others
-      (subst (λ (k : ℕ). DoneAt k now)
-      (at.place_is ∙ ap (λ (k : ℕ). 0 + k) (sym many)) done, tt)
+    -- and done there, behind all others
+    pub done_last : (front : List Client) (last : Client) (left : List Client) (now : Client)
+        → AllFrom ReadyAt 0 (front ++ last ∷ []) → length left ≡ length front
+        → AllFrom DoneAt 0 left → DoneAt last.place now → AllFrom DoneAt 0 (left ++ now ∷ [])
+    done_last front last left now all many others done =
+        let at = (all_back ReadyAt 0 front (last ∷ []) all).0 in
+        all_both DoneAt 0 left (now ∷ []) others (
+          subst (λ (k : ℕ). DoneAt k now)
+              (at.place_is ∙ ap (λ (k : ℕ). 0 + k) (sym many)) done,
+          tt,
+        )
