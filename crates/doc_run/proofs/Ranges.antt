@@ -2,6 +2,7 @@
 use Rattle.std.proofs.Common.{◌≡◌, ℕ, ◌≤◌, List, [], ◌∷◌, length, arith}
 use Rattle.std.specs.Prelude.{All, Vec, sum_by}
 use Rattle.std.specs.declared.alloc.Global.{Global}
+use Rattle.std.proofs.lemmas.List.Elements.{All-cons, All-nil}
 use Rattle.std.proofs.lemmas.List.Sums.{sum_by-cons}
 use Rattle.doc_model.specs.declared.command.Command.{Command}
 use Rattle.run_words.specs.Limits.{IsRunWithin}
@@ -35,9 +36,10 @@ default_within = record {
 pub each_short : (scripts : List (Vec Command Global))
     → sum_by (λ script. length script.items) scripts ≤ 100000
     → All (λ script. length script.items ≤ 100000) scripts
-each_short [] short = tt
+each_short [] short = All-nil (λ (s : Vec Command Global). length s.items ≤ 100000)
 each_short (script ∷ scripts) short =
     let sum = sum_by-cons (λ (s : Vec Command Global). length s.items) script scripts in
-    (omega (arith, sum, short), each_short scripts (omega (arith, sum, short)))
+    All-cons (λ (s : Vec Command Global). length s.items ≤ 100000) script scripts
+    (omega (arith, sum, short)) (each_short scripts (omega (arith, sum, short)))
 
 pub ruleset ranges = (options_within, default_within)

@@ -22,13 +22,6 @@ use Rattle.store_run.specs.declared.finished.Finished.{Finished}
 use Rattle.doc_run.specs.Clients.{ComesBy, IsMade, default_options}
 use Rattle.doc_run.specs.Ending.{IsSummaryOf, numbers_of}
 
--- the logs have as many entries as the scripts have commands
-entries_of_logs : (logs : List ClientLog) (scripts : List (List Command))
-    → map commands_of logs ≡ scripts
-    → sum_by (λ (g : ClientLog). length g.entries) logs ≡ sum_by length scripts
-entries_of_logs logs scripts is = subst
-    (λ s. sum_by (λ (g : ClientLog). length g.entries) logs ≡ sum_by length s) is (each logs)
-
 each : (logs : List ClientLog)
     → sum_by (λ (g : ClientLog). length g.entries) logs ≡ sum_by length (map commands_of logs)
 each [] = refl
@@ -42,6 +35,13 @@ each (log ∷ logs) =
       sum_by-cons (λ (g : ClientLog). length g.entries) log logs,
       sum_by-cons length (commands_of log) (map commands_of logs),
     )
+
+-- the logs have as many entries as the scripts have commands
+entries_of_logs : (logs : List ClientLog) (scripts : List (List Command))
+    → map commands_of logs ≡ scripts
+    → sum_by (λ (g : ClientLog). length g.entries) logs ≡ sum_by length scripts
+entries_of_logs logs scripts is = subst
+    (λ s. sum_by (λ (g : ClientLog). length g.entries) logs ≡ sum_by length s) is (each logs)
 
 -- a merged history is not too long to be looked at
 pub few_entries : (made : GenWords) (f : Finished) (merged : List Entry)

@@ -80,14 +80,26 @@ fn lines_of(
 fn commits_in(merged: &[Entry]) -> usize
     ensures { result ≡ count_by (λ entry. is_ok entry.reply) merged.now }
 {
-    merged.iter().filter(|entry| entry.reply.is_ok()).count()
+    let mut count = 0;
+    for entry in merged {
+        if entry.reply.is_ok() {
+            count += 1;
+        }
+    }
+    count
 }
 
 // How many found the heap full.
 fn full_in(merged: &[Entry]) -> usize
     ensures { result ≡ count_by (λ entry. is_full entry.reply) merged.now }
 {
-    merged.iter().filter(|entry| entry.reply.is_full()).count()
+    let mut count = 0;
+    for entry in merged {
+        if entry.reply.is_full() {
+            count += 1;
+        }
+    }
+    count
 }
 
 fn verdict(legal: bool) -> &'static str
