@@ -9,7 +9,13 @@ use Rattle.script_files.proofs.Files.{always}
 use Rattle.script_files.specs.Files.{IfTold, OpensInTurn}
 use Rattle.script_files.specs.Replayed.{IsFaultySchedule, IsSchedule}
 use Rattle.script_files.specs.Scripts.{IsDue, IsUnhindered, largest_file, most_commands, scripts_of}
-use Rattle.doc_run.proofs.Due.{wanting_due}
+use Rattle.doc_run.proofs.Due.{run_due, wanting_due}
+use Rattle.script_files.specs.Fault.{status_of}
+use Rattle.script_files.specs.Scripts.{AreScripts}
+use Rattle.script_files.specs.declared.fault.Fault.{Fault}
+use Rattle.store_run.specs.declared.finished.Finished.{Finished}
+use Rattle.doc_run.specs.Clients.{options_of}
+use Rattle.doc_run.specs.Ending.{Explains}
 use Rattle.doc_run.specs.Ending.{OpensFiles, WritesMadePart, WritesPartOf, printed_of}
 use Rattle.doc_run.specs.Ending.{IsSummaryOf, WritesPart}
 use Rattle.doc_run.specs.Clients.{IsMade, default_options}
@@ -78,10 +84,10 @@ pub unread_complete : (asked : Option Asked) (holds : List ℕ → Option (List 
     → (status ≡ 0) ⊎ (status ≡ 3) ⊎ (status ≡ 4) ⊎ (status ≡ 5))
 unread_complete asked holds status is = if_replay asked _ (λ name good. inr (inr (inr is)))
 
-made_unwritten : (print : Option ℕ) (Run : Type 0) (Print : ℕ → Type 0) → Run
-    → ((client : ℕ) → Print client) → ByPrint print Run Print
-made_unwritten None Run Print run print = run
-made_unwritten (Some client) Run Print run print = print client
+made_unwritten : (print : Option ℕ) (Whole : Type 0) (One : ℕ → Type 0) → Whole
+    → ((client : ℕ) → One client) → ByPrint print Whole One
+made_unwritten None Whole One whole one = whole
+made_unwritten (Some client) Whole One whole one = one client
 
 pub unwritten_part : (asked : Option Asked) (holds : List ℕ → Option (List ℕ))
     (old new : Option (List ℕ)) → new ≡ old → WritesPartOf holds asked old new
@@ -109,6 +115,18 @@ pub opens_all : (status before now files : ℕ) → OpensInTurn before now files
     → OpensFiles status before now files
 opens_all status before now files is = (is.0, is.1, (λ other. is.2), is.3)
 
+-- the status of a run whose words are known
+pub due_asked : (asked : Option Asked) (run : RunAsked) (holds : List ℕ → Option (List ℕ))
+    (fault : Option Fault) (finished : Option Finished) (status : ℕ) → asked ≡ Some (Run run)
+    → status ≡ status_of fault
+    → Explains (AreScripts (map holds run.files)) (options_of run) fault finished
+    → IfRun asked (λ these. IfTold (map holds these.files) (λ contents.
+    IsDue (scripts_of contents) status))
+due_asked asked run holds fault finished status is same explained =
+    subst (λ a. IfRun a (λ these. IfTold (map holds these.files) (λ contents.
+    IsDue (scripts_of contents) status))) (sym is)
+    (run_due (map holds run.files) (options_of run) fault finished status same explained)
+
 pub ruleset asking = (
   unread_scripts,
   unread_large_made,
@@ -121,4 +139,5 @@ pub ruleset asking = (
   opens_no_file,
   opens_one,
   opens_all,
+  due_asked,
 )

@@ -44,7 +44,7 @@ entries_of_logs logs scripts is = subst
     (λ s. sum_by (λ (g : ClientLog). length g.entries) logs ≡ sum_by length s) is (each logs)
 
 -- a merged history is not too long to be looked at
-pub few_entries : (made : GenWords) (f : Finished) (merged : List Entry)
+few_entries : (made : GenWords) (f : Finished) (merged : List Entry)
     → ComesBy (IsMade made) default_options f → IsMerge f.logs.items merged
     → length merged ≤ 100000
 few_entries made f merged comes is =
@@ -70,7 +70,7 @@ logs_many made f comes =
     ∙ texts_length made.start made.commands 1 made.clients
 
 -- so the summary says that it is one of a store
-pub is_summary : (made : GenWords) (f : Finished) (merged : List Entry) (legal : Bool)
+is_summary : (made : GenWords) (f : Finished) (merged : List Entry) (legal : Bool)
     (numbers : Made) (text : List ℕ) → ComesBy (IsMade made) default_options f
     → IsMerge f.logs.items merged
     → (IsTrue legal ↔ IsLegal (opening made.clients (record { keep = 8; versions = 1000000 }))
@@ -88,4 +88,24 @@ is_summary made f merged legal numbers text comes is looked same said =
           ∙ ap (λ l. summary_text_of (numbers_of made) merged f.totals.nodes l) yes,
     )
 
-pub ruleset summaries = (few_entries, is_summary)
+-- the same in the terms of the code, which lends the logs and the history
+pub few_looked : (made : GenWords) (f : Finished) (logs : List ClientLog)
+    (merged looked : List Entry) → ComesBy (IsMade made) default_options f
+    → logs ≡ f.logs.items → IsMerge logs merged → looked ≡ merged → length looked ≤ 100000
+few_looked made f logs merged looked comes lent is same =
+    let few = few_entries made f merged comes (subst (λ l. IsMerge l merged) lent is) in
+    subst (λ l. length l ≤ 100000) (sym same) few
+
+pub summary_told : (made : GenWords) (f : Finished) (logs : List ClientLog)
+    (merged looked written : List Entry) (legal : Bool) (numbers : Made) (text : List ℕ)
+    → ComesBy (IsMade made) default_options f → logs ≡ f.logs.items → IsMerge logs merged
+    → looked ≡ merged
+    → (IsTrue legal ↔ IsLegal (opening made.clients (record { keep = 8; versions = 1000000 }))
+    looked) → numbers ≡ numbers_of made → written ≡ merged
+    → text ≡ summary_text_of numbers written f.totals.nodes legal → IsSummaryOf made f text
+summary_told made f logs merged looked written legal numbers text comes lent is same told by last
+    said =
+    is_summary made f merged legal numbers text comes (subst (λ l. IsMerge l merged) lent is)
+    (subst (λ l. IsTrue legal
+    ↔ IsLegal (opening made.clients (record { keep = 8; versions = 1000000 })) l) same told) by
+    (said ∙ ap (λ l. summary_text_of numbers l f.totals.nodes legal) last)

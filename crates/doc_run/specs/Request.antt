@@ -55,5 +55,5 @@ IfGen (Some (Gen made)) Fact = Fact made
 
 -- the one fact where no script is printed, else the other of the client whose script it is
 abbrev pub ByPrint : Option ℕ → Type 0 → (ℕ → Type 0) → Type 0
-ByPrint None Run Print = Run
-ByPrint (Some client) Run Print = Print client
+ByPrint None Whole One = Whole
+ByPrint (Some client) Whole One = One client

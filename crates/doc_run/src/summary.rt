@@ -16,7 +16,6 @@ const KEEP: u32 = 8;
 const VERSIONS: u32 = 1_000_000;
 
 /// The summary of what a run of generated scripts came to.
-#[tactic(auto, using(crate::proofs::Summaries::summaries))]
 pub fn summary_of(alloc: Global, made: GenWords, finished: &Finished) -> Result<Vec<u8>, NoMemory>
     requires within { IsGenWithin made }
     requires few { made.clients * made.commands ≤ 100_000 }
