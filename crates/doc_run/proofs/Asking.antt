@@ -6,7 +6,7 @@ use Rattle.outside.specs.Causes.{next_count}
 use Rattle.run_words.specs.Requests.{Asked, Run, Replay, Gen, RunAsked}
 use Rattle.run_words.specs.declared.request.GenWords.{GenWords}
 use Rattle.script_files.proofs.Files.{always}
-use Rattle.script_files.specs.Files.{IfTold, OpensInTurn}
+use Rattle.script_files.specs.Files.{IfTold, OpensInTurn, files_read}
 use Rattle.script_files.specs.Replayed.{IsFaultySchedule, IsSchedule}
 use Rattle.script_files.specs.Scripts.{IsDue, IsUnhindered, largest_file, most_commands, scripts_of}
 use Rattle.doc_run.proofs.Due.{run_due, wanting_due}
@@ -19,7 +19,7 @@ use Rattle.doc_run.specs.Ending.{Explains}
 use Rattle.doc_run.specs.Ending.{OpensFiles, WritesMadePart, WritesPartOf, printed_of}
 use Rattle.doc_run.specs.Ending.{IsSummaryOf, WritesPart}
 use Rattle.doc_run.specs.Clients.{IsMade, default_options}
-use Rattle.doc_run.specs.Request.{ByPrint, IfGen, IfReplay, IfRun}
+use Rattle.doc_run.specs.Request.{ByPrint, IfGen, IfReplay, IfRun, names_of}
 
 if_run : (asked : Option Asked) (Fact : RunAsked → Type 0) → ((run : RunAsked) → Fact run)
     → IfRun asked Fact
@@ -127,6 +127,14 @@ due_asked asked run holds fault finished status is same explained =
     IsDue (scripts_of contents) status))) (sym is)
     (run_due (map holds run.files) (options_of run) fault finished status same explained)
 
+-- the file of a replay
+pub opens_replay : (asked : Option Asked) (name : List ℕ) (status before now : ℕ)
+    → asked ≡ Some (Replay name) → now ≡ next_count before
+    → OpensFiles status before now (files_read (length (names_of asked)))
+opens_replay asked name status before now is first =
+    subst (λ a. OpensFiles status before now (files_read (length (names_of a)))) (sym is)
+    (opens_one status before now first)
+
 pub ruleset asking = (
   unread_scripts,
   unread_large_made,
@@ -140,4 +148,5 @@ pub ruleset asking = (
   opens_one,
   opens_all,
   due_asked,
+  opens_replay,
 )

@@ -1,5 +1,6 @@
 pub mod Ranges
 pub mod Due
+pub mod Making
 pub mod Asking
 pub mod Parts
 pub mod Summaries
