@@ -1,6 +1,5 @@
 pub mod Ranges
 pub mod Due
-pub mod Making
 pub mod Asking
 pub mod Parts
 pub mod Summaries

@@ -39,7 +39,7 @@ use std::thread::Threads;
 
 /// Answers the words of a command line: reads from the shelf what they name, and writes the answer
 /// to the sink. Clients run in threads of their own; before each command its client asks the gate.
-#[tactic(auto, using(crate::proofs::Asking::asking, crate::proofs::Making::making))]
+#[tactic(auto, using(crate::proofs::Asking::asking))]
 pub fn run<R: Threads + Wait + Sync, H: Shelf, S: Sink, G: Gate + Sync>(
     alloc: Global,
     rt: &R,
