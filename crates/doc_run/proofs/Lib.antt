@@ -1,4 +1,5 @@
-mod Sessions
-mod Files
-mod Opens
-mod Turns
+pub mod Ranges
+pub mod Due
+pub mod Asking
+pub mod Parts
+pub mod Summaries

@@ -1,9 +1,3 @@
 pub mod Request
-pub mod Fault
-pub mod Files
-pub mod Output
-pub mod Scripts
-pub mod Session
-pub mod Reading
-pub mod Replayed
+pub mod Clients
 pub mod Ending

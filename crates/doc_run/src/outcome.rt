@@ -1,15 +1,15 @@
 ghost use Rattle.std.specs.Prelude.{◌≡◌, Some, None};
-ghost use Rattle.doc_run.specs.Fault.{status_of};
+ghost use Rattle.script_files.specs.Fault.{status_of};
 
-use crate::fault::{Fault, status};
-use doc_model::Log;
+use script_files::{Fault, status};
+use store_run::Finished;
 
-/// How a run ended: its status, the fault that the status stands for, and the log of each client,
-/// where scripts were answered.
+/// How a run ended: its status, the fault that the status stands for, and what a run of clients
+/// came to, where one was finished.
 pub struct Outcome {
     pub status: u8,
     pub fault: Option<Fault>,
-    pub logs: Option<Vec<Log>>,
+    pub finished: Option<Finished>,
 }
 
 impl Drop for Outcome {
@@ -17,28 +17,28 @@ impl Drop for Outcome {
         let Outcome {
             status: _,
             fault: _,
-            logs: _logs,
+            finished: _finished,
         } = self;
     }
 }
 
 impl Outcome {
-    pub(crate) fn new(fault: Option<Fault>, logs: Option<Vec<Log>>) -> Outcome
+    pub(crate) fn new(fault: Option<Fault>, finished: Option<Finished>) -> Outcome
         ensures status { result.status ≡ status_of fault }
         ensures fault { result.fault ≡ fault }
-        ensures logs { result.logs ≡ logs }
+        ensures finished { result.finished ≡ finished }
     {
         Outcome {
             status: status(fault),
             fault,
-            logs,
+            finished,
         }
     }
 
     pub(crate) fn refused(fault: Fault) -> Outcome
         ensures status { result.status ≡ status_of (Some fault) }
         ensures fault { result.fault ≡ Some fault }
-        ensures logs { result.logs ≡ None }
+        ensures finished { result.finished ≡ None }
     {
         Outcome::new(Some(fault), None)
     }

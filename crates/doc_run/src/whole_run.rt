@@ -1,68 +1,93 @@
 //! The top call.
 //!
 //! All lines are made before the first of them is written, so a refusal writes nothing. Where the
-//! shelf does not tell what a file holds, the clauses speak of some bytes that it may have held.
-ghost use Rattle.std.specs.Prelude.{◌≡◌, ℕ, ◌+◌, ◌*◌, ◌≤◌, ◌<◌, ◌⊎◌, ◌↔◌, Err, None, Some};
-ghost use Rattle.std.specs.Prelude.{IsSome};
-ghost use Rattle.std.specs.Prelude.{IsNone, IsSomeAnd, IfSome, length, map, string_bytes};
+//! shelf does not tell what a file holds, the clauses speak of some bytes that it may have held. The
+//! words are read with memory, so want of it may come before all else.
+ghost use Rattle.std.specs.Prelude.{◌≡◌, ◌≢◌, ℕ, ◌+◌, ◌*◌, ◌≤◌, ◌<◌, ◌⊎◌, ◌↔◌, Err, None, Some};
+ghost use Rattle.std.specs.Prelude.{IsSome, IsNone, IsSomeAnd, IfSome, length, map};
 ghost use Rattle.std.specs.Io.KnownBytes.{Appends};
 ghost use Rattle.outside.specs.Calls.{IsUnbroken, IsOrderly};
 ghost use Rattle.outside.specs.Causes.{Rose, next_count};
 ghost use Rattle.outside.specs.Pieces.{AppendsPart};
 ghost use Rattle.cmd_text.specs.declared.fault.ScriptKind.{ScriptKind};
 ghost use Rattle.core_replay.specs.declared.fault.ScheduleKind.{ScheduleKind};
-ghost use Rattle.doc_run.specs.Ending.{IsRefusal, Explains, ExplainsReplay, OpensInTurn};
-ghost use Rattle.doc_run.specs.Ending.{Writes, WritesFront, WritesPartOf, WritesReplay};
-ghost use Rattle.doc_run.specs.Ending.{WritesText};
-ghost use Rattle.doc_run.specs.Fault.{status_of};
-ghost use Rattle.doc_run.specs.Files.{IfTold, opened};
-ghost use Rattle.doc_run.specs.Output.{output_of};
-ghost use Rattle.doc_run.specs.Replayed.{IsFaultySchedule, IsReading, IsSchedule};
-ghost use Rattle.doc_run.specs.Request.{IfReplay, IfRun, IsReplayAnd, IsRun, IsRunAnd};
-ghost use Rattle.doc_run.specs.Request.{names_of, request_of};
-ghost use Rattle.doc_run.specs.Scripts.{AreScripts, IsDue, IsUnhindered, largest_file};
-ghost use Rattle.doc_run.specs.Scripts.{scripts_of};
-ghost use Rattle.doc_run.specs.Session.{AreLogs};
+ghost use Rattle.doc_run.specs.Clients.{ComesBy, IsMade, default_options, options_of};
+ghost use Rattle.doc_run.specs.Ending.{IsRefusal, Explains, ExplainsReplay, IsOutputOf};
+ghost use Rattle.doc_run.specs.Ending.{IsSummaryOf, OpensFiles, Writes, WritesAll, WritesFront};
+ghost use Rattle.doc_run.specs.Ending.{WritesPartOf, WritesReplay, printed_of, shown_of};
+ghost use Rattle.doc_run.specs.Request.{ByPrint, IfGen, IfReplay, IfRun, IsReplayAnd, IsRunAnd};
+ghost use Rattle.doc_run.specs.Request.{RunsClients, names_of};
+ghost use Rattle.run_words.specs.Limits.{IsRunWithin};
+ghost use Rattle.run_words.specs.Requests.{request_of, run_asked_by};
+ghost use Rattle.script_files.specs.Fault.{status_of};
+ghost use Rattle.script_files.specs.Files.{IfTold, OpensInTurn, files_read, opened};
+ghost use Rattle.script_files.specs.Replayed.{IsFaultySchedule, IsReading, IsSchedule, IsTextOf};
+ghost use Rattle.script_files.specs.Scripts.{AreScripts, IsDue, IsUnhindered, largest_file};
+ghost use Rattle.script_files.specs.Scripts.{most_commands, scripts_of};
 
-use crate::fault::Fault;
+use crate::clients::run_files;
+use crate::generated::run_generated;
 use crate::outcome::Outcome;
-use crate::output::output_text;
-use crate::replayed::replay_in_file;
-use crate::request::Request;
-use crate::session::logs_in_files;
 use crate::words::Words;
-use outside::{OutFault, READ_LIMIT, Shelf, Sink, write_all, write_lines};
+use outside::{Gate, OutFault, READ_LIMIT, Shelf, Sink, write_all, write_lines};
+use run_output::{Shown, output_text};
+use run_words::{Request, RunWords, WordsFault, read_words};
+use script_files::{Fault, replay_in_file};
 use std::alloc::Global;
+use std::sync::Wait;
+use std::thread::Threads;
 
 /// Answers the words of a command line: reads from the shelf what they name, and writes the answer
-/// to the sink.
-#[tactic(auto, using(crate::proofs::Opens::openings, crate::proofs::Files::due))]
-pub fn run<H: Shelf, S: Sink>(alloc: Global, words: &Words, shelf: &mut H, sink: &mut S) -> Outcome
+/// to the sink. Clients run in threads of their own; before each command its client asks the gate.
+#[tactic(auto, using(crate::proofs::Asking::asking))]
+pub fn run<R: Threads + Wait + Sync, H: Shelf, S: Sink, G: Gate + Sync>(
+    alloc: Global,
+    rt: &R,
+    words: &Words,
+    shelf: &mut H,
+    sink: &mut S,
+    gate: &G,
+) -> Outcome
     ensures status { result.status ≡ status_of result.fault }
-    ensures logs { IsSome result.logs
-        ↔ (IsRun (request_of words.now) × ((result.status ≡ 0) ⊎ (result.status ≡ 4))) }
+    ensures finished { IsSome result.finished
+        ↔ (RunsClients (request_of words.now) × ((result.status ≡ 0) ⊎ (result.status ≡ 4))) }
 
-    // Done: the logs are those of the files' commands, and their output is all that was written; or
-    // the replay text of the file's schedule is all that was written.
-    ensures done { result.status ≡ 0 → IfRun (request_of words.now) (λ names.
-        IsSomeAnd result.logs (λ logs. AreLogs (map (H.holds shelf.old) names) logs.items
-        × Appends (S.written sink.old) (S.written sink.new) (output_of logs.items))) }
+    // Done: what the run of the files' scripts came to, and its output is all that was written; or
+    // the same of generated scripts, and their summary; or the script that was asked for; or the
+    // replay text of the file's schedule.
+    ensures done { result.status ≡ 0 → IfRun (request_of words.now) (λ run.
+        IsSomeAnd result.finished (λ f.
+        ComesBy (AreScripts (map (H.holds shelf.old) run.files)) (options_of run) f
+        × WritesAll (IsOutputOf run f) (S.written sink.old) (S.written sink.new))) }
+    ensures made { result.status ≡ 0 → IfGen (request_of words.now) (λ made.
+        ByPrint made.print (IsSomeAnd result.finished (λ f.
+        ComesBy (IsMade made) default_options f
+        × WritesAll (IsSummaryOf made f) (S.written sink.old) (S.written sink.new)))
+        (λ client. Appends (S.written sink.old) (S.written sink.new) (printed_of made client))) }
     ensures replayed { result.status ≡ 0 → IfReplay (request_of words.now) (λ name.
-        WritesText (H.holds shelf.old name) (S.written sink.old) (S.written sink.new)) }
+        WritesAll (IsTextOf (H.holds shelf.old name)) (S.written sink.old) (S.written sink.new)) }
 
     // Refused for its words, or for the files, where the shelf tells what they hold: the status is
     // that which is due, and with good files it is 0, or a device failed, or memory was wanting.
-    ensures usage { (result.status ≡ 1) ↔ IsNone (request_of words.now) }
-    ensures scripts { IfRun (request_of words.now) (λ names.
-        IfTold (map (H.holds shelf.old) names) (λ contents.
+    ensures usage { (result.status ≡ 1)
+        ↔ ((result.status ≢ 5) × IsNone (request_of words.now)) }
+    ensures scripts { IfRun (request_of words.now) (λ run.
+        IfTold (map (H.holds shelf.old) run.files) (λ contents.
         IsDue (scripts_of contents) result.status)) }
     ensures script_line { (file line : ℕ) (kind : ScriptKind) →
         result.fault ≡ Some (Fault.Script file line kind) →
-        IsRunAnd (request_of words.now) (λ names.
-        AreScripts (map (H.holds shelf.old) names) (Err (Fault.Script file line kind))) }
+        IsRunAnd (request_of words.now) (λ run.
+        AreScripts (map (H.holds shelf.old) run.files) (Err (Fault.Script file line kind))) }
     ensures large_file { (file : ℕ) → result.fault ≡ Some (Fault.TooLarge file) →
-        IfRun (request_of words.now) (λ names.
-        AreScripts (map (H.holds shelf.old) names) (Err (Fault.TooLarge file))) }
+        IfRun (request_of words.now) (λ run.
+        AreScripts (map (H.holds shelf.old) run.files) (Err (Fault.TooLarge file))) }
+    ensures large_made { IfGen (request_of words.now) (λ made. (result.status ≡ 6)
+        ↔ ((result.status ≢ 5) × (most_commands < made.clients * made.commands))) }
+    ensures large_made_file { (file : ℕ) → result.fault ≡ Some (Fault.TooLarge file) →
+        IfGen (request_of words.now) (λ made. file ≡ 0) }
+    ensures complete_made { IfGen (request_of words.now) (λ made.
+        made.clients * made.commands ≤ most_commands
+        → (result.status ≡ 0) ⊎ (result.status ≡ 4) ⊎ (result.status ≡ 5)) }
     ensures schedule { IfReplay (request_of words.now) (λ name.
         IfSome (H.holds shelf.old name) (λ bytes.
         (result.status ≡ 2) ↔ (IsUnhindered result.status × IsFaultySchedule bytes))) }
@@ -86,11 +111,19 @@ pub fn run<H: Shelf, S: Sink>(alloc: Global, words: &Words, shelf: &mut H, sink:
     ensures read_file { (file : ℕ) → result.fault ≡ Some (Fault.ReadFault file) →
         H.opens shelf.new ≡ opened (H.opens shelf.old) file }
     ensures write { result.status ≡ 4 → Rose (S.faults sink.old) (S.faults sink.new) }
-    ensures write_part { result.status ≡ 4 → IfRun (request_of words.now) (λ names.
-        IsSomeAnd result.logs (λ logs. AreLogs (map (H.holds shelf.old) names) logs.items
-        × AppendsPart (S.written sink.old) (S.written sink.new) (output_of logs.items))) }
+    ensures write_part { result.status ≡ 4 → IfRun (request_of words.now) (λ run.
+        IsSomeAnd result.finished (λ f.
+        ComesBy (AreScripts (map (H.holds shelf.old) run.files)) (options_of run) f
+        × WritesFront (IsOutputOf run f) (S.written sink.old) (S.written sink.new))) }
+    ensures write_made { result.status ≡ 4 → IfGen (request_of words.now) (λ made.
+        ByPrint made.print (IsSomeAnd result.finished (λ f.
+        ComesBy (IsMade made) default_options f
+        × WritesFront (IsSummaryOf made f) (S.written sink.old) (S.written sink.new)))
+        (λ client. AppendsPart (S.written sink.old) (S.written sink.new)
+        (printed_of made client))) }
     ensures write_front { result.status ≡ 4 → IfReplay (request_of words.now) (λ name.
-        WritesFront (H.holds shelf.old name) (S.written sink.old) (S.written sink.new)) }
+        WritesFront (IsTextOf (H.holds shelf.old name)) (S.written sink.old)
+        (S.written sink.new)) }
     ensures memory { result.status ≡ 5 → (S.written sink.new ≡ S.written sink.old)
         ⊎ Rose (S.wants sink.old) (S.wants sink.new) }
     ensures memory_part { result.status ≡ 5 → WritesPartOf (H.holds shelf.old)
@@ -102,32 +135,39 @@ pub fn run<H: Shelf, S: Sink>(alloc: Global, words: &Words, shelf: &mut H, sink:
     ensures orderly_sink { IsUnbroken (S.course sink.old) → IsOrderly (S.course sink.new) }
 
     // A file is opened once at most, and each further call but the last takes at least a byte of
-    // it.
-    ensures opens { OpensInTurn (H.opens shelf.old) (H.opens shelf.new)
-        (length (names_of (request_of words.now))) }
+    // it. Too many files are not opened at all.
+    ensures opens { OpensFiles result.status (H.opens shelf.old) (H.opens shelf.new)
+        (files_read (length (names_of (request_of words.now)))) }
     ensures calls { H.calls shelf.new ≤ H.calls shelf.old
-        + length (names_of (request_of words.now)) * (READ_LIMIT + 1) }
+        + files_read (length (names_of (request_of words.now))) * (READ_LIMIT + 1) }
 {
-    match words.request() {
-        None => Outcome::refused(Fault::Usage),
-        Some(Request::Run { names }) => run_scripts(alloc, names, shelf, sink),
-        Some(Request::Replay { name }) => run_schedule(alloc, name, shelf, sink),
+    match read_words(alloc, words.all()) {
+        Ok(Request::Run(run)) => run_scripts(alloc, rt, &run, shelf, sink, gate),
+        Ok(Request::Replay(name)) => run_schedule(alloc, name, shelf, sink),
+        Ok(Request::Gen(made)) => run_generated(alloc, rt, made, sink, gate),
+        Err(WordsFault::Usage) => Outcome::refused(Fault::Usage),
+        Err(WordsFault::NoMemory) => Outcome::refused(Fault::Memory),
     }
 }
 
-// Answers the scripts in the files of these names.
-fn run_scripts<H: Shelf, S: Sink>(
+// Answers the scripts in the files of the words.
+fn run_scripts<R: Threads + Wait + Sync, H: Shelf, S: Sink, G: Gate + Sync>(
     alloc: Global,
-    names: &[String],
+    rt: &R,
+    run: &RunWords<'_>,
     shelf: &mut H,
     sink: &mut S,
+    gate: &G,
 ) -> Outcome
-    requires one { length names.now ≡ 1 }
+    requires within { IsRunWithin run.now }
     ensures status { result.status ≡ status_of result.fault }
-    ensures explained { Explains (map (H.holds shelf.old) (map string_bytes names.now))
-        result.fault result.logs }
-    ensures written { Writes (map (H.holds shelf.old) (map string_bytes names.now))
-        (S.written sink.old) (S.written sink.new) result.fault result.logs }
+    ensures explained { Explains
+        (AreScripts (map (H.holds shelf.old) (run_asked_by run.now).files))
+        (options_of (run_asked_by run.now)) result.fault result.finished }
+    ensures written { Writes
+        (AreScripts (map (H.holds shelf.old) (run_asked_by run.now).files))
+        (options_of (run_asked_by run.now)) (IsOutputOf (run_asked_by run.now))
+        (S.written sink.old) (S.written sink.new) result.fault result.finished }
     ensures read { result.status ≡ 3 → Rose (H.faults shelf.old) (H.faults shelf.new) }
     ensures read_file { (file : ℕ) → result.fault ≡ Some (Fault.ReadFault file) →
         H.opens shelf.new ≡ opened (H.opens shelf.old) file }
@@ -136,21 +176,33 @@ fn run_scripts<H: Shelf, S: Sink>(
         ⊎ Rose (S.wants sink.old) (S.wants sink.new) }
     ensures orderly_shelf { IsUnbroken (H.course shelf.old) → IsOrderly (H.course shelf.new) }
     ensures orderly_sink { IsUnbroken (S.course sink.old) → IsOrderly (S.course sink.new) }
-    ensures opens { OpensInTurn (H.opens shelf.old) (H.opens shelf.new) (length names.now) }
+    ensures opens { OpensInTurn (H.opens shelf.old) (H.opens shelf.new)
+        (files_read (length run.now.files.items)) }
     ensures calls { H.calls shelf.new
-        ≤ H.calls shelf.old + length names.now * (READ_LIMIT + 1) }
+        ≤ H.calls shelf.old + files_read (length run.now.files.items) * (READ_LIMIT + 1) }
 {
-    let logs = match logs_in_files(alloc, names, shelf) {
-        Ok(logs) => logs,
+    let finished = match run_files(alloc, rt, run, shelf, gate) {
+        Ok(finished) => finished,
         Err(fault) => return Outcome::refused(fault),
     };
-    let Ok(text) = output_text(alloc, &logs) else {
+    let shown = shown(run);
+    let Ok(text) = output_text(alloc, shown, &finished.logs, &finished.totals) else {
         return Outcome::refused(Fault::Memory);
     };
     match write_lines(sink, &text) {
-        Ok(()) => Outcome::new(None, Some(logs)),
-        Err(OutFault::Failed) => Outcome::new(Some(Fault::WriteFault), Some(logs)),
+        Ok(()) => Outcome::new(None, Some(finished)),
+        Err(OutFault::Failed) => Outcome::new(Some(Fault::WriteFault), Some(finished)),
         Err(OutFault::NoMemory) => Outcome::refused(Fault::Memory),
+    }
+}
+
+// What is written behind the replies.
+fn shown(run: &RunWords<'_>) -> Shown
+    ensures { result ≡ shown_of (run_asked_by run.now) }
+{
+    Shown {
+        history: run.history,
+        stats: run.stats,
     }
 }
 
@@ -162,7 +214,7 @@ fn run_schedule<H: Shelf, S: Sink>(
     sink: &mut S,
 ) -> Outcome
     ensures status { result.status ≡ status_of result.fault }
-    ensures logs { result.logs ≡ None }
+    ensures finished { result.finished ≡ None }
     ensures explained { ExplainsReplay (H.holds shelf.old name.now) result.fault }
     ensures written { WritesReplay (H.holds shelf.old name.now) (S.written sink.old)
         (S.written sink.new) result.fault }

@@ -1,7 +1,5 @@
-ghost use Rattle.std.specs.Prelude.{◌≡◌, [], ◌∷◌, ◌++◌, OnOk, OnErr};
-ghost use Rattle.doc_run.specs.Request.{AsksForOne, asked_by, request_of};
+ghost use Rattle.std.specs.Prelude.{◌≡◌, [], ◌∷◌, ◌++◌, OnOk, OnErr, map, string_bytes};
 
-use crate::request::Request;
 use doc_model::NoMemory;
 use std::alloc::Global;
 use std::marker::Model;
@@ -44,19 +42,10 @@ impl Words {
         Ok(())
     }
 
-    /// What the words ask for, or nothing where they are none of the program's command lines.
-    pub fn request(&self) -> Option<Request<'_>>
-        ensures asked { asked_by result ≡ request_of self.now }
-        ensures one { AsksForOne result }
+    /// All words, in order.
+    pub fn all(&self) -> &[String]
+        ensures { map string_bytes result.now ≡ self.now }
     {
-        match self.words.as_slice() {
-            [word, names @ ..] if word.as_str() == "run" && names.len() == 1 => {
-                Some(Request::Run { names })
-            }
-            [word, name] if word.as_str() == "replay" => Some(Request::Replay {
-                name: name.as_str(),
-            }),
-            _ => None,
-        }
+        self.words.as_slice()
     }
 }

@@ -1,35 +1,38 @@
-//! The program `docheap`: a versioned store of documents answers the commands of scripts, or a
-//! schedule of the collector is replayed.
+//! The program `docheap`: clients, each with a script, work on a versioned store of documents on the
+//! collected heap, or a schedule of the collector is replayed.
 //!
 //! `doc_run::run` is the whole program as one proved call over a shelf, which files come from, and
-//! a sink, which the output goes to. `main` hands it the real ones, says the fault and ends with
-//! its status. What a file holds, and what became of standard output, no contract says: that is the
+//! a sink, which the output goes to. `main` hands it the real ones, with the runtime whose threads
+//! the clients run in and a gate that is always open, says the fault and ends with its status. What a file holds, and what became of standard output, no contract says: that is the
 //! trusted edge.
 #![tactic(auto)]
 
-use doc_run::{Fault, Words, fault_text, final_fault, run, status};
-use outside::{FileShelf, StdSink};
+use doc_run::{Words, run};
+use outside::{FileShelf, OpenGate, StdSink};
+use script_files::{Fault, fault_text, final_fault, status};
 use std::env;
 use std::io::{ErrorKind, Write};
 use std::process::ExitCode;
+use std::sync::Wait;
+use std::thread::Threads;
 
 fn main(rt: HostRuntime) -> ExitCode {
-    let fault = run_on_devices(&rt);
+    let fault = run_on_devices(&rt, &rt);
     if let Some(fault) = &fault {
         say(&rt, fault);
     }
     ExitCode::from(status(fault))
 }
 
-// Runs the program's own words over the real files and standard output.
-fn run_on_devices(rt: &HostRuntime) -> Option<Fault> {
+// Runs the program's own words over the real files and standard output, clients in threads.
+fn run_on_devices<R: Threads + Wait + Sync>(rt: &HostRuntime, threads: &R) -> Option<Fault> {
     let words = match own_words(rt) {
         Ok(words) => words,
         Err(fault) => return Some(fault),
     };
     let mut shelf = FileShelf::new(rt);
     let mut sink = StdSink::new(rt.alloc(), rt);
-    let outcome = run(rt.alloc(), &words, &mut shelf, &mut sink);
+    let outcome = run(rt.alloc(), threads, &words, &mut shelf, &mut sink, &OpenGate);
     final_fault(outcome.fault, sink.finish())
 }
 

@@ -1,0 +1,61 @@
+-- Numbers that the words bring are within what a run of clients takes.
+use Rattle.std.proofs.Common.{◌≡◌, ℕ, ◌≤◌, List, [], ◌∷◌, length, Err, refl, arith}
+use Rattle.std.specs.Prelude.{All, Vec, sum_by}
+use Rattle.std.specs.declared.alloc.Global.{Global}
+use Rattle.std.proofs.lemmas.List.Elements.{All-cons, All-nil}
+use Rattle.std.proofs.lemmas.List.Sums.{sum_by-cons}
+use Rattle.doc_model.specs.declared.command.Command.{Command}
+use Rattle.run_words.specs.Limits.{IsRunWithin}
+use Rattle.run_words.specs.Requests.{run_asked_by}
+use Rattle.run_words.specs.declared.request.RunWords.{RunWords}
+use Rattle.script_files.specs.Made.{DecidesMade}
+use Rattle.script_files.specs.declared.fault.Fault.{Fault}
+use Rattle.script_files.specs.declared.fault.Fault.TheVariants.{Usage, Script, Schedule}
+use Rattle.script_files.specs.declared.fault.Fault.TheVariants.{ReadFault, WriteFault}
+use Rattle.script_files.specs.declared.fault.Fault.TheVariants.{Memory, TooLarge}
+use Rattle.store_run.specs.Opened.{IsWithin}
+use Rattle.doc_run.specs.Clients.{default_options, options_of}
+
+-- the options of a run
+pub options_within : (run : RunWords) → IsRunWithin run
+    → IsWithin (options_of (run_asked_by run))
+options_within run within = record {
+  cells = within.numbers.cells;
+  minor = within.numbers.minor;
+  keep = within.numbers.keep;
+  versions = within.numbers.versions;
+  cycles = within.numbers.cycles.1;
+}
+
+-- those of a run without words for them
+pub default_within : IsWithin default_options
+default_within = record {
+  cells = (omega arith, omega arith);
+  minor = (omega arith, omega arith);
+  keep = (omega arith, omega arith);
+  versions = (omega arith, omega arith);
+  cycles = omega arith;
+}
+
+-- each of the scripts is short, since all of them are
+pub each_short : (scripts : List (Vec Command Global))
+    → sum_by (λ script. length script.items) scripts ≤ 100000
+    → All (λ script. length script.items ≤ 100000) scripts
+each_short [] short = All-nil (λ (s : Vec Command Global). length s.items ≤ 100000)
+each_short (script ∷ scripts) short =
+    let sum = sum_by-cons (λ (s : Vec Command Global). length s.items) script scripts in
+    All-cons (λ (s : Vec Command Global). length s.items ≤ 100000) script scripts
+    (omega (arith, sum, short)) (each_short scripts (omega (arith, sum, short)))
+
+-- scripts that are not made want memory
+pub only_memory : (start clients commands : ℕ) (fault : Fault)
+    → DecidesMade start clients commands (Err fault) → fault ≡ Memory
+only_memory start clients commands Usage is = absurd is
+only_memory start clients commands (Script file line kind) is = absurd is
+only_memory start clients commands (Schedule line kind) is = absurd is
+only_memory start clients commands (ReadFault file) is = absurd is
+only_memory start clients commands WriteFault is = absurd is
+only_memory start clients commands Memory is = refl
+only_memory start clients commands (TooLarge file) is = absurd is
+
+pub ruleset ranges = (options_within, default_within, only_memory)

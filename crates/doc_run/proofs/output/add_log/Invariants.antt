@@ -1,8 +1,0 @@
-use Rattle.std.proofs.Common.{◌≡◌, ◌++◌, take}
-use Rattle.doc_run.specs.Output.{replies_of}
-use Rattle.doc_run.proofs.output.add_log.Given as goal
-
--- what stood there, and the replies of the entries so far
-abbrev pub invariant-loop-entry : goal.invariant-loop-entry
-invariant-loop-entry l =
-    l.text.items ≡ l.initial.text.items ++ replies_of (take l.entry-index l.log.entries)

@@ -1,0 +1,30 @@
+use Rattle.std.proofs.Common.{◌≡◌, ◌∙◌, Some, ap, subst}
+use Rattle.run_words.specs.Requests.{Run, Replay, asked_by, request_of, run_asked_by}
+use Rattle.doc_run.proofs.Asking.{due_asked, opens_replay, unread_scripts}
+use Rattle.doc_run.proofs.whole_run.run.Goals as goal
+
+pub returns-in-Ok-Run-clause-scripts : goal.returns-in-Ok-Run-clause-scripts
+returns-in-Ok-Run-clause-scripts g c =
+    let asked : request_of c.args.words.now ≡ Some (Run (run_asked_by c.in-Ok-Run.run')) =
+    subst (λ words. request_of words ≡ Some (Run (run_asked_by c.in-Ok-Run.run')))
+    c.all.ensures (c.in-Ok-Run.ensures.request
+    ∙ ap (λ request. Some (asked_by request)) c.in-Ok-Run.field-0-is) in
+    due_asked (request_of c.args.words.now) (run_asked_by c.in-Ok-Run.run')
+    (g.H.Shelf.holds c.args.shelf.now) c.run_scripts.result.fault c.run_scripts.result.finished
+    c.run_scripts.result.status asked c.run_scripts.ensures.status
+    c.run_scripts.ensures.explained
+
+pub returns-in-Ok-Replay-clause-opens : goal.returns-in-Ok-Replay-clause-opens
+returns-in-Ok-Replay-clause-opens g c =
+    let asked : request_of c.args.words.now ≡ Some (Replay c.in-Ok-Replay.name.now) =
+    subst (λ words. request_of words ≡ Some (Replay c.in-Ok-Replay.name.now))
+    c.all.ensures (c.in-Ok-Replay.ensures.request
+    ∙ ap (λ request. Some (asked_by request)) c.in-Ok-Replay.field-0-is) in
+    opens_replay (request_of c.args.words.now) c.in-Ok-Replay.name.now
+    c.run_schedule.result.status (g.H.Shelf.opens c.args.shelf.now)
+    (g.H.Shelf.opens c.run_schedule.new.shelf) asked c.run_schedule.ensures.opens
+
+pub returns-in-Err-NoMemory-clause-scripts : goal.returns-in-Err-NoMemory-clause-scripts
+returns-in-Err-NoMemory-clause-scripts g c =
+    unread_scripts (request_of c.args.words.now) (g.H.Shelf.holds c.args.shelf.now)
+    c.refused-in-Err-NoMemory.result.status c.refused-in-Err-NoMemory.ensures.status

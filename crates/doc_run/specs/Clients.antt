@@ -1,0 +1,74 @@
+-- A run of clients: the options and the scripts by which it comes to what it does.
+--
+-- Scripts are given by files or by a generator. A statement of this file takes what is given as a
+-- fact of the scripts, or of the fault in their place.
+-- Source: this project's own.
+use Rattle.std.specs.Prelude.{◌≡◌, ℕ, ◌+◌, List, Result, Ok, Err}
+use Rattle.doc_model.specs.declared.command.Command.{Command}
+use Rattle.run_words.specs.Requests.{RunAsked}
+use Rattle.run_words.specs.declared.request.GenWords.{GenWords}
+use Rattle.script_files.specs.Made.{AreMade}
+use Rattle.script_files.specs.declared.fault.Fault.{Fault}
+use Rattle.script_files.specs.declared.fault.Fault.TheVariants.{Usage, Script, Schedule}
+use Rattle.script_files.specs.declared.fault.Fault.TheVariants.{ReadFault, WriteFault}
+use Rattle.script_files.specs.declared.fault.Fault.TheVariants.{Memory, TooLarge}
+use Rattle.store_run.specs.Finished.{Comes}
+use Rattle.store_run.specs.declared.finished.Finished.{Finished}
+use Rattle.store_run.specs.declared.options.Options.{Options}
+
+-- the options that the words of a run ask for
+abbrev pub options_of : RunAsked → Options
+options_of run = record {
+  cells = run.cells;
+  minor = run.minor;
+  keep = run.keep;
+  versions = run.versions;
+  cycles = run.cycles;
+}
+
+-- those of a run without words for them
+abbrev pub default_options : Options
+default_options = record {
+  cells = 65_536;
+  minor = 8_192;
+  keep = 8;
+  versions = 1_000_000;
+  cycles = 4_000_000_000;
+}
+
+-- this is what a run of these scripts came to
+abbrev pub ComesOf : Options → List (List Command) → Finished → Type 0
+ComesOf options scripts f = Comes options scripts f.logs.items f.image f.passes f.totals
+
+-- the scripts that the generator makes by these words, and no fault in their place
+abbrev pub IsMade : GenWords → Result (List (List Command)) Fault → Type 0
+IsMade made (Ok scripts) = AreMade made.start made.clients made.commands scripts
+IsMade made (Err fault) = ⊥
+
+-- this is what a run of the scripts came to that are given
+abbrev pub ComesBy : (Result (List (List Command)) Fault → Type 0) → Options → Finished → Type 0
+ComesBy Given options f =
+    (scripts : List (List Command)) × Given (Ok scripts) × ComesOf options scripts f
+
+-- the answer is what a run of these scripts came to, or memory was wanting
+abbrev pub Finishes : Options → List (List Command) → Result Finished Fault → Type 0
+Finishes options scripts (Ok f) = ComesOf options scripts f
+Finishes options scripts (Err fault) = fault ≡ Memory
+
+-- the answer is what a run of the given scripts came to, or the fault in their place, or a file
+-- could not be read, or memory was wanting
+abbrev pub DecidesRun : (Result (List (List Command)) Fault → Type 0) → Options
+    → Result Finished Fault → Type 0
+DecidesRun Given options (Ok f) = ComesBy Given options f
+DecidesRun Given options (Err Usage) = ⊥
+DecidesRun Given options (Err (Script file line kind)) = Given (Err (Script file line kind))
+DecidesRun Given options (Err (Schedule line kind)) = ⊥
+DecidesRun Given options (Err (ReadFault file)) = Unit {0}
+DecidesRun Given options (Err WriteFault) = ⊥
+DecidesRun Given options (Err Memory) = Unit {0}
+DecidesRun Given options (Err (TooLarge file)) = Given (Err (TooLarge file))
+
+-- the answer is what a run of generated scripts came to, or memory was wanting
+abbrev pub MakesRun : GenWords → Result Finished Fault → Type 0
+MakesRun made (Ok f) = ComesBy (IsMade made) default_options f
+MakesRun made (Err fault) = fault ≡ Memory

@@ -1,0 +1,110 @@
+//! A run of clients, from where their scripts come from to what it came to.
+ghost use Rattle.std.specs.Prelude.{◌≡◌, ℕ, ◌+◌, ◌*◌, ◌≤◌, IsErrOf, length, map, sum_by};
+ghost use Rattle.outside.specs.Calls.{IsUnbroken, IsOrderly};
+ghost use Rattle.outside.specs.Causes.{Rose};
+ghost use Rattle.doc_run.specs.Clients.{DecidesRun, Finishes, MakesRun, options_of};
+ghost use Rattle.run_words.specs.Limits.{IsGenWithin, IsRunWithin};
+ghost use Rattle.run_words.specs.Requests.{run_asked_by};
+ghost use Rattle.script_files.specs.Files.{OpensInTurn, files_read, opened};
+ghost use Rattle.script_files.specs.Reading.{lists_of};
+ghost use Rattle.script_files.specs.Scripts.{AreScripts};
+ghost use Rattle.store_run.specs.Opened.{IsWithin};
+
+use doc_model::Command;
+use outside::{Gate, READ_LIMIT, Shelf};
+use run_words::{GenWords, RunWords};
+use script_files::{Fault, scripts_in_files, scripts_made};
+use std::alloc::Global;
+use std::sync::Wait;
+use std::thread::Threads;
+use store_run::{Finished, Options, run_clients};
+
+// How generated scripts are run.
+const DEFAULTS: Options = Options {
+    cells: 65_536,
+    minor: 8_192,
+    keep: 8,
+    versions: 1_000_000,
+    cycles: 4_000_000_000,
+};
+
+/// What a run of the clients comes to whose scripts the files of the words hold.
+#[tactic(auto, using(crate::proofs::Ranges::ranges))]
+pub fn run_files<R: Threads + Wait + Sync, H: Shelf, G: Gate + Sync>(
+    alloc: Global,
+    rt: &R,
+    run: &RunWords<'_>,
+    shelf: &mut H,
+    gate: &G,
+) -> Result<Finished, Fault>
+    requires within { IsRunWithin run.now }
+    ensures finished { DecidesRun
+        (AreScripts (map (H.holds shelf.old) (run_asked_by run.now).files))
+        (options_of (run_asked_by run.now)) result }
+    ensures read { (file : ℕ) → IsErrOf result (Fault.ReadFault file) →
+        Rose (H.faults shelf.old) (H.faults shelf.new) }
+    ensures read_file { (file : ℕ) → IsErrOf result (Fault.ReadFault file) →
+        H.opens shelf.new ≡ opened (H.opens shelf.old) file }
+    ensures opens { OpensInTurn (H.opens shelf.old) (H.opens shelf.new)
+        (files_read (length run.now.files.items)) }
+    ensures calls { H.calls shelf.new
+        ≤ H.calls shelf.old + files_read (length run.now.files.items) * (READ_LIMIT + 1) }
+    ensures orderly { IsUnbroken (H.course shelf.old) → IsOrderly (H.course shelf.new) }
+{
+    match scripts_in_files(alloc, &run.files, shelf) {
+        Ok(scripts) => run_all(alloc, rt, &scripts, options(run), gate),
+        Err(fault) => Err(fault),
+    }
+}
+
+/// What a run of the clients comes to whose scripts are generated.
+#[tactic(auto, using(crate::proofs::Ranges::ranges))]
+pub fn run_made<R: Threads + Wait + Sync, G: Gate + Sync>(
+    alloc: Global,
+    rt: &R,
+    made: GenWords,
+    gate: &G,
+) -> Result<Finished, Fault>
+    requires within { IsGenWithin made }
+    requires few { made.clients * made.commands ≤ 100_000 }
+    ensures finished { MakesRun made result }
+{
+    match scripts_made(alloc, made.start, made.clients, made.commands) {
+        Ok(scripts) => run_all(alloc, rt, &scripts, DEFAULTS, gate),
+        Err(fault) => Err(fault),
+    }
+}
+
+// The options that the words ask for.
+fn options(run: &RunWords<'_>) -> Options
+    ensures { result ≡ options_of (run_asked_by run.now) }
+{
+    Options {
+        cells: run.cells,
+        minor: run.minor,
+        keep: run.keep,
+        versions: run.versions,
+        cycles: run.cycles,
+    }
+}
+
+// What a run of these scripts comes to.
+#[tactic(auto, using(crate::proofs::Ranges::each_short))]
+fn run_all<R: Threads + Wait + Sync, G: Gate + Sync>(
+    alloc: Global,
+    rt: &R,
+    scripts: &[Vec<Command>],
+    options: Options,
+    gate: &G,
+) -> Result<Finished, Fault>
+    requires some { 1 ≤ length scripts.now }
+    requires few { length scripts.now ≤ 64 }
+    requires total { sum_by (λ script. length script.items) scripts.now ≤ 100_000 }
+    requires options { IsWithin options }
+    ensures { Finishes options (lists_of scripts.now) result }
+{
+    match run_clients(alloc, rt, scripts, &options, gate) {
+        Ok(finished) => Ok(finished),
+        Err(_) => Err(Fault::Memory),
+    }
+}

@@ -1,0 +1,39 @@
+//! The summary of a run of generated scripts.
+ghost use Rattle.std.specs.Prelude.{◌≡◌, ◌*◌, ◌≤◌, IfOk};
+ghost use Rattle.doc_run.specs.Clients.{ComesBy, IsMade, default_options};
+ghost use Rattle.doc_run.specs.Ending.{IsSummaryOf, numbers_of};
+ghost use Rattle.run_words.specs.Limits.{IsGenWithin};
+
+use doc_model::{NoMemory, is_legal, merge};
+use run_output::{Made, summary_text};
+use run_words::GenWords;
+use std::alloc::Global;
+use store_run::Finished;
+
+// By which limits the histories of generated scripts are looked at: those of a run without options.
+const KEEP: u32 = 8;
+
+const VERSIONS: u32 = 1_000_000;
+
+/// The summary of what a run of generated scripts came to.
+pub fn summary_of(alloc: Global, made: GenWords, finished: &Finished) -> Result<Vec<u8>, NoMemory>
+    requires within { IsGenWithin made }
+    requires few { made.clients * made.commands ≤ 100_000 }
+    requires comes { ComesBy (IsMade made) default_options finished.now }
+    ensures text { IfOk result (λ text. IsSummaryOf made finished.now text.items) }
+{
+    let merged = merge(alloc, &finished.logs)?;
+    let legal = is_legal(alloc, &merged, made.clients, KEEP, VERSIONS)?;
+    summary_text(alloc, numbers(made), &merged, finished.totals.nodes, legal)
+}
+
+// By which numbers the scripts are made.
+fn numbers(made: GenWords) -> Made
+    ensures { result ≡ numbers_of made }
+{
+    Made {
+        start: made.start,
+        clients: made.clients,
+        commands: made.commands,
+    }
+}

@@ -1,0 +1,7 @@
+use Rattle.std.proofs.Common.{◌≡◌, take}
+use Rattle.run_output.specs.Output.{logs_text_of}
+use Rattle.run_output.proofs.output.logs_text.Given as goal
+
+-- the text of the logs so far
+abbrev pub invariant-loop-log : goal.invariant-loop-log
+invariant-loop-log l = l.text.items ≡ logs_text_of (take l.log-index l.logs)

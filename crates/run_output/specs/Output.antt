@@ -1,0 +1,48 @@
+-- The text that a run writes: of the clients' logs, and behind them of the merged history and of
+-- the totals, where they are asked for.
+-- Source: this project's own.
+use Rattle.std.specs.Prelude.{◌≡◌, ℕ, Bool, true, false, List, [], ◌++◌, codes, flat_map}
+use Rattle.doc_model.specs.ClientLog.{ClientLog}
+use Rattle.doc_model.specs.Merge.{IsMerge}
+use Rattle.doc_model.specs.declared.command.Entry.{Entry}
+use Rattle.doc_model.specs.declared.totals.Totals.{Totals}
+use Rattle.cmd_text.specs.ReplyText.{heading_of, reply_text_of}
+use Rattle.cmd_text.specs.SummaryText.{history_text_of, stats_text_of}
+use Rattle.run_output.specs.declared.output.Shown.{Shown}
+
+-- the line of each reply, in order
+abbrev pub replies_of : List Entry → List ℕ
+replies_of entries = flat_map (λ entry. reply_text_of entry.reply) entries
+
+-- a client's heading, and its replies below it
+abbrev pub log_text_of : ClientLog → List ℕ
+log_text_of log = heading_of log.client ++ replies_of log.entries
+
+-- the text of each client's log, in order
+abbrev pub logs_text_of : List ClientLog → List ℕ
+logs_text_of logs = flat_map log_text_of logs
+
+-- the line of each entry, in order
+abbrev pub entries_text_of : List Entry → List ℕ
+entries_text_of entries = flat_map history_text_of entries
+
+-- the text of a merged history, below its heading
+abbrev pub history_of : List Entry → List ℕ
+history_of merged = codes "history\n" ++ entries_text_of merged
+
+-- a text got the merged history of the logs behind it, where that is asked for
+abbrev pub AddsHistory : Bool → List ClientLog → List ℕ → List ℕ → Type 0
+AddsHistory true logs old new =
+    (merged : List Entry) × IsMerge logs merged × (new ≡ old ++ history_of merged)
+AddsHistory false logs old new = new ≡ old
+
+-- the text of the totals, where it is asked for
+abbrev pub stats_of : Bool → Totals → List ℕ
+stats_of true totals = stats_text_of totals
+stats_of false totals = []
+
+-- the whole text of a run
+abbrev pub IsOutput : Shown → List ClientLog → Totals → List ℕ → Type 0
+IsOutput shown logs totals text =
+    (front : List ℕ) × AddsHistory shown.history logs (logs_text_of logs) front
+    × (text ≡ front ++ stats_of shown.stats totals)

@@ -1,0 +1,167 @@
+-- The scripts of several files, read one after another.
+use Rattle.std.proofs.Common.{◌≡◌, ℕ, suc, ◌+◌, ◌<◌, ◌≤◌, arith, List, [], ◌∷◌, ◌++◌, Option, None, Some}
+use Rattle.std.proofs.Common.{length, map}
+use Rattle.std.proofs.Common.{Result, Ok, Err, refl, sym, ap, subst, ◌∙◌}
+use Rattle.std.proofs.Common.{rules}
+use Rattle.std.specs.Prelude.{Vec}
+use Rattle.std.specs.declared.alloc.Global.{Global}
+use Rattle.std.proofs.lemmas.List.{append_assoc, append-nil, length-map}
+use Rattle.std.proofs.lemmas.Bool.{lt-ltb, le-ltb}
+use Rattle.doc_model.specs.declared.command.Command.{Command}
+use Rattle.script_files.specs.Files.{AreTold, IfTold}
+use Rattle.script_files.specs.Reading.{DecidesFile, DecidesFiles, DecidesFrom, lists_of}
+use Rattle.script_files.specs.Scripts.{in_front, with_first, scripts_from, scripts_of}
+use Rattle.script_files.specs.Scripts.{IsScriptIn, AreScripts, AreScriptsFrom}
+use Rattle.script_files.specs.declared.fault.Fault.{Fault}
+use Rattle.script_files.specs.declared.fault.Fault.TheVariants.{Usage, Script, Schedule}
+use Rattle.script_files.specs.declared.fault.Fault.TheVariants.{ReadFault, WriteFault}
+use Rattle.script_files.specs.declared.fault.Fault.TheVariants.{Memory, TooLarge}
+
+-- some contents that are what is told
+some_told : (told : List (Option (List ℕ))) → (contents : List (List ℕ)) × AreTold told contents
+some_told [] = ([], tt)
+some_told (None ∷ told) = let others = some_told told in ([] ∷ others.0, (tt, others.1))
+some_told (Some bytes ∷ told) = let others = some_told told in (bytes ∷ others.0, (refl, others.1))
+
+-- no file is left
+pub no_scripts : (file before : ℕ) → AreScriptsFrom file before [] (Ok [])
+no_scripts file before = ([], tt, refl)
+
+-- the first file is refused
+pub first_refused : (file before : ℕ) (one : Option (List ℕ)) (told : List (Option (List ℕ)))
+    (fault : Fault) → IsScriptIn file before one (Err fault)
+    → AreScriptsFrom file before (one ∷ told) (Err fault)
+first_refused file before one told fault is =
+    let others = some_told told in (
+      is.0 ∷ others.0,
+      (is.1, others.1),
+      ap (λ script. in_front script
+          (λ commands. scripts_from (file + 1) (before + length commands) others.0)) is.2,
+    )
+
+-- the first file is a script, and so much is known of the others
+pub after_first : (file before : ℕ) (one : Option (List ℕ)) (told : List (Option (List ℕ)))
+    (commands : List Command) (outcome : Result (List (List Command)) Fault)
+    → IsScriptIn file before one (Ok commands)
+    → AreScriptsFrom (file + 1) (before + length commands) told outcome
+    → AreScriptsFrom file before (one ∷ told) (with_first commands outcome)
+after_first file before one told commands outcome is others = (
+  is.0 ∷ others.0,
+  (is.1, others.1),
+  ap (λ script. in_front script
+      (λ these. scripts_from (file + 1) (before + length these) others.0)) is.2
+      ∙ ap (with_first commands) others.2,
+)
+
+-- all that is told is what was read
+pub told_same : (told : List (Option (List ℕ))) (contents : List (List ℕ))
+    (Fact : List (List ℕ) → Type 0) → AreTold told contents → Fact contents → IfTold told Fact
+told_same [] [] Fact are fact = fact
+told_same [] (bytes ∷ contents) Fact are fact = absurd are
+told_same (None ∷ told) [] Fact are fact = absurd are
+told_same (None ∷ told) (bytes ∷ contents) Fact are fact = tt
+told_same (Some all ∷ told) [] Fact are fact = absurd are
+told_same (Some all ∷ told) (bytes ∷ contents) Fact are fact =
+    told_same told contents (λ others. Fact (all ∷ others)) are.1
+    (subst (λ one. Fact (one ∷ contents)) are.0 fact)
+
+-- a fact that holds of all contents
+pub always : (told : List (Option (List ℕ))) (Fact : List (List ℕ) → Type 0)
+    → ((contents : List (List ℕ)) → Fact contents) → IfTold told Fact
+always [] Fact fact = fact []
+always (None ∷ told) Fact fact = tt
+always (Some bytes ∷ told) Fact fact =
+    always told (λ contents. Fact (bytes ∷ contents)) (λ contents. fact (bytes ∷ contents))
+
+-- the scripts of no files
+pub none_decided : (file before : ℕ) (old : List (List Command))
+    → DecidesFrom file before [] (Ok tt) old old
+none_decided file before old = ([], sym (append-nil old), no_scripts file before)
+
+-- the first file could not be read, or is refused, or memory was wanting
+pub first_decided : (place before : ℕ) (one : Option (List ℕ)) (told : List (Option (List ℕ)))
+    (fault : Fault) (old new : List (List Command)) → DecidesFile place before (Err fault) one
+    → DecidesFrom place before (one ∷ told) (Err fault) old new
+first_decided place before one told Usage old new is = is
+first_decided place before one told (Script file line kind) old new is =
+    first_refused place before one told (Script file line kind) is
+first_decided place before one told (Schedule line kind) old new is = is
+first_decided place before one told (ReadFault file) old new is = tt
+first_decided place before one told WriteFault old new is = is
+first_decided place before one told Memory old new is = tt
+first_decided place before one told (TooLarge file) old new is =
+    first_refused place before one told (TooLarge file) is
+
+-- the first file is a script, which was added, and the others were gone over behind it
+pub next_decided : (place before : ℕ) (one : Option (List ℕ)) (told : List (Option (List ℕ)))
+    (commands : List Command) (result : Result (Unit {0}) Fault) (old new : List (List Command))
+    → IsScriptIn place before one (Ok commands)
+    → DecidesFrom (place + 1) (before + length commands) told result (old ++ commands ∷ []) new
+    → DecidesFrom place before (one ∷ told) result old new
+next_decided place before one told commands (Ok done) old new is others = (
+  commands ∷ others.0,
+  others.1 ∙ append_assoc old (commands ∷ []) others.0,
+  after_first place before one told commands (Ok others.0) is others.2,
+)
+next_decided place before one told commands (Err Usage) old new is others = others
+next_decided place before one told commands (Err (Script file line kind)) old new is others =
+    after_first place before one told commands (Err (Script file line kind)) is others
+next_decided place before one told commands (Err (Schedule line kind)) old new is others = others
+next_decided place before one told commands (Err (ReadFault file)) old new is others = tt
+next_decided place before one told commands (Err WriteFault) old new is others = others
+next_decided place before one told commands (Err Memory) old new is others = tt
+next_decided place before one told commands (Err (TooLarge file)) old new is others =
+    after_first place before one told commands (Err (TooLarge file)) is others
+
+-- one file more, read or refused, in front of the others
+pub ruleset in_turn = (none_decided, first_decided, next_decided)
+
+-- there is a content for each file
+told_length : (told : List (Option (List ℕ))) (contents : List (List ℕ)) → AreTold told contents
+    → length contents ≡ length told
+told_length [] [] are = refl
+told_length [] (bytes ∷ contents) are = absurd are
+told_length (one ∷ told) [] are = absurd are
+told_length (one ∷ told) (bytes ∷ contents) are = ap suc (told_length told contents are.1)
+
+-- as many files as names
+pub told_names : {A : Type 0} (holds : List ℕ → Option (List ℕ)) (text : A → List ℕ)
+    (names : List A) → length (map holds (map text names)) ≡ length names
+told_names holds text names = length-map (map text names) holds ∙ length-map names text
+
+-- the files are not too many
+within_count : (told : List (Option (List ℕ))) (outcome : Result (List (List Command)) Fault)
+    → length told ≤ 64 → AreScriptsFrom 1 0 told outcome → AreScripts told outcome
+within_count told outcome few are =
+    let some : length are.0 ≤ 64 = omega (arith, told_length told are.0 are.1) in
+    (are.0, are.1, rw (le-ltb 64 (length are.0) some) are.2)
+
+-- the files are too many
+pub too_many_files : (told : List (Option (List ℕ))) → 64 < length told
+    → AreScripts told (Err (TooLarge 0))
+too_many_files told many =
+    let some = some_told told in
+    let more : 64 < length some.0 = omega (arith, told_length told some.0 some.1) in
+    (some.0, some.1, rw (lt-ltb 64 (length some.0) more))
+
+-- all files were read, and are not too many
+pub all_read : (told : List (Option (List ℕ))) (scripts : Vec (Vec Command Global) Global)
+    (old : List (List Command)) → length told ≤ 64 → old ≡ []
+    → DecidesFrom 1 0 told (Ok tt) old (lists_of scripts.items) → DecidesFiles told (Ok scripts)
+all_read told scripts old few none is =
+    let same : lists_of scripts.items ≡ is.0 = is.1 ∙ ap (λ front. front ++ is.0) none in
+    within_count told (Ok (lists_of scripts.items)) few
+    (subst (λ s. AreScriptsFrom 1 0 told (Ok s)) (sym same) is.2)
+
+-- one of them was refused, or could not be read, or memory was wanting
+pub one_refused : (told : List (Option (List ℕ))) (fault : Fault)
+    (old new : List (List Command)) → length told ≤ 64 → DecidesFrom 1 0 told (Err fault) old new
+    → DecidesFiles told (Err fault)
+one_refused told Usage old new few is = is
+one_refused told (Script file line kind) old new few is =
+    within_count told (Err (Script file line kind)) few is
+one_refused told (Schedule line kind) old new few is = is
+one_refused told (ReadFault file) old new few is = tt
+one_refused told WriteFault old new few is = is
+one_refused told Memory old new few is = tt
+one_refused told (TooLarge file) old new few is = within_count told (Err (TooLarge file)) few is

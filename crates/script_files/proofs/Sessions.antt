@@ -1,0 +1,96 @@
+-- The bytes that were read decide a script, or a replay, as the whole file does.
+--
+-- One byte more than the largest file is read at most. A file within its size was read whole; of a
+-- longer one so much was read that it is too large as well.
+use Rattle.std.proofs.Common.{◌≡◌, ℕ, ◌<◌, ◌≤◌, List, Option, None, Some, Result, Ok, Err, true}
+use Rattle.std.proofs.Common.{false}
+use Rattle.std.proofs.Common.{length, take, min, refl, sym, ap, ◌∙◌, arith}
+use Rattle.std.specs.Prelude.{nat_lt, IfSome, Vec}
+use Rattle.std.proofs.lemmas.List.{length-take, take_all}
+use Rattle.std.proofs.lemmas.Bool.{lt-ltb, ltb-true, ltb-false}
+use Rattle.outside.specs.Pieces.{IsFrontOf}
+use Rattle.doc_model.specs.declared.command.Command.{Command}
+use Rattle.script_files.specs.declared.fault.Fault.{Fault}
+use Rattle.script_files.specs.declared.fault.Fault.TheVariants.{Usage, Script, Schedule}
+use Rattle.script_files.specs.declared.fault.Fault.TheVariants.{ReadFault, WriteFault}
+use Rattle.script_files.specs.declared.fault.Fault.TheVariants.{Memory, TooLarge}
+use Rattle.script_files.specs.Scripts.{after_reading, script_in, within_size, IsScriptIn}
+use Rattle.script_files.specs.Replayed.{after_schedule, steps_of, IsReading, Replays, ReplaysFile}
+use Rattle.cmd_text.specs.Script.{script_of}
+use Rattle.core_replay.specs.Schedule.{schedule_of}
+use Rattle.core_replay.specs.ScheduleValue.{ScheduleValue}
+use Rattle.std.specs.declared.alloc.Global.{Global}
+use Rattle.script_files.specs.Reading.{Decides, DecidesFile}
+
+longer : (n : ℕ) → 1048576 < n → 1048576 < min 1048577 n
+longer n long = omega arith
+
+within_long : {A : Type 0} (file : ℕ) (reading : List ℕ → Result A Fault) (bytes : List ℕ)
+    → 1048576 < length bytes → within_size file reading bytes ≡ Err (TooLarge file)
+within_long file reading bytes long = rw (lt-ltb 1048576 (length bytes) long)
+
+within_front : {A : Type 0} (file : ℕ) (reading : List ℕ → Result A Fault) (all : List ℕ)
+    → within_size file reading all ≡ within_size file reading (take 1048577 all)
+within_front file reading all =
+    elim (nat_lt 1048576 (length all)) as (λ b. nat_lt 1048576 (length all) ≡ b
+    → within_size file reading all ≡ within_size file reading (take 1048577 all)) [
+      | true ↦ λ e.
+          let long : 1048576 < length all = ltb-true 1048576 (length all) e in
+          within_long file reading all long
+          ∙ sym (within_long file reading (take 1048577 all)
+          (rw (length-take 1048577 all) (longer (length all) long)))
+      | false ↦ λ e.
+          let short : length all ≤ 1048576 = ltb-false 1048576 (length all) e in
+          ap (within_size file reading) (sym (take_all 1048577 all (omega arith)))
+    ] refl
+
+-- what the bytes that were read give is what the file gives
+of_file : {A : Type 0} (file : ℕ) (reading : List ℕ → Result A Fault) (told : Option (List ℕ))
+    (front : List ℕ) (outcome : Result A Fault) → IsFrontOf told 1048577 front
+    → within_size file reading front ≡ outcome
+    → (bytes : List ℕ) × IfSome told (λ all. bytes ≡ all)
+    × (within_size file reading bytes ≡ outcome)
+of_file file reading None front outcome read is = (front, tt, is)
+of_file file reading (Some all) front outcome read is =
+    (all, refl, within_front file reading all ∙ ap (within_size file reading) (sym read) ∙ is)
+
+script_of_file : (file before : ℕ) (told : Option (List ℕ)) (front : List ℕ)
+    (outcome : Result (List Command) Fault) → IsFrontOf told 1048577 front
+    → script_in file before front ≡ outcome → IsScriptIn file before told outcome
+script_of_file file before told front outcome read is =
+    of_file file (λ script. after_reading file before (script_of script)) told front outcome read is
+
+reading_of_file : (told : Option (List ℕ)) (front : List ℕ) (outcome : Result ScheduleValue Fault)
+    → IsFrontOf told 1048577 front → steps_of front ≡ outcome → IsReading told outcome
+reading_of_file told front outcome read is =
+    of_file 1 (λ schedule. after_schedule (schedule_of schedule)) told front outcome read is
+
+pub decided_file : (file before : ℕ) (told : Option (List ℕ)) (front : List ℕ)
+    (answer : Result (Vec Command Global) Fault) → IsFrontOf told 1048577 front
+    → Decides answer (script_in file before front) → DecidesFile file before answer told
+decided_file place before told front (Ok script) read is =
+    script_of_file place before told front (Ok script.items) read is
+decided_file place before told front (Err Usage) read is = absurd is
+decided_file place before told front (Err (Script file line kind)) read is =
+    script_of_file place before told front (Err (Script file line kind)) read is
+decided_file place before told front (Err (Schedule line kind)) read is = absurd is
+decided_file place before told front (Err (ReadFault file)) read is = absurd is
+decided_file place before told front (Err WriteFault) read is = absurd is
+decided_file place before told front (Err Memory) read is = tt
+decided_file place before told front (Err (TooLarge file)) read is =
+    script_of_file place before told front (Err (TooLarge file)) read is
+
+pub replayed_file : (told : Option (List ℕ)) (front : List ℕ)
+    (answer : Result (Vec ℕ Global) Fault) → IsFrontOf told 1048577 front
+    → Replays answer (steps_of front) → ReplaysFile answer told
+replayed_file told front (Ok text) read is =
+    (is.0, reading_of_file told front (Ok is.0) read is.1, is.2)
+replayed_file told front (Err Usage) read is = absurd is
+replayed_file told front (Err (Script file line kind)) read is = absurd is
+replayed_file told front (Err (Schedule line kind)) read is =
+    reading_of_file told front (Err (Schedule line kind)) read is
+replayed_file told front (Err (ReadFault file)) read is = absurd is
+replayed_file told front (Err WriteFault) read is = absurd is
+replayed_file told front (Err Memory) read is = tt
+replayed_file told front (Err (TooLarge file)) read is =
+    reading_of_file told front (Err (TooLarge file)) read is

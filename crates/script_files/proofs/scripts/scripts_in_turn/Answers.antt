@@ -1,0 +1,15 @@
+use Rattle.std.proofs.Common.{◌≤◌, length, ap, arith}
+use Rattle.script_files.proofs.Files.{all_read, one_refused, told_names}
+use Rattle.script_files.specs.Reading.{lists_of}
+use Rattle.script_files.proofs.scripts.scripts_in_turn.Goals as goal
+
+pub returns-in-Ok-clause-scripts : goal.returns-in-Ok-clause-scripts
+returns-in-Ok-clause-scripts g c =
+    let many = told_names (g.H.Shelf.holds c.args.shelf.now) (λ name. name.now) c.args.names.now in
+    all_read _ c.add_scripts.new.scripts _ (omega (arith, many, c.requires.few))
+    (ap lists_of c.new-scripts.ensures.items) c.in-Ok.ensures.scripts
+
+pub returns-in-Err-clause-scripts : goal.returns-in-Err-clause-scripts
+returns-in-Err-clause-scripts g c =
+    let many = told_names (g.H.Shelf.holds c.args.shelf.now) (λ name. name.now) c.args.names.now in
+    one_refused _ _ _ _ (omega (arith, many, c.requires.few)) c.in-Err.ensures.scripts

@@ -1,0 +1,65 @@
+-- The status of each fault, and the text that is printed of it.
+-- Source: this project's own.
+use Rattle.std.specs.Prelude.{ℕ, List, ◌++◌, Option, None, Some, codes, decimal, Bool, true, false}
+use Rattle.std.specs.Prelude.{◌==◌, if◌then◌else◌}
+use Rattle.cmd_text.specs.declared.fault.ScriptKind.{ScriptKind}
+use Rattle.cmd_text.specs.declared.fault.ScriptKind.TheVariants.{BadByte, NoCommand, BadNumber}
+use Rattle.cmd_text.specs.declared.fault.ScriptKind.TheVariants.{BadPath, LongText, Extra}
+use Rattle.core_replay.specs.declared.fault.ScheduleKind.{ScheduleKind}
+use Rattle.core_replay.specs.declared.fault.ScheduleKind.TheVariants as schedule
+use Rattle.script_files.specs.declared.fault.Fault.{Fault}
+use Rattle.script_files.specs.declared.fault.Fault.TheVariants.{Usage, Script, Schedule, ReadFault}
+use Rattle.script_files.specs.declared.fault.Fault.TheVariants.{WriteFault, Memory, TooLarge}
+
+-- the status of a run
+abbrev pub status_of : Option Fault → ℕ
+status_of None = 0
+status_of (Some Usage) = 1
+status_of (Some (Script file line kind)) = 2
+status_of (Some (Schedule line kind)) = 2
+status_of (Some (ReadFault file)) = 3
+status_of (Some WriteFault) = 4
+status_of (Some Memory) = 5
+status_of (Some (TooLarge file)) = 6
+
+-- the word for what is wrong in a line
+abbrev pub kind_text_of : ScriptKind → List ℕ
+kind_text_of BadByte = codes "BadByte"
+kind_text_of NoCommand = codes "NoCommand"
+kind_text_of BadNumber = codes "BadNumber"
+kind_text_of BadPath = codes "BadPath"
+kind_text_of LongText = codes "LongText"
+kind_text_of Extra = codes "Extra"
+
+-- the same for a line of a schedule
+abbrev pub schedule_kind_text_of : ScheduleKind → List ℕ
+schedule_kind_text_of schedule.BadByte = codes "BadByte"
+schedule_kind_text_of schedule.NoStart = codes "NoStart"
+schedule_kind_text_of schedule.NoEvent = codes "NoEvent"
+schedule_kind_text_of schedule.BadNumber = codes "BadNumber"
+schedule_kind_text_of schedule.Extra = codes "Extra"
+
+-- what is said of a file
+abbrev pub file_text_of : ℕ → List ℕ → List ℕ
+file_text_of file what = codes "docheap: file " ++ (decimal file ++ (codes ": " ++ what))
+
+-- what is said of a line
+abbrev pub line_text_of : ℕ → List ℕ → List ℕ
+line_text_of line kind = codes "line " ++ (decimal line ++ (codes ": " ++ kind))
+
+-- the text of a fault, without a line feed
+abbrev pub fault_text_of : Fault → List ℕ
+fault_text_of Usage = codes "docheap: usage"
+fault_text_of (Script file line kind) = file_text_of file (line_text_of line (kind_text_of kind))
+fault_text_of (Schedule line kind) = file_text_of 1 (line_text_of line (schedule_kind_text_of kind))
+fault_text_of (ReadFault file) = file_text_of file (codes "read fault")
+fault_text_of WriteFault = codes "docheap: write fault"
+fault_text_of Memory = codes "docheap: out of memory"
+fault_text_of (TooLarge file) =
+    if file == 0 then codes "docheap: too large" else file_text_of file (codes "too large")
+
+-- the fault that the program ends with, by that of its run and by whether all was written out
+abbrev pub final_fault_of : Option Fault → Bool → Option Fault
+final_fault_of (Some fault) finished = Some fault
+final_fault_of None true = None
+final_fault_of None false = Some WriteFault

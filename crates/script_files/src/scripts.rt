@@ -1,0 +1,199 @@
+//! The scripts of several files, read one after another.
+//!
+//! Too many files are refused unread. The refusals of a file are looked for in the order of its
+//! reading: it could not be read, it is too long, it is no script, the files up to it have too many
+//! commands. The first file that is refused decides, and no further one is opened.
+ghost use Rattle.std.specs.Prelude.{◌≡◌, ℕ, ◌+◌, ◌*◌, ◌≤◌, length, map, IfOk, OnOk, IsErrOf};
+ghost use Rattle.std.specs.Prelude.{sum_by};
+ghost use Rattle.outside.specs.Calls.{IsUnbroken, IsOrderly};
+ghost use Rattle.outside.specs.Causes.{Rose, next_count};
+ghost use Rattle.script_files.specs.Files.{OpensInTurn, files_read, opened};
+ghost use Rattle.script_files.specs.Reading.{Decides, DecidesFile, DecidesFiles, DecidesFrom};
+ghost use Rattle.script_files.specs.Reading.{lists_of};
+ghost use Rattle.script_files.specs.Scripts.{counted, script_in};
+
+use crate::fault::Fault;
+use cmd_text::{ScriptError, ScriptFault, read_script};
+use doc_model::Command;
+use outside::{OutFault, READ_LIMIT, Shelf, read_file};
+use std::alloc::Global;
+
+// How many bytes a file has at most.
+pub(crate) const LARGEST_FILE: usize = 1_048_576;
+
+// How many files there are at most.
+const MOST_FILES: usize = 64;
+
+// How many commands all scripts have at most.
+const MOST_COMMANDS: usize = 100_000;
+
+/// The scripts in the files of these names.
+pub fn scripts_in_files<H: Shelf>(
+    alloc: Global,
+    names: &[&str],
+    shelf: &mut H,
+) -> Result<Vec<Vec<Command>>, Fault>
+    ensures scripts { DecidesFiles (map (H.holds shelf.old) (map (λ name. name.now) names.now)) result }
+    ensures count { IfOk result (λ scripts. length scripts.items ≡ length names.now) }
+    ensures few { IfOk result (λ scripts. length scripts.items ≤ 64) }
+    ensures total { IfOk result (λ scripts.
+        sum_by (λ script. length script.items) scripts.items ≤ 100_000) }
+    ensures read { (file : ℕ) → IsErrOf result (Fault.ReadFault file) →
+        Rose (H.faults shelf.old) (H.faults shelf.new) }
+    ensures read_file { (file : ℕ) → IsErrOf result (Fault.ReadFault file) →
+        H.opens shelf.new ≡ opened (H.opens shelf.old) file }
+    ensures opens { OpensInTurn (H.opens shelf.old) (H.opens shelf.new)
+        (files_read (length names.now)) }
+    ensures calls { H.calls shelf.new
+        ≤ H.calls shelf.old + files_read (length names.now) * (READ_LIMIT + 1) }
+    ensures orderly { IsUnbroken (H.course shelf.old) → IsOrderly (H.course shelf.new) }
+    ensures faults { H.faults shelf.old ≤ H.faults shelf.new }
+{
+    if names.len() > MOST_FILES {
+        return Err(Fault::TooLarge { file: 0 });
+    }
+    scripts_in_turn(alloc, names, shelf)
+}
+
+// The scripts in the files of these names, which are not too many.
+fn scripts_in_turn<H: Shelf>(
+    alloc: Global,
+    names: &[&str],
+    shelf: &mut H,
+) -> Result<Vec<Vec<Command>>, Fault>
+    requires few { length names.now ≤ 64 }
+    ensures scripts { DecidesFiles (map (H.holds shelf.old) (map (λ name. name.now) names.now)) result }
+    ensures count { IfOk result (λ scripts. length scripts.items ≡ length names.now) }
+    ensures total { IfOk result (λ scripts.
+        sum_by (λ script. length script.items) scripts.items ≤ 100_000) }
+    ensures read { (file : ℕ) → IsErrOf result (Fault.ReadFault file) →
+        Rose (H.faults shelf.old) (H.faults shelf.new) }
+    ensures read_file { (file : ℕ) → IsErrOf result (Fault.ReadFault file) →
+        H.opens shelf.new ≡ opened (H.opens shelf.old) file }
+    ensures opens { OpensInTurn (H.opens shelf.old) (H.opens shelf.new) (length names.now) }
+    ensures calls { H.calls shelf.new
+        ≤ H.calls shelf.old + length names.now * (READ_LIMIT + 1) }
+    ensures orderly { IsUnbroken (H.course shelf.old) → IsOrderly (H.course shelf.new) }
+    ensures faults { H.faults shelf.old ≤ H.faults shelf.new }
+{
+    let mut scripts = Vec::new(alloc);
+    match add_scripts(alloc, names, 1, 0, shelf, &mut scripts) {
+        Ok(()) => Ok(scripts),
+        Err(fault) => Err(fault),
+    }
+}
+
+// Adds the scripts in the files of these names. The first of them has this number, and so many
+// commands stand in the files before it.
+#[tactic(auto, using(crate::proofs::Files::in_turn, crate::proofs::Opens::openings))]
+fn add_scripts<H: Shelf>(
+    alloc: Global,
+    names: &[&str],
+    file: u32,
+    before: usize,
+    shelf: &mut H,
+    scripts: &mut Vec<Vec<Command>>,
+) -> Result<(), Fault>
+    requires few { file + length names.now ≤ 65 }
+    requires before { before ≤ 100_000 }
+    requires all { sum_by (λ script. length script.items) scripts.old.items ≡ before }
+    ensures scripts { DecidesFrom file before (map (H.holds shelf.old) (map (λ name. name.now) names.now))
+        result (lists_of scripts.old.items) (lists_of scripts.new.items) }
+    ensures count { OnOk result (length scripts.new.items
+        ≡ length scripts.old.items + length names.now) }
+    ensures total { OnOk result (
+        sum_by (λ script. length script.items) scripts.new.items ≤ 100_000) }
+    ensures read { (place : ℕ) → IsErrOf result (Fault.ReadFault place) →
+        Rose (H.faults shelf.old) (H.faults shelf.new) }
+    ensures read_file { (place : ℕ) → IsErrOf result (Fault.ReadFault place) → (more : ℕ)
+        × (file + more ≡ place + 1) × (H.opens shelf.new ≡ opened (H.opens shelf.old) more) }
+    ensures opens { OpensInTurn (H.opens shelf.old) (H.opens shelf.new) (length names.now) }
+    ensures calls { H.calls shelf.new
+        ≤ H.calls shelf.old + length names.now * (READ_LIMIT + 1) }
+    ensures unbroken { OnOk result (IsUnbroken (H.course shelf.old)
+        → IsUnbroken (H.course shelf.new)) }
+    ensures orderly { IsUnbroken (H.course shelf.old) → IsOrderly (H.course shelf.new) }
+    ensures faults { H.faults shelf.old ≤ H.faults shelf.new }
+{
+    let [name, others @ ..] = names else {
+        return Ok(());
+    };
+    let script = match script_in_file(alloc, name, file, before, shelf) {
+        Ok(script) => script,
+        Err(fault) => return Err(fault),
+    };
+    let before = before + script.len();
+    if scripts.push(script).is_err() {
+        return Err(Fault::Memory);
+    }
+    add_scripts(alloc, others, file + 1, before, shelf, scripts)
+}
+
+// The script in the file of this name.
+#[tactic(auto, using(crate::proofs::Sessions::decided_file))]
+fn script_in_file<H: Shelf>(
+    alloc: Global,
+    name: &str,
+    file: u32,
+    before: usize,
+    shelf: &mut H,
+) -> Result<Vec<Command>, Fault>
+    requires before { before ≤ 100_000 }
+    ensures script { DecidesFile file before result (H.holds shelf.old name.now) }
+    ensures few { IfOk result (λ script. before + length script.items ≤ 100_000) }
+    ensures held { H.holds shelf.new ≡ H.holds shelf.old }
+    ensures read { (place : ℕ) → IsErrOf result (Fault.ReadFault place) →
+        Rose (H.faults shelf.old) (H.faults shelf.new) }
+    ensures opens { H.opens shelf.new ≡ next_count (H.opens shelf.old) }
+    ensures calls { H.calls shelf.new ≤ H.calls shelf.old + READ_LIMIT + 1 }
+    ensures unbroken { OnOk result (IsUnbroken (H.course shelf.old)
+        → IsUnbroken (H.course shelf.new)) }
+    ensures orderly { IsUnbroken (H.course shelf.old) → IsOrderly (H.course shelf.new) }
+    ensures faults { H.faults shelf.old ≤ H.faults shelf.new }
+{
+    match read_file(alloc, shelf, name) {
+        Ok(bytes) => script_in_bytes(alloc, &bytes, file, before),
+        Err(OutFault::Failed) => Err(Fault::ReadFault { file }),
+        Err(OutFault::NoMemory) => Err(Fault::Memory),
+    }
+}
+
+/// The script that the bytes of this file are, behind so many commands of the files before it.
+pub(crate) fn script_in_bytes(
+    alloc: Global,
+    bytes: &[u8],
+    file: u32,
+    before: usize,
+) -> Result<Vec<Command>, Fault>
+    requires before { before ≤ 100_000 }
+    ensures script { Decides result (script_in file before bytes.now) }
+    ensures few { IfOk result (λ script. before + length script.items ≤ 100_000) }
+{
+    if bytes.len() > LARGEST_FILE {
+        return Err(Fault::TooLarge { file });
+    }
+    match read_script(alloc, bytes) {
+        Ok(commands) => within_count(commands, before),
+        Err(ScriptError::Fault(fault)) => Err(fault_in(file, fault)),
+        Err(ScriptError::NoMemory) => Err(Fault::Memory),
+    }
+}
+
+fn fault_in(file: u32, fault: ScriptFault) -> Fault
+    ensures { result ≡ Fault.Script file fault.line fault.kind }
+{
+    let ScriptFault { line, kind } = fault;
+    Fault::Script { file, line, kind }
+}
+
+// The commands, if with those before them they are not too many.
+fn within_count(commands: Vec<Command>, before: usize) -> Result<Vec<Command>, Fault>
+    requires before { before ≤ 100_000 }
+    ensures counted { Decides result (counted before commands.items) }
+    ensures few { IfOk result (λ script. before + length script.items ≤ 100_000) }
+{
+    if commands.len() > MOST_COMMANDS - before {
+        return Err(Fault::TooLarge { file: 0 });
+    }
+    Ok(commands)
+}
