@@ -67,18 +67,14 @@ pub fn run_beside<R: Threads + Wait + Sync, G: Gate + Sync>(
             { take_turn(rt, heap, queue, flag, cycles, keeper) };
             match scope.spawn_with(promise, turn) {
                 Ok(thread) => {
-                    let clients = run_each(
-                        alloc, rt, gate, heap, queue, scripts, limits, clients,
-                    );
+                    let clients = run_each(alloc, rt, gate, heap, queue, scripts, limits, clients);
                     let turn = thread.join(rt);
                     (clients, serve_after(rt, heap, queue, cycles, &was, turn))
                 }
                 Err(refused) => {
                     flag.store(true, Ordering::SeqCst);
                     let turn = stand_down(heap, queue, cycles, &was, (refused.value)());
-                    let clients = run_each(
-                        alloc, rt, gate, heap, queue, scripts, limits, clients,
-                    );
+                    let clients = run_each(alloc, rt, gate, heap, queue, scripts, limits, clients);
                     (clients, serve_after(rt, heap, queue, cycles, &was, turn))
                 }
             }

@@ -80,8 +80,7 @@ is_summary made f merged legal numbers text comes is looked same said =
     let history = (comes.2.merged merged is).1 in
     let yes : legal ≡ true = looked.1 (subst
     (λ n. IsLegal (opening n (record { keep = 8; versions = 1000000 })) merged)
-    (logs_many made f comes) history) in
-    (
+    (logs_many made f comes) history) in (
       merged,
       is,
       said ∙ ap (λ n. summary_text_of n merged f.totals.nodes legal) same
