@@ -32,7 +32,14 @@ fn run_on_devices<R: Threads + Wait + Sync>(rt: &HostRuntime, threads: &R) -> Op
     };
     let mut shelf = FileShelf::new(rt);
     let mut sink = StdSink::new(rt.alloc(), rt);
-    let outcome = run(rt.alloc(), threads, &words, &mut shelf, &mut sink, &OpenGate);
+    let outcome = run(
+        rt.alloc(),
+        threads,
+        &words,
+        &mut shelf,
+        &mut sink,
+        &OpenGate,
+    );
     final_fault(outcome.fault, sink.finish())
 }
 

@@ -58,12 +58,7 @@ fn add_log(alloc: Global, log: &Log, text: &mut Vec<u8>) -> Result<(), NoMemory>
 }
 
 // Adds the merged history, where it is asked for.
-fn add_history(
-    alloc: Global,
-    asked: bool,
-    logs: &[Log],
-    text: &mut Vec<u8>,
-) -> Result<(), NoMemory>
+fn add_history(alloc: Global, asked: bool, logs: &[Log], text: &mut Vec<u8>) -> Result<(), NoMemory>
     ensures text { OnOk result (AddsHistory asked logs.now text.old.items text.new.items) }
 {
     if asked {

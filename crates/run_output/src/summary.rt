@@ -47,12 +47,7 @@ struct Counts {
 }
 
 #[tactic(auto, using(std::proofs::lemmas::List::append_assoc))]
-fn lines_of(
-    alloc: Global,
-    made: Made,
-    counts: Counts,
-    verdict: &str,
-) -> Result<Vec<u8>, NoMemory>
+fn lines_of(alloc: Global, made: Made, counts: Counts, verdict: &str) -> Result<Vec<u8>, NoMemory>
     ensures { IfOk result (λ text. text.items
         ≡ lines_of made counts.entries counts.commits counts.nodes counts.full verdict.now) }
 {

@@ -220,7 +220,11 @@ fn the_totals_are_those_of_the_heap(rt: HostRuntime) -> Result<(), Fail> {
     let mut text = Vec::from_slice(rt.alloc(), b"client 1\n")?;
     for number in 1..=13 {
         script.extend_from_slice(b"put a x\n")?;
-        let (word, number) = if number < 13 { ("ok", number) } else { ("full", 12) };
+        let (word, number) = if number < 13 {
+            ("ok", number)
+        } else {
+            ("full", 12)
+        };
         text.extend_from_slice(format!(in rt.alloc(); "{word} {number}\n")?.as_bytes())?;
     }
     text.extend_from_slice(b"stats\ncommands 13\nversions 12\nclaimed 61\nfreed 0\n")?;
@@ -233,9 +237,15 @@ fn the_totals_are_those_of_the_heap(rt: HostRuntime) -> Result<(), Fail> {
 
 #[test]
 fn several_files_are_a_client_each(rt: HostRuntime) -> Result<(), Fail> {
-    let (outcome, sink) = outcome_by(rt.alloc(), &rt, &["run", "f", "f", "f"], b"dput a x\ndget a\n")?;
+    let (outcome, sink) = outcome_by(
+        rt.alloc(),
+        &rt,
+        &["run", "f", "f", "f"],
+        b"dput a x\ndget a\n",
+    )?;
     assert_eq!(rt; outcome.status, 0);
-    let text = "client 1\ndrafted 0\nval 0 x\nclient 2\ndrafted 0\nval 0 x\nclient 3\ndrafted 0\nval 0 x\n";
+    let text =
+        "client 1\ndrafted 0\nval 0 x\nclient 2\ndrafted 0\nval 0 x\nclient 3\ndrafted 0\nval 0 x\n";
     assert_eq!(rt; sink.written(), text.as_bytes());
     Ok(())
 }

@@ -396,8 +396,12 @@ copy_line c n m line text client node copy ends same =
     (commands.Copy (c ∷ n ∷ []) (c ∷ m ∷ [])) ends same
     (line_front (codes "copy ") (path ++ 32 ∷ other) refl
     (line_parts path other (line_path c n client node) (line_path c m client copy)))
-    (omega (arith, length-append path (32 ∷ other), short_path c n client node,
-    short_path c m client copy)) refl
+    (omega (
+      arith,
+      length-append path (32 ∷ other),
+      short_path c n client node,
+      short_path c m client copy,
+    )) refl
     (command_words (codes "copy") (path ++ 32 ∷ other) (written (codes "copy") refl)
     ∙ ap (λ r. and_then r (λ p. Ok (commands.Copy p.0 p.1)))
     (two_paths path other (c ∷ n ∷ []) (c ∷ m ∷ []) (spaceless_path c n client.letters node.letters)
@@ -446,22 +450,37 @@ line_made client first second few small =
     let n = node_word node low in
     let m = copy_word node low in
     let t = number_word second small in
-    line_cases IsSomeLine client first second
-    (_, _, put_line (99 ∷ decimal client) (110 ∷ decimal node) (116 ∷ decimal second) _
-    (codes "put " ++ path_text_of client node ++ codes " t" ++ decimal second) c n t refl
-    (simp append_assoc))
-    (_, _, get_line (99 ∷ decimal client) (110 ∷ decimal node) _
-    (codes "get " ++ path_text_of client node) c n refl (simp append_assoc))
-    (_, _, draft_line (110 ∷ decimal node) (116 ∷ decimal second) _
-    (codes "dput n" ++ decimal node ++ codes " t" ++ decimal second) n t refl
-    (simp append_assoc))
-    (_, _, del_line (99 ∷ decimal client) (110 ∷ decimal node) _
-    (codes "del " ++ path_text_of client node) c n refl (simp append_assoc))
-    (_, _, copy_line (99 ∷ decimal client) (110 ∷ decimal node) (109 ∷ decimal node) _
-    (codes "copy " ++ path_text_of client node ++ codes " " ++ copy_text_of client node) c n m refl
-    (spaced_paths (path_text_of client node) (copy_text_of client node)
-    ∙ ap₂ (λ p q. codes "copy " ++ (p ++ 32 ∷ q)) (path_parts client node)
-    (copy_parts client node)))
+    line_cases IsSomeLine client first second (
+      _,
+      _,
+      put_line (99 ∷ decimal client) (110 ∷ decimal node) (116 ∷ decimal second) _
+          (codes "put " ++ path_text_of client node ++ codes " t" ++ decimal second) c n t refl
+          (simp append_assoc),
+    ) (
+      _,
+      _,
+      get_line (99 ∷ decimal client) (110 ∷ decimal node) _
+          (codes "get " ++ path_text_of client node) c n refl (simp append_assoc),
+    ) (
+      _,
+      _,
+      draft_line (110 ∷ decimal node) (116 ∷ decimal second) _
+          (codes "dput n" ++ decimal node ++ codes " t" ++ decimal second) n t refl
+          (simp append_assoc),
+    ) (
+      _,
+      _,
+      del_line (99 ∷ decimal client) (110 ∷ decimal node) _
+          (codes "del " ++ path_text_of client node) c n refl (simp append_assoc),
+    ) (
+      _,
+      _,
+      copy_line (99 ∷ decimal client) (110 ∷ decimal node) (109 ∷ decimal node) _
+          (codes "copy " ++ path_text_of client node ++ codes " " ++ copy_text_of client node) c n m refl
+          (spaced_paths (path_text_of client node) (copy_text_of client node)
+          ∙ ap₂ (λ p q. codes "copy " ++ (p ++ 32 ∷ q)) (path_parts client node)
+          (copy_parts client node)),
+    )
 
 -- Whole texts.
 
@@ -509,8 +528,7 @@ lines_made client state number (suc more) few =
     let line = line_text_of client first second in
     let rest = lines_from client two more in
     let made = line_made client first second few (drawn_small one) in
-    let others = lines_made client two (number + 1) more few in
-    (
+    let others = lines_made client two (number + 1) more few in (
       made.1 ∷ others.0,
       ap (commands_from number) (line_off line made.0 rest made.1 made.2)
           ∙ first_command number made.0 (lines_of rest) made.1 others.0 made.2.reads others.1,
@@ -534,8 +552,7 @@ script_whole start client commands before few short all =
     let text = generated_of start client commands in
     let lines = lines_made client (opening_of start client) 1 commands few in
     let size : length text ≤ 1048576 = omega (arith, lines.3) in
-    let count : before + length lines.0 ≤ 100000 = omega (arith, lines.2) in
-    (
+    let count : before + length lines.0 ≤ 100000 = omega (arith, lines.2) in (
       lines.0,
       lines.2,
       ap (λ b. if b then Err (TooLarge client) else after_reading client before (script_of text))
@@ -565,8 +582,7 @@ texts_made start commands client (suc more) before few short all =
     let others = texts_made start commands (client + 1) more (before + commands) (omega arith) short
     (omega arith) in
     let rest = subst (λ n. scripts_from (client + 1) (before + n)
-    (texts_from start commands (client + 1) more) ≡ Ok others.0) (sym script.1) others.1 in
-    (
+    (texts_from start commands (client + 1) more) ≡ Ok others.0) (sym script.1) others.1 in (
       script.0 ∷ others.0,
       front_made client before (generated_of start client commands)
           (texts_from start commands (client + 1) more) script.0 others.0 script.2 rest,

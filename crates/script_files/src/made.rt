@@ -83,7 +83,15 @@ fn add_made(
     if scripts.push(script).is_err() {
         return Err(Fault::Memory);
     }
-    add_made(alloc, start, commands, client + 1, more - 1, before, scripts)
+    add_made(
+        alloc,
+        start,
+        commands,
+        client + 1,
+        more - 1,
+        before,
+        scripts,
+    )
 }
 
 // The script of one client.
