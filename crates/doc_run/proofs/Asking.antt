@@ -1,6 +1,7 @@
 -- What is so of every request, where memory was wanting before it was known.
-use Rattle.std.proofs.Common.{◌≡◌, ℕ, ◌≤◌, ◌<◌, ◌*◌, List, Option, None, Some, length, map}
-use Rattle.std.proofs.Common.{inl, inr, refl, sym, subst, arith, rules}
+use Rattle.std.proofs.Common.{◌≡◌, ℕ, ◌≤◌, ◌<◌, ◌*◌, List, Option, None, Some}
+use Rattle.std.proofs.Common.{length, map}
+use Rattle.std.proofs.Common.{inl, inr, refl, sym, subst, arith}
 use Rattle.std.specs.Prelude.{◌⊎◌, ◌↔◌, ◌≢◌, IfSome, IsSomeAnd}
 use Rattle.outside.specs.Causes.{next_count}
 use Rattle.run_words.specs.Requests.{Asked, Run, Replay, Gen, RunAsked}
@@ -16,9 +17,7 @@ use Rattle.script_files.specs.declared.fault.Fault.{Fault}
 use Rattle.store_run.specs.declared.finished.Finished.{Finished}
 use Rattle.doc_run.specs.Clients.{options_of}
 use Rattle.doc_run.specs.Ending.{Explains}
-use Rattle.doc_run.specs.Ending.{OpensFiles, WritesMadePart, WritesPartOf, printed_of}
-use Rattle.doc_run.specs.Ending.{IsSummaryOf, WritesPart}
-use Rattle.doc_run.specs.Clients.{IsMade, default_options}
+use Rattle.doc_run.specs.Ending.{OpensFiles, WritesPartOf}
 use Rattle.doc_run.specs.Request.{ByPrint, IfGen, IfReplay, IfRun, names_of}
 
 if_run : (asked : Option Asked) (Fact : RunAsked → Type 0) → ((run : RunAsked) → Fact run)
@@ -28,8 +27,8 @@ if_run (Some (Run run)) Fact all = all run
 if_run (Some (Replay name)) Fact all = tt
 if_run (Some (Gen made)) Fact all = tt
 
-if_replay : (asked : Option Asked) (Fact : List ℕ → Type 0) → ((name : List ℕ) → Fact name)
-    → IfReplay asked Fact
+if_replay : (asked : Option Asked) (Fact : List ℕ → Type 0)
+    → ((name : List ℕ) → Fact name) → IfReplay asked Fact
 if_replay None Fact all = tt
 if_replay (Some (Run run)) Fact all = tt
 if_replay (Some (Replay name)) Fact all = all name
@@ -42,8 +41,8 @@ if_gen (Some (Run run)) Fact all = tt
 if_gen (Some (Replay name)) Fact all = tt
 if_gen (Some (Gen made)) Fact all = all made
 
-if_some : (told : Option (List ℕ)) (Fact : List ℕ → Type 0) → ((bytes : List ℕ) → Fact bytes)
-    → IfSome told Fact
+if_some : (told : Option (List ℕ)) (Fact : List ℕ → Type 0)
+    → ((bytes : List ℕ) → Fact bytes) → IfSome told Fact
 if_some None Fact all = tt
 if_some (Some bytes) Fact all = all bytes
 
@@ -58,7 +57,10 @@ pub unread_large_made : (asked : Option Asked) (status : ℕ) → status ≡ 5
     → IfGen asked (λ made. (status ≡ 6)
     ↔ ((status ≢ 5) × (most_commands < made.clients * made.commands)))
 unread_large_made asked status is =
-    if_gen asked _ (λ made. ((λ six. absurd (omega (arith, is, six))), (λ facts. absurd (facts.0 is))))
+    if_gen asked _ (λ made. (
+      (λ six. absurd (omega (arith, is, six))),
+      (λ facts. absurd (facts.0 is)),
+    ))
 
 pub unread_complete_made : (asked : Option Asked) (status : ℕ) → status ≡ 5
     → IfGen asked (λ made. made.clients * made.commands ≤ most_commands
@@ -98,7 +100,8 @@ unwritten_part (Some (Gen made)) holds old new is =
     made_unwritten made.print _ _ (inl is) (λ client. inl is)
 
 -- no file was opened
-pub opens_nothing : (status before files : ℕ) → status ≡ 5 → OpensFiles status before before files
+pub opens_nothing : (status before files : ℕ) → status ≡ 5
+    → OpensFiles status before before files
 opens_nothing status before files is =
     (0, omega arith, (λ other. absurd (other is)), refl)
 
@@ -107,7 +110,8 @@ pub opens_no_file : (status before : ℕ) → OpensFiles status before before 0
 opens_no_file status before = (0, omega arith, (λ other some. omega (arith, some)), refl)
 
 -- the only file
-pub opens_one : (status before now : ℕ) → now ≡ next_count before → OpensFiles status before now 1
+pub opens_one : (status before now : ℕ) → now ≡ next_count before
+    → OpensFiles status before now 1
 opens_one status before now is = (1, omega arith, (λ other some. omega arith), is)
 
 -- several files in turn

@@ -1,6 +1,6 @@
 -- The status of a run of clients is that which the scripts of its files call for.
-use Rattle.std.proofs.Common.{◌≡◌, ℕ, List, ◌∷◌, Option, None, Some, Result, Ok, Err, sym, subst}
-use Rattle.std.proofs.Common.{rules}
+use Rattle.std.proofs.Common.{◌≡◌, ℕ, List, Option, None, Some, Result, Ok, Err}
+use Rattle.std.proofs.Common.{sym, subst, rules}
 use Rattle.doc_model.specs.declared.command.Command.{Command}
 use Rattle.script_files.proofs.Files.{told_same, always}
 use Rattle.script_files.specs.Fault.{status_of}
@@ -59,7 +59,8 @@ due_of told options (Some (Schedule line kind)) finished is = absurd is
 due_of told options (Some (ReadFault file)) finished is =
     always told (λ contents. IsDue (scripts_of contents) 3) (λ contents. unread_due _)
 due_of told options (Some WriteFault) None is = absurd is
-due_of told options (Some WriteFault) (Some finished) is = due_by told (Ok is.0) 4 is.1 (unwritten_due is.0)
+due_of told options (Some WriteFault) (Some finished) is =
+    due_by told (Ok is.0) 4 is.1 (unwritten_due is.0)
 due_of told options (Some Memory) finished is =
     always told (λ contents. IsDue (scripts_of contents) 5) (λ contents. wanting_due _)
 due_of told options (Some (TooLarge file)) finished is =

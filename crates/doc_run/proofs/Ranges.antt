@@ -1,5 +1,6 @@
 -- Numbers that the words bring are within what a run of clients takes.
-use Rattle.std.proofs.Common.{◌≡◌, ℕ, ◌≤◌, List, [], ◌∷◌, length, Err, refl, arith}
+use Rattle.std.proofs.Common.{◌≡◌, ℕ, ◌≤◌, List, [], ◌∷◌, length, Err, refl}
+use Rattle.std.proofs.Common.{arith}
 use Rattle.std.specs.Prelude.{All, Vec, sum_by}
 use Rattle.std.specs.declared.alloc.Global.{Global}
 use Rattle.std.proofs.lemmas.List.Elements.{All-cons, All-nil}

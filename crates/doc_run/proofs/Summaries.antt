@@ -1,6 +1,6 @@
 -- The summary of a run of generated scripts: its merged history is one of a store.
-use Rattle.std.proofs.Common.{◌≡◌, ℕ, suc, ◌+◌, ◌≤◌, List, [], ◌∷◌, length, map, Bool, true, refl}
-use Rattle.std.proofs.Common.{sym, ap, subst, ◌∙◌, arith}
+use Rattle.std.proofs.Common.{◌≡◌, ℕ, ◌+◌, ◌≤◌, List, [], ◌∷◌, length}
+use Rattle.std.proofs.Common.{map, Bool, true, refl, sym, ap, subst, ◌∙◌, arith}
 use Rattle.std.specs.Prelude.{IsTrue, ◌↔◌, sum_by}
 use Rattle.std.proofs.lemmas.List.{length-map}
 use Rattle.std.proofs.lemmas.List.Concat.{length-flat_map}
@@ -90,7 +90,8 @@ is_summary made f merged legal numbers text comes is looked same said =
 -- the same in the terms of the code, which lends the logs and the history
 pub few_looked : (made : GenWords) (f : Finished) (logs : List ClientLog)
     (merged looked : List Entry) → ComesBy (IsMade made) default_options f
-    → logs ≡ f.logs.items → IsMerge logs merged → looked ≡ merged → length looked ≤ 100000
+    → logs ≡ f.logs.items → IsMerge logs merged → looked ≡ merged
+    → length looked ≤ 100000
 few_looked made f logs merged looked comes lent is same =
     let few = few_entries made f merged comes (subst (λ l. IsMerge l merged) lent is) in
     subst (λ l. length l ≤ 100000) (sym same) few

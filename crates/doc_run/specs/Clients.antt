@@ -3,7 +3,7 @@
 -- Scripts are given by files or by a generator. A statement of this file takes what is given as a
 -- fact of the scripts, or of the fault in their place.
 -- Source: this project's own.
-use Rattle.std.specs.Prelude.{◌≡◌, ℕ, ◌+◌, List, Result, Ok, Err}
+use Rattle.std.specs.Prelude.{◌≡◌, List, Result, Ok, Err}
 use Rattle.doc_model.specs.declared.command.Command.{Command}
 use Rattle.run_words.specs.Requests.{RunAsked}
 use Rattle.run_words.specs.declared.request.GenWords.{GenWords}
@@ -46,7 +46,8 @@ IsMade made (Ok scripts) = AreMade made.start made.clients made.commands scripts
 IsMade made (Err fault) = ⊥
 
 -- this is what a run of the scripts came to that are given
-abbrev pub ComesBy : (Result (List (List Command)) Fault → Type 0) → Options → Finished → Type 0
+abbrev pub ComesBy : (Result (List (List Command)) Fault → Type 0) → Options → Finished
+    → Type 0
 ComesBy Given options f =
     (scripts : List (List Command)) × Given (Ok scripts) × ComesOf options scripts f
 

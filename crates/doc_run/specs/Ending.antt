@@ -2,8 +2,8 @@
 --
 -- What the files hold is told or not, file by file.
 -- Source: this project's own.
-use Rattle.std.specs.Prelude.{◌≡◌, ◌≢◌, ℕ, ◌*◌, ◌<◌, ◌≤◌, List, Option, None, Some, IsNone}
-use Rattle.std.specs.Prelude.{IsSomeAnd, Result, Err, ◌⊎◌, map, true}
+use Rattle.std.specs.Prelude.{◌≡◌, ◌≢◌, ℕ, ◌*◌, ◌<◌, ◌≤◌, List, Option}
+use Rattle.std.specs.Prelude.{None, Some, IsNone, IsSomeAnd, Result, Err, ◌⊎◌, map, true}
 use Rattle.std.specs.Io.KnownBytes.{Appends}
 use Rattle.doc_model.specs.Merge.{IsMerge}
 use Rattle.doc_model.specs.declared.command.Command.{Command}
@@ -43,7 +43,8 @@ abbrev pub WritesAll : (List ℕ → Type 0) → Option (List ℕ) → Option (L
 WritesAll IsText old new = (text : List ℕ) × IsText text × Appends old new text
 
 -- a front of such a text was written, and not all of it
-abbrev pub WritesFront : (List ℕ → Type 0) → Option (List ℕ) → Option (List ℕ) → Type 0
+abbrev pub WritesFront : (List ℕ → Type 0) → Option (List ℕ) → Option (List ℕ)
+    → Type 0
 WritesFront IsText old new = (text : List ℕ) × IsText text × AppendsPart old new text
 
 -- what is written behind the replies of a run
@@ -80,7 +81,8 @@ WritesPart Given options IsText old new =
     ⊎ ((f : Finished) × ComesBy Given options f × WritesFront (IsText f) old new)
 
 -- nothing was written, or a front of such a text
-abbrev pub WritesTextPart : (List ℕ → Type 0) → Option (List ℕ) → Option (List ℕ) → Type 0
+abbrev pub WritesTextPart : (List ℕ → Type 0) → Option (List ℕ) → Option (List ℕ)
+    → Type 0
 WritesTextPart IsText old new = (new ≡ old) ⊎ WritesFront IsText old new
 
 -- nothing was written, or a front of what generated scripts come to, or of the one that is printed
@@ -117,8 +119,8 @@ Explains Given options (Some (TooLarge file)) finished =
 
 -- what an ending says of what was written
 abbrev pub Writes : (Result (List (List Command)) Fault → Type 0) → Options
-    → (Finished → List ℕ → Type 0) → Option (List ℕ) → Option (List ℕ) → Option Fault
-    → Option Finished → Type 0
+    → (Finished → List ℕ → Type 0) → Option (List ℕ) → Option (List ℕ)
+    → Option Fault → Option Finished → Type 0
 Writes Given options IsText old new None finished =
     IsSomeAnd finished (λ f. WritesAll (IsText f) old new)
 Writes Given options IsText old new (Some Usage) finished = new ≡ old
@@ -169,7 +171,8 @@ WritesMade made old new (Some Memory) finished = WritesMadePart made old new
 WritesMade made old new (Some (TooLarge file)) finished = new ≡ old
 
 -- what an ending says of a script that is printed
-abbrev pub PrintsBy : List ℕ → Option Fault → Option (List ℕ) → Option (List ℕ) → Type 0
+abbrev pub PrintsBy : List ℕ → Option Fault → Option (List ℕ) → Option (List ℕ)
+    → Type 0
 PrintsBy text None old new = Appends old new text
 PrintsBy text (Some Usage) old new = ⊥
 PrintsBy text (Some (Script file line kind)) old new = ⊥
@@ -193,8 +196,8 @@ ExplainsReplay told (Some Memory) = Unit {0}
 ExplainsReplay told (Some (TooLarge file)) = IsReading told (Err (TooLarge file))
 
 -- what an ending says of what was written
-abbrev pub WritesReplay : Option (List ℕ) → Option (List ℕ) → Option (List ℕ) → Option Fault
-    → Type 0
+abbrev pub WritesReplay : Option (List ℕ) → Option (List ℕ) → Option (List ℕ)
+    → Option Fault → Type 0
 WritesReplay told old new None = WritesAll (IsTextOf told) old new
 WritesReplay told old new (Some Usage) = new ≡ old
 WritesReplay told old new (Some (Script file line kind)) = new ≡ old

@@ -1,6 +1,6 @@
 -- What is so by what the words of a command line ask for.
 -- Source: this project's own.
-use Rattle.std.specs.Prelude.{ℕ, List, [], ◌∷◌, Option, None, Some, IsNone, IfSome}
+use Rattle.std.specs.Prelude.{ℕ, List, [], ◌∷◌, Option, None, Some, IsNone}
 use Rattle.run_words.specs.Requests.{Asked, Run, Replay, Gen, RunAsked}
 use Rattle.run_words.specs.declared.request.GenWords.{GenWords}
 

@@ -1,5 +1,6 @@
 //! A run of clients, from where their scripts come from to what it came to.
-ghost use Rattle.std.specs.Prelude.{◌≡◌, ℕ, ◌+◌, ◌*◌, ◌≤◌, IsErrOf, length, map, sum_by};
+ghost use Rattle.std.specs.Prelude.{◌≡◌, ℕ, ◌+◌, ◌*◌, ◌≤◌, IsErrOf, length};
+ghost use Rattle.std.specs.Prelude.{map, sum_by};
 ghost use Rattle.outside.specs.Calls.{IsUnbroken, IsOrderly};
 ghost use Rattle.outside.specs.Causes.{Rose};
 ghost use Rattle.doc_run.specs.Clients.{DecidesRun, Finishes, MakesRun, options_of};

@@ -1,10 +1,11 @@
 //! The top call.
 //!
 //! All lines are made before the first of them is written, so a refusal writes nothing. Where the
-//! shelf does not tell what a file holds, the clauses speak of some bytes that it may have held. The
-//! words are read with memory, so want of it may come before all else.
-ghost use Rattle.std.specs.Prelude.{◌≡◌, ◌≢◌, ℕ, ◌+◌, ◌*◌, ◌≤◌, ◌<◌, ◌⊎◌, ◌↔◌, Err, None, Some};
-ghost use Rattle.std.specs.Prelude.{IsSome, IsNone, IsSomeAnd, IfSome, length, map};
+//! shelf does not tell what a file holds, the clauses speak of some bytes that it may have held.
+//! The words are read with memory, so want of it may come before all else.
+ghost use Rattle.std.specs.Prelude.{◌≡◌, ◌≢◌, ℕ, ◌+◌, ◌*◌, ◌≤◌};
+ghost use Rattle.std.specs.Prelude.{◌<◌, ◌⊎◌, ◌↔◌, Err, None, Some, IsSome, IsNone};
+ghost use Rattle.std.specs.Prelude.{IsSomeAnd, IfSome, length, map};
 ghost use Rattle.std.specs.Io.KnownBytes.{Appends};
 ghost use Rattle.outside.specs.Calls.{IsUnbroken, IsOrderly};
 ghost use Rattle.outside.specs.Causes.{Rose, next_count};
@@ -50,7 +51,8 @@ pub fn run<R: Threads + Wait + Sync, H: Shelf, S: Sink, G: Gate + Sync>(
 ) -> Outcome
     ensures status { result.status ≡ status_of result.fault }
     ensures finished { IsSome result.finished
-        ↔ (RunsClients (request_of words.now) × ((result.status ≡ 0) ⊎ (result.status ≡ 4))) }
+        ↔ (RunsClients (request_of words.now)
+        × ((result.status ≡ 0) ⊎ (result.status ≡ 4))) }
 
     // Done: what the run of the files' scripts came to, and its output is all that was written; or
     // the same of generated scripts, and their summary; or the script that was asked for; or the
