@@ -3,3 +3,4 @@ pub mod Due
 pub mod Asking
 pub mod Parts
 pub mod Summaries
+pub mod Deciding

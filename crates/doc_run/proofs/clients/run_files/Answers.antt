@@ -1,0 +1,24 @@
+use Rattle.std.proofs.Common.{ℕ, List, map, sym, subst, Bor}
+use Rattle.std.specs.Prelude.{Ok, Vec}
+use Rattle.std.specs.declared.alloc.Global.{Global}
+use Rattle.doc_model.specs.declared.command.Command.{Command}
+use Rattle.run_words.specs.Requests.{run_asked_by}
+use Rattle.script_files.specs.Reading.{lists_of}
+use Rattle.script_files.specs.Scripts.{AreScripts}
+use Rattle.doc_run.specs.Clients.{options_of}
+use Rattle.doc_run.proofs.Deciding.{decided}
+use Rattle.doc_run.proofs.clients.run_files.Goals as goal
+
+pub returns-in-Ok-clause-finished : goal.returns-in-Ok-clause-finished
+returns-in-Ok-clause-finished g c =
+    let told = map (g.H.Shelf.holds c.args.shelf.now) (run_asked_by c.args.run.now).files in
+    decided (AreScripts told) (options_of (run_asked_by c.args.run.now)) c.options.result
+    (lists_of c.deref-in-Ok.result.now) c.run_all.result
+    (subst (λ (scripts : List (Vec Command Global)). AreScripts told (Ok (lists_of scripts)))
+    (sym c.deref-in-Ok.ensures.value)
+    (subst
+    (λ (names : List (Bor (List ℕ))). AreScripts
+    (map (g.H.Shelf.holds c.args.shelf.now) (map (λ name. name.now) names))
+    (Ok (lists_of c.in-Ok.scripts.items)))
+    c.deref.ensures.value c.in-Ok.ensures.scripts))
+    c.options.ensures c.run_all.ensures
