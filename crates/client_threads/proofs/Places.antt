@@ -1,5 +1,6 @@
 -- Clients by their places: the last one apart, and together with all others.
-use Rattle.std.proofs.Common.{◌≡◌, ◌+◌, ℕ, suc, List, [], ◌∷◌, ◌++◌, length, sym}
+use Rattle.std.proofs.Common.{◌≡◌, ◌+◌, ℕ, suc, List, [], ◌∷◌, ◌++◌, length}
+use Rattle.std.proofs.Common.{sym}
 use Rattle.std.proofs.Common.{◌∙◌, ap, arith, subst}
 use Rattle.std.specs.Prelude.{Vec}
 use Rattle.std.specs.declared.alloc.Global.{Global}
@@ -61,7 +62,8 @@ module _ (heap : HeapId) (queue : FreeQueue) (l : Limits) (scripts : List (Vec C
     -- and done there, behind all others
     pub done_last : (front : List Client) (last : Client) (left : List Client) (now : Client)
         → AllFrom ReadyAt 0 (front ++ last ∷ []) → length left ≡ length front
-        → AllFrom DoneAt 0 left → DoneAt last.place now → AllFrom DoneAt 0 (left ++ now ∷ [])
+        → AllFrom DoneAt 0 left → DoneAt last.place now
+        → AllFrom DoneAt 0 (left ++ now ∷ [])
     done_last front last left now all many others done =
         let at = (all_back ReadyAt 0 front (last ∷ []) all).0 in
         all_both DoneAt 0 left (now ∷ []) others (

@@ -1,10 +1,10 @@
-//! The program `docheap`: clients, each with a script, work on a versioned store of documents on the
-//! collected heap, or a schedule of the collector is replayed.
+//! The program `docheap`: clients, each with a script, work on a versioned store of documents on
+//! the collected heap, or a schedule of the collector is replayed.
 //!
 //! `doc_run::run` is the whole program as one proved call over a shelf, which files come from, and
 //! a sink, which the output goes to. `main` hands it the real ones, with the runtime whose threads
-//! the clients run in and a gate that is always open, says the fault and ends with its status. What a file holds, and what became of standard output, no contract says: that is the
-//! trusted edge.
+//! the clients run in and a gate that is always open, says the fault and ends with its status. What
+//! a file holds, and what became of standard output, no contract says: that is the trusted edge.
 #![tactic(auto)]
 
 use doc_run::{Words, run};

@@ -7,7 +7,8 @@ use Rattle.run_output.specs.Output.{AddsHistory, IsOutput, logs_text_of, stats_o
 use Rattle.run_output.specs.declared.output.Shown.{Shown}
 
 -- the replies, then the history, then the totals
-pub whole : (shown : Shown) (logs : List ClientLog) (totals : Totals) (replies front text : List ℕ)
+pub whole : (shown : Shown) (logs : List ClientLog) (totals : Totals)
+    (replies front text : List ℕ)
     → replies ≡ logs_text_of logs → AddsHistory shown.history logs replies front
     → text ≡ front ++ stats_of shown.stats totals → IsOutput shown logs totals text
 whole shown logs totals replies front text is adds whole_is =

@@ -1,7 +1,8 @@
 -- The text that a run writes: of the clients' logs, and behind them of the merged history and of
 -- the totals, where they are asked for.
 -- Source: this project's own.
-use Rattle.std.specs.Prelude.{◌≡◌, ℕ, Bool, true, false, List, [], ◌++◌, codes, flat_map}
+use Rattle.std.specs.Prelude.{◌≡◌, ℕ, Bool, true, false, List, [], ◌++◌, codes}
+use Rattle.std.specs.Prelude.{flat_map}
 use Rattle.doc_model.specs.ClientLog.{ClientLog}
 use Rattle.doc_model.specs.Merge.{IsMerge}
 use Rattle.doc_model.specs.declared.command.Entry.{Entry}

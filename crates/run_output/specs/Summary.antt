@@ -1,6 +1,7 @@
 -- The summary of a run of generated scripts.
 -- Source: this project's own.
-use Rattle.std.specs.Prelude.{ℕ, Bool, true, false, List, ◌++◌, codes, decimal, length, count_by}
+use Rattle.std.specs.Prelude.{ℕ, Bool, true, false, List, ◌++◌, codes, decimal, length}
+use Rattle.std.specs.Prelude.{count_by}
 use Rattle.doc_model.specs.Answers.{is_full, is_ok}
 use Rattle.doc_model.specs.declared.command.Entry.{Entry}
 use Rattle.cmd_text.specs.SummaryText.{total_text_of}

@@ -26,7 +26,8 @@ pub fn summary_text(
     nodes: u64,
     legal: bool,
 ) -> Result<Vec<u8>, NoMemory>
-    ensures text { IfOk result (λ text. text.items ≡ summary_text_of made merged.now nodes legal) }
+    ensures text { IfOk result (λ text. text.items
+        ≡ summary_text_of made merged.now nodes legal) }
 {
     let counts = Counts {
         entries: merged.len(),

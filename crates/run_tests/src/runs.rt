@@ -241,11 +241,11 @@ fn several_files_are_a_client_each(rt: HostRuntime) -> Result<(), Fail> {
         rt.alloc(),
         &rt,
         &["run", "f", "f", "f"],
-        b"dput a x\ndget a\n",
+        b"dput a\ndget a\n",
     )?;
     assert_eq!(rt; outcome.status, 0);
     let text =
-        "client 1\ndrafted 0\nval 0 x\nclient 2\ndrafted 0\nval 0 x\nclient 3\ndrafted 0\nval 0 x\n";
+        "client 1\ndrafted 0\nval 0 \nclient 2\ndrafted 0\nval 0 \nclient 3\ndrafted 0\nval 0 \n";
     assert_eq!(rt; sink.written(), text.as_bytes());
     Ok(())
 }
@@ -265,8 +265,8 @@ fn too_many_files_are_not_opened(rt: HostRuntime) -> Result<(), Fail> {
     Ok(())
 }
 
-// The scripts are those whose draws were worked out by hand: for 1 and client 1 they are 908, 22817,
-// 10239, 12914.
+// The scripts are those whose draws were worked out by hand: for 1 and client 1 they are 908,
+// 22817, 10239, 12914.
 #[test]
 fn generated_scripts_are_printed_or_run(rt: HostRuntime) -> Result<(), Fail> {
     let table: [(&[&str], &str); 2] = [

@@ -1,5 +1,6 @@
 -- How many scripts several contents are, and how many commands.
-use Rattle.std.proofs.Common.{◌≡◌, ℕ, zero, suc, ◌+◌, ◌≤◌, List, [], ◌∷◌, length, Result, Ok, Err}
+use Rattle.std.proofs.Common.{◌≡◌, ℕ, zero, suc, ◌+◌, ◌≤◌, List, [], ◌∷◌}
+use Rattle.std.proofs.Common.{length, Result, Ok, Err}
 use Rattle.std.proofs.Common.{Bool, true, false, refl, sym, ap, subst, ◌∙◌, arith}
 use Rattle.std.specs.Prelude.{nat_lt, if◌then◌else◌, sum_by}
 use Rattle.std.proofs.lemmas.Bool.{ltb-false}
@@ -37,7 +38,8 @@ all_parts (Ok commands) others scripts is =
 all_parts (Err fault) others scripts is = absurd (cc)
 
 -- a script for each content
-pub scripts_length : (file before : ℕ) (contents : List (List ℕ)) (scripts : List (List Command))
+pub scripts_length : (file before : ℕ) (contents : List (List ℕ))
+    (scripts : List (List Command))
     → scripts_from file before contents ≡ Ok scripts → length scripts ≡ length contents
 scripts_length file before [] scripts is =
     let same : scripts ≡ [] = cc in ap length same
@@ -48,10 +50,12 @@ scripts_length file before (bytes ∷ contents) scripts is =
     ∙ ap suc (scripts_length (file + 1) (before + length parts.0) contents parts.1 parts.3)
 
 -- commands that are not too many
-counted_few : (before : ℕ) (script commands : List Command) → counted before script ≡ Ok commands
+counted_few : (before : ℕ) (script commands : List Command)
+    → counted before script ≡ Ok commands
     → before + length commands ≤ 100000
 counted_few before script commands =
-    elim (nat_lt 100000 (before + length script)) as (λ b. nat_lt 100000 (before + length script) ≡ b
+    elim (nat_lt 100000 (before + length script))
+    as (λ b. nat_lt 100000 (before + length script) ≡ b
     → (if b then Err (TooLarge 0) else Ok script) ≡ Ok commands
     → before + length commands ≤ 100000) [
       | true ↦ λ e is. absurd (cc)

@@ -1,5 +1,6 @@
 -- The scripts of several files, read one after another.
-use Rattle.std.proofs.Common.{◌≡◌, ℕ, suc, ◌+◌, ◌<◌, ◌≤◌, arith, List, [], ◌∷◌, ◌++◌, Option, None, Some}
+use Rattle.std.proofs.Common.{◌≡◌, ℕ, suc, ◌+◌, ◌<◌, ◌≤◌, arith, List, []}
+use Rattle.std.proofs.Common.{◌∷◌, ◌++◌, Option, None, Some}
 use Rattle.std.proofs.Common.{length, map}
 use Rattle.std.proofs.Common.{Result, Ok, Err, refl, sym, ap, subst, ◌∙◌}
 use Rattle.std.proofs.Common.{rules}
@@ -18,10 +19,12 @@ use Rattle.script_files.specs.declared.fault.Fault.TheVariants.{ReadFault, Write
 use Rattle.script_files.specs.declared.fault.Fault.TheVariants.{Memory, TooLarge}
 
 -- some contents that are what is told
-some_told : (told : List (Option (List ℕ))) → (contents : List (List ℕ)) × AreTold told contents
+some_told : (told : List (Option (List ℕ)))
+    → (contents : List (List ℕ)) × AreTold told contents
 some_told [] = ([], tt)
 some_told (None ∷ told) = let others = some_told told in ([] ∷ others.0, (tt, others.1))
-some_told (Some bytes ∷ told) = let others = some_told told in (bytes ∷ others.0, (refl, others.1))
+some_told (Some bytes ∷ told) =
+    let others = some_told told in (bytes ∷ others.0, (refl, others.1))
 
 -- no file is left
 pub no_scripts : (file before : ℕ) → AreScriptsFrom file before [] (Ok [])
@@ -55,7 +58,8 @@ after_first file before one told commands outcome is others = (
 
 -- all that is told is what was read
 pub told_same : (told : List (Option (List ℕ))) (contents : List (List ℕ))
-    (Fact : List (List ℕ) → Type 0) → AreTold told contents → Fact contents → IfTold told Fact
+    (Fact : List (List ℕ) → Type 0) → AreTold told contents → Fact contents
+    → IfTold told Fact
 told_same [] [] Fact are fact = fact
 told_same [] (bytes ∷ contents) Fact are fact = absurd are
 told_same (None ∷ told) [] Fact are fact = absurd are
@@ -117,7 +121,8 @@ next_decided place before one told commands (Err (TooLarge file)) old new is oth
 pub ruleset in_turn = (none_decided, first_decided, next_decided)
 
 -- there is a content for each file
-told_length : (told : List (Option (List ℕ))) (contents : List (List ℕ)) → AreTold told contents
+told_length : (told : List (Option (List ℕ))) (contents : List (List ℕ))
+    → AreTold told contents
     → length contents ≡ length told
 told_length [] [] are = refl
 told_length [] (bytes ∷ contents) are = absurd are
@@ -155,7 +160,8 @@ all_read told scripts old few none is =
 
 -- one of them was refused, or could not be read, or memory was wanting
 pub one_refused : (told : List (Option (List ℕ))) (fault : Fault)
-    (old new : List (List Command)) → length told ≤ 64 → DecidesFrom 1 0 told (Err fault) old new
+    (old new : List (List Command)) → length told ≤ 64
+    → DecidesFrom 1 0 told (Err fault) old new
     → DecidesFiles told (Err fault)
 one_refused told Usage old new few is = is
 one_refused told (Script file line kind) old new few is =

@@ -2,11 +2,15 @@
 --
 -- Each line is words with a space between them, so its first word is a command's and the next ones
 -- are paths; no byte ends the line early. Then the lines fall out of the text one by one.
-use Rattle.std.proofs.Common.{◌≡◌, ℕ, zero, suc, ◌+◌, ◌-◌, ◌*◌, ◌/◌, ◌%◌, ◌^◌, ◌<◌, ◌≤◌, List, []}
-use Rattle.std.proofs.Common.{◌∷◌, ◌++◌, Bool, true, false, length, take, drop, get_or, Option}
-use Rattle.std.proofs.Common.{Some, None, Result, Ok, Err, refl, sym, ap, ap₂, subst, ◌∙◌, arith}
+use Rattle.std.proofs.Common.{◌≡◌, ℕ, zero, suc, ◌+◌, ◌-◌, ◌*◌, ◌/◌}
+use Rattle.std.proofs.Common.{◌%◌, ◌^◌, ◌<◌, ◌≤◌, List, []}
+use Rattle.std.proofs.Common.{◌∷◌, ◌++◌, Bool, true, false, length, take, drop, get_or}
+use Rattle.std.proofs.Common.{Option}
+use Rattle.std.proofs.Common.{Some, None, Result, Ok, Err, refl, sym, ap, ap₂, subst, ◌∙◌}
+use Rattle.std.proofs.Common.{arith}
 use Rattle.std.proofs.Common.{append_assoc, lit<, rules}
-use Rattle.std.specs.Prelude.{All, ◌==◌, ◌&&◌, codes, decimal, nat_le, nat_lt, if◌then◌else◌}
+use Rattle.std.specs.Prelude.{All, ◌==◌, ◌&&◌, codes, decimal, nat_le, nat_lt}
+use Rattle.std.specs.Prelude.{if◌then◌else◌}
 use Rattle.std.specs.Prelude.{not, ok_or}
 use Rattle.std.specs.List.{list_all, position_or_len, slice_split}
 use Rattle.std.specs.Str.Lines.{strip_carriage_return}
@@ -66,7 +70,8 @@ decimal_word n small =
     (λ m ds many word. All-append IsWordByte ds ((48 + m % 10) ∷ []) word
     (single (48 + m % 10) (digit_byte (m % 10) (omega arith)))) n small
 
-letter : (byte : ℕ) → 48 ≤ byte → byte ≤ 122 → is_name_byte byte ≡ true → IsWordByte byte
+letter : (byte : ℕ) → 48 ≤ byte → byte ≤ 122 → is_name_byte byte ≡ true
+    → IsWordByte byte
 letter byte low high name = record { low = low; high = high; name = name }
 
 other_byte : (other byte : ℕ) → other < 48 → IsWordByte byte → (byte == other) ≡ false
@@ -97,7 +102,8 @@ not_so true is = absurd (cc)
 not_so false is = refl
 
 -- a word that is written out
-written : (word : List ℕ) → list_all (λ byte. not (is_space byte)) word ≡ true → IsSpaceless word
+written : (word : List ℕ) → list_all (λ byte. not (is_space byte)) word ≡ true
+    → IsSpaceless word
 written word none =
     All-weaker (λ byte. not (is_space byte) ≡ true) (λ byte. is_space byte ≡ false)
     (λ byte is. not_so (is_space byte) is) word
@@ -148,7 +154,8 @@ name_yes : (word : List ℕ) → IsNameWord word → is_name word ≡ true
 name_yes word is =
     and_from _ _ (and_from _ _ (le-leb 1 (length word) is.some) (le-leb (length word) 64 is.few))
     (list_all-from_AllPass is_name_byte word
-    (All-weaker IsWordByte (λ byte. is_name_byte byte ≡ true) (λ byte b. b.name) word is.letters))
+    (All-weaker IsWordByte (λ byte. is_name_byte byte ≡ true)
+    (λ byte b. b.name) word is.letters))
 
 path_yes : (names : List (List ℕ)) → is_path names ≡ true → path_with names ≡ Some names
 path_yes names are = ap (λ b. if b then Some names else None) are
@@ -157,7 +164,8 @@ path_one : (word : List ℕ) → IsNameWord word → path_of word ≡ Some (word
 path_one word is =
     let whole : pieces word ≡ word ∷ [] =
     slice_split_none (λ b. b == 47) word (apart 47 word (omega arith) is.letters) in
-    let names = list_all-from_AllPass is_name (word ∷ []) (All-cons (λ name. is_name name ≡ true) word [] (name_yes word is)
+    let names = list_all-from_AllPass is_name (word ∷ [])
+    (All-cons (λ name. is_name name ≡ true) word [] (name_yes word is)
     (All-nil (λ name. is_name name ≡ true))) in
     ap path_with whole ∙ path_yes (word ∷ []) (and_from _ _ refl names)
 
@@ -166,7 +174,8 @@ path_two : (first second : List ℕ) → IsNameWord first → IsNameWord second
 path_two first second one two =
     let front = slice_split_at (λ b. b == 47) first 47 second
     (apart 47 first (omega arith) one.letters) refl in
-    let back = slice_split_none (λ b. b == 47) second (apart 47 second (omega arith) two.letters) in
+    let back = slice_split_none (λ b. b == 47) second
+    (apart 47 second (omega arith) two.letters) in
     let whole : pieces (first ++ 47 ∷ second) ≡ first ∷ second ∷ [] =
     front ∙ ap (λ others. first ∷ others) back in
     let names = list_all-from_AllPass is_name (first ∷ second ∷ [])
@@ -333,11 +342,13 @@ line_front front rest plain is =
 
 put_line : (c n t line text : List ℕ) → IsShortWord c → IsShortWord n → IsShortWord t
     → line ≡ text ++ 10 ∷ [] → text ≡ codes "put " ++ ((c ++ 47 ∷ n) ++ 32 ∷ t)
-    → IsMadeLine line (codes "put " ++ ((c ++ 47 ∷ n) ++ 32 ∷ t)) (commands.Put (c ∷ n ∷ []) t)
+    → IsMadeLine line (codes "put " ++ ((c ++ 47 ∷ n) ++ 32 ∷ t))
+    (commands.Put (c ∷ n ∷ []) t)
 put_line c n t line text client node number ends same =
     let path = c ++ 47 ∷ n in
     let few : length t ≤ 4096 = omega (arith, number.few) in
-    of_body line text (codes "put " ++ (path ++ 32 ∷ t)) (commands.Put (c ∷ n ∷ []) t) ends same
+    of_body line text (codes "put " ++ (path ++ 32 ∷ t))
+    (commands.Put (c ∷ n ∷ []) t) ends same
     (line_front (codes "put ") (path ++ 32 ∷ t) refl
     (line_parts path t (line_path c n client node) (line_word t number.letters)))
     (omega (arith, length-append path (32 ∷ t), short_path c n client node, number.few)) refl
@@ -357,9 +368,11 @@ draft_line n t line text node number ends same =
     (omega (arith, length-append n (32 ∷ t), node.few, number.few)) refl
     (command_words (codes "dput") (n ++ 32 ∷ t) (written (codes "dput") refl)
     ∙ ap (λ r. and_then r (λ p. Ok (commands.DraftPut p.0 p.1)))
-    (path_and_text n t (n ∷ []) (spaceless_word n node.letters) (path_one n (name_word n node)) few))
+    (path_and_text n t (n ∷ []) (spaceless_word n node.letters)
+    (path_one n (name_word n node)) few))
 
-get_line : (c n line text : List ℕ) → IsShortWord c → IsShortWord n → line ≡ text ++ 10 ∷ []
+get_line : (c n line text : List ℕ) → IsShortWord c → IsShortWord n
+    → line ≡ text ++ 10 ∷ []
     → text ≡ codes "get " ++ (c ++ 47 ∷ n)
     → IsMadeLine line (codes "get " ++ (c ++ 47 ∷ n)) (commands.Get (c ∷ n ∷ []))
 get_line c n line text client node ends same =
@@ -372,7 +385,8 @@ get_line c n line text client node ends same =
     (last_path path (c ∷ n ∷ []) (spaceless_path c n client.letters node.letters)
     (path_read c n client node)))
 
-del_line : (c n line text : List ℕ) → IsShortWord c → IsShortWord n → line ≡ text ++ 10 ∷ []
+del_line : (c n line text : List ℕ) → IsShortWord c → IsShortWord n
+    → line ≡ text ++ 10 ∷ []
     → text ≡ codes "del " ++ (c ++ 47 ∷ n)
     → IsMadeLine line (codes "del " ++ (c ++ 47 ∷ n)) (commands.Del (c ∷ n ∷ []))
 del_line c n line text client node ends same =
@@ -386,7 +400,8 @@ del_line c n line text client node ends same =
     (path_read c n client node)))
 
 copy_line : (c n m line text : List ℕ) → IsShortWord c → IsShortWord n → IsShortWord m
-    → line ≡ text ++ 10 ∷ [] → text ≡ codes "copy " ++ ((c ++ 47 ∷ n) ++ 32 ∷ (c ++ 47 ∷ m))
+    → line ≡ text ++ 10 ∷ []
+    → text ≡ codes "copy " ++ ((c ++ 47 ∷ n) ++ 32 ∷ (c ++ 47 ∷ m))
     → IsMadeLine line (codes "copy " ++ ((c ++ 47 ∷ n) ++ 32 ∷ (c ++ 47 ∷ m)))
     (commands.Copy (c ∷ n ∷ []) (c ∷ m ∷ []))
 copy_line c n m line text client node copy ends same =
@@ -404,7 +419,8 @@ copy_line c n m line text client node copy ends same =
     )) refl
     (command_words (codes "copy") (path ++ 32 ∷ other) (written (codes "copy") refl)
     ∙ ap (λ r. and_then r (λ p. Ok (commands.Copy p.0 p.1)))
-    (two_paths path other (c ∷ n ∷ []) (c ∷ m ∷ []) (spaceless_path c n client.letters node.letters)
+    (two_paths path other (c ∷ n ∷ []) (c ∷ m ∷ [])
+    (spaceless_path c n client.letters node.letters)
     (spaceless_path c m client.letters copy.letters) (path_read c n client node)
     (path_read c m client copy)))
 
@@ -476,7 +492,8 @@ line_made client first second few small =
       _,
       _,
       copy_line (99 ∷ decimal client) (110 ∷ decimal node) (109 ∷ decimal node) _
-          (codes "copy " ++ path_text_of client node ++ codes " " ++ copy_text_of client node) c n m refl
+          (codes "copy " ++ path_text_of client node ++ codes " " ++ copy_text_of client node)
+          c n m refl
           (spaced_paths (path_text_of client node) (copy_text_of client node)
           ∙ ap₂ (λ p q. codes "copy " ++ (p ++ 32 ∷ q)) (path_parts client node)
           (copy_parts client node)),
@@ -518,7 +535,8 @@ drawn_small state =
     let small = after_small state in
     omega (arith, small)
 
-lines_made : (client state number more : ℕ) → client ≤ 64 → AreLines client state number more
+lines_made : (client state number more : ℕ) → client ≤ 64
+    → AreLines client state number more
 lines_made client state number zero few = ([], refl, refl, omega arith)
 lines_made client state number (suc more) few =
     let one = state_after state in
@@ -571,7 +589,8 @@ front_made client before text texts script scripts first others =
     ap (λ r. in_front r (λ these. scripts_from (client + 1) (before + length these) texts)) first
     ∙ ap (with_first script) others
 
-texts_made : (start commands client more before : ℕ) → client + more ≤ 65 → commands ≤ 10000
+texts_made : (start commands client more before : ℕ) → client + more ≤ 65
+    → commands ≤ 10000
     → before + more * commands ≤ 100000
     → (scripts : List (List Command))
     × (scripts_from client before (texts_from start commands client more) ≡ Ok scripts)

@@ -1,5 +1,6 @@
 -- The scripts that are made from a number, one client after another.
-use Rattle.std.proofs.Common.{◌≡◌, ℕ, zero, suc, ◌+◌, ◌-◌, ◌*◌, ◌<◌, ◌≤◌, List, [], ◌∷◌, ◌++◌}
+use Rattle.std.proofs.Common.{◌≡◌, ℕ, zero, suc, ◌+◌, ◌-◌, ◌*◌, ◌<◌}
+use Rattle.std.proofs.Common.{◌≤◌, List, [], ◌∷◌, ◌++◌}
 use Rattle.std.proofs.Common.{Option, Some, length, map, Result, Ok, Err, refl, sym, ap, ap₂}
 use Rattle.std.proofs.Common.{subst, ◌∙◌, arith}
 use Rattle.std.proofs.lemmas.List.{map-append}
@@ -115,7 +116,8 @@ never start clients commands fault low few short all are =
 
 -- memory was wanting
 pub made_not : (start clients commands : ℕ) (fault : Fault) (old new : List (List Command))
-    → start ≤ 2147483647 → clients ≤ 64 → commands ≤ 10000 → clients * commands ≤ 100000
+    → start ≤ 2147483647 → clients ≤ 64 → commands ≤ 10000
+    → clients * commands ≤ 100000
     → ((file : ℕ) → fault ≡ ReadFault file → ⊥)
     → DecidesFrom 1 0 (map Some (texts_from start commands 1 clients)) (Err fault) old new
     → DecidesMade start clients commands (Err fault)

@@ -1,6 +1,7 @@
 -- One turn of the reading of several files, in the terms of the code: the first name, and the rest
 -- of the names behind it.
-use Rattle.std.proofs.Common.{◌≡◌, ℕ, suc, ◌+◌, ◌-◌, ◌≤◌, List, [], ◌∷◌, ◌++◌, Option, length}
+use Rattle.std.proofs.Common.{◌≡◌, ℕ, suc, ◌+◌, ◌-◌, ◌≤◌, List, [], ◌∷◌}
+use Rattle.std.proofs.Common.{◌++◌, Option, length}
 use Rattle.std.proofs.Common.{map, take, drop}
 use Rattle.std.proofs.Common.{get_or, Result, Ok, Err, ap, subst, ◌∙◌, arith}
 use Rattle.std.proofs.lemmas.List.{map-append, take_all}
@@ -18,20 +19,22 @@ use Rattle.script_files.specs.declared.fault.Fault.{Fault}
 use Rattle.script_files.specs.declared.fault.Fault.TheVariants.{Usage, ReadFault}
 
 -- the first file is a script, which was added, and the others were gone over behind it
-pub turn_decided : {A : Type 0} (text : A → List ℕ) (names : List A) (otherwise : A) (bytes : List ℕ)
+pub turn_decided : {A : Type 0} (text : A → List ℕ) (names : List A) (otherwise : A)
+    (bytes : List ℕ)
     (holds later : List ℕ → Option (List ℕ)) (file before : ℕ) (script : Vec Command Global)
     (result : Result (Unit {0}) Fault) (old middle : List (Vec Command Global))
     (new : List (List Command)) (count : ℕ) → count ≡ length script.items
-    → 1 ≤ length names → bytes ≡ text (get_or names 0 otherwise) → later ≡ holds → middle ≡ old ++ script ∷ []
+    → 1 ≤ length names → bytes ≡ text (get_or names 0 otherwise) → later ≡ holds
+    → middle ≡ old ++ script ∷ []
     → IsScriptIn file before (holds bytes) (Ok script.items)
     → DecidesFrom (file + 1) (before + count)
     (map later (map text (take (length names - 1) (drop 1 names)))) result
     (lists_of middle) new
     → DecidesFrom file before (map holds (map text names)) result (lists_of old) new
-turn_decided text [] otherwise bytes holds later file before script result old middle new count counted some
-    first same pushed is others = absurd (omega (arith, some))
-turn_decided text (one ∷ names) otherwise bytes holds later file before script result old middle new count
-    counted some first same pushed is others =
+turn_decided text [] otherwise bytes holds later file before script result old middle new
+    count counted some first same pushed is others = absurd (omega (arith, some))
+turn_decided text (one ∷ names) otherwise bytes holds later file before script result
+    old middle new count counted some first same pushed is others =
     let all : take (length (one ∷ names) - 1) names ≡ names = take_all _ names (omega arith) in
     next_decided file before (holds (text one)) (map holds (map text names))
     script.items result (lists_of old) new
@@ -49,7 +52,8 @@ turn_decided text (one ∷ names) otherwise bytes holds later file before script
 
 -- how often the shelf was opened
 pub turn_opens : (before middle now others files : ℕ) → suc others ≡ files
-    → middle ≡ next_count before → OpensInTurn middle now others → OpensInTurn before now files
+    → middle ≡ next_count before → OpensInTurn middle now others
+    → OpensInTurn before now files
 turn_opens before middle now others files one first more =
     subst (λ n. OpensInTurn before now n) one (opens_more before middle now others first more)
 

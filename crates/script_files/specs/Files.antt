@@ -1,6 +1,7 @@
 -- What several files hold, one after another, as far as the shelf tells it.
 -- Source: this project's own.
-use Rattle.std.specs.Prelude.{◌≡◌, ℕ, zero, suc, ◌≤◌, List, [], ◌∷◌, Option, None, Some, IfSome}
+use Rattle.std.specs.Prelude.{◌≡◌, ℕ, zero, suc, ◌≤◌, List, [], ◌∷◌, Option}
+use Rattle.std.specs.Prelude.{None, Some, IfSome}
 use Rattle.std.specs.Prelude.{if◌then◌else◌, nat_lt}
 use Rattle.outside.specs.Causes.{next_count}
 
@@ -26,7 +27,8 @@ opened opens (suc more) = opened (next_count opens) more
 -- of so many files each was opened once at most, and the first one was
 abbrev pub OpensInTurn : ℕ → ℕ → ℕ → Type 0
 OpensInTurn before now files =
-    (count : ℕ) × (count ≤ files) × (1 ≤ files → 1 ≤ count) × (now ≡ opened before count)
+    (count : ℕ) × (count ≤ files) × (1 ≤ files → 1 ≤ count)
+    × (now ≡ opened before count)
 
 -- how many files a run has at most
 abbrev pub most_files : ℕ

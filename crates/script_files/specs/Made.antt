@@ -1,7 +1,8 @@
 -- The scripts that are made from a number: what the texts of the generator hold, by the grammar of
 -- scripts.
 -- Source: this project's own.
-use Rattle.std.specs.Prelude.{◌≡◌, ℕ, zero, suc, ◌+◌, List, [], ◌∷◌, Result, Ok, Err, Vec}
+use Rattle.std.specs.Prelude.{◌≡◌, ℕ, zero, suc, ◌+◌, List, [], ◌∷◌, Result, Ok}
+use Rattle.std.specs.Prelude.{Err, Vec}
 use Rattle.std.specs.declared.alloc.Global.{Global}
 use Rattle.doc_model.specs.declared.command.Command.{Command}
 use Rattle.script_generator.specs.Generated.{generated_of}
@@ -24,7 +25,8 @@ AreMade start clients commands scripts =
     scripts_from 1 0 (texts_from start commands 1 clients) ≡ Ok scripts
 
 -- the answer is the scripts, or memory was wanting
-abbrev pub DecidesMade : ℕ → ℕ → ℕ → Result (Vec (Vec Command Global) Global) Fault → Type 0
+abbrev pub DecidesMade : ℕ → ℕ → ℕ → Result (Vec (Vec Command Global) Global) Fault
+    → Type 0
 DecidesMade start clients commands (Ok scripts) =
     AreMade start clients commands (lists_of scripts.items)
 DecidesMade start clients commands (Err Usage) = ⊥

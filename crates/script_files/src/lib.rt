@@ -1,10 +1,10 @@
 //! What the files of a command line hold: scripts, one for each client, or a schedule.
 //!
-//! `scripts_in_files` reads several files in turn, `scripts_made` the texts of the generator in their
-//! place, and `replay_in_file` gives the replay text of a schedule. The layer above may rely on an
-//! answer being that of the definitions in specs/ for the bytes that the shelf tells, on the first
-//! file that is refused deciding, and on how often the shelf was called. `Fault` is each way in
-//! which the program may end early, with its status and its text. What scripts are answered, and
+//! `scripts_in_files` reads several files in turn, `scripts_made` the texts of the generator in
+//! their place, and `replay_in_file` gives the replay text of a schedule. The layer above may rely
+//! on an answer being that of the definitions in specs/ for the bytes that the shelf tells, on the
+//! first file that is refused deciding, and on how often the shelf was called. `Fault` is each way
+//! in which the program may end early, with its status and its text. What scripts are answered, and
 //! what is written, is left to others.
 //!
 //! Reading order: `fault`, `scripts`, `made`, `replayed`.

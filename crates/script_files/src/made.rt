@@ -1,5 +1,6 @@
 //! The scripts that are made from a number, read as those of files are.
-ghost use Rattle.std.specs.Prelude.{◌≡◌, ℕ, ◌+◌, ◌*◌, ◌≤◌, Some, length, map, IfOk, OnOk, sum_by};
+ghost use Rattle.std.specs.Prelude.{◌≡◌, ℕ, ◌+◌, ◌*◌, ◌≤◌, Some, length, map};
+ghost use Rattle.std.specs.Prelude.{IfOk, OnOk, sum_by};
 ghost use Rattle.std.specs.Prelude.{IsErrOf, nat_lt};
 ghost use Rattle.script_files.specs.Made.{DecidesMade, texts_from};
 ghost use Rattle.script_files.specs.Reading.{Decides, DecidesFrom, lists_of};

@@ -3,7 +3,8 @@
 //! Too many files are refused unread. The refusals of a file are looked for in the order of its
 //! reading: it could not be read, it is too long, it is no script, the files up to it have too many
 //! commands. The first file that is refused decides, and no further one is opened.
-ghost use Rattle.std.specs.Prelude.{◌≡◌, ℕ, ◌+◌, ◌*◌, ◌≤◌, length, map, IfOk, OnOk, IsErrOf};
+ghost use Rattle.std.specs.Prelude.{◌≡◌, ℕ, ◌+◌, ◌*◌, ◌≤◌, length, map, IfOk};
+ghost use Rattle.std.specs.Prelude.{OnOk, IsErrOf};
 ghost use Rattle.std.specs.Prelude.{sum_by};
 ghost use Rattle.outside.specs.Calls.{IsUnbroken, IsOrderly};
 ghost use Rattle.outside.specs.Causes.{Rose, next_count};
@@ -33,7 +34,8 @@ pub fn scripts_in_files<H: Shelf>(
     names: &[&str],
     shelf: &mut H,
 ) -> Result<Vec<Vec<Command>>, Fault>
-    ensures scripts { DecidesFiles (map (H.holds shelf.old) (map (λ name. name.now) names.now)) result }
+    ensures scripts { DecidesFiles
+        (map (H.holds shelf.old) (map (λ name. name.now) names.now)) result }
     ensures count { IfOk result (λ scripts. length scripts.items ≡ length names.now) }
     ensures few { IfOk result (λ scripts. length scripts.items ≤ 64) }
     ensures total { IfOk result (λ scripts.
@@ -62,7 +64,8 @@ fn scripts_in_turn<H: Shelf>(
     shelf: &mut H,
 ) -> Result<Vec<Vec<Command>>, Fault>
     requires few { length names.now ≤ 64 }
-    ensures scripts { DecidesFiles (map (H.holds shelf.old) (map (λ name. name.now) names.now)) result }
+    ensures scripts { DecidesFiles
+        (map (H.holds shelf.old) (map (λ name. name.now) names.now)) result }
     ensures count { IfOk result (λ scripts. length scripts.items ≡ length names.now) }
     ensures total { IfOk result (λ scripts.
         sum_by (λ script. length script.items) scripts.items ≤ 100_000) }
@@ -97,7 +100,8 @@ fn add_scripts<H: Shelf>(
     requires few { file + length names.now ≤ 65 }
     requires before { before ≤ 100_000 }
     requires all { sum_by (λ script. length script.items) scripts.old.items ≡ before }
-    ensures scripts { DecidesFrom file before (map (H.holds shelf.old) (map (λ name. name.now) names.now))
+    ensures scripts { DecidesFrom file before
+        (map (H.holds shelf.old) (map (λ name. name.now) names.now))
         result (lists_of scripts.old.items) (lists_of scripts.new.items) }
     ensures count { OnOk result (length scripts.new.items
         ≡ length scripts.old.items + length names.now) }

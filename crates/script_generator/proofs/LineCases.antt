@@ -7,7 +7,8 @@ use Rattle.script_generator.specs.declared.asks.Ask.{Ask}
 use Rattle.script_generator.specs.declared.asks.Ask.TheVariants.{Copy, Del, DraftPut, Get, Put}
 
 by_ask : (Fact : List ℕ → Type 0) (client node number : ℕ)
-    → Fact (codes "put " ++ path_text_of client node ++ codes " t" ++ decimal number ++ codes "\n")
+    → Fact (codes "put " ++ path_text_of client node ++ codes " t" ++ decimal number
+    ++ codes "\n")
     → Fact (codes "get " ++ path_text_of client node ++ codes "\n")
     → Fact (codes "dput n" ++ decimal node ++ codes " t" ++ decimal number ++ codes "\n")
     → Fact (codes "del " ++ path_text_of client node ++ codes "\n")

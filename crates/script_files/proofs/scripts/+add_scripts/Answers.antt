@@ -1,4 +1,5 @@
-use Rattle.std.proofs.Common.{◌≡◌, suc, [], ◌∷◌, ◌++◌, ◌-◌, length, take, drop, refl, rules, arith}
+use Rattle.std.proofs.Common.{◌≡◌, suc, [], ◌∷◌, ◌++◌, ◌-◌, length, take, drop}
+use Rattle.std.proofs.Common.{refl, rules, arith}
 use Rattle.std.proofs.Common.{length-drop}
 use Rattle.std.proofs.lemmas.List.{length-take}
 use Rattle.script_files.proofs.Turns.{turn_decided, turn_later, turn_opens, turn_unread}
