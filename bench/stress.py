@@ -16,7 +16,9 @@ CHILDREN, HEIGHT, COUNT = 256, 8, 1_000_000_000
 # Trees: (text, {name: tree}, count, height). A dict is never changed once it stands in a tree.
 
 def node(text, kids):
-    return (text, kids, 1 + sum(k[2] for k in kids.values()), 1 + max(k[3] for k in kids.values()) if kids else 0)
+    count = 1 + sum(k[2] for k in kids.values())
+    height = 1 + max(k[3] for k in kids.values()) if kids else 0
+    return (text, kids, count, height)
 
 
 EMPTY = node("", {})
@@ -98,7 +100,7 @@ class Store:
         self.drafts, self.lasts = [EMPTY] * clients, [0] * clients
 
     def answer(self, client, command, place):
-        """The reply of the next command of a client, which read the version at its place, or made it."""
+        """The reply of a client's next command, which read the version at its place, or made it."""
         word, path, more = command
         c = client - 1
         if word == "dput":
@@ -197,7 +199,8 @@ def check(scripts, output, cells, keep, versions, cycles):
             wanted = store.answer(client, command, place)
             if wanted != reply:
                 return f"history {number}: {reply!r} and not {wanted!r}", full
-            shown = store.lasts[client - 1] if command[0] in ("dput", "dget") else len(store.trees) - 1
+            is_draft = command[0] in ("dput", "dget")
+            shown = store.lasts[client - 1] if is_draft else len(store.trees) - 1
             if place != shown:
                 return f"history {number}: place {place} and not {shown}", full
         if place < store.lasts[client - 1]:
@@ -212,8 +215,9 @@ def check(scripts, output, cells, keep, versions, cycles):
         word, value = line.split(" ")
         found[word] = int(value)
     made = len(store.trees) - 1
+    names = ["commands", "versions", "claimed", "freed", "used", "free", "cycles"]
     wrong = [what for what, holds in (
-        ("names", list(found) == ["commands", "versions", "claimed", "freed", "used", "free", "cycles"]),
+        ("names", list(found) == names),
         ("commands", found.get("commands") == many), ("versions", found.get("versions") == made),
         ("claims and frees", 3 + found["claimed"] == found["used"] + found["freed"]),
         ("cells", found["used"] + found["free"] == cells),
@@ -232,7 +236,8 @@ def words(r, names):
 def command(r, names):
     x = r.random()
     if x < 0.42:
-        return f"put {words(r, names)} {'x' * r.choice((0, 1, 5, 20, 21, 22, 60))}{r.randrange(100)}"
+        many = r.choice((0, 1, 5, 20, 21, 22, 60))
+        return f"put {words(r, names)} {'x' * many}{r.randrange(100)}"
     if x < 0.50:
         return f"del {words(r, names)}"
     if x < 0.56:
@@ -258,12 +263,19 @@ def scripts_of(r, clients, commands, names):
     return ["".join(command(r, names) + "\n" for _ in range(commands)) for _ in range(clients)]
 
 
+# Each kind gives its scripts, the cells, how many versions stay, and the number of the last one.
+MILLION = 1_000_000
 KINDS = {
-    "64 clients, 64 cells": lambda r: (scripts_of(r, 64, 12, "ab"), 64, r.choice((1, 2, 8)), 1_000_000),
-    "2 to 8 clients, keep 1": lambda r: (scripts_of(r, r.randint(2, 8), 60, "abc"), 2048, 1, 1_000_000),
-    "2 to 8 clients, little heap": lambda r: (scripts_of(r, r.randint(2, 8), 40, "abcd"), r.choice((64, 100, 200)), r.randint(1, 4), 1_000_000),
-    "2 clients, few versions": lambda r: (scripts_of(r, 2, 60, "abc"), 4096, r.randint(1, 100), r.randint(1, 30)),
-    "16 clients, large heap": lambda r: (scripts_of(r, 16, 60, "abcdefgh"), 65_536, 8, 1_000_000),
+    "64 clients, 64 cells": lambda r: (
+        scripts_of(r, 64, 12, "ab"), 64, r.choice((1, 2, 8)), MILLION),
+    "2 to 8 clients, keep 1": lambda r: (
+        scripts_of(r, r.randint(2, 8), 60, "abc"), 2048, 1, MILLION),
+    "2 to 8 clients, little heap": lambda r: (
+        scripts_of(r, r.randint(2, 8), 40, "abcd"), r.choice((64, 100, 200)), r.randint(1, 4), MILLION),
+    "2 clients, few versions": lambda r: (
+        scripts_of(r, 2, 60, "abc"), 4096, r.randint(1, 100), r.randint(1, 30)),
+    "16 clients, large heap": lambda r: (
+        scripts_of(r, 16, 60, "abcdefgh"), 65_536, 8, MILLION),
 }
 
 
@@ -277,8 +289,8 @@ def one(docheap, name, seed):
         files.append(os.path.join(folder, str(c)))
         with open(files[-1], "w", encoding="ascii") as it:
             it.write(script)
-    args = [docheap, "run", "--cells", str(cells), "--minor", "4096", "--keep", str(keep), "--versions",
-            str(versions), "--cycles", str(cycles), "--history", "--stats", *files]
+    args = [docheap, "run", "--cells", str(cells), "--minor", "4096", "--keep", str(keep),
+            "--versions", str(versions), "--cycles", str(cycles), "--history", "--stats", *files]
     try:
         ran = subprocess.run(args, capture_output=True, timeout=120)
     except subprocess.TimeoutExpired:
@@ -307,11 +319,13 @@ def main():
         if args.only and args.only not in name:
             continue
         with concurrent.futures.ThreadPoolExecutor(args.jobs) as pool:
-            found = list(pool.map(lambda k: one(os.path.abspath(args.docheap), name, k), range(args.seed, args.seed + args.runs)))
+            seeds = range(args.seed, args.seed + args.runs)
+            found = list(pool.map(lambda k: one(os.path.abspath(args.docheap), name, k), seeds))
         wrong = [w for w, _ in found if w]
         bad += len(wrong)
         some_full = sum(1 for _, full in found if full)
-        print(f"{name}: {len(found)} runs, {len(wrong)} wrong, {some_full} with a full heap", flush=True)
+        print(f"{name}: {len(found)} runs, {len(wrong)} wrong, {some_full} with a full heap",
+              flush=True)
         for w in wrong[:3]:
             print("  " + w)
     return 1 if bad else 0
