@@ -271,7 +271,8 @@ KINDS = {
     "2 to 8 clients, keep 1": lambda r: (
         scripts_of(r, r.randint(2, 8), 60, "abc"), 2048, 1, MILLION),
     "2 to 8 clients, little heap": lambda r: (
-        scripts_of(r, r.randint(2, 8), 40, "abcd"), r.choice((64, 100, 200)), r.randint(1, 4), MILLION),
+        scripts_of(r, r.randint(2, 8), 40, "abcd"), r.choice((64, 100, 200)), r.randint(1, 4),
+        MILLION),
     "2 clients, few versions": lambda r: (
         scripts_of(r, 2, 60, "abc"), 4096, r.randint(1, 100), r.randint(1, 30)),
     "16 clients, large heap": lambda r: (
