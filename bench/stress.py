@@ -1,12 +1,17 @@
 #!/usr/bin/env python3
 """Runs docheap on many random scripts and checks each output against a store of its own.
 
-stress.py DOCHEAP [--runs N] [--seed S] [--jobs J] [--only NAME]
+stress.py DOCHEAP [--runs N] [--seed S] [--jobs J] [--only NAME] [--limit SECONDS]
+
+N runs of each kind; a run is made again by its kind and its seed.
 
 The checker shares nothing with the program: it reads the scripts by the grammar, folds the merged
 history over whole trees, and compares each reply; it compares the history with the clients' own
-replies, and the totals with both. It prints a line for each kind of run, and where one is wrong
-the folder that has its files.
+replies, and the totals with both. The numbers of the versions that the clients were shown are looked
+at without the history too. It prints a line for each kind of run, and where one is wrong the folder
+that has its files. A run that has not ended within the limit is counted apart, as late, with its
+seed: each handshake waits until every thread had a processor, so on a machine that is full of other
+work a run of some hundred cycles takes minutes by `nice -n 10`, and under a second else.
 """
 import argparse, concurrent.futures, os, random, shutil, subprocess, sys, tempfile
 
@@ -158,21 +163,50 @@ class Store:
 MAY_BE_FULL = ("put", "del", "copy", "publish", "dput", "take")
 
 
-def check(scripts, output, cells, keep, versions, cycles):
-    """What is wrong with the output, or None, and how many replies were full."""
+def wrong_in_chain(replies):
+    """What is wrong with the numbers that the clients were answered, without the history: each
+    commit has a number of its own, from 1 on with none left out, and no client is shown a version
+    older than one that it was shown before. `old` shows an older one by its nature, as do drafts
+    the last that was shown."""
+    made = []
+    for c, own in enumerate(replies, 1):
+        last = 0
+        for reply, command in own:
+            words = reply.split(" ")
+            number = int(words[1])
+            if words[0] == "ok":
+                made.append(number)
+                if number <= last:
+                    return f"client {c}: its commit {number} is not behind {last}"
+            elif number < last and command[0] != "old":
+                return f"client {c}: shown {number} behind {last}"
+            if command[0] == "old" and words[0] == "gone" and not int(words[2]) < number:
+                return f"client {c}: {reply!r}"
+            last = max(last, number)
+    made.sort()
+    if made != list(range(1, len(made) + 1)):
+        return f"the commits are not numbered from 1 to {len(made)}, each once"
+    return None
+
+
+def check(scripts, output, cells, keep, versions, cycles, seen):
+    """What is wrong with the output, or None. It adds to what was seen in all runs."""
     commands = [read(s) for s in scripts]
     lines = output.split("\n")
     if lines[-1]:
-        return "no line feed at the end", 0
+        return "no line feed at the end"
     lines.pop()
     at, replies = 0, []
     for c, own in enumerate(commands, 1):
         if at >= len(lines) or lines[at] != f"client {c}":
-            return f"line {at + 1}: no heading of client {c}", 0
+            return f"line {at + 1}: no heading of client {c}"
         replies.append(lines[at + 1:at + 1 + len(own)])
         at += 1 + len(own)
     if lines[at:at + 1] != ["history"]:
-        return f"line {at + 1}: no history", 0
+        return f"line {at + 1}: no history"
+    wrong = wrong_in_chain([list(zip(*both)) for both in zip(replies, commands)])
+    if wrong:
+        return wrong
     many = sum(map(len, commands))
     history, stats = lines[at + 1:at + 1 + many], lines[at + 1 + many:]
     store, done, place_before, full = Store(len(scripts), keep, versions), [0] * len(scripts), 0, 0
@@ -181,35 +215,35 @@ def check(scripts, output, cells, keep, versions, cycles):
         place, client, own, reply = line.split(" ", 3)
         place, client, own = int(place), int(client), int(own)
         if not 1 <= client <= len(scripts) or own != done[client - 1] + 1:
-            return f"history {number}: out of the client's order", full
+            return f"history {number}: out of the client's order"
         command = commands[client - 1][own - 1]
         if replies[client - 1][own - 1] != reply:
-            return f"history {number}: not what the client was answered", full
+            return f"history {number}: not what the client was answered"
         done[client - 1] = own
         key = (place, not reply.startswith("ok "), client, own)
         if key_before is not None and key_before >= key:
-            return f"history {number}: not in order", full
+            return f"history {number}: not in order"
         key_before = key
         if reply == f"full {place}":
             full += 1
             shown = store.lasts[client - 1] if command[0] == "dput" else len(store.trees) - 1
             if command[0] not in MAY_BE_FULL or place != shown:
-                return f"history {number}: full where it may not be", full
+                return f"history {number}: full where it may not be"
         else:
             wanted = store.answer(client, command, place)
             if wanted != reply:
-                return f"history {number}: {reply!r} and not {wanted!r}", full
+                return f"history {number}: {reply!r} and not {wanted!r}"
             is_draft = command[0] in ("dput", "dget")
             shown = store.lasts[client - 1] if is_draft else len(store.trees) - 1
             if place != shown:
-                return f"history {number}: place {place} and not {shown}", full
+                return f"history {number}: place {place} and not {shown}"
         if place < store.lasts[client - 1]:
-            return f"history {number}: a place that falls", full
+            return f"history {number}: a place that falls"
         store.lasts[client - 1] = place
     if done != [len(c) for c in commands]:
-        return "the history lacks commands", full
+        return "the history lacks commands"
     if not stats or stats[0] != "stats":
-        return "no stats", full
+        return "no stats"
     found = {}
     for line in stats[1:]:
         word, value = line.split(" ")
@@ -219,12 +253,16 @@ def check(scripts, output, cells, keep, versions, cycles):
     wrong = [what for what, holds in (
         ("names", list(found) == names),
         ("commands", found.get("commands") == many), ("versions", found.get("versions") == made),
+        ("number of ok", made == sum(r.startswith("ok ") for own in replies for r in own)),
         ("claims and frees", 3 + found["claimed"] == found["used"] + found["freed"]),
         ("cells", found["used"] + found["free"] == cells),
         ("claims", found["claimed"] >= made),
         ("cycles", found["cycles"] <= cycles),
         ("a full heap", not full or found["claimed"] >= cells - 3)) if not holds]
-    return ("stats: " + ", ".join(wrong) if wrong else None), full
+    for what, more in (("commands", many), ("commits", made), ("full", full),
+                       ("with a full heap", full > 0), ("freed", found.get("freed", 0))):
+        seen[what] = seen.get(what, 0) + more
+    return "stats: " + ", ".join(wrong) if wrong else None
 
 
 # Kinds of runs: how many clients, cells, versions that stay, and so on.
@@ -268,8 +306,14 @@ MILLION = 1_000_000
 KINDS = {
     "64 clients, 64 cells": lambda r: (
         scripts_of(r, 64, 12, "ab"), 64, r.choice((1, 2, 8)), MILLION),
+    "64 clients, 64 cells, 40 commands": lambda r: (
+        scripts_of(r, 64, 40, "abc"), 64, 1, MILLION),
     "2 to 8 clients, keep 1": lambda r: (
         scripts_of(r, r.randint(2, 8), 60, "abc"), 2048, 1, MILLION),
+    "2 to 8 clients, keep 1, 200 commands": lambda r: (
+        scripts_of(r, r.randint(2, 8), 200, "abcde"), 4096, 1, MILLION),
+    "2 to 8 clients, keep 1, 64 cells": lambda r: (
+        scripts_of(r, r.randint(2, 8), 60, "ab"), 64, 1, MILLION),
     "2 to 8 clients, little heap": lambda r: (
         scripts_of(r, r.randint(2, 8), 40, "abcd"), r.choice((64, 100, 200)), r.randint(1, 4),
         MILLION),
@@ -280,7 +324,9 @@ KINDS = {
 }
 
 
-def one(docheap, name, seed):
+def one(docheap, name, seed, limit):
+    """What is wrong with a run, or None, and what was seen in it."""
+    seen = {}
     r = random.Random(f"{name} {seed}")
     scripts, cells, keep, versions = KINDS[name](r)
     cycles = r.choice((4_000_000_000, 4_000_000_000, 4_000_000_000, 0, 1, 3))
@@ -293,18 +339,23 @@ def one(docheap, name, seed):
     args = [docheap, "run", "--cells", str(cells), "--minor", "4096", "--keep", str(keep),
             "--versions", str(versions), "--cycles", str(cycles), "--history", "--stats", *files]
     try:
-        ran = subprocess.run(args, capture_output=True, timeout=120)
+        ran = subprocess.run(args, capture_output=True, timeout=limit)
     except subprocess.TimeoutExpired:
-        return f"no end within two minutes: {' '.join(args)}", 0
+        shutil.rmtree(folder)
+        return None, {"late": seed}
     if ran.returncode:
-        return f"status {ran.returncode}: {' '.join(args)}: {ran.stderr.decode()}", 0
-    wrong, full = check(scripts, ran.stdout.decode(), cells, keep, versions, cycles)
+        return f"status {ran.returncode}: {' '.join(args)}: {ran.stderr.decode()}", seen
+    wrong = check(scripts, ran.stdout.decode(), cells, keep, versions, cycles, seen)
     if wrong:
         with open(os.path.join(folder, "output"), "wb") as it:
             it.write(ran.stdout)
-        return f"{wrong}: {' '.join(args)}", full
+        return f"{wrong}: {' '.join(args)}", seen
     shutil.rmtree(folder)
-    return None, full
+    return None, seen
+
+
+def told(seen):
+    return ", ".join(f"{many} {what}" for what, many in seen.items())
 
 
 def main():
@@ -314,22 +365,33 @@ def main():
     p.add_argument("--seed", type=int, default=1)
     p.add_argument("--jobs", type=int, default=1)
     p.add_argument("--only")
+    p.add_argument("--limit", type=int, default=120)
     args = p.parse_args()
-    bad = 0
+    bad, runs, many_late, all_seen = 0, 0, 0, {}
     for name in KINDS:
         if args.only and args.only not in name:
             continue
         with concurrent.futures.ThreadPoolExecutor(args.jobs) as pool:
             seeds = range(args.seed, args.seed + args.runs)
-            found = list(pool.map(lambda k: one(os.path.abspath(args.docheap), name, k), seeds))
+            found = list(pool.map(lambda k: one(os.path.abspath(args.docheap), name, k, args.limit),
+                                   seeds))
         wrong = [w for w, _ in found if w]
         bad += len(wrong)
-        some_full = sum(1 for _, full in found if full)
-        print(f"{name}: {len(found)} runs, {len(wrong)} wrong, {some_full} with a full heap",
+        runs += len(found)
+        sums, late = {}, [seen.pop("late") for _, seen in found if "late" in seen]
+        many_late += len(late)
+        for _, seen in found:
+            for what, many in seen.items():
+                sums[what] = sums.get(what, 0) + many
+                all_seen[what] = all_seen.get(what, 0) + many
+        print(f"{name}: {len(found)} runs, {len(wrong)} wrong, {len(late)} late; {told(sums)}",
               flush=True)
+        if late:
+            print(f"  late: seeds {late}")
         for w in wrong[:3]:
             print("  " + w)
-    return 1 if bad else 0
+    print(f"all: {runs} runs, {bad} wrong, {many_late} late; {told(all_seen)}")
+    return 1 if bad or many_late else 0
 
 
 if __name__ == "__main__":

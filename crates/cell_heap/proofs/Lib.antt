@@ -1,6 +1,7 @@
 mod Answering
 mod AtHand
 mod Changes
+mod Joined
 mod Kept
 mod Made
 mod Owed

@@ -1,7 +1,8 @@
 -- What a step of the collector's seat tells, in words of the seat that the call was given.
 use Rattle.std.proofs.Common.{◌≡◌, ◌≤◌, ℕ, Bool, true, false, Option, sym, ◌∙◌, ap, subst}
-use Rattle.std.proofs.lemmas.Bool.{and_parts, not-true}
-use Rattle.cell_heap.specs.Telling.{AtCollectorEvent, FindsKnown, IsKnown, collector_tells}
+use Rattle.std.proofs.lemmas.Bool.{and_parts, false≢true, not-true}
+use Rattle.cell_heap.specs.Telling.{AtCollectorEvent, FindsJoined, FindsKnown, IsKnown}
+use Rattle.cell_heap.specs.Telling.{collector_tells}
 use Rattle.cell_words.specs.declared.colours.Colour.{Colour}
 use Rattle.cell_words.specs.declared.fields.Field.{Field}
 use Rattle.core_machine.specs.InRange.{NamesBelow}
@@ -18,6 +19,7 @@ use Rattle.dlg_core.specs.Collects.{AreOver}
 use Rattle.heap_rule.specs.Asks.{collector_state}
 use Rattle.heap_rule.specs.Rule.{IsAlone, told_collector}
 use Rattle.heap_rule.specs.Steps.{AtCollectorStep}
+use Rattle.heap_rule.specs.declared.view.View.{View}
 use Rattle.heap_table.specs.Seats.{SeatView}
 
 -- the sweep does not look at a gray cell
@@ -26,7 +28,19 @@ pub finds_no_gray : (s : State) (found : Colour) → can s event.SweepLook ≡ t
 finds_no_gray s found h is =
     ap is_gray (sym is) ∙ not-true (is_gray (colour_of s s.control.position)) (and_parts _ _ h).1
 
+-- the event is a look at a presence
+abbrev looks : Event → Bool
+looks (event.Poll i) = true
+looks (event.AnswerOut i over) = true
+looks e = false
+
 module _ {P : Type 0} where
+  looks_not : (v : View P) (e : Event) (found : Found) → looks e ≡ false
+      → FindsJoined v e found
+  looks_not v (event.Poll i) found none = absurd (false≢true (sym none))
+  looks_not v (event.AnswerOut i over) found none = absurd (false≢true (sym none))
+  looks_not v e found none = tt
+
   -- The operation was made: the seat that the call was given, the same opened, and the one behind.
   pub record Made (fixed : ℕ → Bool) (old inside new : SeatView P) (e : Event)
       (number : ℕ) : Type 0 where
@@ -94,22 +108,31 @@ module _ {P : Type 0} where
         names
 
     -- where the collector knows the state it is the one at the step
-    pub knows : (found : Found) → found_by m.step.core e ≡ found → FindsKnown old.me e found
-    knows found is =
+    pub finds_known : (found : Found) → found_by m.step.core e ≡ found
+        → FindsJoined inside.me e found → FindsKnown old.me e found
+    finds_known found is joined =
         let at = m.step in
-        subst (λ (s : SeatView P). FindsKnown s.me e found) m.is (λ s alone.
-        let here : (s ≡ at.core) × AreOver at.core =
-        subst (λ (a : Option State). IsAlone a at.core) alone at.ours.alone in
-        subst (λ (x : State). IsKnown inside.me x e found) (sym here.0) record {
-          shaped = at.ours.shown.shaped;
-          consistent = at.ours.shown.consistent;
-          over = here.1;
-          cells = at.ours.cells;
-          control = at.ours.control;
-          part = at.ours.part;
-          happens = at.happens;
-          found_is = is;
-        })
+        subst (λ (s : SeatView P). FindsKnown s.me e found) m.is record {
+          known = λ s alone.
+              let here : (s ≡ at.core) × AreOver at.core =
+              subst (λ (a : Option State). IsAlone a at.core) alone at.ours.alone in
+              subst (λ (x : State). IsKnown inside.me x e found) (sym here.0) record {
+                shaped = at.ours.shown.shaped;
+                consistent = at.ours.shown.consistent;
+                over = here.1;
+                cells = at.ours.cells;
+                control = at.ours.control;
+                part = at.ours.part;
+                happens = at.happens;
+                found_is = is;
+              };
+          joined = joined;
+        }
+
+    -- of an event that looks at no presence
+    pub knows : (found : Found) → found_by m.step.core e ≡ found → looks e ≡ false
+        → FindsKnown old.me e found
+    knows found is none = finds_known found is (looks_not inside.me e found none)
 
   abbrev pub made : {fixed : ℕ → Bool} {old inside new : SeatView P} {e : Event} {number : ℕ}
       → inside ≡ old → new.table ≡ inside.table → AtCollectorStep fixed inside.me e number new.me

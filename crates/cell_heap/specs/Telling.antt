@@ -1,6 +1,6 @@
 -- What a call of the collector's seat tells.
 -- Source: this project's.
-use Rattle.std.specs.Prelude.{ℕ, ◌≡◌, Bool, true, Some}
+use Rattle.std.specs.Prelude.{ℕ, ◌≡◌, ◌<◌, Bool, true, false, Some}
 use Rattle.cell_words.specs.declared.colours.Colour.{Colour}
 use Rattle.cell_words.specs.declared.presences.Presence.{Presence}
 use Rattle.cell_words.specs.Modes.{requested_of}
@@ -20,7 +20,13 @@ use Rattle.heap_rule.specs.Asks.{collector_state}
 use Rattle.heap_rule.specs.Lore.{Lore}
 use Rattle.heap_rule.specs.Rule.{told_collector}
 use Rattle.heap_rule.specs.Steps.{Ours}
+use Rattle.heap_table.specs.Joined.{IsJoined}
 use Rattle.heap_table.specs.Seats.{SeatView}
+
+-- a presence that is over was found
+abbrev pub says_over : Found → Bool
+says_over (finds.Presence found) = found.over
+says_over _ = false
 
 module _ {P : Type 0} where
   -- The seat is told an event with what it found. The state behind it is of no account but where a
@@ -42,8 +48,24 @@ module _ {P : Type 0} where
     pub happens : can s e ≡ true
     pub found_is : found_by s e ≡ found
 
-  abbrev pub FindsKnown : View P → Event → Found → Type 0
-  FindsKnown v e found = (s : State) → v.alone ≡ Some s → IsKnown v s e found
+  -- the seats of all mutators are joined
+  abbrev pub AreJoined : View P → Type 0
+  AreJoined v = (i : ℕ) → i < v.shape.mutators → IsJoined v i
+
+  -- then a look at a presence finds that its mutator is over
+  abbrev pub JoinedFound : View P → Found → Type 0
+  JoinedFound v found = AreJoined v → says_over found ≡ true
+
+  abbrev pub FindsJoined : View P → Event → Found → Type 0
+  FindsJoined v (event.Poll i) found = JoinedFound v found
+  FindsJoined v (event.AnswerOut i over) found = JoinedFound v found
+  FindsJoined v _ found = Unit {0}
+
+  -- An event finds what the collector knows already: what is there, where it knows the state, and
+  -- where it has joined all seats a mutator that is over.
+  pub record FindsKnown (v : View P) (e : Event) (found : Found) : Type 0 where
+    pub known : (s : State) → v.alone ≡ Some s → IsKnown v s e found
+    pub joined : FindsJoined v e found
 
   -- An event that finds a colour, which its call does not give.
   pub record TellsColour (old : SeatView P) (e : Event) (new : SeatView P) : Type 0 where

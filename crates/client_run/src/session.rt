@@ -54,6 +54,7 @@ impl Session {
         ensures client { IfOk result (λ s. s.journal.log.client ≡ client) }
         ensures keep { IfOk result (λ s. s.journal.limits.keep ≡ limits.keep) }
         ensures versions { IfOk result (λ s. s.journal.limits.versions ≡ limits.versions) }
+        ensures minor { IfOk result (λ s. s.minor.room ≡ limits.minor) }
         ensures may { IfOk result (λ s. (m : Bound Pass) → m.seat.me.presence.inside ≡ true
             → length m.seat.me.own.held ≡ 1 → m.seat.me.pass.keep ≡ limits.keep
             → m.seat.me.pass.commits ≡ [] → 4 * limits.minor + 16384 ≤ m.seat.me.room

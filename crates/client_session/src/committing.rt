@@ -63,9 +63,9 @@ fn attached<H: ClientHeap>(
 }
 
 impl Journal {
-    /// Makes a node's tree the next version, over one that was the latest. The turn is lost where
-    /// another client was faster.
-    fn commit<H: ClientHeap, R: Wait>(
+    /// Makes a node's tree the next version, over one that was the latest at the last look. The
+    /// turn is lost where another client was faster.
+    fn commit_over<H: ClientHeap, R: Wait>(
         &self,
         rt: &R,
         heap: &mut H,
@@ -73,7 +73,7 @@ impl Journal {
         at: H::At,
     ) -> Result<Option<Given>, NoMemory>
         requires may { MayTurn self.now (H.state heap.old) }
-        requires room { 9100 ≤ (H.state heap.old).room }
+        requires room { 9099 ≤ (H.state heap.old).room }
         requires version { (H.shown heap.old).is_version version }
         requires node { (H.shown heap.old).is_node at }
         ensures ends { (c : Command) (s : ClientState)
@@ -97,6 +97,35 @@ impl Journal {
             Err(CommitRefusal::Moved) => Ok(None),
             Err(CommitRefusal::Full) => Ok(Some(brief!(Reply::Full { shown }, shown))),
         }
+    }
+
+    /// Makes a node's tree the next version, over one that was the latest. The turn is lost where
+    /// another client was faster; a look at the latest version comes first, since what the edit made
+    /// would be promoted in vain.
+    fn commit<H: ClientHeap, R: Wait>(
+        &self,
+        rt: &R,
+        heap: &mut H,
+        version: HeldVersion,
+        at: H::At,
+    ) -> Result<Option<Given>, NoMemory>
+        requires may { MayTurn self.now (H.state heap.old) }
+        requires room { 9100 ≤ (H.state heap.old).room }
+        requires version { (H.shown heap.old).is_version version }
+        requires node { (H.shown heap.old).is_node at }
+        ensures ends { (c : Command) (s : ClientState)
+            → Begun (bounds self.now.limits) (account_of self.now s) c version.number s
+            (H.state heap.old) (Ok ((H.shown heap.old).tree at))
+            → full_place version.number (account_of self.now s) c ≡ Some version.number
+            → Ends self.now c s (H.state heap.new) result }
+        ensures lent { H.lent heap.new ≡ H.lent heap.old }
+    {
+        let latest = heap.current();
+        if latest.number != version.number {
+            return Ok(None);
+        }
+        let ended = self.commit_over(rt, heap, version, at);
+        ended
     }
 
     /// Ends a turn whose edit is made or refused.

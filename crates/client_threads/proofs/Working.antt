@@ -1,20 +1,17 @@
 -- What becomes of the collector's seat.
-use Rattle.std.proofs.Common.{◌≡◌, ◌+◌, ◌++◌, ℕ, Bool, true, false, List, []}
-use Rattle.std.proofs.Common.{◌∷◌, refl, sym, ◌∙◌}
+use Rattle.std.proofs.Common.{◌≡◌, ◌+◌, ℕ, Bool, true, false, List, []}
+use Rattle.std.proofs.Common.{◌∷◌, sym}
 use Rattle.std.proofs.Common.{ap, subst}
-use Rattle.std.proofs.lemmas.List.{append_assoc}
 use Rattle.cell_words.specs.declared.controls.Stage.TheVariants as stage
 use Rattle.collector.specs.Bound.{Bound, control_of, mutators_of, tells_at}
 use Rattle.collector.specs.Cycles.{Served}
 use Rattle.collector.specs.Stretches.{Stretch, Took}
-use Rattle.core_machine.specs.declared.events.Event.TheVariants as event
-use Rattle.core_machine.specs.declared.events.Found.TheVariants as finds
+use Rattle.collector.proofs.Joined.{joined_meet}
 use Rattle.core_machine.specs.declared.events.Taken.{Taken}
 use Rattle.free_cells.specs.declared.queue.FreeQueue.{FreeQueue}
-use Rattle.heap_rule.specs.Rule.{took}
 use Rattle.heap_table.specs.Seats.{HeapId, SeatView}
 use Rattle.version_rule.specs.Pass.{Pass}
-use Rattle.client_threads.specs.Serving.{IsKeeper, Serves, StandsBy, TurnOf, Worked, off_first}
+use Rattle.client_threads.specs.Serving.{IsKeeper, Serves, StandsBy, TurnOf}
 use Rattle.client_threads.specs.Serving.{off_if}
 use Rattle.client_threads.specs.declared.keeper.Keeper.{Keeper}
 use Rattle.client_threads.specs.declared.serving.Turn.{Turn}
@@ -45,43 +42,10 @@ serves cycles freed made old new many stretch idle off = record {
   cycles_are = many;
   idle = idle;
   off_duty = off;
+  late = joined_meet old.seat new.seat stretch.added stretch.told;
 }
 
 -- Off duty first, or not.
-
-pub worked : (cycles : ℕ) (held_back : Bool) (was now : SeatView Pass)
-    → Serves cycles (off_if held_back was) now → Worked cycles was now
-worked cycles true was now s = record {
-  table = s.table;
-  shape = s.shape;
-  role = s.role;
-  places = s.places;
-  held_back = true;
-  made = s.made;
-  freed = s.freed;
-  added = s.added;
-  trail = s.trail
-      ∙ append_assoc was.me.trail (took (event.Duty false) finds.Stored ∷ []) s.added;
-  served = s.served;
-  cycles_are = s.cycles_are;
-  idle = s.idle;
-  off_duty = s.off_duty;
-}
-worked cycles false was now s = record {
-  table = s.table;
-  shape = s.shape;
-  role = s.role;
-  places = s.places;
-  held_back = false;
-  made = s.made;
-  freed = s.freed;
-  added = s.added;
-  trail = s.trail;
-  served = s.served;
-  cycles_are = s.cycles_are;
-  idle = s.idle;
-  off_duty = s.off_duty;
-}
 
 keeps : (heap : HeapId) (queue : FreeQueue) (cycles : ℕ) (held_back : Bool) (keeper : Keeper)
     → IsKeeper heap queue cycles keeper.seat keeper.pass
@@ -100,8 +64,7 @@ keeps heap queue cycles false keeper is = is
 pub stands : (heap : HeapId) (queue : FreeQueue) (cycles : ℕ) (keeper : Keeper) (turn : Turn)
     → IsKeeper heap queue cycles keeper.seat keeper.pass → TurnOf cycles keeper turn
     → StandsBy heap queue cycles keeper.seat turn
-stands heap queue cycles keeper (turns.Served now) is of =
-    worked cycles false keeper.seat now of
+stands heap queue cycles keeper (turns.Served now) is of = of
 stands heap queue cycles keeper (turns.HandedBack now) is of = (
   subst (λ (k : Keeper). IsKeeper heap queue cycles k.seat k.pass) (sym of) is,
   (false, ap (λ (k : Keeper). k.seat) of),
@@ -119,9 +82,3 @@ stands_off heap queue cycles keeper now is off pass =
           (subst (λ (s : SeatView Pass). IsKeeper heap queue cycles s keeper.pass) (sym off) same),
       (true, off),
     )
-
-pub worked_after : (cycles : ℕ) (held_back : Bool) (was seat now : SeatView Pass)
-    → seat ≡ off_if held_back was → Serves cycles seat now → Worked cycles was now
-worked_after cycles held_back was seat now off s =
-    worked cycles held_back was now
-    (subst (λ (from : SeatView Pass). Serves cycles from now) off s)

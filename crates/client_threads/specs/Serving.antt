@@ -1,13 +1,15 @@
 -- What the collector's thread has, and what becomes of its seat.
 -- Source: this project's.
 use Rattle.std.specs.Prelude.{ℕ, ◌≡◌, ◌≤◌, ◌+◌, ◌++◌, Bool, true, false}
-use Rattle.std.specs.Prelude.{List, [], ◌∷◌}
-use Rattle.cell_heap.specs.Telling.{collector_tells}
+use Rattle.std.specs.Prelude.{List, [], ◌∷◌, Option, Some, None}
+use Rattle.cell_heap.specs.Telling.{AreJoined, collector_tells}
 use Rattle.cell_words.specs.declared.controls.Stage.TheVariants as stage
 use Rattle.client_threads.specs.declared.keeper.Keeper.{Keeper}
+use Rattle.client_threads.specs.declared.keeper.Standby.{Standby}
 use Rattle.client_threads.specs.declared.serving.Turn.{Turn}
 use Rattle.client_threads.specs.declared.serving.Turn.TheVariants as turns
 use Rattle.collector.specs.Cycles.{Served}
+use Rattle.collector.specs.Over.{MeetOver}
 use Rattle.core_machine.specs.State.{greatest_cycles}
 use Rattle.core_machine.specs.declared.events.Event.TheVariants as event
 use Rattle.core_machine.specs.declared.events.Found.TheVariants as finds
@@ -51,22 +53,8 @@ pub record Serves (cycles : ℕ) (old new : SeatView Pass) : Type 0 where
   pub cycles_are : new.me.control.cycles ≡ old.me.control.cycles + made
   pub idle : new.me.control.stage ≡ stage.Idle
   pub off_duty : new.me.control.duty ≡ false
-
--- It went off duty first, or did not, and then it served.
-pub record Worked (cycles : ℕ) (old new : SeatView Pass) : Type 0 where
-  pub table : new.table ≡ old.table
-  pub shape : new.me.shape ≡ old.me.shape
-  pub role : new.me.role ≡ old.me.role
-  pub places : new.me.places ≡ old.me.places
-  pub held_back : Bool
-  pub made : ℕ
-  pub freed : ℕ
-  pub added : List Taken
-  pub trail : new.me.trail ≡ old.me.trail ++ (off_first held_back ++ added)
-  pub served : Served old.me.shape.mutators cycles made freed added
-  pub cycles_are : new.me.control.cycles ≡ old.me.control.cycles + made
-  pub idle : new.me.control.stage ≡ stage.Idle
-  pub off_duty : new.me.control.duty ≡ false
+  -- where all seats were joined before, each mutator was found over
+  pub late : AreJoined old.me → MeetOver added
 
 -- the turn: it served, or it was held back
 abbrev pub TurnOf : ℕ → Keeper → Turn → Type 0
@@ -80,7 +68,26 @@ off_if false seat = seat
 
 -- the turn is to be ended: it served, or may do so yet
 abbrev pub StandsBy : HeapId → FreeQueue → ℕ → SeatView Pass → Turn → Type 0
-StandsBy heap queue cycles was (turns.Served now) = Worked cycles was now
+StandsBy heap queue cycles was (turns.Served now) = Serves cycles was now
 StandsBy heap queue cycles was (turns.HandedBack keeper) =
     IsKeeper heap queue cycles keeper.seat keeper.pass
     × ((held_back : Bool) × (keeper.seat ≡ off_if held_back was))
+
+-- the seat has served, where nothing is left with it; else it went off duty, if it did, and may
+-- serve
+abbrev pub Stands : HeapId → FreeQueue → ℕ → SeatView Pass → SeatView Pass
+    → Option Standby → Type 0
+Stands heap queue cycles was seat None = Serves cycles was seat
+Stands heap queue cycles was seat (Some standby) =
+    IsKeeper heap queue cycles seat standby.pass
+    × ((held_back : Bool) × (seat ≡ off_if held_back was))
+
+-- The service that is left.
+
+abbrev pub MayServe : HeapId → FreeQueue → ℕ → SeatView Pass → Option Standby → Type 0
+MayServe heap queue cycles seat None = Unit {0}
+MayServe heap queue cycles seat (Some standby) = IsKeeper heap queue cycles seat standby.pass
+
+abbrev pub ServesLate : ℕ → Option Standby → SeatView Pass → SeatView Pass → Type 0
+ServesLate cycles None old new = new ≡ old
+ServesLate cycles (Some standby) old new = Serves cycles old new

@@ -1,12 +1,12 @@
 //! The run: all clients, beside the collector.
 ghost use Rattle.std.specs.Prelude.{◌≡◌, length};
 ghost use Rattle.client_threads.specs.Clients.{AllDone, AllReady};
-ghost use Rattle.client_threads.specs.Serving.{IsKeeper, TurnOf, Worked};
+ghost use Rattle.client_threads.specs.Serving.{IsKeeper, Stands, TurnOf};
 
 use crate::clients::Client;
-use crate::keeper::Keeper;
+use crate::keeper::{Keeper, Standby};
 use crate::running::run_each;
-use crate::serving::{Serving, Turn, serve_after, stand_down, take_turn};
+use crate::serving::{Serving, Turn, apart, stand_down, take_turn};
 use cell_heap::ColSeat;
 use client_run::Limits;
 use doc_model::Command;
@@ -22,8 +22,8 @@ use std::thread::{self, Threads};
 
 /// Runs the clients with their scripts, and the collector, each on a thread of its own. Client k
 /// of the list has script k. The limits are those that the sessions were made with: contracts alone
-/// read them. Where no thread can be made for the collector it goes off duty first, and serves
-/// after the clients.
+/// read them. Where no thread can be made for the collector it goes off duty first, and what is
+/// left with its seat says that it did not serve yet.
 pub fn run_beside<R: Threads + Wait + Sync, G: Gate + Sync>(
     alloc: Global,
     rt: &R,
@@ -35,12 +35,12 @@ pub fn run_beside<R: Threads + Wait + Sync, G: Gate + Sync>(
     keeper: Keeper,
     cycles: u32,
     clients: Vec<Client>,
-) -> (Vec<Client>, ColSeat<Documents>)
+) -> (Vec<Client>, ColSeat<Documents>, Option<Standby>)
     requires keeper { IsKeeper heap.now queue.now cycles keeper.seat keeper.pass }
     requires clients { AllReady heap.now queue.now limits scripts.now clients.items }
     ensures done { AllDone heap.now limits scripts.now result.0.items }
     ensures many { length result.0.items ≡ length clients.items }
-    ensures worked { Worked cycles keeper.seat result.1 }
+    ensures stands { Stands heap.now queue.now cycles keeper.seat result.1 result.2 }
 {
     let held_back = AtomicBool::new(false);
     let flag = &held_back;
@@ -52,14 +52,14 @@ pub fn run_beside<R: Threads + Wait + Sync, G: Gate + Sync>(
     thread::scope(
         thread::scope_env(),
         rt,
-        move |scope| -> (Vec<Client>, ColSeat<Documents>)
+        move |scope| -> (Vec<Client>, ColSeat<Documents>, Option<Standby>)
             requires { IsKeeper heap.now queue.now cycles keeper.seat keeper.pass
                 × AllReady heap.now queue.now limits scripts.now clients.items
                 × (was.value ≡ keeper) × (promise.keeper.value ≡ keeper)
                 × (promise.cycles ≡ cycles) }
             ensures { AllDone heap.entry.now limits scripts.entry.now result.0.items
                 × (length result.0.items ≡ length clients.items)
-                × Worked cycles keeper.seat result.1 }
+                × Stands heap.entry.now queue.entry.now cycles keeper.seat result.1 result.2 }
         {
             let turn = move || -> Turn
                 requires { IsKeeper heap.now queue.now cycles keeper.seat keeper.pass }
@@ -69,13 +69,15 @@ pub fn run_beside<R: Threads + Wait + Sync, G: Gate + Sync>(
                 Ok(thread) => {
                     let clients = run_each(alloc, rt, gate, heap, queue, scripts, limits, clients);
                     let turn = thread.join(rt);
-                    (clients, serve_after(rt, heap, queue, cycles, &was, turn))
+                    let (seat, standby) = apart(heap, queue, cycles, &was, turn);
+                    (clients, seat, standby)
                 }
                 Err(refused) => {
                     flag.store(true, Ordering::SeqCst);
                     let turn = stand_down(heap, queue, cycles, &was, (refused.value)());
                     let clients = run_each(alloc, rt, gate, heap, queue, scripts, limits, clients);
-                    (clients, serve_after(rt, heap, queue, cycles, &was, turn))
+                    let (seat, standby) = apart(heap, queue, cycles, &was, turn);
+                    (clients, seat, standby)
                 }
             }
         },

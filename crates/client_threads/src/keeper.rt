@@ -11,3 +11,10 @@ pub struct Keeper {
     pub stack: MarkStack,
     pub pass: HintPass,
 }
+
+/// What is left with a seat that did not serve yet: the mark stack, and the pass of the hints.
+#[derive(Drop)]
+pub struct Standby {
+    pub stack: MarkStack,
+    pub pass: HintPass,
+}

@@ -2,8 +2,9 @@
 //!
 //! The layer above may rely on this: when `run_beside` returns, each client's mutator is over, and
 //! its log is in step with what its seat has; a client that did not fail answered its whole script.
-//! The collector's seat served once, and is off duty. That anything runs beside anything else is
-//! claimed by no clause.
+//! The collector's seat has served once, or does so in `serve_after`, and is off duty then. Where
+//! the clients' seats are joined before, that service finds each mutator over. That anything runs
+//! beside anything else is claimed by no clause.
 //!
 //! Reading order: `clients`, specs/Clients; specs/Going, `answering`, `running`; `keeper`,
 //! specs/Serving, `serving`; `beside`.
@@ -18,4 +19,5 @@ mod serving;
 
 pub use beside::run_beside;
 pub use clients::Client;
-pub use keeper::Keeper;
+pub use keeper::{Keeper, Standby};
+pub use serving::serve_after;

@@ -2,11 +2,13 @@
 //!
 //! Where no thread can be made for it the closure comes back, and nothing opens a closure. So it
 //! looks at a flag first: with the flag set it gives all back as it got it. The seat then goes off
-//! duty, so that no claim waits for it, and serves when the clients are through.
+//! duty, so that no claim waits for it, and serves when the clients are through and their seats are
+//! joined.
 ghost use Rattle.std.specs.Prelude.{◌≡◌};
-ghost use Rattle.client_threads.specs.Serving.{IsKeeper, Serves, StandsBy, TurnOf, Worked};
+ghost use Rattle.client_threads.specs.Serving.{IsKeeper, MayServe, Serves, ServesLate, Stands};
+ghost use Rattle.client_threads.specs.Serving.{StandsBy, TurnOf};
 
-use crate::keeper::Keeper;
+use crate::keeper::{Keeper, Standby};
 use cell_heap::ColSeat;
 use collector::Collector;
 use document_versions::Documents;
@@ -104,21 +106,48 @@ pub(crate) fn stand_down(
     }
 }
 
-/// Serves, if it did not serve yet.
-pub(crate) fn serve_after<R: Wait>(
-    rt: &R,
+/// The seat behind the clients' threads, and what is left with it where it did not serve yet.
+pub(crate) fn apart(
     heap: &CellHeap<Documents>,
     queue: &FreeQueue,
     cycles: u32,
     was: &Snapshot<Keeper>,
     turn: Turn,
-) -> ColSeat<Documents>
+) -> (ColSeat<Documents>, Option<Standby>)
     requires stands { StandsBy heap.now queue.now cycles was.now.value.seat turn }
-    ensures worked { Worked cycles was.now.value.seat result }
+    ensures stands { Stands heap.now queue.now cycles was.now.value.seat result.0 result.1 }
 {
+    let _ = heap;
+    let _ = queue;
+    let _ = cycles;
     let _ = was;
     match turn {
-        Turn::Served(seat) => seat,
-        Turn::HandedBack(keeper) => serve(rt, heap, queue, cycles, keeper),
+        Turn::Served(seat) => (seat, None),
+        Turn::HandedBack(keeper) => {
+            let Keeper { seat, stack, pass } = keeper;
+            (seat, Some(Standby { stack, pass }))
+        }
+    }
+}
+
+/// Serves, if it did not serve yet. It is called when the seats of all mutators are joined: each is
+/// found over then.
+pub fn serve_after<R: Wait>(
+    rt: &R,
+    heap: &CellHeap<Documents>,
+    queue: &FreeQueue,
+    cycles: u32,
+    seat: ColSeat<Documents>,
+    standby: Option<Standby>,
+) -> ColSeat<Documents>
+    requires may { MayServe heap.now queue.now cycles seat standby }
+    ensures served { ServesLate cycles standby seat result }
+{
+    match standby {
+        None => seat,
+        Some(standby) => {
+            let Standby { stack, pass } = standby;
+            serve(rt, heap, queue, cycles, Keeper { seat, stack, pass })
+        }
     }
 }

@@ -7,7 +7,7 @@ use Rattle.std.proofs.Common.{◌∙◌, ap, arith, slice_set, slice_index_or}
 use Rattle.std.proofs.lemmas.Bool.{and_parts, cases_eq, eqb-true, false≢true, or_cases}
 use Rattle.std.proofs.lemmas.List.{get_or-set_other, get_or-set_same}
 use Rattle.std.specs.List.{list_all}
-use Rattle.cell_heap.specs.Telling.{FindsKnown}
+use Rattle.cell_heap.specs.Telling.{FindsKnown, says_over}
 use Rattle.cell_words.specs.declared.controls.Control.{Control}
 use Rattle.cell_words.specs.declared.controls.Stage.TheVariants as stage
 use Rattle.core_machine.specs.Next.{after, maker}
@@ -25,7 +25,7 @@ use Rattle.heap_rule.proofs.Alone.{over_found_long}
 use Rattle.heap_table.specs.Seats.{SeatView}
 use Rattle.collector.specs.Bound.{Bound, control_of, tells_at}
 use Rattle.collector.specs.Counting.{Counts}
-use Rattle.collector.specs.Over.{AllOver, finds_over, says_over, was_over}
+use Rattle.collector.specs.Over.{AllOver, finds_over, was_over}
 use Rattle.collector.specs.Replay.{Work, count_along, ends_pass, spills, stack_after, strays}
 use Rattle.collector.specs.Replay.{work_after_all, work_of}
 use Rattle.collector.specs.Stack.{Stack}
@@ -133,7 +133,7 @@ module _ {P : Type 0} where
       → v.me.alone ≡ Some s → Runs s ts
   took_runs v w [] s took alone = tt
   took_runs v w (t ∷ ts) s took alone =
-      let known = took.1 s alone in (
+      let known = took.1.known s alone in (
         known.happens,
         sym known.found_is,
         took_runs (tells_at v t.event t.found took.0) w ts (after s t.event) took.2
@@ -156,7 +156,7 @@ module _ {P : Type 0} where
       (inr (over m (omega arith) (omega (arith, lt, long))))) in
       let state = some_is b.seat.me.alone (knows some all) in
       let s = state.0 in
-      let so = known s state.1 in
+      let so = known.known s state.1 in
       let runs = took_runs b.seat d.seat rest s second state.1 in
       let here : work_of b ≡ work_at s b.stack =
       (λ j. record {

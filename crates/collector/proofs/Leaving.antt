@@ -39,10 +39,11 @@ use Rattle.heap_rule.specs.Laws.{Ended}
 use Rattle.heap_rule.specs.Shape.{IsSound, Shape, start}
 use Rattle.heap_rule.specs.declared.view.View.{View}
 use Rattle.heap_rule.proofs.Alone.{presence_over}
+use Rattle.cell_heap.specs.Telling.{says_over}
 use Rattle.collector.specs.Counting.{goes_on}
 use Rattle.collector.specs.Cycles.{AfterOver, AreWhole, IsWhole, MadeCycles, Wholes}
 use Rattle.collector.specs.Cycles.{joined}
-use Rattle.collector.specs.Over.{finds_over, says_over, was_over}
+use Rattle.collector.specs.Over.{finds_over, was_over}
 use Rattle.collector.proofs.Hearing.{over_late}
 
 -- A run, parted where the collector's trail is.

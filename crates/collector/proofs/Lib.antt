@@ -4,6 +4,7 @@ pub mod Counted
 pub mod Cycling
 pub mod Hearing
 pub mod InARow
+pub mod Joined
 pub mod Joining
 pub mod Leaving
 pub mod Offered

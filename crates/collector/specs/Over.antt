@@ -1,20 +1,16 @@
 -- Which mutators a stretch of events found over.
 -- Source: this project's.
 use Rattle.std.specs.Prelude.{ℕ, ◌≡◌, ◌≤◌, ◌<◌, ◌==◌, ◌&&◌, Bool, true, false, List, IsTrue}
-use Rattle.std.specs.List.{list_any}
+use Rattle.std.specs.List.{list_all, list_any}
+use Rattle.cell_heap.specs.Telling.{says_over}
 use Rattle.core_machine.specs.declared.events.Event.{Event}
 use Rattle.core_machine.specs.declared.events.Event.TheVariants as event
 use Rattle.core_machine.specs.declared.events.Found.{Found}
-use Rattle.core_machine.specs.declared.events.Found.TheVariants as finds
 use Rattle.core_machine.specs.declared.events.Taken.{Taken}
 use Rattle.collector.specs.Bound.{Bound}
 use Rattle.collector.specs.Counting.{Counts, nothing}
 use Rattle.collector.specs.Replay.{work_of}
 use Rattle.collector.specs.Stretches.{Stretch}
-
-abbrev pub says_over : Found → Bool
-says_over (finds.Presence found) = found.over
-says_over _ = false
 
 -- a Poll or an AnswerOut of this mutator found it over
 abbrev pub finds_over : ℕ → Event → Found → Bool
@@ -28,6 +24,16 @@ was_over m events = list_any (λ (t : Taken). finds_over m t.event t.found) even
 -- each mutator from one number on and below another was found over
 abbrev pub AllOver : ℕ → ℕ → List Taken → Type 0
 AllOver from end events = (m : ℕ) → from ≤ m → m < end → was_over m events ≡ true
+
+-- where the event is a Poll or an AnswerOut, it found its mutator over
+abbrev pub meets_over : Event → Found → Bool
+meets_over (event.Poll i) found = says_over found
+meets_over (event.AnswerOut i over) found = says_over found
+meets_over _ found = true
+
+-- each Poll and each AnswerOut among the events found its mutator over
+abbrev pub MeetOver : List Taken → Type 0
+MeetOver events = list_all (λ (t : Taken). meets_over t.event t.found) events ≡ true
 
 module _ {P : Type 0} where
   -- the collector took events that count for nothing, and found these over where the flag says so

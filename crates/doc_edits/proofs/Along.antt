@@ -2,6 +2,7 @@
 use Rattle.std.proofs.Common.{◌≡◌, ℕ, ◌+◌, ◌<◌, ◌≤◌, refl, sym, ap, subst}
 use Rattle.std.proofs.Common.{List, [], ◌∷◌, length, Option, None, Some, Ok, Err, true}
 use Rattle.std.proofs.Common.{arith, ◌-◌, take, drop, get_or, take_all}
+use Rattle.std.specs.Option.{ForSome, option_map}
 use Rattle.std.proofs.lemmas.Bool.Decides.{nat_tests}
 use Rattle.cell_words.specs.Term.{Term, null, num, five}
 use Rattle.doc_tree.specs.declared.edit.EditFault.{EditFault}
@@ -12,7 +13,7 @@ use Rattle.doc_tree.specs.Words.{is_text}
 use Rattle.doc_tree.proofs.Sizes.{put_height, nodes_put}
 use Rattle.doc_records.specs.Pool.{Shown, Later}
 use Rattle.doc_records.specs.Texts.{SpellsText}
-use Rattle.doc_records.specs.Trees.{IsTreeNode, Spells, tree_of}
+use Rattle.doc_records.specs.Trees.{IsNodeAt, IsTreeNode, Spells, tree_of}
 use Rattle.doc_records.proofs.Makings.{is_text_made}
 use Rattle.doc_records.proofs.Spelled.{text_spelled, text_bytes}
 use Rattle.doc_edits.specs.declared.edits.End.{End}
@@ -120,6 +121,19 @@ pub top_same : {At F : Type 0} (s t : Shown At F) (o : Option At) → Later s t 
     → tree_under t o ≡ tree_under s o
 top_same s t None later top = refl
 top_same s t (Some a) later top = ap tree_of (later.same a top.stands)
+
+-- .. and of the child in which the edit goes on
+pub top_nodes : {At F : Type 0} (s : Shown At F) (o : Option At) → IsTop s o
+    → ForSome o (IsNodeAt s)
+top_nodes s None top = λ a e. cc
+top_nodes s (Some b) top = λ a e.
+    let same : b ≡ a = cc in
+    subst (IsNodeAt s) same (record { stands = top.stands; node = top.node.node })
+
+pub child_same : {At F : Type 0} (s t : Shown At F) (o : Option At) → Later s t → IsTop s o
+    → option_map (λ a. tree_of (t.term a)) o ≡ option_map (λ a. tree_of (s.term a)) o
+child_same s t None later top = refl
+child_same s t (Some a) later top = ap (λ u. Some (tree_of u)) (later.same a top.stands)
 
 -- how large the tree is then
 pub within_step : {At F : Type 0} (s : Shown At F) (o : Option At) (n : List ℕ) (d : DocTree) (k m : ℕ)

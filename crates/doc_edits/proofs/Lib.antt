@@ -1,4 +1,6 @@
 pub mod Along
+pub mod Changed
+pub mod Counted
 pub mod Fields
 pub mod Lawful
 pub mod Makings

@@ -1,10 +1,10 @@
 -- Nodes that are made from a text and children, and how large they can be.
 use Rattle.std.proofs.Common.{◌≡◌, ℕ, ◌+◌, ◌≤◌, refl, sym, ap, subst, ◌∙◌, arith}
-use Rattle.std.proofs.Common.{List, Option, None, Some}
+use Rattle.std.proofs.Common.{Option, None, Some}
 use Rattle.cell_words.specs.Term.{Term, null, num, five, part}
-use Rattle.doc_tree.specs.Tree.{DocTree, Kids, put_child, count, height_below}
+use Rattle.doc_tree.specs.Tree.{count, height_below}
 use Rattle.doc_tree.specs.Tree.{nodes_below, IsRising, kid_count}
-use Rattle.doc_tree.proofs.Sizes.{put_height, nodes_put, delete_fewer, delete_lower}
+use Rattle.doc_tree.proofs.Sizes.{put_height}
 use Rattle.kids_avl.specs.Entries.{kids_of}
 use Rattle.doc_records.specs.declared.pool.Part.{Part}
 use Rattle.doc_records.specs.declared.pool.Part.TheVariants as parts
@@ -63,11 +63,7 @@ node_tree t a b c d made = rw made refl
 
 pub ruleset made = (node_made, node_tree)
 
--- how large a node is with one more child, and without one
-pub put_few : (n : List ℕ) (d : DocTree) (kids : Kids)
-    → nodes_below (put_child n d kids) ≤ nodes_below kids + count d
-put_few n d kids = omega (arith, nodes_put n d kids)
-
+-- how large a node is, and how high with one more child
 pub top_few : {At F : Type 0} (s : Shown At F) (o : Option At) → IsTop s o
     → count (tree_under s o) ≤ 1_000_000_000
 top_few s None is = omega arith
@@ -78,6 +74,4 @@ pub top_low : {At F : Type 0} (s : Shown At F) (o : Option At) → IsTop s o
 top_low s None is = omega arith
 top_low s (Some a) is = is.node.lawful.low
 
-pub ruleset with_low = (put_few, put_height, top_few, top_low)
-
-pub ruleset without_low = (delete_fewer, delete_lower)
+pub ruleset with_low = (put_height, top_low)

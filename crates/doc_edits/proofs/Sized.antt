@@ -1,9 +1,7 @@
 -- The children of a node, entry by entry, and the sizes that they have.
-use Rattle.std.proofs.Common.{◌≡◌, ℕ, ◌+◌, ◌≤◌, max, sym, ap, ◌∙◌, arith}
+use Rattle.std.proofs.Common.{◌≡◌, ℕ, ◌+◌, ◌≤◌, max, ap, ◌∙◌, arith}
 use Rattle.cell_words.specs.Term.{Term, null, num, five, part, number, IsFive}
-use Rattle.doc_tree.specs.Tree.{Kids, no_kids, kid, count, height, height_below}
-use Rattle.doc_tree.specs.Tree.{nodes_below}
-use Rattle.doc_tree.specs.Rows.{join}
+use Rattle.doc_tree.specs.Tree.{kid, kid_count, count, height, height_below}
 use Rattle.doc_tree.proofs.Joined.{height_join}
 use Rattle.kids_avl.specs.Entries.{kids_of}
 use Rattle.doc_records.specs.declared.pool.Part.{Part}
@@ -30,56 +28,30 @@ own_levels t is = ap number (node_height t is)
 
 pub ruleset child_fields = (num_nodes, num_levels, own_nodes, own_levels)
 
--- the sizes of two rows, and of entries
-nodes_join : (l r : Kids) → nodes_below (join l r) ≡ nodes_below l + nodes_below r
-nodes_join no_kids r = omega arith
-nodes_join (kid m text inside rest) r = omega (arith, nodes_join rest r)
-
-pub entry_nodes : (t : Term) → IsFive t
-    → nodes_below (kids_of (entries_of t)) ≡ nodes_below (kids_of (entries_of (part 2 t)))
-    + count (tree_of (part 1 t)) + nodes_below (kids_of (entries_of (part 3 t)))
-entry_nodes null this = absurd this
-entry_nodes (num n) this = absurd this
-entry_nodes (five a b c d e) this =
-    omega (
-      arith,
-      nodes_join (kids_of (entries_of c)) (kid (text_of a) (tree_of b).text (tree_of b).kids
-          (kids_of (entries_of d))),
-    )
-
-pub entry_levels : (t : Term) → IsFive t
+-- the levels of entries
+pub entry_high : (t : Term) → IsFive t
     → height_below (kids_of (entries_of t)) ≡ max (height_below (kids_of (entries_of (part 2 t))))
     (max (height (tree_of (part 1 t)) + 1) (height_below (kids_of (entries_of (part 3 t)))))
-entry_levels null this = absurd this
-entry_levels (num n) this = absurd this
-entry_levels (five a b c d e) this =
+entry_high null this = absurd this
+entry_high (num n) this = absurd this
+entry_high (five a b c d e) this =
     height_join (kids_of (entries_of c)) (kid (text_of a) (tree_of b).text (tree_of b).kids
     (kids_of (entries_of d)))
 
-pub ruleset sized = (entry_count, entry_left, entry_right, entry_nodes)
+pub ruleset sized = (entry_count, entry_left, entry_right, entry_high)
 
 pub place_one : {A : Type 0} (p : Part A) → places_of p ≤ 1
 place_one parts.Null = omega arith
 place_one (parts.Num n) = omega arith
 place_one (parts.Record a) = omega arith
 
--- .. as they are read, the entry's own between those on its sides
-pub nodes_read : (t l u v r : Term) (before own after : ℕ) → IsFive t → l ≡ part 2 t → u ≡ t
-    → v ≡ t → r ≡ part 3 v → before ≡ nodes_below (kids_of (entries_of l))
-    → own ≡ count (tree_of (part 1 u)) → after ≡ nodes_below (kids_of (entries_of r))
-    → before + own + after ≡ nodes_below (kids_of (entries_of t))
-nodes_read t l u v r before own after this left same again right first second third =
-    rw (first, second, third, left, same, right, again) (sym (entry_nodes t this))
+-- the levels and the number of the entries on a side that was read
+pub side_high : (r u t : Term) (i : ℕ) → r ≡ part i u → u ≡ t
+    → height_below (kids_of (entries_of r)) ≡ height_below (kids_of (entries_of (part i t)))
+side_high r u t i right same =
+    ap (λ (x : Term). height_below (kids_of (entries_of x))) (right ∙ ap (part i) same)
 
-pub levels_read : (t l u v r : Term) (before own after first second : ℕ) → IsFive t
-    → l ≡ part 2 t → u ≡ t → v ≡ t → r ≡ part 3 v
-    → before ≡ height_below (kids_of (entries_of l)) → own ≡ height (tree_of (part 1 u)) + 1
-    → after ≡ height_below (kids_of (entries_of r)) → first ≡ max before own
-    → second ≡ max first after → second ≡ height_below (kids_of (entries_of t))
-levels_read t l u v r before own after first second this left same again right b o a one two =
-    let whole = entry_levels t this in
-    let on_left = ap (λ (x : Term). height_below (kids_of (entries_of x))) left in
-    let mine = ap (λ (x : Term). height (tree_of (part 1 x))) same in
-    let on_right =
-    ap (λ (x : Term). height_below (kids_of (entries_of x))) (right ∙ ap (part 3) again) in
-    omega (arith, whole, on_left, mine, on_right, b, o, a, one, two)
+pub side_count : (r u t : Term) (i : ℕ) → r ≡ part i u → u ≡ t
+    → kid_count (kids_of (entries_of r)) ≡ kid_count (kids_of (entries_of (part i t)))
+side_count r u t i right same =
+    ap (λ (x : Term). kid_count (kids_of (entries_of x))) (right ∙ ap (part i) same)

@@ -2,4 +2,5 @@ pub mod Edits
 pub mod Ends
 pub mod Entries
 pub mod Pools
+pub mod Sizes
 pub mod Tops

@@ -3,6 +3,7 @@
 //! An edit makes nothing on its way down, and for a missing child it makes no node: there it goes
 //! on in none, which is as a node of the empty tree.
 ghost use Rattle.std.specs.Prelude.{◌≡◌, ◌+◌, ◌*◌, ◌≤◌, None, OnErr, length};
+ghost use Rattle.std.specs.Option.{option_map};
 ghost use Rattle.std.specs.Result.{ForOk};
 ghost use Rattle.doc_tree.specs.Edits.{attach, edit_along, edited, set_text, start};
 ghost use Rattle.doc_tree.specs.Edits.{with_text, within_limits};
@@ -14,7 +15,7 @@ ghost use Rattle.doc_edits.specs.Ends.{StandsAtEnd, made_at};
 ghost use Rattle.doc_edits.specs.Tops.{IsTop, IsTreeAt, IsWithin, tree_under};
 
 use crate::nodes::{open, with_child};
-use crate::rows::row_len;
+use crate::rows::has_room;
 use doc_records::{Part, RecordPool, find_child, make_text, read_number, with_text};
 use doc_tree::{EditFault, Name, Path, Text, Tree};
 
@@ -78,13 +79,14 @@ fn begin_new<R: RecordPool>(
     requires places { (R.shown records.old).held + 515 ≤ (R.shown records.old).room }
     ensures begun { answered (tree_under (R.shown records.new)) result
         ≡ start name.now (tree_of ((R.shown records.old).term node)) }
+    ensures none { ForOk result (λ o. o ≡ None) }
     ensures child { ForOk result (IsTop (R.shown records.new)) }
     ensures later { Later (R.shown records.old) (R.shown records.new) }
     ensures held { (R.shown records.new).held ≤ (R.shown records.old).held + 2 }
     ensures records { (R.shown records.new).records ≡ (R.shown records.old).records }
 {
     let opened = open(records, Some(node));
-    if row_len(records, opened.entries) < 256 {
+    if has_room(records, opened.entries) {
         Ok(None)
     } else {
         Err(EditFault::Many)
@@ -102,6 +104,9 @@ fn begin<R: RecordPool>(
     requires places { (R.shown records.old).held + 579 ≤ (R.shown records.old).room }
     ensures begun { answered (tree_under (R.shown records.new)) result
         ≡ start name.now (tree_under (R.shown records.old) at) }
+    ensures there { ForOk result
+        (λ o. option_map (λ a. tree_of ((R.shown records.new).term a)) o
+        ≡ child_of_name name.now (tree_under (R.shown records.old) at).kids) }
     ensures child { ForOk result (IsTop (R.shown records.new)) }
     ensures later { Later (R.shown records.old) (R.shown records.new) }
     ensures held { (R.shown records.new).held ≤ (R.shown records.old).held + 66 }
@@ -145,7 +150,7 @@ fn edit_along<R: RecordPool>(
     };
     let child = begin(records, at, name)?;
     let edited = edit_along(records, child, rest, end)?;
-    Ok(with_child(records, at, name, edited))
+    Ok(with_child(records, at, name, child, edited))
 }
 
 // The limits on a whole tree, of which an edit that adds asks once.

@@ -45,9 +45,9 @@ pub(crate) fn part_of<At: Copy>(top: Option<At>) -> Part<At>
     }
 }
 
-// The height of the entries on one side.
+/// The height of the entries on one side.
 #[tactic(auto, using(crate::proofs::Fields::fields))]
-fn side_height<R: RecordPool>(records: &mut R, side: Part<R::At>) -> u64
+pub(crate) fn side_height<R: RecordPool>(records: &mut R, side: Part<R::At>) -> u64
     requires stands { Stands (R.shown records.old) side }
     requires entries { AreEntries (part_term (R.shown records.old).term side) }
     requires place { (R.shown records.old).held < (R.shown records.old).room }

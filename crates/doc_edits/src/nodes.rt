@@ -1,15 +1,17 @@
 //! Nodes that an edit makes of others, and of none, which is as a node of the empty tree.
-ghost use Rattle.std.specs.Prelude.{◌≡◌, ◌+◌, ◌/◌, ◌≤◌, ◌<◌, ◌^◌, None, IsSome, length};
+ghost use Rattle.std.specs.Prelude.{◌≡◌, ◌+◌, ◌/◌, ◌≤◌, ◌<◌, ◌^◌, None, Some, length};
+ghost use Rattle.std.specs.Option.{ForSome, option_map};
 ghost use Rattle.doc_tree.specs.Edits.{with_child, with_text, without_child};
 ghost use Rattle.doc_tree.specs.Tree.{child as child_of_name, count, height, kid_count};
 ghost use Rattle.doc_tree.specs.Tree.{height_below, nodes_below};
 ghost use Rattle.doc_records.specs.Pool.{Later, Stands, part_term};
 ghost use Rattle.doc_records.specs.Texts.{IsText, text_of};
 ghost use Rattle.doc_records.specs.Trees.{IsNodeAt, tree_of};
+ghost use Rattle.doc_edits.specs.Sizes.{Changes};
 ghost use Rattle.doc_edits.specs.Tops.{IsRowAt, IsTop, IsTreeAt, row_of, tree_under};
 
 use crate::rows::{with_entry, without_entry};
-use crate::sizes::sizes_of;
+use crate::sizes::{Change, change_of, sizes_after};
 use doc_records::{Part, RecordPool, make_text, read_part, with_text};
 use doc_tree::{Name, Text};
 
@@ -49,13 +51,18 @@ pub(crate) fn open<R: RecordPool>(records: &mut R, at: Option<R::At>) -> Opened<
     }
 }
 
-// A node of a text that is written and of these children.
+// A node of a text that is written and of these children, by what changed with them.
 #[tactic(auto, using(crate::proofs::Makings::made))]
-fn make_node<R: RecordPool>(records: &mut R, text: Part<R::At>, entries: Part<R::At>) -> R::At
+fn make_node<R: RecordPool>(
+    records: &mut R,
+    text: Part<R::At>,
+    entries: Part<R::At>,
+    change: Change,
+) -> R::At
     requires written { Stands (R.shown records.old) text }
     requires is_text { IsText (part_term (R.shown records.old).term text) }
     requires row { IsRowAt (R.shown records.old) entries }
-    requires few { nodes_below (row_of (R.shown records.old) entries) < 2 ^ 61 }
+    requires change { Changes change (row_of (R.shown records.old) entries) }
     requires low { height_below (row_of (R.shown records.old) entries) < 2 ^ 61 }
     requires places { (R.shown records.old).held + 769 ≤ (R.shown records.old).room }
     requires records { 1 ≤ (R.shown records.old).records }
@@ -69,8 +76,8 @@ fn make_node<R: RecordPool>(records: &mut R, text: Part<R::At>, entries: Part<R:
     ensures held { (R.shown records.new).held ≡ (R.shown records.old).held }
     ensures records { (R.shown records.old).records ≡ (R.shown records.new).records + 1 }
 {
-    let sizes = sizes_of(records, entries);
-    let count = Part::Num(sizes.nodes + 1);
+    let sizes = sizes_after(records, change, entries);
+    let count = Part::Num(sizes.nodes);
     let height = Part::Num(sizes.levels);
     records.make(text, entries, count, height, Part::Null)
 }
@@ -81,9 +88,13 @@ pub(crate) fn with_child<R: RecordPool>(
     records: &mut R,
     at: Option<R::At>,
     name: &Name,
+    was: Option<R::At>,
     child: R::At,
 ) -> R::At
     requires top { IsTop (R.shown records.old) at }
+    requires was { ForSome was (IsNodeAt (R.shown records.old)) }
+    requires there { option_map (λ a. tree_of ((R.shown records.old).term a)) was
+        ≡ child_of_name name.now (tree_under (R.shown records.old) at).kids }
     requires child { IsNodeAt (R.shown records.old) child }
     requires few { count (tree_of ((R.shown records.old).term child)) ≤ 10_000_000_000 }
     requires low { height (tree_of ((R.shown records.old).term child)) ≤ 100 }
@@ -98,17 +109,24 @@ pub(crate) fn with_child<R: RecordPool>(
     ensures held { (R.shown records.new).held ≤ (R.shown records.old).held + 258 }
     ensures records { (R.shown records.old).records ≤ (R.shown records.new).records + 39 }
 {
+    let change = change_of(records, at, was, Some(child));
     let node = open(records, at);
     let entries = with_entry(records, node.entries, name, child);
-    make_node(records, node.text, entries)
+    make_node(records, node.text, entries, change)
 }
 
 /// A node without its child of that name.
-#[tactic(auto, using(crate::proofs::Makings::without_low))]
-pub(crate) fn without_child<R: RecordPool>(records: &mut R, at: R::At, name: &Name) -> R::At
+#[tactic(auto, using(doc_tree::proofs::Sizes::delete_lower))]
+pub(crate) fn without_child<R: RecordPool>(
+    records: &mut R,
+    at: R::At,
+    name: &Name,
+    was: R::At,
+) -> R::At
     requires node { IsTreeAt (R.shown records.old) at }
-    requires listed { IsSome (child_of_name name.now
-        (tree_of ((R.shown records.old).term at)).kids) }
+    requires was { IsNodeAt (R.shown records.old) was }
+    requires there { Some (tree_of ((R.shown records.old).term was))
+        ≡ child_of_name name.now (tree_of ((R.shown records.old).term at)).kids }
     requires places { (R.shown records.old).held + 1027 ≤ (R.shown records.old).room }
     requires records { 34 ≤ (R.shown records.old).records }
     ensures node { IsNodeAt (R.shown records.new) result }
@@ -118,7 +136,8 @@ pub(crate) fn without_child<R: RecordPool>(records: &mut R, at: R::At, name: &Na
     ensures held { (R.shown records.new).held ≤ (R.shown records.old).held + 258 }
     ensures records { (R.shown records.old).records ≤ (R.shown records.new).records + 34 }
 {
+    let change = change_of(records, Some(at), Some(was), None);
     let node = open(records, Some(at));
     let entries = without_entry(records, node.entries, name);
-    make_node(records, node.text, entries)
+    make_node(records, node.text, entries, change)
 }

@@ -36,10 +36,10 @@ fn delete_along<R: RecordPool>(
         return Err(EditFault::Absent);
     };
     if rest.is_empty() {
-        return Ok(without_child(records, at, name));
+        return Ok(without_child(records, at, name, child));
     }
     let edited = delete_along(records, child, rest)?;
-    Ok(with_child(records, Some(at), name, edited))
+    Ok(with_child(records, Some(at), name, Some(child), edited))
 }
 
 /// Removes the node at the path, with all that is below it.

@@ -1,5 +1,5 @@
 //! The children of a node, with one more, without one, and how many they are.
-ghost use Rattle.std.specs.Prelude.{◌≡◌, ◌+◌, ◌≤◌, ◌<◌, ◌^◌, None, IsSome};
+ghost use Rattle.std.specs.Prelude.{◌≡◌, ◌+◌, ◌≤◌, ◌<◌, ◌^◌, ◌↔◌, None, IsSome, IsTrue};
 ghost use Rattle.doc_tree.specs.Edits.{delete_child};
 ghost use Rattle.doc_tree.specs.Tree.{child as child_of_name, kid_count, put_child};
 ghost use Rattle.doc_records.specs.Pool.{Later};
@@ -7,7 +7,7 @@ ghost use Rattle.doc_records.specs.Trees.{IsNodeAt, tree_of};
 ghost use Rattle.doc_edits.specs.Entries.{IsKept};
 ghost use Rattle.doc_edits.specs.Tops.{IsRowAt, row_of};
 
-use crate::entries::{EntryPool, part_of, top_of};
+use crate::entries::{EntryPool, part_of, side_height, top_of};
 use doc_records::{Part, RecordPool};
 use doc_tree::Name;
 use kids_avl::{len, put, remove};
@@ -146,9 +146,9 @@ fn count_entries<R: RecordPool>(records: &mut R, top: Part<R::At>) -> u32
     count_in(&mut pool, top)
 }
 
-/// How many children there are. The places that were taken on the way are given back.
+// How many children there are. The places that were taken on the way are given back.
 #[tactic(auto, using(doc_records::proofs::Spellings::kept_back))]
-pub(crate) fn row_len<R: RecordPool>(records: &mut R, top: Part<R::At>) -> u32
+fn row_len<R: RecordPool>(records: &mut R, top: Part<R::At>) -> u32
     requires row { IsRowAt (R.shown records.old) top }
     requires places { (R.shown records.old).held + 513 ≤ (R.shown records.old).room }
     ensures count { result ≡ kid_count (row_of (R.shown records.old) top) }
@@ -160,4 +160,21 @@ pub(crate) fn row_len<R: RecordPool>(records: &mut R, top: Part<R::At>) -> u32
     let count = count_entries(records, top);
     records.cut(held);
     count
+}
+
+/// There is room for one more child. Entries of at most 8 levels are fewer than 256, so only those
+/// of more levels are counted.
+#[tactic(auto, using(crate::proofs::Counted::rooms))]
+pub(crate) fn has_room<R: RecordPool>(records: &mut R, top: Part<R::At>) -> bool
+    requires row { IsRowAt (R.shown records.old) top }
+    requires places { (R.shown records.old).held + 513 ≤ (R.shown records.old).room }
+    ensures room { IsTrue result ↔ (kid_count (row_of (R.shown records.old) top) < 256) }
+    ensures later { Later (R.shown records.old) (R.shown records.new) }
+    ensures held { (R.shown records.new).held ≡ (R.shown records.old).held }
+    ensures records { (R.shown records.new).records ≡ (R.shown records.old).records }
+{
+    if side_height(records, top) <= 8 {
+        return true;
+    }
+    row_len(records, top) < 256
 }

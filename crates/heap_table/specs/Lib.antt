@@ -1,3 +1,4 @@
 pub mod Images
+pub mod Joined
 pub mod Opening
 pub mod Seats

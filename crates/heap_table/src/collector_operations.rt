@@ -6,10 +6,11 @@ ghost use Rattle.core_machine.specs.WordOperations.{left_by, Load, Store, Exchan
 ghost use Rattle.heap_rule.specs.Asks.{told_by};
 ghost use Rattle.heap_rule.specs.Steps.{AtCollectorStep, CollectorOwes};
 ghost use Rattle.heap_rule.specs.declared.view.Role.TheVariants as role;
+ghost use Rattle.heap_table.specs.Joined.{JoinedIsOver};
 ghost use Rattle.heap_table.specs.Seats.{words_many};
 
 use crate::heap::{CellHeap, HeapSeat};
-use crate::steps::{CollectorStep, Intent};
+use crate::steps::{CollectorLook, CollectorStep, Intent};
 use core_machine::Event;
 use heap_rule::Keeping;
 
@@ -27,11 +28,12 @@ impl<P: Keeping> CellHeap<P> {
         requires kind { CollectorOwes P.fixed seat.old.me E.event word (left_by Load) (told_by Load) }
         ensures same { seat.new.table ≡ seat.old.table }
         ensures step { AtCollectorStep P.fixed seat.old.me E.event result seat.new.me }
+        ensures joined { JoinedIsOver seat.old.me word result }
     {
         let _ = event;
         self.table
             .shared
-            .load::<CollectorStep<E>>(&mut seat.seat, word)
+            .load::<CollectorLook<E>>(&mut seat.seat, word)
     }
 
     /// Stores a number in a word.
@@ -70,10 +72,11 @@ impl<P: Keeping> CellHeap<P> {
         requires kind { CollectorOwes P.fixed seat.old.me E.event word (left_by (Exchange old new)) (told_by (Exchange old new)) }
         ensures same { seat.new.table ≡ seat.old.table }
         ensures step { AtCollectorStep P.fixed seat.old.me E.event result seat.new.me }
+        ensures joined { JoinedIsOver seat.old.me word result }
     {
         let _ = event;
         self.table
             .shared
-            .compare_exchange::<CollectorStep<E>>(&mut seat.seat, word, old, new)
+            .compare_exchange::<CollectorLook<E>>(&mut seat.seat, word, old, new)
     }
 }

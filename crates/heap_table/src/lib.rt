@@ -25,4 +25,4 @@ pub use heap::{CellHeap, HeapSeat};
 pub use heap_rule::NoMemory;
 pub use moves::{Departing, Departure, Returning};
 pub use rule::HeapRule;
-pub use steps::{CollectorStep, Intent, MutatorStep};
+pub use steps::{CollectorLook, CollectorStep, Intent, MutatorStep};

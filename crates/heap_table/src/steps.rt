@@ -5,6 +5,7 @@ ghost use Rattle.core_machine.specs.declared.events.Event.TheVariants as event;
 ghost use Rattle.core_machine.specs.declared.events.Found.{Found};
 ghost use Rattle.heap_rule.specs.declared.known.Learned.{Learned};
 ghost use Rattle.heap_rule.specs.Steps.{AtCollectorStep, AtStep, same_pass};
+ghost use Rattle.heap_table.specs.Joined.{JoinedIsOver};
 
 use atomic_table::Play;
 use heap_rule::{Keeping, View};
@@ -41,4 +42,15 @@ pub struct CollectorStep<E> {
 
 impl<P: Keeping, E: Intent<P>> Play<(), View<P>> for CollectorStep<E> {
     ghost then = { λ s m n after. AtCollectorStep P.fixed m.0 E.event n after.0 × (after.1 ≡ m.1) };
+}
+
+/// A step of the collector's seat that gives the number found: of a joined mutator's status word it
+/// says that this one is over.
+pub struct CollectorLook<E> {
+    intent: PhantomData<E>,
+}
+
+impl<P: Keeping, E: Intent<P>> Play<(), View<P>> for CollectorLook<E> {
+    ghost then = { λ s m n after. AtCollectorStep P.fixed m.0 E.event n after.0
+        × JoinedIsOver m.0 s.word n × (after.1 ≡ m.1) };
 }

@@ -1,5 +1,5 @@
 use minor_heap::MinorField::{Minor, Null, Num, Shared};
-use minor_heap::{MinorFull, MinorHeap, MinorRef};
+use minor_heap::{MinorFull, MinorHeap, MinorRef, RecordSpan};
 use std::test::Fail;
 
 #[test]
@@ -48,6 +48,23 @@ fn what_no_chain_leads_to_is_not_reached(rt: HostRuntime) -> Result<(), Fail> {
     let mut marks = [false, false, false, true, false];
     heap.mark(&mut marks);
     assert_eq!(rt; marks, [false, true, false, true, false]);
+    Ok(())
+}
+
+#[test]
+fn marks_lie_in_a_span_and_are_taken_back(rt: HostRuntime) -> Result<(), Fail> {
+    let mut heap = MinorHeap::with_room(rt.alloc(), 5)?;
+    heap.make([Num(1), Null, Null, Null, Null])?;
+    let r1 = heap.make([Num(2), Null, Null, Null, Null])?;
+    heap.make([Minor(r1), Null, Null, Null, Null])?;
+    let r3 = heap.make([Null, Null, Minor(r1), Null, Null])?;
+    heap.make([Minor(r3), Null, Null, Null, Null])?;
+    let mut marks = [false, false, false, false, false];
+    let span = heap.mark_span(&[r3, r3], &mut marks);
+    assert_eq!(rt; span, RecordSpan { first: 1, end: 4 });
+    assert_eq!(rt; marks, [false, true, false, true, false]);
+    span.unmark(&mut marks);
+    assert_eq!(rt; marks, [false, false, false, false, false]);
     Ok(())
 }
 

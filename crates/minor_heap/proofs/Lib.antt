@@ -1,4 +1,5 @@
 pub mod Packing
 pub mod Passing
 pub mod Reached
+pub mod Spanning
 pub mod Terms

@@ -119,7 +119,7 @@ fields_mark (suc n) fs marks i r lt is stands =
     (fields_mark n fs marks i r less is stands))
     (split i n (omega (arith, lt)))
 
-fields_was : (n : ℕ) (fs : List MinorField) (marks : List Bool) (r : MinorRef)
+pub fields_was : (n : ℕ) (fs : List MinorField) (marks : List Bool) (r : MinorRef)
     → IsMarked (with_fields n fs marks) r
     → ((i : ℕ) × (i < n) × (slice_index_or fs i field.Null ≡ field.Minor r)) ⊎ IsMarked marks r
 fields_was zero fs marks r is = inr is
@@ -136,7 +136,7 @@ fields_was (suc n) fs marks r is =
 -- the records from n on had their turn
 pub record MarksFrom (records : List (List MinorField)) (IsRoot : MinorRef → Type 0)
     (marks : List Bool) (n : ℕ) : Type 0 where
-  pub count : length marks ≡ length records
+  pub count : length records ≤ length marks
   pub sound : (r : MinorRef) → IsMarked marks r → Reaches records IsRoot r
   pub roots : (r : MinorRef) → IsRoot r → IsMarked marks r
   pub closed : (r older : MinorRef) (i : ℕ) → i < 5 → n ≤ r.number → IsMarked marks r
@@ -148,11 +148,25 @@ pub marks_start : (records : List (List MinorField)) (marks : List Bool) → len
     → MarksFrom records (IsMarked marks) marks (length records)
 marks_start records marks count =
     record {
-      count = count;
+      count = omega (arith, count);
       sound = λ r is. root is;
       roots = λ r is. is;
       closed = λ r older i lt from is names.
           absurd (omega (arith, marked_stands marks r.number is, count, from));
+    }
+
+-- the roots alone are marked, and all of them lie below n
+pub marks_below : (records : List (List MinorField)) (IsRoot : MinorRef → Type 0)
+    (marks : List Bool) (n : ℕ) → length records ≤ length marks
+    → ((r : MinorRef) → IsMarked marks r ↔ IsRoot r)
+    → ((r : MinorRef) → IsMarked marks r → r.number < n)
+    → MarksFrom records IsRoot marks n
+marks_below records IsRoot marks n count all below =
+    record {
+      count = count;
+      sound = λ r is. root ((all r).0 is);
+      roots = λ r is. (all r).1 is;
+      closed = λ r older i lt from is names. let l = below r is in absurd (omega (arith, l, from));
     }
 
 pub marks_passed : (records : List (List MinorField)) (IsRoot : MinorRef → Type 0)
@@ -176,18 +190,18 @@ marks_passed records IsRoot marks m n next unmarked so =
 
 pub marks_named : (records : List (List MinorField)) (IsRoot : MinorRef → Type 0)
     (marks : List Bool) (m n : ℕ) → n ≡ m + 1
-    → IsOrdered 0 records → slice_index_or marks m false ≡ true → MarksFrom records IsRoot marks n
+    → IsOrdered 0 records → m < length records → slice_index_or marks m false ≡ true
+    → MarksFrom records IsRoot marks n
     → MarksFrom records IsRoot (with_fields 5 (slice_index_or records m []) marks) m
-marks_named records IsRoot marks m n next ordered marked so =
+marks_named records IsRoot marks m n next ordered stands marked so =
     let fs = slice_index_or records m [] in
     let now = with_fields 5 fs marks in
     let me : MinorRef = record { number = m } in
-    let stands : m < length records = omega (arith, marked_stands marks m marked, so.count) in
     let is_older : (i : ℕ) (r : MinorRef) → field_at records m i ≡ field.Minor r → r.number < m =
     λ i r names.
     subst (λ (f : MinorField). FitsRecord m f) names (fits_is records m i ordered stands) in
     record {
-      count = fields_length 5 fs marks ∙ so.count;
+      count = omega (arith, fields_length 5 fs marks, so.count);
       sound = λ r is. ⊎_elim
           (λ (x : (i : ℕ) × (i < 5) × (slice_index_or fs i field.Null ≡ field.Minor r)).
           named {r = me} x.0 x.1 (so.sound me marked) x.2)
@@ -209,6 +223,18 @@ marks_named records IsRoot marks m n next ordered marked so =
           (so.closed r older i lt (omega (arith, more, next)) was names))
           (fields_was 5 fs marks r is))
           (split m r.number from);
+    }
+
+-- nothing has to have its turn that lies outside the marks
+pub marks_within : (records : List (List MinorField)) (IsRoot : MinorRef → Type 0)
+    (marks : List Bool) (n : ℕ) → ((r : MinorRef) → IsMarked marks r → n ≤ r.number)
+    → MarksFrom records IsRoot marks n → MarksFrom records IsRoot marks 0
+marks_within records IsRoot marks n from so =
+    record {
+      count = so.count;
+      sound = so.sound;
+      roots = so.roots;
+      closed = λ r older i lt any is names. so.closed r older i lt (from r is) is names;
     }
 
 -- at the end what is reached is marked

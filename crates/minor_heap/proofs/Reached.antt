@@ -10,6 +10,7 @@ use Rattle.minor_heap.specs.declared.fields.MinorField.{MinorField}
 use Rattle.minor_heap.specs.declared.fields.MinorRef.{MinorRef}
 use Rattle.minor_heap.specs.Marking.{marked_of, with_refs}
 use Rattle.minor_heap.specs.Reaches.{AreReached, Reaches, root, named, IsMarked}
+use Rattle.minor_heap.specs.Spans.{NoneMarked}
 use Rattle.minor_heap.proofs.Passing.{set_kept, set_marks, set_was, set_length}
 
 -- Being among some records.
@@ -65,19 +66,25 @@ none_marked (suc n) zero = refl
 none_marked (suc n) (suc k) = none_marked n k
 
 -- the marks of some records alone
+pub refs_alone : (marks : List Bool) (from : List MinorRef) → NoneMarked marks
+    → All (λ r. r.number < length marks) from
+    → (r : MinorRef) → IsMarked (with_refs from marks) r ↔ Contains from r
+refs_alone marks from none stand r = (
+  (λ is.
+      ⊎_elim (λ among. among)
+      (λ (was : IsMarked marks r). absurd (true≢false (sym was ∙ none r.number)))
+      (refs_was from marks r is)),
+  (λ (is : Contains from r).
+      refs_mark from marks r is
+      (subst (λ (t : MinorRef). t.number < length marks) is.2 (stand is.0 r is.1))),
+)
+
 pub refs_marked : (n : ℕ) (from : List MinorRef) → All (λ r. r.number < n) from
     → length (replicate n false) ≡ n
     → (r : MinorRef) → IsMarked (with_refs from (replicate n false)) r ↔ Contains from r
-refs_marked n from stand count r = (
-  (λ is.
-      ⊎_elim (λ among. among)
-      (λ (was : IsMarked (replicate n false) r).
-      absurd (true≢false (sym was ∙ none_marked n r.number)))
-      (refs_was from (replicate n false) r is)),
-  (λ (is : Contains from r).
-      let lt : r.number < n = subst (λ (t : MinorRef). t.number < n) is.2 (stand is.0 r is.1) in
-      refs_mark from (replicate n false) r is (omega (arith, lt, count))),
-)
+refs_marked n from stand count =
+    refs_alone (replicate n false) from (none_marked n)
+    (subst (λ (k : ℕ). All (λ (r : MinorRef). r.number < k) from) (sym count) stand)
 
 reaches_map : (records : List (List MinorField)) (A B : MinorRef → Type 0)
     → ((r : MinorRef) → A r → B r)

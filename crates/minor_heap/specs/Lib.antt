@@ -2,4 +2,5 @@ pub mod Marking
 pub mod Nursery
 pub mod Reaches
 pub mod Record
+pub mod Spans
 pub mod Terms

@@ -4,16 +4,18 @@
 //! The layer above may rely on this: a record is what `make` was given until `clear`, and its term
 //! follows from the records before it and from what the shared places denote (specs/Terms). Nothing
 //! here takes memory but `with_room` and `reached`. Copying records into the shared heap is left to
-//! others; `mark` and `reached` say which records such a copy needs.
+//! others; `mark_span` and `reached` say which records such a copy needs.
 //!
-//! Reading order: `fields`, `record`, `heap`, `marks`.
+//! Reading order: `fields`, `record`, `heap`, `marks`, `spans`.
 #![tactic(auto)]
 
 mod fields;
 mod heap;
 mod marks;
 mod record;
+mod spans;
 
 pub use fields::{MinorField, MinorRef};
 pub use heap::{MinorFull, MinorHeap};
+pub use spans::RecordSpan;
 pub use std::alloc::AllocError as NoMemory;

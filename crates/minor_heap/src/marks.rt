@@ -3,11 +3,11 @@
 //! A record names older ones alone, so one pass from the newest record down to the oldest finds all
 //! that the marked ones reach: when a record's turn comes, no later turn can mark it. No stack is
 //! needed.
-ghost use Rattle.std.specs.Prelude.{◌≡◌, ◌<◌, ◌≤◌, ◌^◌, ◌↔◌, All, IfOk, [], false, vec_capacity};
+ghost use Rattle.std.specs.Prelude.{◌≡◌, ◌<◌, ◌≤◌, ◌^◌, ◌↔◌, All, IfOk, [], false};
 ghost use Rattle.std.specs.Prelude.{length, replicate, slice_index_or};
 ghost use Rattle.std.specs.List.{Contains};
 ghost use Rattle.minor_heap.specs.declared.fields.MinorRef.{MinorRef};
-ghost use Rattle.minor_heap.specs.Nursery.{FitsRecord, IsOrdered, Stands};
+ghost use Rattle.minor_heap.specs.Nursery.{FitsRecord, Stands};
 ghost use Rattle.minor_heap.specs.Marking.{marked_of, with_field, with_fields, with_refs};
 ghost use Rattle.minor_heap.specs.Reaches.{AreReached, IsMarked, Reaches};
 
@@ -57,23 +57,6 @@ impl MinorHeap {
         Ok(found)
     }
 
-    /// Marks the records that these reach, and no others, whatever was marked before. It takes no
-    /// memory.
-    pub fn mark_reached(&self, from: &[MinorRef], marks: &mut Vec<bool>)
-        requires stand { All (Stands self.now.records) from.now }
-        requires room { length self.now.records ≤ vec_capacity marks.old }
-        ensures length { length marks.new.items ≡ length self.now.records }
-        ensures marks { (r : MinorRef) → IsMarked marks.new.items r
-            ↔ Reaches self.now.records (Contains from.now) r }
-        ensures reached { AreReached self.now.records from.now (marked_of 0 marks.new.items) }
-        ensures ordered { IsOrdered 0 self.now.records }
-        ensures capacity { vec_capacity marks.new ≡ vec_capacity marks.old }
-    {
-        let _ = &self.records;
-        unmark_all(self.len(), marks);
-        self.mark_from(from, marks.as_mut_slice());
-    }
-
     /// Marks, where nothing is marked, each record that these reach.
     fn mark_from(&self, from: &[MinorRef], marks: &mut [bool])
         requires stand { All (λ r. r.number < length self.now.records) from.now }
@@ -84,18 +67,6 @@ impl MinorHeap {
     {
         mark_all(from, marks);
         self.mark(marks);
-    }
-}
-
-/// As many marks as records, none of them set.
-fn unmark_all(count: u32, marks: &mut Vec<bool>)
-    requires room { count ≤ vec_capacity marks.old }
-    ensures marks { marks.new.items ≡ replicate count false }
-    ensures capacity { vec_capacity marks.new ≡ vec_capacity marks.old }
-{
-    marks.clear();
-    for _number in 0..count {
-        marks.push_reserved(false);
     }
 }
 
@@ -110,7 +81,7 @@ fn mark_field(field: MinorField, marks: &mut [bool])
 }
 
 /// Marks these records.
-fn mark_all(from: &[MinorRef], marks: &mut [bool])
+pub(crate) fn mark_all(from: &[MinorRef], marks: &mut [bool])
     requires stand { All (λ r. r.number < length marks.old) from.now }
     ensures marks { marks.new ≡ with_refs from.now marks.old }
 {

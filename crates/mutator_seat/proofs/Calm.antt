@@ -1,5 +1,6 @@
 -- Stretches follow one another: what was added and what was kept goes together.
 use Rattle.std.proofs.Common.{◌≡◌, ℕ, List, [], ◌∷◌, ◌++◌, refl, sym, ◌∙◌, ap, subst}
+use Rattle.std.proofs.lemmas.List.{append-nil, append_assoc, append_cancel_left}
 use Rattle.core_machine.specs.declared.events.Event.{Event}
 use Rattle.core_machine.specs.declared.events.Event.TheVariants as event
 use Rattle.core_machine.specs.declared.events.Found.{Found}
@@ -128,4 +129,42 @@ module _ {P : Type 0} where
         ∙ sym (takes_all_append a first.added second.added);
     kept = kept_then a b c first.kept second.kept;
     fact = both first.added second.added first.fact second.fact;
+  }
+
+  -- what holds of the events by what else holds of them
+  pub calm_as : (F G : List Taken → Type 0) (a b : Bound P) → ((es : List Taken) → F es → G es)
+      → Calm F a b → Calm G a b
+  calm_as F G a b so calm = record {
+    added = calm.added;
+    told = calm.told;
+    kept = calm.kept;
+    fact = so calm.added calm.fact;
+  }
+
+  -- Two facts of one stretch: its events are those that the trail grew by.
+
+  pub trail_all : (m : Bound P) (ts : List Taken)
+      → (takes_all m ts).seat.me.trail ≡ m.seat.me.trail ++ ts
+  trail_all m [] = sym (append-nil m.seat.me.trail)
+  trail_all m (t ∷ ts) =
+      trail_all (takes m t.event t.found) ts
+      ∙ append_assoc m.seat.me.trail (took t.event t.found ∷ []) ts
+
+  same_added : (a b : Bound P) (xs ys : List Taken) → b ≡ takes_all a xs
+      → b ≡ takes_all a ys → xs ≡ ys
+  same_added a b xs ys first second =
+      append_cancel_left a.seat.me.trail xs ys
+      (sym (trail_all a xs) ∙ ap (λ (m : Bound P). m.seat.me.trail) (sym first ∙ second)
+      ∙ trail_all a ys)
+
+  pub calm_both : (F G : List Taken → Type 0) (a b : Bound P) → Calm F a b → Calm G a b
+      → Calm (λ es. F es × G es) a b
+  calm_both F G a b first second = record {
+    added = first.added;
+    told = first.told;
+    kept = first.kept;
+    fact = (
+      first.fact,
+      subst G (same_added a b second.added first.added second.told first.told) second.fact,
+    );
   }

@@ -7,6 +7,7 @@ use Rattle.std.proofs.lemmas.List.{append_assoc, map-append}
 use Rattle.cell_words.specs.declared.colours.Colour.{Colour}
 use Rattle.cell_words.specs.declared.colours.Colour.TheVariants as colour
 use Rattle.cell_words.specs.declared.controls.Control.{Control}
+use Rattle.cell_words.specs.declared.presences.Status.{Status}
 use Rattle.core_machine.specs.declared.events.Event.TheVariants as event
 use Rattle.core_machine.specs.declared.events.Found.TheVariants as finds
 use Rattle.core_machine.specs.declared.events.Taken.{Taken}
@@ -23,10 +24,11 @@ use Rattle.trails.specs.Claims.{AllUsed, FindsFull, begun_of, decides, look_of}
 use Rattle.trails.proofs.Claims.{used_late, used_on}
 use Rattle.mutator_seat.specs.declared.full.HeapFull.{HeapFull}
 use Rattle.mutator_seat.specs.Bound.{Bound, held_cells, takes}
-use Rattle.mutator_seat.specs.Claims.{Claimed, Ends, FullBehind, anything}
-use Rattle.mutator_seat.specs.Stretches.{Calm, Kept}
+use Rattle.mutator_seat.specs.Claims.{Claimed, Ends, FullBehind, Seeking}
+use Rattle.mutator_seat.specs.Stretches.{Calm, Kept, LookAndAnswer}
 use Rattle.mutator_seat.proofs.Calm.{calm_none, calm_one, calm_then}
 use Rattle.mutator_seat.proofs.Handshakes.{looked_at}
+use Rattle.mutator_seat.proofs.Seeking.{seeking_then}
 use Rattle.mutator_seat.proofs.Writes.{many_same}
 
 pub none_then : {T : Type 0} {A B : Type 0} (r : Option T) → IfNone r A → (A → B) → IfNone r B
@@ -55,6 +57,13 @@ tried_one i cell colour.White missed c above below = used_one cell c (omega (ari
 tried_one i cell colour.Gray missed c above below = used_one cell c (omega (arith, above, below))
 tried_one i cell colour.Black missed c above below = used_one cell c (omega (arith, above, below))
 
+missed_is : (i cell : ℕ) (found : Colour) → false ≡ is_blue found
+    → Seeking (took (event.Claim i cell) (finds.Colour found) ∷ [])
+missed_is i cell colour.Blue missed = absurd cc
+missed_is i cell colour.White missed = refl
+missed_is i cell colour.Gray missed = refl
+missed_is i cell colour.Black missed = refl
+
 -- what was tried below a cell, and the cell
 pub tried_more : (cell : ℕ) (xs ys : List Taken) → AllUsed 0 cell xs → AllUsed cell (cell + 1) ys
     → AllUsed 0 (cell + 1) (xs ++ ys)
@@ -64,12 +73,12 @@ tried_more cell xs ys first second c above below =
 
 -- The events of a call that found the heap full.
 
-full_join : (number cells began : ℕ) (control : Control) (full : HeapFull)
-    (os xs ys : List Taken) → Ends number control xs → AllUsed 0 cells ys
+full_join : (number cells began : ℕ) (own : Status) (control : Control) (full : HeapFull)
+    (os xs ys : List Taken) → Ends number own control xs → AllUsed 0 cells ys
     → full ≡ record { off_duty = not control.duty; began = began; ended = control.cycles }
     → decides began control ≡ true
     → FullBehind number cells began full (os ++ (xs ++ ys))
-full_join number cells began control full os xs ys ends used is decided = record {
+full_join number cells began own control full os xs ys ends used is decided = record {
   between = os ++ ends.before;
   control = control;
   tries = ys;
@@ -158,6 +167,14 @@ module _ {P : Type 0} where
       (finds.Colour found) told (kept_missed a a.seat.me.number cell found missed)
       (tried_one a.seat.me.number cell found missed)
 
+  pub missed_seeks : (a b : Bound P) (cell : ℕ) (found : Colour) → false ≡ is_blue found
+      → b ≡ takes a (event.Claim a.seat.me.number cell) (finds.Colour found)
+      → Calm Seeking a b
+  missed_seeks a b cell found missed told =
+      calm_one Seeking a b (event.Claim a.seat.me.number cell) (finds.Colour found) told
+      (kept_missed a a.seat.me.number cell found missed)
+      (missed_is a.seat.me.number cell found missed)
+
   mode_of : (a : Bound P) (i cell : ℕ) (found : Colour) → false ≡ is_blue found
       → (takes a (event.Claim i cell) (finds.Colour found)).seat.me.own.mode ≡ a.seat.me.own.mode
   mode_of a i cell colour.Blue missed = absurd cc
@@ -173,6 +190,16 @@ module _ {P : Type 0} where
       ap (λ (m : Bound P). m.seat.me.own.mode) told
       ∙ mode_of a a.seat.me.number cell found missed
 
+  pub claimed_held : (a b : Bound P) (cell : ℕ) (found : Colour) → true ≡ is_blue found
+      → b ≡ takes a (event.Claim a.seat.me.number cell) (finds.Colour found)
+      → held_cells b ≡ held_cells a ++ cell ∷ []
+  claimed_held a b cell colour.Blue got told =
+      ap (λ (m : Bound P). held_cells m) told
+      ∙ map-append (λ (p : Held). p.cell) a.seat.me.own.held (found_at cell ∷ [])
+  claimed_held a b cell colour.White got told = absurd cc
+  claimed_held a b cell colour.Gray got told = absurd cc
+  claimed_held a b cell colour.Black got told = absurd cc
+
   pub claimed_at : (a b : Bound P) (cell place : ℕ) (found : Colour) → true ≡ is_blue found
       → b ≡ takes a (event.Claim a.seat.me.number cell) (finds.Colour found)
       → place ≡ length a.seat.me.own.held
@@ -180,12 +207,11 @@ module _ {P : Type 0} where
   claimed_at a b cell place colour.Blue got told is new = record {
     cell = cell;
     at = a;
-    calm = calm_none anything a (record {});
+    calm = calm_none Seeking a refl;
     told = told;
     place_is = is;
     is_new = new refl;
-    held = ap (λ (m : Bound P). held_cells m) told
-        ∙ map-append (λ (p : Held). p.cell) a.seat.me.own.held (found_at cell ∷ []);
+    held = claimed_held a b cell colour.Blue got told;
     known = ap (λ (m : Bound P). m.seat.me.known) told;
   }
   claimed_at a b cell place colour.White got told is new = absurd cc
@@ -194,25 +220,12 @@ module _ {P : Type 0} where
 
   -- Stretches before a claim.
 
-  pub calm_any : (F : List Taken → Type 0) (a b : Bound P) → Calm F a b → Calm anything a b
-  calm_any F a b calm = record {
-    added = calm.added;
-    told = calm.told;
-    kept = calm.kept;
-    fact = record {};
-  }
-
-  pub any_then : (F G : List Taken → Type 0) (a b c : Bound P) → Calm F a b → Calm G b c
-      → Calm anything a c
-  any_then F G a b c first second =
-      calm_then F G anything a b c (λ xs ys f s. record {}) first second
-
-  pub claimed_then : (F : List Taken → Type 0) (a b c : Bound P) (place : ℕ) → Calm F a b
-      → Claimed b place c → Claimed a place c
-  claimed_then F a b c place calm got = record {
+  pub claimed_then : (a b c : Bound P) (place : ℕ) → Calm Seeking a b → Claimed b place c
+      → Claimed a place c
+  claimed_then a b c place calm got = record {
     cell = got.cell;
     at = got.at;
-    calm = any_then F anything a b got.at calm got.calm;
+    calm = seeking_then a b got.at calm got.calm;
     told = got.told;
     place_is = got.place_is
         ∙ many_same b.seat.me.own.held a.seat.me.own.held calm.kept.held;
@@ -226,24 +239,28 @@ module _ {P : Type 0} where
 
   -- what was tried below a cell, a try of it, and whatever followed
   pub tries_on : (a b c d : Bound P) (cell : ℕ) → Calm (AllUsed 0 cell) a b
-      → Calm (AllUsed cell (cell + 1)) b c → Calm anything c d → Calm (AllUsed 0 (cell + 1)) a d
+      → Calm (AllUsed cell (cell + 1)) b c → Calm Seeking c d → Calm (AllUsed 0 (cell + 1)) a d
   tries_on a b c d cell first second third =
-      calm_then (AllUsed 0 (cell + 1)) anything (AllUsed 0 (cell + 1)) a c d
-      (λ xs ys used any. used_on 0 (cell + 1) xs ys used)
+      calm_then (AllUsed 0 (cell + 1)) Seeking (AllUsed 0 (cell + 1)) a c d
+      (λ xs ys used seek. used_on 0 (cell + 1) xs ys used)
       (calm_then (AllUsed 0 cell) (AllUsed cell (cell + 1)) (AllUsed 0 (cell + 1)) a b c
       (tried_more cell) first second) third
 
   -- Looks.
 
-  -- some events, and then one look
-  pub ends_then : (F : List Taken → Type 0) (a b c : Bound P) (control : Control) → Calm F a b
+  -- a handshake, and then one look
+  pub ends_then : (a b c : Bound P) (answered : Bool) (control : Control)
+      → Calm (LookAndAnswer a.seat.me.number a.seat.me.presence.status answered) a b
       → c ≡ takes b (event.Look b.seat.me.number) (finds.Control control)
-      → Calm (Ends a.seat.me.number control) a c
-  ends_then F a b c control calm told =
-      calm_then F (λ es. es ≡ look_of b.seat.me.number control ∷ [])
-      (Ends a.seat.me.number control) a b c
+      → Calm (Ends a.seat.me.number a.seat.me.presence.status control) a c
+  ends_then a b c answered control calm told =
+      calm_then (LookAndAnswer a.seat.me.number a.seat.me.presence.status answered)
+      (λ es. es ≡ look_of b.seat.me.number control ∷ [])
+      (Ends a.seat.me.number a.seat.me.presence.status control) a b c
       (λ xs ys first second. record {
         before = xs;
+        answered = answered;
+        handshake = first;
         split = ap (λ zs. xs ++ zs) (second
             ∙ ap (λ n. look_of n control ∷ []) calm.kept.number);
       })
@@ -252,7 +269,7 @@ module _ {P : Type 0} where
   -- The heap is full.
 
   pub full_behind : (a b c d : Bound P) (began : ℕ) (control : Control) (full : HeapFull)
-      → Calm anything a b → Calm (Ends b.seat.me.number control) b c
+      → Calm Seeking a b → Calm (Ends b.seat.me.number b.seat.me.presence.status control) b c
       → Calm (AllUsed 0 c.seat.me.shape.cells) c d
       → full ≡ record { off_duty = not control.duty; began = began; ended = control.cycles }
       → decides began control ≡ true
@@ -260,20 +277,21 @@ module _ {P : Type 0} where
   full_behind a b c d began control full first second third is decided =
       let number = first.kept.number in
       let cells = ap (λ (h : Shape). h.cells) (second.kept.shape ∙ first.kept.shape) in
-      let tail = calm_then (Ends b.seat.me.number control) (AllUsed 0 c.seat.me.shape.cells)
+      let own = b.seat.me.presence.status in
+      let tail = calm_then (Ends b.seat.me.number own control) (AllUsed 0 c.seat.me.shape.cells)
       (λ es. (os : List Taken) → FullBehind a.seat.me.number a.seat.me.shape.cells began full
       (os ++ es)) b c d
-      (λ xs ys ends used os. full_join a.seat.me.number a.seat.me.shape.cells began control full
-      os xs ys (subst (λ (n : ℕ). Ends n control xs) number ends)
+      (λ xs ys ends used os. full_join a.seat.me.number a.seat.me.shape.cells began own control full
+      os xs ys (subst (λ (n : ℕ). Ends n own control xs) number ends)
       (subst (λ (n : ℕ). AllUsed 0 n ys) cells used) is decided) second third in
-      calm_then anything (λ es. (os : List Taken)
+      calm_then Seeking (λ es. (os : List Taken)
       → FullBehind a.seat.me.number a.seat.me.shape.cells began full (os ++ es))
       (FullBehind a.seat.me.number a.seat.me.shape.cells began full) a b d
-      (λ xs ys any rest. rest xs) first tail
+      (λ xs ys seek rest. rest xs) first tail
 
   -- the first look, a try, and the rest
   pub finds_full : (a b c d : Bound P) (began : ℕ) (first : Control) (full : HeapFull)
-      → b ≡ takes a (event.Look a.seat.me.number) (finds.Control first) → Calm anything b c
+      → b ≡ takes a (event.Look a.seat.me.number) (finds.Control first) → Calm Seeking b c
       → Calm (FullBehind c.seat.me.number c.seat.me.shape.cells began full) c d
       → began ≡ begun_of first
       → Calm (FindsFull a.seat.me.number a.seat.me.shape.cells full.off_duty full.began full.ended)
@@ -282,12 +300,12 @@ module _ {P : Type 0} where
       let look = looked_at a b first told in
       let number = tries.kept.number ∙ look.kept.number in
       let cells = ap (λ (h : Shape). h.cells) (tries.kept.shape ∙ look.kept.shape) in
-      let tail = calm_then anything
+      let tail = calm_then Seeking
       (FullBehind c.seat.me.number c.seat.me.shape.cells began full)
       (λ es. (ws : List Taken) → ws ≡ look_of a.seat.me.number first ∷ []
       → FindsFull a.seat.me.number a.seat.me.shape.cells full.off_duty full.began full.ended
       (ws ++ es)) b c d
-      (λ xs ys any rest ws opens. finds_join a.seat.me.number a.seat.me.shape.cells began first
+      (λ xs ys seek rest ws opens. finds_join a.seat.me.number a.seat.me.shape.cells began first
       full ws xs ys opens
       (subst (λ (n : ℕ). FullBehind n a.seat.me.shape.cells began full ys) number
       (subst (λ (n : ℕ). FullBehind c.seat.me.number n began full ys) cells rest)) is)

@@ -1,32 +1,52 @@
 -- A claim: the cell that it got, or why the heap is full.
 -- Source: this project's.
-use Rattle.std.specs.Prelude.{ℕ, ◌≡◌, true, not, List, [], ◌∷◌, ◌++◌, length, is_some}
+use Rattle.std.specs.Prelude.{ℕ, ◌≡◌, Bool, true, false, not, List, [], ◌∷◌, ◌++◌, length}
+use Rattle.std.specs.Prelude.{is_some}
+use Rattle.std.specs.List.{list_all}
 use Rattle.cell_words.specs.declared.colours.Colour.TheVariants as colour
 use Rattle.cell_words.specs.declared.controls.Control.{Control}
+use Rattle.cell_words.specs.declared.presences.Status.{Status}
+use Rattle.core_machine.specs.declared.events.Event.{Event}
 use Rattle.core_machine.specs.declared.events.Event.TheVariants as event
+use Rattle.core_machine.specs.declared.events.Found.{Found}
 use Rattle.core_machine.specs.declared.events.Found.TheVariants as finds
 use Rattle.core_machine.specs.declared.events.Taken.{Taken}
 use Rattle.heap_rule.specs.declared.known.Known.TheVariants as knows
 use Rattle.heap_rule.specs.Apart.{IsNewTo}
 use Rattle.heap_rule.specs.Lore.{five_nulls}
-use Rattle.trails.specs.Claims.{AllUsed, decides, look_of}
+use Rattle.trails.specs.Claims.{AllUsed, decides, is_used, look_of}
 use Rattle.mutator_seat.specs.declared.full.HeapFull.{HeapFull}
 use Rattle.mutator_seat.specs.Bound.{Bound, held_cells, takes}
-use Rattle.mutator_seat.specs.Stretches.{Calm}
+use Rattle.mutator_seat.specs.Stretches.{Calm, LookAndAnswer}
 
 -- whatever the events were
 abbrev pub anything : List Taken → Type 0
 anything events = Unit {0}
 
--- the last of the events is this look
-pub record Ends (number : ℕ) (control : Control) (events : List Taken) : Type 0 where
-  pub before : List Taken
-  pub split : events ≡ before ++ look_of number control ∷ []
+-- What a claim does until it gets its cell: it looks, marks, answers, and tries cells that it finds
+-- used.
 
--- the first is
-pub record Opens (number : ℕ) (control : Control) (events : List Taken) : Type 0 where
-  pub rest : List Taken
-  pub split : events ≡ look_of number control ∷ rest
+abbrev pub is_missed : Found → Bool
+is_missed (finds.Colour found) = is_used found
+is_missed _ = false
+
+abbrev pub seeks : Event → Found → Bool
+seeks (event.Look i) found = true
+seeks (event.Mark i place) found = true
+seeks (event.Answer i) found = true
+seeks (event.Claim i cell) found = is_missed found
+seeks _ found = false
+
+-- each of the events is such a one, and none of another kind
+abbrev pub Seeking : List Taken → Type 0
+Seeking events = list_all (λ (t : Taken). seeks t.event t.found) events ≡ true
+
+-- a handshake is answered where one is asked for, and behind that comes this look
+pub record Ends (number : ℕ) (own : Status) (control : Control) (events : List Taken) : Type 0 where
+  pub before : List Taken
+  pub answered : Bool
+  pub handshake : LookAndAnswer number own answered before
+  pub split : events ≡ before ++ look_of number control ∷ []
 
 -- A look decides, where so many cycles were begun before, and behind it each cell was found used.
 pub record FullBehind (number cells : ℕ) (begun : ℕ) (full : HeapFull) (events : List Taken)
@@ -44,13 +64,13 @@ module _ {P : Type 0} where
   abbrev pub HasMode : Bound P → Type 0
   HasMode m = is_some m.seat.me.own.mode ≡ true
 
-  -- Behind some events that kept all, a blue cell was claimed: it stands at this place, the next one
-  -- of the held list, and is known as a raw cell with null fields.
+  -- Behind events that sought a cell and kept all, a blue one was claimed: it stands at this place,
+  -- the next one of the held list, and is known as a raw cell with null fields.
   pub record Claimed (old : Bound P) (place : ℕ) (new : Bound P) : Type 0 where
     pub cell : ℕ
     -- as it was at the claim
     pub at : Bound P
-    pub calm : Calm anything old at
+    pub calm : Calm Seeking old at
     pub told : new ≡ takes at (event.Claim at.seat.me.number cell) (finds.Colour colour.Blue)
     pub place_is : place ≡ length old.seat.me.own.held
     -- it stood at no place

@@ -2,7 +2,8 @@
 //!
 //! One look serves many tries, since a try that misses leaves it. While it waits it answers
 //! handshakes, for a cycle cannot end without its answers.
-ghost use Rattle.std.specs.Prelude.{◌≡◌, ◌<◌, ◌≤◌, ◌+◌, IfErr, IfNone, IfOk, IfSome, length, not, true};
+ghost use Rattle.std.specs.Prelude.{◌≡◌, ◌<◌, ◌≤◌, ◌+◌, ◌∷◌, ◌++◌, ◌==◌, [], true, not};
+ghost use Rattle.std.specs.Prelude.{IfErr, IfNone, IfOk, IfSome, length};
 ghost use Rattle.cell_words.specs.declared.colours.Colour.{Colour};
 ghost use Rattle.core_machine.specs.Words.{is_blue};
 ghost use Rattle.core_machine.specs.declared.events.Event.TheVariants as event;
@@ -11,7 +12,7 @@ ghost use Rattle.free_cells.specs.Hints.{counts_of, queue_of};
 ghost use Rattle.heap_rule.specs.Apart.{IsNewTo};
 ghost use Rattle.heap_rule.specs.Asks.{MayClaim};
 ghost use Rattle.mutator_seat.specs.Bound.{held_cells, takes};
-ghost use Rattle.mutator_seat.specs.Claims.{Claimed, Ends, FullBehind, HasMode, anything};
+ghost use Rattle.mutator_seat.specs.Claims.{Claimed, Ends, FullBehind, HasMode, Seeking};
 ghost use Rattle.mutator_seat.specs.Stretches.{Calm};
 ghost use Rattle.trails.specs.Claims.{AllUsed, FindsFull, begun_of, decides};
 
@@ -26,6 +27,9 @@ use std::thread;
 
 /// How often a waiting claim pauses between two looks.
 const PAUSES: u32 = 100;
+
+/// How often a waiting claim takes a hint before it tries every cell.
+const WAITS: u32 = 1000;
 
 /// How many cells are tried by one look.
 const TRIES: u32 = 64;
@@ -64,15 +68,17 @@ fn pause() {
 }
 
 impl<'a, P: Keeping> Mutator<'a, P> {
-    /// Takes a free cell: raw, with null fields, at the next place. Hints are tried first, then every
-    /// cell. While the collector is on duty it waits, and answers handshakes, until two whole cycles
-    /// have begun and ended within the call; then every cell is tried once more.
+    /// Takes a free cell: raw, with null fields, at the next place. Hints are tried first, also those
+    /// that come in for a while, and then every cell. While the collector is on duty it waits, and
+    /// answers handshakes, until two whole cycles have begun and ended within the call; then every
+    /// cell is tried once more.
     pub fn claim<R: Wait>(&mut self, rt: &R, hints: &mut Hints<'_>) -> Result<usize, HeapFull>
         requires inside { self.old.seat.me.presence.inside ≡ true }
         requires room { length self.old.seat.me.own.held < self.old.seat.me.room }
         ensures got { IfOk result (λ place. Claimed self.old place self.new) }
         ensures full { IfErr result (λ full. Calm (FindsFull self.old.seat.me.number self.old.seat.me.shape.cells
             full.off_duty full.began full.ended) self.old self.new) }
+        ensures seeking { IfErr result (λ full. Calm Seeking self.old self.new) }
         ensures queue { queue_of hints.new ≡ queue_of hints.old }
         ensures takes { (counts_of hints.old).takes < (counts_of hints.new).takes }
     {
@@ -97,18 +103,19 @@ impl<'a, P: Keeping> Mutator<'a, P> {
         ensures got { IfOk result (λ place. Claimed self.old place self.new) }
         ensures full { IfErr result (λ full. Calm (FullBehind self.old.seat.me.number self.old.seat.me.shape.cells
             began full) self.old self.new) }
+        ensures seeking { IfErr result (λ full. Calm Seeking self.old self.new) }
         ensures queue { queue_of hints.new ≡ queue_of hints.old }
         ensures takes { (counts_of hints.old).takes ≤ (counts_of hints.new).takes }
     {
-        let mut tried = false;
+        let mut waited: u32 = 0;
         for _ in rt.forever() {
             let control = self.handshake();
             if decides(began, control) {
                 return self.try_last(began, control);
             }
-            match self.try_on(rt, hints, tried) {
+            match self.try_on(rt, hints, waited) {
                 Some(place) => return Ok(place),
-                None => tried = true,
+                None => waited = waited.saturating_add(1),
             }
         }
         unreachable!()
@@ -117,7 +124,9 @@ impl<'a, P: Keeping> Mutator<'a, P> {
     /// Answers a handshake, if one is asked for, and looks again.
     fn handshake(&mut self) -> Control
         requires inside { self.old.seat.me.presence.inside ≡ true }
-        ensures calm { Calm (Ends self.old.seat.me.number result) self.old self.new }
+        ensures calm { Calm (Ends self.old.seat.me.number self.old.seat.me.presence.status result)
+            self.old self.new }
+        ensures seeking { Calm Seeking self.old self.new }
         ensures mode { HasMode self.new }
     {
         let _ = self.answer();
@@ -132,6 +141,7 @@ impl<'a, P: Keeping> Mutator<'a, P> {
         ensures got { IfOk result (λ place. Claimed self.old place self.new) }
         ensures full { IfErr result (λ full. full ≡ record { off_duty = not control.duty; began = began; ended = control.cycles }) }
         ensures tried { IfErr result (λ full. Calm (AllUsed 0 self.old.seat.me.shape.cells) self.old self.new) }
+        ensures seeking { IfErr result (λ full. Calm Seeking self.old self.new) }
     {
         match self.try_all() {
             Some(place) => Ok(place),
@@ -143,21 +153,25 @@ impl<'a, P: Keeping> Mutator<'a, P> {
         }
     }
 
-    /// Tries every cell the first time, and later waits a while and tries one hint.
-    fn try_on<R: Wait>(&mut self, rt: &R, hints: &mut Hints<'_>, tried: bool) -> Option<usize>
+    /// Waits a while and takes one hint; after so many of them it tries every cell, once.
+    fn try_on<R: Wait>(&mut self, rt: &R, hints: &mut Hints<'_>, waited: u32) -> Option<usize>
         requires inside { self.old.seat.me.presence.inside ≡ true }
         requires room { length self.old.seat.me.own.held < self.old.seat.me.room }
         requires mode { HasMode self.old }
         ensures got { IfSome result (λ place. Claimed self.old place self.new) }
-        ensures none { IfNone result (Calm anything self.old self.new) }
+        ensures none { IfNone result (Calm Seeking self.old self.new) }
+        ensures all { waited ≡ 1000 → IfNone result
+            (Calm (AllUsed 0 self.old.seat.me.shape.cells) self.old self.new) }
         ensures queue { queue_of hints.new ≡ queue_of hints.old }
         ensures takes { (counts_of hints.old).takes ≤ (counts_of hints.new).takes }
+        ensures hint { not (waited == 1000) ≡ true
+            → (counts_of hints.new).takes ≡ (counts_of hints.old).takes + 1 }
     {
-        if tried {
+        if waited == WAITS {
+            self.try_all()
+        } else {
             pause();
             self.try_hint(rt, hints)
-        } else {
-            self.try_all()
         }
     }
 
@@ -167,9 +181,9 @@ impl<'a, P: Keeping> Mutator<'a, P> {
         requires room { length self.old.seat.me.own.held < self.old.seat.me.room }
         requires mode { HasMode self.old }
         ensures got { IfSome result (λ place. Claimed self.old place self.new) }
-        ensures none { IfNone result (Calm anything self.old self.new) }
+        ensures none { IfNone result (Calm Seeking self.old self.new) }
         ensures queue { queue_of hints.new ≡ queue_of hints.old }
-        ensures takes { (counts_of hints.old).takes < (counts_of hints.new).takes }
+        ensures takes { (counts_of hints.new).takes ≡ (counts_of hints.old).takes + 1 }
     {
         match hints.take(rt) {
             Some(cell) => self.try_within(cell),
@@ -177,13 +191,16 @@ impl<'a, P: Keeping> Mutator<'a, P> {
         }
     }
 
-    /// Tries a cell, if the heap has it.
+    /// Tries this cell, if the heap has it.
     fn try_within(&mut self, cell: u32) -> Option<usize>
         requires inside { self.old.seat.me.presence.inside ≡ true }
         requires room { length self.old.seat.me.own.held < self.old.seat.me.room }
         requires mode { HasMode self.old }
         ensures got { IfSome result (λ place. Claimed self.old place self.new) }
-        ensures none { IfNone result (Calm anything self.old self.new) }
+        ensures cell { IfSome result (λ place. held_cells self.new ≡ held_cells self.old ++ cell ∷ []) }
+        ensures none { IfNone result (Calm Seeking self.old self.new) }
+        ensures used { cell < self.old.seat.me.shape.cells
+            → IfNone result (Calm (AllUsed cell (cell + 1)) self.old self.new) }
     {
         if cell < self.cells() {
             self.try_cell(cell)
@@ -199,6 +216,7 @@ impl<'a, P: Keeping> Mutator<'a, P> {
         requires mode { HasMode self.old }
         ensures got { IfSome result (λ place. Claimed self.old place self.new) }
         ensures none { IfNone result (Calm (AllUsed 0 self.old.seat.me.shape.cells) self.old self.new) }
+        ensures seeking { IfNone result (Calm Seeking self.old self.new) }
     {
         for cell in 0..self.cells() {
             match self.try_cell(cell) {
@@ -213,7 +231,7 @@ impl<'a, P: Keeping> Mutator<'a, P> {
     fn look_at_times(&mut self, cell: u32)
         requires inside { self.old.seat.me.presence.inside ≡ true }
         requires mode { HasMode self.old }
-        ensures calm { Calm anything self.old self.new }
+        ensures calm { Calm Seeking self.old self.new }
         ensures mode { HasMode self.new }
     {
         if cell % TRIES == TRIES - 1 {
@@ -225,7 +243,9 @@ impl<'a, P: Keeping> Mutator<'a, P> {
     fn try_cell(&mut self, cell: u32) -> Option<usize>
         requires may { MayClaim self.old.seat.me cell }
         ensures got { IfSome result (λ place. Claimed self.old place self.new) }
+        ensures cell { IfSome result (λ place. held_cells self.new ≡ held_cells self.old ++ cell ∷ []) }
         ensures none { IfNone result (Calm (AllUsed cell (cell + 1)) self.old self.new) }
+        ensures seeking { IfNone result (Calm Seeking self.old self.new) }
         ensures mode { IfNone result (HasMode self.new) }
     {
         let place = self.held_len();

@@ -1,6 +1,6 @@
 -- How many marks are set: as many as the records that are marked.
 use Rattle.std.proofs.Common.{◌≡◌, ◌+◌, ◌<◌, ◌≤◌, ℕ, zero, suc, Bool, true, false, List, [], ◌∷◌}
-use Rattle.std.proofs.Common.{length, take, refl, ap, arith}
+use Rattle.std.proofs.Common.{length, take, refl, sym, ap, arith}
 use Rattle.std.specs.Prelude.{slice_index_or}
 use Rattle.minor_heap.specs.Marking.{marked_of}
 use Rattle.promotion.specs.Copying.{marked_count}
@@ -45,3 +45,26 @@ pub count_none : (marks : List Bool) → ((n : ℕ) → slice_index_or marks n f
 count_none [] none = refl
 count_none (true ∷ marks) none = absurd (none 0 refl)
 count_none (false ∷ marks) none = count_none marks (λ n is. none (suc n) is)
+
+-- none of the first n is marked
+pub count_before : (marks : List Bool) (n : ℕ)
+    → ((k : ℕ) → slice_index_or marks k false ≡ true → n ≤ k) → marked_count (take n marks) ≡ 0
+count_before marks zero from = refl
+count_before [] (suc n) from = refl
+count_before (true ∷ marks) (suc n) from = let l = from 0 refl in absurd (omega (arith, l))
+count_before (false ∷ marks) (suc n) from =
+    count_before marks n (λ k is. let l = from (suc k) is in omega (arith, l))
+
+-- none is marked but among the first n
+pub count_all : (marks : List Bool) (n : ℕ)
+    → ((k : ℕ) → slice_index_or marks k false ≡ true → k < n)
+    → marked_count (take n marks) ≡ marked_count marks
+count_all [] zero below = refl
+count_all [] (suc n) below = refl
+count_all (true ∷ marks) zero below = let l = below 0 refl in absurd (omega (arith, l))
+count_all (false ∷ marks) zero below =
+    sym (count_none marks (λ k is. let l = below (suc k) is in absurd (omega (arith, l))))
+count_all (true ∷ marks) (suc n) below =
+    ap suc (count_all marks n (λ k is. let l = below (suc k) is in omega (arith, l)))
+count_all (false ∷ marks) (suc n) below =
+    count_all marks n (λ k is. let l = below (suc k) is in omega (arith, l))

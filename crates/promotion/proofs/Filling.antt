@@ -35,13 +35,13 @@ use Rattle.mutator_events.specs.declared.values.Value.TheVariants as values
 use Rattle.mutator_events.specs.Values.{field_among, field_at}
 use Rattle.mutator_events.proofs.HeldCells.{cells_many, field_among_at}
 use Rattle.mutator_seat.specs.Bound.{Bound, held_cells, takes}
-use Rattle.mutator_seat.specs.Claims.{Claimed, anything}
+use Rattle.mutator_seat.specs.Claims.{Claimed, Seeking}
 use Rattle.promotion.specs.Copying.{AreFilled, Copied, IsReady, Opened}
 use Rattle.promotion.specs.Copying.{term_at}
 use Rattle.promotion.proofs.Knowing.{among_more, fill_known, last_known, record_of}
 use Rattle.promotion.proofs.Knowing.{seal_known, term_stays, term_there, value_known, value_sealed}
 use Rattle.promotion.proofs.Knowing.{value_term_is}
-use Rattle.promotion.proofs.Stretching.{adds_calm, adds_event, any_then, stays_event, stays_kept}
+use Rattle.promotion.proofs.Stretching.{adds_anyhow, adds_calm, adds_event, any_then, stays_event, stays_kept}
 use Rattle.promotion.proofs.Stretching.{stays_then}
 
 module _ {P : Type 0} where
@@ -59,7 +59,8 @@ module _ {P : Type 0} where
             ∙ ap (λ (n : ℕ). n + 1) got.calm.kept.claims;
         stays = stays_then old got.at m (stays_kept old got.at got.calm.kept)
             (stays_event got.at m e (finds.Colour colour.Blue) got.told refl);
-        adds = any_then old got.at m (adds_calm anything old got.at got.calm)
+        adds = any_then old got.at m (adds_anyhow Seeking old got.at
+            (adds_calm Seeking old got.at got.calm))
             (adds_event got.at m e (finds.Colour colour.Blue) got.told);
       }
 

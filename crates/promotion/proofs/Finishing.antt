@@ -22,10 +22,12 @@ use Rattle.mutator_seat.specs.Claims.{anything}
 use Rattle.promotion.specs.Copying.{Appended, Grown, Halted}
 use Rattle.promotion.specs.Promoting.{Adds, ClaimsFor, Collected, HasRefusal, Promoted, Refused}
 use Rattle.promotion.specs.Promoting.{Stays, knows_term}
+use Rattle.promotion.specs.Linking.{LinksNothing}
 use Rattle.promotion.proofs.Growing.{grown_known, grown_many, records_of}
 use Rattle.promotion.proofs.Holding.{claims_kept, held_kept, keep_adds, keep_stays, kept_tail}
 use Rattle.promotion.proofs.Holding.{known_kept, take_one}
 use Rattle.promotion.proofs.Knowing.{term_there}
+use Rattle.promotion.proofs.Linked.{Copying, links_nothing}
 use Rattle.promotion.proofs.Stretching.{adds_event, adds_then, any_then, stays_then}
 use Rattle.promotion.proofs.Stretching.{within_on}
 
@@ -271,3 +273,15 @@ module _ {P : Type 0} where
             (finds.Presence b.seat.me.presence) told);
       })
       (none_or_some (length g.cells))
+
+  pub refused_links : (a b c : Bound P) (full : HeapFull) (n : ℕ) → Halted a full b
+      → Copying (length a.seat.me.own.held) a b → n ≡ length a.seat.me.own.held
+      → (length b.seat.me.own.held ≡ n → c ≡ b)
+      → (n < length b.seat.me.own.held
+      → c ≡ takes b (event.Keep b.seat.me.number n 0 0) (finds.Presence b.seat.me.presence))
+      → Adds (LinksNothing a.seat.me.number (length a.seat.me.own.held)) a c
+  refused_links a b c full n g so n_is same cut =
+      subst (λ (k : ℕ). Adds (LinksNothing a.seat.me.number k) a c) n_is
+      (links_nothing n a b c g.stays.number
+      (omega (arith, n_is, grown_many (HasRefusal a full) a b g))
+      (subst (λ (k : ℕ). Copying k a b) (sym n_is) so) same cut)

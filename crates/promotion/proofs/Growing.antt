@@ -1,11 +1,12 @@
 -- One copy after the other: the held list grows by a record a copy, and what was known stays.
-use Rattle.std.proofs.Common.{◌≡◌, ◌<◌, ◌≤◌, ◌+◌, ◌⊎◌, ℕ, suc, Bool, true, false, List}
+use Rattle.std.proofs.Common.{◌≡◌, ◌≢◌, ◌<◌, ◌≤◌, ◌+◌, ◌⊎◌, ℕ, suc, Bool, true, false, List}
 use Rattle.std.proofs.Common.{[], ◌∷◌, ◌++◌, length, map, refl, sym, ◌∙◌, ap, subst, arith, ⊎_elim}
 use Rattle.std.proofs.Common.{length-append, take, true≢false, Result, Ok, Err, OnOk}
-use Rattle.std.specs.Prelude.{slice_index_or}
+use Rattle.std.specs.Prelude.{slice_index_or, slice_set}
 use Rattle.std.proofs.lemmas.List.{append_assoc, append-nil, map-append, length-map}
-use Rattle.std.proofs.Math.ListN.{get_or-append, get_or-map}
-use Rattle.std.proofs.Math.Seq.{get_or-append_seam, take-length}
+use Rattle.std.proofs.lemmas.List.{get_or-set_other, get_or-set_same}
+use Rattle.std.proofs.Math.ListN.{get_or-map}
+use Rattle.std.proofs.Math.Seq.{get_or-append_seam}
 use Rattle.cell_words.specs.Term.{Term, five, null}
 use Rattle.core_machine.specs.declared.events.Taken.{Taken}
 use Rattle.heap_rule.specs.Facts.{is_term}
@@ -17,7 +18,9 @@ use Rattle.minor_heap.specs.declared.fields.MinorField.{MinorField}
 use Rattle.minor_heap.specs.declared.fields.MinorField.TheVariants as field
 use Rattle.minor_heap.specs.declared.fields.MinorRef.{MinorRef}
 use Rattle.minor_heap.specs.Nursery.{FitsRecord, IsOrdered, field_at}
+use Rattle.minor_heap.specs.Spans.{AreWithin}
 use Rattle.minor_heap.specs.Terms.{field_term, terms_of}
+use Rattle.minor_heap.specs.declared.spans.RecordSpan.{RecordSpan}
 use Rattle.minor_heap.proofs.Terms.{fits_is, term_is}
 use Rattle.mutator_events.proofs.HeldCells.{cells_many}
 use Rattle.mutator_seat.specs.declared.full.HeapFull.{HeapFull}
@@ -29,8 +32,9 @@ use Rattle.promotion.specs.Copying.{AreCopied, Copied, Grown, GrownBy, Halted, I
 use Rattle.promotion.specs.Copying.{marked_count, term_at, value_of}
 use Rattle.promotion.specs.Promoting.{HasRefusal}
 use Rattle.promotion.specs.Sharing.{SharesRecord, known_terms}
-use Rattle.promotion.proofs.Counting.{count_few, count_set, count_unset}
+use Rattle.promotion.proofs.Counting.{count_all, count_before, count_few, count_set, count_unset}
 use Rattle.promotion.proofs.Knowing.{record_of, term_stays}
+use Rattle.promotion.proofs.Linked.{Copying, copying_on}
 use Rattle.promotion.proofs.Stretching.{adds_calm, adds_none, adds_then, any_then, stays_kept}
 use Rattle.promotion.proofs.Stretching.{stays_same, stays_then, within_late, within_whole}
 
@@ -147,28 +151,30 @@ below_or : (k n : ℕ) → k < n + 1 → (k < n) ⊎ (k ≡ n)
 below_or k n lt = search (arith, lt)
 
 -- one record further, which has its copy at this place if it is marked
-pub copied_more : (known later : List Known) (marks : List Bool) (places : List ℕ)
-    (terms : List Term) (place : ℕ) → StillRecords known later
-    → (slice_index_or marks (length places) false ≡ true
-    → known_at later place ≡ knows.Record (slice_index_or terms (length places) null))
-    → AreCopied known marks places terms → AreCopied later marks (places ++ place ∷ []) terms
-copied_more known later marks places terms place still here copied k lt is =
+pub copied_more : (known later : List Known) (marks : List Bool) (n : ℕ) (places : List ℕ)
+    (terms : List Term) (place : ℕ) → n < length places → StillRecords known later
+    → (slice_index_or marks n false ≡ true
+    → known_at later place ≡ knows.Record (slice_index_or terms n null))
+    → AreCopied known marks n places terms
+    → AreCopied later marks (n + 1) (slice_set places n place) terms
+copied_more known later marks n places terms place there still here copied k lt is =
     ⊎_elim
-    (λ (less : k < length places).
-    ap (λ (p : ℕ). known_at later p) (get_or-append places (place ∷ []) 0 k less)
+    (λ (less : k < n).
+    let other : k ≢ n = omega (arith, less) in
+    ap (λ (p : ℕ). known_at later p) (get_or-set_other places n k place 0 other)
     ∙ still (slice_index_or places k 0) (slice_index_or terms k null) (copied k less is))
-    (λ (same : k ≡ length places).
-    ap (λ (n : ℕ). known_at later (slice_index_or (places ++ place ∷ []) n 0)) same
-    ∙ ap (λ (p : ℕ). known_at later p) (get_or-append_seam places place [] 0)
-    ∙ here (ap (λ (n : ℕ). slice_index_or marks n false) (sym same) ∙ is)
-    ∙ ap (λ (n : ℕ). knows.Record (slice_index_or terms n null)) (sym same))
-    (below_or k (length places) (omega (arith, lt, length-append places (place ∷ []))))
+    (λ (same : k ≡ n).
+    ap (λ (j : ℕ). known_at later (slice_index_or (slice_set places n place) j 0)) same
+    ∙ ap (λ (p : ℕ). known_at later p) (get_or-set_same places n place 0 there)
+    ∙ here (ap (λ (j : ℕ). slice_index_or marks j false) (sym same) ∙ is)
+    ∙ ap (λ (j : ℕ). knows.Record (slice_index_or terms j null)) (sym same))
+    (below_or k n lt)
 
 -- A record whose older ones have their copies.
 module _ (first known : List Known) (records : List (List MinorField)) (marks : List Bool)
     (places : List ℕ) (k : ℕ) (ordered : IsOrdered 0 records) (stands : k < length records)
-    (many : length places ≡ k) (still : StillRecords first known)
-    (copied : AreCopied known marks places (terms_of (known_terms first) records))
+    (still : StillRecords first known)
+    (copied : AreCopied known marks k places (terms_of (known_terms first) records))
     (closed : (i : ℕ) (older : MinorRef) → i < 5 → field_at records k i ≡ field.Minor older
     → slice_index_or marks older.number false ≡ true)
     (shares : (i : ℕ) → i < 5 → SharesRecord first (field_at records k i)) where
@@ -182,7 +188,7 @@ module _ (first known : List Known) (records : List (List MinorField)) (marks : 
   ready_of field.Null fits named shared = tt
   ready_of (field.Num n) fits named shared = fits
   ready_of (field.Minor r) fits named shared =
-      ap is_term (copied r.number (omega (arith, fits, many)) (named r refl))
+      ap is_term (copied r.number fits (named r refl))
   ready_of (field.Shared place) fits named shared =
       let is = record_of (known_at first place) shared in
       ap is_term (still place is.0 is.1)
@@ -195,7 +201,7 @@ module _ (first known : List Known) (records : List (List MinorField)) (marks : 
   term_for field.Null fits named shared = refl
   term_for (field.Num n) fits named shared = refl
   term_for (field.Minor r) fits named shared =
-      ap (term_or null) (copied r.number (omega (arith, fits, many)) (named r refl))
+      ap (term_or null) (copied r.number fits (named r refl))
   term_for (field.Shared place) fits named shared =
       let is = record_of (known_at first place) shared in
       ap (term_or null) (still place is.0 is.1)
@@ -234,51 +240,62 @@ count_more marks n a c is so =
 
 pub step_copied : {P : Type 0} (a b c : Bound P) (records : List (List MinorField))
     (marks : List Bool) (places : List ℕ) (n place : ℕ) → IsOrdered 0 records → n < length records
-    → length places ≡ n
+    → n < length places
     → ((i : ℕ) (older : MinorRef) → i < 5 → field_at records n i ≡ field.Minor older
     → slice_index_or marks older.number false ≡ true)
     → ((i : ℕ) → i < 5 → SharesRecord a.seat.me.known (field_at records n i))
     → slice_index_or marks n false ≡ true
     → GrownBy (marked_count (take n marks)) a b
-    → AreCopied b.seat.me.known marks places (terms_of (known_terms a.seat.me.known) records)
+    → AreCopied b.seat.me.known marks n places (terms_of (known_terms a.seat.me.known) records)
     → Copied b place (copied_term b.seat.me.known places records n) c
     → GrownBy (marked_count (take (n + 1) marks)) a c
-    × AreCopied c.seat.me.known marks (places ++ place ∷ [])
+    × AreCopied c.seat.me.known marks (n + 1) (slice_set places n place)
     (terms_of (known_terms a.seat.me.known) records)
-step_copied a b c records marks places n place ordered stands many closed shares is so copied got =
+step_copied a b c records marks places n place ordered stands there closed shares is so copied got =
     let terms = terms_of (known_terms a.seat.me.known) records in
     let t = copied_term b.seat.me.known places records n in (
       count_more marks n a c is (grown_more a b c (marked_count (take n marks)) place t so got),
-      copied_more b.seat.me.known c.seat.me.known marks places terms place
+      copied_more b.seat.me.known c.seat.me.known marks n places terms place there
           (still_copied b c place t got)
           (λ marked. copy_there b c place t got
           ∙ ap (λ (u : Term). knows.Record u)
-          (copy_term a.seat.me.known b.seat.me.known records marks places n ordered stands many
-          (still_records anything a b so.grown) copied closed shares
-          ∙ ap (λ (k : ℕ). slice_index_or terms k null) (sym many)))
+          (copy_term a.seat.me.known b.seat.me.known records marks places n ordered stands
+          (still_records anything a b so.grown) copied closed shares))
           copied,
     )
 
 pub step_passed : {P : Type 0} (a b : Bound P) (marks : List Bool) (places : List ℕ)
-    (terms : List Term) (n place : ℕ) → length places ≡ n → slice_index_or marks n false ≡ false
-    → GrownBy (marked_count (take n marks)) a b → AreCopied b.seat.me.known marks places terms
+    (terms : List Term) (n : ℕ) → slice_index_or marks n false ≡ false
+    → GrownBy (marked_count (take n marks)) a b → AreCopied b.seat.me.known marks n places terms
     → GrownBy (marked_count (take (n + 1) marks)) a b
-    × AreCopied b.seat.me.known marks (places ++ place ∷ []) terms
-step_passed a b marks places terms n place many other so copied =
+    × AreCopied b.seat.me.known marks (n + 1) places terms
+step_passed a b marks places terms n other so copied =
     let next : n + 1 ≡ suc n = omega arith in (
       subst (λ (k : ℕ). GrownBy k a b) (sym (count_unset marks n other)
           ∙ ap (λ (k : ℕ). marked_count (take k marks)) (sym next)) so,
-      copied_more b.seat.me.known b.seat.me.known marks places terms place (λ q t is. is)
-          (λ marked. absurd (true≢false (sym marked
-          ∙ ap (λ (k : ℕ). slice_index_or marks k false) many ∙ other)))
-          copied,
+      (λ k lt is. ⊎_elim
+          (λ (less : k < n). copied k less is)
+          (λ (same : k ≡ n). absurd (true≢false (sym is
+          ∙ ap (λ (j : ℕ). slice_index_or marks j false) same ∙ other)))
+          (below_or k n lt)),
     )
 
-pub all_grown : {P : Type 0} (marks : List Bool) (n : ℕ) (a b : Bound P) → n ≡ length marks
-    → GrownBy (marked_count (take n marks)) a b → GrownBy (marked_count marks) a b
-all_grown marks n a b is so =
-    subst (λ (ms : List Bool). GrownBy (marked_count ms) a b)
-    (ap (λ (k : ℕ). take k marks) is ∙ take-length marks) so
+-- before the first of the marks nothing is copied
+pub none_copied : {P : Type 0} (marks : List Bool) (span : RecordSpan) (a : Bound P)
+    → AreWithin span marks → GrownBy (marked_count (take span.first marks)) a a
+none_copied marks span a within =
+    subst (λ (k : ℕ). GrownBy k a a)
+    (sym (count_before marks span.first (λ k is. (within (record { number = k }) is).0)))
+    (grown_none a)
+
+-- and behind the last all are
+pub all_grown : {P : Type 0} (marks : List Bool) (span : RecordSpan) (n : ℕ) (a b : Bound P)
+    → AreWithin span marks → span.end ≤ n → GrownBy (marked_count (take n marks)) a b
+    → GrownBy (marked_count marks) a b
+all_grown marks span n a b within past so =
+    subst (λ (k : ℕ). GrownBy k a b)
+    (count_all marks n (λ k is. let l = (within (record { number = k }) is).1 in
+    omega (arith, l, past))) so
 
 pub ok_both : {T E : Type 0} {A B : Type 0} (r : Result T E) → OnOk r A → (A → B) → OnOk r B
 ok_both (Ok x) a f = f a
@@ -297,10 +314,10 @@ room_left marks n records a b lt room so =
     ∙ ap (λ (k : ℕ). k + length g.cells) (cells_many a.seat.me.own.held) in
     omega (arith, lt, room, many, g.stays.room, so.count_is, count_few marks n)
 
-pub ok_three : {T E : Type 0} {A B C D : Type 0} (r : Result T E) → OnOk r A → OnOk r B → OnOk r C
-    → (A → B → C → D) → OnOk r D
-ok_three (Ok x) a b c f = f a b c
-ok_three (Err e) a b c f = a
+pub ok_two : {T E : Type 0} {A B C : Type 0} (r : Result T E) → OnOk r A → OnOk r B
+    → (A → B → C) → OnOk r C
+ok_two (Ok x) a b f = f a b
+ok_two (Err e) a b f = a
 
 -- as many places more as cells
 pub grown_many : {P : Type 0} (F : List Taken → Type 0) (a b : Bound P) (g : Grown F a b)
@@ -318,11 +335,25 @@ grown_known F a b g =
     ∙ ap (λ (n : ℕ). length a.seat.me.known + n)
     (length-map g.terms (λ t. knows.Record t) ∙ g.many)
 
-pub few_held : {P : Type 0} (marks : List Bool) (a b : Bound P) (records : ℕ)
-    → length marks ≡ records → GrownBy (marked_count marks) a b
+pub few_held : {P : Type 0} (marks : List Bool) (span : RecordSpan) (a b : Bound P) (records : ℕ)
+    → AreWithin span marks → span.end ≤ records → GrownBy (marked_count marks) a b
     → length b.seat.me.own.held ≤ length a.seat.me.own.held + records
-few_held marks a b records is so =
-    let few : marked_count marks ≤ length marks =
-    subst (λ (ms : List Bool). marked_count ms ≤ length marks) (take-length marks)
-    (count_few marks (length marks)) in
-    omega (arith, is, few, so.count_is, grown_many anything a b so.grown)
+few_held marks span a b records within stands so =
+    let all : marked_count (take span.end marks) ≡ marked_count marks =
+    count_all marks span.end (λ k is. (within (record { number = k }) is).1) in
+    omega (
+      arith,
+      all,
+      count_few marks span.end,
+      stands,
+      so.count_is,
+      grown_many anything a b so.grown,
+    )
+
+-- the copies that follow stand behind those that were made
+pub copied_on : {P : Type 0} (a b c : Bound P) (count : ℕ) → GrownBy count a b
+    → Copying (length a.seat.me.own.held) a b → Copying (length b.seat.me.own.held) b c
+    → Copying (length a.seat.me.own.held) a c
+copied_on a b c count so first second =
+    copying_on (length a.seat.me.own.held) (length b.seat.me.own.held) a b c
+    (omega (arith, grown_many anything a b so.grown)) first second

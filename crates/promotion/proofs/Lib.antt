@@ -4,5 +4,6 @@ pub mod Finishing
 pub mod Growing
 pub mod Holding
 pub mod Knowing
+pub mod Linked
 pub mod Reaching
 pub mod Stretching

@@ -10,9 +10,11 @@ use Rattle.minor_heap.specs.declared.fields.MinorField.{MinorField}
 use Rattle.minor_heap.specs.declared.fields.MinorField.TheVariants as field
 use Rattle.minor_heap.specs.declared.fields.MinorRef.{MinorRef}
 use Rattle.minor_heap.specs.Marking.{marked_of}
-use Rattle.minor_heap.specs.Nursery.{Stands, field_at}
+use Rattle.minor_heap.specs.Nursery.{field_at}
 use Rattle.minor_heap.specs.Reaches.{AreReached, IsMarked, Reaches, named, root}
+use Rattle.minor_heap.specs.Spans.{AreWithin}
 use Rattle.minor_heap.specs.Terms.{terms_of}
+use Rattle.minor_heap.specs.declared.spans.RecordSpan.{RecordSpan}
 use Rattle.mutator_seat.specs.Bound.{Bound, held_cells}
 use Rattle.promotion.specs.Copying.{AreCopied, GrownBy, marked_count}
 use Rattle.promotion.specs.Promoting.{ClaimsFor, knows_term}
@@ -76,13 +78,12 @@ module _ (records : List (List MinorField)) (from : List MinorRef) (marks : List
         let more = count_some marks r.0.number ((all r.0).1 (root r.1)) in
         so.grown.fit (omega (arith, more, so.count_is))
 
-    pub roots_copied : (places : List ℕ) → length places ≡ length records
-        → All (Stands records) from
-        → AreCopied b.seat.me.known marks places (terms_of (known_terms a.seat.me.known) records)
+    pub roots_copied : (places : List ℕ) (span : RecordSpan) → AreWithin span marks
+        → AreCopied b.seat.me.known marks span.end places
+        (terms_of (known_terms a.seat.me.known) records)
         → All (λ (r : MinorRef). known_at b.seat.me.known (slice_index_or places r.number 0)
         ≡ knows_term a records r) from
-    roots_copied places many stand copied = λ i d lt.
+    roots_copied places span within copied = λ i d lt.
         let r = slice_index_or from i d in
-        let stands : r.number < length records = stand i d lt in
         let is = (all r).1 (root (i, lt, same_there from i r d lt)) in
-        copied r.number (omega (arith, stands, many)) is
+        copied r.number (within r is).1 is

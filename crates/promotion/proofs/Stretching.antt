@@ -115,6 +115,9 @@ module _ {P : Type 0} where
   pub adds_calm : (F : List Taken → Type 0) (a b : Bound P) → Calm F a b → Adds F a b
   adds_calm F a b calm = record { added = calm.added; told = calm.told; fact = calm.fact }
 
+  pub adds_anyhow : (F : List Taken → Type 0) (a b : Bound P) → Adds F a b → Adds anything a b
+  adds_anyhow F a b so = record { added = so.added; told = so.told; fact = tt }
+
   pub adds_event : (a b : Bound P) (e : Event) (found : Found) → b ≡ takes a e found
       → Adds anything a b
   adds_event a b e found told = record {

@@ -60,10 +60,10 @@ marked_count [] = 0
 marked_count (true ∷ marks) = suc (marked_count marks)
 marked_count (false ∷ marks) = marked_count marks
 
--- each record that is marked, of as many as have a place, has its copy there
-abbrev pub AreCopied : List Known → List Bool → List ℕ → List Term → Type 0
-AreCopied known marks places terms =
-    (k : ℕ) → k < length places → slice_index_or marks k false ≡ true
+-- each record that is marked, of the first n, has its copy at its place
+abbrev pub AreCopied : List Known → List Bool → ℕ → List ℕ → List Term → Type 0
+AreCopied known marks n places terms =
+    (k : ℕ) → k < n → slice_index_or marks k false ≡ true
     → known_at known (slice_index_or places k 0) ≡ knows.Record (slice_index_or terms k null)
 
 module _ {P : Type 0} where

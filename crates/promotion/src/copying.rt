@@ -1,12 +1,13 @@
 //! Copying: a raw cell is claimed, its fields are filled, and it is sealed as a record.
 ghost use Rattle.std.specs.Prelude.{◌≡◌, ◌<◌, ◌≤◌, ◌+◌, All, IfErr, IfOk, OnOk, [], false, length, map, true};
-ghost use Rattle.std.specs.Prelude.{ℕ, slice_index_or, vec_capacity};
+ghost use Rattle.std.specs.Prelude.{ℕ, slice_index_or};
 ghost use Rattle.cell_words.specs.Term.{null};
 ghost use Rattle.core_machine.specs.declared.events.Event.TheVariants as event;
 ghost use Rattle.core_machine.specs.declared.events.Found.TheVariants as finds;
 ghost use Rattle.free_cells.specs.Hints.{counts_of, queue_of};
 ghost use Rattle.heap_rule.specs.Lore.{known_at};
 ghost use Rattle.minor_heap.specs.Nursery.{FitsRecord, IsOrdered, Stands, field_at};
+ghost use Rattle.minor_heap.specs.Spans.{AreWithin, NoneMarked};
 ghost use Rattle.minor_heap.specs.Terms.{terms_of};
 ghost use Rattle.minor_heap.specs.declared.fields.MinorField.TheVariants as field;
 ghost use Rattle.minor_heap.specs.declared.fields.MinorRef.{MinorRef};
@@ -15,13 +16,14 @@ ghost use Rattle.mutator_seat.specs.Claims.{anything};
 ghost use Rattle.mutator_seat.specs.Stretches.{Calm};
 ghost use Rattle.promotion.specs.Copying.{Appended, AreCopied, Copied, Grown, GrownBy, Halted, IsReady};
 ghost use Rattle.promotion.specs.Copying.{copied_term, marked_count, value_of};
-ghost use Rattle.promotion.specs.Promoting.{ClaimsFor, knows_term};
+ghost use Rattle.promotion.specs.Linking.{AreCopying};
+ghost use Rattle.promotion.specs.Promoting.{Adds, ClaimsFor, knows_term};
 ghost use Rattle.promotion.specs.Sharing.{ShareRecords, SharesRecord, known_terms};
 ghost use Rattle.trails.specs.Claims.{FindsFull};
 
 use free_cells::Hints;
 use heap_rule::Keeping;
-use minor_heap::{MinorField, MinorHeap, MinorRef};
+use minor_heap::{MinorField, MinorHeap, MinorRef, RecordSpan};
 use mutator_seat::{HeapFull, Mutator, Value};
 use std::marker::Brand;
 use std::sync::Wait;
@@ -29,7 +31,7 @@ use std::sync::Wait;
 /// A field of a record, where the copies of older records stand at these places.
 fn value_of(minor: &MinorHeap, places: &[usize], r: MinorRef, i: usize) -> Value
     requires stands { Stands minor.now.records r }
-    requires older { length places.now ≡ r.number }
+    requires older { r.number ≤ length places.now }
     requires range { i < 5 }
     ensures value { result ≡ value_of places.now (field_at minor.now.records r.number i) }
 {
@@ -53,11 +55,12 @@ fn copy_record<P: Keeping, R: Wait>(
     requires inside { m.old.seat.me.presence.inside ≡ true }
     requires room { length m.old.seat.me.own.held < m.old.seat.me.room }
     requires stands { Stands minor.now.records r }
-    requires older { length places.now ≡ r.number }
+    requires older { r.number ≤ length places.now }
     requires ready { (i : ℕ) → i < 5 → IsReady m.old.seat.me.known (value_of places.now (field_at minor.now.records r.number i)) }
     ensures got { IfOk result (λ place. Copied m.old place (copied_term m.old.seat.me.known places.now minor.now.records r.number) m.new) }
     ensures full { IfErr result (λ full. Calm (FindsFull m.old.seat.me.number m.old.seat.me.shape.cells
         full.off_duty full.began full.ended) m.old m.new) }
+    ensures copies { Adds (AreCopying (length m.old.seat.me.own.held)) m.old m.new }
     ensures queue { queue_of hints.new ≡ queue_of hints.old }
     ensures takes { (counts_of hints.old).takes ≤ (counts_of hints.new).takes }
 {
@@ -74,82 +77,85 @@ fn copy_record<P: Keeping, R: Wait>(
     }
 }
 
-/// Copies each record that is marked, the oldest first. The places are those of the copies, by
-/// record; of a record that is not marked it is no place.
+/// Copies each record that is marked, the oldest first. Of a record that is marked the place is that
+/// of its copy.
 pub(crate) fn copy_all<P: Keeping, R: Wait>(
     rt: &R,
     hints: &mut Hints<'_>,
     m: &mut Mutator<'_, P>,
     minor: &MinorHeap,
     marks: &[bool],
-    places: &mut Vec<usize>,
+    span: RecordSpan,
+    places: &mut [usize],
 ) -> Result<(), HeapFull>
     requires inside { m.old.seat.me.presence.inside ≡ true }
     requires room { length m.old.seat.me.own.held + length minor.now.records ≤ m.old.seat.me.room }
     requires ordered { IsOrdered 0 minor.now.records }
-    requires marks { length marks.now ≡ length minor.now.records }
+    requires within { AreWithin span marks.now }
+    requires stands { span.end ≤ length minor.now.records }
+    requires marks { length minor.now.records ≤ length marks.now }
     requires closed { (k i : ℕ) (older : MinorRef) → i < 5 → slice_index_or marks.now k false ≡ true
         → field_at minor.now.records k i ≡ field.Minor older → slice_index_or marks.now older.number false ≡ true }
     requires shares { (k i : ℕ) → i < 5 → slice_index_or marks.now k false ≡ true
         → SharesRecord m.old.seat.me.known (field_at minor.now.records k i) }
-    requires none { places.old.items ≡ [] }
-    requires places { length minor.now.records ≤ vec_capacity places.old }
-    ensures capacity { vec_capacity places.new ≡ vec_capacity places.old }
+    requires places { length minor.now.records ≤ length places.old }
+    ensures places { length places.new ≡ length places.old }
     ensures grown { OnOk result (GrownBy (marked_count marks.now) m.old m.new) }
-    ensures many { OnOk result (length places.new.items ≡ length minor.now.records) }
-    ensures copied { OnOk result (AreCopied m.new.seat.me.known marks.now places.new.items
+    ensures copied { OnOk result (AreCopied m.new.seat.me.known marks.now span.end places.new
         (terms_of (known_terms m.old.seat.me.known) minor.now.records)) }
     ensures full { IfErr result (λ full. Halted m.old full m.new) }
+    ensures copies { Adds (AreCopying (length m.old.seat.me.own.held)) m.old m.new }
     ensures queue { queue_of hints.new ≡ queue_of hints.old }
     ensures takes { (counts_of hints.old).takes ≤ (counts_of hints.new).takes }
 {
-    for number in 0..minor.len() {
+    for number in span.first..span.end {
         if marks[number as usize] {
             let r = MinorRef { number };
-            match copy_record(rt, hints, m, minor, places.as_slice(), r) {
-                Ok(place) => places.push_reserved(place),
+            match copy_record(rt, hints, m, minor, places, r) {
+                Ok(place) => places[number as usize] = place,
                 Err(full) => return Err(full),
             }
-        } else {
-            places.push_reserved(0);
         }
     }
     Ok(())
 }
 
-/// Copies each record that these reach.
+/// Copies each record that these reach. Nothing is marked before and after.
 pub(crate) fn copy_reached<P: Keeping, R: Wait>(
     rt: &R,
     hints: &mut Hints<'_>,
     m: &mut Mutator<'_, P>,
     minor: &MinorHeap,
     from: &[MinorRef],
-    marks: &mut Vec<bool>,
-    places: &mut Vec<usize>,
+    marks: &mut [bool],
+    places: &mut [usize],
 ) -> Result<(), HeapFull>
     requires inside { m.old.seat.me.presence.inside ≡ true }
     requires room { length m.old.seat.me.own.held + length minor.now.records ≤ m.old.seat.me.room }
     requires stand { All (Stands minor.now.records) from.now }
     requires shares { ShareRecords m.old.seat.me.known minor.now.records from.now }
-    requires marks { length minor.now.records ≤ vec_capacity marks.old }
-    requires places { length minor.now.records ≤ vec_capacity places.old }
-    ensures marks { vec_capacity marks.new ≡ vec_capacity marks.old }
-    ensures places { vec_capacity places.new ≡ vec_capacity places.old }
+    requires none { NoneMarked marks.old }
+    requires marks { length minor.now.records ≤ length marks.old }
+    requires places { length minor.now.records ≤ length places.old }
+    ensures none_marked { NoneMarked marks.new }
+    ensures marks { length marks.new ≡ length marks.old }
+    ensures places { length places.new ≡ length places.old }
     ensures claims { OnOk result (ClaimsFor m.old minor.now.records from.now m.new) }
     ensures grown { OnOk result (Grown anything m.old m.new) }
-    ensures many { OnOk result (length places.new.items ≡ length minor.now.records) }
     ensures few { OnOk result (length m.new.seat.me.own.held ≤ length m.old.seat.me.own.held + length minor.now.records) }
     ensures none { OnOk result (length from.now ≡ 0 → length (held_cells m.new) ≡ length (held_cells m.old)) }
     ensures fit { OnOk result (0 < length from.now → length (held_cells m.old) ≡ length m.old.seat.me.known) }
-    ensures copied { OnOk result (All (λ r. known_at m.new.seat.me.known (slice_index_or places.new.items r.number 0)
+    ensures copied { OnOk result (All (λ r. known_at m.new.seat.me.known (slice_index_or places.new r.number 0)
         ≡ knows_term m.old minor.now.records r) from.now) }
     ensures full { IfErr result (λ full. Halted m.old full m.new) }
+    ensures copies { Adds (AreCopying (length m.old.seat.me.own.held)) m.old m.new }
     ensures queue { queue_of hints.new ≡ queue_of hints.old }
     ensures takes { (counts_of hints.old).takes ≤ (counts_of hints.new).takes }
 {
-    minor.mark_reached(from, marks);
-    places.clear();
-    copy_all(rt, hints, m, minor, marks.as_slice(), places)
+    let span = minor.mark_span(from, marks);
+    let copied = copy_all(rt, hints, m, minor, marks, span, places);
+    span.unmark(marks);
+    copied
 }
 
 /// Holds no more than the first places, if there are more.

@@ -2,7 +2,8 @@
 ghost use Rattle.std.specs.Prelude.{◌≡◌, ◌≤◌, ◌+◌, ◌∷◌, All, IfErr, IfOk, OnErr, OnOk, [], length, true};
 ghost use Rattle.free_cells.specs.Hints.{counts_of, queue_of};
 ghost use Rattle.minor_heap.specs.Nursery.{Stands};
-ghost use Rattle.promotion.specs.Promoting.{Collected, Promoted, Refused};
+ghost use Rattle.promotion.specs.Linking.{LinksNothing};
+ghost use Rattle.promotion.specs.Promoting.{Adds, Collected, Promoted, Refused};
 ghost use Rattle.promotion.specs.Sharing.{ShareRecords};
 
 use crate::copying::{copy_reached, give_back, hold_roots};
@@ -19,20 +20,21 @@ use std::sync::Wait;
 #[derive(Drop)]
 pub struct Promoter {
     room: u32,
-    /// by record, whether it is reached
+    /// by record, whether it is reached; between calls none is marked
     marks: Vec<bool>,
     /// by record, the place of its copy
     places: Vec<usize>,
 }
 
 impl Model for Promoter {
-    ghost use Rattle.std.specs.Prelude.{ℕ, vec_capacity, ◌≤◌};
+    ghost use Rattle.std.specs.Prelude.{ℕ};
+    ghost use Rattle.promotion.specs.Ready.{IsReadyFor};
 
     ghost Value = { ℕ };
 
     ghost view = { λ p. p.room };
 
-    ghost invariant = { λ p. (p.room ≤ vec_capacity p.marks) × (p.room ≤ vec_capacity p.places) };
+    ghost invariant = { λ p. IsReadyFor p.room p.marks.items p.places.items };
 }
 
 impl Promoter {
@@ -42,8 +44,8 @@ impl Promoter {
     {
         Ok(Promoter {
             room: records,
-            marks: Vec::with_capacity(alloc, records as usize)?,
-            places: Vec::with_capacity(alloc, records as usize)?,
+            marks: Vec::from_elem(alloc, false, records as usize)?,
+            places: Vec::from_elem(alloc, 0, records as usize)?,
         })
     }
 
@@ -65,14 +67,18 @@ impl Promoter {
         ensures promoted { OnOk result (Promoted m.old minor.now.records r m.new) }
         ensures place { IfOk result (λ place. place ≡ length m.old.seat.me.own.held) }
         ensures full { IfErr result (λ full. Refused m.old full m.new) }
+        ensures unlinked { OnErr result (Adds (LinksNothing m.old.seat.me.number
+            (length m.old.seat.me.own.held)) m.old m.new) }
         ensures room { self.new ≡ self.old }
         ensures queue { queue_of hints.new ≡ queue_of hints.old }
         ensures takes { (counts_of hints.old).takes ≤ (counts_of hints.new).takes }
     {
         let held = m.held_len();
-        match copy_reached(rt, hints, m, minor, &[r], &mut self.marks, &mut self.places) {
+        let marks = self.marks.as_mut_slice();
+        let places = self.places.as_mut_slice();
+        match copy_reached(rt, hints, m, minor, &[r], marks, places) {
             Ok(()) => {
-                let place = self.places.as_slice()[r.number as usize];
+                let place = places[r.number as usize];
                 m.keep(held, place, 1);
                 Ok(held)
             }
@@ -106,6 +112,8 @@ impl Promoter {
         ensures base { IfOk result (λ first. first ≡ base) }
         ensures emptied { OnOk result (minor.new.records ≡ []) }
         ensures full { IfErr result (λ full. Refused m.old full m.new) }
+        ensures unlinked { OnErr result (Adds (LinksNothing m.old.seat.me.number
+            (length m.old.seat.me.own.held)) m.old m.new) }
         ensures unchanged { OnErr result (minor.new.records ≡ minor.old.records) }
         ensures minor_room { minor.new.room ≡ minor.old.room }
         ensures room { self.new ≡ self.old }
@@ -113,18 +121,12 @@ impl Promoter {
         ensures takes { (counts_of hints.old).takes ≤ (counts_of hints.new).takes }
     {
         let held = m.held_len();
-        match copy_reached(
-            rt,
-            hints,
-            m,
-            minor,
-            roots,
-            &mut self.marks,
-            &mut self.places,
-        ) {
+        let marks = self.marks.as_mut_slice();
+        let places = self.places.as_mut_slice();
+        match copy_reached(rt, hints, m, minor, roots, marks, places) {
             Ok(()) => {
                 let first = m.held_len();
-                hold_roots(m, self.places.as_slice(), roots);
+                hold_roots(m, places, roots);
                 m.keep(base, first, roots.len());
                 minor.clear();
                 Ok(base)

@@ -20,6 +20,7 @@ use Rattle.closed_store.proofs.Chaining.{versions_shown}
 use Rattle.closed_store.proofs.Claiming.{all_claimed}
 use Rattle.closed_store.proofs.Out.{joined_out}
 use Rattle.collector.specs.Cycles.{Served}
+use Rattle.collector.specs.Over.{MeetOver}
 use Rattle.collector.proofs.Leaving.{tidy_at_close}
 use Rattle.core_machine.specs.Collector.{Collector}
 use Rattle.core_machine.specs.declared.events.Event.TheVariants as event
@@ -135,6 +136,11 @@ off_or_not : (held : Bool) → (off_first held ≡ []) ⊎ (off_first held
 off_or_not true = inr refl
 off_or_not false = inl refl
 
+off_was : (held : Bool) → off_first held ≡ took (event.Duty false) finds.Stored ∷ []
+    → held ≡ true
+off_was true is = refl
+off_was false is = absurd cc
+
 there : {A : Type 0} (xs : List A) (i : ℕ) (x : A) → get_elem? xs i ≡ some x → i < length xs
 there [] i x h = absurd cc
 there (y ∷ ys) zero x h = omega arith
@@ -154,6 +160,7 @@ pub record AtClose (o : Options) (scripts : List (List Command)) (logs : List Cl
   pub added : List Taken
   pub trail : v.trail ≡ duty_on o.cycles ++ (off_first held_back ++ added)
   pub served : Served (length scripts) o.cycles made freed added
+  pub late : held_back ≡ true → MeetOver added
   pub cycles : v.control.cycles ≡ made
 
 -- What the totals are known by: each state that the image shows.
@@ -266,6 +273,7 @@ module _ (o : Options) (scripts : List (List Command)) (logs : List ClientLog)
             freed = at.freed;
             serves = subst (λ (n : ℕ). Served (length scripts) o.cycles n at.freed at.added)
                 (sym cycles) at.served;
+            late = λ off. at.late (off_was at.held_back off);
           };
           cycles = omega (arith, most, cycles);
           tidy = λ fewer. tidy_here (omega (arith, fewer, cycles));

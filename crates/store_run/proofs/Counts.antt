@@ -1,7 +1,7 @@
 -- Entries and new versions, counted log by log.
 use Rattle.std.proofs.Common.{◌≡◌, ◌≤◌, ◌<◌, ◌+◌, ◌*◌, ℕ, List, []}
 use Rattle.std.proofs.Common.{◌∷◌, ◌++◌, length, drop, get_or}
-use Rattle.std.proofs.Common.{All, sym, ◌∙◌, ap, arith, map, filter}
+use Rattle.std.proofs.Common.{All, sym, ◌∙◌, ap, arith, filter}
 use Rattle.std.specs.List.{count_by}
 use Rattle.std.proofs.lemmas.List.{at_drop_more, length-append, length-map}
 use Rattle.std.proofs.lemmas.List.Elements.{All-head, All-tail, filter-append}

@@ -1,26 +1,34 @@
 -- From the opening of a run and its parts to what stands where its heap is closed.
-use Rattle.std.proofs.Common.{◌≡◌, ◌≤◌, ◌+◌, ◌++◌, ℕ, List, [], ◌∷◌}
+use Rattle.std.proofs.Common.{◌≡◌, ◌≤◌, ◌<◌, ◌+◌, ◌++◌, ℕ, Bool, true, false}
+use Rattle.std.proofs.Common.{List, [], ◌∷◌}
 use Rattle.std.proofs.Common.{All, length, map, drop, get_or}
-use Rattle.std.proofs.Common.{sym, ◌∙◌, ap, subst, arith}
+use Rattle.std.proofs.Common.{Option, Some, None, refl, sym, ◌∙◌, ap, subst, arith}
 use Rattle.std.specs.Prelude.{Vec}
 use Rattle.std.specs.declared.alloc.Global.{Global}
-use Rattle.std.proofs.lemmas.List.{length-map}
+use Rattle.std.proofs.lemmas.Bool.{false≢true}
+use Rattle.std.proofs.lemmas.List.{append_assoc, append-nil, length-map}
 use Rattle.std.proofs.lemmas.List.Elements.{All-cons, All-head, All-nil, All-tail}
+use Rattle.cell_heap.specs.Telling.{AreJoined}
 use Rattle.cell_words.specs.declared.controls.Control.{Control}
 use Rattle.client_run.specs.declared.session.Limits.{Limits as ClientLimits}
 use Rattle.client_threads.specs.Clients.{store_limits}
-use Rattle.client_threads.specs.Serving.{Worked, off_first}
+use Rattle.client_threads.specs.Serving.{MayServe, ServesLate, Stands, off_first, off_if}
+use Rattle.client_threads.specs.declared.keeper.Standby.{Standby}
 use Rattle.collector.specs.Cycles.{Served}
+use Rattle.collector.specs.Over.{MeetOver}
+use Rattle.core_machine.specs.State.{greatest_cycles}
 use Rattle.core_machine.specs.declared.events.Taken.{Taken}
 use Rattle.doc_model.specs.ClientLog.{ClientLog}
 use Rattle.doc_model.specs.declared.command.Command.{Command}
 use Rattle.doc_model.specs.declared.command.Entry.{Entry}
+use Rattle.free_cells.specs.declared.queue.FreeQueue.{FreeQueue}
 use Rattle.heap_rule.specs.Shape.{Shape}
+use Rattle.heap_rule.specs.declared.view.Place.{Place}
 use Rattle.heap_table.specs.Seats.{HeapId, IsSeatOf, SeatView}
 use Rattle.run_history.specs.Left.{AreLeft}
 use Rattle.store_run.specs.Finished.{commands_of, duty_on}
 use Rattle.store_run.specs.Opened.{IsWithin, client_limits, limits_of, lists_of, shape_of}
-use Rattle.store_run.specs.Parts.{AreTaken, IsOpened}
+use Rattle.store_run.specs.Parts.{AreTaken, IsOpened, IsStill}
 use Rattle.store_run.specs.declared.opening.Opened.{Opened}
 use Rattle.store_run.specs.declared.options.Options.{Options}
 use Rattle.version_rule.specs.Pass.{Pass}
@@ -45,34 +53,150 @@ short_logs (script ∷ scripts) (g ∷ logs) short same =
     (All-tail (λ (script : Vec Command Global). length script.items ≤ 100_000) script scripts
     short) (ap (λ (xs : List (List Command)). drop 1 xs) same))
 
+-- Off duty first, or not: nothing else of the seat changes that is told here.
+
+off_trail : (held : Bool) (was : SeatView Pass)
+    → (off_if held was).me.trail ≡ was.me.trail ++ off_first held
+off_trail true was = refl
+off_trail false was = sym (append-nil was.me.trail)
+
+off_shape : (held : Bool) (was : SeatView Pass) → (off_if held was).me.shape ≡ was.me.shape
+off_shape true was = refl
+off_shape false was = refl
+
+off_places : (held : Bool) (was : SeatView Pass) → (off_if held was).me.places ≡ was.me.places
+off_places true was = refl
+off_places false was = refl
+
+off_cycles : (held : Bool) (was : SeatView Pass)
+    → (off_if held was).me.control.cycles ≡ was.me.control.cycles
+off_cycles true was = refl
+off_cycles false was = refl
+
+-- What the collector's seat has at the close, by what it had first, and when all seats were joined.
+record Worked (cycles : ℕ) (first joined last : SeatView Pass) : Type 0 where
+  pub places : last.me.places ≡ joined.me.places
+  pub held_back : Bool
+  pub made : ℕ
+  pub freed : ℕ
+  pub added : List Taken
+  pub trail : last.me.trail ≡ first.me.trail ++ (off_first held_back ++ added)
+  pub served : Served first.me.shape.mutators cycles made freed added
+  pub late : held_back ≡ true → MeetOver added
+  pub cycles_are : last.me.control.cycles ≡ first.me.control.cycles + made
+
+module _ (heap : HeapId) (queue : FreeQueue) (cycles : ℕ) (first mid joined : SeatView Pass) where
+  -- behind the clients the seat is where it was
+  pub stands_seat : (standby : Option Standby) → IsSeatOf heap first
+      → Stands heap queue cycles first mid standby → IsSeatOf heap mid
+  stands_seat None is s = (s.table ∙ is.0, s.shape ∙ is.1)
+  stands_seat (Some standby) is s = s.0.seat_is
+
+  pub stands_places : (standby : Option Standby) → Stands heap queue cycles first mid standby
+      → mid.me.places ≡ first.me.places
+  stands_places None s = s.places
+  stands_places (Some standby) s =
+      ap (λ (x : SeatView Pass). x.me.places) s.1.1 ∙ off_places s.1.0 first
+
+  pub still_seat : IsSeatOf heap mid → IsStill mid joined → IsSeatOf heap joined
+  still_seat is still = (still.table ∙ is.0, still.shape ∙ is.1)
+
+  -- what may serve may do so when its mutators' seats are joined
+  pub may_serve : (standby : Option Standby) → Stands heap queue cycles first mid standby
+      → IsStill mid joined → MayServe heap queue cycles joined standby
+  may_serve None s still = tt
+  may_serve (Some standby) s still = record {
+    seat_is = still_seat s.0.seat_is still;
+    idle = ap (λ (c : Control). c.stage) still.control ∙ s.0.idle;
+    few = subst (λ (c : Control). c.cycles + cycles ≤ greatest_cycles) (sym still.control)
+        s.0.few;
+    pass_is = s.0.pass_is;
+    cells = s.0.cells;
+  }
+
+  pub late_seat : (standby : Option Standby) (last : SeatView Pass) → IsSeatOf heap joined
+      → ServesLate cycles standby joined last → IsSeatOf heap last
+  late_seat None last is late = subst (λ (s : SeatView Pass). IsSeatOf heap s) (sym late) is
+  late_seat (Some standby) last is late = (late.table ∙ is.0, late.shape ∙ is.1)
+
+  worked : (standby : Option Standby) (last : SeatView Pass)
+      → Stands heap queue cycles first mid standby → IsStill mid joined → AreJoined joined.me
+      → ServesLate cycles standby joined last → Worked cycles first joined last
+  worked None last s still all late =
+      subst (λ (x : SeatView Pass). Worked cycles first joined x) (sym late) record {
+        places = refl;
+        held_back = false;
+        made = s.made;
+        freed = s.freed;
+        added = s.added;
+        trail = still.trail ∙ s.trail;
+        served = s.served;
+        late = λ is. absurd (false≢true is);
+        cycles_are = ap (λ (c : Control). c.cycles) still.control ∙ s.cycles_are;
+      }
+  worked (Some standby) last s still all late =
+      let held = s.1.0 in
+      let off = s.1.1 in
+      let shape = still.shape ∙ ap (λ (x : SeatView Pass). x.me.shape) off
+      ∙ off_shape held first in
+      let was = ap (λ (c : Control). c.cycles) still.control
+      ∙ ap (λ (x : SeatView Pass). x.me.control.cycles) off ∙ off_cycles held first in
+      let now = late.cycles_are in
+      record {
+        places = late.places;
+        held_back = held;
+        made = late.made;
+        freed = late.freed;
+        added = late.added;
+        trail = late.trail
+            ∙ ap (λ (ts : List Taken). ts ++ late.added)
+            (still.trail ∙ ap (λ (x : SeatView Pass). x.me.trail) off ∙ off_trail held first)
+            ∙ append_assoc first.me.trail (off_first held) late.added;
+        served = subst (λ (h : Shape). Served h.mutators cycles late.made late.freed late.added)
+            shape late.served;
+        late = λ is. late.late all;
+        cycles_are = omega (arith, was, now);
+      }
+
 pub at_close : (o : Options) (scripts : List (Vec Command Global)) (heap : HeapId)
-    (first last new : SeatView Pass) (logs : List ClientLog) → 1 ≤ length scripts → IsWithin o
+    (queue : FreeQueue) (first mid joined last : SeatView Pass) (standby : Option Standby)
+    (logs : List ClientLog) → 1 ≤ length scripts → IsWithin o
     → heap.shape ≡ shape_of o (length scripts) → IsSeatOf heap first
     → first.me.trail ≡ duty_on o.cycles → first.me.control.cycles ≡ 0
-    → Worked o.cycles first last
-    → AreTaken (limits_of o) heap.shape.cells (length scripts) logs last new
-    → AtClose o (lists_of scripts) logs new.me
-at_close o scripts heap first last new logs least within shape is trail cycles worked taken =
+    → Stands heap queue o.cycles first mid standby
+    → AreTaken (limits_of o) heap.shape.cells (length scripts) logs mid joined
+    → ServesLate o.cycles standby joined last
+    → AtClose o (lists_of scripts) logs last.me
+at_close o scripts heap queue first mid joined last standby logs least within shape is trail
+    cycles stands taken late =
     let many = length-map scripts (λ (script : Vec Command Global). script.items) in
+    let there = still_seat heap queue o.cycles first mid joined
+    (stands_seat heap queue o.cycles first mid joined standby is stands) taken.still in
+    let all : AreJoined joined.me =
+    (λ i lt.
+    let one = taken.left i
+    (subst (λ (h : Shape). i < h.mutators) (there.1 ∙ shape) lt) in (one.share, one.share_at)) in
+    let w = worked heap queue o.cycles first mid joined standby last stands taken.still all late in
     let mutators = ap (λ (h : Shape). h.mutators) (is.1 ∙ shape) ∙ sym many in
-    let begun = worked.cycles_are in
-    let ends = ap (λ (k : Control). k.cycles) taken.still.control in
+    let begun = w.cycles_are in
     record {
       least = omega (arith, least, many);
       within = within;
       many = taken.many ∙ sym many;
-      left = subst (λ (n : ℕ). AreLeft (limits_of o) o.cells logs new.me.places n) (sym many)
-          (subst (λ (h : Shape). AreLeft (limits_of o) h.cells logs new.me.places (length scripts))
-          shape taken.left);
-      held_back = worked.held_back;
-      made = worked.made;
-      freed = worked.freed;
-      added = worked.added;
-      trail = taken.still.trail ∙ worked.trail
-          ∙ ap (λ (ts : List Taken). ts ++ (off_first worked.held_back ++ worked.added)) trail;
-      served = subst (λ (n : ℕ). Served n o.cycles worked.made worked.freed worked.added)
-          mutators worked.served;
-      cycles = omega (arith, ends, begun, cycles);
+      left = subst (λ (n : ℕ). AreLeft (limits_of o) o.cells logs last.me.places n) (sym many)
+          (subst (λ (ps : List (Place Pass)). AreLeft (limits_of o) o.cells logs ps
+          (length scripts)) (sym w.places)
+          (subst (λ (h : Shape). AreLeft (limits_of o) h.cells logs joined.me.places
+          (length scripts)) shape taken.left));
+      held_back = w.held_back;
+      made = w.made;
+      freed = w.freed;
+      added = w.added;
+      trail = w.trail
+          ∙ ap (λ (ts : List Taken). ts ++ (off_first w.held_back ++ w.added)) trail;
+      served = subst (λ (n : ℕ). Served n o.cycles w.made w.freed w.added) mutators w.served;
+      late = w.late;
+      cycles = omega (arith, begun, cycles);
     }
 
 -- the shape, by the number of the lists
@@ -88,13 +212,15 @@ module _ (o : Options) (scripts : List (Vec Command Global)) (made : Opened)
   pub shape_there : made.heap.shape ≡ shape_of o (length (lists_of scripts))
   shape_there = shaped o scripts made.heap.shape opened.shape
 
-  pub closing : (limits : ClientLimits) (last new : SeatView Pass) (logs : List ClientLog)
+  pub closing : (limits : ClientLimits) (queue : FreeQueue) (mid joined last : SeatView Pass)
+      (standby : Option Standby) (logs : List ClientLog)
       → 1 ≤ length scripts → IsWithin o → limits ≡ client_limits o
-      → Worked o.cycles made.keeper.seat last
-      → AreTaken (store_limits limits) made.heap.shape.cells (length scripts) logs last new
-      → AtClose o (lists_of scripts) logs new.me
-  closing limits last new logs least within limits_are worked taken =
-      at_close o scripts made.heap made.keeper.seat last new logs least within opened.shape
-      opened.seat opened.trail opened.no_cycles worked
+      → Stands made.heap queue o.cycles made.keeper.seat mid standby
+      → AreTaken (store_limits limits) made.heap.shape.cells (length scripts) logs mid joined
+      → ServesLate o.cycles standby joined last
+      → AtClose o (lists_of scripts) logs last.me
+  closing limits queue mid joined last standby logs least within limits_are stands taken late =
+      at_close o scripts made.heap queue made.keeper.seat mid joined last standby logs least within
+      opened.shape opened.seat opened.trail opened.no_cycles stands
       (subst (λ (l : ClientLimits). AreTaken (store_limits l) made.heap.shape.cells
-      (length scripts) logs last new) limits_are taken)
+      (length scripts) logs mid joined) limits_are taken) late

@@ -15,7 +15,6 @@ use Rattle.heap_rule.specs.Moves.{joined_view}
 use Rattle.heap_rule.specs.Rule.{share_of}
 use Rattle.heap_rule.specs.declared.view.Place.{Place}
 use Rattle.heap_rule.specs.declared.view.Place.TheVariants as places
-use Rattle.heap_rule.specs.declared.view.View.{View}
 use Rattle.heap_table.specs.Seats.{HeapId, IsSeatOf, SeatView}
 use Rattle.run_history.specs.Left.{AreLeft, IsLeft}
 use Rattle.store_run.specs.Finished.{commands_of}

@@ -14,6 +14,7 @@ use Rattle.client_turns.specs.Runs.{ShowsRun, was_full}
 use Rattle.closed_store.specs.Chain.{ShowsVersions}
 use Rattle.closed_store.specs.Closing.{EndedStore}
 use Rattle.collector.specs.Cycles.{Served}
+use Rattle.collector.specs.Over.{MeetOver}
 use Rattle.core_machine.specs.State.{State, free_count_of}
 use Rattle.core_machine.specs.declared.events.Event.TheVariants as event
 use Rattle.core_machine.specs.declared.events.Found.TheVariants as finds
@@ -76,7 +77,7 @@ duty_on (suc more) = took (event.Duty true) finds.Stored ∷ []
 
 -- The collector's trail: on duty where it may make cycles; then perhaps off duty, where it has no
 -- thread of its own; then the service. Off duty stands nowhere else, since there is none among the
--- cycles of a service.
+-- cycles of a service. One that went off duty first serves behind the clients.
 pub record IsService (most mutators count : ℕ) (trail : List Taken) : Type 0 where
   pub off : List Taken
   pub off_is : (off ≡ []) ⊎ (off ≡ took (event.Duty false) finds.Stored ∷ [])
@@ -86,6 +87,8 @@ pub record IsService (most mutators count : ℕ) (trail : List Taken) : Type 0 w
   -- found over; and then off duty
   pub freed : ℕ
   pub serves : Served mutators most count freed served
+  -- where it went off duty first, each Poll and each AnswerOut found its mutator over
+  pub late : off ≡ took (event.Duty false) finds.Stored ∷ [] → MeetOver served
 
 pub record Comes (o : Options) (scripts : List (List Command)) (logs : List ClientLog)
     (image : ImageView) (passes : View Pass) (totals : Totals) : Type 0 where

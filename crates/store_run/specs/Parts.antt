@@ -1,8 +1,8 @@
 -- What stands between the parts of a run: behind the opening, and when all clients are taken back.
 -- Source: this project's.
 use Rattle.std.specs.Prelude.{ℕ, ◌≡◌, ◌++◌, List}
-use Rattle.std.specs.Prelude.{length, take}
-use Rattle.std.specs.Prelude.{All, Vec}
+use Rattle.std.specs.Prelude.{length}
+use Rattle.std.specs.Prelude.{Vec}
 use Rattle.std.specs.declared.alloc.Global.{Global}
 use Rattle.cell_words.specs.declared.controls.Stage.TheVariants as stage
 use Rattle.client_threads.specs.Clients.{AllReady}

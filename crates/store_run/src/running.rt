@@ -8,7 +8,7 @@ use crate::opening::{Opened, open_store};
 use crate::options::Options;
 use crate::taking_back::take_back;
 use crate::totals::totals_of;
-use client_threads::run_beside;
+use client_threads::{run_beside, serve_after};
 use collector::NoMemory;
 use doc_model::Command;
 use outside::Gate;
@@ -18,6 +18,8 @@ use std::thread::Threads;
 
 /// Runs the scripts' commands on one store, each script by a client on a thread of its own, beside
 /// the collector. All memory but that of the answers is taken before the first thread begins.
+///
+/// Where no thread could be made for the collector, it serves when all seats are joined.
 ///
 /// Before each command its client asks the gate. Where memory is wanting, the client that wants it
 /// ends, the others go on, and the run answers so behind them.
@@ -43,7 +45,7 @@ pub fn run_clients<R: Threads + Wait + Sync, G: Gate + Sync>(
         keeper,
         clients,
     } = open_store(alloc, rt, scripts, options)?;
-    let (clients, seat) = run_beside(
+    let (clients, seat, standby) = run_beside(
         alloc,
         rt,
         gate,
@@ -57,6 +59,7 @@ pub fn run_clients<R: Threads + Wait + Sync, G: Gate + Sync>(
     );
     let mut seat = seat;
     let failed = take_back(&heap, limits, scripts, clients, &mut seat, &mut logs);
+    let seat = serve_after(rt, &heap, &queue, options.cycles, seat, standby);
     let freed = seat.freed();
     let (image, passes) = seat.close(heap);
     if failed {

@@ -20,7 +20,7 @@ use Rattle.heap_rule.proofs.Lists.{has_at}
 use Rattle.heap_rule.proofs.Reading.{cell_there}
 use Rattle.mutator_events.specs.Events.{AtEvent}
 use Rattle.mutator_seat.specs.Bound.{Bound, held_cells, takes}
-use Rattle.mutator_seat.specs.Claims.{Claimed, anything}
+use Rattle.mutator_seat.specs.Claims.{Claimed, Seeking}
 use Rattle.trails.specs.Asks.{nothing}
 use Rattle.version_rule.specs.Knowing.{next_made}
 use Rattle.version_rule.specs.Pass.{Pass, committed, seeing}
@@ -51,7 +51,7 @@ pushed_anyway known k place = by_length (cases_lt place (length known))
 
 module _ (a b : Bound Pass) (fresh : ℕ) (got : Claimed a fresh b) where
   pub claimed_goes : Goes [] a b
-  claimed_goes = goes_then (calm_goes anything a got.at got.calm)
+  claimed_goes = goes_then (calm_goes Seeking a got.at got.calm)
       (goes_told got.at b [] (event.Claim got.at.seat.me.number got.cell)
       (finds.Colour colour.Blue) nothing_learned got.at.seat.me.pass
       (ap (λ (m : Bound Pass). m.heap) got.told)

@@ -1,10 +1,11 @@
-use Rattle.std.proofs.Common.{◌≡◌, ◌∙◌, Err, length, refl, rules, subst, sym}
+use Rattle.std.proofs.Common.{◌≡◌, ◌∙◌, Err, ap, length, refl, rules, subst, sym}
 use Rattle.doc_records.specs.Trees.{tree_of}
 use Rattle.doc_tree.specs.Edits.{edit_along}
+use Rattle.doc_tree.specs.Tree.{DocTree, child as child_of_name}
 use Rattle.doc_edits.specs.Ends.{made_at}
 use Rattle.doc_edits.specs.Tops.{IsWithin, tree_under}
-use Rattle.doc_edits.proofs.Along.{along_below, along_done, made_same, rest_less, top_same}
-use Rattle.doc_edits.proofs.Along.{top_still, within_step}
+use Rattle.doc_edits.proofs.Along.{along_below, along_done, made_same, rest_less, child_same}
+use Rattle.doc_edits.proofs.Along.{top_nodes, top_same, top_still, within_step}
 use Rattle.doc_edits.proofs.edits.+edit_along.Goals as goal
 
 pub returns-in_err-edited-clause-tree : goal.returns-in_err-edited-clause-tree
@@ -51,3 +52,27 @@ returns-clause-within g t c = λ x e.
     let same : c.with_child.result ≡ x = cc in
     subst (λ a. IsWithin (length c.args.names.now) (tree_of (s3.term a))) same
     (subst (IsWithin (length c.args.names.now)) (sym c.with_child.ensures.tree) within)
+
+pub with_child-requires-clause-was : goal.with_child-requires-clause-was
+with_child-requires-clause-was g t c =
+    let s1 = g.R.RecordPool.shown c.begin.new.records in
+    let s2 = g.R.RecordPool.shown c.edit_along.new.records in
+    let child = c.in_ok-child.child in
+    top_nodes s2 child
+    (top_still s1 s2 child c.edit_along.ensures.later (c.in_ok-child.ensures.child child refl))
+
+pub with_child-requires-clause-there : goal.with_child-requires-clause-there
+with_child-requires-clause-there g t c =
+    let s0 = g.R.RecordPool.shown c.args.records.now in
+    let s1 = g.R.RecordPool.shown c.begin.new.records in
+    let s2 = g.R.RecordPool.shown c.edit_along.new.records in
+    let at = c.args.at in
+    let child = c.in_ok-child.child in
+    let first = c.begin.ensures.later in
+    let second = c.edit_along.ensures.later in
+    let kept =
+    top_same s1 s2 at second (top_still s0 s1 at first c.requires.top)
+    ∙ top_same s0 s1 at first c.requires.top in
+    child_same s1 s2 child second (c.in_ok-child.ensures.child child refl)
+    ∙ c.in_ok-child.ensures.there child refl
+    ∙ ap (λ (u : DocTree). child_of_name c.name-item.result u.kids) (sym kept)

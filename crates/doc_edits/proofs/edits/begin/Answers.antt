@@ -13,3 +13,7 @@ returns-in-Some-find_child-clause-child g c = λ x e.
     c.in-Some-find_child.ensures.child in
     let same : Some child ≡ x = cc in
     subst (IsTop s) same found
+
+pub returns-in-None-clause-there : goal.returns-in-None-clause-there
+returns-in-None-clause-there g c = λ x e.
+    rw (c.begin_new.ensures.none x e, c.in-Some.is) c.in-None.ensures.child

@@ -1,14 +1,17 @@
-use Rattle.std.proofs.Common.{◌≡◌, ◌≤◌, ℕ, sym, ◌∙◌, ap, subst, arith}
+use Rattle.std.proofs.Common.{◌≡◌, ◌≤◌, ℕ, length, refl, sym, ◌∙◌, ap, subst, arith}
+use Rattle.cell_words.specs.declared.fields.Kind.TheVariants as kind
 use Rattle.core_machine.specs.declared.events.Event.TheVariants as event
 use Rattle.core_machine.specs.declared.events.Found.TheVariants as finds
 use Rattle.heap_rule.specs.Lore.{five_nulls}
 use Rattle.minor_heap.specs.Nursery.{field_at as record_field}
+use Rattle.mutator_events.proofs.HeldCells.{cells_many}
 use Rattle.mutator_events.specs.declared.values.Value.{Value}
 use Rattle.mutator_events.specs.Values.{field_at}
 use Rattle.mutator_seat.specs.Bound.{held_cells, takes}
 use Rattle.promotion.specs.Copying.{AreFilled, IsReady, value_of}
 use Rattle.promotion.proofs.Filling.{filled_more, fill_rule, filled_none, may_fill, may_seal}
 use Rattle.promotion.proofs.Filling.{opened, ready_now, sealed_as}
+use Rattle.promotion.proofs.Linked.{copy_begun, copying_calm, copying_event, copying_then}
 use Rattle.promotion.proofs.copying.copy_record.Goals as goal
 
 pub loop-i-init : goal.loop-i-init
@@ -19,6 +22,8 @@ loop-i-init g c = (
     filled_none (held_cells c.args.m.now)
         (λ i. value_of c.args.places.now
         (record_field c.args.minor.now.records c.args.r.number i)),
+    copy_begun (length c.args.m.now.seat.me.own.held) c.args.m.now c.claim.new.self c.in-Ok.place
+        c.in-Ok.ensures.got,
   ),
 )
 
@@ -47,11 +52,25 @@ loop-i-preserved g c =
     let m = c.loop-i.m in
     let given : ℕ → Value = λ i. value_of c.args.places.now
     (record_field c.args.minor.now.records c.args.r.number i) in
-    filled_more c.args.m.now m c.in-Ok.place so.0 so.1.0 given c.loop-i.i c.fill.new.self
-    c.loop-i-test.true (c.requires.ready c.loop-i.i c.loop-i-test.true) so.1.1
+    let held = length c.args.m.now.seat.me.own.held in
+    let further : held ≤ c.in-Ok.place =
+    omega (arith, so.1.0.place_is, cells_many c.args.m.now.seat.me.own.held) in
+    let step = filled_more c.args.m.now m c.in-Ok.place so.0 so.1.0 given c.loop-i.i
+    c.fill.new.self c.loop-i-test.true (c.requires.ready c.loop-i.i c.loop-i-test.true) so.1.1
     (c.fill.ensures.told
     ∙ ap (λ (v : Value). takes m (event.Fill m.seat.me.number c.in-Ok.place c.loop-i.i
-    (field_at m.seat.me.own.held v)) finds.Stored) c.value_of-value.ensures.value)
+    (field_at m.seat.me.own.held v)) finds.Stored) c.value_of-value.ensures.value) in (
+      step.0,
+      (
+        step.1.0,
+        step.1.1,
+        copying_then held c.args.m.now m c.fill.new.self so.1.2
+            (copying_event held m c.fill.new.self
+            (event.Fill m.seat.me.number c.in-Ok.place c.loop-i.i
+            (field_at m.seat.me.own.held c.value_of-value.result)) finds.Stored further
+            c.fill.ensures.told),
+      ),
+    )
 
 pub seal_record-requires : goal.seal_record-requires
 seal_record-requires g c =
@@ -76,3 +95,20 @@ returns-after-loop-i-clause-got g c =
     (let e : c.loop-i.i ≡ 5 = omega (arith, all, c.loop-i.auto.i-end) in e) so.1.1 in
     sealed_as c.args.m.now c.loop-i.m c.in-Ok.place so.0 so.1.0 given c.seal_record.new.self filled
     c.requires.ready c.seal_record.ensures.told
+
+pub returns-after-loop-i-clause-copies : goal.returns-after-loop-i-clause-copies
+returns-after-loop-i-clause-copies g c =
+    let so = c.loop-i.invariant in
+    let m = c.loop-i.m in
+    let held = length c.args.m.now.seat.me.own.held in
+    let further : held ≤ c.in-Ok.place =
+    omega (arith, so.1.0.place_is, cells_many c.args.m.now.seat.me.own.held) in
+    copying_then held c.args.m.now m c.seal_record.new.self so.1.2
+    (copying_event held m c.seal_record.new.self
+    (event.Seal m.seat.me.number c.in-Ok.place kind.Record) finds.Stored (further, refl)
+    c.seal_record.ensures.told)
+
+pub returns-in-Err-clause-copies : goal.returns-in-Err-clause-copies
+returns-in-Err-clause-copies g c =
+    copying_calm (length c.args.m.now.seat.me.own.held) c.args.m.now c.claim.new.self
+    c.in-Err.ensures.seeking

@@ -31,5 +31,5 @@ returns g c =
     let m = made c.self.view_is c.collector_store.ensures.same step in
     record {
       told = tells m finds.Stored step.new;
-      known = knows m finds.Stored refl;
+      known = knows m finds.Stored refl refl;
     }

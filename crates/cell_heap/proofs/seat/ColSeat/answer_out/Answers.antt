@@ -1,13 +1,15 @@
-use Rattle.std.proofs.Common.{◌≡◌, refl, sym, ◌∙◌, ap}
+use Rattle.std.proofs.Common.{◌≡◌, ◌<◌, ℕ, refl, subst, sym, ◌∙◌, ap}
 use Rattle.cell_heap.proofs.Answering.{answers_out, exchanges_out}
 use Rattle.cell_heap.proofs.Changes.{answers}
+use Rattle.cell_heap.proofs.Joined.{joined_over}
 use Rattle.cell_heap.proofs.Kept.{kept}
-use Rattle.cell_heap.proofs.Made.{at_event, finds_valid, knows, made}
+use Rattle.cell_heap.proofs.Made.{at_event, finds_known, finds_valid, made}
 use Rattle.cell_heap.proofs.Owed.{below, owes}
 use Rattle.cell_words.specs.Modes.{requested_of}
 use Rattle.cell_words.specs.declared.controls.Control.{Control}
 use Rattle.cell_words.specs.declared.presences.Status.{Status}
 use Rattle.core_machine.specs.State.{presence_of}
+use Rattle.core_machine.proofs.Conditions.{answer_out_needs}
 use Rattle.core_machine.specs.WordOperations.{Exchange}
 use Rattle.core_machine.specs.Words.{may_answer_out}
 use Rattle.core_machine.specs.declared.events.Event.TheVariants as event
@@ -47,6 +49,7 @@ invariant_of-self g c =
 pub returns-clause-told : goal.returns-clause-told
 returns-clause-told g c =
     let step = c.collector_exchange-found.ensures.step in
+    let me = c.self.inside.seat.me in
     let found = presence_of step.core c.args.mutator in
     let wanted : c.requested-wanted.result ≡ requested_of c.args.self.now.me.control.stage =
     c.requested-wanted.ensures.status
@@ -55,8 +58,13 @@ returns-clause-told g c =
     record {
       found = found;
       valid = finds_valid (made c.self.view_is c.collector_exchange-found.ensures.same step);
-      known = knows (made c.self.view_is c.collector_exchange-found.ensures.same step)
-          (finds.Presence found) refl;
+      known = finds_known (made c.self.view_is c.collector_exchange-found.ensures.same step)
+          (finds.Presence found) refl
+          (joined_over me c.args.mutator _ _ found
+          (subst (λ (n : ℕ). c.args.mutator < n) step.ours.mutators
+          (answer_out_needs step.core c.args.mutator step.happens).mutator)
+          c.collector_exchange-found.ensures.joined
+          (c.status_word-word.ensures.index me.shape.mutators) step.says);
       told = at_event (made c.self.view_is c.collector_exchange-found.ensures.same step)
           (finds.Presence found) refl;
       answered = answers_out found c.requested-wanted.result c.status_before-before.result

@@ -38,7 +38,7 @@ returns g c =
     let same = sym (c.field_of-field.ensures.field _ (finds_valid m) step.says) in
     record {
       told = tells_field m _ c.field_of-field.result same step.new;
-      known = knows m (finds.Field c.field_of-field.result) (ap finds.Field same);
+      known = knows m (finds.Field c.field_of-field.result) (ap finds.Field same) refl;
       below = finds_below m _ c.field_of-field.result
           (step.ours.shown.shaped.names_fit.fields_fit _ _) same;
     }

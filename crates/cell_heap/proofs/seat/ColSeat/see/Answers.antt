@@ -38,5 +38,5 @@ returns g c =
     let same = sym (c.colour_of-colour.ensures.colour _ step.says) in
     record {
       told = tells_colour m _ c.colour_of-colour.result same step.new;
-      known = knows m (finds.Colour c.colour_of-colour.result) (ap finds.Colour same);
+      known = knows m (finds.Colour c.colour_of-colour.result) (ap finds.Colour same) refl;
     }

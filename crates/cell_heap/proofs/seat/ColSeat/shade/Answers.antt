@@ -41,7 +41,7 @@ returns g c =
     record {
       told = record {
         found = _;
-        known = knows m (finds.Colour _) refl;
+        known = knows m (finds.Colour _) refl refl;
         told = tells m (finds.Colour _) step.new;
       };
     }

@@ -1,4 +1,4 @@
-use Rattle.std.proofs.Common.{◌≡◌, ◌∙◌, ap, sym, ℕ}
+use Rattle.std.proofs.Common.{◌∙◌, ap, sym, ℕ}
 use Rattle.heap_rule.specs.Moves.{given_view}
 use Rattle.heap_table.specs.Seats.{SeatView}
 use Rattle.cell_heap.proofs.seat.ColSeat.split.Goals as goal

@@ -1,62 +1,39 @@
-use Rattle.std.proofs.Common.{arith, ℕ, subst, sym}
-use Rattle.client_session.specs.Turns.{Answered}
-use Rattle.client_session.proofs.Commits.{made_ends, outrun_ends, stopped_ends, unmade_none}
-use Rattle.client_session.proofs.Commits.{worn_ends}
+use Rattle.std.proofs.Common.{◌<◌, Ok, arith, subst, sym}
+use Rattle.client_session.specs.Turns.{account_of, bounds}
+use Rattle.client_session.proofs.Commits.{outrun_ends}
 use Rattle.client_session.proofs.journal.Journal.commit.Goals as goal
-use Rattle.doc_model.specs.declared.command.Reply.TheVariants as reply
+use Rattle.client_turns.specs.Turns.{Begun}
+use Rattle.client_turns.proofs.States.{rests_none}
+use Rattle.client_turns.proofs.Turning.{begun_on}
+use Rattle.doc_tree.specs.Tree.{DocTree}
+use Rattle.version_rule.specs.Pass.{Pass}
 
-pub returns-then-shown-versions-clause-ends : goal.returns-then-shown-versions-clause-ends
-returns-then-shown-versions-clause-ends g c =
+pub returns-then-latest-version-clause-ends : goal.returns-then-latest-version-clause-ends
+returns-then-latest-version-clause-ends g c =
     let tree = (g.H.ClientHeap.shown c.args.heap.now).tree c.args.at in
     let v = c.args.version.number in
+    let read = c.current-latest.ensures in
+    let n = c.current-latest.result.number in
     λ command s begun needs.
-    worn_ends c.args.self.now command v tree begun
-    (omega (arith, c.if-shown-versions.true, c.from-versions.ensures))
-    (omega (arith, c.requires.room))
+    outrun_ends c.args.self.now command v tree begun (rests_none read.rests)
+    (let room = read.rests.room in omega (arith, room, c.requires.room))
+    (subst (λ (p : Pass). v < p.seen) (sym read.pass)
+    (let other = c.if-latest-version.true in
+    let seen = begun.read.seen in
+    let low = read.seen in omega (arith, other, seen, low)))
 
-pub returns-in-Ok-clause-ends : goal.returns-in-Ok-clause-ends
-returns-in-Ok-clause-ends g c =
+pub returns-clause-ends : goal.returns-clause-ends
+returns-clause-ends g c =
     let h = g.H.ClientHeap in
     let j = c.args.self.now in
-    let start = h.shown c.args.heap.now in
-    let x = h.state c.trim.new.self in
-    let tree = start.tree c.args.at in
     let v = c.args.version.number in
-    let made = c.in-Ok.ensures in
-    let latest = c.current-latest.ensures in
+    let read = c.current-latest.ensures in
     λ command s begun needs.
-    subst
-    (λ (n : ℕ). Answered j command s x
-    (record { reply = reply.Committed n; kept = reply.Committed n; place = n }))
-    (sym made.number)
-    (made_ends j command v tree begun (start.root c.args.version)
-    c.current-latest.result.number
-    (omega (arith, c.if-shown-versions.false, c.from-versions.ensures)) made.lasts made.pass
-    made.rose made.draft made.base latest.seen latest.rests c.trim.ensures.rests
-    (let due = c.trim.ensures.due in omega (arith, due, c.from.ensures))
-    (let one = made.room in
-    let two = latest.rests.room in
-    let three = c.trim.ensures.rests.room in
-    omega (arith, one, two, three, c.requires.room)))
-
-pub returns-in-Err-Moved-clause-ends : goal.returns-in-Err-Moved-clause-ends
-returns-in-Err-Moved-clause-ends g c =
-    let tree = (g.H.ClientHeap.shown c.args.heap.now).tree c.args.at in
-    let v = c.args.version.number in
-    let not = c.in-Err-Moved.ensures in
-    λ command s begun needs.
-    outrun_ends c.args.self.now command v tree begun
-    (unmade_none not.lasts not.same not.draft not.base)
-    (let room = not.room in omega (arith, room, c.requires.room))
-    (not.moved cc)
-
-pub returns-in-Err-Full-clause-ends : goal.returns-in-Err-Full-clause-ends
-returns-in-Err-Full-clause-ends g c =
-    let tree = (g.H.ClientHeap.shown c.args.heap.now).tree c.args.at in
-    let v = c.args.version.number in
-    let not = c.in-Err-Full.ensures in
-    λ command s begun needs.
-    stopped_ends c.args.self.now command v tree begun
-    (unmade_none not.lasts not.same not.draft not.base)
-    (let room = not.room in omega (arith, room, c.requires.room)) needs
-    (not.full cc)
+    c.commit_over-ended.ensures.ends command s
+    (begun_on (bounds j.limits) j.log.client (account_of j s) command
+    (subst
+    (λ (t : DocTree). Begun (bounds j.limits) (account_of j s) command v s
+    (h.state c.args.heap.now) (Ok t))
+    (sym (read.still.trees c.args.at c.requires.node)) begun)
+    (rests_none read.rests))
+    needs

@@ -3,8 +3,9 @@ use Rattle.core_machine.specs.WordOperations.{left_by, Load}
 use Rattle.heap_rule.specs.declared.view.View.{View}
 use Rattle.heap_rule.specs.Asks.{told_by}
 use Rattle.heap_rule.specs.Steps.{CollectorOwes}
-use Rattle.heap_rule.proofs.Stepping.{collector_step}
+use Rattle.heap_table.specs.Joined.{JoinedIsOver}
 use Rattle.heap_table.specs.Seats.{HeapId, SeatView, words_many}
+use Rattle.heap_table.proofs.Looking.{collector_look}
 use Rattle.heap_table.proofs.heap.CellHeap.collector_load.Goals as goal
 
 pub load-requires : goal.load-requires
@@ -18,7 +19,7 @@ load-requires g c =
     ap (λ (h : HeapId). words_many h.shape) (sym c.self.view_is) in (
       at,
       subst (λ (n : ℕ). c.args.word < n) (many ∙ sym c.self.invariant.words) c.requires.word,
-      collector_step g.P.Keeping.opening g.P.Keeping.holds g.P.Keeping.fixed shared.key
+      collector_look g.P.Keeping.opening g.P.Keeping.holds g.P.Keeping.fixed shared.key
           g.P.Keeping.shrinks shared.table_id.slots raw.id raw.me g.E.Intent.event c.args.word
           (left_by Load) (told_by Load)
           (ap (λ (v : View _). v.role) me ∙ c.requires.seat.1)
@@ -26,3 +27,8 @@ load-requires g c =
           (subst (λ (v : View _). CollectorOwes g.P.Keeping.fixed v g.E.Intent.event c.args.word
           (left_by Load) (told_by Load)) (sym me) c.requires.kind),
     )
+
+pub returns-clause-joined : goal.returns-clause-joined
+returns-clause-joined g c =
+    subst (λ (v : View _). JoinedIsOver v c.args.word c.load.result)
+    (ap (λ (s : SeatView _). s.me) c.seat.view_is) c.load.ensures.2.1

@@ -1,4 +1,4 @@
-use Rattle.std.proofs.Common.{◌≡◌, ◌+◌, ◌-◌, ℕ, List, sym, subst, arith, Bool}
+use Rattle.std.proofs.Common.{◌≡◌, ◌<◌, ◌+◌, ◌-◌, ℕ, List, length, sym, subst, arith, Bool}
 use Rattle.minor_heap.specs.Nursery.{IsOrdered, Nursery}
 use Rattle.minor_heap.specs.Reaches.{IsMarked}
 use Rattle.minor_heap.proofs.Passing.{MarksFrom, exactly, marks_named, marks_start}
@@ -21,8 +21,10 @@ loop-number-preserved-then-marks-number c =
     subst (λ (n : Nursery). IsOrdered 0 n.records) c.self.view_is c.self.invariant.ordered in
     let n = c.loop-number.number in
     let next : n ≡ n - 1 + 1 = omega (arith, c.loop-number-test.true) in
+    let stands : n - 1 < length records =
+    omega (arith, c.loop-number-test.true, c.loop-number.invariant.1) in
     let now =
-    marks_named records _ _ (n - 1) n next ordered c.if-marks-number.true
+    marks_named records _ _ (n - 1) n next ordered stands c.if-marks-number.true
     c.loop-number.invariant.0 in (
       subst (λ (m : List Bool). MarksFrom records (IsMarked c.args.marks.now) m (n - 1))
           (sym c.mark_named.ensures.marks) now,

@@ -1,8 +1,5 @@
-use Rattle.std.proofs.Common.{◌≡◌, [], ◌∷◌}
-use Rattle.trails.specs.Claims.{look_of}
-use Rattle.mutator_seat.specs.Claims.{anything}
-use Rattle.mutator_seat.proofs.Handshakes.{looked_at}
-use Rattle.mutator_seat.proofs.Tries.{any_then, claimed_then, finds_full, ok_all}
+use Rattle.mutator_seat.proofs.Seeking.{look_seeks, seeking_then}
+use Rattle.mutator_seat.proofs.Tries.{claimed_then, finds_full, ok_all}
 use Rattle.mutator_seat.proofs.Updates.{err_then}
 use Rattle.mutator_seat.proofs.mutator.Mutator.claim.Goals as goal
 
@@ -10,19 +7,17 @@ pub returns-in-Some-clause-got : goal.returns-in-Some-clause-got
 returns-in-Some-clause-got g c =
     let was = c.args.self.now in
     let first = c.look_once-first in
-    claimed_then (λ es. es ≡ look_of was.seat.me.number first.result ∷ []) was first.new.self
-    c.try_hint.new.self c.in-Some.place
-    (looked_at was first.new.self first.result first.ensures.told) c.in-Some.ensures.got
+    claimed_then was first.new.self c.try_hint.new.self c.in-Some.place
+    (look_seeks was first.new.self first.result first.ensures.told) c.in-Some.ensures.got
 
 pub returns-in-None-clause-got : goal.returns-in-None-clause-got
 returns-in-None-clause-got g c =
     let was = c.args.self.now in
     let first = c.look_once-first in
     ok_all c.wait_for_cell.result c.wait_for_cell.ensures.got (λ place got.
-    claimed_then anything was c.try_hint.new.self c.wait_for_cell.new.self place
-    (any_then (λ es. es ≡ look_of was.seat.me.number first.result ∷ []) anything was
-    first.new.self c.try_hint.new.self
-    (looked_at was first.new.self first.result first.ensures.told) c.in-None.ensures.none) got)
+    claimed_then was c.try_hint.new.self c.wait_for_cell.new.self place
+    (seeking_then was first.new.self c.try_hint.new.self
+    (look_seeks was first.new.self first.result first.ensures.told) c.in-None.ensures.none) got)
 
 pub returns-in-None-clause-full : goal.returns-in-None-clause-full
 returns-in-None-clause-full g c =
@@ -30,3 +25,13 @@ returns-in-None-clause-full g c =
     finds_full c.args.self.now c.look_once-first.new.self c.try_hint.new.self
     c.wait_for_cell.new.self c.begun-began.result c.look_once-first.result full
     c.look_once-first.ensures.told c.in-None.ensures.none behind c.begun-began.ensures.begun)
+
+pub returns-in-None-clause-seeking : goal.returns-in-None-clause-seeking
+returns-in-None-clause-seeking g c =
+    let was = c.args.self.now in
+    let first = c.look_once-first in
+    let tried = c.try_hint.new.self in
+    err_then c.wait_for_cell.result c.wait_for_cell.ensures.seeking (λ full rest.
+    seeking_then was tried c.wait_for_cell.new.self
+    (seeking_then was first.new.self tried
+    (look_seeks was first.new.self first.result first.ensures.told) c.in-None.ensures.none) rest)

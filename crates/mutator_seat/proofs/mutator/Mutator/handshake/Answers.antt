@@ -1,10 +1,21 @@
 use Rattle.mutator_seat.specs.Stretches.{LookAndAnswer}
+use Rattle.mutator_seat.specs.Claims.{Seeking}
+use Rattle.mutator_seat.proofs.Calm.{calm_as}
+use Rattle.mutator_seat.proofs.Seeking.{answer_seeks, look_seeks, seeking_then}
 use Rattle.mutator_seat.proofs.Tries.{ends_then}
 use Rattle.mutator_seat.proofs.mutator.Mutator.handshake.Goals as goal
 
 pub returns-clause-calm : goal.returns-clause-calm
 returns-clause-calm g c =
+    ends_then c.args.self.now c.answer.new.self c.look_once.new.self c.answer.result
+    c.look_once.result c.answer.ensures.calm c.look_once.ensures.told
+
+pub returns-clause-seeking : goal.returns-clause-seeking
+returns-clause-seeking g c =
     let was = c.args.self.now in
-    ends_then (LookAndAnswer was.seat.me.number was.seat.me.presence.status c.answer.result) was
-    c.answer.new.self c.look_once.new.self c.look_once.result c.answer.ensures.calm
-    c.look_once.ensures.told
+    let number = was.seat.me.number in
+    let own = was.seat.me.presence.status in
+    seeking_then was c.answer.new.self c.look_once.new.self
+    (calm_as (LookAndAnswer number own c.answer.result) Seeking was c.answer.new.self
+    (answer_seeks number own c.answer.result) c.answer.ensures.calm)
+    (look_seeks c.answer.new.self c.look_once.new.self c.look_once.result c.look_once.ensures.told)

@@ -1,7 +1,10 @@
-use Rattle.mutator_seat.specs.Claims.{HasMode}
+use Rattle.mutator_seat.specs.Claims.{HasMode, Seeking}
 use Rattle.mutator_seat.specs.Stretches.{Calm}
 use Rattle.trails.specs.Claims.{AllUsed}
 use Rattle.mutator_seat.proofs.mutator.Mutator.try_all.Given as goal
 
 abbrev pub invariant-loop-cell : goal.invariant-loop-cell
-invariant-loop-cell g l = Calm (AllUsed 0 l.cell) l.fn.self l.self × HasMode l.self
+invariant-loop-cell g l =
+    Calm (AllUsed 0 l.cell) l.fn.self l.self
+    × HasMode l.self
+    × Calm Seeking l.fn.self l.self

@@ -1,16 +1,16 @@
 use Rattle.std.proofs.Common.{◌∙◌, sym, arith}
-use Rattle.mutator_seat.specs.Claims.{Ends, anything}
-use Rattle.mutator_seat.proofs.Tries.{any_then, claimed_then, err_both, full_behind, ok_all}
+use Rattle.mutator_seat.proofs.Seeking.{seeking_then}
+use Rattle.mutator_seat.proofs.Tries.{claimed_then, err_both, full_behind, ok_all}
+use Rattle.mutator_seat.proofs.Updates.{err_then}
 use Rattle.mutator_seat.proofs.mutator.Mutator.wait_for_cell.Goals as goal
 
 pub returns-then-decides-clause-got : goal.returns-then-decides-clause-got
 returns-then-decides-clause-got g c =
-    let was = c.loop.self in
     let asked = c.handshake-control in
     ok_all c.try_last.result c.try_last.ensures.got (λ place got.
-    claimed_then anything c.args.self.now asked.new.self c.try_last.new.self place
-    (any_then anything (Ends was.seat.me.number asked.result) c.args.self.now was asked.new.self
-    c.loop.invariant.0 asked.ensures.calm) got)
+    claimed_then c.args.self.now asked.new.self c.try_last.new.self place
+    (seeking_then c.args.self.now c.loop.self asked.new.self c.loop.invariant.0
+    asked.ensures.seeking) got)
 
 pub returns-then-decides-clause-full : goal.returns-then-decides-clause-full
 returns-then-decides-clause-full g c =
@@ -20,21 +20,27 @@ returns-then-decides-clause-full g c =
     asked.result full c.loop.invariant.0 asked.ensures.calm tried is
     (sym c.if-decides.ensures.decides))
 
+pub returns-then-decides-clause-seeking : goal.returns-then-decides-clause-seeking
+returns-then-decides-clause-seeking g c =
+    let asked = c.handshake-control in
+    err_then c.try_last.result c.try_last.ensures.seeking (λ full rest.
+    seeking_then c.args.self.now asked.new.self c.try_last.new.self
+    (seeking_then c.args.self.now c.loop.self asked.new.self c.loop.invariant.0
+    asked.ensures.seeking) rest)
+
 pub returns-in-Some-try_on-clause-got : goal.returns-in-Some-try_on-clause-got
 returns-in-Some-try_on-clause-got g c =
-    let was = c.loop.self in
     let asked = c.handshake-control in
-    claimed_then anything c.args.self.now asked.new.self c.try_on.new.self c.in-Some-try_on.place
-    (any_then anything (Ends was.seat.me.number asked.result) c.args.self.now was asked.new.self
-    c.loop.invariant.0 asked.ensures.calm) c.in-Some-try_on.ensures.got
+    claimed_then c.args.self.now asked.new.self c.try_on.new.self c.in-Some-try_on.place
+    (seeking_then c.args.self.now c.loop.self asked.new.self c.loop.invariant.0
+    asked.ensures.seeking) c.in-Some-try_on.ensures.got
 
 pub loop-preserved : goal.loop-preserved
 loop-preserved g c =
-    let was = c.loop.self in
     let asked = c.handshake-control in (
-      any_then anything anything c.args.self.now asked.new.self c.try_on.new.self
-          (any_then anything (Ends was.seat.me.number asked.result) c.args.self.now was
-          asked.new.self c.loop.invariant.0 asked.ensures.calm) c.in-None-try_on.ensures.none,
+      seeking_then c.args.self.now asked.new.self c.try_on.new.self
+          (seeking_then c.args.self.now c.loop.self asked.new.self c.loop.invariant.0
+          asked.ensures.seeking) c.in-None-try_on.ensures.none,
       c.try_on.ensures.queue ∙ c.loop.invariant.1,
       omega (arith, c.try_on.ensures.takes, c.loop.invariant.2),
     )

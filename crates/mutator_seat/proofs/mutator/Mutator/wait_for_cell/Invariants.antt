@@ -1,11 +1,11 @@
 use Rattle.std.proofs.Common.{◌≡◌, ◌≤◌}
 use Rattle.free_cells.specs.Hints.{counts_of, queue_of}
-use Rattle.mutator_seat.specs.Claims.{anything}
+use Rattle.mutator_seat.specs.Claims.{Seeking}
 use Rattle.mutator_seat.specs.Stretches.{Calm}
 use Rattle.mutator_seat.proofs.mutator.Mutator.wait_for_cell.Given as goal
 
 abbrev pub invariant-loop : goal.invariant-loop
 invariant-loop g l =
-    Calm anything l.fn.self l.self
+    Calm Seeking l.fn.self l.self
     × (queue_of l.hints ≡ queue_of l.fn.hints)
     × ((counts_of l.fn.hints).takes ≤ (counts_of l.hints).takes)

@@ -1,12 +1,12 @@
-use Rattle.std.proofs.Common.{◌≡◌, ℕ, List, Result, OnOk, IfErr, length}
+use Rattle.std.proofs.Common.{ℕ, Result, OnOk, IfErr, OnErr, length}
 use Rattle.std.proofs.Common.{sym, ap, subst, arith}
 use Rattle.std.specs.Prelude.{slice_index_or}
 use Rattle.heap_rule.specs.Facts.{is_term}
-use Rattle.heap_rule.specs.Lore.{known_at}
 use Rattle.mutator_seat.specs.declared.full.HeapFull.{HeapFull}
 use Rattle.mutator_seat.specs.Bound.{Bound}
-use Rattle.promotion.specs.Promoting.{Promoted, Refused, knows_term}
-use Rattle.promotion.proofs.Finishing.{may_promote, promoted_as, refused_as}
+use Rattle.promotion.specs.Linking.{LinksNothing}
+use Rattle.promotion.specs.Promoting.{Adds, Promoted, Refused}
+use Rattle.promotion.proofs.Finishing.{may_promote, promoted_as, refused_as, refused_links}
 use Rattle.promotion.proofs.promoter.Promoter.promote.Goals as goal
 use Rattle.promotion.proofs.promoter.Promoter.promote.Goals.{in-Ok, in-Err}
 
@@ -15,12 +15,10 @@ keep-requires g c =
     let a = c.args.m.now in
     let b = c.copy_reached.new.m in
     let so = c.in-Ok.ensures in
-    let at = subst (λ (ps : List ℕ). known_at b.seat.me.known (slice_index_or ps c.args.r.number 0)
-    ≡ knows_term a c.args.minor.now.records c.args.r) (sym c.as_slice.ensures.value)
-    (so.copied 0 c.args.r (omega arith)) in
+    let at = so.copied 0 c.args.r (omega arith) in
     record {
       may = may_promote a b so.grown c.held_len-held.result
-          (slice_index_or c.as_slice.result.now c.args.r.number 0)
+          (slice_index_or c.copy_reached.new.places c.args.r.number 0)
           (length c.args.minor.now.records) c.requires.inside
           (c.held_len-held.ensures.some c.requires.inside) c.held_len-held.ensures.len
           (omega (arith, c.requires.room, c.held_len-held.ensures.len))
@@ -37,10 +35,8 @@ returns-clause-promoted g c =
     elim c.match-copy_reached.branch [
       | in-Ok w ↦
           let so = w.in-Ok.ensures in
-          let place = slice_index_or w.as_slice.result.now r.number 0 in
-          let at = subst (λ (ps : List ℕ). known_at b.seat.me.known (slice_index_or ps r.number 0)
-          ≡ knows_term a records r) (sym w.as_slice.ensures.value)
-          (so.copied 0 r (omega arith)) in
+          let place = slice_index_or c.copy_reached.new.places r.number 0 in
+          let at = so.copied 0 r (omega arith) in
           subst (λ (x : Result ℕ HeapFull). OnOk x (Promoted a records r c.match-copy_reached.m))
           (sym w.result-is)
           (subst (λ (m : Bound _). Promoted a records r m) (sym w.m-is)
@@ -66,4 +62,22 @@ returns-clause-full g c =
           (refused_as a b w.give_back.new.m w.in-Err.full c.held_len-held.result
           w.in-Err.ensures.full c.held_len-held.ensures.len w.give_back.ensures.same
           w.give_back.ensures.cut))
+    ]
+
+pub returns-clause-unlinked : goal.returns-clause-unlinked
+returns-clause-unlinked g c =
+    let a = c.args.m.now in
+    let b = c.copy_reached.new.m in
+    let F = LinksNothing a.seat.me.number (length a.seat.me.own.held) in
+    elim c.match-copy_reached.branch [
+      | in-Ok w ↦
+          subst (λ (x : Result ℕ HeapFull). OnErr x (Adds F a c.match-copy_reached.m))
+          (sym w.result-is) tt
+      | in-Err w ↦
+          subst (λ (x : Result ℕ HeapFull). OnErr x (Adds F a c.match-copy_reached.m))
+          (sym w.result-is)
+          (subst (λ (m : Bound _). Adds F a m) (sym w.m-is)
+          (refused_links a b w.give_back.new.m w.in-Err.full c.held_len-held.result
+          w.in-Err.ensures.full c.copy_reached.ensures.copies c.held_len-held.ensures.len
+          w.give_back.ensures.same w.give_back.ensures.cut))
     ]

@@ -1,0 +1,94 @@
+#!/usr/bin/env python3
+"""Where the program's time goes, and how often commits are lost and cells are tried in vain.
+
+profile.py DOCHEAP [--counted PROGRAM] [--shared FOLDER] [--top N]
+
+One command, with Linux's `perf`. For each script it prints the functions with the greatest shares of
+the processor time of all threads, and the crates. Then a build with counters, which is made without
+proof unless one is given, runs several scripts, and the calls that it counted are a table.
+"""
+import argparse, collections, os, re, shutil, struct, subprocess, sys, tempfile
+
+HERE = os.path.dirname(os.path.abspath(__file__))
+sys.path[:0] = [HERE, f"{HERE}/timing"]
+sys.dont_write_bytecode = True
+import baselines
+import build
+
+PROFILED = (
+    "one client, 10,000, 2 puts to 3 gets, 10,000 paths",
+    "one client, 100,000, 2 puts to 3 gets, 10,000 paths",
+    "one client, 100,000, 2 puts to 3 gets, 200 paths",
+    "4 clients, 20,000, generated",
+    "16 clients, 16,000, generated",
+    "4 clients, 100,000, 2 puts to 3 gets, 10,000 paths",
+)
+COUNTS_OF = PROFILED[2:] + (
+    "4 clients, 100,000, 2 puts to 3 gets, 200 paths", "10 clients, 100,000, generated")
+
+
+def write(folder, scripts):
+    files = []
+    for c, lines in enumerate(scripts, 1):
+        files.append(f"{folder}/{c}")
+        with open(files[-1], "w", encoding="ascii") as it:
+            it.write("".join(line + "\n" for line in lines))
+    return files
+
+
+def profile(docheap, files, folder, top):
+    data = f"{folder}/perf"
+    subprocess.run(["perf", "record", "-q", "-F", "4000", "-o", data, docheap, "run", *files],
+                   stdout=subprocess.DEVNULL, stderr=subprocess.DEVNULL, check=True)
+    said = subprocess.run(["perf", "report", "-i", data, "--stdio", "--sort", "symbol"],
+                          capture_output=True, text=True).stdout
+    rows = re.findall(r"^\s*([\d.]+)%\s+\[(.)\]\s+(\S+)", said, re.M)
+    crates = collections.Counter()
+    for share, where, name in rows:
+        crate = "kernel" if where == "k" else name.split("::")[0] if "::" in name else "C library"
+        crates[crate] += float(share)
+    for share, _, name in rows[:top]:
+        print(f"| {share} | {re.sub(r'::<#.*', '', name)} |")
+    print("\ncrates: " + ", ".join(f"{name} {share:.1f}" for name, share in crates.most_common(12)))
+
+
+def counts(program, files, folder):
+    at = f"{folder}/counts"
+    if os.path.exists(at):
+        os.remove(at)
+    ran = subprocess.run([program, "run", "--stats", *files], capture_output=True, text=True,
+                         check=True, env={**os.environ, "COUNTS": at})
+    stats = dict(line.split(" ") for line in ran.stdout.split("\nstats\n")[-1].splitlines())
+    with open(at, "rb") as it:
+        found = it.read()
+    return stats, [struct.unpack_from("Q", found, 64 * k)[0] for k in range(len(build.COUNTED))]
+
+
+def main():
+    p = argparse.ArgumentParser()
+    p.add_argument("docheap")
+    p.add_argument("--counted")
+    p.add_argument("--shared", default="/tmp/bench")
+    p.add_argument("--top", type=int, default=10)
+    args = p.parse_args()
+    loads = baselines.workloads([f"{args.shared}/build/rust_plain"])
+    folder = tempfile.mkdtemp(prefix="docheap-profile-")
+    try:
+        for load in PROFILED:
+            print(f"\n{load}\n\n| % | function |\n|---|---|")
+            profile(os.path.abspath(args.docheap), write(folder, loads[load]()), folder, args.top)
+        counted = args.counted or build.build(os.path.dirname(HERE), "/tmp/docheap_timing",
+                                              "docheap_cli", name="docheap_counted", count=True)
+        print("\n| script | commits | lost | " + " | ".join(build.COUNTED) + " | cycles |")
+        print("|---" * (4 + len(build.COUNTED)) + "|")
+        for load in COUNTS_OF:
+            stats, found = counts(counted, write(folder, loads[load]()), folder)
+            lost = 1 - int(stats["versions"]) / max(1, found[0])
+            print(f"| {load} | {stats['versions']} | {100 * lost:.0f} % | "
+                  + " | ".join(map(str, found)) + f" | {stats['cycles']} |", flush=True)
+    finally:
+        shutil.rmtree(folder, ignore_errors=True)
+
+
+if __name__ == "__main__":
+    main()

@@ -1,0 +1,77 @@
+#!/usr/bin/env python3
+"""What the calls of a heap's seats cost beside the same operations on bare atomic words in Rust.
+
+seats.py [--rounds N] [--cells N] [--batches N] [--threads 1,4] [--programs FOLDER]
+
+One command: it builds the two programs of bench/timing, unless a folder is given that has them, runs
+them in turns, and prints the table. Fill is look, claim, five fills and seal of a cell; sweep is
+look, six wipes, free and advance. Each thread has a heap of its own. A round gives the median batch
+of each program; the table has the medians over the rounds, and the ratio within rounds.
+"""
+import argparse, os, statistics, subprocess, sys
+
+HERE = os.path.dirname(os.path.abspath(__file__))
+sys.path.insert(0, f"{HERE}/timing")
+sys.dont_write_bytecode = True
+import build
+
+
+def run(program, threads, cells, batches):
+    words = [program, "seats", str(threads), str(cells), str(batches)]
+    ran = subprocess.run(words, capture_output=True, text=True, check=True)
+    rows = [tuple(map(int, line.split())) for line in ran.stdout.splitlines()]
+    counted = rows[batches::batches + 1]
+    if any(row != (batches * (cells - 1),) * 2 for row in counted):
+        sys.exit(f"{program}: not every cell was claimed and freed: {counted}")
+    times = [row for k, row in enumerate(rows) if k % (batches + 1) != batches]
+    return {part: [row[k] / (cells - 1) for row in times]
+            for k, part in enumerate(("fill", "sweep"))}
+
+
+def main():
+    p = argparse.ArgumentParser()
+    p.add_argument("--rounds", type=int, default=15)
+    p.add_argument("--cells", type=int, default=4096)
+    p.add_argument("--batches", type=int, default=100)
+    p.add_argument("--threads", default="1,4")
+    p.add_argument("--programs")
+    args = p.parse_args()
+    if not args.programs:
+        args.programs = "/tmp/docheap_timing"
+        build.build(os.path.dirname(HERE), args.programs, "heap_timing")
+        build.build_plain(args.programs)
+    programs = {"bare words": f"{args.programs}/plain_heap",
+                "the seats": f"{args.programs}/heap_timing"}
+    print(f"{args.cells} cells, {args.batches} batches, {args.rounds} rounds; nanoseconds a cell: the "
+          "median of the rounds' median batches, in brackets the least batch of all")
+    print()
+    print("| | threads | bare words | the seats | ratio, median of rounds | ratio of the least |")
+    print("|---|---|---|---|---|---|")
+    for threads in map(int, args.threads.split(",")):
+        got = {name: {"fill": [], "sweep": []} for name in programs}
+        for k in range(args.rounds):
+            for name in list(programs)[::1 if k % 2 else -1]:
+                times = run(programs[name], threads, args.cells, args.batches)
+                for part, list_ in times.items():
+                    got[name][part].append((statistics.median(list_), min(list_)))
+        for part in ("fill", "sweep"):
+            bare, ours = got["bare words"][part], got["the seats"][part]
+            cell = lambda it: (f"{statistics.median(m for m, _ in it):.1f} "
+                               f"({min(l for _, l in it):.1f})")
+            ratio = statistics.median(o[0] / b[0] for b, o in zip(bare, ours))
+            least = min(l for _, l in ours) / min(l for _, l in bare)
+            print(f"| {part} | {threads} | {cell(bare)} | {cell(ours)} | {ratio:.2f} "
+                  f"| {least:.2f} |",
+                  flush=True)
+    words = lambda cells, mutators: 1 + mutators + 7 * cells
+    print()
+    print("Words that a heap takes, by its layout "
+          "(one for the control, one a mutator, seven a cell):")
+    for cells, mutators in ((args.cells, 1), (65_536, 64)):
+        many = words(cells, mutators)
+        print(f"{cells} cells, {mutators} mutators: {many} words, {8 * many} bytes, "
+              f"{8 * (many - 1 - mutators) / cells:.0f} a cell")
+
+
+if __name__ == "__main__":
+    main()

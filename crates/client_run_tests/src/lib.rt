@@ -1,0 +1,16 @@
+//! What no clause says of a session: rows of commands with their replies, worked out by hand, on a
+//! heap whose collector is off duty.
+//!
+//! Reading order: `scripts`; specs/Begun, `opening`, `answering`; `rows`, `long_rows`.
+#![tactic(auto)]
+
+#[cfg(test)]
+mod answering;
+#[cfg(test)]
+mod long_rows;
+#[cfg(test)]
+mod opening;
+#[cfg(test)]
+mod rows;
+#[cfg(test)]
+mod scripts;

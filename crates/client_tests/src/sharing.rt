@@ -1,0 +1,82 @@
+//! What an edit makes, worked out by hand.
+ghost use Rattle.std.specs.Prelude.{◌≡◌, ◌+◌, ◌≤◌, length, true};
+
+use crate::calls::{begin_tree, put, share};
+use crate::heaps::{CELLS, ROOM, come_in, open_one};
+use crate::limits::fill_folder;
+use heap_rule::NoRule;
+use minor_heap::MinorField::{Null, Num};
+use minor_heap::{MinorField, MinorHeap, MinorRef};
+use mutator_seat::Mutator;
+use std::alloc::Global;
+use std::sync::Wait;
+use std::test::Fail;
+
+/// How many records a put into a shared folder of 256 children makes.
+fn put_into_shared<R: Wait>(
+    alloc: Global,
+    rt: &R,
+    m: &mut Mutator<'_, NoRule>,
+    minor: &mut MinorHeap,
+) -> Result<u32, Fail>
+    requires inside { m.old.seat.me.presence.inside ≡ true }
+    requires spare { length minor.old.records + 2285 ≤ minor.old.room }
+{
+    let mut root = begin_tree(m, minor);
+    fill_folder(alloc, m, minor, &mut root)?;
+    share(alloc, rt, m, minor, &mut root)?;
+    put(alloc, m, minor, &mut root, "d/000", "y")?;
+    Ok(minor.len())
+}
+
+// The way to the entry of 000 has eight entries, and there are two nodes, an entry of d, and the
+// new node with its text.
+#[test]
+fn a_put_into_a_shared_folder_makes_thirteen_records(rt: HostRuntime) -> Result<(), Fail> {
+    let (heap, _collector, seat) = open_one(rt.alloc(), CELLS, ROOM)?;
+    let mut minor = MinorHeap::with_room(rt.alloc(), 10_000)?;
+    let mut m = come_in(&heap, seat);
+    let made = put_into_shared(rt.alloc(), &rt, &mut m, &mut minor)?;
+    assert_eq!(rt; made, 13);
+    Ok(())
+}
+
+/// The fields of a private record, if it stands.
+fn fields_of(minor: &MinorHeap, number: u32) -> Option<[MinorField; 5]> {
+    if number >= minor.len() {
+        return None;
+    }
+    let r = MinorRef { number };
+    Some([
+        minor.field(r, 0),
+        minor.field(r, 1),
+        minor.field(r, 2),
+        minor.field(r, 3),
+        minor.field(r, 4),
+    ])
+}
+
+/// The record of the text hello at a, which is made first behind the empty tree.
+fn record_of_hello(
+    alloc: Global,
+    m: &mut Mutator<'_, NoRule>,
+    minor: &mut MinorHeap,
+) -> Result<Option<[MinorField; 5]>, Fail>
+    requires inside { m.old.seat.me.presence.inside ≡ true }
+    requires spare { length minor.old.records + 2285 ≤ minor.old.room }
+{
+    let mut root = begin_tree(m, minor);
+    put(alloc, m, minor, &mut root, "a", "hello")?;
+    Ok(fields_of(minor, 1))
+}
+
+#[test]
+fn the_record_of_hello_has_these_fields(rt: HostRuntime) -> Result<(), Fail> {
+    let (heap, _collector, seat) = open_one(rt.alloc(), CELLS, ROOM)?;
+    let mut minor = MinorHeap::with_room(rt.alloc(), 3000)?;
+    let mut m = come_in(&heap, seat);
+    let found = record_of_hello(rt.alloc(), &mut m, &mut minor)?;
+    let fields = [Num(5), Num(478_560_413_032), Num(0), Num(0), Null];
+    assert_eq!(rt; found, Some(fields));
+    Ok(())
+}

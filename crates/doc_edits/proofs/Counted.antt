@@ -1,0 +1,58 @@
+-- Entries of few levels are few; and children that stand still stand after a call.
+use Rattle.std.proofs.Common.{◌≡◌, ℕ, zero, suc, ◌+◌, ◌<◌, ◌≤◌, refl, sym, ap, subst, arith}
+use Rattle.cell_words.specs.Term.{IsFive}
+use Rattle.doc_tree.specs.Tree.{IsRising, kid, kid_count}
+use Rattle.doc_tree.proofs.Joined.{count_join}
+use Rattle.kids_avl.specs.Entries.{Entries, no_entries, entry, height_of, kids_of}
+use Rattle.doc_records.specs.declared.pool.Part.{Part}
+use Rattle.doc_records.specs.declared.pool.Part.TheVariants as parts
+use Rattle.doc_records.specs.Pool.{Later, Shown}
+use Rattle.doc_records.specs.Trees.{AreEntries, entries_of}
+use Rattle.doc_edits.specs.Tops.{IsRowAt, row_of}
+
+-- as many entries as so many levels have room for, and one
+abbrev most : ℕ → ℕ
+most zero = 1
+most (suc n) = most n + most n
+
+few_under : (n : ℕ) (t : Entries) → height_of t ≤ n → kid_count (kids_of t) + 1 ≤ most n
+few_under zero no_entries low = omega arith
+few_under zero (entry m d l r) low = absurd (omega (arith, low))
+few_under (suc n) no_entries low = omega (arith, few_under n no_entries (omega arith))
+few_under (suc n) (entry m d l r) low =
+    omega (
+      arith,
+      few_under n l (omega (arith, low)),
+      few_under n r (omega (arith, low)),
+      count_join (kids_of l) (kid m d.text d.kids (kids_of r)),
+    )
+
+pub few_low : (t : Entries) → height_of t ≤ 8 → kid_count (kids_of t) < 256
+few_low t low = grind (arith, few_under 8 t low)
+
+pub row_still : {At F : Type 0} (s t : Shown At F) (p : Part At) → Later s t → IsRowAt s p
+    → IsRowAt t p
+row_still s t parts.Null later row = record {
+  stands = tt;
+  entries = tt;
+  rising = row.rising;
+  few = row.few;
+}
+row_still s t (parts.Num n) later row = absurd row.entries
+row_still s t (parts.Record a) later row =
+    let same = sym (later.same a row.stands.0) in
+    record {
+      stands = (later.now a row.stands.0, subst IsFive same row.stands.1);
+      entries = subst AreEntries same row.entries;
+      rising = subst (λ u. IsRising (kids_of (entries_of u))) same row.rising;
+      few = subst (λ u. kid_count (kids_of (entries_of u)) ≤ 256) same row.few;
+    }
+
+pub row_same : {At F : Type 0} (s t : Shown At F) (p : Part At) → Later s t → IsRowAt s p
+    → row_of t p ≡ row_of s p
+row_same s t parts.Null later row = refl
+row_same s t (parts.Num n) later row = refl
+row_same s t (parts.Record a) later row =
+    ap (λ u. kids_of (entries_of u)) (later.same a row.stands.0)
+
+pub ruleset rooms = (few_low, row_still, row_same)

@@ -1,0 +1,36 @@
+-- The events of copying, and of a call that is refused: nothing that others see is written, and each
+-- cell that was claimed is let go, so that it is linked nowhere.
+-- Source: this project's.
+use Rattle.std.specs.Prelude.{ℕ, ◌≡◌, ◌≤◌, List, [], ◌∷◌, ◌++◌, All}
+use Rattle.cell_words.specs.declared.fields.Kind.TheVariants as kind
+use Rattle.core_machine.specs.declared.events.Event.{Event}
+use Rattle.core_machine.specs.declared.events.Event.TheVariants as event
+use Rattle.core_machine.specs.declared.events.Taken.{Taken}
+
+-- It looks, marks, answers or claims; or it fills a cell at a place from this one on, or seals one
+-- there as a record.
+abbrev pub CopiesFrom : ℕ → Event → Type 0
+CopiesFrom held (event.Look i) = Unit {0}
+CopiesFrom held (event.Mark i place) = Unit {0}
+CopiesFrom held (event.Answer i) = Unit {0}
+CopiesFrom held (event.Claim i cell) = Unit {0}
+CopiesFrom held (event.Fill i place f value) = held ≤ place
+CopiesFrom held (event.Seal i place k) = (held ≤ place) × (k ≡ kind.Record)
+CopiesFrom held _ = ⊥
+
+abbrev pub AreCopying : ℕ → List Taken → Type 0
+AreCopying held events = All (λ (t : Taken). CopiesFrom held t.event) events
+
+-- nothing, or the one event that lets go the places from this one on
+abbrev pub LetsGo : ℕ → ℕ → List Taken → Type 0
+LetsGo number held [] = Unit {0}
+LetsGo number held (t ∷ []) = t.event ≡ event.Keep number held 0 0
+LetsGo number held (t ∷ u ∷ ts) = ⊥
+
+-- what was copied behind the first places is let go
+pub record LinksNothing (number held : ℕ) (events : List Taken) : Type 0 where
+  pub copying : List Taken
+  pub back : List Taken
+  pub split : events ≡ copying ++ back
+  pub copies : AreCopying held copying
+  pub lets_go : LetsGo number held back

@@ -1,0 +1,35 @@
+//! Runs of clients with the same script on a heap of the smallest size, in numbers.
+ghost use Rattle.std.specs.Prelude.{◌≤◌};
+
+use crate::scripts::alike;
+use doc_model::Totals;
+use outside::Gate;
+use std::alloc::Global;
+use std::sync::Wait;
+use std::test::Fail;
+use std::thread::Threads;
+use store_run::{Options, run_clients};
+
+/// What a run of so many clients comes to. The latest version alone is kept.
+pub(crate) fn totals_of<R: Threads + Wait + Sync, G: Gate + Sync>(
+    alloc: Global,
+    rt: &R,
+    clients: u32,
+    text: &[u8],
+    cycles: u32,
+    gate: &G,
+) -> Result<Totals, Fail>
+    requires clients { (1 ≤ clients) × (clients ≤ 64) }
+    requires cycles { cycles ≤ 4_000_000_000 }
+{
+    let scripts = alike(alloc, clients, text)?;
+    let options = Options {
+        cells: 64,
+        minor: 4_096,
+        keep: 1,
+        versions: 1_000_000,
+        cycles,
+    };
+    let finished = run_clients(alloc, rt, &scripts, &options, gate)?;
+    Ok(finished.totals)
+}
