@@ -8,17 +8,17 @@ use std::alloc::Global;
 use std::sync::Wait;
 use std::test::Fail;
 use std::thread::Threads;
-use store_run::{Options, run_clients};
+use store_run::{Finished, Options, run_clients};
 
-/// What a run of so many clients comes to. The latest version alone is kept.
-pub(crate) fn totals_of<R: Threads + Wait + Sync, G: Gate + Sync>(
+/// A run of so many clients. The latest version alone is kept.
+pub(crate) fn run_of<R: Threads + Wait + Sync, G: Gate + Sync>(
     alloc: Global,
     rt: &R,
     clients: u32,
     text: &[u8],
     cycles: u32,
     gate: &G,
-) -> Result<Totals, Fail>
+) -> Result<Finished, Fail>
     requires clients { (1 ≤ clients) × (clients ≤ 64) }
     requires cycles { cycles ≤ 4_000_000_000 }
 {
@@ -30,6 +30,21 @@ pub(crate) fn totals_of<R: Threads + Wait + Sync, G: Gate + Sync>(
         versions: 1_000_000,
         cycles,
     };
-    let finished = run_clients(alloc, rt, &scripts, &options, gate)?;
+    Ok(run_clients(alloc, rt, &scripts, &options, gate)?)
+}
+
+/// What such a run comes to.
+pub(crate) fn totals_of<R: Threads + Wait + Sync, G: Gate + Sync>(
+    alloc: Global,
+    rt: &R,
+    clients: u32,
+    text: &[u8],
+    cycles: u32,
+    gate: &G,
+) -> Result<Totals, Fail>
+    requires clients { (1 ≤ clients) × (clients ≤ 64) }
+    requires cycles { cycles ≤ 4_000_000_000 }
+{
+    let finished = run_of(alloc, rt, clients, text, cycles, gate)?;
     Ok(finished.totals)
 }

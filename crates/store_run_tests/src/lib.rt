@@ -1,9 +1,11 @@
 //! What no clause says of a run of clients: that they run beside each other and beside the
-//! collector, and how many cells they take.
+//! collector, how many cells they take, and what lies in these.
 //!
-//! Reading order: `scripts`, `counting`, `rows`.
+//! Reading order: `scripts`, `counting`, `rows`, `cells`.
 #![tactic(auto)]
 
+#[cfg(test)]
+mod cells;
 #[cfg(test)]
 mod counting;
 #[cfg(test)]
