@@ -24,7 +24,7 @@ fn files(alloc: Global, bytes: &[u8]) -> Result<Vec<(String, Vec<u8>)>, AllocErr
 }
 
 // What these words make of a file with these bytes, and what is written.
-fn outcome_by<R: Threads + Wait + Sync>(
+pub(crate) fn outcome_by<R: Threads + Wait + Sync>(
     alloc: Global,
     rt: &R,
     all: &[&str],
