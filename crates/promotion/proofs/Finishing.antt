@@ -22,13 +22,14 @@ use Rattle.mutator_seat.specs.Claims.{anything}
 use Rattle.promotion.specs.Copying.{Appended, Grown, Halted}
 use Rattle.promotion.specs.Promoting.{Adds, ClaimsFor, Collected, HasRefusal, Promoted, Refused}
 use Rattle.promotion.specs.Promoting.{Stays, knows_term}
-use Rattle.promotion.specs.Linking.{LinksNothing}
+use Rattle.promotion.specs.Linking.{AreKeeping, KeepsCopies, LinksNothing}
 use Rattle.promotion.proofs.Growing.{grown_known, grown_many, records_of}
 use Rattle.promotion.proofs.Holding.{claims_kept, held_kept, keep_adds, keep_stays, kept_tail}
 use Rattle.promotion.proofs.Holding.{known_kept, take_one}
 use Rattle.promotion.proofs.Knowing.{term_there}
-use Rattle.promotion.proofs.Linked.{Copying, links_nothing}
-use Rattle.promotion.proofs.Stretching.{adds_event, adds_then, any_then, stays_then}
+use Rattle.promotion.proofs.Linked.{Copying, Keeping, copies_kept, keeping_event, keeping_less}
+use Rattle.promotion.proofs.Linked.{keeping_then, links_nothing}
+use Rattle.promotion.proofs.Stretching.{adds_anyhow, adds_event, adds_then, any_then, stays_then}
 use Rattle.promotion.proofs.Stretching.{within_on}
 
 nil_of : {A : Type 0} (xs : List A) → length xs ≡ 0 → xs ≡ []
@@ -120,6 +121,16 @@ module _ {P : Type 0} where
         stays = keep_stays a b c n place 1 g.stays told;
         adds = keep_adds a b c n place 1 g.adds told;
       }
+
+  pub promoted_links : (a b c : Bound P) (g : Grown anything a b) (n place : ℕ)
+      → n ≡ length a.seat.me.own.held → Copying (length a.seat.me.own.held) a b
+      → c ≡ takes b (event.Keep b.seat.me.number n place 1) (finds.Presence b.seat.me.presence)
+      → Adds (KeepsCopies a.seat.me.number (length a.seat.me.own.held)
+      (length a.seat.me.own.held)) a c
+  promoted_links a b c g n place n_is so told =
+      let held = length a.seat.me.own.held in
+      copies_kept a.seat.me.number held held a b c so
+      (keeping_event a.seat.me.number held b c n place 1 g.stays.number (omega (arith, n_is)) told)
 
   -- A collection.
 
@@ -229,8 +240,26 @@ module _ {P : Type 0} where
         claims = claims_still a b e records roots
             (claims_kept d e base first count told ∙ so.claims) claims;
         stays = keep_stays a d e base first count (stays_then a b d g.stays so.stays) told;
-        adds = keep_adds a d e base first count (any_then a b d g.adds so.adds) told;
+        adds = keep_adds a d e base first count
+            (any_then a b d g.adds
+            (adds_anyhow (AreKeeping b.seat.me.number (length b.seat.me.own.held)) b d so.adds))
+            told;
       }
+
+  pub collected_links : (a b d e : Bound P) (g : Grown anything a b) (cells : List ℕ)
+      (known : List Known) (so : Appended b cells known d) (base first count : ℕ)
+      → base ≤ length a.seat.me.own.held → Copying (length a.seat.me.own.held) a b
+      → e ≡ takes d (event.Keep d.seat.me.number base first count)
+      (finds.Presence d.seat.me.presence)
+      → Adds (KeepsCopies a.seat.me.number base (length a.seat.me.own.held)) a e
+  collected_links a b d e g cells known so base first count within copying told =
+      copies_kept a.seat.me.number base (length a.seat.me.own.held) a b e copying
+      (keeping_then a.seat.me.number base b d e
+      (subst (λ (k : ℕ). Keeping k base b d) g.stays.number
+      (keeping_less b.seat.me.number base (length b.seat.me.own.held) b d
+      (omega (arith, within, grown_many anything a b g)) so.adds))
+      (keeping_event a.seat.me.number base d e base first count
+      (so.stays.number ∙ g.stays.number) (omega arith) told))
 
   -- Where a claim found the heap full.
 

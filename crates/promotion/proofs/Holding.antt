@@ -16,7 +16,8 @@ use Rattle.mutator_seat.specs.Bound.{Bound, held_cells, takes}
 use Rattle.mutator_seat.specs.Claims.{anything}
 use Rattle.promotion.specs.Copying.{Appended}
 use Rattle.promotion.specs.Promoting.{Adds, Stays}
-use Rattle.promotion.proofs.Stretching.{adds_event, adds_none, any_then, stays_event, stays_same}
+use Rattle.promotion.proofs.Linked.{keeping_event, keeping_none, keeping_then}
+use Rattle.promotion.proofs.Stretching.{adds_event, any_then, stays_event, stays_same}
 use Rattle.promotion.proofs.Stretching.{stays_then}
 
 pub take_one : {A : Type 0} (xs : List A) (p : ℕ) (d : A) → p < length xs
@@ -91,7 +92,7 @@ module _ {P : Type 0} where
     known_is = sym (append-nil m.seat.me.known);
     claims = refl;
     stays = stays_same m;
-    adds = adds_none m;
+    adds = keeping_none m.seat.me.number (length m.seat.me.own.held) m;
   }
 
   appended_more : (a b c : Bound P) (cells : List ℕ) (known : List Known) (n place : ℕ)
@@ -122,7 +123,16 @@ module _ {P : Type 0} where
             (omega (arith, lt, fit));
         claims = claims_kept b c n place 1 told ∙ so.claims;
         stays = keep_stays a b c n place 1 so.stays told;
-        adds = keep_adds a b c n place 1 so.adds told;
+        adds = keeping_then a.seat.me.number (length a.seat.me.own.held) a b c so.adds
+            (keeping_event a.seat.me.number (length a.seat.me.own.held) b c n place 1
+            so.stays.number
+            (omega (
+              arith,
+              held_many,
+              length-append (held_cells a) cells,
+              cells_many a.seat.me.own.held,
+            ))
+            told);
       }
 
   -- one root further

@@ -15,7 +15,8 @@ use Rattle.heap_rule.specs.Rule.{took}
 use Rattle.mutator_seat.specs.Bound.{Bound, takes}
 use Rattle.mutator_seat.specs.Claims.{Claimed, Seeking, seeks}
 use Rattle.mutator_seat.specs.Stretches.{Calm}
-use Rattle.promotion.specs.Linking.{AreCopying, CopiesFrom, LinksNothing}
+use Rattle.promotion.specs.Linking.{AreCopying, AreKeeping, CopiesFrom, KeepsCopies, KeepsFrom}
+use Rattle.promotion.specs.Linking.{LinksNothing}
 use Rattle.promotion.specs.Promoting.{Adds}
 use Rattle.promotion.proofs.Stretching.{adds_then}
 
@@ -42,6 +43,11 @@ copies_less held more le (event.Claim i cell) is = tt
 copies_less held more le (event.Fill i place f value) is = omega (arith, le, is)
 copies_less held more le (event.Seal i place k) is = (omega (arith, le, is.0), is.1)
 copies_less held more le e is = absurd is
+
+keeps_less : (number base more : ℕ) → base ≤ more → (e : Event) → KeepsFrom number more e
+    → KeepsFrom number base e
+keeps_less number base more le (event.Keep i n place count) is = (is.0, omega (arith, le, is.1))
+keeps_less number base more le e is = absurd is
 
 equal_or : (n k : ℕ) → n ≤ k → (k ≡ n) ⊎ (n < k)
 equal_or n k le = search (arith, le)
@@ -95,6 +101,55 @@ module _ {P : Type 0} where
         told = second.told;
         fact = λ k d lt. copies_less held more le _ (second.fact k d lt);
       }
+
+  -- Events that choose what stays held.
+
+  abbrev pub Keeping : ℕ → ℕ → Bound P → Bound P → Type 0
+  Keeping number base a b = Adds (AreKeeping number base) a b
+
+  pub keeping_none : (number base : ℕ) (a : Bound P) → Keeping number base a a
+  keeping_none number base a = record {
+    added = [];
+    told = refl;
+    fact = All-nil (λ (t : Taken). KeepsFrom number base t.event);
+  }
+
+  pub keeping_event : (number base : ℕ) (a b : Bound P) (n place count : ℕ)
+      → a.seat.me.number ≡ number → base ≤ n
+      → b ≡ takes a (event.Keep a.seat.me.number n place count)
+      (finds.Presence a.seat.me.presence) → Keeping number base a b
+  keeping_event number base a b n place count is le told =
+      let keep = took (event.Keep a.seat.me.number n place count)
+      (finds.Presence a.seat.me.presence) in
+      record {
+        added = keep ∷ [];
+        told = told;
+        fact = All-cons (λ (t : Taken). KeepsFrom number base t.event) keep [] (is, le)
+            (All-nil (λ (t : Taken). KeepsFrom number base t.event));
+      }
+
+  pub keeping_then : (number base : ℕ) (a b c : Bound P) → Keeping number base a b
+      → Keeping number base b c → Keeping number base a c
+  keeping_then number base a b c first second =
+      adds_then (AreKeeping number base) (AreKeeping number base) (AreKeeping number base) a b c
+      (λ xs ys f s. All-append (λ (t : Taken). KeepsFrom number base t.event) xs ys f s) first
+      second
+
+  pub keeping_less : (number base more : ℕ) (a b : Bound P) → base ≤ more
+      → Keeping number more a b → Keeping number base a b
+  keeping_less number base more a b le so = record {
+    added = so.added;
+    told = so.told;
+    fact = λ k d lt. keeps_less number base more le _ (so.fact k d lt);
+  }
+
+  -- what was copied is behind, and then it is chosen what stays
+  pub copies_kept : (number base held : ℕ) (a b c : Bound P) → Copying held a b
+      → Keeping number base b c → Adds (KeepsCopies number base held) a c
+  copies_kept number base held a b c first second =
+      adds_then (AreCopying held) (AreKeeping number base) (KeepsCopies number base held) a b c
+      (λ xs ys f s. record { copying = xs; keeping = ys; split = refl; copies = f; keeps = s })
+      first second
 
   -- all places of copies are let go
   pub links_nothing : (held : ℕ) (a b c : Bound P) → b.seat.me.number ≡ a.seat.me.number

@@ -20,6 +20,7 @@ use Rattle.mutator_events.specs.Values.{field_among}
 use Rattle.mutator_seat.specs.declared.full.HeapFull.{HeapFull}
 use Rattle.mutator_seat.specs.Bound.{Bound, held_cells}
 use Rattle.mutator_seat.specs.Claims.{anything}
+use Rattle.promotion.specs.Linking.{AreKeeping}
 use Rattle.promotion.specs.Promoting.{Adds, HasRefusal, Stays}
 
 -- A field of a record as a value of the shared heap, where the older records' copies stand at these
@@ -117,4 +118,4 @@ module _ {P : Type 0} where
     pub known_is : new.seat.me.known ≡ old.seat.me.known ++ known
     pub claims : new.seat.me.own.claims ≡ old.seat.me.own.claims
     pub stays : Stays old new
-    pub adds : Adds anything old new
+    pub adds : Adds (AreKeeping old.seat.me.number (length old.seat.me.own.held)) old new

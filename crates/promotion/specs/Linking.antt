@@ -1,5 +1,5 @@
--- The events of copying, and of a call that is refused: nothing that others see is written, and each
--- cell that was claimed is let go, so that it is linked nowhere.
+-- The events of copying: nothing that others see is written. A call that is refused lets go each cell
+-- that was claimed, so that it is linked nowhere; and one that is not only chooses what stays held.
 -- Source: this project's.
 use Rattle.std.specs.Prelude.{ℕ, ◌≡◌, ◌≤◌, List, [], ◌∷◌, ◌++◌, All}
 use Rattle.cell_words.specs.declared.fields.Kind.TheVariants as kind
@@ -34,3 +34,19 @@ pub record LinksNothing (number held : ℕ) (events : List Taken) : Type 0 where
   pub split : events ≡ copying ++ back
   pub copies : AreCopying held copying
   pub lets_go : LetsGo number held back
+
+-- the first places stay, up to this one at least, and others are copied behind them
+abbrev pub KeepsFrom : ℕ → ℕ → Event → Type 0
+KeepsFrom number base (event.Keep i n place count) = (i ≡ number) × (base ≤ n)
+KeepsFrom number base _ = ⊥
+
+abbrev pub AreKeeping : ℕ → ℕ → List Taken → Type 0
+AreKeeping number base events = All (λ (t : Taken). KeepsFrom number base t.event) events
+
+-- copies behind the places that were held, and behind that only what is held changed
+pub record KeepsCopies (number base held : ℕ) (events : List Taken) : Type 0 where
+  pub copying : List Taken
+  pub keeping : List Taken
+  pub split : events ≡ copying ++ keeping
+  pub copies : AreCopying held copying
+  pub keeps : AreKeeping number base keeping

@@ -1,11 +1,12 @@
-use Rattle.std.proofs.Common.{ℕ, Result, OnOk, IfErr, OnErr, length}
+use Rattle.std.proofs.Common.{ℕ, Result, OnOk, IfErr, OnErr, length, map}
 use Rattle.std.proofs.Common.{refl, sym, subst, arith}
 use Rattle.std.specs.Prelude.{slice_index_or}
 use Rattle.mutator_seat.specs.declared.full.HeapFull.{HeapFull}
-use Rattle.mutator_seat.specs.Bound.{Bound}
-use Rattle.promotion.specs.Linking.{LinksNothing}
+use Rattle.heap_rule.specs.Lore.{known_at}
+use Rattle.mutator_seat.specs.Bound.{Bound, held_cells}
+use Rattle.promotion.specs.Linking.{KeepsCopies, LinksNothing}
 use Rattle.promotion.specs.Promoting.{Adds, Collected, Refused}
-use Rattle.promotion.proofs.Finishing.{collected_as, refused_as, refused_links}
+use Rattle.promotion.proofs.Finishing.{collected_as, collected_links, refused_as, refused_links}
 use Rattle.promotion.proofs.promoter.Promoter.collect.Goals as goal
 use Rattle.promotion.proofs.promoter.Promoter.collect.Goals.{in-Ok, in-Err}
 
@@ -65,4 +66,26 @@ returns-clause-unlinked g c =
           (refused_links a b w.give_back.new.m w.in-Err.full c.held_len-held.result
           w.in-Err.ensures.full c.copy_reached.ensures.copies c.held_len-held.ensures.len
           w.give_back.ensures.same w.give_back.ensures.cut))
+    ]
+
+pub returns-clause-copies : goal.returns-clause-copies
+returns-clause-copies g c =
+    let a = c.args.m.now in
+    let b = c.copy_reached.new.m in
+    let roots = c.args.roots.now in
+    let places = c.copy_reached.new.places in
+    let F = KeepsCopies a.seat.me.number c.args.base (length a.seat.me.own.held) in
+    elim c.match-copy_reached.branch [
+      | in-Ok w ↦
+          subst (λ (x : Result ℕ HeapFull). OnOk x (Adds F a c.match-copy_reached.m))
+          (sym w.result-is)
+          (subst (λ (m : Bound _). Adds F a m) (sym w.m-is)
+          (collected_links a b w.hold_roots.new.m w.keep.new.self w.in-Ok.ensures.grown
+          (map (λ r. slice_index_or (held_cells b) (slice_index_or places r.number 0) 0) roots)
+          (map (λ r. known_at b.seat.me.known (slice_index_or places r.number 0)) roots)
+          w.hold_roots.ensures.appended c.args.base w.held_len-first.result (length roots)
+          (omega (arith, c.requires.base)) c.copy_reached.ensures.copies w.keep.ensures.told))
+      | in-Err w ↦
+          subst (λ (x : Result ℕ HeapFull). OnOk x (Adds F a c.match-copy_reached.m))
+          (sym w.result-is) tt
     ]

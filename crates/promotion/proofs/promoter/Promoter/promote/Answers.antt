@@ -4,9 +4,10 @@ use Rattle.std.specs.Prelude.{slice_index_or}
 use Rattle.heap_rule.specs.Facts.{is_term}
 use Rattle.mutator_seat.specs.declared.full.HeapFull.{HeapFull}
 use Rattle.mutator_seat.specs.Bound.{Bound}
-use Rattle.promotion.specs.Linking.{LinksNothing}
+use Rattle.promotion.specs.Linking.{KeepsCopies, LinksNothing}
 use Rattle.promotion.specs.Promoting.{Adds, Promoted, Refused}
-use Rattle.promotion.proofs.Finishing.{may_promote, promoted_as, refused_as, refused_links}
+use Rattle.promotion.proofs.Finishing.{may_promote, promoted_as, promoted_links, refused_as}
+use Rattle.promotion.proofs.Finishing.{refused_links}
 use Rattle.promotion.proofs.promoter.Promoter.promote.Goals as goal
 use Rattle.promotion.proofs.promoter.Promoter.promote.Goals.{in-Ok, in-Err}
 
@@ -80,4 +81,23 @@ returns-clause-unlinked g c =
           (refused_links a b w.give_back.new.m w.in-Err.full c.held_len-held.result
           w.in-Err.ensures.full c.copy_reached.ensures.copies c.held_len-held.ensures.len
           w.give_back.ensures.same w.give_back.ensures.cut))
+    ]
+
+pub returns-clause-copies : goal.returns-clause-copies
+returns-clause-copies g c =
+    let a = c.args.m.now in
+    let b = c.copy_reached.new.m in
+    let held = length a.seat.me.own.held in
+    let F = KeepsCopies a.seat.me.number held held in
+    elim c.match-copy_reached.branch [
+      | in-Ok w ↦
+          subst (λ (x : Result ℕ HeapFull). OnOk x (Adds F a c.match-copy_reached.m))
+          (sym w.result-is)
+          (subst (λ (m : Bound _). Adds F a m) (sym w.m-is)
+          (promoted_links a b w.keep.new.self w.in-Ok.ensures.grown c.held_len-held.result
+          (slice_index_or c.copy_reached.new.places c.args.r.number 0)
+          c.held_len-held.ensures.len c.copy_reached.ensures.copies w.keep.ensures.told))
+      | in-Err w ↦
+          subst (λ (x : Result ℕ HeapFull). OnOk x (Adds F a c.match-copy_reached.m))
+          (sym w.result-is) tt
     ]
