@@ -3,14 +3,14 @@
 
     python3 bench/want_of_memory.py PROGRAM
 
-A library that is loaded before the C library (bench/timing/refuse_memory.c, built by gcc) counts the
-calls that ask for memory, of the program and of the C library itself, as for a thread's stack, and
-refuses the one of a given number, or that one and all behind it. Wanted of each run: status and
+A library that is loaded before the C library (bench/timing/refuse_memory.c, built by gcc) counts
+the calls that ask for memory, of the program and of the C library itself, as for a thread's stack,
+and refuses the one of a given number, or that one and all behind it. Wanted of each run: status and
 output of a run that is refused nothing, or status 5 with a front of that output and the text
-`docheap: out of memory`. The text may be missing where it was refused its own memory. A thread that cannot be made is no want of memory: where the collector has
-none it serves behind the clients. So what differs from run to run (which client was faster, how many
-cycles there were) is left out: the scripts have a client each, or do not meet, and cycles are not
-compared.
+`docheap: out of memory`. The text may be missing where it was refused its own memory. A thread that
+cannot be made is no want of memory: where the collector has none it serves behind the clients. So
+what differs from run to run (which client was faster, how many cycles there were) is left out: the
+scripts have a client each, or do not meet, and cycles are not compared.
 """
 import os
 import re

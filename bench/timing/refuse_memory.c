@@ -1,6 +1,7 @@
 /* Loaded before the C library, refuses memory to one of the calls that ask for it, by its number in
- * REFUSE_AT, and where REFUSE_REST is 1 to each call behind it. How many calls there were stands in the
- * first eight bytes of the file that REFUSE_COUNTS names, also where the program ends by _exit. */
+ * REFUSE_AT, and where REFUSE_REST is 1 to each call behind it. How many calls there were stands in
+ * the first eight bytes of the file that REFUSE_COUNTS names, also where the program ends by
+ * _exit. */
 #include <errno.h>
 #include <fcntl.h>
 #include <stdatomic.h>
