@@ -1,5 +1,5 @@
--- The events of copying: nothing that others see is written. A call that is refused lets go each cell
--- that was claimed, so that it is linked nowhere; and one that is not only chooses what stays held.
+-- The events of copying: nothing that others see is written. A call that is refused lets go each
+-- cell that was claimed, so that it is linked nowhere; one that is not only chooses what stays held.
 -- Source: this project's.
 use Rattle.std.specs.Prelude.{ℕ, ◌≡◌, ◌≤◌, List, [], ◌∷◌, ◌++◌, All}
 use Rattle.cell_words.specs.declared.fields.Kind.TheVariants as kind
