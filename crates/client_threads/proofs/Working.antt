@@ -1,5 +1,5 @@
 -- What becomes of the collector's seat.
-use Rattle.std.proofs.Common.{◌≡◌, ◌+◌, ℕ, Bool, true, false, List, []}
+use Rattle.std.proofs.Common.{◌≡◌, ◌+◌, ℕ, false, List, []}
 use Rattle.std.proofs.Common.{◌∷◌, sym}
 use Rattle.std.proofs.Common.{ap, subst}
 use Rattle.cell_words.specs.declared.controls.Stage.TheVariants as stage
@@ -11,10 +11,8 @@ use Rattle.core_machine.specs.declared.events.Taken.{Taken}
 use Rattle.free_cells.specs.declared.queue.FreeQueue.{FreeQueue}
 use Rattle.heap_table.specs.Seats.{HeapId, SeatView}
 use Rattle.version_rule.specs.Pass.{Pass}
-use Rattle.client_threads.specs.Serving.{IsKeeper, Serves, StandsBy, TurnOf}
-use Rattle.client_threads.specs.Serving.{off_if}
+use Rattle.client_threads.specs.Serving.{IsKeeper, Serves, StandsBy, gone_off}
 use Rattle.client_threads.specs.declared.keeper.Keeper.{Keeper}
-use Rattle.client_threads.specs.declared.serving.Turn.{Turn}
 use Rattle.client_threads.specs.declared.serving.Turn.TheVariants as turns
 
 role_kept : (old : SeatView Pass) (ts : List Taken) (new : SeatView Pass) → Took old ts new
@@ -45,40 +43,28 @@ serves cycles freed made old new many stretch idle off = record {
   late = joined_meet old.seat new.seat stretch.added stretch.told;
 }
 
--- Off duty first, or not.
+-- Off duty first.
 
-keeps : (heap : HeapId) (queue : FreeQueue) (cycles : ℕ) (held_back : Bool) (keeper : Keeper)
+keeps : (heap : HeapId) (queue : FreeQueue) (cycles : ℕ) (keeper : Keeper)
     → IsKeeper heap queue cycles keeper.seat keeper.pass
-    → IsKeeper heap queue cycles (off_if held_back keeper.seat) keeper.pass
-keeps heap queue cycles true keeper is = record {
+    → IsKeeper heap queue cycles (gone_off keeper.seat) keeper.pass
+keeps heap queue cycles keeper is = record {
   seat_is = is.seat_is;
   idle = is.idle;
   few = is.few;
   pass_is = is.pass_is;
   cells = is.cells;
 }
-keeps heap queue cycles false keeper is = is
-
--- The turn that a thread gave back.
-
-pub stands : (heap : HeapId) (queue : FreeQueue) (cycles : ℕ) (keeper : Keeper) (turn : Turn)
-    → IsKeeper heap queue cycles keeper.seat keeper.pass → TurnOf cycles keeper turn
-    → StandsBy heap queue cycles keeper.seat turn
-stands heap queue cycles keeper (turns.Served now) is of = of
-stands heap queue cycles keeper (turns.HandedBack now) is of = (
-  subst (λ (k : Keeper). IsKeeper heap queue cycles k.seat k.pass) (sym of) is,
-  (false, ap (λ (k : Keeper). k.seat) of),
-)
 
 -- the seat went off duty
 pub stands_off : (heap : HeapId) (queue : FreeQueue) (cycles : ℕ) (keeper now : Keeper)
     → IsKeeper heap queue cycles keeper.seat keeper.pass
-    → now.seat ≡ off_if true keeper.seat → now.pass ≡ keeper.pass
+    → now.seat ≡ gone_off keeper.seat → now.pass ≡ keeper.pass
     → StandsBy heap queue cycles keeper.seat (turns.HandedBack now)
 stands_off heap queue cycles keeper now is off pass =
-    let same : IsKeeper heap queue cycles (off_if true keeper.seat) keeper.pass =
-    keeps heap queue cycles true keeper is in (
+    let same : IsKeeper heap queue cycles (gone_off keeper.seat) keeper.pass =
+    keeps heap queue cycles keeper is in (
       subst (λ p. IsKeeper heap queue cycles now.seat p) (sym pass)
           (subst (λ (s : SeatView Pass). IsKeeper heap queue cycles s keeper.pass) (sym off) same),
-      (true, off),
+      off,
     )

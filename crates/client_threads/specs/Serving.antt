@@ -61,26 +61,22 @@ abbrev pub TurnOf : ℕ → Keeper → Turn → Type 0
 TurnOf cycles keeper (turns.Served now) = Serves cycles keeper.seat now
 TurnOf cycles keeper (turns.HandedBack now) = now ≡ keeper
 
--- the seat, which went off duty if it did
-abbrev pub off_if : Bool → SeatView Pass → SeatView Pass
-off_if true seat = collector_tells seat (event.Duty false) finds.Stored
-off_if false seat = seat
+-- the seat, which went off duty
+abbrev pub gone_off : SeatView Pass → SeatView Pass
+gone_off seat = collector_tells seat (event.Duty false) finds.Stored
 
--- the turn is to be ended: it served, or may do so yet
+-- the turn is to be ended: it served, or went off duty and may serve yet
 abbrev pub StandsBy : HeapId → FreeQueue → ℕ → SeatView Pass → Turn → Type 0
 StandsBy heap queue cycles was (turns.Served now) = Serves cycles was now
 StandsBy heap queue cycles was (turns.HandedBack keeper) =
-    IsKeeper heap queue cycles keeper.seat keeper.pass
-    × ((held_back : Bool) × (keeper.seat ≡ off_if held_back was))
+    IsKeeper heap queue cycles keeper.seat keeper.pass × (keeper.seat ≡ gone_off was)
 
--- the seat has served, where nothing is left with it; else it went off duty, if it did, and may
--- serve
+-- the seat has served, where nothing is left with it; else it went off duty, and may serve
 abbrev pub Stands : HeapId → FreeQueue → ℕ → SeatView Pass → SeatView Pass
     → Option Standby → Type 0
 Stands heap queue cycles was seat None = Serves cycles was seat
 Stands heap queue cycles was seat (Some standby) =
-    IsKeeper heap queue cycles seat standby.pass
-    × ((held_back : Bool) × (seat ≡ off_if held_back was))
+    IsKeeper heap queue cycles seat standby.pass × (seat ≡ gone_off was)
 
 -- The service that is left.
 

@@ -68,7 +68,7 @@ pub fn run_beside<R: Threads + Wait + Sync, G: Gate + Sync>(
             match scope.spawn_with(promise, turn) {
                 Ok(thread) => {
                     let clients = run_each(alloc, rt, gate, heap, queue, scripts, limits, clients);
-                    let turn = thread.join(rt);
+                    let turn = stand_down(heap, queue, cycles, &was, thread.join(rt));
                     let (seat, standby) = apart(heap, queue, cycles, &was, turn);
                     (clients, seat, standby)
                 }

@@ -2,9 +2,9 @@
 //!
 //! The layer above may rely on this: when `run_beside` returns, each client's mutator is over, and
 //! its log is in step with what its seat has; a client that did not fail answered its whole script.
-//! The collector's seat has served once, or does so in `serve_after`, and is off duty then. Where
-//! the clients' seats are joined before, that service finds each mutator over. That anything runs
-//! beside anything else is claimed by no clause.
+//! The collector's seat has served once, or went off duty and serves in `serve_after`, and is off
+//! duty then. Where the clients' seats are joined before, that service finds each mutator over. That
+//! anything runs beside anything else is claimed by no clause.
 //!
 //! Reading order: `clients`, specs/Clients; specs/Going, `answering`, `running`; `keeper`,
 //! specs/Serving, `serving`; `beside`.

@@ -77,7 +77,8 @@ pub(crate) fn take_turn<R: Wait>(
     Turn::Served(serve(rt, heap, queue, cycles, keeper))
 }
 
-/// Goes off duty, if it was held back.
+/// Goes off duty, if it was held back. No contract says which thread was: so behind each of them, a
+/// seat that did not serve is off duty.
 pub(crate) fn stand_down(
     heap: &CellHeap<Documents>,
     queue: &FreeQueue,

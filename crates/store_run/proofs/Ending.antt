@@ -12,7 +12,7 @@ use Rattle.cell_heap.specs.Telling.{AreJoined}
 use Rattle.cell_words.specs.declared.controls.Control.{Control}
 use Rattle.client_run.specs.declared.session.Limits.{Limits as ClientLimits}
 use Rattle.client_threads.specs.Clients.{store_limits}
-use Rattle.client_threads.specs.Serving.{MayServe, ServesLate, Stands, off_first, off_if}
+use Rattle.client_threads.specs.Serving.{MayServe, ServesLate, Stands, off_first}
 use Rattle.client_threads.specs.declared.keeper.Standby.{Standby}
 use Rattle.collector.specs.Cycles.{Served}
 use Rattle.collector.specs.Over.{MeetOver}
@@ -53,26 +53,6 @@ short_logs (script ∷ scripts) (g ∷ logs) short same =
     (All-tail (λ (script : Vec Command Global). length script.items ≤ 100_000) script scripts
     short) (ap (λ (xs : List (List Command)). drop 1 xs) same))
 
--- Off duty first, or not: nothing else of the seat changes that is told here.
-
-off_trail : (held : Bool) (was : SeatView Pass)
-    → (off_if held was).me.trail ≡ was.me.trail ++ off_first held
-off_trail true was = refl
-off_trail false was = sym (append-nil was.me.trail)
-
-off_shape : (held : Bool) (was : SeatView Pass) → (off_if held was).me.shape ≡ was.me.shape
-off_shape true was = refl
-off_shape false was = refl
-
-off_places : (held : Bool) (was : SeatView Pass) → (off_if held was).me.places ≡ was.me.places
-off_places true was = refl
-off_places false was = refl
-
-off_cycles : (held : Bool) (was : SeatView Pass)
-    → (off_if held was).me.control.cycles ≡ was.me.control.cycles
-off_cycles true was = refl
-off_cycles false was = refl
-
 -- What the collector's seat has at the close, by what it had first, and when all seats were joined.
 record Worked (cycles : ℕ) (first joined last : SeatView Pass) : Type 0 where
   pub places : last.me.places ≡ joined.me.places
@@ -95,8 +75,7 @@ module _ (heap : HeapId) (queue : FreeQueue) (cycles : ℕ) (first mid joined : 
   pub stands_places : (standby : Option Standby) → Stands heap queue cycles first mid standby
       → mid.me.places ≡ first.me.places
   stands_places None s = s.places
-  stands_places (Some standby) s =
-      ap (λ (x : SeatView Pass). x.me.places) s.1.1 ∙ off_places s.1.0 first
+  stands_places (Some standby) s = ap (λ (x : SeatView Pass). x.me.places) s.1
 
   pub still_seat : IsSeatOf heap mid → IsStill mid joined → IsSeatOf heap joined
   still_seat is still = (still.table ∙ is.0, still.shape ∙ is.1)
@@ -135,23 +114,21 @@ module _ (heap : HeapId) (queue : FreeQueue) (cycles : ℕ) (first mid joined : 
         cycles_are = ap (λ (c : Control). c.cycles) still.control ∙ s.cycles_are;
       }
   worked (Some standby) last s still all late =
-      let held = s.1.0 in
-      let off = s.1.1 in
-      let shape = still.shape ∙ ap (λ (x : SeatView Pass). x.me.shape) off
-      ∙ off_shape held first in
+      let off = s.1 in
+      let shape = still.shape ∙ ap (λ (x : SeatView Pass). x.me.shape) off in
       let was = ap (λ (c : Control). c.cycles) still.control
-      ∙ ap (λ (x : SeatView Pass). x.me.control.cycles) off ∙ off_cycles held first in
+      ∙ ap (λ (x : SeatView Pass). x.me.control.cycles) off in
       let now = late.cycles_are in
       record {
         places = late.places;
-        held_back = held;
+        held_back = true;
         made = late.made;
         freed = late.freed;
         added = late.added;
         trail = late.trail
             ∙ ap (λ (ts : List Taken). ts ++ late.added)
-            (still.trail ∙ ap (λ (x : SeatView Pass). x.me.trail) off ∙ off_trail held first)
-            ∙ append_assoc first.me.trail (off_first held) late.added;
+            (still.trail ∙ ap (λ (x : SeatView Pass). x.me.trail) off)
+            ∙ append_assoc first.me.trail (off_first true) late.added;
         served = subst (λ (h : Shape). Served h.mutators cycles late.made late.freed late.added)
             shape late.served;
         late = λ is. late.late all;
