@@ -10,11 +10,11 @@ use Rattle.std.specs.declared.alloc.Global.{Global}
 use Rattle.outside.specs.Causes.{next_count}
 use Rattle.doc_model.specs.declared.command.Command.{Command}
 use Rattle.script_files.proofs.Files.{next_decided}
-use Rattle.script_files.proofs.Opens.{opens_more}
+use Rattle.script_files.proofs.Opens.{opens_more, stops_first, stops_more}
 use Rattle.script_files.specs.Files.{OpensInTurn}
 use Rattle.script_files.specs.Files.{opened}
 use Rattle.script_files.specs.Reading.{DecidesFile, DecidesFrom, lists_of}
-use Rattle.script_files.specs.Scripts.{IsScriptIn}
+use Rattle.script_files.specs.Scripts.{IsScriptIn, StopsBehind}
 use Rattle.script_files.specs.declared.fault.Fault.{Fault}
 use Rattle.script_files.specs.declared.fault.Fault.TheVariants.{Usage, ReadFault}
 
@@ -56,6 +56,39 @@ pub turn_opens : (before middle now others files : ℕ) → suc others ≡ files
     → OpensInTurn before now files
 turn_opens before middle now others files one first more =
     subst (λ n. OpensInTurn before now n) one (opens_more before middle now others first more)
+
+-- which files were opened at most, where the first one is a script
+pub turn_stops : {A : Type 0} (text : A → List ℕ) (names : List A) (otherwise : A)
+    (bytes : List ℕ) (holds later : List ℕ → Option (List ℕ)) (file before : ℕ)
+    (script : Vec Command Global) (opens middle now : ℕ) (count : ℕ)
+    → count ≡ length script.items → 1 ≤ length names
+    → bytes ≡ text (get_or names 0 otherwise) → later ≡ holds
+    → IsScriptIn file before (holds bytes) (Ok script.items) → middle ≡ next_count opens
+    → StopsBehind (file + 1) (before + count)
+    (map later (map text (take (length names - 1) (drop 1 names)))) middle now
+    → StopsBehind file before (map holds (map text names)) opens now
+turn_stops text [] otherwise bytes holds later file before script opens middle now count counted
+    some first same is opened_first others = absurd (omega (arith, some))
+turn_stops text (one ∷ names) otherwise bytes holds later file before script opens middle now
+    count counted some first same is opened_first others =
+    let all : take (length (one ∷ names) - 1) names ≡ names = take_all _ names (omega arith) in
+    stops_more file before opens middle now (holds (text one)) (map holds (map text names))
+    script.items
+    (subst (λ b. IsScriptIn file before (holds b) (Ok script.items)) first is) opened_first
+    (subst (λ h. StopsBehind (file + 1) (before + length script.items)
+    (map h (map text names)) middle now) same
+    (subst (λ rest. StopsBehind (file + 1) (before + length script.items)
+    (map later (map text rest)) middle now) all
+    (subst (λ n. StopsBehind (file + 1) (before + n)
+    (map later (map text (take (length (one ∷ names) - 1) names))) middle now) counted others)))
+
+-- the first one alone was opened
+pub turn_stopped : {A : Type 0} (text : A → List ℕ) (names : List A)
+    (holds : List ℕ → Option (List ℕ)) (file before opens now : ℕ) → 1 ≤ length names
+    → now ≡ next_count opens → StopsBehind file before (map holds (map text names)) opens now
+turn_stopped text [] holds file before opens now some is = absurd (omega (arith, some))
+turn_stopped text (one ∷ names) holds file before opens now some is =
+    stops_first file before opens now (map holds (map text (one ∷ names))) (omega arith) is
 
 abbrev pub fault_or_usage : Result (Unit {0}) Fault → Fault
 fault_or_usage (Ok done) = Usage

@@ -4,12 +4,13 @@
 -- for its grammar, then for the number of commands in the files up to it. The first file that is
 -- refused decides.
 -- Source: this project's own.
-use Rattle.std.specs.Prelude.{◌≡◌, ℕ, ◌+◌, List, [], ◌∷◌, length, nat_lt, Option, IfSome}
+use Rattle.std.specs.Prelude.{◌≡◌, ℕ, ◌+◌, ◌≤◌, List, [], ◌∷◌, length, take}
+use Rattle.std.specs.Prelude.{nat_lt, Option, IfSome}
 use Rattle.std.specs.Prelude.{Result, Ok, Err, IsOk, IsErrAnd, ◌⊎◌, ◌↔◌, ◌≢◌, if◌then◌else◌}
 use Rattle.doc_model.specs.declared.command.Command.{Command}
 use Rattle.cmd_text.specs.Script.{script_of}
 use Rattle.cmd_text.specs.declared.fault.ScriptFault.{ScriptFault}
-use Rattle.script_files.specs.Files.{AreTold, most_files}
+use Rattle.script_files.specs.Files.{AreTold, IfTold, most_files, opened}
 use Rattle.script_files.specs.declared.fault.Fault.{Fault}
 use Rattle.script_files.specs.declared.fault.Fault.TheVariants.{Usage, Script, Schedule}
 use Rattle.script_files.specs.declared.fault.Fault.TheVariants.{ReadFault, WriteFault}
@@ -84,6 +85,17 @@ AreScriptsFrom file before told outcome =
 abbrev pub AreScripts : List (Option (List ℕ)) → Result (List (List Command)) Fault → Type 0
 AreScripts told outcome =
     (contents : List (List ℕ)) × AreTold told contents × (scripts_of contents ≡ outcome)
+
+-- the files are scripts, from this one on, if it is told what they hold
+abbrev pub AreGood : ℕ → ℕ → List (Option (List ℕ)) → Type 0
+AreGood file before told = IfTold told (λ contents. IsOk (scripts_from file before contents))
+
+-- Some of the files, from this one on, are scripts, and behind them one file more was opened at
+-- most: none is opened behind one that is refused.
+abbrev pub StopsBehind : ℕ → ℕ → List (Option (List ℕ)) → ℕ → ℕ → Type 0
+StopsBehind file before told old new =
+    (good : ℕ) × AreGood file before (take good told)
+    × (count : ℕ) × (count ≤ good + 1) × (count ≤ length told) × (new ≡ opened old count)
 
 -- a fault of a script's grammar
 abbrev pub IsFaultyLine : Fault → Type 0

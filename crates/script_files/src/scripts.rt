@@ -11,7 +11,7 @@ ghost use Rattle.outside.specs.Causes.{Rose, next_count};
 ghost use Rattle.script_files.specs.Files.{OpensInTurn, files_read, opened};
 ghost use Rattle.script_files.specs.Reading.{Decides, DecidesFile, DecidesFiles, DecidesFrom};
 ghost use Rattle.script_files.specs.Reading.{lists_of};
-ghost use Rattle.script_files.specs.Scripts.{counted, script_in};
+ghost use Rattle.script_files.specs.Scripts.{StopsBehind, counted, script_in};
 
 use crate::fault::Fault;
 use cmd_text::{ScriptError, ScriptFault, read_script};
@@ -29,6 +29,7 @@ const MOST_FILES: usize = 64;
 const MOST_COMMANDS: usize = 100_000;
 
 /// The scripts in the files of these names.
+#[tactic(auto, using(crate::proofs::Opens::stops_none))]
 pub fn scripts_in_files<H: Shelf>(
     alloc: Global,
     names: &[&str],
@@ -46,6 +47,9 @@ pub fn scripts_in_files<H: Shelf>(
         H.opens shelf.new ≡ opened (H.opens shelf.old) file }
     ensures opens { OpensInTurn (H.opens shelf.old) (H.opens shelf.new)
         (files_read (length names.now)) }
+    ensures stops { StopsBehind 1 0
+        (map (H.holds shelf.old) (map (λ name. name.now) names.now))
+        (H.opens shelf.old) (H.opens shelf.new) }
     ensures calls { H.calls shelf.new
         ≤ H.calls shelf.old + files_read (length names.now) * (READ_LIMIT + 1) }
     ensures orderly { IsUnbroken (H.course shelf.old) → IsOrderly (H.course shelf.new) }
@@ -74,6 +78,9 @@ fn scripts_in_turn<H: Shelf>(
     ensures read_file { (file : ℕ) → IsErrOf result (Fault.ReadFault file) →
         H.opens shelf.new ≡ opened (H.opens shelf.old) file }
     ensures opens { OpensInTurn (H.opens shelf.old) (H.opens shelf.new) (length names.now) }
+    ensures stops { StopsBehind 1 0
+        (map (H.holds shelf.old) (map (λ name. name.now) names.now))
+        (H.opens shelf.old) (H.opens shelf.new) }
     ensures calls { H.calls shelf.new
         ≤ H.calls shelf.old + length names.now * (READ_LIMIT + 1) }
     ensures orderly { IsUnbroken (H.course shelf.old) → IsOrderly (H.course shelf.new) }
@@ -88,7 +95,7 @@ fn scripts_in_turn<H: Shelf>(
 
 // Adds the scripts in the files of these names. The first of them has this number, and so many
 // commands stand in the files before it.
-#[tactic(auto, using(crate::proofs::Files::in_turn, crate::proofs::Opens::openings))]
+#[tactic(auto, using(crate::proofs::Files::in_turn, crate::proofs::Opens::openings, crate::proofs::Turns::turn_stopped))]
 fn add_scripts<H: Shelf>(
     alloc: Global,
     names: &[&str],
@@ -112,6 +119,9 @@ fn add_scripts<H: Shelf>(
     ensures read_file { (place : ℕ) → IsErrOf result (Fault.ReadFault place) → (more : ℕ)
         × (file + more ≡ place + 1) × (H.opens shelf.new ≡ opened (H.opens shelf.old) more) }
     ensures opens { OpensInTurn (H.opens shelf.old) (H.opens shelf.new) (length names.now) }
+    ensures stops { StopsBehind file before
+        (map (H.holds shelf.old) (map (λ name. name.now) names.now))
+        (H.opens shelf.old) (H.opens shelf.new) }
     ensures calls { H.calls shelf.new
         ≤ H.calls shelf.old + length names.now * (READ_LIMIT + 1) }
     ensures unbroken { OnOk result (IsUnbroken (H.course shelf.old)

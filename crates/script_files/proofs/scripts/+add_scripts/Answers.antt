@@ -2,7 +2,7 @@ use Rattle.std.proofs.Common.{◌≡◌, suc, [], ◌∷◌, ◌++◌, ◌-◌, 
 use Rattle.std.proofs.Common.{refl, rules, arith}
 use Rattle.std.proofs.Common.{length-drop}
 use Rattle.std.proofs.lemmas.List.{length-take}
-use Rattle.script_files.proofs.Turns.{turn_decided, turn_later, turn_opens, turn_unread}
+use Rattle.script_files.proofs.Turns.{turn_decided, turn_later, turn_opens, turn_stops, turn_unread}
 use Rattle.script_files.proofs.scripts.+add_scripts.Goals as goal
 
 pub returns-in-Err-clause-read_file : goal.returns-in-Err-clause-read_file
@@ -21,6 +21,13 @@ returns-clause-scripts g t c =
 pub returns-clause-read_file : goal.returns-clause-read_file
 returns-clause-read_file g t c place is =
     turn_later _ _ _ _ _ c.in-Ok.ensures.opens (c.add_scripts.ensures.read_file place is)
+
+pub returns-clause-stops : goal.returns-clause-stops
+returns-clause-stops g t c =
+    let counted : c.len.result ≡ length c.in-Ok.script.items = search rules in
+    turn_stops (λ name. name.now) _ _ _ _ _ _ _ c.in-Ok.script _ _ _ _ counted
+    c.in-len1-up.len_at_least refl c.in-Ok.ensures.held c.in-Ok.ensures.script c.in-Ok.ensures.opens
+    c.add_scripts.ensures.stops
 
 pub returns-clause-opens : goal.returns-clause-opens
 returns-clause-opens g t c =
