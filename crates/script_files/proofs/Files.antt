@@ -3,7 +3,6 @@ use Rattle.std.proofs.Common.{◌≡◌, ℕ, suc, ◌+◌, ◌<◌, ◌≤◌, 
 use Rattle.std.proofs.Common.{◌∷◌, ◌++◌, Option, None, Some}
 use Rattle.std.proofs.Common.{length, map}
 use Rattle.std.proofs.Common.{Result, Ok, Err, refl, sym, ap, subst, ◌∙◌}
-use Rattle.std.proofs.Common.{rules}
 use Rattle.std.specs.Prelude.{Vec}
 use Rattle.std.specs.declared.alloc.Global.{Global}
 use Rattle.std.proofs.lemmas.List.{append_assoc, append-nil, length-map}
@@ -11,7 +10,7 @@ use Rattle.std.proofs.lemmas.Bool.{lt-ltb, le-ltb}
 use Rattle.doc_model.specs.declared.command.Command.{Command}
 use Rattle.script_files.specs.Files.{AreTold, IfTold}
 use Rattle.script_files.specs.Reading.{DecidesFile, DecidesFiles, DecidesFrom, lists_of}
-use Rattle.script_files.specs.Scripts.{in_front, with_first, scripts_from, scripts_of}
+use Rattle.script_files.specs.Scripts.{in_front, with_first, scripts_from}
 use Rattle.script_files.specs.Scripts.{IsScriptIn, AreScripts, AreScriptsFrom}
 use Rattle.script_files.specs.declared.fault.Fault.{Fault}
 use Rattle.script_files.specs.declared.fault.Fault.TheVariants.{Usage, Script, Schedule}

@@ -1,7 +1,7 @@
 -- The scripts that are made from a number, one client after another.
-use Rattle.std.proofs.Common.{◌≡◌, ℕ, zero, suc, ◌+◌, ◌-◌, ◌*◌, ◌<◌}
+use Rattle.std.proofs.Common.{◌≡◌, ℕ, zero, suc, ◌+◌, ◌-◌, ◌*◌}
 use Rattle.std.proofs.Common.{◌≤◌, List, [], ◌∷◌, ◌++◌}
-use Rattle.std.proofs.Common.{Option, Some, length, map, Result, Ok, Err, refl, sym, ap, ap₂}
+use Rattle.std.proofs.Common.{Some, length, map, Result, Ok, Err, refl, sym, ap, ap₂}
 use Rattle.std.proofs.Common.{subst, ◌∙◌, arith}
 use Rattle.std.proofs.lemmas.List.{map-append}
 use Rattle.std.specs.Prelude.{Vec}
@@ -11,7 +11,7 @@ use Rattle.script_generator.specs.Generated.{generated_of}
 use Rattle.script_files.proofs.Files.{first_decided, next_decided, none_decided}
 use Rattle.script_files.proofs.MadeLines.{made_scripts}
 use Rattle.script_files.specs.Files.{AreTold}
-use Rattle.script_files.specs.Made.{AreMade, DecidesMade, texts_from}
+use Rattle.script_files.specs.Made.{DecidesMade, texts_from}
 use Rattle.script_files.specs.Reading.{Decides, DecidesFile, DecidesFrom, lists_of}
 use Rattle.script_files.specs.Scripts.{AreScriptsFrom, script_in, scripts_from}
 use Rattle.script_files.specs.declared.fault.Fault.{Fault}

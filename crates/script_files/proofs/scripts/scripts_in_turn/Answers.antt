@@ -1,4 +1,4 @@
-use Rattle.std.proofs.Common.{◌≤◌, length, ap, arith}
+use Rattle.std.proofs.Common.{ap, arith}
 use Rattle.script_files.proofs.Files.{all_read, one_refused, told_names}
 use Rattle.script_files.specs.Reading.{lists_of}
 use Rattle.script_files.proofs.scripts.scripts_in_turn.Goals as goal
