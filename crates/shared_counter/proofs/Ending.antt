@@ -18,7 +18,9 @@ use Rattle.heap_rule.specs.Shape.{Shape}
 use Rattle.heap_rule.specs.declared.view.Place.{Place}
 use Rattle.heap_rule.specs.declared.view.Place.TheVariants as places
 use Rattle.heap_rule.specs.declared.view.View.{View}
-use Rattle.shared_counter.specs.Counting.{CounterIs, Counts, number_record, sum_of}
+use Rattle.heap_table.specs.Images.{ImageView, Shows}
+use Rattle.shared_counter.specs.Counting.{CounterIs, Counts, ShowsCounter, counter_in, number_behind}
+use Rattle.shared_counter.specs.Counting.{number_in, number_record, sum_of}
 use Rattle.shared_counter.specs.declared.counter.Added.{Added}
 use Rattle.shared_counter.proofs.Anchors.{named_term}
 use Rattle.shared_counter.proofs.Picks.{counter_is}
@@ -106,16 +108,17 @@ joined_four (x ∷ y ∷ z ∷ []) a b c d many = absurd cc
 joined_four (x ∷ y ∷ z ∷ w ∷ []) a b c d many = refl
 joined_four (x ∷ y ∷ z ∷ w ∷ v ∷ more) a b c d many = absurd (omega (arith, many))
 
--- the seats of all mutators were joined, and the heap was closed
-pub finished : (h : Shape) (words : List ℕ) (v w t0 t1 t2 t3 : View Added) (a b c d : ℕ)
+-- the seats of all mutators were joined, and the heap was closed: what the anchor then names
+finished_at : (h : Shape) (words : List ℕ) (v w t0 t1 t2 t3 : View Added) (a b c d : ℕ)
     → length v.places ≡ 4 → h.mutators ≡ 4
     → t0.number ≡ 0 → t1.number ≡ 1 → t2.number ≡ 2 → t3.number ≡ 3
     → t0.pass ≡ record { sum = a } → t1.pass ≡ record { sum = b } → t2.pass ≡ record { sum = c }
     → t3.pass ≡ record { sum = d }
     → w ≡ joined_view (joined_view (joined_view (joined_view v t0) t1) t2) t3
-    → Ended (λ number setting. record { sum = 0 }) Counts no_field_is_fixed h (Unit {0}) words w
-    → CounterIs words (a + b + c + d)
-finished h words v w t0 t1 t2 t3 a b c d many mutators n0 n1 n2 n3 p0 p1 p2 p3 all e =
+    → (e : Ended (λ number setting. record { sum = 0 }) Counts no_field_is_fixed h (Unit {0}) words w)
+    → (cell : ℕ) × ((field_of e.shows.core 0 0 ≡ word.Cell cell)
+    × (field_of e.shows.core cell 0 ≡ word.Num (a + b + c + d)))
+finished_at h words v w t0 t1 t2 t3 a b c d many mutators n0 n1 n2 n3 p0 p1 p2 p3 all e =
     let j0 = places.Joined (share_of t0) in
     let j1 = places.Joined (share_of t1) in
     let j2 = places.Joined (share_of t2) in
@@ -132,14 +135,45 @@ finished h words v w t0 t1 t2 t3 a b c d many mutators n0 n1 n2 n3 p0 p1 p2 p3 a
     four_passes e.shows.passes t0.pass t1.pass t2.pass t3.pass (e.passes_fit ∙ mutators)
     (pass 0 t0 refl) (pass 1 t1 refl) (pass 2 t2 refl) (pass 3 t3 refl)
     ∙ (λ i. (p0 i).sum + (p1 i).sum + (p2 i).sum + (p3 i).sum) in
-    let counter = counter_from e.shows.core e.shows.lore e.shows.facts (a + b + c + d)
+    counter_from e.shows.core e.shows.lore e.shows.facts (a + b + c + d)
     (field_of e.shows.core 0 0) refl
     (counter_is e.shows.core e.shows.lore e.shows.passes e.shows.kept
-    ∙ ap (λ (n : ℕ). Plain (number_record n)) sums) in
+    ∙ ap (λ (n : ℕ). Plain (number_record n)) sums)
+
+-- what the words show
+pub finished : (h : Shape) (words : List ℕ) (v w t0 t1 t2 t3 : View Added) (a b c d : ℕ)
+    → length v.places ≡ 4 → h.mutators ≡ 4
+    → t0.number ≡ 0 → t1.number ≡ 1 → t2.number ≡ 2 → t3.number ≡ 3
+    → t0.pass ≡ record { sum = a } → t1.pass ≡ record { sum = b } → t2.pass ≡ record { sum = c }
+    → t3.pass ≡ record { sum = d }
+    → w ≡ joined_view (joined_view (joined_view (joined_view v t0) t1) t2) t3
+    → Ended (λ number setting. record { sum = 0 }) Counts no_field_is_fixed h (Unit {0}) words w
+    → CounterIs words (a + b + c + d)
+finished h words v w t0 t1 t2 t3 a b c d many mutators n0 n1 n2 n3 p0 p1 p2 p3 all e =
+    let counter = finished_at h words v w t0 t1 t2 t3 a b c d many mutators n0 n1 n2 n3 p0 p1 p2 p3
+    all e in
     record {
       core = e.shows.core;
       words_are = sym e.words_are ∙ e.shows.last_of.shown;
       cell = counter.0;
       named = counter.1.0;
       is = counter.1.1;
+    }
+
+-- and the image
+pub finished_image : (h : Shape) (image : ImageView) (v w t0 t1 t2 t3 : View Added)
+    (a b c d : ℕ) → length v.places ≡ 4 → h.mutators ≡ 4
+    → t0.number ≡ 0 → t1.number ≡ 1 → t2.number ≡ 2 → t3.number ≡ 3
+    → t0.pass ≡ record { sum = a } → t1.pass ≡ record { sum = b } → t2.pass ≡ record { sum = c }
+    → t3.pass ≡ record { sum = d }
+    → w ≡ joined_view (joined_view (joined_view (joined_view v t0) t1) t2) t3
+    → (e : Ended (λ number setting. record { sum = 0 }) Counts no_field_is_fixed h (Unit {0})
+    image.words w) → Shows image e.shows.core → ShowsCounter image (a + b + c + d)
+finished_image h image v w t0 t1 t2 t3 a b c d many mutators n0 n1 n2 n3 p0 p1 p2 p3 all e shows =
+    let counter = finished_at h image.words v w t0 t1 t2 t3 a b c d many mutators n0 n1 n2 n3 p0 p1
+    p2 p3 all e in
+    record {
+      core = e.shows.core;
+      shows = shows;
+      counter = ap (number_behind e.shows.core) counter.1.0 ∙ ap number_in counter.1.1;
     }

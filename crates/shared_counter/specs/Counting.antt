@@ -1,7 +1,7 @@
 -- A counter in a box: field 0 of the anchor names a record, whose field 0 is a number. The rule is
 -- that it is the sum of what the mutators have added.
 -- Source: this project's.
-use Rattle.std.specs.Prelude.{ℕ, ◌≡◌, ◌+◌, Bool, true, false, List, [], ◌∷◌, Some}
+use Rattle.std.specs.Prelude.{ℕ, ◌≡◌, ◌+◌, Bool, true, false, List, [], ◌∷◌, Option, Some, None}
 use Rattle.std.proofs.Common.{◌∙◌}
 use Rattle.cell_words.specs.Term.{Term, five, null, num}
 use Rattle.cell_words.specs.declared.fields.Field.{Field}
@@ -12,6 +12,7 @@ use Rattle.core_machine.specs.declared.events.Found.{Found}
 use Rattle.heap_rule.specs.Boxes.{Map, Payload, Smaller}
 use Rattle.heap_rule.specs.Lore.{Plain, was_made}
 use Rattle.heap_rule.specs.declared.known.Learned.{Learned}
+use Rattle.heap_table.specs.Images.{ImageView, Shows}
 use Rattle.shared_counter.specs.declared.counter.Added.{Added}
 
 -- the record of a number
@@ -53,3 +54,24 @@ pub record CounterIs (words : List ℕ) (sum : ℕ) : Type 0 where
   pub cell : ℕ
   pub named : field_of core 0 0 ≡ field.Cell cell
   pub is : field_of core cell 0 ≡ field.Num sum
+
+-- The number that a field is, that of the record which a field names, and so of the anchor.
+
+abbrev pub number_in : Field → Option ℕ
+number_in field.Null = None
+number_in (field.Num n) = Some n
+number_in (field.Cell c) = None
+
+abbrev pub number_behind : State → Field → Option ℕ
+number_behind s field.Null = None
+number_behind s (field.Num n) = None
+number_behind s (field.Cell c) = number_in (field_of s c 0)
+
+abbrev pub counter_in : State → Option ℕ
+counter_in s = number_behind s (field_of s 0 0)
+
+-- the image shows a state whose counter is this
+pub record ShowsCounter (image : ImageView) (sum : ℕ) : Type 0 where
+  pub core : State
+  pub shows : Shows image core
+  pub counter : counter_in core ≡ Some sum

@@ -2,7 +2,7 @@
 ghost use Rattle.std.specs.Prelude.{◌≡◌, ◌≤◌, ◌+◌, IfOk, length};
 ghost use Rattle.heap_table.specs.Seats.{IsSeatOf};
 ghost use Rattle.shared_counter.specs.Adding.{IsDone, IsOpened};
-ghost use Rattle.shared_counter.specs.Counting.{CounterIs};
+ghost use Rattle.shared_counter.specs.Counting.{CounterIs, ShowsCounter};
 
 use crate::counter::Added;
 use cell_heap::{CellHeap, ColSeat, Image, MutSeat, NoMemory};
@@ -66,6 +66,7 @@ pub(crate) fn close_four(
     requires third { IsDone heap 2 third.1 third.0 }
     requires fourth { IsDone heap 3 fourth.1 fourth.0 }
     ensures counter { CounterIs result.words (first.1 + second.1 + third.1 + fourth.1) }
+    ensures shown { ShowsCounter result (first.1 + second.1 + third.1 + fourth.1) }
     ensures cells { result.cells ≡ heap.shape.cells }
 {
     let mut collector = collector;

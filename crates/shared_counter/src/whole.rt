@@ -1,4 +1,9 @@
 //! The whole run: a heap is opened, four threads add beside the collector, and it is closed.
+ghost use Rattle.std.specs.Prelude.{◌≡◌, ◌<◌, IfOk, Some, ℕ};
+ghost use Rattle.core_machine.specs.State.{State, field_of};
+ghost use Rattle.heap_table.specs.Images.{Shows};
+ghost use Rattle.shared_counter.specs.Counting.{ShowsCounter, counter_in, number_in};
+
 use crate::closing::{Opened, close_four, open_four};
 use crate::counter::Added;
 use crate::running::{Worker, nursery};
@@ -14,17 +19,36 @@ use std::thread::Threads;
 /// How many cells there are: far fewer than the records that the threads make.
 const CELLS: u32 = 64;
 
-/// The number of the record that the anchor names.
-fn counter_of(image: &Image) -> Option<u64> {
-    if image.cells() == 0 {
-        return None;
+/// A field of a cell, and null where there is no such cell.
+fn field_at(image: &Image, cell: u32, i: usize) -> Field
+    requires { i < 6 }
+    ensures field { (s : State) → Shows image.now s → result ≡ field_of s cell i }
+{
+    if cell < image.cells() {
+        image.field(cell, i)
+    } else {
+        Field::Null
     }
-    match image.field(0, 0) {
-        Field::Cell(cell) if cell < image.cells() => match image.field(cell, 0) {
-            Field::Num(number) => Some(number),
-            Field::Null | Field::Cell(_) => None,
-        },
-        Field::Cell(_) | Field::Null | Field::Num(_) => None,
+}
+
+/// The number that a field is.
+fn number_of(field: Field) -> Option<u64>
+    ensures number { result ≡ number_in field }
+{
+    match field {
+        Field::Num(number) => Some(number),
+        Field::Null | Field::Cell(_) => None,
+    }
+}
+
+/// The number of the record that the anchor names.
+fn counter_of(image: &Image) -> Option<u64>
+    ensures counter { (s : State) → Shows image.now s → result ≡ counter_in s }
+    ensures shown { (sum : ℕ) → ShowsCounter image.now sum → result ≡ Some sum }
+{
+    match field_at(image, 0, 0) {
+        Field::Cell(cell) => number_of(field_at(image, cell, 0)),
+        Field::Null | Field::Num(_) => None,
     }
 }
 
@@ -40,7 +64,9 @@ pub(crate) struct Ran {
 }
 
 /// Four threads add to the counter of a new heap, beside the collector.
-pub(crate) fn run<R: Threads + Wait + Sync>(alloc: Global, rt: &R) -> Result<Ran, NoMemory> {
+pub(crate) fn run<R: Threads + Wait + Sync>(alloc: Global, rt: &R) -> Result<Ran, NoMemory>
+    ensures counter { IfOk result (λ ran. ran.counter ≡ Some ran.sum) }
+{
     let (queue, mut pass) = FreeQueue::open(alloc, rt, CELLS, 2)?;
     let passes = (
         queue.split(&mut pass)?,
