@@ -12,7 +12,7 @@ use Rattle.script_files.specs.Replayed.{IsFaultySchedule, IsSchedule}
 use Rattle.script_files.specs.Scripts.{IsDue, IsUnhindered, largest_file, most_commands, scripts_of}
 use Rattle.doc_run.proofs.Due.{run_due, wanting_due}
 use Rattle.script_files.specs.Fault.{status_of}
-use Rattle.script_files.specs.Scripts.{AreScripts}
+use Rattle.script_files.specs.Scripts.{AreScripts, StopsBehind}
 use Rattle.script_files.specs.declared.fault.Fault.{Fault}
 use Rattle.store_run.specs.declared.finished.Finished.{Finished}
 use Rattle.doc_run.specs.Clients.{options_of}
@@ -131,6 +131,25 @@ due_asked asked run holds fault finished status is same explained =
     IsDue (scripts_of contents) status))) (sym is)
     (run_due (map holds run.files) (options_of run) fault finished status same explained)
 
+-- which files a run opened at most
+pub stops_asked : (asked : Option Asked) (run : RunAsked) (holds : List ℕ → Option (List ℕ))
+    (before now : ℕ) → asked ≡ Some (Run run)
+    → StopsBehind 1 0 (map holds run.files) before now
+    → IfRun asked (λ these. StopsBehind 1 0 (map holds these.files) before now)
+stops_asked asked run holds before now is stops =
+    subst (λ a. IfRun a (λ these. StopsBehind 1 0 (map holds these.files) before now)) (sym is)
+    stops
+
+-- no file was opened
+stops_none : (file before opens : ℕ) (told : List (Option (List ℕ)))
+    → StopsBehind file before told opens opens
+stops_none file before opens told = (0, refl, 0, omega arith, omega arith, refl)
+
+pub unread_stops : (asked : Option Asked) (holds : List ℕ → Option (List ℕ)) (opens : ℕ)
+    → IfRun asked (λ run. StopsBehind 1 0 (map holds run.files) opens opens)
+unread_stops asked holds opens =
+    if_run asked _ (λ run. stops_none 1 0 opens (map holds run.files))
+
 -- the file of a replay
 pub opens_replay : (asked : Option Asked) (name : List ℕ) (status before now : ℕ)
     → asked ≡ Some (Replay name) → now ≡ next_count before
@@ -152,5 +171,6 @@ pub ruleset asking = (
   opens_one,
   opens_all,
   due_asked,
+  unread_stops,
   opens_replay,
 )

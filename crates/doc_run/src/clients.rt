@@ -8,7 +8,7 @@ ghost use Rattle.run_words.specs.Limits.{IsGenWithin, IsRunWithin};
 ghost use Rattle.run_words.specs.Requests.{run_asked_by};
 ghost use Rattle.script_files.specs.Files.{OpensInTurn, files_read, opened};
 ghost use Rattle.script_files.specs.Reading.{lists_of};
-ghost use Rattle.script_files.specs.Scripts.{AreScripts};
+ghost use Rattle.script_files.specs.Scripts.{AreScripts, StopsBehind};
 ghost use Rattle.store_run.specs.Opened.{IsWithin};
 
 use doc_model::Command;
@@ -48,6 +48,8 @@ pub fn run_files<R: Threads + Wait + Sync, H: Shelf, G: Gate + Sync>(
         H.opens shelf.new ≡ opened (H.opens shelf.old) file }
     ensures opens { OpensInTurn (H.opens shelf.old) (H.opens shelf.new)
         (files_read (length run.now.files.items)) }
+    ensures stops { StopsBehind 1 0 (map (H.holds shelf.old) (run_asked_by run.now).files)
+        (H.opens shelf.old) (H.opens shelf.new) }
     ensures calls { H.calls shelf.new
         ≤ H.calls shelf.old + files_read (length run.now.files.items) * (READ_LIMIT + 1) }
     ensures orderly { IsUnbroken (H.course shelf.old) → IsOrderly (H.course shelf.new) }

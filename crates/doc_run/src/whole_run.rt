@@ -23,8 +23,8 @@ ghost use Rattle.run_words.specs.Requests.{request_of, run_asked_by};
 ghost use Rattle.script_files.specs.Fault.{status_of};
 ghost use Rattle.script_files.specs.Files.{IfTold, OpensInTurn, files_read, opened};
 ghost use Rattle.script_files.specs.Replayed.{IsFaultySchedule, IsReading, IsSchedule, IsTextOf};
-ghost use Rattle.script_files.specs.Scripts.{AreScripts, IsDue, IsUnhindered, largest_file};
-ghost use Rattle.script_files.specs.Scripts.{most_commands, scripts_of};
+ghost use Rattle.script_files.specs.Scripts.{AreScripts, IsDue, IsUnhindered, StopsBehind};
+ghost use Rattle.script_files.specs.Scripts.{largest_file, most_commands, scripts_of};
 
 use crate::clients::run_files;
 use crate::generated::run_generated;
@@ -137,9 +137,12 @@ pub fn run<R: Threads + Wait + Sync, H: Shelf, S: Sink, G: Gate + Sync>(
     ensures orderly_sink { IsUnbroken (S.course sink.old) → IsOrderly (S.course sink.new) }
 
     // A file is opened once at most, and each further call but the last takes at least a byte of
-    // it. Too many files are not opened at all.
+    // it. Too many files are not opened at all, and none is opened behind one that is refused.
     ensures opens { OpensFiles result.status (H.opens shelf.old) (H.opens shelf.new)
         (files_read (length (names_of (request_of words.now)))) }
+    ensures stops { IfRun (request_of words.now) (λ run.
+        StopsBehind 1 0 (map (H.holds shelf.old) run.files)
+        (H.opens shelf.old) (H.opens shelf.new)) }
     ensures calls { H.calls shelf.new ≤ H.calls shelf.old
         + files_read (length (names_of (request_of words.now))) * (READ_LIMIT + 1) }
 {
@@ -180,6 +183,8 @@ fn run_scripts<R: Threads + Wait + Sync, H: Shelf, S: Sink, G: Gate + Sync>(
     ensures orderly_sink { IsUnbroken (S.course sink.old) → IsOrderly (S.course sink.new) }
     ensures opens { OpensInTurn (H.opens shelf.old) (H.opens shelf.new)
         (files_read (length run.now.files.items)) }
+    ensures stops { StopsBehind 1 0 (map (H.holds shelf.old) (run_asked_by run.now).files)
+        (H.opens shelf.old) (H.opens shelf.new) }
     ensures calls { H.calls shelf.new
         ≤ H.calls shelf.old + files_read (length run.now.files.items) * (READ_LIMIT + 1) }
 {

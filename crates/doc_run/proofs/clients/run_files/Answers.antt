@@ -4,7 +4,7 @@ use Rattle.std.specs.declared.alloc.Global.{Global}
 use Rattle.doc_model.specs.declared.command.Command.{Command}
 use Rattle.run_words.specs.Requests.{run_asked_by}
 use Rattle.script_files.specs.Reading.{lists_of}
-use Rattle.script_files.specs.Scripts.{AreScripts}
+use Rattle.script_files.specs.Scripts.{AreScripts, StopsBehind}
 use Rattle.doc_run.specs.Clients.{options_of}
 use Rattle.doc_run.proofs.Deciding.{decided}
 use Rattle.doc_run.proofs.clients.run_files.Goals as goal
@@ -22,3 +22,19 @@ returns-in-Ok-clause-finished g c =
     (Ok (lists_of c.in-Ok.scripts.items)))
     c.deref.ensures.value c.in-Ok.ensures.scripts))
     c.options.ensures c.run_all.ensures
+
+pub returns-in-Ok-clause-stops : goal.returns-in-Ok-clause-stops
+returns-in-Ok-clause-stops g c =
+    subst
+    (λ (names : List (Bor (List ℕ))). StopsBehind 1 0
+    (map (g.H.Shelf.holds c.args.shelf.now) (map (λ name. name.now) names))
+    (g.H.Shelf.opens c.args.shelf.now) (g.H.Shelf.opens c.scripts_in_files.new.shelf))
+    c.deref.ensures.value c.in-Ok.ensures.stops
+
+pub returns-in-Err-clause-stops : goal.returns-in-Err-clause-stops
+returns-in-Err-clause-stops g c =
+    subst
+    (λ (names : List (Bor (List ℕ))). StopsBehind 1 0
+    (map (g.H.Shelf.holds c.args.shelf.now) (map (λ name. name.now) names))
+    (g.H.Shelf.opens c.args.shelf.now) (g.H.Shelf.opens c.scripts_in_files.new.shelf))
+    c.deref.ensures.value c.in-Err.ensures.stops

@@ -1,6 +1,7 @@
 use Rattle.std.proofs.Common.{◌≡◌, ◌∙◌, Some, ap, subst}
 use Rattle.run_words.specs.Requests.{Run, Replay, asked_by, request_of, run_asked_by}
-use Rattle.doc_run.proofs.Asking.{due_asked, opens_replay, unread_scripts}
+use Rattle.doc_run.proofs.Asking.{due_asked, opens_replay, stops_asked, unread_scripts}
+use Rattle.doc_run.proofs.Asking.{unread_stops}
 use Rattle.doc_run.proofs.whole_run.run.Goals as goal
 
 pub returns-in-Ok-Run-clause-scripts : goal.returns-in-Ok-Run-clause-scripts
@@ -13,6 +14,21 @@ returns-in-Ok-Run-clause-scripts g c =
     (g.H.Shelf.holds c.args.shelf.now) c.run_scripts.result.fault c.run_scripts.result.finished
     c.run_scripts.result.status asked c.run_scripts.ensures.status
     c.run_scripts.ensures.explained
+
+pub returns-in-Ok-Run-clause-stops : goal.returns-in-Ok-Run-clause-stops
+returns-in-Ok-Run-clause-stops g c =
+    let asked : request_of c.args.words.now ≡ Some (Run (run_asked_by c.in-Ok-Run.run')) =
+    subst (λ words. request_of words ≡ Some (Run (run_asked_by c.in-Ok-Run.run')))
+    c.all.ensures (c.in-Ok-Run.ensures.request
+    ∙ ap (λ request. Some (asked_by request)) c.in-Ok-Run.field-0-is) in
+    stops_asked (request_of c.args.words.now) (run_asked_by c.in-Ok-Run.run')
+    (g.H.Shelf.holds c.args.shelf.now) (g.H.Shelf.opens c.args.shelf.now)
+    (g.H.Shelf.opens c.run_scripts.new.shelf) asked c.run_scripts.ensures.stops
+
+pub returns-in-Err-NoMemory-clause-stops : goal.returns-in-Err-NoMemory-clause-stops
+returns-in-Err-NoMemory-clause-stops g c =
+    unread_stops (request_of c.args.words.now) (g.H.Shelf.holds c.args.shelf.now)
+    (g.H.Shelf.opens c.args.shelf.now)
 
 pub returns-in-Ok-Replay-clause-opens : goal.returns-in-Ok-Replay-clause-opens
 returns-in-Ok-Replay-clause-opens g c =
