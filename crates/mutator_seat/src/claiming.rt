@@ -35,11 +35,12 @@ const WAITS: u32 = 1000;
 const TRIES: u32 = 64;
 
 /// The cycles that are ended or under way.
-fn begun(control: Control) -> u64
+fn begun(control: Control) -> u32
+    requires few { control.cycles ≤ 4000000000 }
     ensures begun { result ≡ begun_of control }
-    ensures few { result ≤ 4294967296 }
+    ensures few { result ≤ 4000000001 }
 {
-    let ended = u64::from(control.cycles);
+    let ended = control.cycles;
     match control.stage {
         Stage::Idle => ended,
         Stage::Sync1 => ended + 1,
@@ -52,11 +53,11 @@ fn begun(control: Control) -> u64
 
 /// Whether waiting is of no more use: the collector is off duty, or two whole cycles began and ended
 /// since so many were begun.
-fn decides(began: u64, control: Control) -> bool
-    requires few { began ≤ 4294967296 }
+fn decides(began: u32, control: Control) -> bool
+    requires few { began ≤ 4000000001 }
     ensures decides { result ≡ decides began control }
 {
-    !control.duty || began + 2 <= u64::from(control.cycles)
+    !control.duty || began + 2 <= control.cycles
 }
 
 /// Lets other threads run for a while.
@@ -95,11 +96,11 @@ impl<'a, P: Keeping> Mutator<'a, P> {
         &mut self,
         rt: &R,
         hints: &mut Hints<'_>,
-        began: u64,
+        began: u32,
     ) -> Result<usize, HeapFull>
         requires inside { self.old.seat.me.presence.inside ≡ true }
         requires room { length self.old.seat.me.own.held < self.old.seat.me.room }
-        requires few { began ≤ 4294967296 }
+        requires few { began ≤ 4000000001 }
         ensures got { IfOk result (λ place. Claimed self.old place self.new) }
         ensures full { IfErr result (λ full. Calm (FullBehind self.old.seat.me.number self.old.seat.me.shape.cells
             began full) self.old self.new) }
@@ -134,7 +135,7 @@ impl<'a, P: Keeping> Mutator<'a, P> {
     }
 
     /// Tries every cell behind the look that decided.
-    fn try_last(&mut self, began: u64, control: Control) -> Result<usize, HeapFull>
+    fn try_last(&mut self, began: u32, control: Control) -> Result<usize, HeapFull>
         requires inside { self.old.seat.me.presence.inside ≡ true }
         requires room { length self.old.seat.me.own.held < self.old.seat.me.room }
         requires mode { HasMode self.old }

@@ -23,6 +23,7 @@ impl<'a, P: Keeping> Mutator<'a, P> {
     pub(crate) fn look_once(&mut self) -> Control
         requires inside { self.old.seat.me.presence.inside ≡ true }
         ensures told { self.new ≡ takes self.old (event.Look self.old.seat.me.number) (finds.Control result) }
+        ensures few { result.cycles ≤ 4000000000 }
     {
         self.seat.look(self.heap)
     }
