@@ -77,7 +77,8 @@ impl<'a, P: Keeping> Mutator<'a, P> {
         requires inside { self.old.seat.me.presence.inside ≡ true }
         requires room { length self.old.seat.me.own.held < self.old.seat.me.room }
         ensures got { IfOk result (λ place. Claimed self.old place self.new) }
-        ensures full { IfErr result (λ full. Calm (FindsFull self.old.seat.me.number self.old.seat.me.shape.cells
+        ensures full { IfErr result (λ full.
+            Calm (FindsFull self.old.seat.me.number self.old.seat.me.shape.cells
             full.off_duty full.began full.ended) self.old self.new) }
         ensures seeking { IfErr result (λ full. Calm Seeking self.old self.new) }
         ensures queue { queue_of hints.new ≡ queue_of hints.old }
@@ -102,7 +103,8 @@ impl<'a, P: Keeping> Mutator<'a, P> {
         requires room { length self.old.seat.me.own.held < self.old.seat.me.room }
         requires few { began ≤ 4000000001 }
         ensures got { IfOk result (λ place. Claimed self.old place self.new) }
-        ensures full { IfErr result (λ full. Calm (FullBehind self.old.seat.me.number self.old.seat.me.shape.cells
+        ensures full { IfErr result (λ full.
+            Calm (FullBehind self.old.seat.me.number self.old.seat.me.shape.cells
             began full) self.old self.new) }
         ensures seeking { IfErr result (λ full. Calm Seeking self.old self.new) }
         ensures queue { queue_of hints.new ≡ queue_of hints.old }
@@ -140,8 +142,10 @@ impl<'a, P: Keeping> Mutator<'a, P> {
         requires room { length self.old.seat.me.own.held < self.old.seat.me.room }
         requires mode { HasMode self.old }
         ensures got { IfOk result (λ place. Claimed self.old place self.new) }
-        ensures full { IfErr result (λ full. full ≡ record { off_duty = not control.duty; began = began; ended = control.cycles }) }
-        ensures tried { IfErr result (λ full. Calm (AllUsed 0 self.old.seat.me.shape.cells) self.old self.new) }
+        ensures full { IfErr result (λ full. full
+            ≡ record { off_duty = not control.duty; began = began; ended = control.cycles }) }
+        ensures tried { IfErr result (λ full.
+            Calm (AllUsed 0 self.old.seat.me.shape.cells) self.old self.new) }
         ensures seeking { IfErr result (λ full. Calm Seeking self.old self.new) }
     {
         match self.try_all() {
@@ -198,7 +202,8 @@ impl<'a, P: Keeping> Mutator<'a, P> {
         requires room { length self.old.seat.me.own.held < self.old.seat.me.room }
         requires mode { HasMode self.old }
         ensures got { IfSome result (λ place. Claimed self.old place self.new) }
-        ensures cell { IfSome result (λ place. held_cells self.new ≡ held_cells self.old ++ cell ∷ []) }
+        ensures cell { IfSome result (λ place. held_cells self.new
+            ≡ held_cells self.old ++ cell ∷ []) }
         ensures none { IfNone result (Calm Seeking self.old self.new) }
         ensures used { cell < self.old.seat.me.shape.cells
             → IfNone result (Calm (AllUsed cell (cell + 1)) self.old self.new) }
@@ -244,7 +249,8 @@ impl<'a, P: Keeping> Mutator<'a, P> {
     fn try_cell(&mut self, cell: u32) -> Option<usize>
         requires may { MayClaim self.old.seat.me cell }
         ensures got { IfSome result (λ place. Claimed self.old place self.new) }
-        ensures cell { IfSome result (λ place. held_cells self.new ≡ held_cells self.old ++ cell ∷ []) }
+        ensures cell { IfSome result (λ place. held_cells self.new
+            ≡ held_cells self.old ++ cell ∷ []) }
         ensures none { IfNone result (Calm (AllUsed cell (cell + 1)) self.old self.new) }
         ensures seeking { IfNone result (Calm Seeking self.old self.new) }
         ensures mode { IfNone result (HasMode self.new) }
@@ -261,7 +267,8 @@ impl<'a, P: Keeping> Mutator<'a, P> {
     fn claim_once(&mut self, cell: u32) -> bool
         requires may { MayClaim self.old.seat.me cell }
         ensures told { (found : Colour) × (result ≡ is_blue found)
-            × (self.new ≡ takes self.old (event.Claim self.old.seat.me.number cell) (finds.Colour found)) }
+            × (self.new ≡ takes self.old (event.Claim self.old.seat.me.number cell)
+                (finds.Colour found)) }
         ensures new { result ≡ true → IsNewTo (held_cells self.old) self.old.seat.me.known cell }
     {
         self.seat.claim(self.heap, cell)
