@@ -45,15 +45,23 @@ impl<'a, M: ClientSeat> RecordPool for ClientRecords<'a, M> {
         requires third { Stands (shown_by (M.bound self.old.mutator.now) self.old.minor.now (self.old.mutator.ghost_name, self.old.minor.ghost_name)) third }
         requires fourth { Stands (shown_by (M.bound self.old.mutator.now) self.old.minor.now (self.old.mutator.ghost_name, self.old.minor.ghost_name)) fourth }
         requires fifth { Stands (shown_by (M.bound self.old.mutator.now) self.old.minor.now (self.old.mutator.ghost_name, self.old.minor.ghost_name)) fifth }
-        requires records { 1 ≤ (shown_by (M.bound self.old.mutator.now) self.old.minor.now (self.old.mutator.ghost_name, self.old.minor.ghost_name)).records }
-        ensures term { (shown_by (M.bound self.new.mutator.now) self.new.minor.now (self.new.mutator.ghost_name, self.new.minor.ghost_name)).term result ≡ five
+        requires records { 1 ≤ (shown_by (M.bound self.old.mutator.now) self.old.minor.now
+            (self.old.mutator.ghost_name, self.old.minor.ghost_name)).records }
+        ensures term { (shown_by (M.bound self.new.mutator.now) self.new.minor.now
+            (self.new.mutator.ghost_name, self.new.minor.ghost_name)).term result ≡ five
             (part_term (shown_by (M.bound self.old.mutator.now) self.old.minor.now (self.old.mutator.ghost_name, self.old.minor.ghost_name)).term first) (part_term (shown_by (M.bound self.old.mutator.now) self.old.minor.now (self.old.mutator.ghost_name, self.old.minor.ghost_name)).term second)
             (part_term (shown_by (M.bound self.old.mutator.now) self.old.minor.now (self.old.mutator.ghost_name, self.old.minor.ghost_name)).term third) (part_term (shown_by (M.bound self.old.mutator.now) self.old.minor.now (self.old.mutator.ghost_name, self.old.minor.ghost_name)).term fourth)
             (part_term (shown_by (M.bound self.old.mutator.now) self.old.minor.now (self.old.mutator.ghost_name, self.old.minor.ghost_name)).term fifth) }
         ensures stands { (shown_by (M.bound self.new.mutator.now) self.new.minor.now (self.new.mutator.ghost_name, self.new.minor.ghost_name)).stands (shown_by (M.bound self.new.mutator.now) self.new.minor.now (self.new.mutator.ghost_name, self.new.minor.ghost_name)).held result }
         ensures later { Later (shown_by (M.bound self.old.mutator.now) self.old.minor.now (self.old.mutator.ghost_name, self.old.minor.ghost_name)) (shown_by (M.bound self.new.mutator.now) self.new.minor.now (self.new.mutator.ghost_name, self.new.minor.ghost_name)) }
-        ensures held { (shown_by (M.bound self.new.mutator.now) self.new.minor.now (self.new.mutator.ghost_name, self.new.minor.ghost_name)).held ≡ (shown_by (M.bound self.old.mutator.now) self.old.minor.now (self.old.mutator.ghost_name, self.old.minor.ghost_name)).held }
-        ensures records { (shown_by (M.bound self.old.mutator.now) self.old.minor.now (self.old.mutator.ghost_name, self.old.minor.ghost_name)).records ≡ (shown_by (M.bound self.new.mutator.now) self.new.minor.now (self.new.mutator.ghost_name, self.new.minor.ghost_name)).records + 1 }
+        ensures held { (shown_by (M.bound self.new.mutator.now) self.new.minor.now
+            (self.new.mutator.ghost_name, self.new.minor.ghost_name)).held
+            ≡ (shown_by (M.bound self.old.mutator.now) self.old.minor.now
+            (self.old.mutator.ghost_name, self.old.minor.ghost_name)).held }
+        ensures records { (shown_by (M.bound self.old.mutator.now) self.old.minor.now
+            (self.old.mutator.ghost_name, self.old.minor.ghost_name)).records
+            ≡ (shown_by (M.bound self.new.mutator.now) self.new.minor.now
+            (self.new.mutator.ghost_name, self.new.minor.ghost_name)).records + 1 }
     {
         let _records = self.minor.len();
         let fields = [

@@ -67,7 +67,7 @@ fn a_full_heap_is_refused_behind_two_whole_cycles(rt: HostRuntime) -> Result<(),
         None => assert!(rt; false, "no claim was refused"),
         Some(full) => {
             assert!(rt; !full.off_duty);
-            let behind = u64::from(full.ended).checked_sub(full.began);
+            let behind = full.ended.checked_sub(full.began);
             assert!(rt; behind.is_some_and(|cycles| cycles >= 2));
         }
     }

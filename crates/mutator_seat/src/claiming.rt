@@ -35,11 +35,12 @@ const WAITS: u32 = 1000;
 const TRIES: u32 = 64;
 
 /// The cycles that are ended or under way.
-fn begun(control: Control) -> u64
+fn begun(control: Control) -> u32
+    requires few { control.cycles ≤ 4000000000 }
     ensures begun { result ≡ begun_of control }
-    ensures few { result ≤ 4294967296 }
+    ensures few { result ≤ 4000000001 }
 {
-    let ended = u64::from(control.cycles);
+    let ended = control.cycles;
     match control.stage {
         Stage::Idle => ended,
         Stage::Sync1 => ended + 1,
@@ -52,11 +53,11 @@ fn begun(control: Control) -> u64
 
 /// Whether waiting is of no more use: the collector is off duty, or two whole cycles began and ended
 /// since so many were begun.
-fn decides(began: u64, control: Control) -> bool
-    requires few { began ≤ 4294967296 }
+fn decides(began: u32, control: Control) -> bool
+    requires few { began ≤ 4000000001 }
     ensures decides { result ≡ decides began control }
 {
-    !control.duty || began + 2 <= u64::from(control.cycles)
+    !control.duty || began + 2 <= control.cycles
 }
 
 /// Lets other threads run for a while.
@@ -76,7 +77,8 @@ impl<'a, P: Keeping> Mutator<'a, P> {
         requires inside { self.old.seat.me.presence.inside ≡ true }
         requires room { length self.old.seat.me.own.held < self.old.seat.me.room }
         ensures got { IfOk result (λ place. Claimed self.old place self.new) }
-        ensures full { IfErr result (λ full. Calm (FindsFull self.old.seat.me.number self.old.seat.me.shape.cells
+        ensures full { IfErr result (λ full.
+            Calm (FindsFull self.old.seat.me.number self.old.seat.me.shape.cells
             full.off_duty full.began full.ended) self.old self.new) }
         ensures seeking { IfErr result (λ full. Calm Seeking self.old self.new) }
         ensures queue { queue_of hints.new ≡ queue_of hints.old }
@@ -95,13 +97,14 @@ impl<'a, P: Keeping> Mutator<'a, P> {
         &mut self,
         rt: &R,
         hints: &mut Hints<'_>,
-        began: u64,
+        began: u32,
     ) -> Result<usize, HeapFull>
         requires inside { self.old.seat.me.presence.inside ≡ true }
         requires room { length self.old.seat.me.own.held < self.old.seat.me.room }
-        requires few { began ≤ 4294967296 }
+        requires few { began ≤ 4000000001 }
         ensures got { IfOk result (λ place. Claimed self.old place self.new) }
-        ensures full { IfErr result (λ full. Calm (FullBehind self.old.seat.me.number self.old.seat.me.shape.cells
+        ensures full { IfErr result (λ full.
+            Calm (FullBehind self.old.seat.me.number self.old.seat.me.shape.cells
             began full) self.old self.new) }
         ensures seeking { IfErr result (λ full. Calm Seeking self.old self.new) }
         ensures queue { queue_of hints.new ≡ queue_of hints.old }
@@ -134,13 +137,15 @@ impl<'a, P: Keeping> Mutator<'a, P> {
     }
 
     /// Tries every cell behind the look that decided.
-    fn try_last(&mut self, began: u64, control: Control) -> Result<usize, HeapFull>
+    fn try_last(&mut self, began: u32, control: Control) -> Result<usize, HeapFull>
         requires inside { self.old.seat.me.presence.inside ≡ true }
         requires room { length self.old.seat.me.own.held < self.old.seat.me.room }
         requires mode { HasMode self.old }
         ensures got { IfOk result (λ place. Claimed self.old place self.new) }
-        ensures full { IfErr result (λ full. full ≡ record { off_duty = not control.duty; began = began; ended = control.cycles }) }
-        ensures tried { IfErr result (λ full. Calm (AllUsed 0 self.old.seat.me.shape.cells) self.old self.new) }
+        ensures full { IfErr result (λ full. full
+            ≡ record { off_duty = not control.duty; began = began; ended = control.cycles }) }
+        ensures tried { IfErr result (λ full.
+            Calm (AllUsed 0 self.old.seat.me.shape.cells) self.old self.new) }
         ensures seeking { IfErr result (λ full. Calm Seeking self.old self.new) }
     {
         match self.try_all() {
@@ -197,7 +202,8 @@ impl<'a, P: Keeping> Mutator<'a, P> {
         requires room { length self.old.seat.me.own.held < self.old.seat.me.room }
         requires mode { HasMode self.old }
         ensures got { IfSome result (λ place. Claimed self.old place self.new) }
-        ensures cell { IfSome result (λ place. held_cells self.new ≡ held_cells self.old ++ cell ∷ []) }
+        ensures cell { IfSome result (λ place. held_cells self.new
+            ≡ held_cells self.old ++ cell ∷ []) }
         ensures none { IfNone result (Calm Seeking self.old self.new) }
         ensures used { cell < self.old.seat.me.shape.cells
             → IfNone result (Calm (AllUsed cell (cell + 1)) self.old self.new) }
@@ -243,7 +249,8 @@ impl<'a, P: Keeping> Mutator<'a, P> {
     fn try_cell(&mut self, cell: u32) -> Option<usize>
         requires may { MayClaim self.old.seat.me cell }
         ensures got { IfSome result (λ place. Claimed self.old place self.new) }
-        ensures cell { IfSome result (λ place. held_cells self.new ≡ held_cells self.old ++ cell ∷ []) }
+        ensures cell { IfSome result (λ place. held_cells self.new
+            ≡ held_cells self.old ++ cell ∷ []) }
         ensures none { IfNone result (Calm (AllUsed cell (cell + 1)) self.old self.new) }
         ensures seeking { IfNone result (Calm Seeking self.old self.new) }
         ensures mode { IfNone result (HasMode self.new) }
@@ -260,7 +267,8 @@ impl<'a, P: Keeping> Mutator<'a, P> {
     fn claim_once(&mut self, cell: u32) -> bool
         requires may { MayClaim self.old.seat.me cell }
         ensures told { (found : Colour) × (result ≡ is_blue found)
-            × (self.new ≡ takes self.old (event.Claim self.old.seat.me.number cell) (finds.Colour found)) }
+            × (self.new ≡ takes self.old (event.Claim self.old.seat.me.number cell)
+                (finds.Colour found)) }
         ensures new { result ≡ true → IsNewTo (held_cells self.old) self.old.seat.me.known cell }
     {
         self.seat.claim(self.heap, cell)

@@ -15,7 +15,8 @@ impl<'a, P: Keeping> Mutator<'a, P> {
     /// Comes in, with the anchor at place 0 and nothing else.
     pub fn begin(&mut self)
         requires out { self.old.seat.me.presence.inside ≡ false }
-        ensures told { (status : Status) × (self.new ≡ takes self.old (event.Begin self.old.seat.me.number)
+        ensures told { (status : Status)
+            × (self.new ≡ takes self.old (event.Begin self.old.seat.me.number)
             (finds.Presence (record self.old.seat.me.presence { status = status }))) }
         ensures inside { self.new.seat.me.presence.inside ≡ true }
         ensures held { held_cells self.new ≡ 0 ∷ [] }
@@ -26,7 +27,8 @@ impl<'a, P: Keeping> Mutator<'a, P> {
     /// Goes out, and holds nothing.
     pub fn end(&mut self)
         requires inside { self.old.seat.me.presence.inside ≡ true }
-        ensures told { self.new ≡ takes self.old (event.End self.old.seat.me.number) (finds.Presence self.old.seat.me.presence) }
+        ensures told { self.new ≡ takes self.old (event.End self.old.seat.me.number)
+            (finds.Presence self.old.seat.me.presence) }
         ensures out { self.new.seat.me.presence.inside ≡ false }
         ensures held { held_cells self.new ≡ [] }
     {
@@ -36,7 +38,8 @@ impl<'a, P: Keeping> Mutator<'a, P> {
     /// Is over: the seat never comes in again, and may be joined.
     pub fn finish(self) -> MutSeat<P>
         requires out { self.seat.me.presence.inside ≡ false }
-        ensures told { (status : Status) × (result ≡ tells self.entry.seat (event.Over self.entry.seat.me.number)
+        ensures told { (status : Status)
+            × (result ≡ tells self.entry.seat (event.Over self.entry.seat.me.number)
             (finds.Presence (record self.entry.seat.me.presence { status = status }))) }
         ensures over { result.me.presence.over ≡ true }
     {

@@ -5,7 +5,7 @@ pub struct HeapFull {
     /// whether that look found the collector off duty
     pub off_duty: bool,
     /// the cycles that were ended or under way at the first look of the call
-    pub began: u64,
+    pub began: u32,
     /// the cycles that had ended at that look
     pub ended: u32,
 }

@@ -32,7 +32,8 @@ impl<'a, P: Keeping> Mutator<'a, P> {
     pub fn answer(&mut self) -> bool
         requires inside { self.old.seat.me.presence.inside ≡ true }
         ensures calm { Calm (LookAndAnswer self.old.seat.me.number self.old.seat.me.presence.status result) self.old self.new }
-        ensures status { self.new.seat.me.presence.status ≡ status_behind result self.old.seat.me.presence.status }
+        ensures status { self.new.seat.me.presence.status
+            ≡ status_behind result self.old.seat.me.presence.status }
     {
         let control = self.look_once();
         if asks_next(control, self.status()) {
@@ -46,9 +47,11 @@ impl<'a, P: Keeping> Mutator<'a, P> {
     /// Marks what is to be marked, and answers.
     pub(crate) fn answer_asked(&mut self)
         requires inside { self.old.seat.me.presence.inside ≡ true }
-        requires asked { requests self.old.seat.me.own.mode (next_status_of self.old.seat.me.presence.status) ≡ true }
+        requires asked { requests self.old.seat.me.own.mode
+            (next_status_of self.old.seat.me.presence.status) ≡ true }
         ensures calm { Calm (Answering self.old.seat.me.number) self.old self.new }
-        ensures status { self.new.seat.me.presence.status ≡ next_status_of self.old.seat.me.presence.status }
+        ensures status { self.new.seat.me.presence.status
+            ≡ next_status_of self.old.seat.me.presence.status }
     {
         self.mark_before_third();
         self.answer_once();

@@ -21,11 +21,14 @@ impl<'a, P: Keeping> Mutator<'a, P> {
     /// caller picks its pass by what the read tells.
     pub fn read<C: Choice<P>>(&mut self, place: usize, field: usize) -> Value
         requires may { MayRead self.old.seat.me place field }
-        requires rule { Picks P.holds P.fixed C.next self.old.seat.me (event.Read self.old.seat.me.number place field) }
+        requires rule { Picks P.holds P.fixed C.next self.old.seat.me
+            (event.Read self.old.seat.me.number place field) }
         ensures heap { self.new.heap ≡ self.old.heap }
         ensures table { self.new.seat.table ≡ self.old.seat.table }
-        ensures told { (found : Field) × (result ≡ value_found (length self.old.seat.me.own.held) found)
-            × AtEvent P.holds P.fixed self.old.seat.me (event.Read self.old.seat.me.number place field) C.next
+        ensures told { (found : Field) × (result
+            ≡ value_found (length self.old.seat.me.own.held) found)
+            × AtEvent P.holds P.fixed self.old.seat.me
+                (event.Read self.old.seat.me.number place field) C.next
             (finds.Field found) self.new.seat.me }
     {
         self.seat.read::<C>(self.heap, place, field)
@@ -35,9 +38,11 @@ impl<'a, P: Keeping> Mutator<'a, P> {
     pub fn fill<C: Choice<P>>(&mut self, place: usize, field: usize, value: Value)
         requires may { MayFill self.old.seat.me place field (field_at self.old.seat.me.own.held value) }
         requires rule { Picks P.holds P.fixed C.next self.old.seat.me
-            (event.Fill self.old.seat.me.number place field (field_at self.old.seat.me.own.held value)) }
+            (event.Fill self.old.seat.me.number place field
+                (field_at self.old.seat.me.own.held value)) }
         ensures told { self.new ≡ takes_with self.old
-            (event.Fill self.old.seat.me.number place field (field_at self.old.seat.me.own.held value)) finds.Stored
+            (event.Fill self.old.seat.me.number place field
+                (field_at self.old.seat.me.own.held value)) finds.Stored
             (C.next nothing_learned finds.Stored self.old.seat.me.pass) }
     {
         self.seat.fill::<C>(self.heap, place, field, value);
@@ -46,7 +51,8 @@ impl<'a, P: Keeping> Mutator<'a, P> {
     /// The raw cell at a place becomes a record: from now on its fields never change.
     pub fn seal_record(&mut self, place: usize)
         requires may { MaySeal self.old.seat.me place kind.Record }
-        ensures told { self.new ≡ takes self.old (event.Seal self.old.seat.me.number place kind.Record) finds.Stored }
+        ensures told { self.new ≡ takes self.old
+            (event.Seal self.old.seat.me.number place kind.Record) finds.Stored }
     {
         self.seat.seal(self.heap, place, Kind::Record);
     }
@@ -54,7 +60,8 @@ impl<'a, P: Keeping> Mutator<'a, P> {
     /// The raw cell at a place becomes a box, whose fields `update` writes.
     pub fn seal_box(&mut self, place: usize)
         requires may { MaySeal self.old.seat.me place kind.Boxed }
-        ensures told { self.new ≡ takes self.old (event.Seal self.old.seat.me.number place kind.Boxed) finds.Stored }
+        ensures told { self.new ≡ takes self.old
+            (event.Seal self.old.seat.me.number place kind.Boxed) finds.Stored }
     {
         self.seat.seal(self.heap, place, Kind::Boxed);
     }

@@ -22,7 +22,9 @@ impl<'a, P: Keeping> Mutator<'a, P> {
     /// Loads the control: the mode of what it does next.
     pub(crate) fn look_once(&mut self) -> Control
         requires inside { self.old.seat.me.presence.inside ≡ true }
-        ensures told { self.new ≡ takes self.old (event.Look self.old.seat.me.number) (finds.Control result) }
+        ensures told { self.new ≡ takes self.old (event.Look self.old.seat.me.number)
+            (finds.Control result) }
+        ensures few { result.cycles ≤ 4000000000 }
     {
         self.seat.look(self.heap)
     }
@@ -30,7 +32,8 @@ impl<'a, P: Keeping> Mutator<'a, P> {
     /// Makes the cell at a place gray, if it is white.
     pub(crate) fn mark_once(&mut self, place: usize)
         requires may { MayMark self.old.seat.me place }
-        ensures told { (found : Colour) × (self.new ≡ takes self.old (event.Mark self.old.seat.me.number place) (finds.Colour found)) }
+        ensures told { (found : Colour) × (self.new
+            ≡ takes self.old (event.Mark self.old.seat.me.number place) (finds.Colour found)) }
     {
         self.seat.mark(self.heap, place);
     }
@@ -38,7 +41,8 @@ impl<'a, P: Keeping> Mutator<'a, P> {
     /// Answers the handshake that the last look saw.
     pub(crate) fn answer_once(&mut self)
         requires may { MayAnswer self.old.seat.me }
-        ensures told { self.new ≡ takes self.old (event.Answer self.old.seat.me.number) finds.Stored }
+        ensures told { self.new ≡ takes self.old (event.Answer self.old.seat.me.number)
+            finds.Stored }
     {
         self.seat.answer(self.heap);
     }

@@ -48,7 +48,8 @@ impl<'a, P: Keeping> Mutator<'a, P> {
         ensures mode { is_some self.new.seat.me.own.mode ≡ true }
         ensures presence { self.new.seat.me.presence ≡ self.old.seat.me.presence }
         ensures marks { marks_stand (barrier_in self.new.seat.me.presence.status self.new.seat.me.own.mode)
-            self.new.seat.me.own.held (field_at self.new.seat.me.own.held old) (field_at self.new.seat.me.own.held new) ≡ true }
+            self.new.seat.me.own.held (field_at self.new.seat.me.own.held old)
+                (field_at self.new.seat.me.own.held new) ≡ true }
     {
         let control = self.look_once();
         let wanted = barrier(self.status(), control);
@@ -58,14 +59,16 @@ impl<'a, P: Keeping> Mutator<'a, P> {
     /// Marks what the barrier wants.
     fn mark_wanted(&mut self, wanted: Barrier, old: Value, new: Value)
         requires inside { self.old.seat.me.presence.inside ≡ true }
-        requires wanted { barrier_in self.old.seat.me.presence.status self.old.seat.me.own.mode ≡ wanted }
+        requires wanted { barrier_in self.old.seat.me.presence.status self.old.seat.me.own.mode
+            ≡ wanted }
         requires old_named { IsNamed self.old.seat.me.own.held old }
         requires new_named { IsNamed self.old.seat.me.own.held new }
         ensures calm { Calm are_marks self.old self.new }
         ensures mode { self.new.seat.me.own.mode ≡ self.old.seat.me.own.mode }
         ensures presence { self.new.seat.me.presence ≡ self.old.seat.me.presence }
         ensures marks { marks_stand wanted self.new.seat.me.own.held
-            (field_at self.new.seat.me.own.held old) (field_at self.new.seat.me.own.held new) ≡ true }
+            (field_at self.new.seat.me.own.held old) (field_at self.new.seat.me.own.held new)
+                ≡ true }
     {
         match wanted {
             Barrier::Nothing => (),
@@ -77,14 +80,16 @@ impl<'a, P: Keeping> Mutator<'a, P> {
     /// Marks the cells that the two values name.
     fn mark_both(&mut self, old: Value, new: Value)
         requires inside { self.old.seat.me.presence.inside ≡ true }
-        requires barrier { marks_some (barrier_in self.old.seat.me.presence.status self.old.seat.me.own.mode) ≡ true }
+        requires barrier { marks_some (barrier_in self.old.seat.me.presence.status
+            self.old.seat.me.own.mode) ≡ true }
         requires old_named { IsNamed self.old.seat.me.own.held old }
         requires new_named { IsNamed self.old.seat.me.own.held new }
         ensures calm { Calm are_marks self.old self.new }
         ensures mode { self.new.seat.me.own.mode ≡ self.old.seat.me.own.mode }
         ensures presence { self.new.seat.me.presence ≡ self.old.seat.me.presence }
         ensures marks { marks_stand barrier.Both self.new.seat.me.own.held
-            (field_at self.new.seat.me.own.held old) (field_at self.new.seat.me.own.held new) ≡ true }
+            (field_at self.new.seat.me.own.held old) (field_at self.new.seat.me.own.held new)
+                ≡ true }
     {
         self.mark_value(old);
         self.mark_value(new);
@@ -93,12 +98,14 @@ impl<'a, P: Keeping> Mutator<'a, P> {
     /// Marks the cell that a value names, if it names one.
     fn mark_value(&mut self, value: Value)
         requires inside { self.old.seat.me.presence.inside ≡ true }
-        requires barrier { marks_some (barrier_in self.old.seat.me.presence.status self.old.seat.me.own.mode) ≡ true }
+        requires barrier { marks_some (barrier_in self.old.seat.me.presence.status
+            self.old.seat.me.own.mode) ≡ true }
         requires named { IsNamed self.old.seat.me.own.held value }
         ensures calm { Calm are_marks self.old self.new }
         ensures mode { self.new.seat.me.own.mode ≡ self.old.seat.me.own.mode }
         ensures presence { self.new.seat.me.presence ≡ self.old.seat.me.presence }
-        ensures marked { is_marked_value self.new.seat.me.own.held (field_at self.new.seat.me.own.held value) ≡ true }
+        ensures marked { is_marked_value self.new.seat.me.own.held
+            (field_at self.new.seat.me.own.held value) ≡ true }
         ensures still { (other : Field) → is_marked_value self.old.seat.me.own.held other ≡ true
             → is_marked_value self.new.seat.me.own.held other ≡ true }
     {

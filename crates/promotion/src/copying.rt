@@ -56,9 +56,12 @@ fn copy_record<P: Keeping, R: Wait>(
     requires room { length m.old.seat.me.own.held < m.old.seat.me.room }
     requires stands { Stands minor.now.records r }
     requires older { r.number ≤ length places.now }
-    requires ready { (i : ℕ) → i < 5 → IsReady m.old.seat.me.known (value_of places.now (field_at minor.now.records r.number i)) }
-    ensures got { IfOk result (λ place. Copied m.old place (copied_term m.old.seat.me.known places.now minor.now.records r.number) m.new) }
-    ensures full { IfErr result (λ full. Calm (FindsFull m.old.seat.me.number m.old.seat.me.shape.cells
+    requires ready { (i : ℕ) → i < 5 → IsReady m.old.seat.me.known
+        (value_of places.now (field_at minor.now.records r.number i)) }
+    ensures got { IfOk result (λ place. Copied m.old place
+        (copied_term m.old.seat.me.known places.now minor.now.records r.number) m.new) }
+    ensures full { IfErr result (λ full.
+        Calm (FindsFull m.old.seat.me.number m.old.seat.me.shape.cells
         full.off_duty full.began full.ended) m.old m.new) }
     ensures copies { Adds (AreCopying (length m.old.seat.me.own.held)) m.old m.new }
     ensures queue { queue_of hints.new ≡ queue_of hints.old }
@@ -95,7 +98,8 @@ pub(crate) fn copy_all<P: Keeping, R: Wait>(
     requires stands { span.end ≤ length minor.now.records }
     requires marks { length minor.now.records ≤ length marks.now }
     requires closed { (k i : ℕ) (older : MinorRef) → i < 5 → slice_index_or marks.now k false ≡ true
-        → field_at minor.now.records k i ≡ field.Minor older → slice_index_or marks.now older.number false ≡ true }
+        → field_at minor.now.records k i ≡ field.Minor older
+            → slice_index_or marks.now older.number false ≡ true }
     requires shares { (k i : ℕ) → i < 5 → slice_index_or marks.now k false ≡ true
         → SharesRecord m.old.seat.me.known (field_at minor.now.records k i) }
     requires places { length minor.now.records ≤ length places.old }
@@ -142,10 +146,14 @@ pub(crate) fn copy_reached<P: Keeping, R: Wait>(
     ensures places { length places.new ≡ length places.old }
     ensures claims { OnOk result (ClaimsFor m.old minor.now.records from.now m.new) }
     ensures grown { OnOk result (Grown anything m.old m.new) }
-    ensures few { OnOk result (length m.new.seat.me.own.held ≤ length m.old.seat.me.own.held + length minor.now.records) }
-    ensures none { OnOk result (length from.now ≡ 0 → length (held_cells m.new) ≡ length (held_cells m.old)) }
-    ensures fit { OnOk result (0 < length from.now → length (held_cells m.old) ≡ length m.old.seat.me.known) }
-    ensures copied { OnOk result (All (λ r. known_at m.new.seat.me.known (slice_index_or places.new r.number 0)
+    ensures few { OnOk result (length m.new.seat.me.own.held ≤ length m.old.seat.me.own.held
+        + length minor.now.records) }
+    ensures none { OnOk result (length from.now ≡ 0 → length (held_cells m.new)
+        ≡ length (held_cells m.old)) }
+    ensures fit { OnOk result (0 < length from.now → length (held_cells m.old)
+        ≡ length m.old.seat.me.known) }
+    ensures copied { OnOk result (All (λ r.
+        known_at m.new.seat.me.known (slice_index_or places.new r.number 0)
         ≡ knows_term m.old minor.now.records r) from.now) }
     ensures full { IfErr result (λ full. Halted m.old full m.new) }
     ensures copies { Adds (AreCopying (length m.old.seat.me.own.held)) m.old m.new }
@@ -165,7 +173,8 @@ pub(crate) fn give_back<P: Keeping>(m: &mut Mutator<'_, P>, held: usize)
     requires kept { held ≤ length m.old.seat.me.own.held }
     ensures same { length m.old.seat.me.own.held ≡ held → m.new ≡ m.old }
     ensures cut { held < length m.old.seat.me.own.held → m.new
-        ≡ takes m.old (event.Keep m.old.seat.me.number held 0 0) (finds.Presence m.old.seat.me.presence) }
+        ≡ takes m.old (event.Keep m.old.seat.me.number held 0 0)
+            (finds.Presence m.old.seat.me.presence) }
 {
     if held < m.held_len() {
         m.cut(held);
@@ -176,12 +185,16 @@ pub(crate) fn give_back<P: Keeping>(m: &mut Mutator<'_, P>, held: usize)
 pub(crate) fn hold_roots<P: Keeping>(m: &mut Mutator<'_, P>, places: &[usize], roots: &[MinorRef])
     requires inside { m.old.seat.me.presence.inside ≡ true }
     requires room { length m.old.seat.me.own.held + length roots.now ≤ m.old.seat.me.room }
-    requires fit { 0 < length roots.now → length m.old.seat.me.own.held ≡ length m.old.seat.me.known }
+    requires fit { 0 < length roots.now → length m.old.seat.me.own.held
+        ≡ length m.old.seat.me.known }
     requires stand { All (λ r. r.number < length places.now) roots.now }
-    requires there { All (λ r. slice_index_or places.now r.number 0 < length m.old.seat.me.own.held) roots.now }
+    requires there { All (λ r. slice_index_or places.now r.number 0 < length m.old.seat.me.own.held)
+        roots.now }
     ensures appended { Appended m.old
-        (map (λ r. slice_index_or (held_cells m.old) (slice_index_or places.now r.number 0) 0) roots.now)
-        (map (λ r. known_at m.old.seat.me.known (slice_index_or places.now r.number 0)) roots.now) m.new }
+        (map (λ r. slice_index_or (held_cells m.old) (slice_index_or places.now r.number 0) 0)
+            roots.now)
+        (map (λ r. known_at m.old.seat.me.known (slice_index_or places.now r.number 0)) roots.now)
+            m.new }
 {
     for r in roots {
         let held = m.held_len();

@@ -63,7 +63,8 @@ impl Promoter {
         requires stands { Stands minor.now.records r }
         requires shares { ShareRecords m.old.seat.me.known minor.now.records (r ∷ []) }
         requires fits { length minor.now.records ≤ self.old }
-        requires room { length m.old.seat.me.own.held + length minor.now.records ≤ m.old.seat.me.room }
+        requires room { length m.old.seat.me.own.held + length minor.now.records
+            ≤ m.old.seat.me.room }
         ensures promoted { OnOk result (Promoted m.old minor.now.records r m.new) }
         ensures place { IfOk result (λ place. place ≡ length m.old.seat.me.own.held) }
         ensures copies { OnOk result (Adds (KeepsCopies m.old.seat.me.number
@@ -109,7 +110,8 @@ impl Promoter {
         requires stand { All (Stands minor.old.records) roots.now }
         requires shares { ShareRecords m.old.seat.me.known minor.old.records roots.now }
         requires fits { length minor.old.records ≤ self.old }
-        requires room { length m.old.seat.me.own.held + length minor.old.records + length roots.now ≤ m.old.seat.me.room }
+        requires room { length m.old.seat.me.own.held + length minor.old.records + length roots.now
+            ≤ m.old.seat.me.room }
         ensures collected { OnOk result (Collected m.old minor.old.records roots.now base m.new) }
         ensures base { IfOk result (λ first. first ≡ base) }
         ensures emptied { OnOk result (minor.new.records ≡ []) }
