@@ -19,8 +19,10 @@ use Rattle.heap_rule.specs.declared.view.Place.{Place}
 use Rattle.heap_rule.specs.declared.view.Place.TheVariants as places
 use Rattle.heap_rule.specs.declared.view.View.{View}
 use Rattle.heap_table.specs.Images.{ImageView, Shows}
-use Rattle.shared_counter.specs.Counting.{CounterIs, Counts, ShowsCounter, counter_in, number_behind}
-use Rattle.shared_counter.specs.Counting.{number_in, number_record, sum_of}
+use Rattle.shared_counter.specs.Counting.{Counts, counter_in, number_behind, number_in, number_record}
+use Rattle.shared_counter.specs.Counting.{sum_of}
+use Rattle.shared_counter.specs.Leaving.{Leaves}
+use Rattle.shared_counter.specs.Serving.{freed_by}
 use Rattle.shared_counter.specs.declared.counter.Added.{Added}
 use Rattle.shared_counter.proofs.Anchors.{named_term}
 use Rattle.shared_counter.proofs.Picks.{counter_is}
@@ -108,72 +110,54 @@ joined_four (x ∷ y ∷ z ∷ []) a b c d many = absurd cc
 joined_four (x ∷ y ∷ z ∷ w ∷ []) a b c d many = refl
 joined_four (x ∷ y ∷ z ∷ w ∷ v ∷ more) a b c d many = absurd (omega (arith, many))
 
--- the seats of all mutators were joined, and the heap was closed: what the anchor then names
-finished_at : (h : Shape) (words : List ℕ) (v w t0 t1 t2 t3 : View Added) (a b c d : ℕ)
-    → length v.places ≡ 4 → h.mutators ≡ 4
-    → t0.number ≡ 0 → t1.number ≡ 1 → t2.number ≡ 2 → t3.number ≡ 3
-    → t0.pass ≡ record { sum = a } → t1.pass ≡ record { sum = b } → t2.pass ≡ record { sum = c }
-    → t3.pass ≡ record { sum = d }
-    → w ≡ joined_view (joined_view (joined_view (joined_view v t0) t1) t2) t3
-    → (e : Ended (λ number setting. record { sum = 0 }) Counts no_field_is_fixed h (Unit {0}) words w)
-    → (cell : ℕ) × ((field_of e.shows.core 0 0 ≡ word.Cell cell)
-    × (field_of e.shows.core cell 0 ≡ word.Num (a + b + c + d)))
-finished_at h words v w t0 t1 t2 t3 a b c d many mutators n0 n1 n2 n3 p0 p1 p2 p3 all e =
-    let j0 = places.Joined (share_of t0) in
-    let j1 = places.Joined (share_of t1) in
-    let j2 = places.Joined (share_of t2) in
-    let j3 = places.Joined (share_of t3) in
-    let at : w.places ≡ j0 ∷ j1 ∷ j2 ∷ j3 ∷ [] =
-    ap (λ (x : View Added). x.places) all
-    ∙ (λ i. slice_set (slice_set (slice_set (slice_set v.places (n0 i) j0) (n1 i) j1) (n2 i) j2)
-    (n3 i) j3) ∙ joined_four v.places j0 j1 j2 j3 many in
-    let pass : (i : ℕ) (t : View Added) → get_elem? (j0 ∷ j1 ∷ j2 ∷ j3 ∷ []) i
-    ≡ some (places.Joined (share_of t)) → get_elem? e.shows.passes i ≡ some t.pass =
-    λ i t there. (e.collector.joined i (share_of t)
-    (ap (λ (ps : List (Place Added)). get_elem? ps i) at ∙ there)).pass in
-    let sums : sum_of e.shows.passes ≡ a + b + c + d =
-    four_passes e.shows.passes t0.pass t1.pass t2.pass t3.pass (e.passes_fit ∙ mutators)
-    (pass 0 t0 refl) (pass 1 t1 refl) (pass 2 t2 refl) (pass 3 t3 refl)
-    ∙ (λ i. (p0 i).sum + (p1 i).sum + (p2 i).sum + (p3 i).sum) in
-    counter_from e.shows.core e.shows.lore e.shows.facts (a + b + c + d)
-    (field_of e.shows.core 0 0) refl
-    (counter_is e.shows.core e.shows.lore e.shows.passes e.shows.kept
-    ∙ ap (λ (n : ℕ). Plain (number_record n)) sums)
+-- The seats of all mutators were joined, and the heap was closed.
+module _ (h : Shape) (image : ImageView) (v w t0 t1 t2 t3 : View Added) (a b c d : ℕ)
+    (many : length v.places ≡ 4) (mutators : h.mutators ≡ 4)
+    (n0 : t0.number ≡ 0) (n1 : t1.number ≡ 1) (n2 : t2.number ≡ 2) (n3 : t3.number ≡ 3)
+    (p0 : t0.pass ≡ record { sum = a }) (p1 : t1.pass ≡ record { sum = b })
+    (p2 : t2.pass ≡ record { sum = c }) (p3 : t3.pass ≡ record { sum = d })
+    (all : w ≡ joined_view (joined_view (joined_view (joined_view v t0) t1) t2) t3)
+    (e : Ended (λ number setting. record { sum = 0 }) Counts no_field_is_fixed h (Unit {0})
+    image.words w)
+    where
+  -- the passes sum to what they have added
+  summed : sum_of e.shows.passes ≡ a + b + c + d
+  summed =
+      let j0 = places.Joined (share_of t0) in
+      let j1 = places.Joined (share_of t1) in
+      let j2 = places.Joined (share_of t2) in
+      let j3 = places.Joined (share_of t3) in
+      let at : w.places ≡ j0 ∷ j1 ∷ j2 ∷ j3 ∷ [] =
+      ap (λ (x : View Added). x.places) all
+      ∙ (λ i. slice_set (slice_set (slice_set (slice_set v.places (n0 i) j0) (n1 i) j1) (n2 i) j2)
+      (n3 i) j3) ∙ joined_four v.places j0 j1 j2 j3 many in
+      let pass : (i : ℕ) (t : View Added) → get_elem? (j0 ∷ j1 ∷ j2 ∷ j3 ∷ []) i
+      ≡ some (places.Joined (share_of t)) → get_elem? e.shows.passes i ≡ some t.pass =
+      λ i t there. (e.collector.joined i (share_of t)
+      (ap (λ (ps : List (Place Added)). get_elem? ps i) at ∙ there)).pass in
+      four_passes e.shows.passes t0.pass t1.pass t2.pass t3.pass (e.passes_fit ∙ mutators)
+      (pass 0 t0 refl) (pass 1 t1 refl) (pass 2 t2 refl) (pass 3 t3 refl)
+      ∙ (λ i. (p0 i).sum + (p1 i).sum + (p2 i).sum + (p3 i).sum)
 
--- what the words show
-pub finished : (h : Shape) (words : List ℕ) (v w t0 t1 t2 t3 : View Added) (a b c d : ℕ)
-    → length v.places ≡ 4 → h.mutators ≡ 4
-    → t0.number ≡ 0 → t1.number ≡ 1 → t2.number ≡ 2 → t3.number ≡ 3
-    → t0.pass ≡ record { sum = a } → t1.pass ≡ record { sum = b } → t2.pass ≡ record { sum = c }
-    → t3.pass ≡ record { sum = d }
-    → w ≡ joined_view (joined_view (joined_view (joined_view v t0) t1) t2) t3
-    → Ended (λ number setting. record { sum = 0 }) Counts no_field_is_fixed h (Unit {0}) words w
-    → CounterIs words (a + b + c + d)
-finished h words v w t0 t1 t2 t3 a b c d many mutators n0 n1 n2 n3 p0 p1 p2 p3 all e =
-    let counter = finished_at h words v w t0 t1 t2 t3 a b c d many mutators n0 n1 n2 n3 p0 p1 p2 p3
-    all e in
-    record {
-      core = e.shows.core;
-      words_are = sym e.words_are ∙ e.shows.last_of.shown;
-      cell = counter.0;
-      named = counter.1.0;
-      is = counter.1.1;
-    }
+  -- and so the anchor names the record of that number
+  counted : (cell : ℕ) × ((field_of e.shows.core 0 0 ≡ word.Cell cell)
+      × (field_of e.shows.core cell 0 ≡ word.Num (a + b + c + d)))
+  counted =
+      counter_from e.shows.core e.shows.lore e.shows.facts (a + b + c + d)
+      (field_of e.shows.core 0 0) refl
+      (counter_is e.shows.core e.shows.lore e.shows.passes e.shows.kept
+      ∙ ap (λ (n : ℕ). Plain (number_record n)) summed)
 
--- and the image
-pub finished_image : (h : Shape) (image : ImageView) (v w t0 t1 t2 t3 : View Added)
-    (a b c d : ℕ) → length v.places ≡ 4 → h.mutators ≡ 4
-    → t0.number ≡ 0 → t1.number ≡ 1 → t2.number ≡ 2 → t3.number ≡ 3
-    → t0.pass ≡ record { sum = a } → t1.pass ≡ record { sum = b } → t2.pass ≡ record { sum = c }
-    → t3.pass ≡ record { sum = d }
-    → w ≡ joined_view (joined_view (joined_view (joined_view v t0) t1) t2) t3
-    → (e : Ended (λ number setting. record { sum = 0 }) Counts no_field_is_fixed h (Unit {0})
-    image.words w) → Shows image e.shows.core → ShowsCounter image (a + b + c + d)
-finished_image h image v w t0 t1 t2 t3 a b c d many mutators n0 n1 n2 n3 p0 p1 p2 p3 all e shows =
-    let counter = finished_at h image.words v w t0 t1 t2 t3 a b c d many mutators n0 n1 n2 n3 p0 p1
-    p2 p3 all e in
-    record {
-      core = e.shows.core;
-      shows = shows;
-      counter = ap (number_behind e.shows.core) counter.1.0 ∙ ap number_in counter.1.1;
-    }
+  pub leaves : v.control.duty ≡ false → Shows image e.shows.core
+      → Leaves h.cells (a + b + c + d) (freed_by v.trail) image w
+  leaves off shows = record {
+    shape = h;
+    cells_are = refl;
+    mutators_are = mutators;
+    ended = e;
+    shows = shows;
+    counter = ap (number_behind e.shows.core) counted.1.0 ∙ ap number_in counted.1.1;
+    summed = summed;
+    freed_are = ap (λ (x : View Added). freed_by x.trail) all;
+    off_duty = ap (λ (x : View Added). x.control.duty) all ∙ off;
+  }

@@ -85,6 +85,7 @@ pub record IsOpened (heap : HeapId) (collector first second third fourth : SeatV
   pub four_places : length collector.me.places ≡ 4
   pub collector_idle : collector.me.control.stage ≡ stage.Idle
   pub no_cycles : collector.me.control.cycles ≡ 0
+  pub no_events : collector.me.trail ≡ []
   pub first_new : IsNew heap 0 first
   pub second_new : IsNew heap 1 second
   pub third_new : IsNew heap 2 third

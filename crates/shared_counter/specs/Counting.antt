@@ -47,14 +47,6 @@ one_more false pass = pass
 abbrev pub adding : Field → Learned → Found → Added → Added
 adding old learned found pass = one_more (was_made old found) pass
 
--- What a closed heap shows: field 0 of the anchor names a cell whose field 0 is this number.
-pub record CounterIs (words : List ℕ) (sum : ℕ) : Type 0 where
-  pub core : State
-  pub words_are : words ≡ words_of core
-  pub cell : ℕ
-  pub named : field_of core 0 0 ≡ field.Cell cell
-  pub is : field_of core cell 0 ≡ field.Num sum
-
 -- The number that a field is, that of the record which a field names, and so of the anchor.
 
 abbrev pub number_in : Field → Option ℕ
@@ -69,9 +61,3 @@ number_behind s (field.Cell c) = number_in (field_of s c 0)
 
 abbrev pub counter_in : State → Option ℕ
 counter_in s = number_behind s (field_of s 0 0)
-
--- the image shows a state whose counter is this
-pub record ShowsCounter (image : ImageView) (sum : ℕ) : Type 0 where
-  pub core : State
-  pub shows : Shows image core
-  pub counter : counter_in core ≡ Some sum

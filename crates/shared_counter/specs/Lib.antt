@@ -1,4 +1,5 @@
 pub mod Adding
 pub mod Counting
+pub mod Leaving
 pub mod Serving
 pub mod Working

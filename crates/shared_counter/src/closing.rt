@@ -1,11 +1,12 @@
 //! A heap with the counter and four mutators: how it opens, and what it shows at its close.
-ghost use Rattle.std.specs.Prelude.{◌≡◌, ◌≤◌, ◌+◌, IfOk, length};
+ghost use Rattle.std.specs.Prelude.{◌≡◌, ◌≤◌, ◌+◌, IfOk, false, length};
 ghost use Rattle.heap_table.specs.Seats.{IsSeatOf};
 ghost use Rattle.shared_counter.specs.Adding.{IsDone, IsOpened};
-ghost use Rattle.shared_counter.specs.Counting.{CounterIs, ShowsCounter};
+ghost use Rattle.shared_counter.specs.Leaving.{Leaves};
+ghost use Rattle.shared_counter.specs.Serving.{freed_by};
 
 use crate::counter::Added;
-use cell_heap::{CellHeap, ColSeat, Image, MutSeat, NoMemory};
+use cell_heap::{CellHeap, ColSeat, Image, MutSeat, NoMemory, Passes};
 use cell_words::Field;
 use std::alloc::Global;
 
@@ -27,7 +28,8 @@ pub(crate) struct Opened {
 pub(crate) fn open_four(alloc: Global, cells: u32) -> Result<Opened, NoMemory>
     requires some { 2 ≤ cells }
     requires few { cells ≤ 1000 }
-    ensures opened { IfOk result (λ made. IsOpened made.heap made.collector made.first made.second made.third made.fourth) }
+    ensures opened { IfOk result (λ made.
+        IsOpened made.heap made.collector made.first made.second made.third made.fourth) }
     ensures cells { IfOk result (λ made. made.heap.shape.cells ≡ cells) }
 {
     let null = Field::Null;
@@ -57,23 +59,22 @@ pub(crate) fn close_four(
     second: Done,
     third: Done,
     fourth: Done,
-) -> Image
+) -> (Image, Passes<Added>)
     requires collector { IsSeatOf heap collector }
     requires four { heap.shape.mutators ≡ 4 }
     requires places { length collector.me.places ≡ 4 }
+    requires off_duty { collector.me.control.duty ≡ false }
     requires first { IsDone heap 0 first.1 first.0 }
     requires second { IsDone heap 1 second.1 second.0 }
     requires third { IsDone heap 2 third.1 third.0 }
     requires fourth { IsDone heap 3 fourth.1 fourth.0 }
-    ensures counter { CounterIs result.words (first.1 + second.1 + third.1 + fourth.1) }
-    ensures shown { ShowsCounter result (first.1 + second.1 + third.1 + fourth.1) }
-    ensures cells { result.cells ≡ heap.shape.cells }
+    ensures leaves { Leaves heap.shape.cells (first.1 + second.1 + third.1 + fourth.1)
+        (freed_by collector.me.trail) result.0 result.1 }
 {
     let mut collector = collector;
     collector.join(&heap, first.0);
     collector.join(&heap, second.0);
     collector.join(&heap, third.0);
     collector.join(&heap, fourth.0);
-    let (image, _) = collector.close(heap);
-    image
+    collector.close(heap)
 }

@@ -7,7 +7,7 @@ ghost use Rattle.std.specs.Prelude.{◌≡◌, length};
 ghost use Rattle.cell_words.specs.declared.controls.Stage.TheVariants as stage;
 ghost use Rattle.heap_table.specs.Seats.{IsSeatOf};
 ghost use Rattle.shared_counter.specs.Adding.{IsDone};
-ghost use Rattle.shared_counter.specs.Serving.{IsKeeper, Keeps, TurnOf};
+ghost use Rattle.shared_counter.specs.Serving.{IsKeeper, Settled, TurnOf, freed_by};
 ghost use Rattle.shared_counter.specs.Working.{AreWorkers};
 
 use crate::closing::Done;
@@ -80,8 +80,9 @@ fn settle(
 ) -> (ColSeat<Added>, u64)
     requires seat { IsSeatOf heap.now was.value }
     requires idle { was.value.me.control.stage ≡ stage.Idle }
+    requires none_freed { freed_by was.value.me.trail ≡ 0 }
     requires turn { TurnOf was.value turn }
-    ensures keeps { Keeps was.value result.0 }
+    ensures settled { Settled was.value result.0 result.1 }
 {
     let _ = was;
     match turn {
@@ -115,7 +116,7 @@ pub(crate) fn add_beside<R: Threads + Wait + Sync>(
     ensures second { IsDone heap.now 1 result.0.0.1.1 result.0.0.1.0 }
     ensures third { IsDone heap.now 2 result.0.1.0.1 result.0.1.0.0 }
     ensures fourth { IsDone heap.now 3 result.0.1.1.1 result.0.1.1.0 }
-    ensures keeps { Keeps keeper.seat result.1.0 }
+    ensures settled { Settled keeper.seat result.1.0 result.1.1 }
 {
     let held_back = AtomicBool::new(false);
     let flag = &held_back;
@@ -134,7 +135,7 @@ pub(crate) fn add_beside<R: Threads + Wait + Sync>(
                 × IsDone heap.entry.now 1 result.0.0.1.1 result.0.0.1.0
                 × IsDone heap.entry.now 2 result.0.1.0.1 result.0.1.0.0
                 × IsDone heap.entry.now 3 result.0.1.1.1 result.0.1.1.0
-                × Keeps keeper.seat result.1.0 }
+                × Settled keeper.seat result.1.0 result.1.1 }
         {
             let turn = move || -> Turn
                 requires { IsKeeper heap.now queue.now keeper.seat keeper.pass }

@@ -1,14 +1,15 @@
 //! The whole run: a heap is opened, four threads add beside the collector, and it is closed.
-ghost use Rattle.std.specs.Prelude.{◌≡◌, ◌<◌, IfOk, Some, ℕ};
+ghost use Rattle.std.specs.Prelude.{◌≡◌, ◌<◌, IfOk, Some};
 ghost use Rattle.core_machine.specs.State.{State, field_of};
 ghost use Rattle.heap_table.specs.Images.{Shows};
-ghost use Rattle.shared_counter.specs.Counting.{ShowsCounter, counter_in, number_in};
+ghost use Rattle.shared_counter.specs.Counting.{counter_in, number_in};
+ghost use Rattle.shared_counter.specs.Leaving.{Leaves};
 
 use crate::closing::{Opened, close_four, open_four};
 use crate::counter::Added;
 use crate::running::{Worker, nursery};
 use crate::serving::{Keeper, add_beside};
-use cell_heap::{Image, NoMemory};
+use cell_heap::{Image, NoMemory, Passes};
 use cell_words::Field;
 use collector::MarkStack;
 use free_cells::FreeQueue;
@@ -44,7 +45,6 @@ fn number_of(field: Field) -> Option<u64>
 /// The number of the record that the anchor names.
 fn counter_of(image: &Image) -> Option<u64>
     ensures counter { (s : State) → Shows image.now s → result ≡ counter_in s }
-    ensures shown { (sum : ℕ) → ShowsCounter image.now sum → result ≡ Some sum }
 {
     match field_at(image, 0, 0) {
         Field::Cell(cell) => number_of(field_at(image, cell, 0)),
@@ -53,8 +53,11 @@ fn counter_of(image: &Image) -> Option<u64>
 }
 
 /// What a run came to.
-#[derive(Clone, Copy)]
+#[derive(Drop)]
 pub(crate) struct Ran {
+    /// the closed heap, and what its collector knew
+    pub(crate) image: Image,
+    pub(crate) passes: Passes<Added>,
     /// the counter at the close
     pub(crate) counter: Option<u64>,
     /// what the threads say that they added
@@ -65,6 +68,7 @@ pub(crate) struct Ran {
 
 /// Four threads add to the counter of a new heap, beside the collector.
 pub(crate) fn run<R: Threads + Wait + Sync>(alloc: Global, rt: &R) -> Result<Ran, NoMemory>
+    ensures leaves { IfOk result (λ ran. Leaves 64 ran.sum ran.freed ran.image ran.passes) }
     ensures counter { IfOk result (λ ran. ran.counter ≡ Some ran.sum) }
 {
     let (queue, mut pass) = FreeQueue::open(alloc, rt, CELLS, 2)?;
@@ -120,9 +124,12 @@ pub(crate) fn run<R: Threads + Wait + Sync>(alloc: Global, rt: &R) -> Result<Ran
         rt, &heap, &queue, keeper, first, second, third, fourth,
     );
     let sum = first.1 + second.1 + third.1 + fourth.1;
-    let image = close_four(heap, collector, first, second, third, fourth);
+    let (image, passes) = close_four(heap, collector, first, second, third, fourth);
+    let counter = counter_of(&image);
     Ok(Ran {
-        counter: counter_of(&image),
+        image,
+        passes,
+        counter,
         sum,
         freed,
     })
