@@ -1,5 +1,5 @@
 //! A run of clients, from where their scripts come from to what it came to.
-ghost use Rattle.std.specs.Prelude.{◌≡◌, ℕ, ◌+◌, ◌*◌, ◌≤◌, IsErrOf, length};
+ghost use Rattle.std.specs.Prelude.{◌≡◌, ℕ, ◌+◌, ◌*◌, ◌≤◌, IsErrOf, OnOk, length};
 ghost use Rattle.std.specs.Prelude.{map, sum_by};
 ghost use Rattle.outside.specs.Calls.{IsUnbroken, IsOrderly};
 ghost use Rattle.outside.specs.Causes.{Rose};
@@ -48,10 +48,14 @@ pub fn run_files<R: Threads + Wait + Sync, H: Shelf, G: Gate + Sync>(
         H.opens shelf.new ≡ opened (H.opens shelf.old) file }
     ensures opens { OpensInTurn (H.opens shelf.old) (H.opens shelf.new)
         (files_read (length run.now.files.items)) }
+    ensures all_opened { OnOk result (H.opens shelf.new
+        ≡ opened (H.opens shelf.old) (length run.now.files.items)) }
     ensures stops { StopsBehind 1 0 (map (H.holds shelf.old) (run_asked_by run.now).files)
         (H.opens shelf.old) (H.opens shelf.new) }
     ensures calls { H.calls shelf.new
         ≤ H.calls shelf.old + files_read (length run.now.files.items) * (READ_LIMIT + 1) }
+    ensures unbroken { OnOk result (IsUnbroken (H.course shelf.old)
+        → IsUnbroken (H.course shelf.new)) }
     ensures orderly { IsUnbroken (H.course shelf.old) → IsOrderly (H.course shelf.new) }
 {
     match scripts_in_files(alloc, &run.files, shelf) {

@@ -35,6 +35,8 @@ pub fn run_generated<R: Threads + Wait + Sync, S: Sink, G: Gate + Sync>(
     ensures write { result.status ≡ 4 → Rose (S.faults sink.old) (S.faults sink.new) }
     ensures memory { result.status ≡ 5 → (S.written sink.new ≡ S.written sink.old)
         ⊎ Rose (S.wants sink.old) (S.wants sink.new) }
+    ensures unbroken_sink { result.status ≡ 0 → IsUnbroken (S.course sink.old)
+        → IsUnbroken (S.course sink.new) }
     ensures orderly_sink { IsUnbroken (S.course sink.old) → IsOrderly (S.course sink.new) }
 {
     if is_too_large(made.clients, made.commands) {
@@ -57,6 +59,8 @@ fn print_script<S: Sink>(alloc: Global, made: GenWords, client: u32, sink: &mut 
     ensures write { result.status ≡ 4 → Rose (S.faults sink.old) (S.faults sink.new) }
     ensures memory { result.status ≡ 5 → (S.written sink.new ≡ S.written sink.old)
         ⊎ Rose (S.wants sink.old) (S.wants sink.new) }
+    ensures unbroken_sink { result.status ≡ 0 → IsUnbroken (S.course sink.old)
+        → IsUnbroken (S.course sink.new) }
     ensures orderly_sink { IsUnbroken (S.course sink.old) → IsOrderly (S.course sink.new) }
 {
     let Ok(text) = generated(alloc, made.start, client, made.commands) else {
@@ -87,6 +91,8 @@ fn run_scripts<R: Threads + Wait + Sync, S: Sink, G: Gate + Sync>(
     ensures write { result.status ≡ 4 → Rose (S.faults sink.old) (S.faults sink.new) }
     ensures memory { result.status ≡ 5 → (S.written sink.new ≡ S.written sink.old)
         ⊎ Rose (S.wants sink.old) (S.wants sink.new) }
+    ensures unbroken_sink { result.status ≡ 0 → IsUnbroken (S.course sink.old)
+        → IsUnbroken (S.course sink.new) }
     ensures orderly_sink { IsUnbroken (S.course sink.old) → IsOrderly (S.course sink.new) }
 {
     let finished = match run_made(alloc, rt, made, gate) {

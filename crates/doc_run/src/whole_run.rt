@@ -132,14 +132,22 @@ pub fn run<R: Threads + Wait + Sync, H: Shelf, S: Sink, G: Gate + Sync>(
         (request_of words.now) (S.written sink.old) (S.written sink.new) }
     ensures unwritten { IsRefusal result.status → S.written sink.new ≡ S.written sink.old }
 
-    // On an object on which no call had failed, no call is made after one that fails.
+    // On an object on which no call had failed, no call is made after one that fails, and at status 0
+    // none has failed.
+    ensures unbroken_shelf { result.status ≡ 0 → IsUnbroken (H.course shelf.old)
+        → IsUnbroken (H.course shelf.new) }
+    ensures unbroken_sink { result.status ≡ 0 → IsUnbroken (S.course sink.old)
+        → IsUnbroken (S.course sink.new) }
     ensures orderly_shelf { IsUnbroken (H.course shelf.old) → IsOrderly (H.course shelf.new) }
     ensures orderly_sink { IsUnbroken (S.course sink.old) → IsOrderly (S.course sink.new) }
 
     // A file is opened once at most, and each further call but the last takes at least a byte of
-    // it. Too many files are not opened at all, and none is opened behind one that is refused.
+    // it. Too many files are not opened at all, and none is opened behind one that is refused. At
+    // status 0 all were opened.
     ensures opens { OpensFiles result.status (H.opens shelf.old) (H.opens shelf.new)
         (files_read (length (names_of (request_of words.now)))) }
+    ensures all_opened { result.status ≡ 0 → H.opens shelf.new
+        ≡ opened (H.opens shelf.old) (length (names_of (request_of words.now))) }
     ensures stops { IfRun (request_of words.now) (λ run.
         StopsBehind 1 0 (map (H.holds shelf.old) run.files)
         (H.opens shelf.old) (H.opens shelf.new)) }
@@ -179,10 +187,16 @@ fn run_scripts<R: Threads + Wait + Sync, H: Shelf, S: Sink, G: Gate + Sync>(
     ensures write { result.status ≡ 4 → Rose (S.faults sink.old) (S.faults sink.new) }
     ensures memory { result.status ≡ 5 → (S.written sink.new ≡ S.written sink.old)
         ⊎ Rose (S.wants sink.old) (S.wants sink.new) }
+    ensures unbroken_shelf { result.status ≡ 0 → IsUnbroken (H.course shelf.old)
+        → IsUnbroken (H.course shelf.new) }
+    ensures unbroken_sink { result.status ≡ 0 → IsUnbroken (S.course sink.old)
+        → IsUnbroken (S.course sink.new) }
     ensures orderly_shelf { IsUnbroken (H.course shelf.old) → IsOrderly (H.course shelf.new) }
     ensures orderly_sink { IsUnbroken (S.course sink.old) → IsOrderly (S.course sink.new) }
     ensures opens { OpensInTurn (H.opens shelf.old) (H.opens shelf.new)
         (files_read (length run.now.files.items)) }
+    ensures all_opened { result.status ≡ 0 → H.opens shelf.new
+        ≡ opened (H.opens shelf.old) (length run.now.files.items) }
     ensures stops { StopsBehind 1 0 (map (H.holds shelf.old) (run_asked_by run.now).files)
         (H.opens shelf.old) (H.opens shelf.new) }
     ensures calls { H.calls shelf.new
@@ -229,6 +243,10 @@ fn run_schedule<H: Shelf, S: Sink>(
     ensures write { result.status ≡ 4 → Rose (S.faults sink.old) (S.faults sink.new) }
     ensures memory { result.status ≡ 5 → (S.written sink.new ≡ S.written sink.old)
         ⊎ Rose (S.wants sink.old) (S.wants sink.new) }
+    ensures unbroken_shelf { result.status ≡ 0 → IsUnbroken (H.course shelf.old)
+        → IsUnbroken (H.course shelf.new) }
+    ensures unbroken_sink { result.status ≡ 0 → IsUnbroken (S.course sink.old)
+        → IsUnbroken (S.course sink.new) }
     ensures orderly_shelf { IsUnbroken (H.course shelf.old) → IsOrderly (H.course shelf.new) }
     ensures orderly_sink { IsUnbroken (S.course sink.old) → IsOrderly (S.course sink.new) }
     ensures opens { H.opens shelf.new ≡ next_count (H.opens shelf.old) }

@@ -4,7 +4,7 @@ use Rattle.std.proofs.Common.{Result, Ok, Err, length, take, refl, sym, subst, a
 use Rattle.std.specs.Prelude.{IsOk}
 use Rattle.outside.specs.Causes.{next_count}
 use Rattle.doc_model.specs.declared.command.Command.{Command}
-use Rattle.script_files.specs.Files.{IfTold, OpensInTurn}
+use Rattle.script_files.specs.Files.{IfTold, OpensInTurn, opened}
 use Rattle.script_files.specs.Scripts.{AreGood, IsScriptIn, StopsBehind, in_front, script_in}
 use Rattle.script_files.specs.Scripts.{scripts_from, with_first}
 use Rattle.script_files.specs.declared.fault.Fault.{Fault}
@@ -81,4 +81,9 @@ stops_more file before opens middle now one told commands is first more = (
   rw (sym first) more.5,
 )
 
-pub ruleset openings = (opens_none, opens_first, opens_more, stops_none)
+-- the first file, and then all of the others
+pub all_more : (before middle now others : ℕ) → middle ≡ next_count before
+    → now ≡ opened middle others → now ≡ opened before (suc others)
+all_more before middle now others is more = rw (sym is) more
+
+pub ruleset openings = (opens_none, opens_first, opens_more, stops_none, all_more)

@@ -2,7 +2,7 @@
 //!
 //! The refusals of a file are looked for in the order of its reading: it could not be read, it is
 //! too long, it is no schedule.
-ghost use Rattle.std.specs.Prelude.{◌≡◌, ℕ, ◌+◌, ◌≤◌, IsErrOf};
+ghost use Rattle.std.specs.Prelude.{◌≡◌, ℕ, ◌+◌, ◌≤◌, IsErrOf, OnOk};
 ghost use Rattle.outside.specs.Calls.{IsUnbroken, IsOrderly};
 ghost use Rattle.outside.specs.Causes.{Rose, next_count};
 ghost use Rattle.script_files.specs.Replayed.{Replays, ReplaysFile, steps_of};
@@ -24,6 +24,8 @@ pub fn replay_in_file<H: Shelf>(alloc: Global, name: &str, shelf: &mut H) -> Res
         Rose (H.faults shelf.old) (H.faults shelf.new) }
     ensures opens { H.opens shelf.new ≡ next_count (H.opens shelf.old) }
     ensures calls { H.calls shelf.new ≤ H.calls shelf.old + READ_LIMIT + 1 }
+    ensures unbroken { OnOk result (IsUnbroken (H.course shelf.old)
+        → IsUnbroken (H.course shelf.new)) }
     ensures orderly { IsUnbroken (H.course shelf.old) → IsOrderly (H.course shelf.new) }
     ensures faults { H.faults shelf.old ≤ H.faults shelf.new }
 {

@@ -47,11 +47,15 @@ pub fn scripts_in_files<H: Shelf>(
         H.opens shelf.new ≡ opened (H.opens shelf.old) file }
     ensures opens { OpensInTurn (H.opens shelf.old) (H.opens shelf.new)
         (files_read (length names.now)) }
+    ensures all_opened { OnOk result (H.opens shelf.new
+        ≡ opened (H.opens shelf.old) (length names.now)) }
     ensures stops { StopsBehind 1 0
         (map (H.holds shelf.old) (map (λ name. name.now) names.now))
         (H.opens shelf.old) (H.opens shelf.new) }
     ensures calls { H.calls shelf.new
         ≤ H.calls shelf.old + files_read (length names.now) * (READ_LIMIT + 1) }
+    ensures unbroken { OnOk result (IsUnbroken (H.course shelf.old)
+        → IsUnbroken (H.course shelf.new)) }
     ensures orderly { IsUnbroken (H.course shelf.old) → IsOrderly (H.course shelf.new) }
     ensures faults { H.faults shelf.old ≤ H.faults shelf.new }
 {
@@ -78,11 +82,15 @@ fn scripts_in_turn<H: Shelf>(
     ensures read_file { (file : ℕ) → IsErrOf result (Fault.ReadFault file) →
         H.opens shelf.new ≡ opened (H.opens shelf.old) file }
     ensures opens { OpensInTurn (H.opens shelf.old) (H.opens shelf.new) (length names.now) }
+    ensures all_opened { OnOk result (H.opens shelf.new
+        ≡ opened (H.opens shelf.old) (length names.now)) }
     ensures stops { StopsBehind 1 0
         (map (H.holds shelf.old) (map (λ name. name.now) names.now))
         (H.opens shelf.old) (H.opens shelf.new) }
     ensures calls { H.calls shelf.new
         ≤ H.calls shelf.old + length names.now * (READ_LIMIT + 1) }
+    ensures unbroken { OnOk result (IsUnbroken (H.course shelf.old)
+        → IsUnbroken (H.course shelf.new)) }
     ensures orderly { IsUnbroken (H.course shelf.old) → IsOrderly (H.course shelf.new) }
     ensures faults { H.faults shelf.old ≤ H.faults shelf.new }
 {
@@ -119,6 +127,8 @@ fn add_scripts<H: Shelf>(
     ensures read_file { (place : ℕ) → IsErrOf result (Fault.ReadFault place) → (more : ℕ)
         × (file + more ≡ place + 1) × (H.opens shelf.new ≡ opened (H.opens shelf.old) more) }
     ensures opens { OpensInTurn (H.opens shelf.old) (H.opens shelf.new) (length names.now) }
+    ensures all_opened { OnOk result (H.opens shelf.new
+        ≡ opened (H.opens shelf.old) (length names.now)) }
     ensures stops { StopsBehind file before
         (map (H.holds shelf.old) (map (λ name. name.now) names.now))
         (H.opens shelf.old) (H.opens shelf.new) }

@@ -1,12 +1,13 @@
-use Rattle.std.proofs.Common.{ℕ, List, map, sym, subst, Bor}
+use Rattle.std.proofs.Common.{ℕ, List, ◌≡◌, map, length, sym, subst, Bor}
 use Rattle.std.specs.Prelude.{Ok, Vec}
 use Rattle.std.specs.declared.alloc.Global.{Global}
 use Rattle.doc_model.specs.declared.command.Command.{Command}
 use Rattle.run_words.specs.Requests.{run_asked_by}
+use Rattle.script_files.specs.Files.{opened}
 use Rattle.script_files.specs.Reading.{lists_of}
 use Rattle.script_files.specs.Scripts.{AreScripts, StopsBehind}
 use Rattle.doc_run.specs.Clients.{options_of}
-use Rattle.doc_run.proofs.Deciding.{decided}
+use Rattle.doc_run.proofs.Deciding.{decided, on_ok}
 use Rattle.doc_run.proofs.clients.run_files.Goals as goal
 
 pub returns-in-Ok-clause-finished : goal.returns-in-Ok-clause-finished
@@ -38,3 +39,14 @@ returns-in-Err-clause-stops g c =
     (map (g.H.Shelf.holds c.args.shelf.now) (map (λ name. name.now) names))
     (g.H.Shelf.opens c.args.shelf.now) (g.H.Shelf.opens c.scripts_in_files.new.shelf))
     c.deref.ensures.value c.in-Err.ensures.stops
+
+pub returns-in-Ok-clause-all_opened : goal.returns-in-Ok-clause-all_opened
+returns-in-Ok-clause-all_opened g c =
+    on_ok c.run_all.result
+    (subst
+    (λ (names : List (Bor (List ℕ))). g.H.Shelf.opens c.scripts_in_files.new.shelf
+    ≡ opened (g.H.Shelf.opens c.args.shelf.now) (length names))
+    c.deref.ensures.value c.in-Ok.ensures.all_opened)
+
+pub returns-in-Ok-clause-unbroken : goal.returns-in-Ok-clause-unbroken
+returns-in-Ok-clause-unbroken g c = on_ok c.run_all.result c.in-Ok.ensures.unbroken
