@@ -268,7 +268,7 @@ impl<'a, P: Keeping> Mutator<'a, P> {
         requires may { MayClaim self.old.seat.me cell }
         ensures told { (found : Colour) × (result ≡ is_blue found)
             × (self.new ≡ takes self.old (event.Claim self.old.seat.me.number cell)
-                (finds.Colour found)) }
+            (finds.Colour found)) }
         ensures new { result ≡ true → IsNewTo (held_cells self.old) self.old.seat.me.known cell }
     {
         self.seat.claim(self.heap, cell)

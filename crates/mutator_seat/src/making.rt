@@ -28,7 +28,7 @@ impl<'a, P: Keeping> Mutator<'a, P> {
         ensures told { (found : Field) × (result
             ≡ value_found (length self.old.seat.me.own.held) found)
             × AtEvent P.holds P.fixed self.old.seat.me
-                (event.Read self.old.seat.me.number place field) C.next
+            (event.Read self.old.seat.me.number place field) C.next
             (finds.Field found) self.new.seat.me }
     {
         self.seat.read::<C>(self.heap, place, field)
@@ -39,10 +39,10 @@ impl<'a, P: Keeping> Mutator<'a, P> {
         requires may { MayFill self.old.seat.me place field (field_at self.old.seat.me.own.held value) }
         requires rule { Picks P.holds P.fixed C.next self.old.seat.me
             (event.Fill self.old.seat.me.number place field
-                (field_at self.old.seat.me.own.held value)) }
+            (field_at self.old.seat.me.own.held value)) }
         ensures told { self.new ≡ takes_with self.old
             (event.Fill self.old.seat.me.number place field
-                (field_at self.old.seat.me.own.held value)) finds.Stored
+            (field_at self.old.seat.me.own.held value)) finds.Stored
             (C.next nothing_learned finds.Stored self.old.seat.me.pass) }
     {
         self.seat.fill::<C>(self.heap, place, field, value);

@@ -49,7 +49,7 @@ impl<'a, P: Keeping> Mutator<'a, P> {
         ensures presence { self.new.seat.me.presence ≡ self.old.seat.me.presence }
         ensures marks { marks_stand (barrier_in self.new.seat.me.presence.status self.new.seat.me.own.mode)
             self.new.seat.me.own.held (field_at self.new.seat.me.own.held old)
-                (field_at self.new.seat.me.own.held new) ≡ true }
+            (field_at self.new.seat.me.own.held new) ≡ true }
     {
         let control = self.look_once();
         let wanted = barrier(self.status(), control);
@@ -68,7 +68,7 @@ impl<'a, P: Keeping> Mutator<'a, P> {
         ensures presence { self.new.seat.me.presence ≡ self.old.seat.me.presence }
         ensures marks { marks_stand wanted self.new.seat.me.own.held
             (field_at self.new.seat.me.own.held old) (field_at self.new.seat.me.own.held new)
-                ≡ true }
+            ≡ true }
     {
         match wanted {
             Barrier::Nothing => (),
@@ -89,7 +89,7 @@ impl<'a, P: Keeping> Mutator<'a, P> {
         ensures presence { self.new.seat.me.presence ≡ self.old.seat.me.presence }
         ensures marks { marks_stand barrier.Both self.new.seat.me.own.held
             (field_at self.new.seat.me.own.held old) (field_at self.new.seat.me.own.held new)
-                ≡ true }
+            ≡ true }
     {
         self.mark_value(old);
         self.mark_value(new);

@@ -99,7 +99,7 @@ pub(crate) fn copy_all<P: Keeping, R: Wait>(
     requires marks { length minor.now.records ≤ length marks.now }
     requires closed { (k i : ℕ) (older : MinorRef) → i < 5 → slice_index_or marks.now k false ≡ true
         → field_at minor.now.records k i ≡ field.Minor older
-            → slice_index_or marks.now older.number false ≡ true }
+        → slice_index_or marks.now older.number false ≡ true }
     requires shares { (k i : ℕ) → i < 5 → slice_index_or marks.now k false ≡ true
         → SharesRecord m.old.seat.me.known (field_at minor.now.records k i) }
     requires places { length minor.now.records ≤ length places.old }
@@ -174,7 +174,7 @@ pub(crate) fn give_back<P: Keeping>(m: &mut Mutator<'_, P>, held: usize)
     ensures same { length m.old.seat.me.own.held ≡ held → m.new ≡ m.old }
     ensures cut { held < length m.old.seat.me.own.held → m.new
         ≡ takes m.old (event.Keep m.old.seat.me.number held 0 0)
-            (finds.Presence m.old.seat.me.presence) }
+        (finds.Presence m.old.seat.me.presence) }
 {
     if held < m.held_len() {
         m.cut(held);
@@ -192,9 +192,9 @@ pub(crate) fn hold_roots<P: Keeping>(m: &mut Mutator<'_, P>, places: &[usize], r
         roots.now }
     ensures appended { Appended m.old
         (map (λ r. slice_index_or (held_cells m.old) (slice_index_or places.now r.number 0) 0)
-            roots.now)
+        roots.now)
         (map (λ r. known_at m.old.seat.me.known (slice_index_or places.now r.number 0)) roots.now)
-            m.new }
+        m.new }
 {
     for r in roots {
         let held = m.held_len();

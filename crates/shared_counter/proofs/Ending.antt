@@ -119,45 +119,45 @@ module _ (h : Shape) (image : ImageView) (v w t0 t1 t2 t3 : View Added) (a b c d
     (all : w ≡ joined_view (joined_view (joined_view (joined_view v t0) t1) t2) t3)
     (e : Ended (λ number setting. record { sum = 0 }) Counts no_field_is_fixed h (Unit {0})
     image.words w)
-    where
-  -- the passes sum to what they have added
-  summed : sum_of e.shows.passes ≡ a + b + c + d
-  summed =
-      let j0 = places.Joined (share_of t0) in
-      let j1 = places.Joined (share_of t1) in
-      let j2 = places.Joined (share_of t2) in
-      let j3 = places.Joined (share_of t3) in
-      let at : w.places ≡ j0 ∷ j1 ∷ j2 ∷ j3 ∷ [] =
-      ap (λ (x : View Added). x.places) all
-      ∙ (λ i. slice_set (slice_set (slice_set (slice_set v.places (n0 i) j0) (n1 i) j1) (n2 i) j2)
-      (n3 i) j3) ∙ joined_four v.places j0 j1 j2 j3 many in
-      let pass : (i : ℕ) (t : View Added) → get_elem? (j0 ∷ j1 ∷ j2 ∷ j3 ∷ []) i
-      ≡ some (places.Joined (share_of t)) → get_elem? e.shows.passes i ≡ some t.pass =
-      λ i t there. (e.collector.joined i (share_of t)
-      (ap (λ (ps : List (Place Added)). get_elem? ps i) at ∙ there)).pass in
-      four_passes e.shows.passes t0.pass t1.pass t2.pass t3.pass (e.passes_fit ∙ mutators)
-      (pass 0 t0 refl) (pass 1 t1 refl) (pass 2 t2 refl) (pass 3 t3 refl)
-      ∙ (λ i. (p0 i).sum + (p1 i).sum + (p2 i).sum + (p3 i).sum)
+  where
+    -- the passes sum to what they have added
+    summed : sum_of e.shows.passes ≡ a + b + c + d
+    summed =
+        let j0 = places.Joined (share_of t0) in
+        let j1 = places.Joined (share_of t1) in
+        let j2 = places.Joined (share_of t2) in
+        let j3 = places.Joined (share_of t3) in
+        let at : w.places ≡ j0 ∷ j1 ∷ j2 ∷ j3 ∷ [] =
+        ap (λ (x : View Added). x.places) all
+        ∙ (λ i. slice_set (slice_set (slice_set (slice_set v.places (n0 i) j0) (n1 i) j1) (n2 i) j2)
+        (n3 i) j3) ∙ joined_four v.places j0 j1 j2 j3 many in
+        let pass : (i : ℕ) (t : View Added) → get_elem? (j0 ∷ j1 ∷ j2 ∷ j3 ∷ []) i
+        ≡ some (places.Joined (share_of t)) → get_elem? e.shows.passes i ≡ some t.pass =
+        λ i t there. (e.collector.joined i (share_of t)
+        (ap (λ (ps : List (Place Added)). get_elem? ps i) at ∙ there)).pass in
+        four_passes e.shows.passes t0.pass t1.pass t2.pass t3.pass (e.passes_fit ∙ mutators)
+        (pass 0 t0 refl) (pass 1 t1 refl) (pass 2 t2 refl) (pass 3 t3 refl)
+        ∙ (λ i. (p0 i).sum + (p1 i).sum + (p2 i).sum + (p3 i).sum)
 
-  -- and so the anchor names the record of that number
-  counted : (cell : ℕ) × ((field_of e.shows.core 0 0 ≡ word.Cell cell)
-      × (field_of e.shows.core cell 0 ≡ word.Num (a + b + c + d)))
-  counted =
-      counter_from e.shows.core e.shows.lore e.shows.facts (a + b + c + d)
-      (field_of e.shows.core 0 0) refl
-      (counter_is e.shows.core e.shows.lore e.shows.passes e.shows.kept
-      ∙ ap (λ (n : ℕ). Plain (number_record n)) summed)
+    -- and so the anchor names the record of that number
+    counted : (cell : ℕ) × ((field_of e.shows.core 0 0 ≡ word.Cell cell)
+        × (field_of e.shows.core cell 0 ≡ word.Num (a + b + c + d)))
+    counted =
+        counter_from e.shows.core e.shows.lore e.shows.facts (a + b + c + d)
+        (field_of e.shows.core 0 0) refl
+        (counter_is e.shows.core e.shows.lore e.shows.passes e.shows.kept
+        ∙ ap (λ (n : ℕ). Plain (number_record n)) summed)
 
-  pub leaves : v.control.duty ≡ false → Shows image e.shows.core
-      → Leaves h.cells (a + b + c + d) (freed_by v.trail) image w
-  leaves off shows = record {
-    shape = h;
-    cells_are = refl;
-    mutators_are = mutators;
-    ended = e;
-    shows = shows;
-    counter = ap (number_behind e.shows.core) counted.1.0 ∙ ap number_in counted.1.1;
-    summed = summed;
-    freed_are = ap (λ (x : View Added). freed_by x.trail) all;
-    off_duty = ap (λ (x : View Added). x.control.duty) all ∙ off;
-  }
+    pub leaves : v.control.duty ≡ false → Shows image e.shows.core
+        → Leaves h.cells (a + b + c + d) (freed_by v.trail) image w
+    leaves off shows = record {
+      shape = h;
+      cells_are = refl;
+      mutators_are = mutators;
+      ended = e;
+      shows = shows;
+      counter = ap (number_behind e.shows.core) counted.1.0 ∙ ap number_in counted.1.1;
+      summed = summed;
+      freed_are = ap (λ (x : View Added). freed_by x.trail) all;
+      off_duty = ap (λ (x : View Added). x.control.duty) all ∙ off;
+    }
