@@ -25,8 +25,7 @@ returns-in_err-ended-clause-reads g c = λ is.
 
 pub loop-preserved : goal.loop-preserved
 loop-preserved g c =
-    let outrun = rw c.in-None-ended.is at c.in_ok-ended.ensures.ends in
-    (
+    let outrun = rw c.in-None-ended.is at c.in_ok-ended.ensures.ends in (
       lost_then c.loop.invariant.0 outrun.lost,
       (
         c.in_ok-ended.ensures.lent ∙ c.loop.invariant.1.0,
