@@ -41,11 +41,12 @@ module _ (m n : Bound Pass) (minor : Nursery) (cells : List ℕ) (holds : Holds 
 
       pub holds_rests : (more : ℕ) → length cells ≤ more
           → commit_numbers n.seat.me.pass ≡ commit_numbers m.seat.me.pass
+          → n.seat.me.own.claims ≡ m.seat.me.own.claims
           → Rests more (state_of m minor d b) (state_of n minor d b)
-      holds_rests more few commits =
+      holds_rests more few commits claims =
           rests_on (length m.seat.me.own.held) m n minor minor
           (holds_carries m n minor cells holds ordered lasts same) d b sound sound.kept more commits
-          refl
+          claims refl
           (let many = holds_held m n minor cells holds in omega (arith, many, few))
 
 -- On trees: an edit.
@@ -91,7 +92,7 @@ module _ (m n : Bound Pass) (old new : Nursery) (left : LeavesAll m n old new) w
     pub all_rests : Rests 0 (state_of m old d b) (state_of n new d b)
     all_rests =
         rests_on (length m.seat.me.own.held) m n old new (carries_left m n old new left.leaves) d b
-        sound sound.kept 0 (ap commit_numbers left.leaves.pass) all_records
+        sound sound.kept 0 (ap commit_numbers left.leaves.pass) left.leaves.claims all_records
         (let same = all_held in omega (arith, same))
 
 -- what an edit answers, in both words for it
@@ -121,3 +122,13 @@ trim_commits m n v keep trims nothing = by_number (cases_lt v.number keep)
         → commit_numbers n.seat.me.pass ≡ commit_numbers m.seat.me.pass
     by_number (inl lt) = ap (λ (b : Bound Pass). commit_numbers b.seat.me.pass) (nothing lt)
     by_number (inr le) = ap commit_numbers (trims le).pass
+
+pub trim_claims : (m n : Bound Pass) (v : HeldVersion) (keep : ℕ)
+    → (keep ≤ v.number → Trims m n v keep) → (v.number < keep → n ≡ m)
+    → n.seat.me.own.claims ≡ m.seat.me.own.claims
+trim_claims m n v keep trims nothing = by_number (cases_lt v.number keep)
+  where
+    by_number : (v.number < keep) ⊎ (keep ≤ v.number)
+        → n.seat.me.own.claims ≡ m.seat.me.own.claims
+    by_number (inl lt) = ap (λ (b : Bound Pass). b.seat.me.own.claims) (nothing lt)
+    by_number (inr le) = (trims le).claims

@@ -36,10 +36,13 @@ module _ (m n : Bound Pass) (many from copies : ℕ) (p : Found)
   pub keep_pass : n.seat.me.pass ≡ m.seat.me.pass
   keep_pass = ap (λ (b : Bound Pass). b.seat.me.pass) told
 
+  pub keep_claims : n.seat.me.own.claims ≡ m.seat.me.own.claims
+  keep_claims = ap (λ (b : Bound Pass). b.seat.me.own.claims) told
+
   keep_lasts : LastsAcross m n
   keep_lasts = lasts_by m n keep_goes
       (subst (λ (q : Pass). Grows m.seat.me.pass q) (sym keep_pass) (grows_still m.seat.me.pass))
-      (let same = ap (λ (b : Bound Pass). b.seat.me.own.claims) told in omega (arith, same))
+      (let same = keep_claims in omega (arith, same))
 
   keep_known : StaysKnown many m n
   keep_known place lt =

@@ -57,11 +57,13 @@ module _ (places : ℕ) (m n : Bound Pass) (old new : Nursery) (c : Carries plac
 
       pub rests_on : (more : ℕ)
           → commit_numbers n.seat.me.pass ≡ commit_numbers m.seat.me.pass
+          → n.seat.me.own.claims ≡ m.seat.me.own.claims
           → length new.records ≡ length old.records
           → length n.seat.me.own.held ≤ length m.seat.me.own.held + more
           → Rests more (state_of m old d b) (state_of n new d b)
-      rests_on more commits records held = record {
+      rests_on more commits claims records held = record {
         lasts = lasts_on m n old new c.follows d d b b;
+        claims = claims;
         commits = commits;
         draft = draft_on;
         base = refl;

@@ -23,6 +23,7 @@ state_of m minor draft base = record {
   claims = m.seat.me.own.claims;
   draft = tree_at m minor draft;
   base = base;
+  held = length m.seat.me.own.held;
   room = m.seat.me.room - (length m.seat.me.own.held + length minor.records);
   spare = minor.room - length minor.records;
 }

@@ -15,6 +15,7 @@ pub(crate) fn cut_back(m: &mut Mutator<'_, Documents>, minor: &MinorHeap, places
     ensures carries { Carries places m.old m.new minor.now minor.now }
     ensures held { length m.new.seat.me.own.held ≡ places }
     ensures pass { m.new.seat.me.pass ≡ m.old.seat.me.pass }
+    ensures claims { m.new.seat.me.own.claims ≡ m.old.seat.me.own.claims }
 {
     // As much is known as is held, and records name older ones.
     let _held = m.held_len();

@@ -90,6 +90,8 @@ pub trait StoreSeat<Q> {
         ensures cut { IfErr result (λ cut.
             FindsNewer (bound self.old) (bound self.new) v cut.newer) }
         ensures held { OnErr result (Holds [] (bound self.old) (bound self.new)) }
+        ensures claims { (bound self.new).seat.me.own.claims
+            ≡ (bound self.old).seat.me.own.claims }
         ensures lasts { LastsAcross (bound self.old) (bound self.new) }
         ensures same { IsSameMutator (bound self.old) (bound self.new) };
 
@@ -119,6 +121,8 @@ pub trait StoreSeat<Q> {
         ensures carries { Carries (length (bound self.old).seat.me.own.held)
             (bound self.old) (bound self.new) minor.old minor.new }
         ensures pass { (bound self.new).seat.me.pass ≡ (bound self.old).seat.me.pass }
+        ensures claims { (bound self.new).seat.me.own.claims
+            ≡ (bound self.old).seat.me.own.claims }
         ensures minor { minor.new ≡ minor.old }
         ensures held { length (bound self.new).seat.me.own.held
             ≤ length (bound self.old).seat.me.own.held + length names.now };
@@ -323,6 +327,8 @@ pub trait StoreSeat<Q> {
         requires kept { places ≤ length (bound self.old).seat.me.own.held }
         ensures carries { Carries places (bound self.old) (bound self.new) minor.now minor.now }
         ensures held { length (bound self.new).seat.me.own.held ≡ places }
+        ensures claims { (bound self.new).seat.me.own.claims
+            ≡ (bound self.old).seat.me.own.claims }
         ensures pass { (bound self.new).seat.me.pass ≡ (bound self.old).seat.me.pass };
 }
 
@@ -373,6 +379,7 @@ impl<'h, 'q> StoreSeat<Hints<'q>> for Mutator<'h, Documents> {
         ensures cut { IfErr result (λ cut.
             FindsNewer self.old self.new v cut.newer) }
         ensures held { OnErr result (Holds [] self.old self.new) }
+        ensures claims { self.new.seat.me.own.claims ≡ self.old.seat.me.own.claims }
         ensures lasts { LastsAcross self.old self.new }
         ensures same { IsSameMutator self.old self.new }
     {
@@ -406,6 +413,7 @@ impl<'h, 'q> StoreSeat<Hints<'q>> for Mutator<'h, Documents> {
         ensures carries { Carries (length self.old.seat.me.own.held)
             self.old self.new minor.old minor.new }
         ensures pass { self.new.seat.me.pass ≡ self.old.seat.me.pass }
+        ensures claims { self.new.seat.me.own.claims ≡ self.old.seat.me.own.claims }
         ensures minor { minor.new ≡ minor.old }
         ensures held { length self.new.seat.me.own.held
             ≤ length self.old.seat.me.own.held + length names.now }
@@ -630,6 +638,7 @@ impl<'h, 'q> StoreSeat<Hints<'q>> for Mutator<'h, Documents> {
         requires kept { places ≤ length self.old.seat.me.own.held }
         ensures carries { Carries places self.old self.new minor.now minor.now }
         ensures held { length self.new.seat.me.own.held ≡ places }
+        ensures claims { self.new.seat.me.own.claims ≡ self.old.seat.me.own.claims }
         ensures pass { self.new.seat.me.pass ≡ self.old.seat.me.pass }
     {
         places::cut_back(self, minor, places);

@@ -29,6 +29,7 @@ pub(crate) fn node_below(
     ensures shared { is_shared at ≡ true → ForSome result (λ a. is_shared a ≡ true) }
     ensures carries { Carries (length m.old.seat.me.own.held) m.old m.new minor.old minor.new }
     ensures pass { m.new.seat.me.pass ≡ m.old.seat.me.pass }
+    ensures claims { m.new.seat.me.own.claims ≡ m.old.seat.me.own.claims }
     ensures minor { minor.new ≡ minor.old }
     ensures held { length m.new.seat.me.own.held
         ≤ length m.old.seat.me.own.held + length names.now }
@@ -61,6 +62,7 @@ fn step(
     ensures shared { is_shared at ≡ true → ForSome result (λ a. is_shared a ≡ true) }
     ensures carries { Carries (length m.old.seat.me.own.held) m.old m.new minor.old minor.new }
     ensures pass { m.new.seat.me.pass ≡ m.old.seat.me.pass }
+    ensures claims { m.new.seat.me.own.claims ≡ m.old.seat.me.own.claims }
     ensures minor { minor.new ≡ minor.old }
     ensures held { length m.new.seat.me.own.held ≤ length m.old.seat.me.own.held + 1 }
 {

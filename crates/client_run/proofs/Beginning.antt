@@ -95,5 +95,6 @@ module _ (m : Bound Pass) (minor : Nursery) (r : MinorRef)
           (ap tree_of draft_bare ∙ bare_is_empty);
       sound = begin_sound;
       ready = let is = one in omega (arith, is, held, many, places);
+      settled = held;
       copied = omega (arith, room, copied);
     }

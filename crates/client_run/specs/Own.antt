@@ -1,6 +1,6 @@
 -- What a session needs of its own parts and of the mutator that is lent to it.
 -- Source: this project's.
-use Rattle.std.specs.Prelude.{ℕ, ◌≤◌}
+use Rattle.std.specs.Prelude.{ℕ, ◌≡◌, ◌≤◌, length}
 use Rattle.client_heap.specs.Shows.{state_of}
 use Rattle.client_heap.specs.Sound.{IsSound}
 use Rattle.client_records.specs.declared.at.NodeAt.{NodeAt}
@@ -12,12 +12,13 @@ use Rattle.mutator_seat.specs.Bound.{Bound}
 use Rattle.version_rule.specs.Pass.{Pass}
 
 -- The mutator is in, and is this session's: the log is in step with its pass and its trail. Its
--- held list has the draft's places, and room behind them.
+-- held list has the draft's places and no more, and room behind them.
 pub record MayAnswer (j : Journal) (m : Bound Pass) (minor : Nursery) (copies : ℕ)
     (draft : NodeAt) (base : ℕ) : Type 0 where
   pub client : (1 ≤ j.log.client) × (j.log.client ≤ 64)
   pub step : InStep j (state_of m minor draft base)
   pub sound : IsSound m minor draft base
   pub ready : IsReady (state_of m minor draft base)
+  pub settled : length m.seat.me.own.held ≡ base
   -- each private record can be copied
   pub copied : minor.room ≤ copies

@@ -2,12 +2,14 @@
 //!
 //! The layer above may rely on this: all that client_session says of a journal's answers holds, in
 //! the words of the mutator, the private heap and the draft; what an answer needs of these holds
-//! behind it again; and the mutator is the same one then, with hints of the same queue.
+//! behind it again, and behind handshakes that the mutator answers then; and the mutator is the same
+//! one then, with hints of the same queue.
 //!
-//! Reading order: specs/Own; then `over`, `session`.
+//! Reading order: specs/Own, Places; then `over`, `session`, `theorems`.
 #![tactic(auto)]
 
 mod over;
 mod session;
+pub mod theorems;
 
 pub use session::{Limits, Session};

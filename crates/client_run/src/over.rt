@@ -1,8 +1,10 @@
 //! An answer over whatever stands for a mutator and its hints.
-ghost use Rattle.std.specs.Prelude.{◌≡◌, ◌<◌, IfOk, OnErr, length};
+ghost use Rattle.std.specs.Prelude.{◌≡◌, ◌<◌, IfOk, OnErr, false, length, true};
 ghost use Rattle.client_heap.specs.Shows.{state_of};
 ghost use Rattle.client_run.specs.Own.{MayAnswer};
+ghost use Rattle.client_run.specs.Places.{CollectsNone, HoldsNoMore};
 ghost use Rattle.client_session.specs.Turns.{Enters};
+ghost use Rattle.client_turns.specs.Demands.{is_keeping, is_reading};
 ghost use Rattle.client_turns.specs.Turns.{Lost};
 ghost use Rattle.version_store.specs.Lasts.{IsSameMutator};
 
@@ -35,6 +37,9 @@ pub(crate) fn answer_over<M: StoreSeat<Q>, Q, R: Wait>(
     ensures enters { IfOk result (λ reply. Enters journal.old journal.new command.now reply
         (state_of (M.bound m.old) minor.old draft.old base.old)
         (state_of (M.bound m.new) minor.new draft.new base.new)) }
+    ensures held { is_keeping command.now ≡ false → HoldsNoMore (M.bound m.old) (M.bound m.new) }
+    ensures reads { is_reading command.now ≡ true
+        → CollectsNone (M.bound m.old) (M.bound m.new) minor.old minor.new }
     ensures same { IsSameMutator (M.bound m.old) (M.bound m.new) }
     ensures queue { M.queue hints.new ≡ M.queue hints.old }
     ensures minor_room { minor.new.room ≡ minor.old.room }

@@ -1,9 +1,11 @@
 //! A session: a journal, a private heap with the memory to copy it, and a draft.
 ghost use Rattle.std.specs.Prelude.{◌≡◌, ◌<◌, ◌≤◌, ◌+◌, ◌*◌, IfOk, OnErr};
-ghost use Rattle.std.specs.Prelude.{[], length, true};
+ghost use Rattle.std.specs.Prelude.{[], false, length, true};
 ghost use Rattle.client_heap.specs.Shows.{state_of};
 ghost use Rattle.client_run.specs.Own.{MayAnswer};
+ghost use Rattle.client_run.specs.Places.{CollectsNone, HoldsNoMore};
 ghost use Rattle.client_session.specs.Turns.{Enters};
+ghost use Rattle.client_turns.specs.Demands.{is_keeping, is_reading};
 ghost use Rattle.client_turns.specs.Turns.{Lost};
 ghost use Rattle.free_cells.specs.Hints.{queue_of};
 ghost use Rattle.mutator_seat.specs.Bound.{Bound};
@@ -40,7 +42,7 @@ pub struct Session {
     pub minor: MinorHeap,
     pub promoter: Promoter,
     pub draft: NodeAt,
-    /// so many places of the held list stay between commands
+    /// so many places are held between commands
     pub base: usize,
 }
 
@@ -104,6 +106,9 @@ impl Session {
         ensures enters { IfOk result (λ reply. Enters self.old.journal self.new.journal command.now
             reply (state_of m.old self.old.minor self.old.draft self.old.base)
             (state_of m.new self.new.minor self.new.draft self.new.base)) }
+        ensures held { is_keeping command.now ≡ false → HoldsNoMore m.old m.new }
+        ensures reads { is_reading command.now ≡ true
+            → CollectsNone m.old m.new self.old.minor self.new.minor }
         ensures same { IsSameMutator m.old m.new }
         ensures queue { queue_of hints.new ≡ queue_of hints.old }
         ensures minor_room { self.new.minor.room ≡ self.old.minor.room }

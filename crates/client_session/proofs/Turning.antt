@@ -5,9 +5,9 @@ use Rattle.client_session.specs.Turns.{Answered, Ends, MayTurn, account_of, boun
 use Rattle.client_session.specs.declared.given.Given.{Given}
 use Rattle.client_session.specs.declared.journal.Journal.{Journal}
 use Rattle.client_session.proofs.Rooms.{may_on}
-use Rattle.client_turns.specs.State.{ClientState}
+use Rattle.client_turns.specs.State.{ClientState, IsReady, Rests}
 use Rattle.client_turns.specs.Turns.{Lost, Turned}
-use Rattle.client_turns.proofs.States.{lost_none, lost_then}
+use Rattle.client_turns.proofs.States.{lost_none, lost_then, none_lost, rests_none}
 use Rattle.client_turns.proofs.Turning.{lost_turned, turned_on}
 use Rattle.doc_model.specs.declared.answer.Account.{Account}
 use Rattle.doc_model.specs.declared.command.Command.{Command}
@@ -20,6 +20,17 @@ same_account : (j : Journal) {s t : ClientState} → Lost s t → account_of j t
 same_account j lost =
     ap (λ (d : DocTree). record { draft = d; last = j.last; answered = length j.log.entries })
     lost.draft
+
+-- however a command ends there is room for every reading, and so there is where room was given back
+pub ends_ready : (j : Journal) (c : Command) (s t : ClientState) {E : Type 0}
+    (r : Result (Option Given) E) → Ends j c s t r → IsReady t
+ends_ready j c s t (Ok (Some g)) ended = ended.turned.ready
+ends_ready j c s t (Ok None) ended = ended.lost.ready
+ends_ready j c s t (Err e) ended = ended.ready
+
+pub rests_on : {s t : ClientState} → IsReady s → Rests 0 s t → Lost s t
+rests_on ready rests =
+    none_lost (let room = rests.room in omega (arith, ready, room)) (rests_none rests)
 
 module _ (j : Journal) (c : Command) (s t u : ClientState) where
   pub answered_late : (g : Given) → Lost s t → Answered j c t u g → Answered j c s u g

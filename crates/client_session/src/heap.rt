@@ -5,7 +5,8 @@ ghost use Rattle.std.specs.Option.{option_map};
 ghost use Rattle.cell_words.specs.declared.fields.Field.TheVariants as field;
 ghost use Rattle.client_session.specs.Handles.{Edits, Handles, Still};
 ghost use Rattle.client_turns.specs.Demands.{version_asks};
-ghost use Rattle.client_turns.specs.State.{ClientState, IsReady, Lasts, Rests, StaysSmall};
+ghost use Rattle.client_turns.specs.State.{ClientState, IsReady, IsSettled, Lasts, Rests};
+ghost use Rattle.client_turns.specs.State.{StaysSmall};
 ghost use Rattle.client_session.specs.Handles.{answered};
 ghost use Rattle.doc_records.specs.Texts.{name_asks, text_asks};
 ghost use Rattle.doc_tree.specs.Edits.{attach, delete, set_text};
@@ -240,6 +241,7 @@ pub trait ClientHeap {
 
     /// Gives back all places but those that the draft needs.
     fn settle(&mut self)
+        ensures settled { IsSettled (state self.new) }
         ensures room { 9100 ≤ (state self.new).room }
         ensures pass { (state self.new).pass ≡ (state self.old).pass }
         ensures rests { Rests 0 (state self.old) (state self.new) }

@@ -2,7 +2,7 @@
 ghost use Rattle.std.specs.Prelude.{◌≡◌, ◌≤◌, IfOk, true};
 ghost use Rattle.client_session.specs.Turns.{Ends, IsPlain, MayTurn, Opens};
 ghost use Rattle.client_turns.specs.Demands.{reply_asks};
-ghost use Rattle.client_turns.specs.State.{Rests};
+ghost use Rattle.client_turns.specs.State.{OnlyReads, Rests};
 ghost use Rattle.doc_model.specs.Answers.{count_shown, names_shown, text_shown, told};
 ghost use Rattle.doc_model.specs.declared.command.Command.TheVariants as command;
 ghost use Rattle.doc_tree.specs.Tree.{node};
@@ -136,6 +136,7 @@ impl Journal {
         requires room { 9100 ≤ (H.state heap.old).room }
         ensures ends { Ends self.now (command.Get path.now) (H.state heap.old) (H.state heap.new)
             result }
+        ensures reads { OnlyReads (H.state heap.old) (H.state heap.new) }
         ensures lent { H.lent heap.new ≡ H.lent heap.old }
     {
         let opened = open(heap);
@@ -155,6 +156,7 @@ impl Journal {
         requires room { 9100 ≤ (H.state heap.old).room }
         ensures ends { Ends self.now (command.List path.now) (H.state heap.old) (H.state heap.new)
             result }
+        ensures reads { OnlyReads (H.state heap.old) (H.state heap.new) }
         ensures lent { H.lent heap.new ≡ H.lent heap.old }
     {
         let opened = open(heap);
@@ -172,6 +174,7 @@ impl Journal {
         requires room { 9100 ≤ (H.state heap.old).room }
         ensures ends { Ends self.now (command.Size path.now) (H.state heap.old) (H.state heap.new)
             result }
+        ensures reads { OnlyReads (H.state heap.old) (H.state heap.new) }
         ensures lent { H.lent heap.new ≡ H.lent heap.old }
     {
         let opened = open(heap);
@@ -192,6 +195,7 @@ impl Journal {
         requires room { 9100 ≤ (H.state heap.old).room }
         ensures ends { Ends self.now (command.Old back path.now) (H.state heap.old)
             (H.state heap.new) result }
+        ensures reads { OnlyReads (H.state heap.old) (H.state heap.new) }
         ensures lent { H.lent heap.new ≡ H.lent heap.old }
     {
         let latest = heap.current();
@@ -224,6 +228,7 @@ impl Journal {
         requires room { 9100 ≤ (H.state heap.old).room }
         ensures ends { Ends self.now (command.DraftGet path.now) (H.state heap.old)
             (H.state heap.new) result }
+        ensures reads { OnlyReads (H.state heap.old) (H.state heap.new) }
         ensures lent { H.lent heap.new ≡ H.lent heap.old }
     {
         let draft = heap.draft();

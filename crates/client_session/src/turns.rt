@@ -1,8 +1,9 @@
 //! Answering: a turn for each try, until one has an answer; then the entry.
 ghost use Rattle.std.specs.Prelude.{◌≡◌, ◌≤◌, ◌<◌, ◌+◌, IfOk, OnErr, length};
-ghost use Rattle.std.specs.Prelude.{[], ◌∷◌, ◌++◌};
+ghost use Rattle.std.specs.Prelude.{[], ◌∷◌, ◌++◌, false, true};
 ghost use Rattle.client_session.specs.Turns.{Answered, Ends, Enters, InStep, MayTurn};
-ghost use Rattle.client_turns.specs.State.{IsReady};
+ghost use Rattle.client_turns.specs.Demands.{is_keeping, is_reading};
+ghost use Rattle.client_turns.specs.State.{IsReady, IsSettled, OnlyReads, Rests, StaysSmall};
 ghost use Rattle.client_turns.specs.Turns.{Lost};
 
 use crate::given::Given;
@@ -12,6 +13,15 @@ use doc_model::{Command, Entry, Reply};
 use doc_tree::NoMemory;
 use std::alloc::Global;
 use std::sync::Wait;
+
+/// Gives back what a try holds beside the places that stay.
+fn give_back<H: ClientHeap>(held: &mut H)
+    ensures settled { IsSettled (H.state held.new) }
+    ensures rests { Rests 0 (H.state held.old) (H.state held.new) }
+    ensures lent { H.lent held.new ≡ H.lent held.old }
+{
+    held.settle();
+}
 
 impl Journal {
     /// One try of a command.
@@ -25,6 +35,8 @@ impl Journal {
         requires may { MayTurn self.now (H.state heap.old) }
         requires room { 9100 ≤ (H.state heap.old).room }
         ensures ends { Ends self.now command.now (H.state heap.old) (H.state heap.new) result }
+        ensures reads { is_reading command.now ≡ true
+            → OnlyReads (H.state heap.old) (H.state heap.new) }
         ensures lent { H.lent heap.new ≡ H.lent heap.old }
     {
         match command {
@@ -53,11 +65,14 @@ impl Journal {
         requires may { MayTurn self.now (H.state heap.old) }
         requires ready { IsReady (H.state heap.old) }
         ensures ends { Ends self.now command.now (H.state heap.old) (H.state heap.new) result }
+        ensures settled { IsSettled (H.state heap.new) }
+        ensures reads { is_reading command.now ≡ true
+            → OnlyReads (H.state heap.old) (H.state heap.new) }
         ensures lent { H.lent heap.new ≡ H.lent heap.old }
     {
         heap.settle();
         let ended = self.try_once(alloc, rt, heap, command);
-        heap.settle();
+        give_back(heap);
         ended
     }
 
@@ -74,6 +89,9 @@ impl Journal {
         ensures answered { IfOk result (λ given.
             Answered self.now command.now (H.state heap.old) (H.state heap.new) given) }
         ensures lost { OnErr result (Lost (H.state heap.old) (H.state heap.new)) }
+        ensures settled { IsSettled (H.state heap.new) }
+        ensures reads { is_reading command.now ≡ true
+            → OnlyReads (H.state heap.old) (H.state heap.new) }
         ensures lent { H.lent heap.new ≡ H.lent heap.old }
     {
         for _ in rt.forever() {
@@ -109,6 +127,11 @@ impl Journal {
         ensures last { OnErr result (self.new.last ≡ self.old.last) }
         ensures entries { OnErr result (self.new.log.entries ≡ self.old.log.entries) }
         ensures lost { OnErr result (Lost (H.state heap.old) (H.state heap.new)) }
+        ensures settled { IsSettled (H.state heap.old) → IsSettled (H.state heap.new) }
+        ensures small { is_keeping command.now ≡ false
+            → StaysSmall (H.state heap.old) (H.state heap.new) }
+        ensures reads { is_reading command.now ≡ true
+            → OnlyReads (H.state heap.old) (H.state heap.new) }
         ensures lent { H.lent heap.new ≡ H.lent heap.old }
     {
         self.log.reserve(1)?;

@@ -42,6 +42,7 @@ opened = record {
   claims = 0;
   draft = empty;
   base = 1;
+  held = 1;
   room = 9_000;
   spare = 0;
 }

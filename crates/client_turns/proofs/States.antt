@@ -11,7 +11,7 @@ use Rattle.version_rule.specs.Pass.{seeing}
 use Rattle.version_rule.proofs.Trees.{committed_grows, cutting_grows, grows_on, grows_still}
 use Rattle.version_rule.proofs.Trees.{reading_grows, seeing_grows}
 use Rattle.client_turns.specs.Progress.{IsAccount, MakesNone}
-use Rattle.client_turns.specs.State.{ClientState, IsReady, Lasts, Rests, StaysSmall}
+use Rattle.client_turns.specs.State.{ClientState, IsReady, Lasts, OnlyReads, Rests, StaysSmall}
 use Rattle.client_turns.specs.Turns.{Lost}
 
 -- What lasts.
@@ -43,6 +43,7 @@ small_then s t u one two = omega (arith, one, two)
 pub rests_still : (s : ClientState) → Rests 0 s s
 rests_still s = record {
   lasts = lasts_still s;
+  claims = refl;
   commits = refl;
   draft = refl;
   base = refl;
@@ -53,6 +54,7 @@ rests_still s = record {
 pub rests_then : {a b : ℕ} {s t u : ClientState} → Rests a s t → Rests b t u → Rests (a + b) s u
 rests_then one two = record {
   lasts = lasts_then one.lasts two.lasts;
+  claims = two.claims ∙ one.claims;
   commits = two.commits ∙ one.commits;
   draft = two.draft ∙ one.draft;
   base = two.base ∙ one.base;
@@ -64,6 +66,7 @@ rests_then one two = record {
 pub rests_within : {a : ℕ} (b : ℕ) {s t : ClientState} → a ≤ b → Rests a s t → Rests b s t
 rests_within b few rests = record {
   lasts = rests.lasts;
+  claims = rests.claims;
   commits = rests.commits;
   draft = rests.draft;
   base = rests.base;
@@ -82,6 +85,21 @@ rests_none rests = record {
   draft = rests.draft;
   small = let is = rests.base in omega (arith, is);
 }
+
+-- Readings.
+
+pub reads_still : (s : ClientState) → OnlyReads s s
+reads_still s = record { claims = refl; base = refl; spare = refl }
+
+pub reads_then : {s t u : ClientState} → OnlyReads s t → OnlyReads t u → OnlyReads s u
+reads_then one two = record {
+  claims = two.claims ∙ one.claims;
+  base = two.base ∙ one.base;
+  spare = two.spare ∙ one.spare;
+}
+
+pub rests_reads : {a : ℕ} {s t : ClientState} → Rests a s t → OnlyReads s t
+rests_reads rests = record { claims = rests.claims; base = rests.base; spare = rests.spare }
 
 -- Calls that make neither a version nor a draft.
 

@@ -63,6 +63,20 @@ is_keeping (command.DraftGet path) = false
 is_keeping (command.Take path) = true
 is_keeping (command.Publish path) = false
 
+-- the command reads, and needs no cells
+abbrev pub is_reading : Command → Bool
+is_reading (command.Put path text) = false
+is_reading (command.Del path) = false
+is_reading (command.Copy «from» to) = false
+is_reading (command.Get path) = true
+is_reading (command.List path) = true
+is_reading (command.Size path) = true
+is_reading (command.Old back path) = true
+is_reading (command.DraftPut path text) = false
+is_reading (command.DraftGet path) = true
+is_reading (command.Take path) = false
+is_reading (command.Publish path) = false
+
 -- reads of the version that a command saw, and then of what its reply shows
 abbrev pub ReadsShown : Entry → List Mark → Type 0
 ReadsShown e marks =

@@ -17,6 +17,8 @@ pub record ClientState : Type 0 where
   pub draft : DocTree
   -- the places of the held list that stay between commands
   pub base : ℕ
+  -- all its places
+  pub held : ℕ
   -- the free places of the held list beyond one for each private record
   pub room : ℕ
   -- how many private records there is room for
@@ -30,18 +32,31 @@ pub record Lasts (old new : ClientState) : Type 0 where
   pub grown : Grown old.marks new.marks
   pub claims : old.claims ≤ new.claims
 
--- A call that makes neither a version nor a draft. So many places of the room may be gone.
+-- A call that makes neither a version nor a draft, and claims no cell. So many places of the room
+-- may be gone.
 pub record Rests (places : ℕ) (old new : ClientState) : Type 0 where
   pub lasts : Lasts old new
+  pub claims : new.claims ≡ old.claims
   pub commits : commit_numbers new.pass ≡ commit_numbers old.pass
   pub draft : new.draft ≡ old.draft
   pub base : new.base ≡ old.base
   pub room : old.room ≤ new.room + places
   pub spare : new.spare ≡ old.spare
 
+-- What no reading changes: no cell was claimed, as many places stay, and there is room for as many
+-- private records.
+pub record OnlyReads (old new : ClientState) : Type 0 where
+  pub claims : new.claims ≡ old.claims
+  pub base : new.base ≡ old.base
+  pub spare : new.spare ≡ old.spare
+
 -- between commands there is room for every reading
 abbrev pub IsReady : ClientState → Type 0
 IsReady s = 9_000 ≤ s.room
+
+-- and no place is held but those that stay
+abbrev pub IsSettled : ClientState → Type 0
+IsSettled s = s.held ≡ s.base
 
 -- no more places stay than before, or than the anchor's and one
 abbrev pub StaysSmall : ClientState → ClientState → Type 0

@@ -12,3 +12,6 @@ returns-clause-pass c = c.child-found.ensures.leaves.pass
 
 pub returns-clause-held : goal.returns-clause-held
 returns-clause-held c = last_few _ _ _ c.child-found.ensures.last
+
+pub returns-clause-claims : goal.returns-clause-claims
+returns-clause-claims c = c.child-found.ensures.leaves.claims

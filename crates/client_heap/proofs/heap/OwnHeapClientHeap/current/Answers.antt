@@ -24,6 +24,7 @@ returns-clause-rests g c =
     holds_rests (bound was.m.now) (bound c.current-found.new.self) was.minor.now
     (did.latest.cell ∷ []) did.latest.holds c.len-records.ensures.ordered did.lasts did.same
     was.draft was.base was.sound 1 (omega arith) (ap commit_numbers did.latest.pass)
+    did.latest.claims
 
 pub returns-clause-still : goal.returns-clause-still
 returns-clause-still g c =

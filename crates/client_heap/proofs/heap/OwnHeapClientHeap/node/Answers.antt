@@ -38,7 +38,7 @@ returns-clause-rests g c =
     let held = did.held in
     rests_on _ (bound was.m.now) (bound c.node_below.new.self) was.minor.now c.node_below.new.minor
     did.carries was.draft was.base was.sound was.sound.kept 8 (ap commit_numbers did.pass)
-    (ap (λ (x : _). length x.records) did.minor) (omega (arith, few, same, held))
+    did.claims (ap (λ (x : _). length x.records) did.minor) (omega (arith, few, same, held))
 
 pub returns-clause-still : goal.returns-clause-still
 returns-clause-still g c =

@@ -22,7 +22,7 @@ returns-in-Ok-clause-rests g c =
     let did = c.in-Ok.ensures.older in
     holds_rests (bound was.m.now) (bound c.older.new.self) was.minor.now (did.cell ∷ []) did.holds
     c.len-records.ensures.ordered c.older.ensures.lasts c.older.ensures.same was.draft was.base
-    was.sound 1 (omega arith) (ap commit_numbers did.pass)
+    was.sound 1 (omega arith) (ap commit_numbers did.pass) did.claims
 
 pub returns-in-Ok-clause-still : goal.returns-in-Ok-clause-still
 returns-in-Ok-clause-still g c =
@@ -39,6 +39,7 @@ returns-in-Err-clause-rests g c =
     holds_rests (bound was.m.now) (bound c.older.new.self) was.minor.now [] c.in-Err.ensures.held
     c.len-records.ensures.ordered c.older.ensures.lasts c.older.ensures.same was.draft was.base
     was.sound 1 (omega arith) (ap commit_numbers c.in-Err.ensures.cut.pass)
+    c.older.ensures.claims
 
 pub returns-in-Err-clause-still : goal.returns-in-Err-clause-still
 returns-in-Err-clause-still g c =

@@ -23,7 +23,7 @@ returns-clause-rests g c =
     let did = c.tree.ensures in
     holds_rests (bound was.m.now) (bound c.tree.new.self) was.minor.now (did.root.cell ∷ [])
     did.root.holds c.len-records.ensures.ordered did.lasts did.same was.draft was.base was.sound 1
-    (omega arith) (ap commit_numbers did.root.pass)
+    (omega arith) (ap commit_numbers did.root.pass) did.root.claims
 
 pub returns-clause-still : goal.returns-clause-still
 returns-clause-still g c =

@@ -1,5 +1,5 @@
 use Rattle.std.proofs.Common.{[], arith, refl}
-use Rattle.client_heap.proofs.Calls.{holds_rests, holds_sound, trim_commits}
+use Rattle.client_heap.proofs.Calls.{holds_rests, holds_sound, trim_claims, trim_commits}
 use Rattle.client_heap.proofs.Lending.{lent_stays}
 use Rattle.client_heap.proofs.heap.OwnHeapClientHeap.trim.Goals as goal
 
@@ -22,6 +22,8 @@ returns-clause-rests g c =
     holds_rests (bound was.m.now) (bound c.trim.new.self) was.minor.now [] did.held
     c.len-records.ensures.ordered did.lasts did.same was.draft was.base was.sound 0 (omega arith)
     (trim_commits (bound was.m.now) (bound c.trim.new.self) c.stored.result c.args.keep did.trims
+    did.nothing)
+    (trim_claims (bound was.m.now) (bound c.trim.new.self) c.stored.result c.args.keep did.trims
     did.nothing)
 
 pub returns-clause-lent : goal.returns-clause-lent

@@ -1,10 +1,12 @@
 use Rattle.std.proofs.Common.{◌∙◌, refl}
 use Rattle.client_session.proofs.Turning.{answered_late}
 use Rattle.client_session.proofs.journal.Journal.turns.Goals as goal
-use Rattle.client_turns.proofs.States.{lost_still, lost_then}
+use Rattle.client_turns.proofs.States.{lost_still, lost_then, reads_still, reads_then}
 
 pub loop-init : goal.loop-init
-loop-init g c = (lost_still (g.H.ClientHeap.state c.args.heap.now) c.requires.ready, refl)
+loop-init g c =
+    let s = g.H.ClientHeap.state c.args.heap.now in
+    (lost_still s c.requires.ready, (refl, λ is. reads_still s))
 
 pub returns-in-Some-ended-clause-answered : goal.returns-in-Some-ended-clause-answered
 returns-in-Some-ended-clause-answered g c =
@@ -13,7 +15,20 @@ returns-in-Some-ended-clause-answered g c =
     (state c.turn.new.heap) c.in-Some-ended.given c.loop.invariant.0
     (rw c.in-Some-ended.is at c.in_ok-ended.ensures.ends)
 
+pub returns-in-Some-ended-clause-reads : goal.returns-in-Some-ended-clause-reads
+returns-in-Some-ended-clause-reads g c = λ is.
+    reads_then (c.loop.invariant.1.1 is) (c.in_ok-ended.ensures.reads is)
+
+pub returns-in_err-ended-clause-reads : goal.returns-in_err-ended-clause-reads
+returns-in_err-ended-clause-reads g c = λ is.
+    reads_then (c.loop.invariant.1.1 is) (c.in_err-ended.ensures.reads is)
+
 pub loop-preserved : goal.loop-preserved
 loop-preserved g c =
-    let outrun = rw c.in-None-ended.is at c.in_ok-ended.ensures.ends in
-    (lost_then c.loop.invariant.0 outrun.lost, c.in_ok-ended.ensures.lent ∙ c.loop.invariant.1)
+    let outrun = rw c.in-None-ended.is at c.in_ok-ended.ensures.ends in (
+      lost_then c.loop.invariant.0 outrun.lost,
+      (
+        c.in_ok-ended.ensures.lent ∙ c.loop.invariant.1.0,
+        λ is. reads_then (c.loop.invariant.1.1 is) (c.in_ok-ended.ensures.reads is),
+      ),
+    )
