@@ -19,7 +19,7 @@ use Rattle.version_rule.specs.Pass.{opening_pass, reading, seeing}
 use Rattle.version_rule.proofs.Trees.{grows_on, grows_still, reading_grows, seeing_grows}
 use Rattle.client_turns.specs.Progress.{HasRead, MakesNone}
 use Rattle.client_turns.specs.Runs.{ShowsRun}
-use Rattle.client_turns.specs.State.{ClientState}
+use Rattle.client_turns.specs.State.{ClientState, IsSettled, OnlyReads}
 use Rattle.client_turns.specs.Turns.{IsInStep, account_in, entry_for}
 use Rattle.client_turns.proofs.Commands.{dput_full, get_absent}
 use Rattle.client_turns.proofs.Reading.{tree_known}
@@ -84,7 +84,13 @@ behind = record { client = 1; entries = got ∷ was_refused ∷ []; spare = 0 }
 before_in_step : IsInStep limits opened 0 before
 before_in_step = in_step_opening limits opened before refl refl refl refl
 
--- The get: the version is read, and no node is there.
+-- The get: the version is read, and no node is there. Nothing beside it changes.
+
+pub opened_settled : IsSettled opened
+opened_settled = refl
+
+pub got_only : OnlyReads opened read
+got_only = record { claims = refl; base = refl; spare = refl }
 
 none_made : MakesNone opened read
 none_made = record {

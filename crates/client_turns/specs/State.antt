@@ -17,7 +17,7 @@ pub record ClientState : Type 0 where
   pub draft : DocTree
   -- the places of the held list that stay between commands
   pub base : ℕ
-  -- all its places
+  -- all places that it has
   pub held : ℕ
   -- the free places of the held list beyond one for each private record
   pub room : ℕ
