@@ -6,8 +6,9 @@ ghost use Rattle.promotion_tests.specs.Two.{two};
 use free_cells::Hints;
 use heap_rule::NoRule;
 use minor_heap::{MinorHeap, MinorRef};
-use mutator_seat::{HeapFull, Mutator};
+use mutator_seat::{HeapFull, Mutator, Value};
 use promotion::Promoter;
+use std::marker::Brand;
 use std::sync::Wait;
 
 /// Promotes the record that names the other.
@@ -50,4 +51,26 @@ pub(crate) fn collect_roots<R: Wait>(
     let older = MinorRef { number: 0 };
     let newer = MinorRef { number: 1 };
     promoter.collect(rt, hints, m, minor, &[newer, older, newer], 1)
+}
+
+/// The first field of the cell at a place, where there is such a place, and room for what it names.
+fn first_field(m: &mut Mutator<'_, NoRule>, place: usize) -> Option<Value>
+    requires inside { m.old.seat.me.presence.inside ≡ true }
+    ensures heap { m.new.heap ≡ m.old.heap }
+    ensures inside { m.new.seat.me.presence.inside ≡ true }
+{
+    if place < m.held_len() && m.room() > 0 {
+        Some(m.read::<Brand>(place, 0))
+    } else {
+        None
+    }
+}
+
+/// The first fields of the three cells behind the anchor.
+pub(crate) fn first_fields(m: &mut Mutator<'_, NoRule>) -> [Option<Value>; 3]
+    requires inside { m.old.seat.me.presence.inside ≡ true }
+    ensures heap { m.new.heap ≡ m.old.heap }
+    ensures inside { m.new.seat.me.presence.inside ≡ true }
+{
+    [first_field(m, 1), first_field(m, 2), first_field(m, 3)]
 }

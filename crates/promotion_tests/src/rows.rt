@@ -1,10 +1,10 @@
 //! Rows, worked out by hand. Hints come in order, so that record 0 is copied to cell 1 and record 1
 //! to cell 2; and nobody else claims.
-use crate::calls::{collect_roots, promote_second};
+use crate::calls::{collect_roots, first_fields, promote_second};
 use crate::heaps::{close_one, come_in, leave, open_one, two_records};
 use cell_words::Field;
 use free_cells::FreeQueue;
-use mutator_seat::HeapFull;
+use mutator_seat::{HeapFull, Value};
 use promotion::Promoter;
 use std::test::Fail;
 
@@ -51,6 +51,13 @@ fn roots_stand_in_order_and_equal_ones_share_a_cell(rt: HostRuntime) -> Result<(
     assert_eq!(rt; m.claims(), 2);
     assert_eq!(rt; m.held_len(), 4);
     assert_eq!(rt; minor.len(), 0);
+    // cell 2 alone names a cell
+    let fields = [
+        Some(Value::Held(4)),
+        Some(Value::Num(5)),
+        Some(Value::Held(5)),
+    ];
+    assert_eq!(rt; first_fields(&mut m), fields);
     let seat = leave(m);
     let image = close_one(heap, collector, seat);
     assert_eq!(rt; image.field(2, 0), Field::Cell(1));

@@ -1,8 +1,14 @@
 //! What no clause says of doc_run: whole runs, from the bytes of a file to the bytes written, the
-//! merged history of two clients, and the text of each fault.
+//! merged history of two clients, which gate they ask, and the text of each fault.
+//!
+//! Reading order: `outcomes`; `runs`, `options`, `clients`.
 #![tactic(auto)]
 
 #[cfg(test)]
 mod clients;
+#[cfg(test)]
+mod options;
+#[cfg(test)]
+mod outcomes;
 #[cfg(test)]
 mod runs;

@@ -1,65 +1,11 @@
-use doc_model::NoMemory;
-use doc_run::{Outcome, Words, run};
+//! Whole runs of one client, replays, generated scripts, and what is refused.
+use crate::outcomes::{files, outcome_by, outcome_of, refusal_by, words};
+use doc_run::run;
 use outside::{MemShelf, MemSink, OpenGate, SureShelf, SureSink};
 use script_files::{Fault, fault_text};
-use std::alloc::{AllocError, Global};
-use std::sync::Wait;
 use std::test::Fail;
-use std::thread::Threads;
 
 const HELLO: &[u8] = b"put a hello\nget a\n";
-
-fn words(alloc: Global, all: &[&str]) -> Result<Words, NoMemory> {
-    let mut words = Words::new(alloc);
-    for word in all {
-        words.push(word)?;
-    }
-    Ok(words)
-}
-
-// One file of the name `f`.
-fn files(alloc: Global, bytes: &[u8]) -> Result<Vec<(String, Vec<u8>)>, AllocError> {
-    let name = String::from_str(alloc, "f")?;
-    Ok(vec![in alloc; (name, bytes.to_vec(alloc)?)]?)
-}
-
-// What these words make of a file with these bytes, and what is written.
-pub(crate) fn outcome_by<R: Threads + Wait + Sync>(
-    alloc: Global,
-    rt: &R,
-    all: &[&str],
-    bytes: &[u8],
-) -> Result<(Outcome, SureSink), NoMemory> {
-    let mut shelf = SureShelf::new(files(alloc, bytes)?);
-    let mut sink = SureSink::new(alloc);
-    let words = words(alloc, all)?;
-    let outcome = run(alloc, rt, &words, &mut shelf, &mut sink, &OpenGate);
-    Ok((outcome, sink))
-}
-
-// What `run f` makes of it.
-fn outcome_of<R: Threads + Wait + Sync>(
-    alloc: Global,
-    rt: &R,
-    bytes: &[u8],
-) -> Result<(Outcome, SureSink), NoMemory> {
-    outcome_by(alloc, rt, &["run", "f"], bytes)
-}
-
-// What a refused run shows: its status, and the text of its fault. It has written nothing.
-fn refusal_by<R: Threads + Wait + Sync>(
-    alloc: Global,
-    rt: &R,
-    all: &[&str],
-    bytes: &[u8],
-) -> Result<(u8, Vec<u8>), Fail> {
-    let (outcome, sink) = outcome_by(alloc, rt, all, bytes)?;
-    if !sink.written().is_empty() {
-        return Err(Fail::from("it wrote"));
-    }
-    let fault = outcome.fault.ok_or("a fault")?;
-    Ok((outcome.status, fault_text(alloc, &fault)?))
-}
 
 // A body that always finds no memory is refused here: there is enough.
 #[test]

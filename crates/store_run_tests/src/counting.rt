@@ -1,9 +1,10 @@
-//! Runs of clients with the same script on a heap of the smallest size, in numbers.
+//! Runs of clients with the same script on a heap of the smallest size: their totals, and replies.
 ghost use Rattle.std.specs.Prelude.{◌≤◌};
 
 use crate::scripts::alike;
-use doc_model::Totals;
-use outside::Gate;
+use cmd_text::reply_line;
+use doc_model::{Log, NoMemory, Totals};
+use outside::{Gate, OpenGate};
 use std::alloc::Global;
 use std::sync::Wait;
 use std::test::Fail;
@@ -47,4 +48,31 @@ pub(crate) fn totals_of<R: Threads + Wait + Sync, G: Gate + Sync>(
 {
     let finished = run_of(alloc, rt, clients, text, cycles, gate)?;
     Ok(finished.totals)
+}
+
+/// What the one client of such a run is answered.
+pub(crate) fn replies_of<R: Threads + Wait + Sync>(
+    alloc: Global,
+    rt: &R,
+    text: &[u8],
+    cycles: u32,
+) -> Result<Vec<u8>, Fail>
+    requires cycles { cycles ≤ 4_000_000_000 }
+{
+    let finished = run_of(alloc, rt, 1, text, cycles, &OpenGate)?;
+    let mut replies = Vec::new(alloc);
+    for log in &finished.logs {
+        add_replies(&mut replies, log)?;
+    }
+    Ok(replies)
+}
+
+/// Adds a line for each reply.
+fn add_replies(replies: &mut Vec<u8>, log: &Log) -> Result<(), NoMemory> {
+    let alloc = *replies.allocator();
+    for entry in log.entries() {
+        let line = reply_line(alloc, &entry.reply)?;
+        replies.extend_from_slice(&line)?;
+    }
+    Ok(())
 }

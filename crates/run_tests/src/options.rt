@@ -1,0 +1,60 @@
+//! The options of a run, in rows that were worked out by hand.
+use crate::outcomes::outcome_by;
+use doc_model::NoMemory;
+use std::alloc::Global;
+use std::test::Fail;
+
+/// Puts at 200 names of the draft, 25 times each; then the draft is published.
+fn draft_script(alloc: Global) -> Result<Vec<u8>, NoMemory> {
+    let mut text = Vec::new(alloc);
+    for line in 1..=5_000u32 {
+        let name = line % 200;
+        text.extend_from_slice(format!(in alloc; "dput n{name} t\n")?.as_bytes())?;
+    }
+    text.extend_from_slice(b"publish p\nsize p\n")?;
+    Ok(text)
+}
+
+fn draft_output(alloc: Global) -> Result<Vec<u8>, NoMemory> {
+    let mut text = Vec::from_slice(alloc, b"client 1\n")?;
+    for _ in 0..5_000 {
+        text.extend_from_slice(b"drafted 0\n")?;
+    }
+    text.extend_from_slice(b"ok 1\nnum 1 201\n")?;
+    Ok(text)
+}
+
+// A version that is cut off is gone; none is made past the last.
+#[test]
+fn versions_are_cut_off_and_worn(rt: HostRuntime) -> Result<(), Fail> {
+    let table: [(&[&str], &[u8], &str); 2] = [
+        (
+            &["run", "--keep", "1", "f"],
+            b"put a x\nput a y\nput a z\nold 1 a\n",
+            "client 1\nok 1\nok 2\nok 3\ngone 3 2\n",
+        ),
+        (
+            &["run", "--versions", "2", "f"],
+            b"put a x\nput a x\nput a x\n",
+            "client 1\nok 1\nok 2\nworn 2\n",
+        ),
+    ];
+    for (all, script, output) in table {
+        let (outcome, sink) = outcome_by(rt.alloc(), &rt, all, script)?;
+        assert_eq!(rt; outcome.status, 0, "{output}");
+        assert_eq!(rt; sink.written(), output.as_bytes(), "{output}");
+    }
+    Ok(())
+}
+
+// Far more records than the private heap has room for, so that they are collected again and again.
+#[test]
+fn a_draft_outlives_collections_of_private_records(rt: HostRuntime) -> Result<(), Fail> {
+    let script = draft_script(rt.alloc())?;
+    let output = draft_output(rt.alloc())?;
+    let all = ["run", "--minor", "4096", "f"];
+    let (outcome, sink) = outcome_by(rt.alloc(), &rt, &all, &script)?;
+    assert_eq!(rt; outcome.status, 0);
+    assert_eq!(rt; sink.written(), output.as_slice());
+    Ok(())
+}

@@ -1,0 +1,117 @@
+//! A gate that lets the commands of two clients begin in an order of its own.
+use outside::{CrossGate, Gate};
+use std::sync::atomic::{AtomicBool, AtomicU32, Ordering};
+
+/// As many looks as no thread needs to begin.
+const LOOKS: u64 = 100_000_000;
+
+/// How often each client is sent away before its first command.
+const AWAY: u32 = 3;
+
+/// What one client has asked and told.
+#[derive(Drop)]
+struct Calls {
+    asked: AtomicU32,
+    begun: AtomicU32,
+    next: AtomicU32,
+}
+
+impl Calls {
+    fn new() -> Calls {
+        Calls {
+            asked: AtomicU32::new(0),
+            begun: AtomicU32::new(0),
+            next: AtomicU32::new(1),
+        }
+    }
+
+    /// The number of the command whose reply is not told yet.
+    fn next(&self) -> u32 {
+        self.next.load(Ordering::SeqCst)
+    }
+}
+
+/// A gate for clients 1 and 2. It sends each of them away at first; their first commands meet; and
+/// then client 2 goes on alone, and client 1 behind it.
+#[derive(Drop)]
+pub(crate) struct OrderGate {
+    cross: CrossGate,
+    commands: u32,
+    first: Calls,
+    second: Calls,
+    strange: AtomicBool,
+}
+
+impl OrderGate {
+    /// A gate at which nobody was yet, for so many commands of each client.
+    pub(crate) fn new(commands: u32) -> OrderGate {
+        OrderGate {
+            cross: CrossGate::new(LOOKS),
+            commands,
+            first: Calls::new(),
+            second: Calls::new(),
+            strange: AtomicBool::new(false),
+        }
+    }
+
+    /// Whether one of the two looked for the other in vain.
+    pub(crate) fn late(&self) -> bool {
+        self.cross.late()
+    }
+
+    /// Whether a client asked for another command than its next, or told of one that had not begun.
+    pub(crate) fn strange(&self) -> bool {
+        self.strange.load(Ordering::SeqCst)
+    }
+
+    /// The numbers of the commands that come next.
+    pub(crate) fn next(&self) -> (u32, u32) {
+        (self.first.next(), self.second.next())
+    }
+
+    fn calls(&self, client: u32) -> &Calls {
+        if client == 1 {
+            &self.first
+        } else {
+            &self.second
+        }
+    }
+
+    /// Whether what comes before the command is done. Where the first commands did not meet, nobody
+    /// is waited for.
+    fn is_due(&self, client: u32, number: u32) -> bool {
+        let due = match (client, number) {
+            (_, 1) => true,
+            (1, _) => self.second.next() > self.commands,
+            _ => self.first.next() > 1,
+        };
+        due || self.late()
+    }
+
+    fn note(&self, right: bool) {
+        if !right {
+            self.strange.store(true, Ordering::SeqCst);
+        }
+    }
+}
+
+impl Gate for OrderGate {
+    fn go(&self, client: u32, number: u32) -> bool {
+        let calls = self.calls(client);
+        let asked = calls.asked.fetch_add(1, Ordering::SeqCst);
+        self.note(calls.next() == number);
+        if asked < AWAY || !self.is_due(client, number) {
+            return false;
+        }
+        let met = self.cross.go(client, number);
+        calls.begun.store(number, Ordering::SeqCst);
+        met
+    }
+
+    fn done(&self, client: u32, number: u32) {
+        let calls = self.calls(client);
+        let next = calls.next.fetch_add(1, Ordering::SeqCst);
+        let begun = calls.begun.load(Ordering::SeqCst);
+        self.note(next == number && begun == number);
+    }
+}
