@@ -1,22 +1,56 @@
-//! A collector that makes whichever event comes next, by what its seat says and two flags beside it.
-ghost use Rattle.std.specs.Prelude.{◌≡◌, ◌<◌, true};
+//! A collector that makes whichever event comes next, by what its seat says and the flags beside it.
+ghost use Rattle.std.specs.Prelude.{◌≡◌, ◌<◌, false, true};
 ghost use Rattle.cell_tests.specs.Collecting.{Drives};
 ghost use Rattle.cell_words.specs.declared.controls.Stage.TheVariants as stages;
+ghost use Rattle.core_machine.specs.Words.{is_handshake, same_status};
 
 use cell_heap::{CellHeap, ColSeat};
-use cell_words::{GREATEST_CYCLES, Stage};
+use cell_words::modes::requested;
+use cell_words::{GREATEST_CYCLES, Stage, Status};
 use core_machine::Sweeping;
 use heap_rule::NoRule;
 
 /// What the seat does not show of the collector's part: whether the one mutator has answered, and
-/// whether the anchor is marked.
+/// whether the anchor is marked; and whether a look has found that the mutator has not answered.
 #[derive(Clone, Copy)]
 pub(crate) struct Flags {
     pub(crate) answered: bool,
     pub(crate) marked: bool,
+    pub(crate) polled: bool,
 }
 
-/// Answers for the mutator, if it is out.
+/// Whether both are the same status.
+fn same_status(one: Status, other: Status) -> bool
+    ensures same { result ≡ same_status one other }
+{
+    match (one, other) {
+        (Status::Async, Status::Async) => true,
+        (Status::Sync1, Status::Sync1) => true,
+        (Status::Sync2, Status::Sync2) => true,
+        (Status::Async, Status::Sync1 | Status::Sync2) => false,
+        (Status::Sync1, Status::Async | Status::Sync2) => false,
+        (Status::Sync2, Status::Async | Status::Sync1) => false,
+    }
+}
+
+/// Looks whether the mutator has answered.
+fn poll(heap: &CellHeap<NoRule>, seat: &mut ColSeat<NoRule>, flags: Flags) -> Flags
+    requires drives { Drives heap.now flags seat.old }
+    requires asks { is_handshake seat.old.me.control.stage ≡ true }
+    requires waits { flags.answered ≡ false }
+    ensures drives { Drives heap.now result seat.new }
+{
+    let wanted = requested(seat.control().stage);
+    let found = seat.poll(heap, 0);
+    let answered = same_status(found.status, wanted);
+    Flags {
+        answered,
+        polled: !answered,
+        ..flags
+    }
+}
+
+/// Looks whether the mutator has answered, and then answers for it, if it is out.
 fn answer(heap: &CellHeap<NoRule>, seat: &mut ColSeat<NoRule>, flags: Flags) -> Flags
     requires drives { Drives heap.now flags seat.old }
     ensures drives { Drives heap.now result seat.new }
@@ -25,9 +59,15 @@ fn answer(heap: &CellHeap<NoRule>, seat: &mut ColSeat<NoRule>, flags: Flags) -> 
         seat.control().stage,
         Stage::Sync1 | Stage::Sync2 | Stage::Trace
     );
-    if handshake && !flags.answered {
+    if handshake && !flags.answered && !flags.polled {
+        poll(heap, seat, flags)
+    } else if handshake && !flags.answered {
         let answered = seat.answer_out(heap, 0, false);
-        Flags { answered, ..flags }
+        Flags {
+            answered,
+            polled: false,
+            ..flags
+        }
     } else {
         flags
     }
@@ -47,6 +87,7 @@ fn clear(heap: &CellHeap<NoRule>, seat: &mut ColSeat<NoRule>, flags: Flags) -> F
         Flags {
             answered: false,
             marked: false,
+            ..flags
         }
     } else {
         flags

@@ -3,8 +3,8 @@ use crate::unlinked::{close_one, first_cycle, make_and_leave, open_one};
 use cell_words::{Colour, Field};
 use std::test::Fail;
 
-/// The schedule has 48 events: five are the mutator's, and three polls are left out here.
-const EVENTS: u32 = 40;
+/// The schedule has 48 events, of which five are the mutator's.
+const EVENTS: u32 = 43;
 
 #[test]
 fn an_unlinked_cell_is_freed_in_a_cycle(rt: HostRuntime) -> Result<(), Fail> {
