@@ -5,9 +5,9 @@ the prover should refuse. They are too many for the gate; must-fail/ has those t
     wrong_bodies.py CRATE [NAME..]   all of the crate's, or these
 
 One check tries as many as there are functions, one in each, so ten take little longer than one. A
-function that is not proved counts as the refusal of its wrong body. Of one that is proved nothing is
-known yet where its check waits for a callee's: 'no mark' says so, and it is to be tried alone, by its
-name. The sources are changed in place and put back; whatever is uncommitted in the crate stops it.
+function that is not proved counts as the refusal of its wrong body. 'no mark' says that its function
+is proved; then it is to be tried alone, by its name, since the refusal may come in a caller. The
+sources are changed in place and put back; whatever is uncommitted in the crate stops it.
 """
 import os
 import re
@@ -122,8 +122,10 @@ def main(name, wanted):
                 print(f"{body}: PROVES")
             elif words:
                 print(f"{body}: refused: {words[0][:160]}")
+            elif len(together) == 1:
+                print(f"{body}: refused in {', '.join(str(it) for it in said)}: {[*said.values()][0][0][:160]}")
             else:
-                print(f"{body}: no mark" + (f", but {said}"[:400] if len(together) == 1 else ""))
+                print(f"{body}: no mark")
         sys.stdout.flush()
 
 
