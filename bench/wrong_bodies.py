@@ -1,13 +1,13 @@
 #!/usr/bin/env python3
-"""Tries the wrong bodies of wrong_bodies/CRATE: bugs of the kind that an engineer makes, each of which
-the prover should refuse. They are too many for the gate; must-fail/ has those that tell most.
+"""Tries the wrong bodies of wrong_bodies/CRATE: bugs of the kind that an engineer makes, each of
+which the prover should refuse. They are too many for the gate; must-fail/ has the most telling.
 
     wrong_bodies.py CRATE [NAME..]   all of the crate's, or these
 
 One check tries as many as there are functions, one in each, so ten take little longer than one. A
-function that is not proved counts as the refusal of its wrong body. 'no mark' says that its function
-is proved; then it is to be tried alone, by its name, since the refusal may come in a caller. The
-sources are changed in place and put back; whatever is uncommitted in the crate stops it.
+function that is not proved counts as the refusal of its wrong body. 'no mark' says that its
+function is proved; then it is to be tried alone, by its name, since the refusal may come in a
+caller. The sources are changed in place and put back; whatever is uncommitted in the crate stops it.
 """
 import os
 import re
@@ -20,7 +20,7 @@ FUNCTION = re.compile(r"\s*(?:pub(?:\([^)]*\))? )?(?:const )?fn (\w+)")
 
 
 def wrong_bodies(file):
-    """Gives the names of the wrong bodies, with the changes of each: a file, its old and its new text."""
+    """Gives the wrong bodies by name, each with its changes: a file, its old and its new text."""
     found, source, old = {}, None, None
     for line in open(file, encoding="utf-8"):
         word, _, text = line.rstrip("\n").partition(" ")
@@ -55,7 +55,7 @@ class Crate:
         return self.texts[source]
 
     def functions(self, changes):
-        """Gives the functions that the changes are in, or None where an old text does not stand once."""
+        """Gives the functions that are changed, or None where an old text does not stand once."""
         found = set()
         for source, old, _ in changes:
             text = self.text(source)
