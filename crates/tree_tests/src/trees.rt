@@ -1,50 +1,77 @@
 //! What no clause says: each call on its happy path, and the limits with numbers from outside.
 use crate::made::{name, path, text};
-use doc_tree::{EditFault, Name, Names, Path, Text, Tree};
+use doc_tree::{EditFault, Name, Names, NoMemory, Path, Text, Tree};
 use std::alloc::Global;
 use std::test::Fail;
 
+/// Whether these bytes are a name, a text and a path.
+fn reads(alloc: Global, bytes: &[u8]) -> Result<[bool; 3], NoMemory> {
+    let is_name = Name::read(alloc, bytes)?.is_some();
+    let is_text = Text::read(alloc, bytes)?.is_some();
+    Ok([is_name, is_text, Path::read(alloc, bytes)?.is_some()])
+}
+
+/// The first of these rows whose bytes read otherwise than it says.
+fn first_wrong(alloc: Global, rows: &[(&[u8], [bool; 3])]) -> Result<Option<usize>, NoMemory> {
+    for (row, (bytes, wanted)) in rows.iter().enumerate() {
+        if reads(alloc, bytes)? != *wanted {
+            return Ok(Some(row));
+        }
+    }
+    Ok(None)
+}
+
 #[test]
 fn names_texts_and_paths_are_read_at_their_limits(rt: HostRuntime) -> Result<(), Fail> {
-    let alloc = rt.alloc();
-    let long = vec![in alloc; b'a'; 4097]?;
-    assert!(rt; Name::read(alloc, &long[..64])?.is_some());
-    assert!(rt; Name::read(alloc, &long[..65])?.is_none());
-    assert!(rt; Text::read(alloc, &long[..4096])?.is_some());
-    assert!(rt; Text::read(alloc, &long)?.is_none());
-    for (word, is_name, is_text, is_path) in [
-        ("", false, true, false),
-        ("aZ09-_", true, true, true),
-        (" ~", false, true, false),
-        ("\t", false, false, false),
-        ("a/b", false, true, true),
-        ("a//b", false, true, false),
-        ("/a", false, true, false),
-        ("a/", false, true, false),
-        ("a/b/c/d/e/f/g/h", false, true, true),
-        ("a/b/c/d/e/f/g/h/i", false, true, false),
-    ] {
-        let bytes = word.as_bytes();
-        assert_eq!(rt; Name::read(alloc, bytes)?.is_some(), is_name, "name {word}");
-        assert_eq!(rt; Text::read(alloc, bytes)?.is_some(), is_text, "text {word}");
-        assert_eq!(rt; Path::read(alloc, bytes)?.is_some(), is_path, "path {word}");
-    }
+    let long = [b'a'; 4097];
+    let rows = [
+        (&long[..64], [true, true, true]),
+        (&long[..65], [false, true, false]),
+        (&long[..4096], [false, true, false]),
+        (&long[..], [false, false, false]),
+        (b"".as_slice(), [false, true, false]),
+        (b"aZ09-_".as_slice(), [true, true, true]),
+        (b" ~".as_slice(), [false, true, false]),
+        (b"\t".as_slice(), [false, false, false]),
+        (b"a/b".as_slice(), [false, true, true]),
+        (b"a//b".as_slice(), [false, true, false]),
+        (b"/a".as_slice(), [false, true, false]),
+        (b"a/".as_slice(), [false, true, false]),
+        (b"a/b/c/d/e/f/g/h".as_slice(), [false, true, true]),
+        (b"a/b/c/d/e/f/g/h/i".as_slice(), [false, true, false]),
+    ];
+    assert_eq!(rt; first_wrong(rt.alloc(), &rows)?, None);
     Ok(())
+}
+
+/// Whether a copy of the path site/index has these two names.
+fn has_its_names(alloc: Global) -> Result<bool, Fail> {
+    let path = path(alloc, "site/index")?.copy()?;
+    match path.names() {
+        [first, second] => Ok(first.as_str() == "site" && second.bytes() == b"index".as_slice()),
+        _ => Ok(false),
+    }
+}
+
+/// How many names a copy of names has to which one was added.
+fn names_with_one(alloc: Global) -> Result<usize, Fail> {
+    let mut names = Names::new(alloc);
+    names.push(name(alloc, "b")?.copy()?)?;
+    Ok(names.copy()?.names().len())
+}
+
+/// Whether a copy of the text of this word is the word.
+fn is_kept(alloc: Global, word: &str) -> Result<bool, Fail> {
+    Ok(text(alloc, word)?.copy()?.as_str() == word)
 }
 
 #[test]
 fn a_path_holds_its_names(rt: HostRuntime) -> Result<(), Fail> {
     let alloc = rt.alloc();
-    let path = path(alloc, "site/index")?.copy()?;
-    assert_eq!(rt; path.names().len(), 2);
-    assert_eq!(rt; path.names()[0].as_str(), "site");
-    assert_eq!(rt; path.names()[1].bytes(), b"index".as_slice());
-    let mut names = Names::new(alloc);
-    names.push(name(alloc, "b")?.copy()?)?;
-    assert_eq!(rt; names.copy()?.names().len(), 1);
+    let is_kept = is_kept(alloc, "Hello, reader.")?;
     assert_eq!(rt;
-        text(alloc, "Hello, reader.")?.copy()?.as_str(),
-        "Hello, reader."
+        (has_its_names(alloc)?, names_with_one(alloc)?, is_kept),
+        (true, 1, true)
     );
     Ok(())
 }
@@ -61,51 +88,95 @@ fn site(alloc: Global) -> Result<Tree, Fail> {
     Ok(tree)
 }
 
+/// The nodes and the height.
+type Size = (u64, u32);
+
+fn size(tree: &Tree) -> Size {
+    (tree.count(), tree.height())
+}
+
+fn size_at(alloc: Global, tree: &Tree, at: &str) -> Result<Option<Size>, Fail> {
+    match tree.node(&path(alloc, at)?) {
+        Some(node) => Ok(Some(size(node))),
+        None => Ok(None),
+    }
+}
+
+fn has_text(alloc: Global, tree: &Tree, at: &str, word: &str) -> Result<bool, Fail> {
+    match tree.node(&path(alloc, at)?) {
+        Some(node) => Ok(node.text().as_str() == word),
+        None => Ok(false),
+    }
+}
+
+/// The site, its index and a node that it has not; and whether the index has its text.
+fn counts(alloc: Global) -> Result<([Option<Size>; 3], bool), Fail> {
+    let tree = site(alloc)?;
+    let index = size_at(alloc, &tree, "site/index")?;
+    let other = size_at(alloc, &tree, "site/b")?;
+    let has_text = has_text(alloc, &tree, "site/index", "site/index")?;
+    Ok(([Some(size(&tree)), index, other], has_text))
+}
+
 #[test]
 fn a_tree_counts_its_nodes(rt: HostRuntime) -> Result<(), Fail> {
-    let alloc = rt.alloc();
-    let tree = site(alloc)?;
-    assert_eq!(rt; (tree.count(), tree.height()), (6, 3));
-    let to = path(alloc, "site/index")?;
-    let index = tree.node(&to).ok_or("index")?;
     assert_eq!(rt;
-        (index.count(), index.height(), index.text().as_str()),
-        (2, 1, "site/index")
+        counts(rt.alloc())?,
+        ([Some((6, 3)), Some((2, 1)), None], true)
     );
-    let to = path(alloc, "site/b")?;
-    assert!(rt; tree.node(&to).is_none());
     Ok(())
+}
+
+/// What a site without its index has, and has not; then a node of the site as it was.
+fn left_and_kept(alloc: Global) -> Result<([Option<Size>; 3], Option<EditFault>), Fail> {
+    let tree = site(alloc)?;
+    let left = made(tree.delete(alloc, &path(alloc, "site/index")?))?;
+    let about = size_at(alloc, &left, "site/about")?;
+    let gone = "site/index/title";
+    let fault = left.delete(alloc, &path(alloc, gone)?).err();
+    let kept = size_at(alloc, &tree, gone)?;
+    Ok(([Some(size(&left)), about, kept], fault))
 }
 
 #[test]
 fn a_deleted_node_is_gone_with_all_below_it(rt: HostRuntime) -> Result<(), Fail> {
-    let alloc = rt.alloc();
-    let tree = site(alloc)?;
-    let left = made(tree.delete(alloc, &path(alloc, "site/index")?))?;
-    assert_eq!(rt; (left.count(), left.height()), (4, 2));
-    assert!(rt; left.node(&path(alloc, "site/about")?).is_some());
-    let gone = path(alloc, "site/index/title")?;
-    assert!(rt; matches!(left.delete(alloc, &gone), Err(EditFault::Absent)));
-    assert!(rt; tree.node(&gone).is_some());
+    assert_eq!(rt;
+        left_and_kept(rt.alloc())?,
+        (
+            [Some((4, 2)), Some((1, 0)), Some((1, 0))],
+            Some(EditFault::Absent)
+        )
+    );
     Ok(())
+}
+
+/// A site with itself in place of its index: its size, what is gone, and a text inside.
+fn attached(alloc: Global) -> Result<(Size, Option<Size>, bool), Fail> {
+    let tree = site(alloc)?;
+    let whole = made(tree.attach(alloc, &path(alloc, "site/index")?, &tree))?;
+    let gone = size_at(alloc, &whole, "site/index/title")?;
+    let has_text = has_text(alloc, &whole, "site/index/site/index", "site/index")?;
+    Ok((size(&whole), gone, has_text))
+}
+
+/// How a site is refused as a node of itself.
+fn fault_at(alloc: Global, at: &str) -> Result<Option<EditFault>, Fail> {
+    let tree = site(alloc)?;
+    Ok(tree.attach(alloc, &path(alloc, at)?, &tree).err())
 }
 
 #[test]
 fn an_attached_tree_stands_in_place_of_what_was_there(rt: HostRuntime) -> Result<(), Fail> {
     let alloc = rt.alloc();
-    let tree = site(alloc)?;
-    let whole = made(tree.attach(alloc, &path(alloc, "site/index")?, &tree))?;
-    assert_eq!(rt; (whole.count(), whole.height()), (10, 5));
-    let inside = whole.node(&path(alloc, "site/index/site/index")?);
-    assert_eq!(rt; inside.ok_or("a copy")?.text().as_str(), "site/index");
-    assert!(rt; whole.node(&path(alloc, "site/index/title")?).is_none());
     // Eight levels are allowed, and nine are not.
-    assert!(rt;
-        tree.attach(alloc, &path(alloc, "p/q/r/s/t")?, &tree)
-            .is_ok()
+    let faults = [
+        fault_at(alloc, "p/q/r/s/t")?,
+        fault_at(alloc, "p/q/r/s/t/u")?,
+    ];
+    assert_eq!(rt;
+        (attached(alloc)?, faults),
+        (((10, 5), None, true), [None, Some(EditFault::Deep)])
     );
-    let deep = tree.attach(alloc, &path(alloc, "p/q/r/s/t/u")?, &tree);
-    assert!(rt; matches!(deep, Err(EditFault::Deep)));
     Ok(())
 }
 
@@ -129,49 +200,65 @@ fn b_as_a(alloc: Global, tree: &Tree) -> Result<Tree, Fail> {
     made(whole.delete(alloc, &from))
 }
 
-#[test]
-fn copies_of_copies_are_counted_up_to_the_limit(rt: HostRuntime) -> Result<(), Fail> {
-    let alloc = rt.alloc();
+/// The nodes of copies of copies, and with 57 more of them, and how one more is refused.
+fn copies(alloc: Global) -> Result<(u64, u64, Option<EditFault>), Fail> {
     let at = path(alloc, "a")?;
     let mut tree = made(Tree::empty(alloc)?.set_text(alloc, &at, &text(alloc, "x")?))?;
     for _ in 0u32..4 {
         tree = b_as_a(alloc, &with_copies(alloc, &tree, 64)?)?;
     }
     let sub = tree.node(&at).ok_or("a")?;
-    assert_eq!(rt; sub.count(), 17_043_521);
     let whole = with_copies(alloc, &tree, 57)?;
-    assert_eq!(rt; whole.count(), 988_524_220);
     let more = whole.attach(alloc, &path(alloc, "b/57")?, sub);
-    assert!(rt; matches!(more, Err(EditFault::Big)));
+    Ok((sub.count(), whole.count(), more.err()))
+}
+
+#[test]
+fn copies_of_copies_are_counted_up_to_the_limit(rt: HostRuntime) -> Result<(), Fail> {
+    assert_eq!(rt;
+        copies(rt.alloc())?,
+        (17_043_521, 988_524_220, Some(EditFault::Big))
+    );
     Ok(())
+}
+
+/// Whether a site has these two names, in this order.
+fn is_in_order(alloc: Global) -> Result<bool, Fail> {
+    match site(alloc)?.names(alloc)?.names() {
+        [first, second] => Ok(first.as_str() == "a" && second.as_str() == "site"),
+        _ => Ok(false),
+    }
 }
 
 #[test]
 fn names_come_in_the_order_of_their_bytes(rt: HostRuntime) -> Result<(), Fail> {
-    let alloc = rt.alloc();
-    let tree = site(alloc)?;
-    let names = tree.names(alloc)?;
-    let names = names.names();
-    assert_eq!(rt; names.len(), 2);
-    assert_eq!(rt; (names[0].as_str(), names[1].as_str()), ("a", "site"));
+    assert!(rt; is_in_order(rt.alloc())?);
     Ok(())
 }
 
 fn with_text(alloc: Global, tree: &Tree, to: &str) -> Result<Result<Tree, EditFault>, Fail> {
-    let to = path(alloc, to)?;
-    let word = Text::empty();
-    Ok(tree.set_text(alloc, &to, &word))
+    Ok(tree.set_text(alloc, &path(alloc, to)?, &Text::empty()))
+}
+
+/// A node of 256 children.
+fn full(alloc: Global) -> Result<Tree, Fail> {
+    let mut tree = Tree::empty(alloc)?;
+    for i in 0u32..256 {
+        let to = format!(in alloc; "d/{i:03}")?;
+        tree = made(with_text(alloc, &tree, &to)?)?;
+    }
+    Ok(tree)
+}
+
+/// How a text is refused at a child more, and at one that is there.
+fn faults_of_texts(alloc: Global) -> Result<[Option<EditFault>; 2], Fail> {
+    let tree = full(alloc)?;
+    let more = with_text(alloc, &tree, "d/256")?.err();
+    Ok([more, with_text(alloc, &tree, "d/000")?.err()])
 }
 
 #[test]
 fn a_node_has_256_children_and_no_more(rt: HostRuntime) -> Result<(), Fail> {
-    let alloc = rt.alloc();
-    let mut tree = Tree::empty(alloc)?;
-    for i in 0u32..256 {
-        let to = format!(in alloc; "d/{i:03}")?;
-        tree = with_text(alloc, &tree, &to)?.ok().ok_or("there is room")?;
-    }
-    assert!(rt; matches!(with_text(alloc, &tree, "d/256")?, Err(EditFault::Many)));
-    assert!(rt; with_text(alloc, &tree, "d/000")?.is_ok());
+    assert_eq!(rt; faults_of_texts(rt.alloc())?, [Some(EditFault::Many), None]);
     Ok(())
 }
