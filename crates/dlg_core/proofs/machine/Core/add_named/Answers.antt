@@ -1,4 +1,4 @@
-use Rattle.std.proofs.Common.{◌+◌, subst, sym, ap, ◌∙◌}
+use Rattle.std.proofs.Common.{◌+◌, arith, subst, sym, ap, ◌∙◌}
 use Rattle.core_machine.specs.State.{field_of}
 use Rattle.dlg_core.specs.Kept.{IsKept}
 use Rattle.dlg_core.specs.Search.{NamedSoFar}
@@ -28,3 +28,7 @@ loop-i-preserved c =
           (c.field.ensures.field ∙ ap (λ s. field_of s c.args.cell c.loop-i.i) c.self.view_is
           ∙ e)))
     ]
+
+-- all six fields were looked at
+pub returns-clause-named : goal.returns-clause-named
+returns-clause-named c = λ d f among is. c.loop-i.invariant.named d f (omega arith) is
