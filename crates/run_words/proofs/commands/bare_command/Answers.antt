@@ -6,8 +6,8 @@ use Rattle.run_words.proofs.commands.bare_command.Goals as goal
 pub returns : goal.returns
 returns c =
     rw (c.disable_version_flag.ensures, c.disable_help_flag.ensures, c.no_binary_name.ensures) (
-      ap (on_top (λ s. record s {
-        no_binary_name = true;
-        disable_help_flag = true;
-        disable_version_flag = true;
-      })) c.new.ensures.app)
+    ap (on_top (λ s. record s {
+      no_binary_name = true;
+      disable_help_flag = true;
+      disable_version_flag = true;
+    })) c.new.ensures.app)
