@@ -1,4 +1,5 @@
-use Rattle.std.proofs.Common.{ℕ, ◌≤◌, List, ◌++◌, Option, Some, None, ◌∙◌, length, take, ap, subst, sym, arith, rules, length-append}
+use Rattle.std.proofs.Common.{ℕ, ◌≤◌, List, ◌++◌, Option, Some, None, ◌∙◌, length, take, ap, subst}
+use Rattle.std.proofs.Common.{sym, arith, rules, length-append}
 use Rattle.std.proofs.lemmas.List.{append-nil, take_all}
 use Rattle.std.proofs.KnownBytes.{Consumes-trans}
 use Rattle.std.specs.Io.KnownBytes.{Consumes, IsAtEnd}
