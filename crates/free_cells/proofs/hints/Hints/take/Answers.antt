@@ -15,3 +15,6 @@ another-unused-requires-clause-rule g c =
     let same = ap (λ (v : Counts). v.cells) c.in-None.ensures.rule.0 in
     let queue = c.args.self.now.queue.now in
     takes_none _ _ (omega (arith, same, c.args.self.now.of_queue.cells, queue.some_cell))
+
+pub returns-in-Some-clause-front : goal.returns-in-Some-clause-front
+returns-in-Some-clause-front g c = c.in-Some.ensures.rule.1
