@@ -1,4 +1,4 @@
-use Rattle.std.proofs.Common.{◌≡◌, ap, sym, subst, ◌∙◌, ◌++◌, ◌∷◌, [], length, List, arith}
+use Rattle.std.proofs.Common.{◌≡◌, refl, ap, sym, subst, ◌∙◌, ◌++◌, ◌∷◌, [], length, List, arith}
 use Rattle.std.proofs.Common.{length-append}
 use Rattle.minor_heap.specs.declared.fields.MinorField.{MinorField}
 use Rattle.minor_heap.specs.Nursery.{IsOrdered, Nursery}
@@ -36,3 +36,10 @@ invariant_of-self c =
 pub returns-clause-term : goal.returns-clause-term
 returns-clause-term c shared =
     ap (terms_of shared) (records c) ∙ terms_snoc shared [] c.args.self.now.records c.args.fields
+
+pub returns-then-spare-eq0-clause-full : goal.returns-then-spare-eq0-clause-full
+returns-then-spare-eq0-clause-full c =
+    (λ _. omega (arith, c.spare.ensures.spare, c.if-spare-eq0.true), λ _. refl)
+
+pub returns-clause-records : goal.returns-clause-records
+returns-clause-records c = records c
