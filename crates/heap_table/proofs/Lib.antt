@@ -1,3 +1,4 @@
 pub mod Laid
 pub mod Looking
+pub mod Seats
 pub mod Shown

@@ -1,7 +1,9 @@
 use Rattle.std.proofs.Common.{◌≡◌, ◌∙◌, ap, sym, arith}
 use Rattle.heap_rule.specs.declared.view.View.{View}
 use Rattle.heap_rule.proofs.Moving.{joins}
+use Rattle.heap_rule.specs.Moves.{joined_view}
 use Rattle.heap_table.specs.Seats.{HeapId, SeatView}
+use Rattle.heap_table.proofs.Seats.{same_seat}
 use Rattle.heap_table.proofs.heap.CellHeap.join_back.Goals as goal
 
 pub join_seat-requires : goal.join_seat-requires
@@ -24,3 +26,13 @@ join_seat-requires g c =
           (ap (λ (v : View _). v.role) theirs ∙ c.requires.roles.1)
           (ap (λ (v : View _). v.presence.over) theirs ∙ c.requires.over),
     )
+
+pub returns : goal.returns
+returns g c =
+    let told = c.join_seat.ensures in
+    record {
+      both = same_seat _ _ (told.0 ∙ ap (λ (s : SeatView _). s.table) c.seat.view_is)
+          (ap (λ m. m.0) told.2
+          ∙ ap (λ (s : SeatView _). joined_view s.me c.mutator.inside.seat.me.0) c.seat.view_is
+          ∙ ap (λ (s : SeatView _). joined_view c.args.seat.now.me s.me) c.mutator.view_is);
+    }

@@ -3,7 +3,9 @@ use lib.ListN.{get_elem?}
 use Rattle.heap_rule.specs.declared.view.View.{View}
 use Rattle.heap_rule.specs.Shape.{Shape}
 use Rattle.heap_rule.proofs.Moving.{splits}
+use Rattle.heap_rule.specs.Moves.{given_view}
 use Rattle.heap_table.specs.Seats.{HeapId, SeatView}
+use Rattle.heap_table.proofs.Seats.{same_seat}
 use Rattle.heap_table.proofs.heap.CellHeap.split_by.Goals as goal
 
 pub split_seat-requires : goal.split_seat-requires
@@ -24,3 +26,11 @@ split_seat-requires g c =
           (subst (λ (h : Shape). g.D.Departure.number < h.mutators) shape c.requires.number)
           (ap (λ (v : View _). get_elem? v.places g.D.Departure.number) me ∙ c.requires.unsplit),
     )
+
+pub returns-clause-given : goal.returns-clause-given
+returns-clause-given g c =
+    let told = c.split_seat.ensures in
+    same_seat _ _ (told.3 ∙ ap (λ (s : SeatView _). s.table) c.seat.view_is)
+    (ap (λ m. m.0) told.4
+    ∙ ap (λ (s : SeatView _). given_view g.P.Keeping.opening g.D.Departure.number
+    g.D.Departure.room s.me) c.seat.view_is)
