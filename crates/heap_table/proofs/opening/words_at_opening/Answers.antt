@@ -1,5 +1,5 @@
-use Rattle.std.proofs.Common.{◌≡◌, ℕ, ◌+◌, ◌*◌, ◌-◌, List, [], ◌∷◌, ◌++◌, ◌∙◌, ap, take, length, replicate}
-use Rattle.std.proofs.Common.{append_assoc, arith}
+use Rattle.std.proofs.Common.{◌≡◌, ℕ, ◌+◌, ◌*◌, ◌-◌, List, [], ◌∷◌, ◌++◌, ◌∙◌, ap, take}
+use Rattle.std.proofs.Common.{length, replicate, append_assoc, arith}
 use Rattle.std.proofs.lemmas.List.{take_all}
 use Rattle.heap_table.specs.Opening.{rows_words}
 use Rattle.heap_table.proofs.opening.words_at_opening.Goals as goal
@@ -22,10 +22,11 @@ returns c =
     let rest = 7 * (c.args.cells - length first) in
     let begun : c.push.new.self.items ≡ control ∷ [] = c.in_ok-push.ensures.items
     ∙ ap (λ (ws : List ℕ). ws ++ control ∷ []) c.in_ok-words.ensures.items in
-    let outs = longer (1 + mutators) c.push.new.self.len c.push.new.self.items c.resize.new.self.items out mutators
-    c.in_ok-resize.ensures.items (omega (arith, c.push.new.self.ok.0))
-    (omega (arith, c.push.new.self.ok.0, ap length begun)) in
-    let zeros = longer (c.len.result + rest) c.push_rows.new.words.len c.push_rows.new.words.items c.resize-2.new.self.items 0 rest
+    let outs = longer (1 + mutators) c.push.new.self.len c.push.new.self.items
+    c.resize.new.self.items out mutators c.in_ok-resize.ensures.items
+    (omega (arith, c.push.new.self.ok.0)) (omega (arith, c.push.new.self.ok.0, ap length begun)) in
+    let zeros = longer (c.len.result + rest) c.push_rows.new.words.len
+    c.push_rows.new.words.items c.resize-2.new.self.items 0 rest
     c.in_ok-resize-2.ensures.items (omega (arith, c.push_rows.new.words.ok.0))
     (omega (arith, c.push_rows.new.words.ok.0)) in
     let laid = zeros

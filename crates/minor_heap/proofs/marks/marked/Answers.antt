@@ -1,5 +1,5 @@
-use Rattle.std.proofs.Common.{◌≡◌, ℕ, ◌+◌, ◌<◌, Bool, true, false, List, [], ◌∷◌, ◌++◌, drop, length}
-use Rattle.std.proofs.Common.{get_or, sym, ap, ◌∙◌, append_assoc}
+use Rattle.std.proofs.Common.{◌≡◌, ℕ, ◌+◌, ◌<◌, Bool, true, false, List, [], ◌∷◌, ◌++◌, drop}
+use Rattle.std.proofs.Common.{length, get_or, sym, ap, ◌∙◌, append_assoc}
 use Rattle.std.proofs.lemmas.List.{at_drop_more}
 use Rattle.minor_heap.specs.declared.fields.MinorRef.{MinorRef}
 use Rattle.minor_heap.specs.Marking.{marked_of}
@@ -17,7 +17,8 @@ left marks n b lt is =
 found_one : (marks : List Bool) (n : ℕ) (was : List MinorRef) → n < length marks
     → get_or marks n false ≡ true
     → was ++ marked_of n (drop n marks) ≡ marked_of 0 marks
-    → (was ++ record { number = n } ∷ []) ++ marked_of (n + 1) (drop (n + 1) marks) ≡ marked_of 0 marks
+    → (was ++ record { number = n } ∷ []) ++ marked_of (n + 1) (drop (n + 1) marks)
+    ≡ marked_of 0 marks
 found_one marks n was lt is so =
     append_assoc was (record { number = n } ∷ []) (marked_of (n + 1) (drop (n + 1) marks))
     ∙ sym (ap (λ (l : List MinorRef). was ++ l) (left marks n true lt is)) ∙ so
@@ -36,11 +37,11 @@ loop-number-preserved c =
     let lt = c.loop-number-test.true in
     let so = c.loop-number.invariant in
     elim c.if-marks-number.branch [
-      then-marks-number+in_ok-push w ↦
+      | then-marks-number+in_ok-push w ↦
           ap (λ (l : List MinorRef). l ++ marked_of (n + 1) (drop (n + 1) marks))
           (ap (λ v. v.items) w.found-is ∙ w.in_ok-push.ensures.items)
           ∙ found_one marks n c.loop-number.found.items lt w.if-marks-number.true so
-    | else-marks-number w ↦
+      | else-marks-number w ↦
           ap (λ (l : List MinorRef). l ++ marked_of (n + 1) (drop (n + 1) marks))
           (ap (λ v. v.items) w.found-is)
           ∙ found_none marks n c.loop-number.found.items lt w.if-marks-number.false so
