@@ -1,5 +1,6 @@
 use cell_words::{Colour, Field, Kind, Row, Stage};
-use dlg_core::{Core, Event, NotNow, NotNowAt};
+use dlg_core::{Core, Event, NoMemory, NotNow, NotNowAt};
+use std::alloc::Global;
 use std::test::Fail;
 
 // The anchor alone: a box with null payload.
@@ -12,51 +13,134 @@ const ANCHOR: Row = [
     Field::Num(2),
 ];
 
+/// What an open core shows.
+#[derive(Clone, Copy, Debug, PartialEq, Eq)]
+struct Opened {
+    cells: u32,
+    /// of the anchor: its colour, its last field, and how often it was freed
+    anchor: (Colour, Field, u64),
+    mutators: u32,
+    /// of the only mutator
+    inside: bool,
+    held: usize,
+}
+
+fn open_one(alloc: Global) -> Result<Opened, NoMemory> {
+    let core = Core::open(alloc, 3, 1, 8, &[ANCHOR])?;
+    Ok(Opened {
+        cells: core.cells(),
+        anchor: (core.colour(0), core.field(0, 5), core.freed(0)),
+        mutators: core.mutators(),
+        inside: core.presence(0).inside,
+        held: core.held_len(0),
+    })
+}
+
 #[test]
 fn at_the_opening_the_first_rows_are_in_use_and_nobody_is_in(rt: HostRuntime) -> Result<(), Fail> {
-    let core = Core::open(rt.alloc(), 3, 1, 8, &[ANCHOR])?;
-    assert_eq!(rt; core.cells(), 3);
-    assert_eq!(rt; core.colour(0), Colour::White);
-    assert_eq!(rt; core.field(0, 5), Field::Num(2));
-    assert_eq!(rt; core.freed(0), 0);
-    assert_eq!(rt; core.mutators(), 1);
-    assert!(rt; !core.presence(0).inside);
-    assert_eq!(rt; core.held_len(0), 0);
+    let wanted = Opened {
+        cells: 3,
+        anchor: (Colour::White, Field::Num(2), 0),
+        mutators: 1,
+        inside: false,
+        held: 0,
+    };
+    assert_eq!(rt; open_one(rt.alloc())?, wanted);
     Ok(())
+}
+
+/// How many places the only mutator holds, and the cell at the second of two.
+fn held(core: &Core) -> Option<(usize, u32)> {
+    if core.mutators() != 1 {
+        return None;
+    }
+    match core.held_len(0) {
+        2 => Some((2, core.held(0, 1))),
+        len => Some((len, 0)),
+    }
+}
+
+/// Whether the second of three cells is reachable.
+fn is_reachable(alloc: Global, core: &Core) -> Result<Option<bool>, NoMemory> {
+    if core.cells() != 3 {
+        return Ok(None);
+    }
+    Ok(Some(core.is_reachable(alloc, 1)?))
+}
+
+const CLAIMING: [Event; 4] = [
+    Event::Begin(0),
+    Event::Look(0),
+    Event::Claim(0, 1),
+    Event::Seal(0, 1, Kind::Record),
+];
+
+/// How a run that claims a cell and the end of that operation went, and behind each whether the
+/// cell is reachable; between them what was held.
+#[derive(Clone, Copy, Debug, PartialEq, Eq)]
+struct Claimed {
+    run: Result<(), NotNowAt>,
+    held: Option<(usize, u32)>,
+    reachable: Option<bool>,
+    end: Result<(), NotNow>,
+    reachable_behind: Option<bool>,
+}
+
+fn claim_one(alloc: Global) -> Result<Claimed, NoMemory> {
+    let mut core = Core::open(alloc, 3, 1, 8, &[ANCHOR])?;
+    let run = core.run(&CLAIMING);
+    let held = held(&core);
+    let reachable = is_reachable(alloc, &core)?;
+    let end = core.apply(Event::End(0));
+    Ok(Claimed {
+        run,
+        held,
+        reachable,
+        end,
+        reachable_behind: is_reachable(alloc, &core)?,
+    })
 }
 
 #[test]
 fn a_held_cell_is_reachable_until_its_mutator_goes_out(rt: HostRuntime) -> Result<(), Fail> {
-    let mut core = Core::open(rt.alloc(), 3, 1, 8, &[ANCHOR])?;
-    let events = [
-        Event::Begin(0),
-        Event::Look(0),
-        Event::Claim(0, 1),
-        Event::Seal(0, 1, Kind::Record),
-    ];
-    assert_eq!(rt; core.run(&events), Ok(()));
-    assert_eq!(rt; core.mutators(), 1);
-    assert_eq!(rt; core.held_len(0), 2);
-    assert_eq!(rt; core.held(0, 1), 1);
-    assert_eq!(rt; core.cells(), 3);
-    assert_eq!(rt; core.is_reachable(rt.alloc(), 1)?, true);
-    assert_eq!(rt; core.apply(Event::End(0)), Ok(()));
-    assert_eq!(rt; core.cells(), 3);
-    assert_eq!(rt; core.is_reachable(rt.alloc(), 1)?, false);
+    let wanted = Claimed {
+        run: Ok(()),
+        held: Some((2, 1)),
+        reachable: Some(true),
+        end: Ok(()),
+        reachable_behind: Some(false),
+    };
+    assert_eq!(rt; claim_one(rt.alloc())?, wanted);
     Ok(())
+}
+
+/// How many cells are free at the opening, and what a collector does next.
+fn begun(alloc: Global) -> Result<(u32, Option<Event>), NoMemory> {
+    let core = Core::open(alloc, 3, 1, 8, &[ANCHOR])?;
+    Ok((core.free_count(), core.next_plain()))
 }
 
 #[test]
 fn a_cycle_begins_with_a_post(rt: HostRuntime) -> Result<(), Fail> {
-    let core = Core::open(rt.alloc(), 3, 1, 8, &[ANCHOR])?;
-    assert_eq!(rt; core.free_count(), 2);
-    assert_eq!(rt; core.next_plain(), Some(Event::Post(Stage::Sync1)));
+    let post = Some(Event::Post(Stage::Sync1));
+    assert_eq!(rt; begun(rt.alloc())?, (2, post));
     Ok(())
+}
+
+/// What a run of the events ends with, the stage behind it, and whether the mutator may then begin
+/// again.
+fn run_to(
+    alloc: Global,
+    events: &[Event],
+) -> Result<(Result<(), NotNowAt>, Stage, Result<(), NotNow>), NoMemory> {
+    let mut core = Core::open(alloc, 2, 1, 4, &[ANCHOR])?;
+    let run = core.run(events);
+    let stage = core.control().stage;
+    Ok((run, stage, core.apply(Event::Begin(0))))
 }
 
 #[test]
 fn tracing_may_not_begin_before_all_have_answered(rt: HostRuntime) -> Result<(), Fail> {
-    let mut core = Core::open(rt.alloc(), 2, 1, 4, &[ANCHOR])?;
     let events = [
         Event::Begin(0),
         Event::Post(Stage::Sync1),
@@ -69,8 +153,8 @@ fn tracing_may_not_begin_before_all_have_answered(rt: HostRuntime) -> Result<(),
         Event::Post(Stage::Sync2),
         Event::Post(Stage::Trace),
     ];
-    assert_eq!(rt; core.run(&events), Err(NotNowAt { index: 9 }));
-    assert_eq!(rt; core.control().stage, Stage::Sync2);
-    assert_eq!(rt; core.apply(Event::Begin(0)), Err(NotNow));
+    let stop = NotNowAt { index: 9 };
+    let wanted = (Err(stop), Stage::Sync2, Err(NotNow));
+    assert_eq!(rt; run_to(rt.alloc(), &events)?, wanted);
     Ok(())
 }

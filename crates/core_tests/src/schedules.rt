@@ -2,7 +2,7 @@
 use cell_words::{Field, Kind, Stage};
 use core_machine::Event;
 use core_replay::*;
-use std::alloc::Global;
+use std::alloc::{AllocError as NoMemory, Global};
 use std::test::Fail;
 
 /// The first fault of a schedule, if it has one.
@@ -14,6 +14,36 @@ fn fault_of(alloc: Global, bytes: &[u8]) -> Option<(u32, ScheduleKind)> {
         Err(ScheduleError::Fault(fault)) => Some((fault.line, fault.kind)),
         _ => None,
     }
+}
+
+/// The sizes and the steps of a schedule of three steps.
+fn three_steps(schedule: &Schedule) -> Option<(Sizes, [Numbered; 3])> {
+    match schedule.steps() {
+        [first, second, third] => Some((schedule.sizes(), [*first, *second, *third])),
+        _ => None,
+    }
+}
+
+/// What is read of the line among others.
+fn read_among_others(
+    alloc: Global,
+    line: &str,
+) -> Result<Option<(Sizes, [Numbered; 3])>, ScheduleError> {
+    let text = format!(in alloc; "# one\r\ncore 3 1 8\r\n\r\n{line}\r\nplain\nshow 2");
+    let Ok(text) = text else {
+        return Err(ScheduleError::NoMemory);
+    };
+    if text.len() > 10_000 {
+        return Ok(None);
+    }
+    let schedule = read_schedule(alloc, text.as_bytes())?;
+    Ok(three_steps(&schedule))
+}
+
+/// The first fault of a schedule whose third line is this one.
+fn fault_at_third(alloc: Global, line: &str) -> Result<Option<(u32, ScheduleKind)>, NoMemory> {
+    let text = format!(in alloc; "core 1 1 1\n\n{line}\nfoo")?;
+    Ok(fault_of(alloc, text.as_bytes()))
 }
 
 #[test]
@@ -61,33 +91,27 @@ fn every_line_is_its_event(rt: HostRuntime) -> Result<(), Fail> {
         ("advance", Event::Advance),
     ];
     for (line, event) in rows {
-        let text = format!(in alloc; "# one\r\ncore 3 1 8\r\n\r\n{line}\r\nplain\nshow 2")?;
-        if text.len() < 10_000 {
-            let schedule = read_schedule(alloc, text.as_bytes())?;
-            assert_eq!(rt;
-                schedule.sizes(),
-                Sizes {
-                    cells: 3,
-                    mutators: 1,
-                    room: 8
-                }
-            );
-            let steps = [
-                Numbered {
-                    line: 4,
-                    step: Step::Take(event),
-                },
-                Numbered {
-                    line: 5,
-                    step: Step::Plain,
-                },
-                Numbered {
-                    line: 6,
-                    step: Step::Show(2),
-                },
-            ];
-            assert_eq!(rt; schedule.steps(), steps.as_slice(), "at {line:?}");
-        }
+        let sizes = Sizes {
+            cells: 3,
+            mutators: 1,
+            room: 8,
+        };
+        let steps = [
+            Numbered {
+                line: 4,
+                step: Step::Take(event),
+            },
+            Numbered {
+                line: 5,
+                step: Step::Plain,
+            },
+            Numbered {
+                line: 6,
+                step: Step::Show(2),
+            },
+        ];
+        let wanted = Some((sizes, steps));
+        assert_eq!(rt; read_among_others(alloc, line)?, wanted, "at {line:?}");
     }
     Ok(())
 }
@@ -158,9 +182,8 @@ fn the_first_word_at_fault_counts(rt: HostRuntime) -> Result<(), Fail> {
         ("plain 1", ScheduleKind::Extra),
     ];
     for (line, kind) in rows {
-        let text = format!(in alloc; "core 1 1 1\n\n{line}\nfoo")?;
         assert_eq!(rt;
-            fault_of(alloc, text.as_bytes()),
+            fault_at_third(alloc, line)?,
             Some((3, kind)),
             "at {line:?}"
         );

@@ -3,14 +3,17 @@ use core_replay::*;
 use std::alloc::Global;
 use std::test::Fail;
 
-/// The text of a schedule; no text of one that cannot be read.
-fn text_of(alloc: Global, schedule: &str) -> Result<Vec<u8>, Fail> {
+/// Whether the schedule can be read and has the text.
+fn has_text(alloc: Global, schedule: &str, text: &str) -> Result<bool, ScheduleError> {
     let bytes = schedule.as_bytes();
     if bytes.len() > 10_000 {
-        return Ok(Vec::new(alloc));
+        return Ok(false);
     }
     let read = read_schedule(alloc, bytes)?;
-    Ok(replay(alloc, &read)?)
+    match replay(alloc, &read) {
+        Ok(found) => Ok(found.as_slice() == text.as_bytes()),
+        Err(_) => Err(ScheduleError::NoMemory),
+    }
 }
 
 #[test]
@@ -54,11 +57,7 @@ fn worked_schedules_have_their_texts(rt: HostRuntime) -> Result<(), Fail> {
         ),
     ];
     for (schedule, text) in rows {
-        assert_eq!(rt;
-            text_of(alloc, schedule)?.as_slice(),
-            text.as_bytes(),
-            "at {schedule:?}"
-        );
+        assert!(rt; has_text(alloc, schedule, text)?, "at {schedule:?}");
     }
     Ok(())
 }
