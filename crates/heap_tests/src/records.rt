@@ -1,85 +1,259 @@
+ghost use Rattle.std.specs.Prelude.{length, ◌<◌};
+
 use minor_heap::MinorField::{Minor, Null, Num, Shared};
-use minor_heap::{MinorFull, MinorHeap, MinorRef, RecordSpan};
+use minor_heap::{MinorField, MinorFull, MinorHeap, MinorRef, NoMemory, RecordSpan};
+use std::alloc::Global;
 use std::test::Fail;
 
-#[test]
-fn a_full_heap_refuses_a_record_and_reaches_the_others(rt: HostRuntime) -> Result<(), Fail> {
-    let mut heap = MinorHeap::with_room(rt.alloc(), 2)?;
+/// A record, and one that names it twice.
+fn make_two(heap: &mut MinorHeap) -> Result<(MinorRef, MinorRef), MinorFull> {
     let r0 = heap.make([Num(5), Null, Null, Null, Null])?;
     let r1 = heap.make([Minor(r0), Minor(r0), Null, Null, Null])?;
-    assert_eq!(rt; heap.make([Null, Null, Null, Null, Null]), Err(MinorFull));
-    assert_eq!(rt; heap.len(), 2);
-    assert_eq!(rt; heap.spare(), 0);
-    let reached = heap.reached(rt.alloc(), &[r1])?;
-    assert_eq!(rt; reached.as_slice(), [r0, r1].as_slice());
-    Ok(())
+    Ok((r0, r1))
+}
+
+/// The two records that the second of two reaches.
+fn two_reached(alloc: Global, heap: &MinorHeap) -> Result<Option<[MinorRef; 2]>, NoMemory> {
+    if heap.len() != 2 {
+        return Ok(None);
+    }
+    let reached = heap.reached(alloc, &[MinorRef { number: 1 }])?;
+    Ok(match reached.as_slice() {
+        [first, second] => Some([*first, *second]),
+        _ => None,
+    })
+}
+
+/// What a heap with room for two records shows, when two are made and a third is asked for.
+#[derive(Clone, Copy, Debug, PartialEq, Eq)]
+struct Full {
+    made: Result<(MinorRef, MinorRef), MinorFull>,
+    third: Result<MinorRef, MinorFull>,
+    len: u32,
+    spare: u32,
+    reached: Option<[MinorRef; 2]>,
+}
+
+fn fill_up(alloc: Global) -> Result<Full, NoMemory> {
+    let mut heap = MinorHeap::with_room(alloc, 2)?;
+    let made = make_two(&mut heap);
+    let third = heap.make([Null, Null, Null, Null, Null]);
+    let reached = two_reached(alloc, &heap)?;
+    Ok(Full {
+        made,
+        third,
+        len: heap.len(),
+        spare: heap.spare(),
+        reached,
+    })
 }
 
 #[test]
-fn each_kind_of_field_comes_back(rt: HostRuntime) -> Result<(), Fail> {
-    let mut heap = MinorHeap::with_room(rt.alloc(), 9)?;
+fn a_full_heap_refuses_a_record_and_reaches_the_others(rt: HostRuntime) -> Result<(), Fail> {
+    let r0 = MinorRef { number: 0 };
+    let r1 = MinorRef { number: 1 };
+    let wanted = Full {
+        made: Ok((r0, r1)),
+        third: Err(MinorFull),
+        len: 2,
+        spare: 0,
+        reached: Some([r0, r1]),
+    };
+    assert_eq!(rt; fill_up(rt.alloc())?, wanted);
+    Ok(())
+}
+
+fn all_fields(heap: &MinorHeap, r: MinorRef) -> [MinorField; 5]
+    requires { r.number < length heap.now.records }
+{
+    [
+        heap.field(r, 0),
+        heap.field(r, 1),
+        heap.field(r, 2),
+        heap.field(r, 3),
+        heap.field(r, 4),
+    ]
+}
+
+/// The fields of a record with one of each kind, a field of the record that it names, and the room
+/// that is left.
+fn make_each_kind(heap: &mut MinorHeap) -> Result<([MinorField; 5], MinorField, u32), MinorFull> {
     let r0 = heap.make([Null, Null, Null, Null, Null])?;
-    let fields = [
+    let r1 = heap.make([
         Num((1 << 62) - 1),
         Shared(usize::MAX),
         Minor(r0),
         Num(0),
         Null,
-    ];
-    let r1 = heap.make(fields)?;
-    for i in 0..5 {
-        assert_eq!(rt; heap.field(r1, i), fields[i], "field {i}");
-    }
-    assert_eq!(rt; heap.field(r0, 4), Null);
-    assert_eq!(rt; heap.spare(), 7);
-    Ok(())
+    ])?;
+    Ok((all_fields(heap, r1), heap.field(r0, 4), heap.spare()))
+}
+
+fn each_kind(
+    alloc: Global,
+) -> Result<Result<([MinorField; 5], MinorField, u32), MinorFull>, NoMemory> {
+    let mut heap = MinorHeap::with_room(alloc, 9)?;
+    Ok(make_each_kind(&mut heap))
 }
 
 #[test]
-fn what_no_chain_leads_to_is_not_reached(rt: HostRuntime) -> Result<(), Fail> {
-    let mut heap = MinorHeap::with_room(rt.alloc(), 6)?;
+fn each_kind_of_field_comes_back(rt: HostRuntime) -> Result<(), Fail> {
+    let fields = [
+        Num((1 << 62) - 1),
+        Shared(usize::MAX),
+        Minor(MinorRef { number: 0 }),
+        Num(0),
+        Null,
+    ];
+    assert_eq!(rt; each_kind(rt.alloc())?, Ok((fields, Null, 7)));
+    Ok(())
+}
+
+/// Five records, of which the fifth names the third, and this one the first.
+fn make_chain(heap: &mut MinorHeap) -> Result<[MinorRef; 3], MinorFull> {
     let r0 = heap.make([Null, Null, Null, Null, Null])?;
     let r1 = heap.make([Num(1), Null, Null, Null, Null])?;
     let r2 = heap.make([Null, Null, Null, Null, Minor(r0)])?;
     heap.make([Minor(r1), Null, Null, Null, Null])?;
     let r4 = heap.make([Null, Null, Minor(r2), Minor(r2), Shared(1)])?;
-    let reached = heap.reached(rt.alloc(), &[r4, r4, r2])?;
-    assert_eq!(rt; reached.as_slice(), [r0, r2, r4].as_slice());
+    Ok([r0, r2, r4])
+}
+
+/// The three records that the fifth and the third of five reach.
+fn three_reached(alloc: Global, heap: &MinorHeap) -> Result<Option<[MinorRef; 3]>, NoMemory> {
+    if heap.len() != 5 {
+        return Ok(None);
+    }
+    let r2 = MinorRef { number: 2 };
+    let r4 = MinorRef { number: 4 };
+    let reached = heap.reached(alloc, &[r4, r4, r2])?;
+    Ok(match reached.as_slice() {
+        [first, second, third] => Some([*first, *second, *third]),
+        _ => None,
+    })
+}
+
+/// The marks of what the fourth of five records reaches.
+fn marked_from_fourth(heap: &MinorHeap) -> Option<[bool; 5]> {
+    if heap.len() != 5 {
+        return None;
+    }
     let mut marks = [false, false, false, true, false];
     heap.mark(&mut marks);
-    assert_eq!(rt; marks, [false, true, false, true, false]);
-    Ok(())
+    Some(marks)
+}
+
+/// The records of a chain, those that are reached, and the marks.
+#[derive(Clone, Copy, Debug, PartialEq, Eq)]
+struct Chain {
+    made: Result<[MinorRef; 3], MinorFull>,
+    reached: Option<[MinorRef; 3]>,
+    marks: Option<[bool; 5]>,
+}
+
+fn reach_in_chain(alloc: Global) -> Result<Chain, NoMemory> {
+    let mut heap = MinorHeap::with_room(alloc, 6)?;
+    let made = make_chain(&mut heap);
+    Ok(Chain {
+        made,
+        reached: three_reached(alloc, &heap)?,
+        marks: marked_from_fourth(&heap),
+    })
 }
 
 #[test]
-fn marks_lie_in_a_span_and_are_taken_back(rt: HostRuntime) -> Result<(), Fail> {
-    let mut heap = MinorHeap::with_room(rt.alloc(), 5)?;
+fn what_no_chain_leads_to_is_not_reached(rt: HostRuntime) -> Result<(), Fail> {
+    let chain = [
+        MinorRef { number: 0 },
+        MinorRef { number: 2 },
+        MinorRef { number: 4 },
+    ];
+    let wanted = Chain {
+        made: Ok(chain),
+        reached: Some(chain),
+        marks: Some([false, true, false, true, false]),
+    };
+    assert_eq!(rt; reach_in_chain(rt.alloc())?, wanted);
+    Ok(())
+}
+
+/// Five records, of which the fourth names the second. Gives the fourth.
+fn make_five(heap: &mut MinorHeap) -> Result<MinorRef, MinorFull> {
     heap.make([Num(1), Null, Null, Null, Null])?;
     let r1 = heap.make([Num(2), Null, Null, Null, Null])?;
     heap.make([Minor(r1), Null, Null, Null, Null])?;
     let r3 = heap.make([Null, Null, Minor(r1), Null, Null])?;
     heap.make([Minor(r3), Null, Null, Null, Null])?;
+    Ok(r3)
+}
+
+/// The span of what the fourth of five records reaches, the marks, and the marks that are left when
+/// those of the span are taken back.
+fn marks_of_span(heap: &MinorHeap) -> Option<(RecordSpan, [bool; 5], [bool; 5])> {
+    if heap.len() != 5 {
+        return None;
+    }
+    let r3 = MinorRef { number: 3 };
     let mut marks = [false, false, false, false, false];
     let span = heap.mark_span(&[r3, r3], &mut marks);
-    assert_eq!(rt; span, RecordSpan { first: 1, end: 4 });
-    assert_eq!(rt; marks, [false, true, false, true, false]);
+    let set = marks;
     span.unmark(&mut marks);
-    assert_eq!(rt; marks, [false, false, false, false, false]);
+    Some((span, set, marks))
+}
+
+/// The fourth of five records, and what `marks_of_span` tells of it.
+#[derive(Clone, Copy, Debug, PartialEq, Eq)]
+struct Spanned {
+    fourth: Result<MinorRef, MinorFull>,
+    marks: Option<(RecordSpan, [bool; 5], [bool; 5])>,
+}
+
+fn mark_and_unmark(alloc: Global) -> Result<Spanned, NoMemory> {
+    let mut heap = MinorHeap::with_room(alloc, 5)?;
+    let fourth = make_five(&mut heap);
+    Ok(Spanned {
+        fourth,
+        marks: marks_of_span(&heap),
+    })
+}
+
+#[test]
+fn marks_lie_in_a_span_and_are_taken_back(rt: HostRuntime) -> Result<(), Fail> {
+    let span = RecordSpan { first: 1, end: 4 };
+    let set = [false, true, false, true, false];
+    let none = [false, false, false, false, false];
+    let wanted = Spanned {
+        fourth: Ok(MinorRef { number: 3 }),
+        marks: Some((span, set, none)),
+    };
+    assert_eq!(rt; mark_and_unmark(rt.alloc())?, wanted);
     Ok(())
+}
+
+/// The room behind a clearing, the record that is then made, and its first field.
+fn clear_one(heap: &mut MinorHeap) -> Result<(u32, MinorRef, MinorField), MinorFull> {
+    heap.make([Num(1), Null, Null, Null, Null])?;
+    heap.clear();
+    let spare = heap.spare();
+    let made = heap.make([Num(2), Null, Null, Null, Null])?;
+    Ok((spare, made, heap.field(made, 0)))
+}
+
+fn cleared(alloc: Global) -> Result<Result<(u32, MinorRef, MinorField), MinorFull>, NoMemory> {
+    let mut heap = MinorHeap::with_room(alloc, 1)?;
+    Ok(clear_one(&mut heap))
+}
+
+/// What a heap without room answers.
+fn made_in_none(alloc: Global) -> Result<Result<MinorRef, MinorFull>, NoMemory> {
+    let mut none = MinorHeap::with_room(alloc, 0)?;
+    Ok(none.make([Null, Null, Null, Null, Null]))
 }
 
 #[test]
 fn a_cleared_heap_has_its_room_again(rt: HostRuntime) -> Result<(), Fail> {
-    let mut heap = MinorHeap::with_room(rt.alloc(), 1)?;
-    heap.make([Num(1), Null, Null, Null, Null])?;
-    heap.clear();
-    assert_eq!(rt; heap.spare(), 1);
-    assert_eq!(rt;
-        heap.make([Num(2), Null, Null, Null, Null]),
-        Ok(MinorRef { number: 0 })
-    );
-    assert_eq!(rt; heap.field(MinorRef { number: 0 }, 0), Num(2));
-    let mut none = MinorHeap::with_room(rt.alloc(), 0)?;
-    assert_eq!(rt; none.make([Null, Null, Null, Null, Null]), Err(MinorFull));
+    let made = MinorRef { number: 0 };
+    assert_eq!(rt; cleared(rt.alloc())?, Ok((1, made, Num(2))));
+    assert_eq!(rt; made_in_none(rt.alloc())?, Err(MinorFull));
     Ok(())
 }
