@@ -1,3 +1,5 @@
+ghost use Rattle.std.specs.Prelude.{◌<◌};
+
 use cell_words::{Colour, Field, Kind, Row, Stage};
 use dlg_core::{Core, Event, NoMemory, NotNow, NotNowAt};
 use std::alloc::Global;
@@ -25,15 +27,22 @@ struct Opened {
     held: usize,
 }
 
-fn open_one(alloc: Global) -> Result<Opened, NoMemory> {
-    let core = Core::open(alloc, 3, 1, 8, &[ANCHOR])?;
-    Ok(Opened {
+fn shown(core: &Core) -> Opened
+    requires cells { 0 < core.now.cells }
+    requires mutators { 0 < core.now.mutators }
+{
+    Opened {
         cells: core.cells(),
         anchor: (core.colour(0), core.field(0, 5), core.freed(0)),
         mutators: core.mutators(),
         inside: core.presence(0).inside,
         held: core.held_len(0),
-    })
+    }
+}
+
+fn open_one(alloc: Global) -> Result<Opened, NoMemory> {
+    let core = Core::open(alloc, 3, 1, 8, &[ANCHOR])?;
+    Ok(shown(&core))
 }
 
 #[test]
@@ -86,19 +95,23 @@ struct Claimed {
     reachable_behind: Option<bool>,
 }
 
-fn claim_one(alloc: Global) -> Result<Claimed, NoMemory> {
-    let mut core = Core::open(alloc, 3, 1, 8, &[ANCHOR])?;
+fn claim_and_end(alloc: Global, core: &mut Core) -> Result<Claimed, NoMemory> {
     let run = core.run(&CLAIMING);
-    let held = held(&core);
-    let reachable = is_reachable(alloc, &core)?;
+    let held = held(core);
+    let reachable = is_reachable(alloc, core)?;
     let end = core.apply(Event::End(0));
     Ok(Claimed {
         run,
         held,
         reachable,
         end,
-        reachable_behind: is_reachable(alloc, &core)?,
+        reachable_behind: is_reachable(alloc, core)?,
     })
+}
+
+fn claim_one(alloc: Global) -> Result<Claimed, NoMemory> {
+    let mut core = Core::open(alloc, 3, 1, 8, &[ANCHOR])?;
+    claim_and_end(alloc, &mut core)
 }
 
 #[test]
@@ -114,47 +127,58 @@ fn a_held_cell_is_reachable_until_its_mutator_goes_out(rt: HostRuntime) -> Resul
     Ok(())
 }
 
-/// How many cells are free at the opening, and what a collector does next.
-fn begun(alloc: Global) -> Result<(u32, Option<Event>), NoMemory> {
+/// How many cells are free, and what is posted next, if that is what a collector does next.
+fn free_and_next(core: &Core) -> (u32, Option<Stage>) {
+    let next = match core.next_plain() {
+        Some(Event::Post(stage)) => Some(stage),
+        _ => None,
+    };
+    (core.free_count(), next)
+}
+
+fn begun(alloc: Global) -> Result<(u32, Option<Stage>), NoMemory> {
     let core = Core::open(alloc, 3, 1, 8, &[ANCHOR])?;
-    Ok((core.free_count(), core.next_plain()))
+    Ok(free_and_next(&core))
 }
 
 #[test]
 fn a_cycle_begins_with_a_post(rt: HostRuntime) -> Result<(), Fail> {
-    let post = Some(Event::Post(Stage::Sync1));
-    assert_eq!(rt; begun(rt.alloc())?, (2, post));
+    assert_eq!(rt; begun(rt.alloc())?, (2, Some(Stage::Sync1)));
     Ok(())
 }
 
 /// What a run of the events ends with, the stage behind it, and whether the mutator may then begin
 /// again.
-fn run_to(
-    alloc: Global,
-    events: &[Event],
-) -> Result<(Result<(), NotNowAt>, Stage, Result<(), NotNow>), NoMemory> {
-    let mut core = Core::open(alloc, 2, 1, 4, &[ANCHOR])?;
+type Stopped = (Result<(), NotNowAt>, Stage, Result<(), NotNow>);
+
+fn run_and_begin(core: &mut Core, events: &[Event]) -> Stopped {
     let run = core.run(events);
     let stage = core.control().stage;
-    Ok((run, stage, core.apply(Event::Begin(0))))
+    (run, stage, core.apply(Event::Begin(0)))
 }
+
+fn run_to(alloc: Global, events: &[Event]) -> Result<Stopped, NoMemory> {
+    let mut core = Core::open(alloc, 2, 1, 4, &[ANCHOR])?;
+    Ok(run_and_begin(&mut core, events))
+}
+
+const UNANSWERED: [Event; 10] = [
+    Event::Begin(0),
+    Event::Post(Stage::Sync1),
+    Event::Look(0),
+    Event::Answer(0),
+    Event::Poll(0),
+    Event::Post(Stage::Clear),
+    Event::ClearCell,
+    Event::ClearCell,
+    Event::Post(Stage::Sync2),
+    Event::Post(Stage::Trace),
+];
 
 #[test]
 fn tracing_may_not_begin_before_all_have_answered(rt: HostRuntime) -> Result<(), Fail> {
-    let events = [
-        Event::Begin(0),
-        Event::Post(Stage::Sync1),
-        Event::Look(0),
-        Event::Answer(0),
-        Event::Poll(0),
-        Event::Post(Stage::Clear),
-        Event::ClearCell,
-        Event::ClearCell,
-        Event::Post(Stage::Sync2),
-        Event::Post(Stage::Trace),
-    ];
     let stop = NotNowAt { index: 9 };
     let wanted = (Err(stop), Stage::Sync2, Err(NotNow));
-    assert_eq!(rt; run_to(rt.alloc(), &events)?, wanted);
+    assert_eq!(rt; run_to(rt.alloc(), &UNANSWERED)?, wanted);
     Ok(())
 }

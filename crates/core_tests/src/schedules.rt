@@ -46,51 +46,53 @@ fn fault_at_third(alloc: Global, line: &str) -> Result<Option<(u32, ScheduleKind
     Ok(fault_of(alloc, text.as_bytes()))
 }
 
+/// Lines with their events.
+const EVENTS: [(&str, Event); 33] = [
+    ("begin 0", Event::Begin(0)),
+    ("look 1", Event::Look(1)),
+    ("answer 63", Event::Answer(63)),
+    ("end 4294967295", Event::End(4_294_967_295)),
+    ("over 0000000000000000007", Event::Over(7)),
+    ("read 0 1 4", Event::Read(0, 1, 4)),
+    ("mark 0 2", Event::Mark(0, 2)),
+    ("claim 0 255", Event::Claim(0, 255)),
+    (
+        "write 0 0 0 - @1",
+        Event::Write(0, 0, 0, Field::Null, Field::Cell(1)),
+    ),
+    (
+        "fill 2 1 3 =4611686018427387903",
+        Event::Fill(2, 1, 3, Field::Num(4_611_686_018_427_387_903)),
+    ),
+    ("seal 0 1 record", Event::Seal(0, 1, Kind::Record)),
+    ("seal 0 1 box", Event::Seal(0, 1, Kind::Boxed)),
+    ("keep 0 1", Event::Keep(0, 1, 0, 0)),
+    ("keep 0 1 3", Event::Keep(0, 1, 3, 1)),
+    ("keep 0 1 3 2", Event::Keep(0, 1, 3, 2)),
+    ("post sync1", Event::Post(Stage::Sync1)),
+    ("post idle", Event::Post(Stage::Idle)),
+    ("duty on", Event::Duty(true)),
+    ("duty off", Event::Duty(false)),
+    ("poll 0", Event::Poll(0)),
+    ("out 0", Event::AnswerOut(0, false)),
+    ("out 0 over", Event::AnswerOut(0, true)),
+    ("clear", Event::ClearCell),
+    ("anchor", Event::Anchor),
+    ("see 1", Event::See(1)),
+    ("scan", Event::Scan),
+    ("shade", Event::Shade),
+    ("blacken", Event::Blacken),
+    ("sweep", Event::SweepLook),
+    ("wipe", Event::Wipe),
+    ("free", Event::Free),
+    ("whiten", Event::Whiten),
+    ("advance", Event::Advance),
+];
+
 #[test]
 fn every_line_is_its_event(rt: HostRuntime) -> Result<(), Fail> {
     let alloc = rt.alloc();
-    let rows = [
-        ("begin 0", Event::Begin(0)),
-        ("look 1", Event::Look(1)),
-        ("answer 63", Event::Answer(63)),
-        ("end 4294967295", Event::End(4_294_967_295)),
-        ("over 0000000000000000007", Event::Over(7)),
-        ("read 0 1 4", Event::Read(0, 1, 4)),
-        ("mark 0 2", Event::Mark(0, 2)),
-        ("claim 0 255", Event::Claim(0, 255)),
-        (
-            "write 0 0 0 - @1",
-            Event::Write(0, 0, 0, Field::Null, Field::Cell(1)),
-        ),
-        (
-            "fill 2 1 3 =4611686018427387903",
-            Event::Fill(2, 1, 3, Field::Num(4_611_686_018_427_387_903)),
-        ),
-        ("seal 0 1 record", Event::Seal(0, 1, Kind::Record)),
-        ("seal 0 1 box", Event::Seal(0, 1, Kind::Boxed)),
-        ("keep 0 1", Event::Keep(0, 1, 0, 0)),
-        ("keep 0 1 3", Event::Keep(0, 1, 3, 1)),
-        ("keep 0 1 3 2", Event::Keep(0, 1, 3, 2)),
-        ("post sync1", Event::Post(Stage::Sync1)),
-        ("post idle", Event::Post(Stage::Idle)),
-        ("duty on", Event::Duty(true)),
-        ("duty off", Event::Duty(false)),
-        ("poll 0", Event::Poll(0)),
-        ("out 0", Event::AnswerOut(0, false)),
-        ("out 0 over", Event::AnswerOut(0, true)),
-        ("clear", Event::ClearCell),
-        ("anchor", Event::Anchor),
-        ("see 1", Event::See(1)),
-        ("scan", Event::Scan),
-        ("shade", Event::Shade),
-        ("blacken", Event::Blacken),
-        ("sweep", Event::SweepLook),
-        ("wipe", Event::Wipe),
-        ("free", Event::Free),
-        ("whiten", Event::Whiten),
-        ("advance", Event::Advance),
-    ];
-    for (line, event) in rows {
+    for (line, event) in &EVENTS {
         let sizes = Sizes {
             cells: 3,
             mutators: 1,
@@ -99,7 +101,7 @@ fn every_line_is_its_event(rt: HostRuntime) -> Result<(), Fail> {
         let steps = [
             Numbered {
                 line: 4,
-                step: Step::Take(event),
+                step: Step::Take(*event),
             },
             Numbered {
                 line: 5,
@@ -116,75 +118,79 @@ fn every_line_is_its_event(rt: HostRuntime) -> Result<(), Fail> {
     Ok(())
 }
 
+/// Schedules with their first faults.
+const STARTS: [(&str, Option<(u32, ScheduleKind)>); 13] = [
+    ("", Some((1, ScheduleKind::NoStart))),
+    ("# core 1 1 1\n\n", Some((1, ScheduleKind::NoStart))),
+    ("\nplain", Some((2, ScheduleKind::NoStart))),
+    (" core 1 1 1", Some((1, ScheduleKind::NoStart))),
+    ("\tcore 1 1 1", Some((1, ScheduleKind::BadByte))),
+    ("core", Some((1, ScheduleKind::BadNumber))),
+    ("core 0 1 1", Some((1, ScheduleKind::BadNumber))),
+    ("core 257 1 1", Some((1, ScheduleKind::BadNumber))),
+    ("core 256 65 1", Some((1, ScheduleKind::BadNumber))),
+    ("core 256 64 1025", Some((1, ScheduleKind::BadNumber))),
+    ("core 1 1 1 ", Some((1, ScheduleKind::Extra))),
+    ("core 256 64 1024", None),
+    ("core 1 1 1\ncore 1 1 1", Some((2, ScheduleKind::NoEvent))),
+];
+
 #[test]
 fn the_first_line_gives_the_sizes(rt: HostRuntime) {
     let alloc = rt.alloc();
-    let rows = [
-        ("", Some((1, ScheduleKind::NoStart))),
-        ("# core 1 1 1\n\n", Some((1, ScheduleKind::NoStart))),
-        ("\nplain", Some((2, ScheduleKind::NoStart))),
-        (" core 1 1 1", Some((1, ScheduleKind::NoStart))),
-        ("\tcore 1 1 1", Some((1, ScheduleKind::BadByte))),
-        ("core", Some((1, ScheduleKind::BadNumber))),
-        ("core 0 1 1", Some((1, ScheduleKind::BadNumber))),
-        ("core 257 1 1", Some((1, ScheduleKind::BadNumber))),
-        ("core 256 65 1", Some((1, ScheduleKind::BadNumber))),
-        ("core 256 64 1025", Some((1, ScheduleKind::BadNumber))),
-        ("core 1 1 1 ", Some((1, ScheduleKind::Extra))),
-        ("core 256 64 1024", None),
-        ("core 1 1 1\ncore 1 1 1", Some((2, ScheduleKind::NoEvent))),
-    ];
-    for (schedule, fault) in rows {
+    for (schedule, fault) in &STARTS {
         assert_eq!(rt;
             fault_of(alloc, schedule.as_bytes()),
-            fault,
+            *fault,
             "at {schedule:?}"
         );
     }
 }
 
+/// Lines with their faults.
+const FAULTS: [(&str, ScheduleKind); 30] = [
+    ("look 0\x7f", ScheduleKind::BadByte),
+    (" look 0", ScheduleKind::NoEvent),
+    ("Look 0", ScheduleKind::NoEvent),
+    ("look", ScheduleKind::BadNumber),
+    ("look ", ScheduleKind::BadNumber),
+    ("look  0", ScheduleKind::BadNumber),
+    ("look +1", ScheduleKind::BadNumber),
+    ("look 4294967296", ScheduleKind::BadNumber),
+    ("look 00000000000000000001", ScheduleKind::BadNumber),
+    ("look 0 ", ScheduleKind::Extra),
+    ("look x y", ScheduleKind::BadNumber),
+    ("clear ", ScheduleKind::Extra),
+    ("write 0 0 0 = -", ScheduleKind::BadNumber),
+    ("write 0 0 0 -1 -", ScheduleKind::BadNumber),
+    (
+        "write 0 0 0 =4611686018427387904 -",
+        ScheduleKind::BadNumber,
+    ),
+    ("write 0 0 0 @4294967296 -", ScheduleKind::BadNumber),
+    ("write 0 0 0 - 5", ScheduleKind::BadNumber),
+    ("seal 0 1", ScheduleKind::NoEvent),
+    ("seal 0 1 boxed", ScheduleKind::NoEvent),
+    ("seal x 1 boxed", ScheduleKind::BadNumber),
+    ("keep 0 1 ", ScheduleKind::BadNumber),
+    ("keep 0 1 2 ", ScheduleKind::BadNumber),
+    ("keep 0 1 2 3 ", ScheduleKind::Extra),
+    ("post", ScheduleKind::NoEvent),
+    ("post sync3", ScheduleKind::NoEvent),
+    ("duty of", ScheduleKind::NoEvent),
+    ("out 0 ", ScheduleKind::NoEvent),
+    ("out 0 in", ScheduleKind::NoEvent),
+    ("out 0 over ", ScheduleKind::Extra),
+    ("plain 1", ScheduleKind::Extra),
+];
+
 #[test]
 fn the_first_word_at_fault_counts(rt: HostRuntime) -> Result<(), Fail> {
     let alloc = rt.alloc();
-    let rows = [
-        ("look 0\x7f", ScheduleKind::BadByte),
-        (" look 0", ScheduleKind::NoEvent),
-        ("Look 0", ScheduleKind::NoEvent),
-        ("look", ScheduleKind::BadNumber),
-        ("look ", ScheduleKind::BadNumber),
-        ("look  0", ScheduleKind::BadNumber),
-        ("look +1", ScheduleKind::BadNumber),
-        ("look 4294967296", ScheduleKind::BadNumber),
-        ("look 00000000000000000001", ScheduleKind::BadNumber),
-        ("look 0 ", ScheduleKind::Extra),
-        ("look x y", ScheduleKind::BadNumber),
-        ("clear ", ScheduleKind::Extra),
-        ("write 0 0 0 = -", ScheduleKind::BadNumber),
-        ("write 0 0 0 -1 -", ScheduleKind::BadNumber),
-        (
-            "write 0 0 0 =4611686018427387904 -",
-            ScheduleKind::BadNumber,
-        ),
-        ("write 0 0 0 @4294967296 -", ScheduleKind::BadNumber),
-        ("write 0 0 0 - 5", ScheduleKind::BadNumber),
-        ("seal 0 1", ScheduleKind::NoEvent),
-        ("seal 0 1 boxed", ScheduleKind::NoEvent),
-        ("seal x 1 boxed", ScheduleKind::BadNumber),
-        ("keep 0 1 ", ScheduleKind::BadNumber),
-        ("keep 0 1 2 ", ScheduleKind::BadNumber),
-        ("keep 0 1 2 3 ", ScheduleKind::Extra),
-        ("post", ScheduleKind::NoEvent),
-        ("post sync3", ScheduleKind::NoEvent),
-        ("duty of", ScheduleKind::NoEvent),
-        ("out 0 ", ScheduleKind::NoEvent),
-        ("out 0 in", ScheduleKind::NoEvent),
-        ("out 0 over ", ScheduleKind::Extra),
-        ("plain 1", ScheduleKind::Extra),
-    ];
-    for (line, kind) in rows {
+    for (line, kind) in &FAULTS {
         assert_eq!(rt;
             fault_at_third(alloc, line)?,
-            Some((3, kind)),
+            Some((3, *kind)),
             "at {line:?}"
         );
     }
