@@ -1,105 +1,249 @@
 //! Edits on the pool in memory: rows that were worked out by hand.
 use crate::document::Document;
-use doc_tree::{EditFault, Path, Text};
+use doc_tree::{EditFault, NoMemory, Path, Text};
 use std::alloc::Global;
 use std::test::Fail;
 
-fn path(alloc: Global, names: &str) -> Result<Path, Fail> {
-    Ok(Path::read(alloc, names.as_bytes())?.ok_or("a path")?)
+/// Why an edit of a test was not made.
+#[derive(Clone, Copy, Debug, PartialEq, Eq)]
+enum Unmade {
+    NoMemory,
+    NoPath,
+    NoText,
+    Refused(EditFault),
 }
 
-fn text(alloc: Global, letters: &str) -> Result<Text, Fail> {
-    Ok(Text::read(alloc, letters.as_bytes())?.ok_or("a text")?)
+impl From<NoMemory> for Unmade {
+    fn from(_: NoMemory) -> Unmade {
+        Unmade::NoMemory
+    }
+}
+
+impl From<EditFault> for Unmade {
+    fn from(fault: EditFault) -> Unmade {
+        Unmade::Refused(fault)
+    }
+}
+
+fn path(alloc: Global, names: &str) -> Result<Path, Unmade> {
+    Path::read(alloc, names.as_bytes())?.ok_or(Unmade::NoPath)
+}
+
+fn text(alloc: Global, letters: &str) -> Result<Text, Unmade> {
+    Text::read(alloc, letters.as_bytes())?.ok_or(Unmade::NoText)
+}
+
+fn put(document: &mut Document, alloc: Global, names: &str, letters: &str) -> Result<(), Unmade> {
+    let path = path(alloc, names)?;
+    let text = text(alloc, letters)?;
+    document.put(&path, &text)?;
+    Ok(())
+}
+
+fn delete(document: &mut Document, alloc: Global, names: &str) -> Result<(), Unmade> {
+    let path = path(alloc, names)?;
+    document.delete(&path)?;
+    Ok(())
+}
+
+fn copy(document: &mut Document, alloc: Global, from: &str, to: &str) -> Result<(), Unmade> {
+    let from = path(alloc, from)?;
+    let to = path(alloc, to)?;
+    document.copy(&from, &to)?;
+    Ok(())
+}
+
+/// Whether the node has this text, if there is one.
+fn has_text(
+    document: &mut Document,
+    alloc: Global,
+    names: &str,
+    letters: &str,
+) -> Result<Option<bool>, Unmade> {
+    let path = path(alloc, names)?;
+    Ok(match document.text(alloc, &path)? {
+        Some(found) => Some(found.as_str() == letters),
+        None => None,
+    })
+}
+
+/// How many children the node has, if there is one.
+fn children(document: &mut Document, alloc: Global, names: &str) -> Result<Option<usize>, Unmade> {
+    let path = path(alloc, names)?;
+    Ok(match document.names(alloc, &path)? {
+        Some(found) => Some(found.names().len()),
+        None => None,
+    })
+}
+
+type Sizes = (u64, u32);
+
+/// The sizes behind a put at `a/b`, and whether both texts are found behind one at `a`.
+fn put_two(document: &mut Document, alloc: Global) -> Result<(Sizes, [Option<bool>; 2]), Unmade> {
+    put(document, alloc, "a/b", "x")?;
+    let sizes = document.sizes();
+    put(document, alloc, "a", "hello")?;
+    let hello = has_text(document, alloc, "a", "hello")?;
+    Ok((sizes, [hello, has_text(document, alloc, "a/b", "x")?]))
+}
+
+/// What is found of `a/b` when it was deleted, what deleting it again meets, and the sizes.
+fn delete_one(
+    document: &mut Document,
+    alloc: Global,
+) -> Result<(Option<bool>, Result<(), Unmade>, Sizes), Unmade> {
+    delete(document, alloc, "a/b")?;
+    let found = has_text(document, alloc, "a/b", "x")?;
+    let again = delete(document, alloc, "a/b");
+    Ok((found, again, document.sizes()))
+}
+
+fn put_and_deleted(
+    alloc: Global,
+) -> Result<
+    (
+        Result<(Sizes, [Option<bool>; 2]), Unmade>,
+        Result<(Option<bool>, Result<(), Unmade>, Sizes), Unmade>,
+    ),
+    NoMemory,
+> {
+    let mut document = Document::empty(alloc, 2000)?;
+    let put = put_two(&mut document, alloc);
+    Ok((put, delete_one(&mut document, alloc)))
 }
 
 #[test]
 fn what_is_put_is_found_and_what_is_deleted_is_gone(rt: HostRuntime) -> Result<(), Fail> {
-    let alloc = rt.alloc();
-    let (a, ab) = (path(alloc, "a")?, path(alloc, "a/b")?);
-    let mut document = Document::empty(alloc, 2000)?;
-    document.put(&ab, &text(alloc, "x")?)?;
-    assert_eq!(rt; document.sizes(), (3, 2));
-    document.put(&a, &text(alloc, "hello")?)?;
-    let found = document.text(alloc, &a)?.ok_or("a node")?;
-    assert_eq!(rt; found.as_str(), "hello");
-    let found = document.text(alloc, &ab)?.ok_or("a node")?;
-    assert_eq!(rt; found.as_str(), "x");
-    document.delete(&ab)?;
-    assert!(rt; document.text(alloc, &ab)?.is_none());
-    assert!(rt; matches!(document.delete(&ab), Err(EditFault::Absent)));
-    assert_eq!(rt; document.sizes(), (2, 1));
+    let put = ((3, 2), [Some(true), Some(true)]);
+    let deleted = (None, Err(Unmade::Refused(EditFault::Absent)), (2, 1));
+    assert_eq!(rt; put_and_deleted(rt.alloc())?, (Ok(put), Ok(deleted)));
     Ok(())
+}
+
+/// The sizes when `a` stands at `a/b` too, how many children `a` has, and whether the copy has its
+/// text.
+fn copy_below(
+    document: &mut Document,
+    alloc: Global,
+) -> Result<(Sizes, Option<usize>, Option<bool>), Unmade> {
+    put(document, alloc, "a", "x")?;
+    copy(document, alloc, "a", "a/b")?;
+    let children = children(document, alloc, "a")?;
+    let found = has_text(document, alloc, "a/b", "x")?;
+    Ok((document.sizes(), children, found))
+}
+
+fn copied(alloc: Global) -> Result<(Sizes, Option<usize>, Option<bool>), Unmade> {
+    let mut document = Document::empty(alloc, 2000)?;
+    copy_below(&mut document, alloc)
 }
 
 #[test]
 fn a_copy_stands_in_both_places(rt: HostRuntime) -> Result<(), Fail> {
-    let alloc = rt.alloc();
-    let (a, ab) = (path(alloc, "a")?, path(alloc, "a/b")?);
-    let mut document = Document::empty(alloc, 2000)?;
-    document.put(&a, &text(alloc, "x")?)?;
-    document.copy(&a, &ab)?;
-    assert_eq!(rt; document.sizes(), (3, 2));
-    let names = document.names(alloc, &a)?.ok_or("a node")?;
-    assert_eq!(rt; names.names().len(), 1);
-    let found = document.text(alloc, &ab)?.ok_or("a node")?;
-    assert_eq!(rt; found.as_str(), "x");
+    assert_eq!(rt; copied(rt.alloc())?, ((3, 2), Some(1), Some(true)));
     Ok(())
+}
+
+/// What an edit meets that is refused, and the sizes before and behind it.
+type Refusal = (Sizes, Result<(), Unmade>, Sizes);
+
+fn copy_deep(document: &mut Document, alloc: Global) -> Result<Refusal, Unmade> {
+    put(document, alloc, "a/b/c/d", "x")?;
+    copy(document, alloc, "a", "p/q/r/s/t")?;
+    let before = document.sizes();
+    let deeper = copy(document, alloc, "a", "p/q/r/s/t/u");
+    Ok((before, deeper, document.sizes()))
+}
+
+fn copied_deep(alloc: Global) -> Result<Refusal, Unmade> {
+    let mut document = Document::empty(alloc, 4000)?;
+    copy_deep(&mut document, alloc)
 }
 
 #[test]
 fn a_copy_that_would_make_nine_levels_is_deep(rt: HostRuntime) -> Result<(), Fail> {
-    let alloc = rt.alloc();
-    let a = path(alloc, "a")?;
-    let mut document = Document::empty(alloc, 4000)?;
-    document.put(&path(alloc, "a/b/c/d")?, &text(alloc, "x")?)?;
-    document.copy(&a, &path(alloc, "p/q/r/s/t")?)?;
-    assert_eq!(rt; document.sizes(), (13, 8));
-    let deeper = document.copy(&a, &path(alloc, "p/q/r/s/t/u")?);
-    assert!(rt; matches!(deeper, Err(EditFault::Deep)));
-    assert_eq!(rt; document.sizes(), (13, 8));
+    let deep = Err(Unmade::Refused(EditFault::Deep));
+    assert_eq!(rt; copied_deep(rt.alloc())?, ((13, 8), deep, (13, 8)));
     Ok(())
 }
 
+/// Puts a text at `d/000` to `d/255`.
+fn put_all(document: &mut Document, alloc: Global) -> Result<(), Unmade> {
+    for i in 0u32..256 {
+        let names = format!(in alloc; "d/{i:03}")?;
+        put(document, alloc, &names, "x")?;
+    }
+    Ok(())
+}
+
+/// What a put of a 257th name meets, the sizes before it, and behind it how many records a put at
+/// the first name makes, and the sizes.
+fn put_many(
+    document: &mut Document,
+    alloc: Global,
+) -> Result<(Sizes, Result<(), Unmade>, u64, Sizes), Unmade> {
+    put_all(document, alloc)?;
+    let sizes = document.sizes();
+    let more = put(document, alloc, "d/256", "x");
+    let before = u64::from(document.made());
+    put(document, alloc, "d/000", "y")?;
+    let made = u64::from(document.made()).abs_diff(before);
+    Ok((sizes, more, made, document.sizes()))
+}
+
+fn put_too_many(alloc: Global) -> Result<(Sizes, Result<(), Unmade>, u64, Sizes), Unmade> {
+    let mut document = Document::empty(alloc, 20_000)?;
+    put_many(&mut document, alloc)
+}
+
+// The path to the entry of 000 has eight entries, and there are two nodes, an entry of d, and the
+// new node with its text.
 #[test]
 fn a_257th_name_is_one_too_many(rt: HostRuntime) -> Result<(), Fail> {
-    let alloc = rt.alloc();
-    let x = text(alloc, "x")?;
-    let mut document = Document::empty(alloc, 20_000)?;
-    for i in 0u32..256 {
-        document.put(&path(alloc, &format!(in alloc; "d/{i:03}")?)?, &x)?;
-    }
-    assert_eq!(rt; document.sizes(), (258, 2));
-    let more = document.put(&path(alloc, "d/256")?, &x);
-    assert!(rt; matches!(more, Err(EditFault::Many)));
-    // The path to the entry of 000 has eight entries, and there are two nodes, an entry of d, and
-    // the new node with its text.
-    let before = u64::from(document.made());
-    document.put(&path(alloc, "d/000")?, &text(alloc, "y")?)?;
-    assert_eq!(rt; u64::from(document.made()), before + 13);
-    assert_eq!(rt; document.sizes(), (258, 2));
+    let many = Err(Unmade::Refused(EditFault::Many));
+    assert_eq!(rt; put_too_many(rt.alloc())?, ((258, 2), many, 13, (258, 2)));
     Ok(())
+}
+
+/// Copies `a` to `b/00` and so on.
+fn copy_all(document: &mut Document, alloc: Global, count: u32) -> Result<(), Unmade> {
+    for i in 0..count {
+        let names = format!(in alloc; "b/{i:02}")?;
+        copy(document, alloc, "a", &names)?;
+    }
+    Ok(())
+}
+
+/// Makes `a` a node with 64 copies of itself, four times.
+fn grow(document: &mut Document, alloc: Global) -> Result<(), Unmade> {
+    for _ in 0u32..4 {
+        copy_all(document, alloc, 64)?;
+        copy(document, alloc, "b", "a")?;
+        delete(document, alloc, "b")?;
+    }
+    Ok(())
+}
+
+/// The sizes of what has grown, and what a copy meets that would make it too big.
+fn copy_big(document: &mut Document, alloc: Global) -> Result<(Sizes, Refusal), Unmade> {
+    put(document, alloc, "a", "x")?;
+    grow(document, alloc)?;
+    let grown = document.sizes();
+    copy_all(document, alloc, 57)?;
+    let before = document.sizes();
+    let more = copy(document, alloc, "a", "b/57");
+    Ok((grown, (before, more, document.sizes())))
+}
+
+fn copied_big(alloc: Global) -> Result<(Sizes, Refusal), Unmade> {
+    let mut document = Document::empty(alloc, 20_000)?;
+    copy_big(&mut document, alloc)
 }
 
 #[test]
 fn a_copy_past_a_billion_nodes_is_too_big(rt: HostRuntime) -> Result<(), Fail> {
-    let alloc = rt.alloc();
-    let (a, b) = (path(alloc, "a")?, path(alloc, "b")?);
-    let mut document = Document::empty(alloc, 20_000)?;
-    document.put(&a, &text(alloc, "x")?)?;
-    for _ in 0u32..4 {
-        for i in 0u32..64 {
-            document.copy(&a, &path(alloc, &format!(in alloc; "b/{i:02}")?)?)?;
-        }
-        document.copy(&b, &a)?;
-        document.delete(&b)?;
-    }
-    assert_eq!(rt; document.sizes(), (17_043_522, 5));
-    for i in 0u32..57 {
-        document.copy(&a, &path(alloc, &format!(in alloc; "b/{i:02}")?)?)?;
-    }
-    assert_eq!(rt; document.sizes(), (988_524_220, 6));
-    let more = document.copy(&a, &path(alloc, "b/57")?);
-    assert!(rt; matches!(more, Err(EditFault::Big)));
-    assert_eq!(rt; document.sizes(), (988_524_220, 6));
+    let big = Err(Unmade::Refused(EditFault::Big));
+    let refusal = ((988_524_220, 6), big, (988_524_220, 6));
+    assert_eq!(rt; copied_big(rt.alloc())?, ((17_043_522, 5), refusal));
     Ok(())
 }
