@@ -1,7 +1,7 @@
 //! Scripts and lines whose readings were worked out by hand.
-use crate::made::{path, text};
+use crate::made::{Unmade, path, text};
 use cmd_text::*;
-use doc_model::{Command, Name, Names, Path, Reply, Text};
+use doc_model::{Command, Name, Names, NoMemory, Reply};
 use std::alloc::Global;
 use std::test::Fail;
 
@@ -16,45 +16,76 @@ fn fault_of(alloc: Global, bytes: &[u8]) -> Option<(u32, ScriptKind)> {
     }
 }
 
+fn is_put(command: &Command, alloc: Global, to: &str, word: &str) -> Result<bool, Unmade> {
+    let put = Command::Put {
+        path: path(alloc, to)?,
+        text: text(alloc, word)?,
+    };
+    Ok(*command == put)
+}
+
+fn is_get(command: &Command, alloc: Global, from: &str) -> Result<bool, Unmade> {
+    let get = Command::Get {
+        path: path(alloc, from)?,
+    };
+    Ok(*command == get)
+}
+
+fn is_copy(command: &Command, alloc: Global, from: &str, to: &str) -> Result<bool, Unmade> {
+    let copy = Command::Copy {
+        from: path(alloc, from)?,
+        to: path(alloc, to)?,
+    };
+    Ok(*command == copy)
+}
+
+fn is_old(command: &Command, alloc: Global, back: u32, at: &str) -> Result<bool, Unmade> {
+    let old = Command::Old {
+        back,
+        path: path(alloc, at)?,
+    };
+    Ok(*command == old)
+}
+
+/// Whether the first of three commands is the put of a text, and the last is a get.
+fn put_and_get(alloc: Global) -> Result<Option<(bool, bool)>, Unmade> {
+    let commands = read_script(alloc, b"# note\r\n\r\nput a  x\r\nput b\nget b")?;
+    Ok(match commands.as_slice() {
+        [first, _, last] => Some((is_put(first, alloc, "a", " x")?, is_get(last, alloc, "b")?)),
+        _ => None,
+    })
+}
+
 #[test]
 fn line_ends_of_both_kinds_are_read(rt: HostRuntime) -> Result<(), Fail> {
-    let alloc = rt.alloc();
-    let commands = read_script(alloc, b"# note\r\n\r\nput a  x\r\nput b\nget b")?;
-    assert_eq!(rt; commands.len(), 3);
-    let first = Command::Put {
-        path: path(alloc, "a")?,
-        text: text(alloc, " x")?,
-    };
-    let last = Command::Get {
-        path: path(alloc, "b")?,
-    };
-    assert_eq!(rt; commands[0], first);
-    assert_eq!(rt; commands[2], last);
+    assert_eq!(rt; put_and_get(rt.alloc())?, Some((true, true)));
     Ok(())
+}
+
+/// Whether the first of two commands is a copy, and the other asks for an old version.
+fn copy_and_old(alloc: Global) -> Result<Option<(bool, bool)>, Unmade> {
+    let commands = read_script(alloc, b"copy a/b c\nold 0000012 d")?;
+    Ok(match commands.as_slice() {
+        [copy, old] => Some((
+            is_copy(copy, alloc, "a/b", "c")?,
+            is_old(old, alloc, 12, "d")?,
+        )),
+        _ => None,
+    })
 }
 
 #[test]
 fn words_of_a_command_come_in_their_order(rt: HostRuntime) -> Result<(), Fail> {
-    let alloc = rt.alloc();
-    let commands = read_script(alloc, b"copy a/b c\nold 0000012 d")?;
-    assert_eq!(rt; commands.len(), 2);
-    let copy = Command::Copy {
-        from: path(alloc, "a/b")?,
-        to: path(alloc, "c")?,
-    };
-    let old = Command::Old {
-        back: 12,
-        path: path(alloc, "d")?,
-    };
-    assert_eq!(rt; commands[0], copy);
-    assert_eq!(rt; commands[1], old);
+    assert_eq!(rt; copy_and_old(rt.alloc())?, Some((true, true)));
     Ok(())
 }
+
+const FAULTLESS: [&str; 6] = ["", "\n", "\r\n", "# \u{e4}\t\n", "#\r\r\n", "put a "];
 
 #[test]
 fn lines_without_a_command_are_counted(rt: HostRuntime) {
     let alloc = rt.alloc();
-    for script in ["", "\n", "\r\n", "# \u{e4}\t\n", "#\r\r\n", "put a "] {
+    for script in &FAULTLESS {
         assert_eq!(rt; fault_of(alloc, script.as_bytes()), None, "at {script:?}");
     }
     assert_eq!(rt;
@@ -67,115 +98,141 @@ fn lines_without_a_command_are_counted(rt: HostRuntime) {
     );
 }
 
+/// Lines with their faults.
+const FAULTS: [(&str, ScriptKind); 37] = [
+    ("get a\x7f", ScriptKind::BadByte),
+    ("gut a\t", ScriptKind::BadByte),
+    ("put a\t", ScriptKind::BadByte),
+    ("put a \u{e4}", ScriptKind::BadByte),
+    ("old 1\x1f a b", ScriptKind::BadByte),
+    ("get a\r\r\n", ScriptKind::BadByte),
+    ("\r# a", ScriptKind::BadByte),
+    ("Get a", ScriptKind::NoCommand),
+    (" get a", ScriptKind::NoCommand),
+    ("geta /", ScriptKind::NoCommand),
+    ("ge", ScriptKind::NoCommand),
+    ("publis a", ScriptKind::NoCommand),
+    ("publishe a", ScriptKind::NoCommand),
+    ("old", ScriptKind::BadNumber),
+    ("old ", ScriptKind::BadNumber),
+    ("old a", ScriptKind::BadNumber),
+    ("old  1 a", ScriptKind::BadNumber),
+    ("old +1 a", ScriptKind::BadNumber),
+    ("old 1a /", ScriptKind::BadNumber),
+    ("old 12345678 a", ScriptKind::BadNumber),
+    ("old 1", ScriptKind::BadPath),
+    ("old 1 ", ScriptKind::BadPath),
+    ("old 1 a//b c", ScriptKind::BadPath),
+    ("old 1 a ", ScriptKind::Extra),
+    ("old 1 a b", ScriptKind::Extra),
+    ("copy", ScriptKind::BadPath),
+    ("copy a", ScriptKind::BadPath),
+    ("copy a ", ScriptKind::BadPath),
+    ("copy /a b c", ScriptKind::BadPath),
+    ("copy a b/ c", ScriptKind::BadPath),
+    ("copy a b ", ScriptKind::Extra),
+    ("copy a b c", ScriptKind::Extra),
+    ("put", ScriptKind::BadPath),
+    ("put  a", ScriptKind::BadPath),
+    ("dput", ScriptKind::BadPath),
+    ("dput a. b", ScriptKind::BadPath),
+    ("get a/b/c/d/e/f/g/h/i", ScriptKind::BadPath),
+];
+
 #[test]
 fn the_first_fault_of_a_line_counts(rt: HostRuntime) {
     let alloc = rt.alloc();
-    let rows = [
-        ("get a\x7f", ScriptKind::BadByte),
-        ("gut a\t", ScriptKind::BadByte),
-        ("put a\t", ScriptKind::BadByte),
-        ("put a \u{e4}", ScriptKind::BadByte),
-        ("old 1\x1f a b", ScriptKind::BadByte),
-        ("get a\r\r\n", ScriptKind::BadByte),
-        ("\r# a", ScriptKind::BadByte),
-        ("Get a", ScriptKind::NoCommand),
-        (" get a", ScriptKind::NoCommand),
-        ("geta /", ScriptKind::NoCommand),
-        ("ge", ScriptKind::NoCommand),
-        ("publis a", ScriptKind::NoCommand),
-        ("publishe a", ScriptKind::NoCommand),
-        ("old", ScriptKind::BadNumber),
-        ("old ", ScriptKind::BadNumber),
-        ("old a", ScriptKind::BadNumber),
-        ("old  1 a", ScriptKind::BadNumber),
-        ("old +1 a", ScriptKind::BadNumber),
-        ("old 1a /", ScriptKind::BadNumber),
-        ("old 12345678 a", ScriptKind::BadNumber),
-        ("old 1", ScriptKind::BadPath),
-        ("old 1 ", ScriptKind::BadPath),
-        ("old 1 a//b c", ScriptKind::BadPath),
-        ("old 1 a ", ScriptKind::Extra),
-        ("old 1 a b", ScriptKind::Extra),
-        ("copy", ScriptKind::BadPath),
-        ("copy a", ScriptKind::BadPath),
-        ("copy a ", ScriptKind::BadPath),
-        ("copy /a b c", ScriptKind::BadPath),
-        ("copy a b/ c", ScriptKind::BadPath),
-        ("copy a b ", ScriptKind::Extra),
-        ("copy a b c", ScriptKind::Extra),
-        ("put", ScriptKind::BadPath),
-        ("put  a", ScriptKind::BadPath),
-        ("dput", ScriptKind::BadPath),
-        ("dput a. b", ScriptKind::BadPath),
-        ("get a/b/c/d/e/f/g/h/i", ScriptKind::BadPath),
-    ];
-    for (line, kind) in rows {
+    for (line, kind) in &FAULTS {
         assert_eq!(rt;
             fault_of(alloc, line.as_bytes()),
-            Some((1, kind)),
+            Some((1, *kind)),
             "at {line:?}"
         );
     }
 }
 
+/// The first fault of a line of two parts.
+fn fault_of_parts(
+    alloc: Global,
+    verb: &str,
+    rest: &str,
+) -> Result<Option<(u32, ScriptKind)>, NoMemory> {
+    let line = format!(in alloc; "{verb}{rest}")?;
+    Ok(fault_of(alloc, line.as_bytes()))
+}
+
+const VERBS: [&str; 7] = ["del", "get", "list", "size", "dget", "take", "publish"];
+
+/// What stands behind the word of a command on one path, with its fault.
+const RESTS: [(&str, Option<(u32, ScriptKind)>); 7] = [
+    (" a/b/c/d/e/f/g/h", None),
+    ("", Some((1, ScriptKind::BadPath))),
+    (" ", Some((1, ScriptKind::BadPath))),
+    ("  a", Some((1, ScriptKind::BadPath))),
+    (" a//b c", Some((1, ScriptKind::BadPath))),
+    (" a ", Some((1, ScriptKind::Extra))),
+    (" a b", Some((1, ScriptKind::Extra))),
+];
+
 #[test]
 fn a_command_on_one_path_has_one(rt: HostRuntime) -> Result<(), Fail> {
     let alloc = rt.alloc();
-    for verb in ["del", "get", "list", "size", "dget", "take", "publish"] {
-        for (rest, fault) in [
-            (" a/b/c/d/e/f/g/h", None),
-            ("", Some((1, ScriptKind::BadPath))),
-            (" ", Some((1, ScriptKind::BadPath))),
-            ("  a", Some((1, ScriptKind::BadPath))),
-            (" a//b c", Some((1, ScriptKind::BadPath))),
-            (" a ", Some((1, ScriptKind::Extra))),
-            (" a b", Some((1, ScriptKind::Extra))),
-        ] {
-            let line = format!(in alloc; "{verb}{rest}")?;
-            assert_eq!(rt; fault_of(alloc, line.as_bytes()), fault, "at {line:?}");
+    for verb in &VERBS {
+        for (rest, fault) in &RESTS {
+            assert_eq!(rt;
+                fault_of_parts(alloc, verb, rest)?,
+                *fault,
+                "at {verb:?} {rest:?}"
+            );
         }
     }
     Ok(())
 }
 
-#[test]
-fn a_text_has_at_most_4096_bytes(rt: HostRuntime) -> Result<(), Fail> {
-    let alloc = rt.alloc();
+/// The faults of a script with a text of 4096 bytes, and of one byte more.
+fn faults_of_long(alloc: Global) -> Result<[Option<(u32, ScriptKind)>; 2], NoMemory> {
     let mut script = Vec::from_slice(alloc, b"dput a ")?;
     for _ in 0..4096 {
         script.push(b'x')?;
     }
-    assert_eq!(rt; fault_of(alloc, &script), None);
+    let most = fault_of(alloc, &script);
     script.push(b' ')?;
-    assert_eq!(rt; fault_of(alloc, &script), Some((1, ScriptKind::LongText)));
-    Ok(())
+    Ok([most, fault_of(alloc, &script)])
 }
 
 #[test]
-fn every_reply_has_its_line(rt: HostRuntime) -> Result<(), Fail> {
-    let alloc = rt.alloc();
-    let mut names = Names::new(alloc);
-    for word in ["about", "index"] {
-        if let Some(name) = Name::read(alloc, word.as_bytes())? {
-            names.push(name)?;
+fn a_text_has_at_most_4096_bytes(rt: HostRuntime) -> Result<(), Fail> {
+    let long = Some((1, ScriptKind::LongText));
+    assert_eq!(rt; faults_of_long(rt.alloc())?, [None, long]);
+    Ok(())
+}
+
+fn has_line(alloc: Global, reply: &Reply, line: &str) -> Result<bool, NoMemory> {
+    let written = reply_line(alloc, reply)?;
+    Ok(written.as_slice() == line.as_bytes())
+}
+
+/// The first of the lines that its reply has not.
+fn first_wrong(
+    alloc: Global,
+    rows: &[(Reply, &'static str)],
+) -> Result<Option<&'static str>, NoMemory> {
+    for (reply, line) in rows {
+        if !has_line(alloc, reply, line)? {
+            return Ok(Some(*line));
         }
     }
-    let shown = 5;
-    let hello = text(alloc, "hello you")?;
-    let empty = text(alloc, "")?;
+    Ok(None)
+}
+
+const SHOWN: u64 = 5;
+
+/// The first wrong line of replies without a text or names.
+fn first_wrong_of_plain(alloc: Global) -> Result<Option<&'static str>, NoMemory> {
+    let shown = SHOWN;
     let rows = [
         (Reply::Committed { shown }, "ok 5\n"),
         (Reply::Drafted { shown }, "drafted 5\n"),
-        (Reply::Val { shown, text: hello }, "val 5 hello you\n"),
-        (Reply::Val { shown, text: empty }, "val 5 \n"),
-        (Reply::Names { shown, names }, "names 5 about index\n"),
-        (
-            Reply::Names {
-                shown,
-                names: Names::new(alloc),
-            },
-            "names 5\n",
-        ),
         (Reply::Count { shown, count: 9 }, "num 5 9\n"),
         (Reply::Absent { shown }, "none 5\n"),
         (Reply::Gone { shown, wanted: 2 }, "gone 5 2\n"),
@@ -191,11 +248,54 @@ fn every_reply_has_its_line(rt: HostRuntime) -> Result<(), Fail> {
             "full 18446744073709551615\n",
         ),
     ];
-    for (reply, line) in &rows {
-        let written = reply_line(alloc, reply)?;
-        assert_eq!(rt; written.as_slice(), line.as_bytes(), "at {line:?}");
+    first_wrong(alloc, &rows)
+}
+
+fn val_has_line(alloc: Global, word: &str, line: &str) -> Result<bool, Unmade> {
+    let reply = Reply::Val {
+        shown: SHOWN,
+        text: text(alloc, word)?,
+    };
+    Ok(has_line(alloc, &reply, line)?)
+}
+
+fn add_name(names: &mut Names, alloc: Global, word: &str) -> Result<(), NoMemory> {
+    if let Some(name) = Name::read(alloc, word.as_bytes())? {
+        names.push(name)?;
     }
-    let heading = heading_line(alloc, 64)?;
-    assert_eq!(rt; heading.as_slice(), b"client 64\n".as_slice());
+    Ok(())
+}
+
+fn two_names_have_line(alloc: Global, line: &str) -> Result<bool, NoMemory> {
+    let mut names = Names::new(alloc);
+    add_name(&mut names, alloc, "about")?;
+    add_name(&mut names, alloc, "index")?;
+    let shown = SHOWN;
+    has_line(alloc, &Reply::Names { shown, names }, line)
+}
+
+fn no_names_have_line(alloc: Global, line: &str) -> Result<bool, NoMemory> {
+    let reply = Reply::Names {
+        shown: SHOWN,
+        names: Names::new(alloc),
+    };
+    has_line(alloc, &reply, line)
+}
+
+fn heading_is(alloc: Global, client: u32, line: &[u8]) -> Result<bool, NoMemory> {
+    let heading = heading_line(alloc, client)?;
+    Ok(heading.as_slice() == line)
+}
+
+#[test]
+fn every_reply_has_its_line(rt: HostRuntime) -> Result<(), Fail> {
+    let alloc = rt.alloc();
+    assert_eq!(rt; first_wrong_of_plain(alloc)?, None);
+    for (word, line) in [("hello you", "val 5 hello you\n"), ("", "val 5 \n")] {
+        assert!(rt; val_has_line(alloc, word, line)?, "at {line:?}");
+    }
+    assert!(rt; two_names_have_line(alloc, "names 5 about index\n")?);
+    assert!(rt; no_names_have_line(alloc, "names 5\n")?);
+    assert!(rt; heading_is(alloc, 64, b"client 64\n")?);
     Ok(())
 }

@@ -1,13 +1,16 @@
 //! The lines of a whole run, worked out by hand.
-use crate::made::{path, text};
+use crate::made::{Unmade, path, text};
 use cmd_text::*;
-use doc_model::{Command, Entry, Reply, Totals};
+use doc_model::{Command, Entry, NoMemory, Reply, Totals};
+use std::alloc::Global;
 use std::test::Fail;
 
-// A client asks for a text that another wrote: the entries of both.
-#[test]
-fn an_entry_has_its_line(rt: HostRuntime) -> Result<(), Fail> {
-    let alloc = rt.alloc();
+fn has_line(alloc: Global, entry: &Entry, line: &[u8]) -> Result<bool, NoMemory> {
+    let written = history_line(alloc, entry)?;
+    Ok(written.as_slice() == line)
+}
+
+fn put_has_line(alloc: Global, line: &[u8]) -> Result<bool, Unmade> {
     let put = Entry {
         client: 1,
         number: 1,
@@ -18,8 +21,10 @@ fn an_entry_has_its_line(rt: HostRuntime) -> Result<(), Fail> {
         reply: Reply::Committed { shown: 1 },
         place: 1,
     };
-    let line = history_line(alloc, &put)?;
-    assert_eq!(rt; line.as_slice(), b"1 1 1 ok 1\n".as_slice());
+    Ok(has_line(alloc, &put, line)?)
+}
+
+fn old_has_line(alloc: Global, line: &[u8]) -> Result<bool, Unmade> {
     let get = Entry {
         client: 64,
         number: 100_000,
@@ -33,9 +38,20 @@ fn an_entry_has_its_line(rt: HostRuntime) -> Result<(), Fail> {
         },
         place: 2,
     };
-    let line = history_line(alloc, &get)?;
-    assert_eq!(rt; line.as_slice(), b"2 64 100000 val 1 hello\n".as_slice());
+    Ok(has_line(alloc, &get, line)?)
+}
+
+// A client asks for a text that another wrote: the entries of both.
+#[test]
+fn an_entry_has_its_line(rt: HostRuntime) -> Result<(), Fail> {
+    assert!(rt; put_has_line(rt.alloc(), b"1 1 1 ok 1\n")?);
+    assert!(rt; old_has_line(rt.alloc(), b"2 64 100000 val 1 hello\n")?);
     Ok(())
+}
+
+fn have_lines(alloc: Global, totals: &Totals, lines: &[u8]) -> Result<bool, NoMemory> {
+    let written = stats_lines(alloc, totals)?;
+    Ok(written.as_slice() == lines)
 }
 
 // Thirteen puts on the smallest heap: three cells open it, the first put takes six, each later one
@@ -52,10 +68,8 @@ fn totals_have_their_lines(rt: HostRuntime) -> Result<(), Fail> {
         cycles: 0,
         nodes: 2,
     };
-    let lines = stats_lines(rt.alloc(), &totals)?;
-    assert_eq!(rt;
-        lines.as_slice(),
-        b"stats\ncommands 13\nversions 12\nclaimed 61\nfreed 0\nused 64\nfree 0\ncycles 0\n".as_slice()
-    );
+    let lines =
+        b"stats\ncommands 13\nversions 12\nclaimed 61\nfreed 0\nused 64\nfree 0\ncycles 0\n";
+    assert!(rt; have_lines(rt.alloc(), &totals, lines)?);
     Ok(())
 }
