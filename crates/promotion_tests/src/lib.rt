@@ -1,10 +1,12 @@
 //! What no clause says of promotion: rows that were worked out by hand, on the words of a heap and of
 //! a private heap, and a heap that is full.
 //!
-//! Reading order: `heaps`, `calls`, `rows`.
+//! Reading order: `heaps`, `calls`, `promoting`, `rows`.
 #![tactic(auto)]
 
 mod calls;
 mod heaps;
+#[cfg(test)]
+mod promoting;
 #[cfg(test)]
 mod rows;
