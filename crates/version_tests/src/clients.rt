@@ -1,16 +1,15 @@
 //! Threads that commit again and again, and answer handshakes between two commits.
 ghost use Rattle.free_cells.specs.Passes.{IsHintPass};
-ghost use Rattle.std.specs.Prelude.{◌≡◌, ◌≤◌, ◌+◌, IfOk, true};
+ghost use Rattle.std.specs.Prelude.{◌≡◌, ◌≤◌, ◌+◌, true};
 ghost use Rattle.version_store.specs.Lasts.{IsSameMutator};
 ghost use Rattle.version_tests.specs.Grows.{IsNew, IsOver, Works};
 
 use crate::bare::Store;
 use crate::opening::come_in;
 use crate::working::{commit_one, prune_latest};
-use cell_heap::{CellHeap, MutSeat, NoMemory};
+use cell_heap::{CellHeap, MutSeat};
 use free_cells::{FreeQueue, HintPass, Hints};
 use mutator_seat::Mutator;
-use std::alloc::Global;
 use std::sync::Wait;
 use std::thread::{self, Threads};
 
@@ -28,25 +27,7 @@ const TRIES: u32 = 50_000;
 pub(crate) struct Client {
     pub(crate) seat: MutSeat<Store>,
     pub(crate) pass: HintPass,
-    numbers: Vec<u64>,
-}
-
-impl Client {
-    pub(crate) fn new(
-        alloc: Global,
-        seat: MutSeat<Store>,
-        pass: HintPass,
-    ) -> Result<Client, NoMemory>
-        ensures seat { IfOk result (λ client. client.seat ≡ seat) }
-        ensures pass { IfOk result (λ client. client.pass ≡ pass) }
-    {
-        let numbers = Vec::with_capacity(alloc, EACH)?;
-        Ok(Client {
-            seat,
-            pass,
-            numbers,
-        })
-    }
+    pub(crate) numbers: Vec<u64>,
 }
 
 /// A mutator that is over, and the numbers of what it made.

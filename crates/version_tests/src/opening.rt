@@ -9,38 +9,6 @@ use mutator_seat::Mutator;
 use std::alloc::Global;
 use version_store::opening_rows;
 
-/// A store with the seats of its three mutators. The collector's seat is let go, so the collector
-/// stays off duty.
-#[derive(Drop)]
-pub(crate) struct Opened {
-    pub(crate) heap: CellHeap<Store>,
-    pub(crate) first: MutSeat<Store>,
-    pub(crate) second: MutSeat<Store>,
-    pub(crate) third: MutSeat<Store>,
-}
-
-/// A store on a heap of so many cells that keeps so many versions.
-pub(crate) fn open_store(alloc: Global, cells: u32, keep: u64) -> Result<Opened, NoMemory>
-    requires some { 3 ≤ cells }
-    requires few { cells ≤ 1000000 }
-    requires keeps_some { 1 ≤ keep }
-    requires keeps_few { keep ≤ 100 }
-    ensures first { IfOk result (λ made. IsNew made.heap keep made.first) }
-    ensures second { IfOk result (λ made. IsNew made.heap keep made.second) }
-    ensures third { IfOk result (λ made. IsNew made.heap keep made.third) }
-{
-    let (heap, mut collector) = ColSeat::<Store>::open(alloc, cells, 3, keep, &opening_rows())?;
-    let first = collector.split(alloc, &heap, 0, 300)?;
-    let second = collector.split(alloc, &heap, 1, 300)?;
-    let third = collector.split(alloc, &heap, 2, 300)?;
-    Ok(Opened {
-        heap,
-        first,
-        second,
-        third,
-    })
-}
-
 /// A store with the seats of its collector and of its two mutators.
 #[derive(Drop)]
 pub(crate) struct Served {
@@ -50,7 +18,8 @@ pub(crate) struct Served {
     pub(crate) second: MutSeat<Store>,
 }
 
-/// A store for a collector and two mutators, on a heap of so many cells.
+/// A store that keeps so many versions for a collector and two mutators, on a heap of so many
+/// cells. The collector is off duty.
 pub(crate) fn open_served(alloc: Global, cells: u32, keep: u64) -> Result<Served, NoMemory>
     requires some { 3 ≤ cells }
     requires few { cells ≤ 1000000 }
