@@ -10,14 +10,13 @@ use client_trees::{
     NodeAt, attach, child, count, delete, empty_node, height, names, set_text, text_of,
 };
 use doc_tree::{EditFault, Name, Names, NoMemory, Path, Text};
-use free_cells::FreeQueue;
+use free_cells::{FreeQueue, Hints};
 use heap_rule::NoRule;
 use minor_heap::{MinorHeap, MinorRef};
-use mutator_seat::Mutator;
+use mutator_seat::{HeapFull, Mutator};
 use promotion::Promoter;
 use std::alloc::Global;
 use std::sync::Wait;
-use std::test::Fail;
 
 /// A path.
 fn path(alloc: Global, names: &str) -> Result<Path, EditFault> {
@@ -197,36 +196,57 @@ pub(crate) fn names_at(
 
 /// Copies a private node into the shared heap, and lets all private records go. Behind the anchor
 /// the copy is held, and nothing else.
+fn collect_private<R: Wait>(
+    rt: &R,
+    hints: &mut Hints<'_>,
+    promoter: &mut Promoter,
+    m: &mut Mutator<'_, NoRule>,
+    minor: &mut MinorHeap,
+    r: MinorRef,
+) -> Result<(), HeapFull>
+    requires works { Works m.old minor.old (at.Minor r) }
+    requires fits { length minor.old.records ≤ promoter.old }
+    requires room { length m.old.seat.me.own.held + length minor.old.records + 1
+        ≤ m.old.seat.me.room }
+    ensures works { OnOk result (Works m.new minor.new (at.Shared 1)) }
+{
+    // As many places are known of as are held.
+    let _held = m.held_len();
+    promoter.collect(rt, hints, m, minor, &[r], 1)?;
+    Ok(())
+}
+
+/// Does so, where there is room and memory.
 fn share_private<R: Wait>(
     alloc: Global,
     rt: &R,
     m: &mut Mutator<'_, NoRule>,
     minor: &mut MinorHeap,
     r: MinorRef,
-) -> Result<(), Fail>
+) -> Result<(), EditFault>
     requires works { Works m.old minor.old (at.Minor r) }
     ensures works { OnOk result (Works m.new minor.new (at.Shared 1)) }
 {
-    // As many places are known of as are held.
-    let _held = m.held_len();
     if m.room() <= minor.len() as usize {
-        return Err(Fail::from(EditFault::NoMemory));
+        return Err(EditFault::NoMemory);
     }
     let (queue, pass) = FreeQueue::open(alloc, rt, CELLS, 1)?;
     let mut promoter = Promoter::with_room(alloc, minor.len())?;
     let mut hints = queue.hints(pass);
-    promoter.collect(rt, &mut hints, m, minor, &[r], 1)?;
-    Ok(())
+    match collect_private(rt, &mut hints, &mut promoter, m, minor, r) {
+        Ok(()) => Ok(()),
+        Err(_) => Err(EditFault::NoMemory),
+    }
 }
 
-/// Copies the tree into the shared heap, if it is private.
+/// Copies the tree into the shared heap, if it is private and there is memory.
 pub(crate) fn share<R: Wait>(
     alloc: Global,
     rt: &R,
     m: &mut Mutator<'_, NoRule>,
     minor: &mut MinorHeap,
     root: &mut NodeAt,
-) -> Result<(), Fail>
+) -> Result<(), EditFault>
     requires works { Works m.old minor.old root.old }
     ensures works { OnOk result (Works m.new minor.new root.new) }
 {

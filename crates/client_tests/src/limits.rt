@@ -1,9 +1,8 @@
 //! Rows that end in a refusal, worked out by hand, on private trees and on shared ones.
-ghost use Rattle.std.specs.Prelude.{◌≡◌, ◌+◌, ◌≤◌, length, true};
 ghost use Rattle.client_tests.specs.Works.{Works};
 
 use crate::calls::{begin_tree, copy, put, remove, share, sizes};
-use crate::heaps::{CELLS, ROOM, come_in, open_one};
+use crate::heaps::{Row, worked};
 use client_trees::NodeAt;
 use doc_tree::EditFault;
 use heap_rule::NoRule;
@@ -22,35 +21,37 @@ struct Found {
 }
 
 /// Deletes what is not there, and then what is.
-fn delete_absent<R: Wait>(
-    alloc: Global,
-    rt: &R,
-    m: &mut Mutator<'_, NoRule>,
-    minor: &mut MinorHeap,
-) -> Result<Found, Fail>
-    requires inside { m.old.seat.me.presence.inside ≡ true }
-    requires spare { length minor.old.records + 2285 ≤ minor.old.room }
-{
-    let mut root = begin_tree(m, minor);
-    let root = &mut root;
-    put(alloc, m, minor, root, "a", "x")?;
-    let private = remove(alloc, m, minor, root, "b");
-    share(alloc, rt, m, minor, root)?;
-    let shared = remove(alloc, m, minor, root, "a/b");
-    remove(alloc, m, minor, root, "a")?;
-    Ok(Found {
-        private,
-        shared,
-        sizes: sizes(m, minor, *root),
-    })
+#[derive(Clone, Copy)]
+struct DeleteAbsent;
+
+impl Row for DeleteAbsent {
+    type Found = Found;
+
+    fn work<R: Wait>(
+        self,
+        alloc: Global,
+        rt: &R,
+        m: &mut Mutator<'_, NoRule>,
+        minor: &mut MinorHeap,
+    ) -> Result<Found, EditFault> {
+        let mut root = begin_tree(m, minor);
+        let root = &mut root;
+        put(alloc, m, minor, root, "a", "x")?;
+        let private = remove(alloc, m, minor, root, "b");
+        share(alloc, rt, m, minor, root)?;
+        let shared = remove(alloc, m, minor, root, "a/b");
+        remove(alloc, m, minor, root, "a")?;
+        Ok(Found {
+            private,
+            shared,
+            sizes: sizes(m, minor, *root),
+        })
+    }
 }
 
 #[test]
 fn what_is_not_there_is_not_deleted(rt: HostRuntime) -> Result<(), Fail> {
-    let (heap, _collector, seat) = open_one(rt.alloc(), CELLS, ROOM)?;
-    let mut minor = MinorHeap::with_room(rt.alloc(), 3000)?;
-    let mut m = come_in(&heap, seat);
-    let found = delete_absent(rt.alloc(), &rt, &mut m, &mut minor)?;
+    let found = worked(rt.alloc(), &rt, DeleteAbsent, 3000)?;
     let expected = Found {
         private: Err(EditFault::Absent),
         shared: Err(EditFault::Absent),
@@ -84,34 +85,36 @@ pub(crate) fn fill_folder(
 }
 
 /// Puts a 257th name.
-fn put_one_more<R: Wait>(
-    alloc: Global,
-    rt: &R,
-    m: &mut Mutator<'_, NoRule>,
-    minor: &mut MinorHeap,
-) -> Result<Found, Fail>
-    requires inside { m.old.seat.me.presence.inside ≡ true }
-    requires spare { length minor.old.records + 2285 ≤ minor.old.room }
-{
-    let mut root = begin_tree(m, minor);
-    let root = &mut root;
-    fill_folder(alloc, m, minor, root)?;
-    let private = put(alloc, m, minor, root, "d/256", "x");
-    share(alloc, rt, m, minor, root)?;
-    let shared = put(alloc, m, minor, root, "d/256", "x");
-    Ok(Found {
-        private,
-        shared,
-        sizes: sizes(m, minor, *root),
-    })
+#[derive(Clone, Copy)]
+struct PutOneMore;
+
+impl Row for PutOneMore {
+    type Found = Found;
+
+    fn work<R: Wait>(
+        self,
+        alloc: Global,
+        rt: &R,
+        m: &mut Mutator<'_, NoRule>,
+        minor: &mut MinorHeap,
+    ) -> Result<Found, EditFault> {
+        let mut root = begin_tree(m, minor);
+        let root = &mut root;
+        fill_folder(alloc, m, minor, root)?;
+        let private = put(alloc, m, minor, root, "d/256", "x");
+        share(alloc, rt, m, minor, root)?;
+        let shared = put(alloc, m, minor, root, "d/256", "x");
+        Ok(Found {
+            private,
+            shared,
+            sizes: sizes(m, minor, *root),
+        })
+    }
 }
 
 #[test]
 fn a_257th_name_is_one_too_many(rt: HostRuntime) -> Result<(), Fail> {
-    let (heap, _collector, seat) = open_one(rt.alloc(), CELLS, ROOM)?;
-    let mut minor = MinorHeap::with_room(rt.alloc(), 10_000)?;
-    let mut m = come_in(&heap, seat);
-    let found = put_one_more(rt.alloc(), &rt, &mut m, &mut minor)?;
+    let found = worked(rt.alloc(), &rt, PutOneMore, 10_000)?;
     let expected = Found {
         private: Err(EditFault::Many),
         shared: Err(EditFault::Many),
@@ -122,35 +125,37 @@ fn a_257th_name_is_one_too_many(rt: HostRuntime) -> Result<(), Fail> {
 }
 
 /// Copies a tree of four levels to one level after the other.
-fn copy_deeper<R: Wait>(
-    alloc: Global,
-    rt: &R,
-    m: &mut Mutator<'_, NoRule>,
-    minor: &mut MinorHeap,
-) -> Result<Found, Fail>
-    requires inside { m.old.seat.me.presence.inside ≡ true }
-    requires spare { length minor.old.records + 2285 ≤ minor.old.room }
-{
-    let mut root = begin_tree(m, minor);
-    let root = &mut root;
-    put(alloc, m, minor, root, "a/b/c/d", "x")?;
-    copy(alloc, m, minor, root, "a", "p/q/r/s/t")?;
-    let private = copy(alloc, m, minor, root, "a", "p/q/r/s/t/u");
-    share(alloc, rt, m, minor, root)?;
-    let shared = copy(alloc, m, minor, root, "a", "p/q/r/s/t/u");
-    Ok(Found {
-        private,
-        shared,
-        sizes: sizes(m, minor, *root),
-    })
+#[derive(Clone, Copy)]
+struct CopyDeeper;
+
+impl Row for CopyDeeper {
+    type Found = Found;
+
+    fn work<R: Wait>(
+        self,
+        alloc: Global,
+        rt: &R,
+        m: &mut Mutator<'_, NoRule>,
+        minor: &mut MinorHeap,
+    ) -> Result<Found, EditFault> {
+        let mut root = begin_tree(m, minor);
+        let root = &mut root;
+        put(alloc, m, minor, root, "a/b/c/d", "x")?;
+        copy(alloc, m, minor, root, "a", "p/q/r/s/t")?;
+        let private = copy(alloc, m, minor, root, "a", "p/q/r/s/t/u");
+        share(alloc, rt, m, minor, root)?;
+        let shared = copy(alloc, m, minor, root, "a", "p/q/r/s/t/u");
+        Ok(Found {
+            private,
+            shared,
+            sizes: sizes(m, minor, *root),
+        })
+    }
 }
 
 #[test]
 fn a_copy_that_would_make_nine_levels_is_deep(rt: HostRuntime) -> Result<(), Fail> {
-    let (heap, _collector, seat) = open_one(rt.alloc(), CELLS, ROOM)?;
-    let mut minor = MinorHeap::with_room(rt.alloc(), 4000)?;
-    let mut m = come_in(&heap, seat);
-    let found = copy_deeper(rt.alloc(), &rt, &mut m, &mut minor)?;
+    let found = worked(rt.alloc(), &rt, CopyDeeper, 4000)?;
     let expected = Found {
         private: Err(EditFault::Deep),
         shared: Err(EditFault::Deep),
@@ -203,36 +208,38 @@ fn grow(
 }
 
 /// Copies a tree of 17,043,521 nodes until a copy more would be too many.
-fn copy_past_the_most<R: Wait>(
-    alloc: Global,
-    rt: &R,
-    m: &mut Mutator<'_, NoRule>,
-    minor: &mut MinorHeap,
-) -> Result<Found, Fail>
-    requires inside { m.old.seat.me.presence.inside ≡ true }
-    requires spare { length minor.old.records + 2285 ≤ minor.old.room }
-{
-    let mut root = begin_tree(m, minor);
-    let root = &mut root;
-    put(alloc, m, minor, root, "a", "x")?;
-    grow(alloc, m, minor, root)?;
-    copy_below(alloc, m, minor, root, 57)?;
-    let private = copy(alloc, m, minor, root, "a", "b/57");
-    share(alloc, rt, m, minor, root)?;
-    let shared = copy(alloc, m, minor, root, "a", "b/57");
-    Ok(Found {
-        private,
-        shared,
-        sizes: sizes(m, minor, *root),
-    })
+#[derive(Clone, Copy)]
+struct CopyPastTheMost;
+
+impl Row for CopyPastTheMost {
+    type Found = Found;
+
+    fn work<R: Wait>(
+        self,
+        alloc: Global,
+        rt: &R,
+        m: &mut Mutator<'_, NoRule>,
+        minor: &mut MinorHeap,
+    ) -> Result<Found, EditFault> {
+        let mut root = begin_tree(m, minor);
+        let root = &mut root;
+        put(alloc, m, minor, root, "a", "x")?;
+        grow(alloc, m, minor, root)?;
+        copy_below(alloc, m, minor, root, 57)?;
+        let private = copy(alloc, m, minor, root, "a", "b/57");
+        share(alloc, rt, m, minor, root)?;
+        let shared = copy(alloc, m, minor, root, "a", "b/57");
+        Ok(Found {
+            private,
+            shared,
+            sizes: sizes(m, minor, *root),
+        })
+    }
 }
 
 #[test]
 fn a_copy_past_a_billion_nodes_is_too_big(rt: HostRuntime) -> Result<(), Fail> {
-    let (heap, _collector, seat) = open_one(rt.alloc(), CELLS, ROOM)?;
-    let mut minor = MinorHeap::with_room(rt.alloc(), 10_000)?;
-    let mut m = come_in(&heap, seat);
-    let found = copy_past_the_most(rt.alloc(), &rt, &mut m, &mut minor)?;
+    let found = worked(rt.alloc(), &rt, CopyPastTheMost, 10_000)?;
     let expected = Found {
         private: Err(EditFault::Big),
         shared: Err(EditFault::Big),

@@ -1,9 +1,8 @@
 //! Each call on its happy path, at a private place and then at a shared one.
-ghost use Rattle.std.specs.Prelude.{◌≡◌, ◌+◌, ◌≤◌, length, true};
 ghost use Rattle.client_tests.specs.Works.{Works};
 
 use crate::calls::{begin_tree, copy, names_at, put, remove, share, sizes, text_at};
-use crate::heaps::{CELLS, ROOM, come_in, open_one};
+use crate::heaps::{Row, worked};
 use client_trees::NodeAt;
 use doc_tree::EditFault;
 use heap_rule::NoRule;
@@ -105,31 +104,33 @@ fn make(
 }
 
 /// What is seen of a private tree, of its copy in the shared heap, and of an edit of that.
-fn see_three<R: Wait>(
-    alloc: Global,
-    rt: &R,
-    m: &mut Mutator<'_, NoRule>,
-    minor: &mut MinorHeap,
-) -> Result<[Seen; 3], Fail>
-    requires inside { m.old.seat.me.presence.inside ≡ true }
-    requires spare { length minor.old.records + 2285 ≤ minor.old.room }
-{
-    let mut root = begin_tree(m, minor);
-    make(alloc, m, minor, &mut root)?;
-    let private = see(alloc, m, minor, root)?;
-    share(alloc, rt, m, minor, &mut root)?;
-    let shared = see(alloc, m, minor, root)?;
-    make(alloc, m, minor, &mut root)?;
-    let edited = see(alloc, m, minor, root)?;
-    Ok([private, shared, edited])
+#[derive(Clone, Copy)]
+struct SeeThree;
+
+impl Row for SeeThree {
+    type Found = [Seen; 3];
+
+    fn work<R: Wait>(
+        self,
+        alloc: Global,
+        rt: &R,
+        m: &mut Mutator<'_, NoRule>,
+        minor: &mut MinorHeap,
+    ) -> Result<[Seen; 3], EditFault> {
+        let mut root = begin_tree(m, minor);
+        make(alloc, m, minor, &mut root)?;
+        let private = see(alloc, m, minor, root)?;
+        share(alloc, rt, m, minor, &mut root)?;
+        let shared = see(alloc, m, minor, root)?;
+        make(alloc, m, minor, &mut root)?;
+        let edited = see(alloc, m, minor, root)?;
+        Ok([private, shared, edited])
+    }
 }
 
 #[test]
 fn a_tree_is_read_and_edited_at_private_and_shared_places(rt: HostRuntime) -> Result<(), Fail> {
-    let (heap, _collector, seat) = open_one(rt.alloc(), CELLS, ROOM)?;
-    let mut minor = MinorHeap::with_room(rt.alloc(), 3000)?;
-    let mut m = come_in(&heap, seat);
-    let seen = see_three(rt.alloc(), &rt, &mut m, &mut minor)?;
+    let seen = worked(rt.alloc(), &rt, SeeThree, 3000)?;
     assert_eq!(rt; seen, [ALL, ALL, ALL]);
     Ok(())
 }

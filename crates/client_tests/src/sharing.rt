@@ -1,9 +1,9 @@
 //! What an edit makes, worked out by hand.
-ghost use Rattle.std.specs.Prelude.{◌≡◌, ◌+◌, ◌≤◌, length, true};
 
 use crate::calls::{begin_tree, put, share};
-use crate::heaps::{CELLS, ROOM, come_in, open_one};
+use crate::heaps::{Row, worked};
 use crate::limits::fill_folder;
+use doc_tree::EditFault;
 use heap_rule::NoRule;
 use minor_heap::MinorField::{Null, Num};
 use minor_heap::{MinorField, MinorHeap, MinorRef};
@@ -13,30 +13,32 @@ use std::sync::Wait;
 use std::test::Fail;
 
 /// How many records a put into a shared folder of 256 children makes.
-fn put_into_shared<R: Wait>(
-    alloc: Global,
-    rt: &R,
-    m: &mut Mutator<'_, NoRule>,
-    minor: &mut MinorHeap,
-) -> Result<u32, Fail>
-    requires inside { m.old.seat.me.presence.inside ≡ true }
-    requires spare { length minor.old.records + 2285 ≤ minor.old.room }
-{
-    let mut root = begin_tree(m, minor);
-    fill_folder(alloc, m, minor, &mut root)?;
-    share(alloc, rt, m, minor, &mut root)?;
-    put(alloc, m, minor, &mut root, "d/000", "y")?;
-    Ok(minor.len())
+#[derive(Clone, Copy)]
+struct PutIntoShared;
+
+impl Row for PutIntoShared {
+    type Found = u32;
+
+    fn work<R: Wait>(
+        self,
+        alloc: Global,
+        rt: &R,
+        m: &mut Mutator<'_, NoRule>,
+        minor: &mut MinorHeap,
+    ) -> Result<u32, EditFault> {
+        let mut root = begin_tree(m, minor);
+        fill_folder(alloc, m, minor, &mut root)?;
+        share(alloc, rt, m, minor, &mut root)?;
+        put(alloc, m, minor, &mut root, "d/000", "y")?;
+        Ok(minor.len())
+    }
 }
 
 // The way to the entry of 000 has eight entries, and there are two nodes, an entry of d, and the
 // new node with its text.
 #[test]
 fn a_put_into_a_shared_folder_makes_thirteen_records(rt: HostRuntime) -> Result<(), Fail> {
-    let (heap, _collector, seat) = open_one(rt.alloc(), CELLS, ROOM)?;
-    let mut minor = MinorHeap::with_room(rt.alloc(), 10_000)?;
-    let mut m = come_in(&heap, seat);
-    let made = put_into_shared(rt.alloc(), &rt, &mut m, &mut minor)?;
+    let made = worked(rt.alloc(), &rt, PutIntoShared, 10_000)?;
     assert_eq!(rt; made, 13);
     Ok(())
 }
@@ -57,25 +59,28 @@ fn fields_of(minor: &MinorHeap, number: u32) -> Option<[MinorField; 5]> {
 }
 
 /// The record of the text hello at a, which is made first behind the empty tree.
-fn record_of_hello(
-    alloc: Global,
-    m: &mut Mutator<'_, NoRule>,
-    minor: &mut MinorHeap,
-) -> Result<Option<[MinorField; 5]>, Fail>
-    requires inside { m.old.seat.me.presence.inside ≡ true }
-    requires spare { length minor.old.records + 2285 ≤ minor.old.room }
-{
-    let mut root = begin_tree(m, minor);
-    put(alloc, m, minor, &mut root, "a", "hello")?;
-    Ok(fields_of(minor, 1))
+#[derive(Clone, Copy)]
+struct RecordOfHello;
+
+impl Row for RecordOfHello {
+    type Found = Option<[MinorField; 5]>;
+
+    fn work<R: Wait>(
+        self,
+        alloc: Global,
+        rt: &R,
+        m: &mut Mutator<'_, NoRule>,
+        minor: &mut MinorHeap,
+    ) -> Result<Option<[MinorField; 5]>, EditFault> {
+        let mut root = begin_tree(m, minor);
+        put(alloc, m, minor, &mut root, "a", "hello")?;
+        Ok(fields_of(minor, 1))
+    }
 }
 
 #[test]
 fn the_record_of_hello_has_these_fields(rt: HostRuntime) -> Result<(), Fail> {
-    let (heap, _collector, seat) = open_one(rt.alloc(), CELLS, ROOM)?;
-    let mut minor = MinorHeap::with_room(rt.alloc(), 3000)?;
-    let mut m = come_in(&heap, seat);
-    let found = record_of_hello(rt.alloc(), &mut m, &mut minor)?;
+    let found = worked(rt.alloc(), &rt, RecordOfHello, 3000)?;
     let fields = [Num(5), Num(478_560_413_032), Num(0), Num(0), Null];
     assert_eq!(rt; found, Some(fields));
     Ok(())

@@ -1,7 +1,7 @@
 use Rattle.std.proofs.Common.{◌∙◌, arith, rules}
 use Rattle.client_records.proofs.Resting.{rests_stands}
 use Rattle.client_tests.proofs.Copied.{node_shares, works_shared}
-use Rattle.client_tests.proofs.calls.share_private.Goals as goal
+use Rattle.client_tests.proofs.calls.collect_private.Goals as goal
 
 pub collect-requires-clause-stand : goal.collect-requires-clause-stand
 collect-requires-clause-stand g c =
