@@ -5,14 +5,13 @@ ghost use Rattle.free_cells.specs.Hints.{cells_of as hinted_of};
 ghost use Rattle.free_cells.specs.Passes.{IsHintPass};
 ghost use Rattle.heap_table.specs.Seats.{IsSeatOf};
 
-use crate::heaps::{blue_cells, close, open_hints};
+use crate::heaps::{blue_cells, close};
 use crate::mutating::leave;
-use cell_heap::{CellHeap, ColSeat, MutSeat, NoMemory};
+use cell_heap::{CellHeap, ColSeat, MutSeat};
 use cell_words::GREATEST_CYCLES;
 use collector::{Collector, CycleReport, MarkStack};
 use free_cells::{FreeQueue, HintPass};
 use heap_rule::NoRule;
-use std::alloc::Global;
 use std::sync::Wait;
 
 /// Makes one cycle.
@@ -59,18 +58,19 @@ pub(crate) fn serve_on<R: Wait>(
 /// many cells are blue in the end.
 pub(crate) fn collect_alone<R: Wait>(
     rt: &R,
-    alloc: Global,
     heap: CellHeap<NoRule>,
     collector: ColSeat<NoRule>,
     mutator: MutSeat<NoRule>,
-) -> Result<(CycleReport, u32), NoMemory>
+    stack: MarkStack,
+    queue: &FreeQueue,
+    pass: HintPass,
+) -> (CycleReport, u32)
     requires idle { IsIdle heap collector }
     requires out { IsOut heap 1 mutator }
+    requires pass { IsHintPass queue.now pass }
+    requires cells { hinted_of queue.now ≡ heap.shape.cells }
 {
-    let stack = MarkStack::with_room(alloc, 1)?;
-    let cells = heap.cells();
-    let (queue, pass, _) = open_hints(alloc, rt, cells, cells)?;
     let mutator = leave(&heap, mutator);
-    let (collector, report) = collect_once(rt, &heap, collector, stack, &queue, pass);
-    Ok((report, blue_cells(&close(heap, collector, mutator))))
+    let (collector, report) = collect_once(rt, &heap, collector, stack, queue, pass);
+    (report, blue_cells(&close(heap, collector, mutator)))
 }

@@ -1,64 +1,96 @@
 //! Single cycles, with the mutator over. What they count was worked out by hand.
+ghost use Rattle.std.specs.Prelude.{◌≡◌};
+
 use crate::collecting::{collect_alone, collect_once};
-use crate::heaps::{close, open_chain, open_hints, open_plain, open_star};
+use crate::heaps::{CHAIN, close, open_chain, open_hints, open_plain, open_star};
 use crate::mutating::make_and_drop;
+use cell_heap::{Image, NoMemory};
 use cell_words::{Colour, Field};
 use collector::{CycleReport, MarkStack};
+use std::alloc::Global;
+use std::sync::Wait;
 use std::test::Fail;
+
+/// What a closed heap of three cells shows: how many cycles there were, and the colour and the
+/// fields of cell 1.
+type Shown = (u32, Colour, [Field; 6]);
+
+fn shown_by(image: &Image) -> Shown
+    requires cells { image.now.cells ≡ 3 }
+{
+    let fields = [
+        image.field(1, 0),
+        image.field(1, 1),
+        image.field(1, 2),
+        image.field(1, 3),
+        image.field(1, 4),
+        image.field(1, 5),
+    ];
+    (image.control().cycles, image.colour(1), fields)
+}
+
+/// Makes a cell that nothing names, and then a cycle. It gives how many cells were made too.
+fn collect_unlinked<R: Wait>(alloc: Global, rt: &R) -> Result<(u32, CycleReport, Shown), NoMemory> {
+    let stack = MarkStack::with_room(alloc, 2)?;
+    let (queue, pass, other) = open_hints(alloc, rt, 3, 1)?;
+    let (heap, collector, mutator) = open_plain(alloc, 3, 2)?;
+    let (mutator, made) = make_and_drop(rt, &heap, mutator, &queue, other, 1);
+    let (collector, report) = collect_once(rt, &heap, collector, stack, &queue, pass);
+    Ok((made, report, shown_by(&close(heap, collector, mutator))))
+}
 
 #[test]
 fn an_unlinked_cell_is_freed_in_a_cycle(rt: HostRuntime) -> Result<(), Fail> {
-    let stack = MarkStack::with_room(rt.alloc(), 2)?;
-    let (queue, pass, other) = open_hints(rt.alloc(), &rt, 3, 1)?;
-    let (heap, collector, mutator) = open_plain(rt.alloc(), 3, 2)?;
-    let (mutator, made) = make_and_drop(&rt, &heap, mutator, &queue, other, 1);
-    assert_eq!(rt; made, 1);
-    let (collector, report) = collect_once(&rt, &heap, collector, stack, &queue, pass);
-    let wanted = CycleReport {
+    let report = CycleReport {
         passes: 2,
         scanned: 1,
         freed: 1,
         stacked: 0,
         spilled: 0,
     };
-    assert_eq!(rt; report, wanted);
-    let image = close(heap, collector, mutator);
-    assert_eq!(rt; image.control().cycles, 1);
-    assert_eq!(rt; image.colour(1), Colour::Blue);
-    for field in 0..6 {
-        assert_eq!(rt; image.field(1, field), Field::Null);
-    }
+    let shown = (1, Colour::Blue, [Field::Null; 6]);
+    assert_eq!(rt; collect_unlinked(rt.alloc(), &rt)?, (1, report, shown));
     Ok(())
+}
+
+/// A cycle on the chain, and how many cells are blue then.
+fn collect_chain<R: Wait>(alloc: Global, rt: &R) -> Result<(CycleReport, u32), NoMemory> {
+    let stack = MarkStack::with_room(alloc, 1)?;
+    let (queue, pass, _) = open_hints(alloc, rt, CHAIN, CHAIN)?;
+    let (heap, collector, mutator) = open_chain(alloc)?;
+    Ok(collect_alone(rt, heap, collector, mutator, stack, &queue, pass))
 }
 
 #[test]
 fn a_chain_against_the_order_of_the_cells_takes_two_passes(rt: HostRuntime) -> Result<(), Fail> {
-    let (heap, collector, mutator) = open_chain(rt.alloc())?;
-    let (report, blue) = collect_alone(&rt, rt.alloc(), heap, collector, mutator)?;
-    let wanted = CycleReport {
+    let report = CycleReport {
         passes: 2,
         scanned: 1000,
         freed: 0,
         stacked: 999,
         spilled: 0,
     };
-    assert_eq!(rt; report, wanted);
-    assert_eq!(rt; blue, 0);
+    assert_eq!(rt; collect_chain(rt.alloc(), &rt)?, (report, 0));
     Ok(())
+}
+
+/// A cycle on the star, and how many cells are blue then.
+fn collect_star<R: Wait>(alloc: Global, rt: &R) -> Result<(CycleReport, u32), NoMemory> {
+    let stack = MarkStack::with_room(alloc, 1)?;
+    let (queue, pass, _) = open_hints(alloc, rt, 6, 6)?;
+    let (heap, collector, mutator) = open_star(alloc)?;
+    Ok(collect_alone(rt, heap, collector, mutator, stack, &queue, pass))
 }
 
 #[test]
 fn children_that_find_the_stack_full_are_found_by_the_pass(rt: HostRuntime) -> Result<(), Fail> {
-    let (heap, collector, mutator) = open_star(rt.alloc())?;
-    let (report, blue) = collect_alone(&rt, rt.alloc(), heap, collector, mutator)?;
-    let wanted = CycleReport {
+    let report = CycleReport {
         passes: 2,
         scanned: 6,
         freed: 0,
         stacked: 1,
         spilled: 4,
     };
-    assert_eq!(rt; report, wanted);
-    assert_eq!(rt; blue, 0);
+    assert_eq!(rt; collect_star(rt.alloc(), &rt)?, (report, 0));
     Ok(())
 }

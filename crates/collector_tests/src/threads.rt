@@ -8,101 +8,195 @@ ghost use Rattle.heap_table.specs.Seats.{IsSeatOf};
 
 use crate::collecting::serve_on;
 use crate::heaps::{blue_cells, close, close_two, open_hints, open_plain, open_two};
-use crate::mutating::{claim_and_keep, make_and_drop};
+use crate::mutating::{Claims, claim_and_keep, make_and_drop};
+use cell_heap::{CellHeap, ColSeat, MutSeat, NoMemory};
 use collector::MarkStack;
+use free_cells::{FreeQueue, HintPass};
+use heap_rule::NoRule;
 use mutator_seat::HeapFull;
+use std::alloc::Global;
+use std::sync::Wait;
 use std::test::Fail;
-use std::thread;
+use std::thread::{self, Threads};
 
 const CELLS: u32 = 64;
 
+/// The collector serves on duty, beside a mutator that a thousand times makes a record and drops
+/// it.
+fn drop_beside<R: Threads + Wait + Sync>(
+    rt: &R,
+    heap: &CellHeap<NoRule>,
+    collector: ColSeat<NoRule>,
+    stack: MarkStack,
+    mutator: MutSeat<NoRule>,
+    queue: &FreeQueue,
+    pass: HintPass,
+    other: HintPass,
+) -> ((ColSeat<NoRule>, u64), (MutSeat<NoRule>, u32))
+    requires idle { IsIdle heap.now collector }
+    requires out { IsOut heap.now 2 mutator }
+    requires pass { IsHintPass queue.now pass }
+    requires other { IsHintPass queue.now other }
+    requires cells { hinted_of queue.now ≡ heap.now.shape.cells }
+    ensures seat { IsSeatOf heap.now result.0.0 }
+    ensures over { IsOver heap.now result.1.0 }
+{
+    let mut collector = collector;
+    collector.duty(heap, true);
+    thread::join(
+        rt,
+        move ||
+            requires { IsIdle heap.now collector × IsHintPass queue.now pass × (hinted_of queue.now ≡ heap.now.shape.cells) }
+            ensures { IsSeatOf heap.entry.now result.0 }
+        { serve_on(rt, heap, collector, stack, queue, pass) },
+        move ||
+            requires { IsOut heap.now 2 mutator × IsHintPass queue.now other }
+            ensures { IsOver heap.entry.now result.0 }
+        { make_and_drop(rt, heap, mutator, queue, other, 1000) },
+    )
+}
+
+/// How many records were made and how many cells freed; and in the end, how many cells are blue
+/// and whether the collector is on duty.
+fn dropped<R: Threads + Wait + Sync>(
+    alloc: Global,
+    rt: &R,
+) -> Result<((u32, u64), u32, bool), NoMemory> {
+    let stack = MarkStack::with_room(alloc, 8)?;
+    let (queue, pass, other) = open_hints(alloc, rt, CELLS, 1)?;
+    let (heap, collector, mutator) = open_plain(alloc, CELLS, 2)?;
+    let ((collector, freed), (mutator, made)) = drop_beside(
+        rt, &heap, collector, stack, mutator, &queue, pass, other,
+    );
+    let image = close(heap, collector, mutator);
+    Ok(((made, freed), blue_cells(&image), image.control().duty))
+}
+
 #[test]
 fn what_a_mutator_drops_is_freed_beside_it(rt: HostRuntime) -> Result<(), Fail> {
-    let stack = MarkStack::with_room(rt.alloc(), 8)?;
-    let (queue, pass, other) = open_hints(rt.alloc(), &rt, CELLS, 1)?;
-    let (heap, mut collector, mutator) = open_plain(rt.alloc(), CELLS, 2)?;
-    collector.duty(&heap, true);
-    let shared = &heap;
-    let hints = &queue;
-    let ((collector, freed), (mutator, made)) = thread::join(
-        &rt,
-        move ||
-            requires { IsIdle shared.now collector × IsHintPass hints.now pass × (hinted_of hints.now ≡ shared.now.shape.cells) }
-            ensures { IsSeatOf shared.entry.now result.0 }
-        { serve_on(&rt, shared, collector, stack, hints, pass) },
-        move ||
-            requires { IsOut shared.now 2 mutator × IsHintPass hints.now other }
-            ensures { IsOver shared.entry.now result.0 }
-        { make_and_drop(&rt, shared, mutator, hints, other, 1000) },
-    );
-    assert_eq!(rt; made, 1000);
-    assert_eq!(rt; freed, 1000);
-    let image = close(heap, collector, mutator);
-    assert_eq!(rt; blue_cells(&image), CELLS - 1);
-    assert!(rt; !image.control().duty);
+    assert_eq!(rt; dropped(rt.alloc(), &rt)?, ((1000, 1000), CELLS - 1, false));
     Ok(())
+}
+
+/// The collector serves on duty, beside a mutator that claims until it is refused.
+fn claim_beside<R: Threads + Wait + Sync>(
+    rt: &R,
+    heap: &CellHeap<NoRule>,
+    collector: ColSeat<NoRule>,
+    stack: MarkStack,
+    mutator: MutSeat<NoRule>,
+    queue: &FreeQueue,
+    pass: HintPass,
+    other: HintPass,
+) -> ((ColSeat<NoRule>, u64), (MutSeat<NoRule>, Claims))
+    requires idle { IsIdle heap.now collector }
+    requires out { IsOut heap.now 100 mutator }
+    requires pass { IsHintPass queue.now pass }
+    requires other { IsHintPass queue.now other }
+    requires cells { hinted_of queue.now ≡ heap.now.shape.cells }
+    ensures seat { IsSeatOf heap.now result.0.0 }
+    ensures over { IsOver heap.now result.1.0 }
+{
+    let mut collector = collector;
+    collector.duty(heap, true);
+    thread::join(
+        rt,
+        move ||
+            requires { IsIdle heap.now collector × IsHintPass queue.now pass × (hinted_of queue.now ≡ heap.now.shape.cells) }
+            ensures { IsSeatOf heap.entry.now result.0 }
+        { serve_on(rt, heap, collector, stack, queue, pass) },
+        move ||
+            requires { IsOut heap.now 100 mutator × IsHintPass queue.now other }
+            ensures { IsOver heap.entry.now result.0 }
+        { claim_and_keep(rt, heap, mutator, queue, other) },
+    )
+}
+
+/// Of the refusal: whether it found the collector off duty, and whether it came behind two whole
+/// cycles.
+fn refusal(claims: Claims) -> Option<(bool, bool)> {
+    let full = claims.full?;
+    let behind = full.ended.checked_sub(full.began);
+    Some((full.off_duty, behind.is_some_and(|cycles| cycles >= 2)))
+}
+
+/// What its claims came to, and how many cells are blue in the end.
+fn filled<R: Threads + Wait + Sync>(alloc: Global, rt: &R) -> Result<(Claims, u32), NoMemory> {
+    let stack = MarkStack::with_room(alloc, 8)?;
+    let (queue, pass, other) = open_hints(alloc, rt, CELLS, 1)?;
+    let (heap, collector, mutator) = open_plain(alloc, CELLS, 100)?;
+    let ((collector, _), (mutator, claims)) = claim_beside(
+        rt, &heap, collector, stack, mutator, &queue, pass, other,
+    );
+    Ok((claims, blue_cells(&close(heap, collector, mutator))))
 }
 
 #[test]
 fn a_full_heap_is_refused_behind_two_whole_cycles(rt: HostRuntime) -> Result<(), Fail> {
-    let stack = MarkStack::with_room(rt.alloc(), 8)?;
-    let (queue, pass, other) = open_hints(rt.alloc(), &rt, CELLS, 1)?;
-    let (heap, mut collector, mutator) = open_plain(rt.alloc(), CELLS, 100)?;
-    collector.duty(&heap, true);
-    let shared = &heap;
-    let hints = &queue;
-    let ((collector, _), (mutator, claims)) = thread::join(
-        &rt,
-        move ||
-            requires { IsIdle shared.now collector × IsHintPass hints.now pass × (hinted_of hints.now ≡ shared.now.shape.cells) }
-            ensures { IsSeatOf shared.entry.now result.0 }
-        { serve_on(&rt, shared, collector, stack, hints, pass) },
-        move ||
-            requires { IsOut shared.now 100 mutator × IsHintPass hints.now other }
-            ensures { IsOver shared.entry.now result.0 }
-        { claim_and_keep(&rt, shared, mutator, hints, other) },
-    );
-    assert_eq!(rt; claims.got, CELLS - 1);
-    match claims.full {
-        None => assert!(rt; false, "no claim was refused"),
-        Some(full) => {
-            assert!(rt; !full.off_duty);
-            let behind = full.ended.checked_sub(full.began);
-            assert!(rt; behind.is_some_and(|cycles| cycles >= 2));
-        }
-    }
+    let (claims, blue) = filled(rt.alloc(), &rt)?;
     // All was dropped as the mutator left, and the last two cycles freed it.
-    let image = close(heap, collector, mutator);
-    assert_eq!(rt; blue_cells(&image), CELLS - 1);
+    let wanted = (CELLS - 1, Some((false, true)), CELLS - 1);
+    assert_eq!(rt; (claims.got, refusal(claims), blue), wanted);
     Ok(())
+}
+
+/// Two mutators claim until they are refused, beside each other.
+fn claim_both<R: Threads + Wait + Sync>(
+    rt: &R,
+    heap: &CellHeap<NoRule>,
+    first: MutSeat<NoRule>,
+    second: MutSeat<NoRule>,
+    queue: &FreeQueue,
+    pass: HintPass,
+    other: HintPass,
+) -> ((MutSeat<NoRule>, Claims), (MutSeat<NoRule>, Claims))
+    requires first { IsOut heap.now 100 first }
+    requires second { IsOut heap.now 100 second }
+    requires pass { IsHintPass queue.now pass }
+    requires other { IsHintPass queue.now other }
+    ensures first { IsOver heap.now result.0.0 }
+    ensures second { IsOver heap.now result.1.0 }
+{
+    thread::join(
+        rt,
+        move ||
+            requires { IsOut heap.now 100 first × IsHintPass queue.now pass }
+            ensures { IsOver heap.entry.now result.0 }
+        { claim_and_keep(rt, heap, first, queue, pass) },
+        move ||
+            requires { IsOut heap.now 100 second × IsHintPass queue.now other }
+            ensures { IsOver heap.entry.now result.0 }
+        { claim_and_keep(rt, heap, second, queue, other) },
+    )
+}
+
+/// What the claims of both came to, and how many cells are blue in the end.
+fn shared<R: Threads + Wait + Sync>(
+    alloc: Global,
+    rt: &R,
+) -> Result<(Claims, Claims, u32), NoMemory> {
+    let (queue, pass, other) = open_hints(alloc, rt, CELLS, 3)?;
+    let (heap, collector, first, second) = open_two(alloc, 100)?;
+    let ((first, some), (second, others)) = claim_both(
+        rt, &heap, first, second, &queue, pass, other,
+    );
+    let image = close_two(heap, collector, first, second);
+    Ok((some, others, blue_cells(&image)))
 }
 
 #[test]
 fn two_mutators_share_the_cells_of_a_heap(rt: HostRuntime) -> Result<(), Fail> {
-    let (queue, pass, other) = open_hints(rt.alloc(), &rt, CELLS, 3)?;
-    let (heap, collector, first, second) = open_two(rt.alloc(), 100)?;
-    let shared = &heap;
-    let hints = &queue;
-    let ((first, some), (second, others)) = thread::join(
-        &rt,
-        move ||
-            requires { IsOut shared.now 100 first × IsHintPass hints.now pass }
-            ensures { IsOver shared.entry.now result.0 }
-        { claim_and_keep(&rt, shared, first, hints, pass) },
-        move ||
-            requires { IsOut shared.now 100 second × IsHintPass hints.now other }
-            ensures { IsOver shared.entry.now result.0 }
-        { claim_and_keep(&rt, shared, second, hints, other) },
-    );
+    let (some, others, blue) = shared(rt.alloc(), &rt)?;
     let full = Some(HeapFull {
         off_duty: true,
         began: 0,
         ended: 0,
     });
-    assert_eq!(rt; some.full, full);
-    assert_eq!(rt; others.full, full);
     // 61 cells were free, and none is now: so 61 claims got each of them once.
-    assert_eq!(rt; some.got.checked_add(others.got), Some(61));
-    assert_eq!(rt; blue_cells(&close_two(heap, collector, first, second)), 0);
+    let got = some.got.checked_add(others.got);
+    assert_eq!(rt;
+        (some.full, others.full, got, blue),
+        (full, full, Some(61), 0)
+    );
     Ok(())
 }
