@@ -37,7 +37,7 @@ fn answer_all<R: Wait>(
     Ok(())
 }
 
-/// The replies to the commands.
+/// Whether these are the replies to the commands.
 fn answers_to<R: Wait>(
     alloc: Global,
     rt: &R,
@@ -45,14 +45,15 @@ fn answers_to<R: Wait>(
     m: &mut Mutator<'_, Documents>,
     session: &mut Session,
     script: &[Command],
-) -> Result<Vec<u8>, NoMemory>
+    wanted: &[u8],
+) -> Result<bool, NoMemory>
     requires may { MayGo session.old m.old }
 {
     answer_all(alloc, rt, hints, m, session, script)?;
-    replies(alloc, session.log())
+    Ok(replies(alloc, session.log())?.as_slice() == wanted)
 }
 
-/// The replies that this session gives by the mutator of this seat.
+/// Whether this session gives these replies by the mutator of this seat.
 fn answers_by<R: Wait>(
     alloc: Global,
     rt: &R,
@@ -63,7 +64,8 @@ fn answers_by<R: Wait>(
     session: Session,
     keep: u32,
     script: &[Command],
-) -> Result<Vec<u8>, NoMemory>
+    wanted: &[u8],
+) -> Result<bool, NoMemory>
     requires new { IsNew heap.now keep seat }
     requires pass { IsHintPass queue.now pass }
     requires may { (m : Bound Pass) → IsBegun keep m → MayGo session m }
@@ -71,29 +73,32 @@ fn answers_by<R: Wait>(
     let mut session = session;
     let mut hints = queue.hints(pass);
     let mut m = come_in(heap, seat, keep);
-    answers_to(alloc, rt, &mut hints, &mut m, &mut session, script)
+    answers_to(alloc, rt, &mut hints, &mut m, &mut session, script, wanted)
 }
 
-/// The replies that it gives on a heap of so many cells.
+/// Whether the one client of a store with so many cells is answered so.
 fn answers_in<R: Wait>(
     alloc: Global,
     rt: &R,
     cells: u32,
     keep: u32,
-    session: Session,
+    versions: u32,
     script: &[Command],
-) -> Result<Vec<u8>, NoMemory>
+    wanted: &[u8],
+) -> Result<bool, NoMemory>
     requires some { 3 ≤ cells }
     requires few { cells ≤ 1_000_000 }
     requires keep { (1 ≤ keep) × (keep ≤ 100) }
-    requires may { (m : Bound Pass) → IsBegun keep m → MayGo session m }
 {
     let (queue, pass) = FreeQueue::open(alloc, rt, cells, 3)?;
     let (heap, seat) = open_one(alloc, cells, keep)?;
-    answers_by(alloc, rt, &heap, &queue, seat, pass, session, keep, script)
+    let session = new_session(alloc, 1, keep, versions)?;
+    answers_by(
+        alloc, rt, &heap, &queue, seat, pass, session, keep, script, wanted,
+    )
 }
 
-/// What the one client of a store with so many cells is answered.
+/// Whether it is answered so, where its commands are those of this text.
 pub(crate) fn answers_on<R: Wait>(
     alloc: Global,
     rt: &R,
@@ -101,13 +106,12 @@ pub(crate) fn answers_on<R: Wait>(
     keep: u32,
     versions: u32,
     text: &[u8],
-) -> Result<Vec<u8>, Fail>
+    wanted: &[u8],
+) -> Result<bool, Fail>
     requires some { 3 ≤ cells }
     requires few { cells ≤ 1_000_000 }
     requires keep { (1 ≤ keep) × (keep ≤ 100) }
 {
     let script = script_of(alloc, text)?;
-    let session = new_session(alloc, 1, keep, versions)?;
-    let text = answers_in(alloc, rt, cells, keep, session, &script)?;
-    Ok(text)
+    Ok(answers_in(alloc, rt, cells, keep, versions, &script, wanted)?)
 }

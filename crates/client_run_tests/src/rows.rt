@@ -36,8 +36,9 @@ fn each_command_is_answered(rt: HostRuntime) -> Result<(), Fail> {
         ),
     ];
     for (script, replies) in table {
-        let said = answers_on(rt.alloc(), &rt, AMPLE, KEEP, VERSIONS, script)?;
-        assert_eq!(rt; said.as_slice(), replies.as_bytes(), "{replies}");
+        let wanted = replies.as_bytes();
+        let so = answers_on(rt.alloc(), &rt, AMPLE, KEEP, VERSIONS, script, wanted)?;
+        assert!(rt; so, "{replies}");
     }
     Ok(())
 }
@@ -45,17 +46,16 @@ fn each_command_is_answered(rt: HostRuntime) -> Result<(), Fail> {
 #[test]
 fn a_version_that_is_cut_off_is_gone(rt: HostRuntime) -> Result<(), Fail> {
     let script = b"put a x\nput a y\nput a z\nold 1 a\n";
-    let said = answers_on(rt.alloc(), &rt, AMPLE, 1, VERSIONS, script)?;
-    let replies = "ok 1\nok 2\nok 3\ngone 3 2\n";
-    assert_eq!(rt; said.as_slice(), replies.as_bytes());
+    let replies = b"ok 1\nok 2\nok 3\ngone 3 2\n";
+    assert!(rt; answers_on(rt.alloc(), &rt, AMPLE, 1, VERSIONS, script, replies)?);
     Ok(())
 }
 
 #[test]
 fn no_version_is_made_past_the_last(rt: HostRuntime) -> Result<(), Fail> {
     let script = b"put a x\nput a x\nput a x\n";
-    let said = answers_on(rt.alloc(), &rt, AMPLE, KEEP, 2, script)?;
-    assert_eq!(rt; said.as_slice(), b"ok 1\nok 2\nworn 2\n".as_slice());
+    let replies = b"ok 1\nok 2\nworn 2\n";
+    assert!(rt; answers_on(rt.alloc(), &rt, AMPLE, KEEP, 2, script, replies)?);
     Ok(())
 }
 
@@ -65,9 +65,8 @@ fn a_full_heap_leaves_store_and_draft(rt: HostRuntime) -> Result<(), Fail> {
     let script = b"dput k y\nput a 1\nput a 2\nput a 3\nput a 4\nput a 5\nput a 6\nput a 7\n\
 put a 8\nput a 9\nput a 10\nput a 11\nput a 12\nput a 13\n\
 get a\nsize b\npublish b\ndget k\nlist a\n";
-    let replies = "drafted 0\nok 1\nok 2\nok 3\nok 4\nok 5\nok 6\nok 7\nok 8\nok 9\nok 10\nok 11\n\
+    let replies = b"drafted 0\nok 1\nok 2\nok 3\nok 4\nok 5\nok 6\nok 7\nok 8\nok 9\nok 10\nok 11\n\
 ok 12\nfull 12\nval 12 12\nnone 12\nfull 12\nval 12 y\nnames 12\n";
-    let said = answers_on(rt.alloc(), &rt, 64, KEEP, VERSIONS, script)?;
-    assert_eq!(rt; said.as_slice(), replies.as_bytes());
+    assert!(rt; answers_on(rt.alloc(), &rt, 64, KEEP, VERSIONS, script, replies)?);
     Ok(())
 }

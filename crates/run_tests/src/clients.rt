@@ -1,9 +1,13 @@
 //! Several clients beside each other.
-use crate::outcomes::{outcome_at, outcome_by};
-use doc_model::{Entry, Reply, is_legal, merge};
-use outside::{CrossGate, Gate};
+use crate::outcomes::outcome_at;
+use doc_model::{Entry, NoMemory, Reply, is_legal, merge};
+use doc_run::Outcome;
+use outside::{CrossGate, Gate, OpenGate};
+use std::alloc::Global;
+use std::sync::Wait;
 use std::sync::atomic::{AtomicU32, Ordering};
 use std::test::Fail;
+use std::thread::Threads;
 
 /// As many looks as no thread needs to begin.
 const LOOKS: u64 = 100_000_000;
@@ -48,34 +52,70 @@ fn are_numbered(entries: &[Entry]) -> bool {
     true
 }
 
-// Which client makes which version is another at each run.
-#[test]
-fn two_clients_make_each_version_once(rt: HostRuntime) -> Result<(), Fail> {
-    let mut script = Vec::new(rt.alloc());
+/// The merged history of a run, if it was finished.
+fn merged_of(alloc: Global, outcome: &Outcome) -> Result<Vec<Entry>, NoMemory> {
+    match &outcome.finished {
+        Some(finished) => merge(alloc, &finished.logs),
+        None => Ok(Vec::new(alloc)),
+    }
+}
+
+/// How many entries the history has, whether they are numbered, and whether they are legal.
+fn history_of(alloc: Global, outcome: &Outcome) -> Result<(usize, bool, bool), NoMemory> {
+    let merged = merged_of(alloc, outcome)?;
+    let legal = merged.len() <= 100_000 && is_legal(alloc, &merged, 2, 8, 1_000_000)?;
+    Ok((merged.len(), are_numbered(&merged), legal))
+}
+
+/// The script of a client that puts 500 times.
+fn many_puts(alloc: Global) -> Result<Vec<u8>, NoMemory> {
+    let mut script = Vec::new(alloc);
     for _ in 0..500 {
         script.extend_from_slice(b"put a x\n")?;
     }
+    Ok(script)
+}
+
+/// The status of a run of two such clients, whether the output ends as it should, and the history.
+fn run_of_two<R: Threads + Wait + Sync>(
+    alloc: Global,
+    rt: &R,
+) -> Result<(u8, bool, (usize, bool, bool)), NoMemory> {
+    let script = many_puts(alloc)?;
     let all = ["run", "--history", "f", "f"];
-    let (outcome, sink) = outcome_by(rt.alloc(), &rt, &all, &script)?;
-    assert_eq!(rt; outcome.status, 0);
-    assert!(rt; sink.written().ends_with(b"ok 1000\n"));
-    let finished = outcome.finished.as_ref().ok_or("a finished run")?;
-    let merged = merge(rt.alloc(), &finished.logs)?;
-    assert_eq!(rt; merged.len(), 1000);
-    assert!(rt; are_numbered(&merged));
-    assert!(rt; merged.len() <= 100_000 && is_legal(rt.alloc(), &merged, 2, 8, 1_000_000)?);
+    let (outcome, sink) = outcome_at(alloc, rt, &all, &script, &OpenGate)?;
+    let history = history_of(alloc, &outcome)?;
+    Ok((
+        outcome.status,
+        sink.written().ends_with(b"ok 1000\n"),
+        history,
+    ))
+}
+
+// Which client makes which version is another at each run.
+#[test]
+fn two_clients_make_each_version_once(rt: HostRuntime) -> Result<(), Fail> {
+    assert_eq!(rt; run_of_two(rt.alloc(), &rt)?, (0, true, (1000, true, true)));
     Ok(())
+}
+
+/// The status of a run of two clients, whether one looked for the other in vain, and how often
+/// their gate was asked and told.
+fn meeting<R: Threads + Wait + Sync>(
+    alloc: Global,
+    rt: &R,
+) -> Result<(u8, bool, u32, u32), NoMemory> {
+    let gate = new_gate();
+    let all = ["run", "f", "f"];
+    let (outcome, _sink) = outcome_at(alloc, rt, &all, b"put a x\nget a\n", &gate)?;
+    let asked = gate.asked.load(Ordering::SeqCst);
+    let told = gate.told.load(Ordering::SeqCst);
+    Ok((outcome.status, gate.cross.late(), asked, told))
 }
 
 // The clients ask the gate that the run was given, and it lets each command begin.
 #[test]
 fn the_first_commands_of_two_clients_meet(rt: HostRuntime) -> Result<(), Fail> {
-    let gate = new_gate();
-    let all = ["run", "f", "f"];
-    let (outcome, _sink) = outcome_at(rt.alloc(), &rt, &all, b"put a x\nget a\n", &gate)?;
-    assert_eq!(rt; outcome.status, 0);
-    assert!(rt; !gate.cross.late());
-    assert_eq!(rt; gate.asked.load(Ordering::SeqCst), 4);
-    assert_eq!(rt; gate.told.load(Ordering::SeqCst), 4);
+    assert_eq!(rt; meeting(rt.alloc(), &rt)?, (0, false, 4, 4));
     Ok(())
 }

@@ -1,8 +1,10 @@
 //! The options of a run, in rows that were worked out by hand.
-use crate::outcomes::outcome_by;
+use crate::outcomes::{FINISHED, Shown, shown_by};
 use doc_model::NoMemory;
 use std::alloc::Global;
+use std::sync::Wait;
 use std::test::Fail;
+use std::thread::Threads;
 
 /// Puts at 200 names of the draft, 25 times each; then the draft is published.
 fn draft_script(alloc: Global) -> Result<Vec<u8>, NoMemory> {
@@ -24,6 +26,17 @@ fn draft_output(alloc: Global) -> Result<Vec<u8>, NoMemory> {
     Ok(text)
 }
 
+/// What is shown where the draft is made and published by a run of these words.
+fn draft_shown<R: Threads + Wait + Sync>(
+    alloc: Global,
+    rt: &R,
+    all: &[&str],
+) -> Result<Shown, NoMemory> {
+    let script = draft_script(alloc)?;
+    let output = draft_output(alloc)?;
+    shown_by(alloc, rt, all, &script, &output)
+}
+
 // A version that is cut off is gone; none is made past the last.
 #[test]
 fn versions_are_cut_off_and_worn(rt: HostRuntime) -> Result<(), Fail> {
@@ -40,21 +53,24 @@ fn versions_are_cut_off_and_worn(rt: HostRuntime) -> Result<(), Fail> {
         ),
     ];
     for (all, script, output) in table {
-        let (outcome, sink) = outcome_by(rt.alloc(), &rt, all, script)?;
-        assert_eq!(rt; outcome.status, 0, "{output}");
-        assert_eq!(rt; sink.written(), output.as_bytes(), "{output}");
+        let shown = shown_by(rt.alloc(), &rt, all, script, output.as_bytes())?;
+        assert_eq!(rt; shown, FINISHED, "{output}");
     }
     Ok(())
 }
 
 // Far more records than the private heap has room for, so that they are collected again and again.
+// What is copied fits into the shared heap without a cycle.
 #[test]
 fn a_draft_outlives_collections_of_private_records(rt: HostRuntime) -> Result<(), Fail> {
-    let script = draft_script(rt.alloc())?;
-    let output = draft_output(rt.alloc())?;
-    let all = ["run", "--minor", "4096", "f"];
-    let (outcome, sink) = outcome_by(rt.alloc(), &rt, &all, &script)?;
-    assert_eq!(rt; outcome.status, 0);
-    assert_eq!(rt; sink.written(), output.as_slice());
+    let table: [&[&str]; 2] = [
+        &["run", "--minor", "4096", "f"],
+        &[
+            "run", "--minor", "4096", "--cells", "65536", "--cycles", "0", "f",
+        ],
+    ];
+    for all in table {
+        assert_eq!(rt; draft_shown(rt.alloc(), &rt, all)?, FINISHED, "{all:?}");
+    }
     Ok(())
 }

@@ -2,10 +2,9 @@
 use doc_model::NoMemory;
 use doc_run::{Outcome, Words, run};
 use outside::{Gate, OpenGate, SureShelf, SureSink};
-use script_files::fault_text;
+use script_files::{Fault, fault_text};
 use std::alloc::{AllocError, Global};
 use std::sync::Wait;
-use std::test::Fail;
 use std::thread::Threads;
 
 /// The words of a command line.
@@ -23,17 +22,8 @@ pub(crate) fn files(alloc: Global, bytes: &[u8]) -> Result<Vec<(String, Vec<u8>)
     Ok(vec![in alloc; (name, bytes.to_vec(alloc)?)]?)
 }
 
-/// What these words make of a file with these bytes, and what is written.
-pub(crate) fn outcome_by<R: Threads + Wait + Sync>(
-    alloc: Global,
-    rt: &R,
-    all: &[&str],
-    bytes: &[u8],
-) -> Result<(Outcome, SureSink), NoMemory> {
-    outcome_at(alloc, rt, all, bytes, &OpenGate)
-}
-
-/// What they make of it where the clients ask this gate.
+/// What these words make of a file with these bytes where the clients ask this gate, and what is
+/// written.
 pub(crate) fn outcome_at<R: Threads + Wait + Sync, G: Gate + Sync>(
     alloc: Global,
     rt: &R,
@@ -41,33 +31,82 @@ pub(crate) fn outcome_at<R: Threads + Wait + Sync, G: Gate + Sync>(
     bytes: &[u8],
     gate: &G,
 ) -> Result<(Outcome, SureSink), NoMemory> {
+    let words = words(alloc, all)?;
     let mut shelf = SureShelf::new(files(alloc, bytes)?);
     let mut sink = SureSink::new(alloc);
-    let words = words(alloc, all)?;
     let outcome = run(alloc, rt, &words, &mut shelf, &mut sink, gate);
     Ok((outcome, sink))
 }
 
+/// What a run shows.
+#[derive(Clone, Copy, Debug, PartialEq, Eq)]
+pub(crate) struct Shown {
+    pub(crate) status: u8,
+    pub(crate) fault: Option<Fault>,
+    /// whether a run of clients was finished
+    pub(crate) finished: bool,
+    /// whether what was wanted was written, and no more
+    pub(crate) written: bool,
+}
+
+/// The clients were run to their end.
+pub(crate) const FINISHED: Shown = Shown {
+    status: 0,
+    fault: None,
+    finished: true,
+    written: true,
+};
+
+/// Something was done that is no run of clients.
+pub(crate) const DONE: Shown = Shown {
+    finished: false,
+    ..FINISHED
+};
+
+/// What these words make of a file with these bytes, where this is to be written.
+pub(crate) fn shown_by<R: Threads + Wait + Sync>(
+    alloc: Global,
+    rt: &R,
+    all: &[&str],
+    bytes: &[u8],
+    wanted: &[u8],
+) -> Result<Shown, NoMemory> {
+    let (outcome, sink) = outcome_at(alloc, rt, all, bytes, &OpenGate)?;
+    Ok(Shown {
+        status: outcome.status,
+        fault: outcome.fault,
+        finished: outcome.finished.is_some(),
+        written: sink.written() == wanted,
+    })
+}
+
 /// What `run f` makes of it.
-pub(crate) fn outcome_of<R: Threads + Wait + Sync>(
+pub(crate) fn shown_of<R: Threads + Wait + Sync>(
     alloc: Global,
     rt: &R,
     bytes: &[u8],
-) -> Result<(Outcome, SureSink), NoMemory> {
-    outcome_by(alloc, rt, &["run", "f"], bytes)
+    wanted: &[u8],
+) -> Result<Shown, NoMemory> {
+    shown_by(alloc, rt, &["run", "f"], bytes, wanted)
 }
 
-/// What a refused run shows: its status, and the text of its fault. It has written nothing.
+/// Whether there is a fault, with this text.
+fn says(alloc: Global, fault: Option<Fault>, text: &str) -> Result<bool, NoMemory> {
+    match fault {
+        Some(fault) => Ok(fault_text(alloc, &fault)?.as_slice() == text.as_bytes()),
+        None => Ok(false),
+    }
+}
+
+/// The status of a refused run, and whether it has written nothing and has a fault with this text.
 pub(crate) fn refusal_by<R: Threads + Wait + Sync>(
     alloc: Global,
     rt: &R,
     all: &[&str],
     bytes: &[u8],
-) -> Result<(u8, Vec<u8>), Fail> {
-    let (outcome, sink) = outcome_by(alloc, rt, all, bytes)?;
-    if !sink.written().is_empty() {
-        return Err(Fail::from("it wrote"));
-    }
-    let fault = outcome.fault.ok_or("a fault")?;
-    Ok((outcome.status, fault_text(alloc, &fault)?))
+    text: &str,
+) -> Result<(u8, bool), NoMemory> {
+    let shown = shown_by(alloc, rt, all, bytes, b"")?;
+    let said = says(alloc, shown.fault, text)?;
+    Ok((shown.status, shown.written && said))
 }

@@ -1,9 +1,13 @@
 //! Whole runs of one client, replays, generated scripts, and what is refused.
-use crate::outcomes::{files, outcome_by, outcome_of, refusal_by, words};
-use doc_run::run;
+use crate::outcomes::{DONE, FINISHED, Shown, files, refusal_by, shown_by, shown_of, words};
+use doc_model::NoMemory;
+use doc_run::{Words, run};
 use outside::{MemShelf, MemSink, OpenGate, SureShelf, SureSink};
 use script_files::{Fault, fault_text};
+use std::alloc::Global;
+use std::sync::Wait;
 use std::test::Fail;
+use std::thread::Threads;
 
 const HELLO: &[u8] = b"put a hello\nget a\n";
 
@@ -20,11 +24,8 @@ fn a_script_is_answered(rt: HostRuntime) -> Result<(), Fail> {
         (b"put a/b/c/d/e/f/g/h x", "client 1\nok 1\n"),
     ];
     for (script, output) in table {
-        let (outcome, sink) = outcome_of(rt.alloc(), &rt, script)?;
-        assert_eq!(rt; outcome.status, 0, "{output}");
-        assert_eq!(rt; outcome.fault, None, "{output}");
-        assert!(rt; outcome.finished.is_some(), "{output}");
-        assert_eq!(rt; sink.written(), output.as_bytes(), "{output}");
+        let shown = shown_of(rt.alloc(), &rt, script, output.as_bytes())?;
+        assert_eq!(rt; shown, FINISHED, "{output}");
     }
     Ok(())
 }
@@ -43,9 +44,8 @@ fn a_faulty_script_is_refused_at_its_first_faulty_line(rt: HostRuntime) -> Resul
         (b"get a ", "docheap: file 1: line 1: Extra"),
     ];
     for (script, text) in table {
-        let (status, said) = refusal_by(rt.alloc(), &rt, &["run", "f"], script)?;
-        assert_eq!(rt; status, 2, "{text}");
-        assert_eq!(rt; said.as_slice(), text.as_bytes());
+        let refusal = refusal_by(rt.alloc(), &rt, &["run", "f"], script, text)?;
+        assert_eq!(rt; refusal, (2, true), "{text}");
     }
     Ok(())
 }
@@ -53,11 +53,9 @@ fn a_faulty_script_is_refused_at_its_first_faulty_line(rt: HostRuntime) -> Resul
 #[test]
 fn a_schedule_is_replayed(rt: HostRuntime) -> Result<(), Fail> {
     let bytes = b"core 2 1 1\nshow 0\npost clear\nplain\n";
-    let (outcome, sink) = outcome_by(rt.alloc(), &rt, &["replay", "f"], bytes)?;
-    assert_eq!(rt; outcome.status, 0);
-    assert!(rt; outcome.finished.is_none());
     let text = "cell 0 white - - - - - =2 freed 0\nnot now 3\ndone 0\nfree 1\n";
-    assert_eq!(rt; sink.written(), text.as_bytes());
+    let shown = shown_by(rt.alloc(), &rt, &["replay", "f"], bytes, text.as_bytes())?;
+    assert_eq!(rt; shown, DONE);
     Ok(())
 }
 
@@ -69,64 +67,102 @@ fn a_faulty_schedule_is_refused_at_its_first_faulty_line(rt: HostRuntime) -> Res
         (b"core 0 1 1", "docheap: file 1: line 1: BadNumber"),
     ];
     for (schedule, text) in table {
-        let (status, said) = refusal_by(rt.alloc(), &rt, &["replay", "f"], schedule)?;
-        assert_eq!(rt; status, 2, "{text}");
-        assert_eq!(rt; said.as_slice(), text.as_bytes());
+        let refusal = refusal_by(rt.alloc(), &rt, &["replay", "f"], schedule, text)?;
+        assert_eq!(rt; refusal, (2, true), "{text}");
     }
     Ok(())
 }
 
-// A comment of the largest size, and one byte more.
+/// A refusal of what is too large, behind which nothing is written.
+fn too_large(file: u32) -> Shown {
+    Shown {
+        status: 6,
+        fault: Some(Fault::TooLarge { file }),
+        finished: false,
+        written: true,
+    }
+}
+
+/// What a run makes of a comment of the largest size, and of one byte more.
+fn large_files<R: Threads + Wait + Sync>(
+    alloc: Global,
+    rt: &R,
+) -> Result<(Shown, Shown), NoMemory> {
+    let mut comment = vec![in alloc; b'#'; 1_048_575]?;
+    comment.push(b'\n')?;
+    let largest = shown_of(alloc, rt, &comment, b"client 1\n")?;
+    comment.push(b'#')?;
+    Ok((largest, shown_of(alloc, rt, &comment, b"")?))
+}
+
 #[test]
 fn a_file_is_too_large_behind_its_limit(rt: HostRuntime) -> Result<(), Fail> {
-    let mut comment = vec![in rt.alloc(); b'#'; 1_048_575]?;
-    comment.push(b'\n')?;
-    let (outcome, sink) = outcome_of(rt.alloc(), &rt, &comment)?;
-    assert_eq!(rt; outcome.status, 0);
-    assert_eq!(rt; sink.written(), b"client 1\n".as_slice());
-    comment.push(b'#')?;
-    let (outcome, _) = outcome_of(rt.alloc(), &rt, &comment)?;
-    assert_eq!(rt; outcome.status, 6);
-    assert_eq!(rt; outcome.fault, Some(Fault::TooLarge { file: 1 }));
+    let shown = large_files(rt.alloc(), &rt)?;
+    assert_eq!(rt; shown, (FINISHED, too_large(1)));
     Ok(())
+}
+
+/// What a run makes of one command too many.
+fn many_commands<R: Threads + Wait + Sync>(alloc: Global, rt: &R) -> Result<Shown, NoMemory> {
+    let mut commands = Vec::new(alloc);
+    for _ in 0..100_001 {
+        commands.extend_from_slice(b"get a\n")?;
+    }
+    shown_of(alloc, rt, &commands, b"")
 }
 
 #[test]
 fn one_command_too_many_is_too_large(rt: HostRuntime) -> Result<(), Fail> {
-    let mut commands = Vec::new(rt.alloc());
-    for _ in 0..100_001 {
-        commands.extend_from_slice(b"get a\n")?;
-    }
-    let (outcome, _) = outcome_of(rt.alloc(), &rt, &commands)?;
-    assert_eq!(rt; outcome.status, 6);
-    assert_eq!(rt; outcome.fault, Some(Fault::TooLarge { file: 0 }));
+    assert_eq!(rt; many_commands(rt.alloc(), &rt)?, too_large(0));
     Ok(())
+}
+
+/// How a run ends whose second call of the shelf fails, after how many calls, and whether nothing
+/// was written.
+fn shelf_failing<R: Threads + Wait + Sync>(
+    alloc: Global,
+    rt: &R,
+) -> Result<(u8, Option<Fault>, u64, bool), NoMemory> {
+    let run_f = words(alloc, &["run", "f"])?;
+    let failing = vec![in alloc; 2]?;
+    let mut shelf = MemShelf::new(files(alloc, HELLO)?, failing);
+    let mut sink = SureSink::new(alloc);
+    let outcome = run(alloc, rt, &run_f, &mut shelf, &mut sink, &OpenGate);
+    let nothing = sink.written().is_empty();
+    Ok((outcome.status, outcome.fault, shelf.calls(), nothing))
 }
 
 #[test]
 fn a_failing_shelf_ends_the_run(rt: HostRuntime) -> Result<(), Fail> {
-    let run_f = words(rt.alloc(), &["run", "f"])?;
-    let mut shelf = MemShelf::new(files(rt.alloc(), HELLO)?, vec![in rt.alloc(); 2]?);
-    let mut sink = SureSink::new(rt.alloc());
-    let outcome = run(rt.alloc(), &rt, &run_f, &mut shelf, &mut sink, &OpenGate);
-    assert_eq!(rt; outcome.status, 3);
-    assert_eq!(rt; outcome.fault, Some(Fault::ReadFault { file: 1 }));
-    assert_eq!(rt; shelf.calls(), 2);
-    assert_eq!(rt; sink.written(), b"".as_slice());
+    let fault = Some(Fault::ReadFault { file: 1 });
+    assert_eq!(rt; shelf_failing(rt.alloc(), &rt)?, (3, fault, 2, true));
     Ok(())
+}
+
+/// What a run shows whose second call of the sink fails, and after how many calls.
+fn sink_failing<R: Threads + Wait + Sync>(alloc: Global, rt: &R) -> Result<(Shown, u64), NoMemory> {
+    let run_f = words(alloc, &["run", "f"])?;
+    let failing = vec![in alloc; 2]?;
+    let mut shelf = SureShelf::new(files(alloc, HELLO)?);
+    let mut sink = MemSink::new(100, failing);
+    let outcome = run(alloc, rt, &run_f, &mut shelf, &mut sink, &OpenGate);
+    let shown = Shown {
+        status: outcome.status,
+        fault: outcome.fault,
+        finished: outcome.finished.is_some(),
+        written: sink.written() == b"client 1\n".as_slice(),
+    };
+    Ok((shown, sink.calls()))
 }
 
 #[test]
 fn a_failing_sink_ends_the_run(rt: HostRuntime) -> Result<(), Fail> {
-    let run_f = words(rt.alloc(), &["run", "f"])?;
-    let mut shelf = SureShelf::new(files(rt.alloc(), HELLO)?);
-    let mut sink = MemSink::new(100, vec![in rt.alloc(); 2]?);
-    let outcome = run(rt.alloc(), &rt, &run_f, &mut shelf, &mut sink, &OpenGate);
-    assert_eq!(rt; outcome.status, 4);
-    assert_eq!(rt; outcome.fault, Some(Fault::WriteFault));
-    assert!(rt; outcome.finished.is_some());
-    assert_eq!(rt; sink.calls(), 2);
-    assert_eq!(rt; sink.written(), b"client 1\n".as_slice());
+    let failed = Shown {
+        status: 4,
+        fault: Some(Fault::WriteFault),
+        ..FINISHED
+    };
+    assert_eq!(rt; sink_failing(rt.alloc(), &rt)?, (failed, 2));
     Ok(())
 }
 
@@ -141,73 +177,98 @@ fn other_words_are_a_faulty_command_line(rt: HostRuntime) -> Result<(), Fail> {
         &["gen", "1", "2", "3", "--print", "3"],
     ];
     for all in table {
-        let (outcome, sink) = outcome_by(rt.alloc(), &rt, all, HELLO)?;
-        assert_eq!(rt; outcome.status, 1, "{all:?}");
-        assert_eq!(rt; outcome.fault, Some(Fault::Usage), "{all:?}");
-        assert_eq!(rt; sink.written(), b"".as_slice(), "{all:?}");
+        let refused = Shown {
+            status: 1,
+            fault: Some(Fault::Usage),
+            ..DONE
+        };
+        assert_eq!(rt;
+            shown_by(rt.alloc(), &rt, all, HELLO, b"")?,
+            refused,
+            "{all:?}"
+        );
     }
     Ok(())
 }
 
 #[test]
 fn the_history_and_the_totals_stand_behind_the_replies(rt: HostRuntime) -> Result<(), Fail> {
-    let (outcome, sink) = outcome_by(rt.alloc(), &rt, &["run", "--history", "f"], HELLO)?;
-    assert_eq!(rt; outcome.status, 0);
+    let all = ["run", "--history", "f"];
     let text = "client 1\nok 1\nval 1 hello\nhistory\n1 1 1 ok 1\n1 1 2 val 1 hello\n";
-    assert_eq!(rt; sink.written(), text.as_bytes());
+    let shown = shown_by(rt.alloc(), &rt, &all, HELLO, text.as_bytes())?;
+    assert_eq!(rt; shown, FINISHED);
     Ok(())
+}
+
+/// Thirteen puts.
+fn puts(alloc: Global) -> Result<Vec<u8>, NoMemory> {
+    let mut script = Vec::new(alloc);
+    for _ in 1..=13 {
+        script.extend_from_slice(b"put a x\n")?;
+    }
+    Ok(script)
+}
+
+/// What is written of them where the heap is full behind twelve.
+fn puts_output(alloc: Global) -> Result<Vec<u8>, NoMemory> {
+    let mut text = Vec::from_slice(alloc, b"client 1\n")?;
+    for number in 1..=12 {
+        text.extend_from_slice(format!(in alloc; "ok {number}\n")?.as_bytes())?;
+    }
+    text.extend_from_slice(b"full 12\nstats\ncommands 13\nversions 12\nclaimed 61\nfreed 0\n")?;
+    text.extend_from_slice(b"used 64\nfree 0\ncycles 0\n")?;
+    Ok(text)
+}
+
+fn puts_shown<R: Threads + Wait + Sync>(alloc: Global, rt: &R) -> Result<Shown, NoMemory> {
+    let script = puts(alloc)?;
+    let output = puts_output(alloc)?;
+    let all = ["run", "--cells", "64", "--cycles", "0", "--stats", "f"];
+    shown_by(alloc, rt, &all, &script, &output)
 }
 
 // The heap opens with three cells; the first version takes six, and each later one five.
 #[test]
 fn the_totals_are_those_of_the_heap(rt: HostRuntime) -> Result<(), Fail> {
-    let all = ["run", "--cells", "64", "--cycles", "0", "--stats", "f"];
-    let mut script = Vec::new(rt.alloc());
-    let mut text = Vec::from_slice(rt.alloc(), b"client 1\n")?;
-    for number in 1..=13 {
-        script.extend_from_slice(b"put a x\n")?;
-        let (word, number) = if number < 13 {
-            ("ok", number)
-        } else {
-            ("full", 12)
-        };
-        text.extend_from_slice(format!(in rt.alloc(); "{word} {number}\n")?.as_bytes())?;
-    }
-    text.extend_from_slice(b"stats\ncommands 13\nversions 12\nclaimed 61\nfreed 0\n")?;
-    text.extend_from_slice(b"used 64\nfree 0\ncycles 0\n")?;
-    let (outcome, sink) = outcome_by(rt.alloc(), &rt, &all, &script)?;
-    assert_eq!(rt; outcome.status, 0);
-    assert_eq!(rt; sink.written(), text.as_slice());
+    assert_eq!(rt; puts_shown(rt.alloc(), &rt)?, FINISHED);
     Ok(())
 }
 
 #[test]
 fn several_files_are_a_client_each(rt: HostRuntime) -> Result<(), Fail> {
-    let (outcome, sink) = outcome_by(
-        rt.alloc(),
-        &rt,
-        &["run", "f", "f", "f"],
-        b"dput a\ndget a\n",
-    )?;
-    assert_eq!(rt; outcome.status, 0);
+    let all = ["run", "f", "f", "f"];
     let text =
         "client 1\ndrafted 0\nval 0 \nclient 2\ndrafted 0\nval 0 \nclient 3\ndrafted 0\nval 0 \n";
-    assert_eq!(rt; sink.written(), text.as_bytes());
+    let shown = shown_by(rt.alloc(), &rt, &all, b"dput a\ndget a\n", text.as_bytes())?;
+    assert_eq!(rt; shown, FINISHED);
     Ok(())
+}
+
+/// The words that run the file for so many clients.
+fn run_for(alloc: Global, clients: u32) -> Result<Words, NoMemory> {
+    let mut words = words(alloc, &["run"])?;
+    for _ in 0..clients {
+        words.push("f")?;
+    }
+    Ok(words)
+}
+
+/// How a run of 65 clients ends, and after how many calls of the shelf.
+fn many_files<R: Threads + Wait + Sync>(
+    alloc: Global,
+    rt: &R,
+) -> Result<(u8, Option<Fault>, u64), NoMemory> {
+    let words = run_for(alloc, 65)?;
+    let mut shelf = MemShelf::new(files(alloc, HELLO)?, Vec::new(alloc));
+    let mut sink = SureSink::new(alloc);
+    let outcome = run(alloc, rt, &words, &mut shelf, &mut sink, &OpenGate);
+    Ok((outcome.status, outcome.fault, shelf.calls()))
 }
 
 #[test]
 fn too_many_files_are_not_opened(rt: HostRuntime) -> Result<(), Fail> {
-    let mut shelf = MemShelf::new(files(rt.alloc(), HELLO)?, Vec::new(rt.alloc()));
-    let mut sink = SureSink::new(rt.alloc());
-    let mut words = words(rt.alloc(), &["run"])?;
-    for _ in 0..65 {
-        words.push("f")?;
-    }
-    let outcome = run(rt.alloc(), &rt, &words, &mut shelf, &mut sink, &OpenGate);
-    assert_eq!(rt; outcome.status, 6);
-    assert_eq!(rt; outcome.fault, Some(Fault::TooLarge { file: 0 }));
-    assert_eq!(rt; shelf.calls(), 0);
+    let fault = Some(Fault::TooLarge { file: 0 });
+    assert_eq!(rt; many_files(rt.alloc(), &rt)?, (6, fault, 0));
     Ok(())
 }
 
@@ -215,25 +276,33 @@ fn too_many_files_are_not_opened(rt: HostRuntime) -> Result<(), Fail> {
 // 22817, 10239, 12914.
 #[test]
 fn generated_scripts_are_printed_or_run(rt: HostRuntime) -> Result<(), Fail> {
-    let table: [(&[&str], &str); 2] = [
+    let table: [(&[&str], &str, Shown); 2] = [
         (
             &["gen", "1", "1", "2", "--print", "1"],
             "get c1/n1\ncopy c1/n18 c1/m18\n",
+            DONE,
         ),
         (
             &["gen", "1", "1", "2"],
             "gen 1 1 2\ncommands 2\ncommits 0\nnodes 1\nfull 0\nlegal yes\n",
+            FINISHED,
         ),
     ];
-    for (all, text) in table {
-        let (outcome, sink) = outcome_by(rt.alloc(), &rt, all, b"")?;
-        assert_eq!(rt; outcome.status, 0, "{text}");
-        assert_eq!(rt; sink.written(), text.as_bytes());
+    for (all, text, wanted) in table {
+        let shown = shown_by(rt.alloc(), &rt, all, b"", text.as_bytes())?;
+        assert_eq!(rt; shown, wanted, "{text}");
     }
-    let (status, said) = refusal_by(rt.alloc(), &rt, &["gen", "1", "11", "10000"], b"")?;
-    assert_eq!(rt; status, 6);
-    assert_eq!(rt; said.as_slice(), b"docheap: too large".as_slice());
+    let all = ["gen", "1", "11", "10000"];
+    let refusal = refusal_by(rt.alloc(), &rt, &all, b"", "docheap: too large")?;
+    assert_eq!(rt; refusal, (6, true));
     Ok(())
+}
+
+/// Whether this is the text of a fault, and how it shows itself.
+fn texts_are(alloc: Global, fault: Fault, text: &str) -> Result<(bool, bool), NoMemory> {
+    let said = fault_text(alloc, &fault)?.as_slice() == text.as_bytes();
+    let shown = format!(in alloc; "{fault}")?.as_str() == text;
+    Ok((said, shown))
 }
 
 #[test]
@@ -247,8 +316,7 @@ fn each_fault_has_its_text(rt: HostRuntime) -> Result<(), Fail> {
         (Fault::TooLarge { file: 0 }, "docheap: too large"),
     ];
     for (fault, text) in table {
-        assert_eq!(rt; fault_text(rt.alloc(), &fault)?.as_slice(), text.as_bytes());
-        assert_eq!(rt; format!(in rt.alloc(); "{fault}")?.as_str(), text);
+        assert_eq!(rt; texts_are(rt.alloc(), fault, text)?, (true, true), "{text}");
     }
     Ok(())
 }

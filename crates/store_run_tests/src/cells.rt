@@ -6,7 +6,10 @@ use cell_heap::Image;
 use cell_words::Colour;
 use cell_words::Field::{self, Null, Num};
 use outside::OpenGate;
+use std::alloc::Global;
+use std::sync::Wait;
 use std::test::Fail;
+use std::thread::Threads;
 
 /// The payload of a cell and its kind.
 fn fields_of(image: &Image, cell: u32) -> [Field; 6]
@@ -33,10 +36,19 @@ fn count_of(image: &Image, fields: &[Field; 6]) -> u32 {
     found
 }
 
+/// How many cells have these fields in the end, where a hello was put.
+fn cells_of_hello<R: Threads + Wait + Sync>(
+    alloc: Global,
+    rt: &R,
+    fields: &[Field; 6],
+) -> Result<u32, Fail> {
+    let finished = run_of(alloc, rt, 1, b"put a hello\n", 0, &OpenGate)?;
+    Ok(count_of(&finished.image, fields))
+}
+
 #[test]
 fn the_cell_of_a_text_has_its_length_its_bytes_and_its_kind(rt: HostRuntime) -> Result<(), Fail> {
-    let finished = run_of(rt.alloc(), &rt, 1, b"put a hello\n", 0, &OpenGate)?;
     let hello = [Num(5), Num(478_560_413_032), Num(0), Num(0), Null, Num(1)];
-    assert_eq!(rt; count_of(&finished.image, &hello), 1);
+    assert_eq!(rt; cells_of_hello(rt.alloc(), &rt, &hello)?, 1);
     Ok(())
 }

@@ -1,7 +1,7 @@
 //! Runs of clients with the same script on a heap of the smallest size: their totals, and replies.
 ghost use Rattle.std.specs.Prelude.{◌≤◌};
 
-use crate::scripts::alike;
+use crate::scripts::{alike, repeated};
 use cmd_text::reply_line;
 use doc_model::{Log, NoMemory, Totals};
 use outside::{Gate, OpenGate};
@@ -34,34 +34,41 @@ pub(crate) fn run_of<R: Threads + Wait + Sync, G: Gate + Sync>(
     Ok(run_clients(alloc, rt, &scripts, &options, gate)?)
 }
 
-/// What such a run comes to.
+/// What a run comes to whose clients put so many times each.
 pub(crate) fn totals_of<R: Threads + Wait + Sync, G: Gate + Sync>(
     alloc: Global,
     rt: &R,
     clients: u32,
-    text: &[u8],
+    puts: u32,
     cycles: u32,
     gate: &G,
 ) -> Result<Totals, Fail>
     requires clients { (1 ≤ clients) × (clients ≤ 64) }
     requires cycles { cycles ≤ 4_000_000_000 }
 {
-    let finished = run_of(alloc, rt, clients, text, cycles, gate)?;
+    let text = repeated(alloc, b"put a x\n", puts)?;
+    let finished = run_of(alloc, rt, clients, &text, cycles, gate)?;
     Ok(finished.totals)
 }
 
-/// What the one client of such a run is answered.
-pub(crate) fn replies_of<R: Threads + Wait + Sync>(
+/// Whether the one client of such a run is answered so.
+pub(crate) fn answers_so<R: Threads + Wait + Sync>(
     alloc: Global,
     rt: &R,
     text: &[u8],
     cycles: u32,
-) -> Result<Vec<u8>, Fail>
+    wanted: &[u8],
+) -> Result<bool, Fail>
     requires cycles { cycles ≤ 4_000_000_000 }
 {
     let finished = run_of(alloc, rt, 1, text, cycles, &OpenGate)?;
+    Ok(replies(alloc, &finished.logs)?.as_slice() == wanted)
+}
+
+/// The replies of the logs, a line each.
+fn replies(alloc: Global, logs: &[Log]) -> Result<Vec<u8>, NoMemory> {
     let mut replies = Vec::new(alloc);
-    for log in &finished.logs {
+    for log in logs {
         add_replies(&mut replies, log)?;
     }
     Ok(replies)

@@ -1,11 +1,12 @@
 //! Rows, worked out by hand, and what stands on every schedule.
-use crate::counting::{replies_of, totals_of};
+use crate::counting::{answers_so, totals_of};
 use crate::gates::OrderGate;
-use crate::scripts::repeated;
-use doc_model::NoMemory;
+use doc_model::{NoMemory, Totals};
 use outside::OpenGate;
 use std::alloc::Global;
+use std::sync::Wait;
 use std::test::Fail;
+use std::thread::Threads;
 
 /// More cycles than a run makes.
 const CYCLES: u32 = 4_000_000_000;
@@ -14,13 +15,24 @@ const CYCLES: u32 = 4_000_000_000;
 // commands left. A run whose collector stands still, or begins behind its clients, is `full`.
 #[test]
 fn cells_are_freed_beside_the_client(rt: HostRuntime) -> Result<(), Fail> {
-    let text = repeated(rt.alloc(), b"put a x\n", 100)?;
-    let totals = totals_of(rt.alloc(), &rt, 1, &text, CYCLES, &OpenGate)?;
-    assert_eq!(rt; (totals.commands, totals.versions), (100, 100));
-    assert_eq!(rt; (totals.claimed, totals.freed), (501, 497));
-    assert_eq!(rt; (totals.used, totals.free), (7, 57));
-    assert!(rt; totals.cycles >= 2);
+    let totals = totals_of(rt.alloc(), &rt, 1, 100, CYCLES, &OpenGate)?;
+    let commits = (totals.commands, totals.versions);
+    let cells = [totals.claimed, totals.freed, totals.used, totals.free];
+    let wanted = ((100, 100), [501, 497, 7, 57], true);
+    assert_eq!(rt; (commits, cells, totals.cycles >= 2), wanted);
     Ok(())
+}
+
+/// What a gate found that lets two clients begin in its order, a hundred commands each: whether one
+/// looked for the other in vain, whether a call was strange, and which commands come next. And what
+/// their run comes to.
+fn in_order<R: Threads + Wait + Sync>(
+    alloc: Global,
+    rt: &R,
+) -> Result<((bool, bool, (u32, u32)), Totals), Fail> {
+    let gate = OrderGate::new(100);
+    let totals = totals_of(alloc, rt, 2, 100, CYCLES, &gate)?;
+    Ok(((gate.late(), gate.strange(), gate.next()), totals))
 }
 
 // A run that has both on one thread, one after the other or by turns, lets the first command of
@@ -29,13 +41,9 @@ fn cells_are_freed_beside_the_client(rt: HostRuntime) -> Result<(), Fail> {
 // handshakes.
 #[test]
 fn two_clients_ask_their_gate_before_each_command(rt: HostRuntime) -> Result<(), Fail> {
-    let gate = OrderGate::new(100);
-    let text = repeated(rt.alloc(), b"put a x\n", 100)?;
-    let totals = totals_of(rt.alloc(), &rt, 2, &text, CYCLES, &gate)?;
-    assert!(rt; !gate.late());
-    assert!(rt; !gate.strange());
-    assert_eq!(rt; gate.next(), (101, 101));
-    assert_eq!(rt; (totals.commands, totals.versions), (200, 200));
+    let (found, totals) = in_order(rt.alloc(), &rt)?;
+    let commits = (totals.commands, totals.versions);
+    assert_eq!(rt; (found, commits), ((false, false, (101, 101)), (200, 200)));
     Ok(())
 }
 
@@ -43,12 +51,11 @@ fn two_clients_ask_their_gate_before_each_command(rt: HostRuntime) -> Result<(),
 // a client is told that the heap is full.
 #[test]
 fn clients_fill_a_heap_whose_collector_is_off_duty(rt: HostRuntime) -> Result<(), Fail> {
-    let text = repeated(rt.alloc(), b"put a x\n", 10)?;
-    let totals = totals_of(rt.alloc(), &rt, 3, &text, 0, &OpenGate)?;
-    assert_eq!(rt; (totals.claimed, totals.freed), (61, 0));
-    assert_eq!(rt; (totals.used, totals.free), (64, 0));
-    assert_eq!(rt; (totals.commands, totals.cycles), (30, 0));
-    assert!(rt; 1 <= totals.versions && totals.versions <= 12);
+    let totals = totals_of(rt.alloc(), &rt, 3, 10, 0, &OpenGate)?;
+    let commands = (totals.commands, totals.cycles);
+    let cells = [totals.claimed, totals.freed, totals.used, totals.free];
+    let some = 1 <= totals.versions && totals.versions <= 12;
+    assert_eq!(rt; (commands, cells, some), ((30, 0), [61, 0, 64, 0], true));
     Ok(())
 }
 
@@ -56,24 +63,15 @@ fn clients_fill_a_heap_whose_collector_is_off_duty(rt: HostRuntime) -> Result<()
 // it waits for them. Each command has its entry, whether its client found the heap full or not.
 #[test]
 fn several_clients_share_a_small_heap(rt: HostRuntime) -> Result<(), Fail> {
-    let text = repeated(rt.alloc(), b"put a x\n", 50)?;
-    let totals = totals_of(rt.alloc(), &rt, 4, &text, CYCLES, &OpenGate)?;
-    assert_eq!(rt; totals.commands, 200);
-    assert!(rt; totals.versions >= 1);
+    let totals = totals_of(rt.alloc(), &rt, 4, 50, CYCLES, &OpenGate)?;
     let taken = totals.claimed.saturating_add(3);
-    assert_eq!(rt; taken, totals.used.saturating_add(totals.freed));
-    assert_eq!(rt; totals.used.saturating_add(totals.free), 64);
-    Ok(())
-}
-
-// The text at b needs more cells than the heap has: one for each 21 of its bytes. What was claimed
-// for it is freed again.
-#[test]
-fn a_client_commits_again_behind_a_full_heap(rt: HostRuntime) -> Result<(), Fail> {
-    let text = full_script(rt.alloc())?;
-    let replies = replies_of(rt.alloc(), &rt, &text, CYCLES)?;
-    let wanted = "ok 1\nfull 1\nok 2\nval 2 y\nnone 2\n";
-    assert_eq!(rt; replies.as_slice(), wanted.as_bytes());
+    let left = totals.used.saturating_add(totals.freed);
+    let cells = totals.used.saturating_add(totals.free);
+    let some = totals.versions >= 1;
+    assert_eq!(rt;
+        (totals.commands, some, taken, cells),
+        (200, true, left, 64)
+    );
     Ok(())
 }
 
@@ -85,4 +83,19 @@ fn full_script(alloc: Global) -> Result<Vec<u8>, NoMemory> {
     }
     text.extend_from_slice(b"\nput a y\nget a\nget b\n")?;
     Ok(text)
+}
+
+/// Whether that is answered so.
+fn full_row<R: Threads + Wait + Sync>(alloc: Global, rt: &R, wanted: &[u8]) -> Result<bool, Fail> {
+    let text = full_script(alloc)?;
+    answers_so(alloc, rt, &text, CYCLES, wanted)
+}
+
+// The text at b needs more cells than the heap has: one for each 21 of its bytes. What was claimed
+// for it is freed again.
+#[test]
+fn a_client_commits_again_behind_a_full_heap(rt: HostRuntime) -> Result<(), Fail> {
+    let wanted = b"ok 1\nfull 1\nok 2\nval 2 y\nnone 2\n";
+    assert!(rt; full_row(rt.alloc(), &rt, wanted)?);
+    Ok(())
 }
