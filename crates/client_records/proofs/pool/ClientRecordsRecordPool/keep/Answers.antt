@@ -6,7 +6,8 @@ use Rattle.doc_records.specs.Pool.{Kept}
 use Rattle.mutator_seat.specs.Bound.{Bound}
 use Rattle.client_records.specs.declared.at.NodeAt.{NodeAt}
 use Rattle.client_records.specs.declared.at.NodeAt.TheVariants as at
-use Rattle.client_records.specs.Records.{IsRecord, outside_of, shown_by, stands_on, term_at}
+use Rattle.client_records.specs.Records.{IsRecord, known_term, outside_of, shown_by, stands_on}
+use Rattle.client_records.specs.Records.{term_at}
 use Rattle.client_records.proofs.Kept.{holds_kept, kept_at}
 use Rattle.client_records.proofs.Places.{at_copy, copied_many}
 use Rattle.client_records.proofs.Readings.{kept_stands}
@@ -41,6 +42,22 @@ returns-in-Shared-clause-stands g c =
       subst IsRecord (sym (at_copy knows.Nothing v.known c.args.places c.in-Shared.place
           (omega (arith, fit, c.requires.held)) (omega (arith, fit, there.0)))) there.1,
     )
+
+pub returns-in-Shared-clause-term : goal.returns-in-Shared-clause-term
+returns-in-Shared-clause-term g c =
+    let v = (g.M.ClientSeat.bound c.args.self.now.mutator.now).seat.me in
+    let records = c.args.self.now.minor.now.records in
+    let fit = c.held_count-held.ensures.known ∙ c.held_count-held.ensures.len in
+    let there = subst (λ (a : NodeAt). stands_on v.known records (length v.own.held) a)
+    c.in-Shared.is c.requires.stands in
+    subst (λ (n : Bound _). known_term (known_at n.seat.me.known c.args.places)
+    ≡ term_at v.known records c.args.at) (sym c.keep_one.ensures.told)
+    (ap known_term (at_copy knows.Nothing v.known c.args.places c.in-Shared.place
+    (omega (arith, fit, c.requires.held)) (omega (arith, fit, there.0)))
+    ∙ ap (term_at v.known records) (sym c.in-Shared.is))
+
+pub returns-in-Shared-clause-last : goal.returns-in-Shared-clause-last
+returns-in-Shared-clause-last g c = λ shared n stands. stands.0
 
 pub returns-in-Minor-clause-kept : goal.returns-in-Minor-clause-kept
 returns-in-Minor-clause-kept g c =
