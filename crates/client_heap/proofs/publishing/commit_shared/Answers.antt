@@ -1,5 +1,7 @@
-use Rattle.std.proofs.Common.{[], arith}
+use Rattle.std.proofs.Common.{◌≡◌, ℕ, [], Result, Err, arith}
 use Rattle.std.proofs.lemmas.List.{length-map}
+use Rattle.client_session.specs.declared.held.CommitRefusal.{CommitRefusal}
+use Rattle.client_session.specs.declared.held.CommitRefusal.TheVariants as refusal
 use Rattle.client_heap.proofs.Commits.{holds_carries, holds_held, holds_record, node_spells}
 use Rattle.client_heap.proofs.publishing.commit_shared.Goals as goal
 
@@ -30,3 +32,8 @@ pub returns-in-Err-Moved-clause-carries : goal.returns-in-Err-Moved-clause-carri
 returns-in-Err-Moved-clause-carries g c =
     holds_carries c.args.m.now c.commit.new.m c.args.minor.now [] c.commit.ensures.held
     c.len-records.ensures.ordered c.commit.ensures.lasts c.commit.ensures.same
+
+pub returns-in-Err-Full-clause-moved : goal.returns-in-Err-Full-clause-moved
+returns-in-Err-Full-clause-moved g c = λ moved.
+    let is : ◌≡◌ {A = Result ℕ CommitRefusal} (Err refusal.Full) (Err refusal.Moved) = moved in
+    absurd (cc)
