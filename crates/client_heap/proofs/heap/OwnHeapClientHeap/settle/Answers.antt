@@ -1,6 +1,18 @@
-use Rattle.std.proofs.Common.{refl}
+use Rattle.std.proofs.Common.{arith, refl}
 use Rattle.client_heap.proofs.Lending.{lent_stays}
+use Rattle.client_heap.proofs.Resting.{sound_on}
 use Rattle.client_heap.proofs.heap.OwnHeapClientHeap.settle.Goals as goal
+
+pub invariant_of-self : goal.invariant_of-self
+invariant_of-self g c =
+    let bound = g.M.StoreSeat.bound in
+    let was = c.args.self.now in
+    record {
+      sound = sound_on was.base (bound was.m.now) (bound c.cut_back.new.self) was.minor.now
+          was.minor.now c.cut_back.ensures.carries was.draft was.base was.sound (omega arith)
+          was.sound.ready;
+      copies = was.copies;
+    }
 
 pub returns-clause-lent : goal.returns-clause-lent
 returns-clause-lent g c =
