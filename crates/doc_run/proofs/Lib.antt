@@ -1,6 +1,6 @@
 pub mod Ranges
 pub mod Due
 pub mod Asking
-pub mod Parts
+pub mod Writing
 pub mod Summaries
 pub mod Deciding

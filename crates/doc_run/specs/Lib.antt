@@ -1,3 +1,4 @@
 pub mod Request
 pub mod Clients
 pub mod Ending
+pub mod Written

@@ -102,9 +102,5 @@ fn run_scripts<R: Threads + Wait + Sync, S: Sink, G: Gate + Sync>(
     let Ok(text) = summary_of(alloc, made, &finished) else {
         return Outcome::refused(Fault::Memory);
     };
-    match write_lines(sink, &text) {
-        Ok(()) => Outcome::new(None, Some(finished)),
-        Err(OutFault::Failed) => Outcome::new(Some(Fault::WriteFault), Some(finished)),
-        Err(OutFault::NoMemory) => Outcome::refused(Fault::Memory),
-    }
+    Outcome::by_writing(write_lines(sink, &text), Some(finished))
 }

@@ -1,6 +1,8 @@
 ghost use Rattle.std.specs.Prelude.{◌≡◌, Some, None};
+ghost use Rattle.doc_run.specs.Written.{fault_by, kept_by};
 ghost use Rattle.script_files.specs.Fault.{status_of};
 
+use outside::OutFault;
 use script_files::{Fault, status};
 use store_run::Finished;
 
@@ -41,5 +43,18 @@ impl Outcome {
         ensures finished { result.finished ≡ None }
     {
         Outcome::new(Some(fault), None)
+    }
+
+    /// How a run ends whose text was offered to a sink, by what became of the text.
+    pub(crate) fn by_writing(wrote: Result<(), OutFault>, finished: Option<Finished>) -> Outcome
+        ensures status { result.status ≡ status_of result.fault }
+        ensures fault { result.fault ≡ fault_by wrote }
+        ensures finished { result.finished ≡ kept_by wrote finished }
+    {
+        match wrote {
+            Ok(()) => Outcome::new(None, finished),
+            Err(OutFault::Failed) => Outcome::new(Some(Fault::WriteFault), finished),
+            Err(OutFault::NoMemory) => Outcome::refused(Fault::Memory),
+        }
     }
 }

@@ -210,11 +210,7 @@ fn run_scripts<R: Threads + Wait + Sync, H: Shelf, S: Sink, G: Gate + Sync>(
     let Ok(text) = output_text(alloc, shown, &finished.logs, &finished.totals) else {
         return Outcome::refused(Fault::Memory);
     };
-    match write_lines(sink, &text) {
-        Ok(()) => Outcome::new(None, Some(finished)),
-        Err(OutFault::Failed) => Outcome::new(Some(Fault::WriteFault), Some(finished)),
-        Err(OutFault::NoMemory) => Outcome::refused(Fault::Memory),
-    }
+    Outcome::by_writing(write_lines(sink, &text), Some(finished))
 }
 
 // What is written behind the replies.

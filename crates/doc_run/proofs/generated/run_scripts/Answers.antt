@@ -1,14 +1,41 @@
 use Rattle.doc_run.specs.Clients.{IsMade, default_options}
 use Rattle.doc_run.specs.Ending.{IsSummaryOf}
-use Rattle.doc_run.proofs.Parts.{front_written}
+use Rattle.doc_run.proofs.Writing.{by_done, by_explained, by_failed, by_no_read, by_wanting}
+use Rattle.doc_run.proofs.Writing.{by_written}
 use Rattle.doc_run.proofs.generated.run_scripts.Goals as goal
 
-pub returns-in-Err-NoMemory-clause-written : goal.returns-in-Err-NoMemory-clause-written
-returns-in-Err-NoMemory-clause-written g c =
-    front_written (IsMade c.args.made) default_options (IsSummaryOf c.args.made)
-    c.in-Ok.finished c.in-Ok-summary_of.text.items c.deref.result.now
+pub returns-clause-explained : goal.returns-clause-explained
+returns-clause-explained g c =
+    by_explained (IsMade c.args.made) default_options c.in-Ok.finished c.write_lines.result c.by_writing.result.fault
+    c.by_writing.result.finished c.by_writing.ensures.fault c.by_writing.ensures.finished
+    c.in-Ok.ensures.finished
+
+pub returns-clause-written : goal.returns-clause-written
+returns-clause-written g c =
+    by_written (IsMade c.args.made) default_options (IsSummaryOf c.args.made) c.in-Ok.finished
+    c.in-Ok-summary_of.text.items c.deref.result.now
     (g.S.Sink.written c.args.sink.now) (g.S.Sink.written c.write_lines.new.sink)
-    c.refused-in-Err-NoMemory.result.fault c.refused-in-Err-NoMemory.result.finished
-    c.refused-in-Err-NoMemory.ensures.fault c.in-Ok.ensures.finished
+    c.write_lines.result c.by_writing.result.fault c.by_writing.result.finished
+    c.by_writing.ensures.fault c.by_writing.ensures.finished c.in-Ok.ensures.finished
     c.in-Ok-summary_of.ensures.text
-    c.deref.ensures.value c.in-Err-NoMemory.ensures.err
+    c.deref.ensures.value c.write_lines.ensures.ok c.write_lines.ensures.err
+
+pub returns-clause-read : goal.returns-clause-read
+returns-clause-read g c =
+    by_no_read c.write_lines.result c.by_writing.result.fault c.by_writing.result.status
+    c.by_writing.ensures.status c.by_writing.ensures.fault
+
+pub returns-clause-write : goal.returns-clause-write
+returns-clause-write g c =
+    by_failed c.write_lines.result c.by_writing.result.fault c.by_writing.result.status
+    c.by_writing.ensures.status c.by_writing.ensures.fault c.write_lines.ensures.cause
+
+pub returns-clause-memory : goal.returns-clause-memory
+returns-clause-memory g c =
+    by_wanting c.write_lines.result c.by_writing.result.fault c.by_writing.result.status
+    c.by_writing.ensures.status c.by_writing.ensures.fault c.write_lines.ensures.want
+
+pub returns-clause-unbroken_sink : goal.returns-clause-unbroken_sink
+returns-clause-unbroken_sink g c =
+    by_done c.write_lines.result c.by_writing.result.fault c.by_writing.result.status
+    c.by_writing.ensures.status c.by_writing.ensures.fault c.write_lines.ensures.unbroken

@@ -4,21 +4,53 @@ use Rattle.script_files.specs.Scripts.{AreScripts}
 use Rattle.doc_run.specs.Clients.{options_of}
 use Rattle.doc_run.specs.Ending.{IsOutputOf}
 use Rattle.run_output.specs.Output.{IsOutput}
-use Rattle.doc_run.proofs.Parts.{front_written}
+use Rattle.doc_run.proofs.Writing.{by_done, by_explained, by_failed, by_no_file, by_no_read}
+use Rattle.doc_run.proofs.Writing.{by_wanting, by_written}
 use Rattle.doc_run.proofs.whole_run.run_scripts.Goals as goal
 
-pub returns-in-Err-NoMemory-clause-written : goal.returns-in-Err-NoMemory-clause-written
-returns-in-Err-NoMemory-clause-written g c =
+pub returns-clause-explained : goal.returns-clause-explained
+returns-clause-explained g c =
+    by_explained (AreScripts (map (g.H.Shelf.holds c.args.shelf.now) (run_asked_by c.args.run.now).files))
+    (options_of (run_asked_by c.args.run.now)) c.in-Ok.finished c.write_lines.result c.by_writing.result.fault
+    c.by_writing.result.finished c.by_writing.ensures.fault c.by_writing.ensures.finished
+    c.in-Ok.ensures.finished
+
+pub returns-clause-written : goal.returns-clause-written
+returns-clause-written g c =
     let f = c.in-Ok.finished in
     let text = c.in-Ok-output_text.text.items in
     let lent = subst (λ logs. IsOutput c.shown-shown.result logs f.totals text)
     c.deref.ensures.value c.in-Ok-output_text.ensures.text in
-    front_written
+    by_written
     (AreScripts (map (g.H.Shelf.holds c.args.shelf.now) (run_asked_by c.args.run.now).files))
-    (options_of (run_asked_by c.args.run.now)) (IsOutputOf (run_asked_by c.args.run.now)) f text
-    c.deref-2.result.now (g.S.Sink.written c.args.sink.now)
-    (g.S.Sink.written c.write_lines.new.sink) c.refused-in-Err-NoMemory.result.fault
-    c.refused-in-Err-NoMemory.result.finished
-    c.refused-in-Err-NoMemory.ensures.fault c.in-Ok.ensures.finished
+    (options_of (run_asked_by c.args.run.now)) (IsOutputOf (run_asked_by c.args.run.now)) f
+    text c.deref-2.result.now
+    (g.S.Sink.written c.args.sink.now) (g.S.Sink.written c.write_lines.new.sink)
+    c.write_lines.result c.by_writing.result.fault c.by_writing.result.finished
+    c.by_writing.ensures.fault c.by_writing.ensures.finished c.in-Ok.ensures.finished
     (subst (λ shown. IsOutput shown f.logs.items f.totals text) c.shown-shown.ensures lent)
-    c.deref-2.ensures.value c.in-Err-NoMemory.ensures.err
+    c.deref-2.ensures.value c.write_lines.ensures.ok c.write_lines.ensures.err
+
+pub returns-clause-read : goal.returns-clause-read
+returns-clause-read g c =
+    by_no_read c.write_lines.result c.by_writing.result.fault c.by_writing.result.status
+    c.by_writing.ensures.status c.by_writing.ensures.fault
+
+pub returns-clause-write : goal.returns-clause-write
+returns-clause-write g c =
+    by_failed c.write_lines.result c.by_writing.result.fault c.by_writing.result.status
+    c.by_writing.ensures.status c.by_writing.ensures.fault c.write_lines.ensures.cause
+
+pub returns-clause-memory : goal.returns-clause-memory
+returns-clause-memory g c =
+    by_wanting c.write_lines.result c.by_writing.result.fault c.by_writing.result.status
+    c.by_writing.ensures.status c.by_writing.ensures.fault c.write_lines.ensures.want
+
+pub returns-clause-unbroken_sink : goal.returns-clause-unbroken_sink
+returns-clause-unbroken_sink g c =
+    by_done c.write_lines.result c.by_writing.result.fault c.by_writing.result.status
+    c.by_writing.ensures.status c.by_writing.ensures.fault c.write_lines.ensures.unbroken
+
+pub returns-clause-read_file : goal.returns-clause-read_file
+returns-clause-read_file g c = λ file.
+    by_no_file c.write_lines.result c.by_writing.result.fault file c.by_writing.ensures.fault
