@@ -1,5 +1,5 @@
 -- How a run ends whose text was offered to a sink, by cases of what became of the text.
-use Rattle.std.proofs.Common.{◌≡◌, ◌∙◌, ℕ, List, Option, None, Some, Result, Ok, Err}
+use Rattle.std.proofs.Common.{◌≡◌, ◌∙◌, ℕ, List, Option, Some, Result, Ok, Err}
 use Rattle.std.proofs.Common.{OnOk, OnErr, inr, refl, sym, ap, subst, arith}
 use Rattle.std.specs.Prelude.{◌⊎◌, IsErrOf}
 use Rattle.std.specs.Io.KnownBytes.{Appends}

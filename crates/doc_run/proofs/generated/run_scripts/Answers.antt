@@ -6,9 +6,9 @@ use Rattle.doc_run.proofs.generated.run_scripts.Goals as goal
 
 pub returns-clause-explained : goal.returns-clause-explained
 returns-clause-explained g c =
-    by_explained (IsMade c.args.made) default_options c.in-Ok.finished c.write_lines.result c.by_writing.result.fault
-    c.by_writing.result.finished c.by_writing.ensures.fault c.by_writing.ensures.finished
-    c.in-Ok.ensures.finished
+    by_explained (IsMade c.args.made) default_options c.in-Ok.finished c.write_lines.result
+    c.by_writing.result.fault c.by_writing.result.finished c.by_writing.ensures.fault
+    c.by_writing.ensures.finished c.in-Ok.ensures.finished
 
 pub returns-clause-written : goal.returns-clause-written
 returns-clause-written g c =

@@ -10,10 +10,11 @@ use Rattle.doc_run.proofs.whole_run.run_scripts.Goals as goal
 
 pub returns-clause-explained : goal.returns-clause-explained
 returns-clause-explained g c =
-    by_explained (AreScripts (map (g.H.Shelf.holds c.args.shelf.now) (run_asked_by c.args.run.now).files))
-    (options_of (run_asked_by c.args.run.now)) c.in-Ok.finished c.write_lines.result c.by_writing.result.fault
-    c.by_writing.result.finished c.by_writing.ensures.fault c.by_writing.ensures.finished
-    c.in-Ok.ensures.finished
+    by_explained
+    (AreScripts (map (g.H.Shelf.holds c.args.shelf.now) (run_asked_by c.args.run.now).files))
+    (options_of (run_asked_by c.args.run.now)) c.in-Ok.finished c.write_lines.result
+    c.by_writing.result.fault c.by_writing.result.finished c.by_writing.ensures.fault
+    c.by_writing.ensures.finished c.in-Ok.ensures.finished
 
 pub returns-clause-written : goal.returns-clause-written
 returns-clause-written g c =
