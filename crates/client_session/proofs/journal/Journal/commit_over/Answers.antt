@@ -1,4 +1,4 @@
-use Rattle.std.proofs.Common.{arith, ℕ, subst, sym}
+use Rattle.std.proofs.Common.{arith, ℕ, ◌∙◌, subst, sym}
 use Rattle.client_session.specs.Turns.{Answered}
 use Rattle.client_session.proofs.Commits.{made_ends, outrun_ends, stopped_ends, unmade_none}
 use Rattle.client_session.proofs.Commits.{worn_ends}
@@ -60,3 +60,10 @@ returns-in-Err-Full-clause-ends g c =
     (unmade_none not.lasts not.same not.draft not.base)
     (let room = not.room in omega (arith, room, c.requires.room)) needs
     (not.full cc)
+
+pub trim-requires-clause-keep : goal.trim-requires-clause-keep
+trim-requires-clause-keep g c =
+    c.from.ensures
+    ∙ sym (c.current-latest.ensures.rests.lasts.passes.keep
+    ∙ c.in-Ok.ensures.lasts.passes.keep
+    ∙ c.requires.may.keep)
