@@ -2,6 +2,11 @@ use Rattle.std.proofs.Common.{ℕ, ◌≡◌, rules, sym}
 use Rattle.client_trees.proofs.Leaving.{all_given_back, same_minor, same_mutator}
 use Rattle.client_trees.proofs.reading.count.Goals as goal
 
+pub returns-clause-count : goal.returns-clause-count
+returns-clause-count g c =
+    rw (sym c.new-records.ensures.same, sym c.new-records.ensures.records)
+    c.count-count.ensures.count
+
 pub returns-clause-leaves : goal.returns-clause-leaves
 returns-clause-leaves g c =
     let bound = g.M.ClientSeat.bound in
