@@ -1,7 +1,9 @@
 use Rattle.std.proofs.Common.{◌≤◌, ◌∙◌, arith, ap, sym}
 use Rattle.client_session.proofs.Drafts.{dput_ends, dput_full_ends, dput_refused_ends, drafts_of}
+use Rattle.client_session.proofs.Editing.{edits_none}
 use Rattle.client_session.proofs.Rooms.{same_none}
 use Rattle.client_session.proofs.journal.Journal.draft_put.Goals as goal
+use Rattle.client_turns.proofs.States.{none_lost, none_then}
 use Rattle.doc_tree.specs.Edits.{set_text}
 
 pub returns-in-Err-clause-ends : goal.returns-in-Err-clause-ends
@@ -39,3 +41,20 @@ returns-in-Ok-set_text-clause-ends g c =
     (same_none made.pass made.draft made.small made.lasts) c.set_text.ensures.edits
     (ap (set_text c.args.path.now c.args.text.now) (sym c.draft-draft.ensures.tree)
     ∙ sym c.in-Ok-set_text.ensures.tree) (drafts_of set.pass set.draft set.lasts) room
+
+pub returns-in-Err-refused-clause-ends : goal.returns-in-Err-refused-clause-ends
+returns-in-Err-refused-clause-ends g c =
+    let made = c.in-Ok.ensures in
+    let edits = c.set_text.ensures.edits in
+    none_lost (let x = made.room in let y = edits.room in omega (arith, x, y))
+    (none_then (same_none made.pass made.draft made.small made.lasts) (edits_none edits))
+
+pub returns-in-Err-refused-clause-lent : goal.returns-in-Err-refused-clause-lent
+returns-in-Err-refused-clause-lent g c = c.set_text.ensures.lent ∙ c.in-Ok.ensures.lent
+
+pub returns-in-Ok-refused-clause-lent : goal.returns-in-Ok-refused-clause-lent
+returns-in-Ok-refused-clause-lent g c = c.set_text.ensures.lent ∙ c.in-Ok.ensures.lent
+
+pub returns-in-Ok-set_text-clause-lent : goal.returns-in-Ok-set_text-clause-lent
+returns-in-Ok-set_text-clause-lent g c =
+    c.set_draft.ensures.lent ∙ c.set_text.ensures.lent ∙ c.in-Ok.ensures.lent

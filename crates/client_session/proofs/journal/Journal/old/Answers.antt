@@ -1,9 +1,11 @@
 use Rattle.std.proofs.Common.{◌≡◌, ◌-◌, ◌+◌, ◌≤◌, ◌<◌, ℕ, arith, ap, sym}
-use Rattle.std.proofs.Common.{◌∙◌}
-use Rattle.client_session.proofs.Readings.{old_before_ends, old_ends, old_gone_ends}
+use Rattle.std.proofs.Common.{◌∙◌, refl}
+use Rattle.std.proofs.lemmas.Result.{err_from_is_err_and}
+use Rattle.client_session.proofs.Readings.{cut_ends, old_before_ends, old_ends, old_gone_ends}
+use Rattle.client_session.proofs.Readings.{rests_lost}
 use Rattle.client_session.proofs.journal.Journal.old.Goals as goal
 use Rattle.client_turns.proofs.Reading.{read_current}
-use Rattle.client_turns.proofs.States.{rests_none}
+use Rattle.client_turns.proofs.States.{rests_none, rests_reads, rests_then}
 use Rattle.doc_tree.specs.Tree.{DocTree}
 use Rattle.version_rule.specs.Pass.{reading}
 
@@ -52,3 +54,53 @@ returns-in_ok-given-in-Some-clause-ends g c =
     read latest.rests number (v - c.from-2.result) root c.in_ok-given-in-Some.given total is
     c.if-back-self.false older.rests pass c.tree-root.ensures.rests given.told given.kept
     given.place given.plain given.rests (given.shows c.tree-root.ensures.shared)
+
+pub returns-then-from-shown-clause-reads : goal.returns-then-from-shown-clause-reads
+returns-then-from-shown-clause-reads g c = rests_reads c.current-latest.ensures.rests
+
+pub returns-then-back-self-clause-reads : goal.returns-then-back-self-clause-reads
+returns-then-back-self-clause-reads g c = rests_reads c.current-latest.ensures.rests
+
+pub returns-in_ok-given-in-Some-clause-reads : goal.returns-in_ok-given-in-Some-clause-reads
+returns-in_ok-given-in-Some-clause-reads g c =
+    rests_reads (rests_then c.current-latest.ensures.rests (rests_then c.in-Some.ensures.rests
+    (rests_then c.tree-root.ensures.rests c.in_ok-given-in-Some.ensures.rests)))
+
+pub returns-in_ok-given-in-Some-clause-lent : goal.returns-in_ok-given-in-Some-clause-lent
+returns-in_ok-given-in-Some-clause-lent g c =
+    c.in_ok-given-in-Some.ensures.lent ∙ c.tree-root.ensures.lent ∙ c.in-Some.ensures.lent
+    ∙ c.current-latest.ensures.lent
+
+pub returns-in_err-given-in-Some-clause-ends : goal.returns-in_err-given-in-Some-clause-ends
+returns-in_err-given-in-Some-clause-ends g c =
+    let failed = err_from_is_err_and c.from_residual.result c.from_residual.ensures.1 in
+    rw failed.1
+    (rests_lost (omega (arith, c.requires.room))
+    (rests_then c.current-latest.ensures.rests (rests_then c.in-Some.ensures.rests
+    (rests_then c.tree-root.ensures.rests c.in_err-given-in-Some.ensures.rests))))
+
+pub returns-in_err-given-in-Some-clause-reads : goal.returns-in_err-given-in-Some-clause-reads
+returns-in_err-given-in-Some-clause-reads g c =
+    rests_reads (rests_then c.current-latest.ensures.rests (rests_then c.in-Some.ensures.rests
+    (rests_then c.tree-root.ensures.rests c.in_err-given-in-Some.ensures.rests)))
+
+pub returns-in_err-given-in-Some-clause-lent : goal.returns-in_err-given-in-Some-clause-lent
+returns-in_err-given-in-Some-clause-lent g c =
+    c.in_err-given-in-Some.ensures.lent ∙ c.tree-root.ensures.lent ∙ c.in-Some.ensures.lent
+    ∙ c.current-latest.ensures.lent
+
+pub returns-in-None-clause-ends : goal.returns-in-None-clause-ends
+returns-in-None-clause-ends g c =
+    let latest = c.current-latest.ensures in
+    let v = c.current-latest.result.number in
+    let read = read_current v latest.shows.0 latest.shows.1 latest.pass latest.seen
+    (rests_none latest.rests) in
+    cut_ends v read latest.rests c.in-None.ensures.rests c.requires.room
+    (c.in-None.ensures.newer refl)
+
+pub returns-in-None-clause-reads : goal.returns-in-None-clause-reads
+returns-in-None-clause-reads g c =
+    rests_reads (rests_then c.current-latest.ensures.rests c.in-None.ensures.rests)
+
+pub returns-in-None-clause-lent : goal.returns-in-None-clause-lent
+returns-in-None-clause-lent g c = c.in-None.ensures.lent ∙ c.current-latest.ensures.lent

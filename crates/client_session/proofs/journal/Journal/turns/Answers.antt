@@ -1,5 +1,6 @@
 use Rattle.std.proofs.Common.{◌∙◌, refl}
-use Rattle.client_session.proofs.Turning.{answered_late}
+use Rattle.std.proofs.lemmas.Result.{err_from_is_err_and}
+use Rattle.client_session.proofs.Turning.{answered_late, may_lost}
 use Rattle.client_session.proofs.journal.Journal.turns.Goals as goal
 use Rattle.client_turns.proofs.States.{lost_still, lost_then, reads_still, reads_then}
 
@@ -32,3 +33,27 @@ loop-preserved g c =
         λ is. reads_then (c.loop.invariant.1.1 is) (c.in_ok-ended.ensures.reads is),
       ),
     )
+
+pub turn-requires : goal.turn-requires
+turn-requires g c = record {
+  may = may_lost c.requires.may c.loop.invariant.0;
+  ready = c.loop.invariant.0.ready;
+}
+
+pub returns-in-Some-ended-clause-settled : goal.returns-in-Some-ended-clause-settled
+returns-in-Some-ended-clause-settled g c = c.in_ok-ended.ensures.settled
+
+pub returns-in-Some-ended-clause-lent : goal.returns-in-Some-ended-clause-lent
+returns-in-Some-ended-clause-lent g c = c.in_ok-ended.ensures.lent ∙ c.loop.invariant.1.0
+
+pub returns-in_err-ended-clause-lost : goal.returns-in_err-ended-clause-lost
+returns-in_err-ended-clause-lost g c =
+    let failed = err_from_is_err_and c.from_residual.result c.from_residual.ensures.1 in
+    rw failed.1
+    (lost_then c.loop.invariant.0 c.in_err-ended.ensures.ends)
+
+pub returns-in_err-ended-clause-settled : goal.returns-in_err-ended-clause-settled
+returns-in_err-ended-clause-settled g c = c.in_err-ended.ensures.settled
+
+pub returns-in_err-ended-clause-lent : goal.returns-in_err-ended-clause-lent
+returns-in_err-ended-clause-lent g c = c.in_err-ended.ensures.lent ∙ c.loop.invariant.1.0
