@@ -7,6 +7,10 @@ returns-in-Ok-clause-begins g c =
     begins_of (same_none made.pass made.draft made.small made.lasts) c.open.ensures.opens made.room
     made.spare
 
+-- there was room, so of a full heap nothing is said
+pub returns-in-Ok-clause-full : goal.returns-in-Ok-clause-full
+returns-in-Ok-clause-full g c = tt
+
 pub returns-in-Err-clause-full : goal.returns-in-Err-clause-full
 returns-in-Err-clause-full g c =
     let h = g.H.ClientHeap in
