@@ -16,3 +16,6 @@ returns-clause-may c = λ m inside held keeps none places.
     c.new.ensures.step c.requires.minor
     (c.in-Ok.ensures.room ∙ c.in_ok-minor.ensures.room) c.in_ok-promoter.ensures.room
     inside held keeps none places
+
+pub returns-clause-minor : goal.returns-clause-minor
+returns-clause-minor c = c.in-Ok.ensures.room ∙ c.in_ok-minor.ensures.room
