@@ -3,6 +3,7 @@ use Rattle.client_session.specs.Turns.{bounds}
 use Rattle.client_session.specs.declared.journal.Journal.{Journal}
 use Rattle.client_session.proofs.Entering.{entered_step, lost_step, may_of, same_step}
 use Rattle.client_session.proofs.journal.Journal.answer.Goals as goal
+use Rattle.client_turns.proofs.States.{reads_still, small_still}
 
 pub turns-requires-clause-may : goal.turns-requires-clause-may
 turns-requires-clause-may g c =
@@ -28,3 +29,27 @@ returns-clause-step g c =
     (same_step (bounds j.limits) s j.last j.log c.reserve.new.self c.reserve.ensures.client
     c.reserve.ensures.entries c.requires.step) answered.turned c.in_ok-copied.ensures
     answered.kept entered.entries entered.limits entered.client entered.last
+
+pub returns-in_err-reserve-clause-step : goal.returns-in_err-reserve-clause-step
+returns-in_err-reserve-clause-step g c =
+    let j = c.args.self.now in
+    same_step (bounds j.limits) (g.H.ClientHeap.state c.args.heap.now) j.last j.log
+    c.reserve.new.self c.reserve.ensures.client c.reserve.ensures.entries c.requires.step
+
+pub returns-in_err-reserve-clause-small : goal.returns-in_err-reserve-clause-small
+returns-in_err-reserve-clause-small g c = λ is. small_still (g.H.ClientHeap.state c.args.heap.now)
+
+pub returns-in_err-reserve-clause-reads : goal.returns-in_err-reserve-clause-reads
+returns-in_err-reserve-clause-reads g c = λ is. reads_still (g.H.ClientHeap.state c.args.heap.now)
+
+pub returns-in_err-copied-clause-step : goal.returns-in_err-copied-clause-step
+returns-in_err-copied-clause-step g c =
+    let j = c.args.self.now in
+    same_step (bounds j.limits) (g.H.ClientHeap.state c.args.heap.now) j.last j.log
+    c.reserve.new.self c.reserve.ensures.client c.reserve.ensures.entries c.requires.step
+
+pub returns-in_err-copied-clause-small : goal.returns-in_err-copied-clause-small
+returns-in_err-copied-clause-small g c = λ is. small_still (g.H.ClientHeap.state c.args.heap.now)
+
+pub returns-in_err-copied-clause-reads : goal.returns-in_err-copied-clause-reads
+returns-in_err-copied-clause-reads g c = λ is. reads_still (g.H.ClientHeap.state c.args.heap.now)
