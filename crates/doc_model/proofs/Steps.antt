@@ -20,6 +20,12 @@ legal_step s next e es rest is says becomes = (
       subst (λ (t : Store). IsLegal t rest) (sym becomes) all.1.1,
 )
 
+pub legal_first : (s : Store) (e : Entry) (es rest : List Entry) → es ≡ e ∷ rest → IsLegal s es
+    → IsClient s e.client × Says (answer_for_in s e) e
+legal_first s e es rest is legal =
+    let all : IsLegal s (e ∷ rest) = subst (λ (xs : List Entry). IsLegal s xs) is legal in
+    (all.0, all.1.0)
+
 -- how often a client was answered
 pub few_step : (s next : Store) (e : Entry) (n : ℕ) → All (λ m. m.answered ≤ n) s.accounts
     → IsClient s e.client → next ≡ after s e.client (answer_for_in s e)
