@@ -141,6 +141,13 @@ put_right_done m n k x y d e t l r s new even whole balanced rising greater put 
     (rw whole at rising) greater
     (rw child at put) (rw (name, kept, side) at is))
 
+pub put_equal_done : (m n k : List ℕ) (x y d : DocTree) (t l r new : Entries)
+    → t ≡ entry n d l r → IsBalanced t → IsRising (kids_of t) → name_cmp m n ≡ Equal
+    → y ≡ x → k ≡ n → new ≡ entry k y l r → IsPut m x t new
+put_equal_done m n k x y d t l r new whole balanced rising equal child name made =
+    rw (whole, made, name, child) (put_equal m n x d l r (rw whole at balanced)
+    (rw whole at rising) equal)
+
 -- another child of the same name
 above_other : (k n : List ℕ) (l : Kids) (t u : List ℕ) (i j r : Kids)
     → IsAbove k (join l (kid n t i r)) → IsAbove k (join l (kid n u j r))
@@ -419,6 +426,21 @@ closed_step n d l r f rest even balanced is evened = record {
   );
   high = grind (arith, balanced.0, balanced.1, is.low, is.high, evened.low, evened.high);
 }
+
+-- the same where the parts were read at one time and put together at another
+pub closed_ready : (n : List ℕ) (d e : DocTree) (l m r s f g rest other : Entries) → r ≡ s
+    → IsBalanced (entry n d l r) → IsRising (kids_of (entry n d l r)) → IsFirst s f rest
+    → g ≡ f → e ≡ child_of f → m ≡ l → other ≡ rest → IsNearly (entry (name_of g) e m other)
+closed_ready n d e l m r s f g rest other right balanced rising is first child left after =
+    rw (first, child, left, after)
+    (closed_nearly n d l r f rest balanced rising (rw (sym right) at is))
+
+pub closed_done : (n : List ℕ) (d e : DocTree) (l m r s f g rest other even : Entries) → r ≡ s
+    → IsBalanced (entry n d l r) → IsFirst s f rest → IsEven (entry (name_of g) e m other) even
+    → g ≡ f → e ≡ child_of f → m ≡ l → other ≡ rest → IsClosed (entry n d l r) even
+closed_done n d e l m r s f g rest other even right balanced is evened first child left after =
+    closed_step n d l r f rest even balanced (rw (sym right) at is)
+    (rw (first, child, left, after) at evened)
 
 pub ruleset putting = (
   put_none,

@@ -262,6 +262,25 @@ twice_left_high_rising n m k d x y l b c a near =
     (rising_right (kids_of (entry n d l b)) (row k y (kids_of (entry m x c a)))
     (twice_left_rising n m k d x y l b c a near)).1
 
+-- the row of what a rotation is made from, and of what it makes
+pub right_row : (n m : List ℕ) (d x : DocTree) (a b r : Entries)
+    → IsNearly (entry n d (entry m x a b) r) → IsRising (kids_of (entry n d b r))
+right_row n m d x a b r near = right_rising n m d x a b r near.rising
+
+pub left_row : (n m : List ℕ) (d x : DocTree) (l b a : Entries)
+    → IsNearly (entry n d l (entry m x b a)) → IsRising (kids_of (entry n d l b))
+left_row n m d x l b a near = left_rising n m d x l b a near.rising
+
+pub rising_row : (t even : Entries) → IsEven t even → IsNearly t → IsRising (kids_of even)
+rising_row t even is near =
+    let P : Kids → Type 0 = λ row. IsRising row in
+    subst P (sym is.kids) near.rising
+
+-- an entry whose parts were read at one time and put together at another
+pub same_entry : (n k : List ℕ) (d e : DocTree) (a l b r : Entries) → k ≡ n → e ≡ d → l ≡ a
+    → r ≡ b → entry k e l r ≡ entry n d a b
+same_entry n k d e a l b r name child left right = rw (name, child, left, right) refl
+
 pub ruleset once_right = (right_below, right_rising, right_even)
 
 pub ruleset once_left = (left_below, left_rising, left_even)

@@ -3,7 +3,7 @@ use Rattle.doc_tree.specs.Tree.{name_cmp, IsRising}
 use Rattle.kids_avl.specs.Entries.{entry, kids_of, height_of, name_of}
 use Rattle.kids_avl.specs.Pool.{under}
 use Rattle.kids_avl.proofs.Heights.{entry_high}
-use Rattle.kids_avl.proofs.Steps.{put_left_done, put_right_done, rising_other}
+use Rattle.kids_avl.proofs.Steps.{put_equal_done, put_left_done, put_right_done, rising_other}
 use Rattle.kids_avl.proofs.putting.+put_under.Goals as goal
 
 pub order-order-requires-clause-places : goal.order-order-requires-clause-places
@@ -78,3 +78,19 @@ returns-in-Greater-clause-put g t c =
     ∙ later_read.same c.in-Some.at stands_order))
     (later_call.child_same c.read_entry-entry.result.child c.read_entry-entry.ensures.child)
     (later_call.same_under c.read_entry-entry.result.left c.read_entry-entry.ensures.left)
+
+pub returns-in-Equal-clause-put : goal.returns-in-Equal-clause-put
+returns-in-Equal-clause-put g t c =
+    let stands = rw c.in-Some.is at c.requires.stands in
+    let later_order = c.order-order.ensures.later in
+    let later_read = c.read_entry-entry.ensures.later in
+    let stands_order = later_order.still c.in-Some.at stands in
+    put_equal_done _ _ _ _ _ _ _ _ _ _
+    (ap (under g.K.KidPool.entries c.args.pool.now) c.in-Some.is
+    ∙ sym (later_order.same c.in-Some.at stands) ∙ c.read_entry-entry.ensures.entry)
+    c.requires.balanced c.requires.rising
+    (ap (λ e. name_cmp c.args.name.now (name_of e)) (later_order.same c.in-Some.at stands)
+    ∙ sym c.order-order.ensures.order ∙ c.in-Equal.is)
+    (later_read.child_same c.args.child (later_order.child_still c.args.child c.requires.child)
+    ∙ later_order.child_same c.args.child c.requires.child)
+    (ap name_of (later_read.same c.in-Some.at stands_order)) c.make_like.ensures.entry

@@ -1,4 +1,4 @@
-use Rattle.std.proofs.Common.{◌≤◌, arith}
+use Rattle.std.proofs.Common.{◌≤◌, ap, sym, arith}
 use Rattle.doc_tree.specs.Tree.{kid_count}
 use Rattle.kids_avl.specs.Entries.{kids_of}
 use Rattle.kids_avl.specs.Pool.{under}
@@ -12,3 +12,8 @@ left-left-requires-clause-places g t c =
     let h : 1 ≤ kid_count (kids_of (under g.K.KidPool.entries c.args.pool.now c.args.top)) =
     rw c.in-Some.is (entry_counts _ is) in
     omega (arith, h, c.requires.places)
+
+pub returns-in_default-clause-count : goal.returns-in_default-clause-count
+returns-in_default-clause-count g t c =
+    sym (ap (λ o. kid_count (kids_of (under g.K.KidPool.entries c.args.pool.now o)))
+    c.in_default.is)
