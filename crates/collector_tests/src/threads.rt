@@ -46,7 +46,8 @@ fn drop_beside<R: Threads + Wait + Sync>(
     thread::join(
         rt,
         move ||
-            requires { IsIdle heap.now collector × IsHintPass queue.now pass × (hinted_of queue.now ≡ heap.now.shape.cells) }
+            requires { IsIdle heap.now collector × IsHintPass queue.now pass
+                × (hinted_of queue.now ≡ heap.now.shape.cells) }
             ensures { IsSeatOf heap.entry.now result.0 }
         { serve_on(rt, heap, collector, stack, queue, pass) },
         move ||
@@ -102,7 +103,8 @@ fn claim_beside<R: Threads + Wait + Sync>(
     thread::join(
         rt,
         move ||
-            requires { IsIdle heap.now collector × IsHintPass queue.now pass × (hinted_of queue.now ≡ heap.now.shape.cells) }
+            requires { IsIdle heap.now collector × IsHintPass queue.now pass
+                × (hinted_of queue.now ≡ heap.now.shape.cells) }
             ensures { IsSeatOf heap.entry.now result.0 }
         { serve_on(rt, heap, collector, stack, queue, pass) },
         move ||
