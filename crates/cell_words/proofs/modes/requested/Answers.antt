@@ -5,4 +5,5 @@ pub returns-in-Idle : goal.returns-in-Idle
 returns-in-Idle c = elim c.in-Idle.is [
   | inl is ↦ record { status = rw is refl }
   | inr (inl is) ↦ record { status = rw is refl }
-  | inr (inr is) ↦ record { status = rw is refl } ]
+  | inr (inr is) ↦ record { status = rw is refl }
+]
