@@ -7,7 +7,8 @@ which the prover should refuse. They are too many for the gate; must-fail/ has t
 One check tries as many as there are functions, one in each, so ten take little longer than one. A
 function that is not proved counts as the refusal of its wrong body. 'no mark' says that its
 function is proved; then it is to be tried alone, by its name, since the refusal may come in a
-caller. The sources are changed in place and put back; whatever is uncommitted in the crate stops it.
+caller. The sources are changed in place and put back; whatever is uncommitted in the crate stops
+it.
 """
 import os
 import re
@@ -15,7 +16,10 @@ import subprocess
 import sys
 
 TOP = os.path.dirname(os.path.dirname(os.path.abspath(__file__)))
-PLACE = re.compile(r"(?m)^(?:so far: )?(?:(?:note|error): )?(?:\./)?((?:src|proofs)/\S+?):(\d+):\d+: (.*)$")
+PLACE = re.compile(
+    r"(?m)^(?:so far: )?(?:(?:note|error): )?"
+    r"(?:\./)?((?:src|proofs)/\S+?):(\d+):\d+: (.*)$"
+)
 FUNCTION = re.compile(r"\s*(?:pub(?:\([^)]*\))? )?(?:const )?fn (\w+)")
 
 
@@ -99,7 +103,8 @@ class Crate:
 
 def main(name, wanted):
     crate = Crate(name)
-    if subprocess.run(["git", "status", "--short", "."], cwd=crate.folder, capture_output=True).stdout:
+    status = ["git", "status", "--short", "."]
+    if subprocess.run(status, cwd=crate.folder, capture_output=True).stdout:
         sys.exit(f"{name} has changes that are not committed")
     bodies = wrong_bodies(f"{TOP}/bench/wrong_bodies/{name}")
     left = {}
@@ -125,7 +130,8 @@ def main(name, wanted):
             elif words:
                 print(f"{body}: refused: {words[0][:160]}")
             elif len(together) == 1:
-                print(f"{body}: refused in {', '.join(str(it) for it in said)}: {[*said.values()][0][0][:160]}")
+                places, first = ", ".join(str(it) for it in said), [*said.values()][0][0]
+                print(f"{body}: refused in {places}: {first[:160]}")
             else:
                 print(f"{body}: no mark")
         sys.stdout.flush()
