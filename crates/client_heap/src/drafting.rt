@@ -163,6 +163,8 @@ pub(crate) fn make_room<R: Wait>(
         ≤ m.old.seat.me.room }
     ensures sound { IsSound m.new minor.new draft.new base.new }
     ensures cleared { OnOk result (IsCleared m.new minor.new) }
+    ensures idle { IsCleared m.old minor.old → (m.new ≡ m.old) × (minor.new ≡ minor.old)
+        × (draft.new ≡ draft.old) × (base.new ≡ base.old) }
     ensures full { OnErr result (Had (IsFull m.old.seat.me.shape.cells) (marks m.old)
         (marks m.new)) }
     ensures kept { length m.new.seat.me.own.held + length minor.new.records

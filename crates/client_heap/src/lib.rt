@@ -7,12 +7,13 @@
 //! anchor's and those that the draft needs. A draft that a minor collection moved stands on two.
 //!
 //! Reading order: specs/Shows, Carries, Sound, Lent; then `places`, `walking`, `collecting`,
-//! `drafting`, `publishing`, `seat`, `heap`.
+//! `drafting`, `publishing`, `seat`, `mutator`, `heap`.
 #![tactic(auto)]
 
 mod collecting;
 mod drafting;
 mod heap;
+mod mutator;
 mod places;
 mod publishing;
 mod seat;

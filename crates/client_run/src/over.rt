@@ -3,7 +3,7 @@ ghost use Rattle.std.specs.Prelude.{◌≡◌, ◌<◌, IfOk, OnErr, false, leng
 ghost use Rattle.client_heap.specs.Shows.{state_of};
 ghost use Rattle.client_run.specs.Own.{MayAnswer};
 ghost use Rattle.client_run.specs.Places.{CollectsNone, HoldsNoMore};
-ghost use Rattle.client_session.specs.Turns.{Enters};
+ghost use Rattle.client_session.specs.Turns.{Enters, IsPlain};
 ghost use Rattle.client_turns.specs.Demands.{is_keeping, is_reading};
 ghost use Rattle.client_turns.specs.Turns.{Lost};
 ghost use Rattle.version_store.specs.Lasts.{IsSameMutator};
@@ -40,6 +40,7 @@ pub(crate) fn answer_over<M: StoreSeat<Q>, Q, R: Wait>(
     ensures held { is_keeping command.now ≡ false → HoldsNoMore (M.bound m.old) (M.bound m.new) }
     ensures reads { is_reading command.now ≡ true
         → CollectsNone (M.bound m.old) (M.bound m.new) minor.old minor.new }
+    ensures plain { is_reading command.now ≡ true → IfOk result IsPlain }
     ensures same { IsSameMutator (M.bound m.old) (M.bound m.new) }
     ensures queue { M.queue hints.new ≡ M.queue hints.old }
     ensures minor_room { minor.new.room ≡ minor.old.room }

@@ -4,7 +4,7 @@ ghost use Rattle.std.specs.Prelude.{[], false, length, true};
 ghost use Rattle.client_heap.specs.Shows.{state_of};
 ghost use Rattle.client_run.specs.Own.{MayAnswer};
 ghost use Rattle.client_run.specs.Places.{CollectsNone, HoldsNoMore};
-ghost use Rattle.client_session.specs.Turns.{Enters};
+ghost use Rattle.client_session.specs.Turns.{Enters, IsPlain};
 ghost use Rattle.client_turns.specs.Demands.{is_keeping, is_reading};
 ghost use Rattle.client_turns.specs.Turns.{Lost};
 ghost use Rattle.free_cells.specs.Hints.{queue_of};
@@ -109,6 +109,7 @@ impl Session {
         ensures held { is_keeping command.now ≡ false → HoldsNoMore m.old m.new }
         ensures reads { is_reading command.now ≡ true
             → CollectsNone m.old m.new self.old.minor self.new.minor }
+        ensures plain { is_reading command.now ≡ true → IfOk result IsPlain }
         ensures same { IsSameMutator m.old m.new }
         ensures queue { queue_of hints.new ≡ queue_of hints.old }
         ensures minor_room { self.new.minor.room ≡ self.old.minor.room }

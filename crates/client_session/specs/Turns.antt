@@ -1,7 +1,7 @@
 -- Turns of a session: what a command needs, and how it ends.
 -- Source: this project's.
 use Rattle.std.specs.Prelude.{ℕ, ◌≡◌, ◌≤◌, ◌<◌, ◌++◌, [], ◌∷◌, Option}
-use Rattle.std.specs.Prelude.{Some, None, Result, Ok, Err, false, length}
+use Rattle.std.specs.Prelude.{Some, None, IfSome, Result, Ok, Err, IfOk, false, length}
 use Rattle.client_session.specs.Handles.{Handles}
 use Rattle.client_session.specs.declared.given.Given.{Given}
 use Rattle.client_session.specs.declared.given.Opened.{Opened}
@@ -95,3 +95,7 @@ pub record Enters (old new : Journal) (c : Command) (reply : Reply) (s t : Clien
 pub record IsPlain (r : Reply) : Type 0 where
   pub plain : is_ok r ≡ false
   pub spare : is_full r ≡ false
+
+-- no answer, or such a one
+abbrev pub EndsPlain : {E : Type 0} → Result (Option Given) E → Type 0
+EndsPlain result = IfOk result (λ ended. IfSome ended (λ given. IsPlain given.reply))

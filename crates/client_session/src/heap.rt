@@ -21,8 +21,8 @@ use doc_tree::{EditFault, Names, NoMemory, Path, Text};
 use std::alloc::Global;
 use std::sync::Wait;
 
-/// The cells, private records and draft of one client. What a call hands out stands until `settle`
-/// or `make_room`; the draft stays.
+/// The cells, private records and draft of one client. What a call hands out stands across the calls
+/// that have a clause `still`, and the draft across all that do not set it.
 ///
 /// A call that reads asks for 8,192 places, since it may hold cells on its way, and one that goes
 /// down a path for eight more, which it may keep. An edit asks for as many more as that once all
@@ -176,7 +176,7 @@ pub trait ClientHeap {
         ensures still { Still (shown self.old) (shown self.new) }
         ensures lent { lent self.new ≡ lent self.old };
 
-    /// The node's tree is the draft from then on, and the places that are held stay.
+    /// The node's tree is the draft from then on, and what it needs stays held.
     fn set_draft(&mut self, at: Self::At)
         requires room { 9100 ≤ (state self.old).room }
         requires node { (shown self.old).is_node at }
@@ -230,6 +230,8 @@ pub trait ClientHeap {
         requires ready { IsReady (state self.old) }
         ensures room { OnOk result (20480 ≤ (state self.new).room) }
         ensures spare { OnOk result (2285 ≤ (state self.new).spare) }
+        ensures idle { 20480 ≤ (state self.old).room → 2285 ≤ (state self.old).spare
+            → state self.new ≡ state self.old }
         ensures full { OnErr result (Had (IsFull (state self.old).cells)
             (state self.old).marks (state self.new).marks) }
         ensures kept { (state self.old).room ≤ (state self.new).room }

@@ -1,6 +1,6 @@
 //! The commands that read: nothing is made, so the answer is known before memory can be wanting.
 ghost use Rattle.std.specs.Prelude.{◌≡◌, ◌≤◌, IfOk, true};
-ghost use Rattle.client_session.specs.Turns.{Ends, IsPlain, MayTurn, Opens};
+ghost use Rattle.client_session.specs.Turns.{Ends, EndsPlain, IsPlain, MayTurn, Opens};
 ghost use Rattle.client_turns.specs.Demands.{reply_asks};
 ghost use Rattle.client_turns.specs.State.{OnlyReads, Rests};
 ghost use Rattle.doc_model.specs.Answers.{count_shown, names_shown, text_shown, told};
@@ -137,6 +137,7 @@ impl Journal {
         ensures ends { Ends self.now (command.Get path.now) (H.state heap.old) (H.state heap.new)
             result }
         ensures reads { OnlyReads (H.state heap.old) (H.state heap.new) }
+        ensures plain { EndsPlain result }
         ensures lent { H.lent heap.new ≡ H.lent heap.old }
     {
         let opened = open(heap);
@@ -157,6 +158,7 @@ impl Journal {
         ensures ends { Ends self.now (command.List path.now) (H.state heap.old) (H.state heap.new)
             result }
         ensures reads { OnlyReads (H.state heap.old) (H.state heap.new) }
+        ensures plain { EndsPlain result }
         ensures lent { H.lent heap.new ≡ H.lent heap.old }
     {
         let opened = open(heap);
@@ -175,6 +177,7 @@ impl Journal {
         ensures ends { Ends self.now (command.Size path.now) (H.state heap.old) (H.state heap.new)
             result }
         ensures reads { OnlyReads (H.state heap.old) (H.state heap.new) }
+        ensures plain { EndsPlain result }
         ensures lent { H.lent heap.new ≡ H.lent heap.old }
     {
         let opened = open(heap);
@@ -196,6 +199,7 @@ impl Journal {
         ensures ends { Ends self.now (command.Old back path.now) (H.state heap.old)
             (H.state heap.new) result }
         ensures reads { OnlyReads (H.state heap.old) (H.state heap.new) }
+        ensures plain { EndsPlain result }
         ensures lent { H.lent heap.new ≡ H.lent heap.old }
     {
         let latest = heap.current();
@@ -229,6 +233,7 @@ impl Journal {
         ensures ends { Ends self.now (command.DraftGet path.now) (H.state heap.old)
             (H.state heap.new) result }
         ensures reads { OnlyReads (H.state heap.old) (H.state heap.new) }
+        ensures plain { EndsPlain result }
         ensures lent { H.lent heap.new ≡ H.lent heap.old }
     {
         let draft = heap.draft();

@@ -1,7 +1,8 @@
 //! Answering: a turn for each try, until one has an answer; then the entry.
 ghost use Rattle.std.specs.Prelude.{◌≡◌, ◌≤◌, ◌<◌, ◌+◌, IfOk, OnErr, length};
 ghost use Rattle.std.specs.Prelude.{[], ◌∷◌, ◌++◌, false, true};
-ghost use Rattle.client_session.specs.Turns.{Answered, Ends, Enters, InStep, MayTurn};
+ghost use Rattle.client_session.specs.Turns.{Answered, Ends, EndsPlain, Enters, InStep, IsPlain};
+ghost use Rattle.client_session.specs.Turns.{MayTurn};
 ghost use Rattle.client_turns.specs.Demands.{is_keeping, is_reading};
 ghost use Rattle.client_turns.specs.State.{IsReady, IsSettled, OnlyReads, Rests, StaysSmall};
 ghost use Rattle.client_turns.specs.Turns.{Lost};
@@ -37,6 +38,7 @@ impl Journal {
         ensures ends { Ends self.now command.now (H.state heap.old) (H.state heap.new) result }
         ensures reads { is_reading command.now ≡ true
             → OnlyReads (H.state heap.old) (H.state heap.new) }
+        ensures plain { is_reading command.now ≡ true → EndsPlain result }
         ensures lent { H.lent heap.new ≡ H.lent heap.old }
     {
         match command {
@@ -68,6 +70,7 @@ impl Journal {
         ensures settled { IsSettled (H.state heap.new) }
         ensures reads { is_reading command.now ≡ true
             → OnlyReads (H.state heap.old) (H.state heap.new) }
+        ensures plain { is_reading command.now ≡ true → EndsPlain result }
         ensures lent { H.lent heap.new ≡ H.lent heap.old }
     {
         heap.settle();
@@ -92,6 +95,8 @@ impl Journal {
         ensures settled { IsSettled (H.state heap.new) }
         ensures reads { is_reading command.now ≡ true
             → OnlyReads (H.state heap.old) (H.state heap.new) }
+        ensures plain { is_reading command.now ≡ true
+            → IfOk result (λ given. IsPlain given.reply) }
         ensures lent { H.lent heap.new ≡ H.lent heap.old }
     {
         for _ in rt.forever() {
@@ -132,6 +137,7 @@ impl Journal {
             → StaysSmall (H.state heap.old) (H.state heap.new) }
         ensures reads { is_reading command.now ≡ true
             → OnlyReads (H.state heap.old) (H.state heap.new) }
+        ensures plain { is_reading command.now ≡ true → IfOk result IsPlain }
         ensures lent { H.lent heap.new ≡ H.lent heap.old }
     {
         self.log.reserve(1)?;

@@ -17,12 +17,32 @@ fn has_text(alloc: Global, schedule: &str, text: &str) -> Result<bool, ScheduleE
 }
 
 /// Schedules with their texts.
-const WORKED: [(&str, &str); 6] = [
+const WORKED: [(&str, &str); 11] = [
     (
         "core 3 1 8\nbegin 0\nlook 0\nclaim 0 1\nseal 0 1 record\nend 0\nshow 1\n\
         plain\nplain\nplain\nplain\nplain\nplain\nshow 1\n",
         "cell 1 white - - - - - =1 freed 0\ncell 1 blue - - - - - - freed 1\n\
         done 48\nfree 2\n",
+    ),
+    (
+        "core 3 1 8\nbegin 0\nlook 0\nclaim 0 1\nseal 0 1 record\nend 0\nplain\n",
+        "done 6\nfree 1\n",
+    ),
+    (
+        "core 3 1 8\nbegin 0\nlook 0\nclaim 0 1\nseal 0 1 record\nend 0\nplain\nplain\n",
+        "done 9\nfree 1\n",
+    ),
+    (
+        "core 3 1 8\nbegin 0\nlook 0\nclaim 0 1\nseal 0 1 record\nend 0\nplain\nplain\nplain\n",
+        "done 13\nfree 1\n",
+    ),
+    (
+        "core 3 1 8\nbegin 0\nlook 0\nclaim 0 1\nseal 0 1 record\nend 0\nplain\nplain\nplain\nplain\n",
+        "done 17\nfree 1\n",
+    ),
+    (
+        "core 3 1 8\nbegin 0\nlook 0\nclaim 0 1\nseal 0 1 record\nend 0\nplain\nplain\nplain\nplain\nplain\n",
+        "done 33\nfree 1\n",
     ),
     (
         "core 3 1 8\nbegin 0\nplain\nlook 0\nanswer 0\nplain\nplain\nlook 0\nanswer 0\n\

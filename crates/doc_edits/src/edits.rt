@@ -16,7 +16,9 @@ ghost use Rattle.doc_edits.specs.Tops.{IsTop, IsTreeAt, IsWithin, tree_under};
 
 use crate::nodes::{open, with_child};
 use crate::rows::has_room;
-use doc_records::{Part, RecordPool, find_child, make_text, read_number, with_text};
+use doc_records::{
+    NODE_COUNT, NODE_HEIGHT, Part, RecordPool, find_child, make_text, read_number, with_text,
+};
 use doc_tree::{EditFault, Name, Path, Text, Tree};
 
 /// What an edit puts at the end of its path: a text for the node there, or a node in its place.
@@ -165,10 +167,10 @@ fn within_limits<R: RecordPool>(records: &mut R, root: R::At) -> Result<R::At, E
     ensures held { (R.shown records.new).held ≡ (R.shown records.old).held }
     ensures records { (R.shown records.new).records ≡ (R.shown records.old).records }
 {
-    if read_number(records, root, 3) > u64::from(Tree::HIGHEST) {
+    if read_number(records, root, NODE_HEIGHT) > u64::from(Tree::HIGHEST) {
         return Err(EditFault::Deep);
     }
-    if read_number(records, root, 2) > Tree::MOST_NODES {
+    if read_number(records, root, NODE_COUNT) > Tree::MOST_NODES {
         return Err(EditFault::Big);
     }
     Ok(root)

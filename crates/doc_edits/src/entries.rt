@@ -11,7 +11,10 @@ ghost use Rattle.doc_records.specs.Trees.{AreEntries, entries_of, tree_of};
 ghost use Rattle.doc_edits.specs.Entries.{IsChildAt, IsEntryAt, IsKept, IsSideAt, most_made};
 ghost use Rattle.doc_edits.specs.Entries.{part_of, places_left, records_left, top_of};
 
-use doc_records::{Part, RecordPool, entry_child, make_text, order_entry, read_number, read_part};
+use doc_records::{
+    ENTRY_HEIGHT, ENTRY_LEFT, ENTRY_NAME, ENTRY_RIGHT, Part, RecordPool, entry_child, make_text,
+    order_entry, read_number, read_part,
+};
 use doc_tree::Name;
 use kids_avl::{KidPool, height_above};
 use std::cmp::Ordering;
@@ -57,7 +60,7 @@ pub(crate) fn side_height<R: RecordPool>(records: &mut R, side: Part<R::At>) -> 
     ensures records { (R.shown records.new).records ≡ (R.shown records.old).records }
 {
     match side {
-        Part::Record(at) => read_number(records, at, 4),
+        Part::Record(at) => read_number(records, at, ENTRY_HEIGHT),
         Part::Null => 0,
         Part::Num(_) => 0,
     }
@@ -144,17 +147,17 @@ impl<'a, R: RecordPool> KidPool for EntryPool<'a, R> {
 
     #[tactic(auto, using(crate::proofs::Fields::fields))]
     fn left(&mut self, at: R::At) -> Option<R::At> {
-        top_of(read_part(self.records, at, 2))
+        top_of(read_part(self.records, at, ENTRY_LEFT))
     }
 
     #[tactic(auto, using(crate::proofs::Fields::fields))]
     fn right(&mut self, at: R::At) -> Option<R::At> {
-        top_of(read_part(self.records, at, 3))
+        top_of(read_part(self.records, at, ENTRY_RIGHT))
     }
 
     #[tactic(auto, using(crate::proofs::Fields::fields))]
     fn height(&mut self, at: R::At) -> u64 {
-        read_number(self.records, at, 4)
+        read_number(self.records, at, ENTRY_HEIGHT)
     }
 
     #[tactic(auto, using(crate::proofs::Fields::written))]
@@ -221,7 +224,7 @@ impl<'a, R: RecordPool> KidPool for EntryPool<'a, R> {
         ensures records { records_in R.shown self.old ≤ records_in R.shown self.new + 1 }
         ensures made { made_in self.new ≡ made_in self.old + 1 }
     {
-        let written = read_part(self.records, like, 0);
+        let written = read_part(self.records, like, ENTRY_NAME);
         self.make_entry(written, child, part_of(left), part_of(right))
     }
 

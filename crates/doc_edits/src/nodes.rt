@@ -12,7 +12,7 @@ ghost use Rattle.doc_edits.specs.Tops.{IsRowAt, IsTop, IsTreeAt, row_of, tree_un
 
 use crate::rows::{with_entry, without_entry};
 use crate::sizes::{Change, change_of, sizes_after};
-use doc_records::{Part, RecordPool, make_text, read_part, with_text};
+use doc_records::{NODE_ENTRIES, NODE_TEXT, Part, RecordPool, make_text, read_part, with_text};
 use doc_tree::{Name, Text};
 
 // What a node is made of.
@@ -40,8 +40,8 @@ pub(crate) fn open<R: RecordPool>(records: &mut R, at: Option<R::At>) -> Opened<
 {
     match at {
         Some(node) => {
-            let text = read_part(records, node, 0);
-            let entries = read_part(records, node, 1);
+            let text = read_part(records, node, NODE_TEXT);
+            let entries = read_part(records, node, NODE_ENTRIES);
             Opened { text, entries }
         }
         None => Opened {

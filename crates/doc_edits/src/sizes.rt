@@ -12,7 +12,10 @@ ghost use Rattle.doc_records.specs.Trees.{AreEntries, IsNodeAt, tree_of};
 ghost use Rattle.doc_edits.specs.Sizes.{Changes, IsChange, levels_in, nodes_in};
 ghost use Rattle.doc_edits.specs.Tops.{IsRowAt, IsTop, row_of, tree_under};
 
-use doc_records::{Part, RecordPool, entry_child, read_number, read_part};
+use doc_records::{
+    ENTRY_LEFT, ENTRY_RIGHT, NODE_COUNT, NODE_HEIGHT, Part, RecordPool, entry_child, read_number,
+    read_part,
+};
 
 #[derive(Clone, Copy)]
 pub(crate) struct Sizes {
@@ -40,8 +43,8 @@ fn node_sizes<R: RecordPool>(records: &mut R, at: R::At) -> Sizes
     ensures held { (R.shown records.new).held ≡ (R.shown records.old).held }
     ensures records { (R.shown records.new).records ≡ (R.shown records.old).records }
 {
-    let nodes = read_number(records, at, 2);
-    let levels = read_number(records, at, 3);
+    let nodes = read_number(records, at, NODE_COUNT);
+    let levels = read_number(records, at, NODE_HEIGHT);
     Sizes { nodes, levels }
 }
 
@@ -151,12 +154,12 @@ fn levels_under<R: RecordPool>(records: &mut R, top: Part<R::At>, most: u64) -> 
     if own >= most {
         return own;
     }
-    let left = read_part(records, at, 2);
+    let left = read_part(records, at, ENTRY_LEFT);
     let before = levels_under(records, left, most);
     if before >= most {
         return before;
     }
-    let right = read_part(records, at, 3);
+    let right = read_part(records, at, ENTRY_RIGHT);
     let after = levels_under(records, right, most);
     own.max(before).max(after)
 }

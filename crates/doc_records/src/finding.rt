@@ -10,6 +10,7 @@ ghost use Rattle.doc_records.specs.Texts.{text_of};
 ghost use Rattle.doc_records.specs.Trees.{AreEntries, IsNodeAt, IsTreeNode, entries_of};
 ghost use Rattle.doc_records.specs.Trees.{tree_of};
 
+use crate::layout::{ENTRY_CHILD, ENTRY_LEFT, ENTRY_NAME, ENTRY_RIGHT, NODE_ENTRIES};
 use crate::orders::order_text;
 use crate::pool::{Part, RecordPool};
 use crate::reads::read_part;
@@ -28,7 +29,7 @@ pub fn order_entry<R: RecordPool>(records: &mut R, at: R::At, name: &Name) -> Or
     ensures held { (R.shown records.new).held ≤ (R.shown records.old).held + 4 }
     ensures records { (R.shown records.new).records ≡ (R.shown records.old).records }
 {
-    let written = read_part(records, at, 0);
+    let written = read_part(records, at, ENTRY_NAME);
     order_text(records, name.bytes(), written)
 }
 
@@ -49,7 +50,7 @@ pub fn entry_child<R: RecordPool>(records: &mut R, at: R::At) -> R::At
     ensures held { (R.shown records.new).held ≤ (R.shown records.old).held + 1 }
     ensures records { (R.shown records.new).records ≡ (R.shown records.old).records }
 {
-    match read_part(records, at, 1) {
+    match read_part(records, at, ENTRY_CHILD) {
         Part::Record(child) => child,
         Part::Null => unreachable!(),
         Part::Num(_) => unreachable!(),
@@ -82,12 +83,12 @@ fn find_under<R: RecordPool>(records: &mut R, top: Part<R::At>, name: &Name) -> 
     };
     match order_entry(records, at, name) {
         Ordering::Less => {
-            let left = read_part(records, at, 2);
+            let left = read_part(records, at, ENTRY_LEFT);
             find_under(records, left, name)
         }
         Ordering::Equal => Some(entry_child(records, at)),
         Ordering::Greater => {
-            let right = read_part(records, at, 3);
+            let right = read_part(records, at, ENTRY_RIGHT);
             find_under(records, right, name)
         }
     }
@@ -110,7 +111,7 @@ pub fn find_child<R: RecordPool>(records: &mut R, at: R::At, name: &Name) -> Opt
     ensures held { (R.shown records.new).held ≤ (R.shown records.old).held + 64 }
     ensures records { (R.shown records.new).records ≡ (R.shown records.old).records }
 {
-    let top = read_part(records, at, 1);
+    let top = read_part(records, at, NODE_ENTRIES);
     find_under(records, top, name)
 }
 

@@ -7,11 +7,12 @@
 //! places back; what stood before stands unchanged; and of shared nodes the trail shows the reads.
 //! Edits along a path are left to the layer above.
 //!
-//! Reading order: specs/Words, Texts, Trees, Pool; then `pool`, `reads`, `words`, `texts`, `nodes`,
-//! `orders`, `finding`, `listing`, `writes`.
+//! Reading order: specs/Words, Texts, Trees, Pool; then `layout`, `pool`, `reads`, `words`, `texts`,
+//! `nodes`, `orders`, `finding`, `listing`, `writes`.
 #![tactic(auto)]
 
 mod finding;
+mod layout;
 mod listing;
 mod nodes;
 mod orders;
@@ -22,6 +23,10 @@ mod words;
 mod writes;
 
 pub use crate::finding::{child, entry_child, find_child, order_entry};
+pub use crate::layout::{
+    ENTRY_CHILD, ENTRY_HEIGHT, ENTRY_LEFT, ENTRY_NAME, ENTRY_RIGHT, NODE_COUNT, NODE_ENTRIES,
+    NODE_HEIGHT, NODE_TEXT, TEXT_LENGTH, TEXT_REST,
+};
 pub use crate::listing::names;
 pub use crate::nodes::{count, empty_node, height, text_of};
 pub use crate::pool::{Part, RecordPool};

@@ -10,6 +10,7 @@ ghost use Rattle.doc_records.specs.Shapes.{ask_names, ask_text};
 ghost use Rattle.doc_records.specs.Texts.{name_asks, text_of};
 ghost use Rattle.doc_records.specs.Trees.{AreEntries, IsNode, IsTreeNode, entries_of, tree_of};
 
+use crate::layout::{ENTRY_LEFT, ENTRY_NAME, ENTRY_RIGHT, NODE_ENTRIES};
 use crate::pool::{Part, RecordPool};
 use crate::reads::read_part;
 use crate::texts::push_text;
@@ -31,7 +32,7 @@ fn read_name<R: RecordPool>(alloc: Global, records: &mut R, at: R::At) -> Result
         → Tells (ask_text (part 0 ((R.shown records.old).term at)))
         (R.shown records.old).marks (R.shown records.new).marks) }
 {
-    let top = read_part(records, at, 0);
+    let top = read_part(records, at, ENTRY_NAME);
     let mut bytes = Vec::new(alloc);
     push_text(records, top, &mut bytes)?;
     match Name::read(alloc, &bytes)? {
@@ -65,11 +66,11 @@ fn push_names<R: RecordPool>(
     let Part::Record(at) = top else {
         return Ok(());
     };
-    let left = read_part(records, at, 2);
+    let left = read_part(records, at, ENTRY_LEFT);
     push_names(alloc, records, left, names)?;
     let name = read_name(alloc, records, at)?;
     names.push(name)?;
-    let right = read_part(records, at, 3);
+    let right = read_part(records, at, ENTRY_RIGHT);
     push_names(alloc, records, right, names)?;
     Ok(())
 }
@@ -88,7 +89,7 @@ fn read_names<R: RecordPool>(alloc: Global, records: &mut R, at: R::At) -> Resul
         → Tells (ask_names (part 1 ((R.shown records.old).term at)))
         (R.shown records.old).marks (R.shown records.new).marks) }
 {
-    let top = read_part(records, at, 1);
+    let top = read_part(records, at, NODE_ENTRIES);
     let mut names = Names::new(alloc);
     push_names(alloc, records, top, &mut names)?;
     Ok(names)

@@ -10,6 +10,7 @@ ghost use Rattle.doc_records.specs.Shapes.{ask_text};
 ghost use Rattle.doc_records.specs.Texts.{text_asks};
 ghost use Rattle.doc_records.specs.Trees.{IsNode, IsTreeNode, Spells, tree_of};
 
+use crate::layout::{NODE_COUNT, NODE_HEIGHT, NODE_TEXT};
 use crate::pool::{Part, RecordPool};
 use crate::reads::{read_number, read_part};
 use crate::texts::push_text;
@@ -30,7 +31,7 @@ fn read_text<R: RecordPool>(alloc: Global, records: &mut R, at: R::At) -> Result
         → Tells (ask_text (part 0 ((R.shown records.old).term at)))
         (R.shown records.old).marks (R.shown records.new).marks) }
 {
-    let top = read_part(records, at, 0);
+    let top = read_part(records, at, NODE_TEXT);
     let mut bytes = Vec::new(alloc);
     push_text(records, top, &mut bytes)?;
     match Text::read(alloc, &bytes)? {
@@ -72,7 +73,7 @@ pub fn count<R: RecordPool>(records: &mut R, at: R::At) -> u64
     ensures shows { R.shared at ≡ true → Shows (gave (field.Num result) ∷ [])
         (R.shown records.old).marks (R.shown records.new).marks }
 {
-    match records.read(at, 2) {
+    match records.read(at, NODE_COUNT) {
         Part::Num(count) => count,
         Part::Null => 0,
         Part::Record(_) => 0,
@@ -89,7 +90,7 @@ pub fn height<R: RecordPool>(records: &mut R, at: R::At) -> u32
     ensures held { (R.shown records.new).held ≡ (R.shown records.old).held }
     ensures records { (R.shown records.new).records ≡ (R.shown records.old).records }
 {
-    read_number(records, at, 3) as u32
+    read_number(records, at, NODE_HEIGHT) as u32
 }
 
 /// A node of the empty tree.

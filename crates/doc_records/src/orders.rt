@@ -7,6 +7,7 @@ ghost use Rattle.doc_records.specs.Texts.{text_of, bytes_here};
 ghost use Rattle.doc_records.specs.Words.{bytes_of};
 ghost use Rattle.doc_records.specs.Orders.{order_then};
 
+use crate::layout::TEXT_REST;
 use crate::pool::{Part, RecordPool};
 use crate::reads::read_part;
 use crate::texts::{Cell, bytes_in, read_cell};
@@ -82,7 +83,7 @@ pub(crate) fn order_text<R: RecordPool>(records: &mut R, name: &[u8], top: Part<
     match order_cell(name, cell) {
         Compared::Decided(order) => order,
         Compared::Same(rest) => {
-            let next = read_part(records, at, 4);
+            let next = read_part(records, at, TEXT_REST);
             order_text(records, rest, next)
         }
     }

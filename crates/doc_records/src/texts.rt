@@ -6,6 +6,7 @@ ghost use Rattle.doc_records.specs.Pool.{Later, Stands, part_term, is_shared};
 ghost use Rattle.doc_records.specs.Shapes.{IsChain, cells_of, ask_cell, ask_text};
 ghost use Rattle.doc_records.specs.Texts.{text_of, bytes_here};
 
+use crate::layout::{TEXT_LENGTH, TEXT_REST};
 use crate::pool::{Part, RecordPool};
 use crate::reads::{read_number, read_part, read_word};
 use crate::words::push_bytes;
@@ -36,7 +37,7 @@ pub(crate) fn read_cell<R: RecordPool>(records: &mut R, at: R::At) -> Cell
         → Tells (ask_cell ((R.shown records.old).term at))
         (R.shown records.old).marks (R.shown records.new).marks }
 {
-    let count = read_number(records, at, 0);
+    let count = read_number(records, at, TEXT_LENGTH);
     let first = read_word(records, at, 1);
     let second = read_word(records, at, 2);
     let third = read_word(records, at, 3);
@@ -91,7 +92,7 @@ pub(crate) fn push_text<R: RecordPool>(
     };
     let cell = read_cell(records, at);
     push_cell(bytes, cell)?;
-    let next = read_part(records, at, 4);
+    let next = read_part(records, at, TEXT_REST);
     push_text(records, next, bytes)?;
     Ok(())
 }

@@ -5,6 +5,7 @@ ghost use Rattle.doc_tree.specs.Edits.{with_text};
 ghost use Rattle.doc_records.specs.Texts.{SpellsText};
 ghost use Rattle.doc_records.specs.Trees.{IsNode, Spells, tree_of};
 
+use crate::layout::{NODE_COUNT, NODE_ENTRIES, NODE_HEIGHT};
 use crate::pool::{Part, RecordPool};
 use crate::reads::{read_number, read_part};
 use crate::words::word;
@@ -62,9 +63,9 @@ pub fn with_text<R: RecordPool>(records: &mut R, at: R::At, text: &Text) -> R::A
     ensures records { (R.shown records.old).records
         ≡ (R.shown records.new).records + (length text.now + 20) / 21 + 1 }
 {
-    let entries = read_part(records, at, 1);
-    let count = read_number(records, at, 2);
-    let height = read_number(records, at, 3);
+    let entries = read_part(records, at, NODE_ENTRIES);
+    let count = read_number(records, at, NODE_COUNT);
+    let height = read_number(records, at, NODE_HEIGHT);
     let text = make_text(records, text.bytes());
     records.make(
         text,

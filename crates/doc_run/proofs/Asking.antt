@@ -6,10 +6,10 @@ use Rattle.std.specs.Prelude.{◌⊎◌, ◌↔◌, ◌≢◌, IfSome, IsSomeAnd
 use Rattle.outside.specs.Causes.{next_count}
 use Rattle.run_words.specs.Requests.{Asked, Run, Replay, Gen, RunAsked}
 use Rattle.run_words.specs.declared.request.GenWords.{GenWords}
-use Rattle.script_files.proofs.Files.{always}
-use Rattle.script_files.specs.Files.{IfTold, OpensInTurn, files_read}
+use Rattle.script_files.specs.Files.{OpensInTurn, files_read}
 use Rattle.script_files.specs.Replayed.{IsFaultySchedule, IsSchedule}
-use Rattle.script_files.specs.Scripts.{IsDue, IsUnhindered, largest_file, most_commands, scripts_of}
+use Rattle.script_files.specs.Scripts.{IsDue, IsDueFor, IsUnhindered, largest_file, most_commands}
+use Rattle.script_files.proofs.Opens.{stops_none}
 use Rattle.doc_run.proofs.Due.{run_due, wanting_due}
 use Rattle.script_files.specs.Fault.{status_of}
 use Rattle.script_files.specs.Scripts.{AreScripts, StopsBehind}
@@ -47,11 +47,9 @@ if_some None Fact all = tt
 if_some (Some bytes) Fact all = all bytes
 
 pub unread_scripts : (asked : Option Asked) (holds : List ℕ → Option (List ℕ)) (status : ℕ)
-    → status ≡ 5 → IfRun asked (λ run. IfTold (map holds run.files) (λ contents.
-    IsDue (scripts_of contents) status))
+    → status ≡ 5 → IfRun asked (λ run. IsDueFor (map holds run.files) status)
 unread_scripts asked holds status is =
-    if_run asked _ (λ run. always (map holds run.files) _ (λ contents.
-    subst (λ s. IsDue (scripts_of contents) s) (sym is) (wanting_due (scripts_of contents))))
+    if_run asked _ (λ run scripts decided. subst (IsDue scripts) (sym is) (wanting_due scripts))
 
 pub unread_large_made : (asked : Option Asked) (status : ℕ) → status ≡ 5
     → IfGen asked (λ made. (status ≡ 6)
@@ -124,11 +122,9 @@ pub due_asked : (asked : Option Asked) (run : RunAsked) (holds : List ℕ → Op
     (fault : Option Fault) (finished : Option Finished) (status : ℕ) → asked ≡ Some (Run run)
     → status ≡ status_of fault
     → Explains (AreScripts (map holds run.files)) (options_of run) fault finished
-    → IfRun asked (λ these. IfTold (map holds these.files) (λ contents.
-    IsDue (scripts_of contents) status))
+    → IfRun asked (λ these. IsDueFor (map holds these.files) status)
 due_asked asked run holds fault finished status is same explained =
-    subst (λ a. IfRun a (λ these. IfTold (map holds these.files) (λ contents.
-    IsDue (scripts_of contents) status))) (sym is)
+    subst (λ a. IfRun a (λ these. IsDueFor (map holds these.files) status)) (sym is)
     (run_due (map holds run.files) (options_of run) fault finished status same explained)
 
 -- which files a run opened at most
@@ -141,10 +137,6 @@ stops_asked asked run holds before now is stops =
     stops
 
 -- no file was opened
-stops_none : (file before opens : ℕ) (told : List (Option (List ℕ)))
-    → StopsBehind file before told opens opens
-stops_none file before opens told = (0, refl, 0, omega arith, omega arith, refl)
-
 pub unread_stops : (asked : Option Asked) (holds : List ℕ → Option (List ℕ)) (opens : ℕ)
     → IfRun asked (λ run. StopsBehind 1 0 (map holds run.files) opens opens)
 unread_stops asked holds opens =

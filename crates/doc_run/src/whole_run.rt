@@ -21,10 +21,10 @@ ghost use Rattle.doc_run.specs.Request.{RunsClients, names_of};
 ghost use Rattle.run_words.specs.Limits.{IsRunWithin};
 ghost use Rattle.run_words.specs.Requests.{request_of, run_asked_by};
 ghost use Rattle.script_files.specs.Fault.{status_of};
-ghost use Rattle.script_files.specs.Files.{IfTold, OpensInTurn, files_read, opened};
+ghost use Rattle.script_files.specs.Files.{OpensInTurn, files_read, opened};
 ghost use Rattle.script_files.specs.Replayed.{IsFaultySchedule, IsReading, IsSchedule, IsTextOf};
-ghost use Rattle.script_files.specs.Scripts.{AreScripts, IsDue, IsUnhindered, StopsBehind};
-ghost use Rattle.script_files.specs.Scripts.{largest_file, most_commands, scripts_of};
+ghost use Rattle.script_files.specs.Scripts.{AreScripts, IsDueFor, IsUnhindered, StopsBehind};
+ghost use Rattle.script_files.specs.Scripts.{largest_file, most_commands};
 
 use crate::clients::run_files;
 use crate::generated::run_generated;
@@ -69,13 +69,13 @@ pub fn run<R: Threads + Wait + Sync, H: Shelf, S: Sink, G: Gate + Sync>(
     ensures replayed { result.status ≡ 0 → IfReplay (request_of words.now) (λ name.
         WritesAll (IsTextOf (H.holds shelf.old name)) (S.written sink.old) (S.written sink.new)) }
 
-    // Refused for its words, or for the files, where the shelf tells what they hold: the status is
-    // that which is due, and with good files it is 0, or a device failed, or memory was wanting.
+    // Refused for its words, or for the files, where what the shelf tells of them decides that: the
+    // status is that which is due, and with good files it is 0, or a device failed, or memory was
+    // wanting.
     ensures usage { (result.status ≡ 1)
         ↔ ((result.status ≢ 5) × IsNone (request_of words.now)) }
     ensures scripts { IfRun (request_of words.now) (λ run.
-        IfTold (map (H.holds shelf.old) run.files) (λ contents.
-        IsDue (scripts_of contents) result.status)) }
+        IsDueFor (map (H.holds shelf.old) run.files) result.status) }
     ensures script_line { (file line : ℕ) (kind : ScriptKind) →
         result.fault ≡ Some (Fault.Script file line kind) →
         IsRunAnd (request_of words.now) (λ run.

@@ -50,6 +50,14 @@ fn a_full_heap_refuses_and_all_is_as_before(rt: HostRuntime) -> Result<(), Fail>
     Ok(())
 }
 
+#[test]
+fn a_collection_without_a_free_cell_claims_nothing(rt: HostRuntime) -> Result<(), Fail> {
+    let cells = [ANCHOR, None, None, None];
+    let wanted = ((Err(FULL), 0, 1, 2), [None, None, None], cells);
+    assert_eq!(rt; collected(rt.alloc(), &rt, 1)?, wanted);
+    Ok(())
+}
+
 // The copy of one of the two records finds a cell, and nobody names it.
 #[test]
 fn a_collection_in_a_full_heap_leaves_the_private_heap(rt: HostRuntime) -> Result<(), Fail> {

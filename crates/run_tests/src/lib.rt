@@ -1,7 +1,7 @@
 //! What no clause says of doc_run: whole runs, from the bytes of a file to the bytes written, the
 //! merged history of two clients, which gate they ask, and the text of each fault.
 //!
-//! Reading order: `outcomes`; `runs`, `options`, `clients`.
+//! Reading order: `outcomes`; `runs`, `options`, `totals`, `clients`.
 #![tactic(auto)]
 
 #[cfg(test)]
@@ -12,3 +12,5 @@ mod options;
 mod outcomes;
 #[cfg(test)]
 mod runs;
+#[cfg(test)]
+mod totals;

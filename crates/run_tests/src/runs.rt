@@ -200,40 +200,6 @@ fn the_history_and_the_totals_stand_behind_the_replies(rt: HostRuntime) -> Resul
     Ok(())
 }
 
-/// Thirteen puts.
-fn puts(alloc: Global) -> Result<Vec<u8>, NoMemory> {
-    let mut script = Vec::new(alloc);
-    for _ in 1..=13 {
-        script.extend_from_slice(b"put a x\n")?;
-    }
-    Ok(script)
-}
-
-/// What is written of them where the heap is full behind twelve.
-fn puts_output(alloc: Global) -> Result<Vec<u8>, NoMemory> {
-    let mut text = Vec::from_slice(alloc, b"client 1\n")?;
-    for number in 1..=12 {
-        text.extend_from_slice(format!(in alloc; "ok {number}\n")?.as_bytes())?;
-    }
-    text.extend_from_slice(b"full 12\nstats\ncommands 13\nversions 12\nclaimed 61\nfreed 0\n")?;
-    text.extend_from_slice(b"used 64\nfree 0\ncycles 0\n")?;
-    Ok(text)
-}
-
-fn puts_shown<R: Threads + Wait + Sync>(alloc: Global, rt: &R) -> Result<Shown, NoMemory> {
-    let script = puts(alloc)?;
-    let output = puts_output(alloc)?;
-    let all = ["run", "--cells", "64", "--cycles", "0", "--stats", "f"];
-    shown_by(alloc, rt, &all, &script, &output)
-}
-
-// The heap opens with three cells; the first version takes six, and each later one five.
-#[test]
-fn the_totals_are_those_of_the_heap(rt: HostRuntime) -> Result<(), Fail> {
-    assert_eq!(rt; puts_shown(rt.alloc(), &rt)?, FINISHED);
-    Ok(())
-}
-
 #[test]
 fn several_files_are_a_client_each(rt: HostRuntime) -> Result<(), Fail> {
     let all = ["run", "f", "f", "f"];

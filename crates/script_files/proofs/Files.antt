@@ -8,7 +8,7 @@ use Rattle.std.specs.declared.alloc.Global.{Global}
 use Rattle.std.proofs.lemmas.List.{append_assoc, append-nil, length-map}
 use Rattle.std.proofs.lemmas.Bool.{lt-ltb, le-ltb}
 use Rattle.doc_model.specs.declared.command.Command.{Command}
-use Rattle.script_files.specs.Files.{AreTold, IfTold}
+use Rattle.script_files.specs.Files.{AreTold}
 use Rattle.script_files.specs.Reading.{DecidesFile, DecidesFiles, DecidesFrom, lists_of}
 use Rattle.script_files.specs.Scripts.{in_front, with_first, scripts_from}
 use Rattle.script_files.specs.Scripts.{IsScriptIn, AreScripts, AreScriptsFrom}
@@ -54,27 +54,6 @@ after_first file before one told commands outcome is others = (
       (λ these. scripts_from (file + 1) (before + length these) others.0)) is.2
       ∙ ap (with_first commands) others.2,
 )
-
--- all that is told is what was read
-pub told_same : (told : List (Option (List ℕ))) (contents : List (List ℕ))
-    (Fact : List (List ℕ) → Type 0) → AreTold told contents → Fact contents
-    → IfTold told Fact
-told_same [] [] Fact are fact = fact
-told_same [] (bytes ∷ contents) Fact are fact = absurd are
-told_same (None ∷ told) [] Fact are fact = absurd are
-told_same (None ∷ told) (bytes ∷ contents) Fact are fact = tt
-told_same (Some all ∷ told) [] Fact are fact = absurd are
-told_same (Some all ∷ told) (bytes ∷ contents) Fact are fact =
-    told_same told contents (λ others. Fact (all ∷ others)) are.1
-    (subst (λ one. Fact (one ∷ contents)) are.0 fact)
-
--- a fact that holds of all contents
-pub always : (told : List (Option (List ℕ))) (Fact : List (List ℕ) → Type 0)
-    → ((contents : List (List ℕ)) → Fact contents) → IfTold told Fact
-always [] Fact fact = fact []
-always (None ∷ told) Fact fact = tt
-always (Some bytes ∷ told) Fact fact =
-    always told (λ contents. Fact (bytes ∷ contents)) (λ contents. fact (bytes ∷ contents))
 
 -- the scripts of no files
 pub none_decided : (file before : ℕ) (old : List (List Command))

@@ -1,6 +1,6 @@
 mod Sessions
 pub mod Files
-mod Opens
+pub mod Opens
 mod Turns
 pub mod Counting
 pub mod MadeLines

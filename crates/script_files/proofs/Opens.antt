@@ -1,13 +1,11 @@
 -- How often a shelf was opened, file after file.
-use Rattle.std.proofs.Common.{◌≡◌, ℕ, suc, ◌+◌, ◌≤◌, List, [], ◌∷◌, Option, None, Some}
-use Rattle.std.proofs.Common.{Result, Ok, Err, length, take, refl, sym, subst, arith}
-use Rattle.std.specs.Prelude.{IsOk}
+use Rattle.std.proofs.Common.{◌≡◌, ℕ, zero, suc, ◌+◌, ◌-◌, ◌≤◌, List, [], ◌∷◌, Option}
+use Rattle.std.proofs.Common.{Ok, length, take, refl, sym, subst, arith}
 use Rattle.outside.specs.Causes.{next_count}
 use Rattle.doc_model.specs.declared.command.Command.{Command}
-use Rattle.script_files.specs.Files.{IfTold, OpensInTurn, opened}
-use Rattle.script_files.specs.Scripts.{AreGood, IsScriptIn, StopsBehind, in_front, script_in}
-use Rattle.script_files.specs.Scripts.{scripts_from, with_first}
-use Rattle.script_files.specs.declared.fault.Fault.{Fault}
+use Rattle.script_files.proofs.Files.{after_first, no_scripts}
+use Rattle.script_files.specs.Files.{OpensInTurn, opened}
+use Rattle.script_files.specs.Scripts.{AreScriptsFrom, IsScriptIn, StopsBehind}
 
 -- no file
 pub opens_none : (before : ℕ) → OpensInTurn before before 0
@@ -24,47 +22,32 @@ pub opens_more : (before middle now others : ℕ) → middle ≡ next_count befo
 opens_more before middle now others is more =
     (suc more.0, omega (arith, more.1), (λ some. omega arith), rw (sym is) more.3)
 
--- What was opened at most: all files that are scripts, and one behind them.
+-- Which files were opened: scripts, and one behind them.
 
 -- no file was opened
 pub stops_none : (file before opens : ℕ) (told : List (Option (List ℕ)))
     → StopsBehind file before told opens opens
-stops_none file before opens told = (0, refl, 0, omega arith, omega arith, refl)
+stops_none file before opens told = (0, omega arith, refl, [], no_scripts file before)
 
 -- the first file alone was opened
 pub stops_first : (file before opens now : ℕ) (told : List (Option (List ℕ)))
     → 1 ≤ length told → now ≡ next_count opens → StopsBehind file before told opens now
-stops_first file before opens now told some is = (0, refl, 1, omega arith, some, is)
+stops_first file before opens now told some is = (1, some, is, [], no_scripts file before)
 
--- a fact of what is told that follows from another
-told_so : (told : List (Option (List ℕ))) (P Q : List (List ℕ) → Type 0)
-    → ((contents : List (List ℕ)) → P contents → Q contents) → IfTold told P → IfTold told Q
-told_so [] P Q so fact = so [] fact
-told_so (None ∷ told) P Q so fact = tt
-told_so (Some bytes ∷ told) P Q so fact =
-    told_so told (λ contents. P (bytes ∷ contents)) (λ contents. Q (bytes ∷ contents))
-    (λ contents. so (bytes ∷ contents)) fact
-
-ok_with_first : (commands : List Command) (scripts : Result (List (List Command)) Fault)
-    → IsOk scripts → IsOk (with_first commands scripts)
-ok_with_first commands (Ok scripts) is = is
-ok_with_first commands (Err fault) is = is
-
--- a script in front of others
-good_more : (file before : ℕ) (one : Option (List ℕ)) (told : List (Option (List ℕ)))
-    (commands : List Command) → IsScriptIn file before one (Ok commands)
-    → AreGood (file + 1) (before + length commands) told → AreGood file before (one ∷ told)
-good_more file before None told commands is others = tt
-good_more file before (Some all) told commands is others =
-    let script : script_in file before all ≡ Ok commands =
-    subst (λ bytes. script_in file before bytes ≡ Ok commands) is.1 is.2 in
-    told_so told
-    (λ contents. IsOk (scripts_from (file + 1) (before + length commands) contents))
-    (λ contents. IsOk (scripts_from file before (all ∷ contents)))
-    (λ contents good. subst (λ (r : Result (List Command) Fault). IsOk (in_front r
-    (λ these. scripts_from (file + 1) (before + length these) contents))) (sym script)
-    (ok_with_first commands (scripts_from (file + 1) (before + length commands) contents) good))
-    others
+-- a script in front of others, of which so many were opened
+scripts_more : (file before count : ℕ) (one : Option (List ℕ)) (told : List (Option (List ℕ)))
+    (commands : List Command) (scripts : List (List Command))
+    → IsScriptIn file before one (Ok commands)
+    → AreScriptsFrom (file + 1) (before + length commands) (take (count - 1) told) (Ok scripts)
+    → (all : List (List Command)) × AreScriptsFrom file before (take count (one ∷ told)) (Ok all)
+scripts_more file before zero one told commands scripts is others = ([], no_scripts file before)
+scripts_more file before (suc count) one told commands scripts is others =
+    let same : suc count - 1 ≡ count = omega arith in (
+      commands ∷ scripts,
+      after_first file before one (take count told) commands (Ok scripts) is
+          (subst (λ n. AreScriptsFrom (file + 1) (before + length commands) (take n told) (Ok scripts))
+          same others),
+    )
 
 -- the first file is a script, and then others were opened
 pub stops_more : (file before opens middle now : ℕ) (one : Option (List ℕ))
@@ -72,14 +55,15 @@ pub stops_more : (file before opens middle now : ℕ) (one : Option (List ℕ))
     → IsScriptIn file before one (Ok commands) → middle ≡ next_count opens
     → StopsBehind (file + 1) (before + length commands) told middle now
     → StopsBehind file before (one ∷ told) opens now
-stops_more file before opens middle now one told commands is first more = (
-  suc more.0,
-  good_more file before one (take more.0 told) commands is more.1,
-  suc more.2,
-  omega (arith, more.3),
-  omega (arith, more.4),
-  rw (sym first) more.5,
-)
+stops_more file before opens middle now one told commands is first more =
+    let all = scripts_more file before more.0 one told commands more.3 is more.4 in
+    let same : more.0 ≡ suc more.0 - 1 = omega arith in (
+      suc more.0,
+      omega (arith, more.1),
+      rw (sym first) more.2,
+      all.0,
+      subst (λ n. AreScriptsFrom file before (take n (one ∷ told)) (Ok all.0)) same all.1,
+    )
 
 -- the first file, and then all of the others
 pub all_more : (before middle now others : ℕ) → middle ≡ next_count before

@@ -13,12 +13,6 @@ AreTold (one ∷ told) [] = ⊥
 AreTold (one ∷ told) (bytes ∷ contents) =
     IfSome one (λ all. bytes ≡ all) × AreTold told contents
 
--- the fact holds of the contents, if they are told of every file
-abbrev pub IfTold : List (Option (List ℕ)) → (List (List ℕ) → Type 0) → Type 0
-IfTold [] Fact = Fact []
-IfTold (None ∷ told) Fact = Unit {0}
-IfTold (Some bytes ∷ told) Fact = IfTold told (λ contents. Fact (bytes ∷ contents))
-
 -- the count of a shelf's openings after so many more
 abbrev pub opened : ℕ → ℕ → ℕ
 opened opens zero = opens

@@ -4,13 +4,13 @@
 -- for its grammar, then for the number of commands in the files up to it. The first file that is
 -- refused decides.
 -- Source: this project's own.
-use Rattle.std.specs.Prelude.{◌≡◌, ℕ, ◌+◌, ◌≤◌, List, [], ◌∷◌, length, take}
+use Rattle.std.specs.Prelude.{◌≡◌, ℕ, ◌+◌, ◌-◌, ◌≤◌, List, [], ◌∷◌, length, take}
 use Rattle.std.specs.Prelude.{nat_lt, Option, IfSome}
 use Rattle.std.specs.Prelude.{Result, Ok, Err, IsOk, IsErrAnd, ◌⊎◌, ◌↔◌, ◌≢◌, if◌then◌else◌}
 use Rattle.doc_model.specs.declared.command.Command.{Command}
 use Rattle.cmd_text.specs.Script.{script_of}
 use Rattle.cmd_text.specs.declared.fault.ScriptFault.{ScriptFault}
-use Rattle.script_files.specs.Files.{AreTold, IfTold, most_files, opened}
+use Rattle.script_files.specs.Files.{AreTold, most_files, opened}
 use Rattle.script_files.specs.declared.fault.Fault.{Fault}
 use Rattle.script_files.specs.declared.fault.Fault.TheVariants.{Usage, Script, Schedule}
 use Rattle.script_files.specs.declared.fault.Fault.TheVariants.{ReadFault, WriteFault}
@@ -86,16 +86,13 @@ abbrev pub AreScripts : List (Option (List ℕ)) → Result (List (List Command)
 AreScripts told outcome =
     (contents : List (List ℕ)) × AreTold told contents × (scripts_of contents ≡ outcome)
 
--- the files are scripts, from this one on, if it is told what they hold
-abbrev pub AreGood : ℕ → ℕ → List (Option (List ℕ)) → Type 0
-AreGood file before told = IfTold told (λ contents. IsOk (scripts_from file before contents))
-
--- Some of the files, from this one on, are scripts, and behind them one file more was opened at
--- most: none is opened behind one that is refused.
+-- So many of the files, from this one on, were opened, and those in front of the last of them are
+-- scripts: none is opened behind one that is refused.
 abbrev pub StopsBehind : ℕ → ℕ → List (Option (List ℕ)) → ℕ → ℕ → Type 0
 StopsBehind file before told old new =
-    (good : ℕ) × AreGood file before (take good told)
-    × (count : ℕ) × (count ≤ good + 1) × (count ≤ length told) × (new ≡ opened old count)
+    (count : ℕ) × (count ≤ length told) × (new ≡ opened old count)
+    × (scripts : List (List Command))
+    × AreScriptsFrom file before (take (count - 1) told) (Ok scripts)
 
 -- a fault of a script's grammar
 abbrev pub IsFaultyLine : Fault → Type 0
@@ -130,3 +127,10 @@ pub record IsDue (scripts : Result (List (List Command)) Fault) (status : ℕ) :
   -- not refused: done, or a device failed, or memory was wanting
   pub complete : IsOk scripts
       → (status ≡ 0) ⊎ (status ≡ 3) ⊎ (status ≡ 4) ⊎ (status ≡ 5)
+
+-- The status is due by what the files hold, where what is told of them decides that: all contents
+-- that agree with it give the same.
+abbrev pub IsDueFor : List (Option (List ℕ)) → ℕ → Type 0
+IsDueFor told status = (scripts : Result (List (List Command)) Fault)
+    → ((contents : List (List ℕ)) → AreTold told contents → scripts_of contents ≡ scripts)
+    → IsDue scripts status

@@ -1,2 +1,3 @@
 pub mod LineCases
 pub mod Lines
+pub mod Worked

@@ -10,6 +10,11 @@ use cell_heap::{CellHeap, ColSeat, Image, MutSeat, NoMemory, Passes};
 use cell_words::Field;
 use std::alloc::Global;
 
+/// The kinds of the first rows.
+const RECORD: Field = Field::Num(1);
+
+const BOXED: Field = Field::Num(2);
+
 /// The seat of a mutator that is over, and how much it has added.
 pub(crate) type Done = (MutSeat<Added>, u64);
 
@@ -33,8 +38,8 @@ pub(crate) fn open_four(alloc: Global, cells: u32) -> Result<Opened, NoMemory>
     ensures cells { IfOk result (λ made. made.heap.shape.cells ≡ cells) }
 {
     let null = Field::Null;
-    let anchor = [Field::Cell(1), null, null, null, null, Field::Num(2)];
-    let zero = [Field::Num(0), null, null, null, null, Field::Num(1)];
+    let anchor = [Field::Cell(1), null, null, null, null, BOXED];
+    let zero = [Field::Num(0), null, null, null, null, RECORD];
     let (heap, mut collector) = ColSeat::<Added>::open(alloc, cells, 4, 0, &[anchor, zero])?;
     let first = collector.split(alloc, &heap, 0, 8)?;
     let second = collector.split(alloc, &heap, 1, 8)?;

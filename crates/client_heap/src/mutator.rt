@@ -1,0 +1,359 @@
+//! A mutator of documents is such a seat, with hints of any queue.
+ghost use Rattle.std.specs.Prelude.{◌≡◌, ◌<◌, ◌≤◌, ◌+◌, IfErr, IfOk, OnErr};
+ghost use Rattle.std.specs.Prelude.{OnOk, Err, [], ◌∷◌, length, max, true};
+ghost use Rattle.std.specs.Option.{ForSome, option_map};
+ghost use Rattle.std.specs.Result.{ForOk};
+ghost use Rattle.cell_words.specs.declared.fields.Field.TheVariants as field;
+ghost use Rattle.client_heap.specs.Carries.{Carries, Follows};
+ghost use Rattle.client_heap.specs.Shows.{stored};
+ghost use Rattle.client_heap.specs.Sound.{IsCleared, IsSound};
+ghost use Rattle.client_records.specs.Records.{is_shared};
+ghost use Rattle.client_trees.specs.Leaves.{Leaves, LeavesAll};
+ghost use Rattle.client_trees.specs.Nodes.{IsTreeAt, tree_at};
+ghost use Rattle.doc_edits.specs.Edits.{answered};
+ghost use Rattle.doc_records.specs.Texts.{name_asks, text_asks};
+ghost use Rattle.doc_records.specs.Trees.{IsTreeNode, tree_of};
+ghost use Rattle.doc_tree.specs.Edits.{attach, delete, set_text};
+ghost use Rattle.doc_tree.specs.Tree.{count, names_of, node};
+ghost use Rattle.free_cells.specs.Hints.{queue_of};
+ghost use Rattle.heap_rule.specs.Asks.{target};
+ghost use Rattle.trails.specs.Asks.{Shows, gave};
+ghost use Rattle.trails.specs.Claims.{IsFull};
+ghost use Rattle.trails.specs.Marks.{marks_of};
+ghost use Rattle.trails.specs.Stretches.{Had};
+ghost use Rattle.version_rule.specs.Pass.{commit_numbers, committed};
+ghost use Rattle.version_store.specs.Calls.{Holds, version_asks};
+ghost use Rattle.version_store.specs.Commits.{FindsNewer};
+ghost use Rattle.version_store.specs.Held.{GivesLatest, GivesRoot, IsHeld, root_at};
+ghost use Rattle.version_store.specs.Lasts.{IsSameMutator, LastsAcross, marks};
+ghost use Rattle.version_store.specs.Older.{GivesOlder, Trims};
+
+use crate::seat::StoreSeat;
+use crate::{drafting, places, publishing, walking};
+use client_session::{CommitRefusal, HeapFull, HeldVersion};
+use client_trees::NodeAt;
+use doc_tree::{EditFault, Name, Names, NoMemory, Path, Text};
+use document_versions::Documents;
+use free_cells::Hints;
+use minor_heap::MinorHeap;
+use mutator_seat::Mutator;
+use promotion::Promoter;
+use std::alloc::Global;
+use std::sync::Wait;
+use version_store::Cut;
+
+impl<'h, 'q> StoreSeat<Hints<'q>> for Mutator<'h, Documents> {
+    ghost bound = { λ m. m };
+
+    ghost queue = { queue_of };
+
+    fn current(&mut self) -> version_store::HeldVersion
+        requires inside { self.old.seat.me.presence.inside ≡ true }
+        requires room { length self.old.seat.me.own.held + 128
+            ≤ self.old.seat.me.room }
+        ensures latest { GivesLatest self.old self.new result }
+        ensures seen { self.new.seat.me.pass.seen ≡ result.number }
+        ensures shows { Shows (version_asks (target self.new.seat.me result.place)
+            result.number) (marks self.old) (marks self.new) }
+        ensures lasts { LastsAcross self.old self.new }
+        ensures same { IsSameMutator self.old self.new }
+    {
+        version_store::current(self)
+    }
+
+    fn tree(&mut self, v: version_store::HeldVersion) -> usize
+        requires inside { self.old.seat.me.presence.inside ≡ true }
+        requires room { length self.old.seat.me.own.held + 128
+            ≤ self.old.seat.me.room }
+        requires version { IsHeld self.old v }
+        ensures root { GivesRoot IsTreeNode tree_of self.old self.new v result }
+        ensures lasts { LastsAcross self.old self.new }
+        ensures same { IsSameMutator self.old self.new }
+    {
+        version_store::tree(self, v)
+    }
+
+    fn older(
+        &mut self,
+        v: version_store::HeldVersion,
+        back: u64,
+    ) -> Result<version_store::HeldVersion, Cut>
+        requires inside { self.old.seat.me.presence.inside ≡ true }
+        requires room { length self.old.seat.me.own.held + 128
+            ≤ self.old.seat.me.room }
+        requires version { IsHeld self.old v }
+        requires back { back ≤ v.number }
+        requires kept { back < self.old.seat.me.pass.keep }
+        ensures older { IfOk result (λ older.
+            GivesOlder self.old self.new v back older) }
+        ensures cut { IfErr result (λ cut.
+            FindsNewer self.old self.new v cut.newer) }
+        ensures held { OnErr result (Holds [] self.old self.new) }
+        ensures claims { self.new.seat.me.own.claims ≡ self.old.seat.me.own.claims }
+        ensures lasts { LastsAcross self.old self.new }
+        ensures same { IsSameMutator self.old self.new }
+    {
+        version_store::older(self, v, back)
+    }
+
+    fn trim(&mut self, v: version_store::HeldVersion, keep: u64)
+        requires inside { self.old.seat.me.presence.inside ≡ true }
+        requires room { length self.old.seat.me.own.held + 128
+            ≤ self.old.seat.me.room }
+        requires version { IsHeld self.old v }
+        requires setting { keep ≡ self.old.seat.me.pass.keep }
+        ensures trims { keep ≤ v.number → Trims self.old self.new v keep }
+        ensures nothing { v.number < keep → self.new ≡ self.old }
+        ensures held { Holds [] self.old self.new }
+        ensures lasts { LastsAcross self.old self.new }
+        ensures same { IsSameMutator self.old self.new }
+    {
+        version_store::trim(self, v, keep);
+    }
+
+    fn node_below(&mut self, minor: &mut MinorHeap, at: NodeAt, names: &[Name]) -> Option<NodeAt>
+        requires inside { self.old.seat.me.presence.inside ≡ true }
+        requires node { IsTreeAt self.old minor.old at }
+        requires room { length self.old.seat.me.own.held + (8192 + length names.now)
+            ≤ self.old.seat.me.room }
+        ensures tree { option_map (tree_at self.new minor.new) result
+            ≡ node names.now (tree_at self.old minor.old at) }
+        ensures node { ForSome result (IsTreeAt self.new minor.new) }
+        ensures shared { is_shared at ≡ true → ForSome result (λ a. is_shared a ≡ true) }
+        ensures carries { Carries (length self.old.seat.me.own.held)
+            self.old self.new minor.old minor.new }
+        ensures pass { self.new.seat.me.pass ≡ self.old.seat.me.pass }
+        ensures claims { self.new.seat.me.own.claims ≡ self.old.seat.me.own.claims }
+        ensures minor { minor.new ≡ minor.old }
+        ensures held { length self.new.seat.me.own.held
+            ≤ length self.old.seat.me.own.held + length names.now }
+    {
+        walking::node_below(self, minor, at, names)
+    }
+
+    fn text_of(
+        &mut self,
+        alloc: Global,
+        minor: &mut MinorHeap,
+        at: NodeAt,
+    ) -> Result<Text, NoMemory>
+        requires inside { self.old.seat.me.presence.inside ≡ true }
+        requires node { IsTreeAt self.old minor.old at }
+        requires room { length self.old.seat.me.own.held + 8192
+            ≤ self.old.seat.me.room }
+        ensures text { IfOk result (λ text. text
+            ≡ (tree_at self.old minor.old at).text) }
+        ensures leaves { LeavesAll self.old self.new minor.old minor.new }
+        ensures shows { OnOk result (is_shared at ≡ true
+            → Shows (text_asks (tree_at self.old minor.old at).text)
+            (marks_of self.old.seat.me.trail) (marks_of self.new.seat.me.trail)) }
+    {
+        client_trees::text_of(alloc, self, minor, at)
+    }
+
+    fn names(&mut self, alloc: Global, minor: &mut MinorHeap, at: NodeAt) -> Result<Names, NoMemory>
+        requires inside { self.old.seat.me.presence.inside ≡ true }
+        requires node { IsTreeAt self.old minor.old at }
+        requires room { length self.old.seat.me.own.held + 8192
+            ≤ self.old.seat.me.room }
+        ensures names { IfOk result (λ names. names
+            ≡ names_of (tree_at self.old minor.old at).kids) }
+        ensures leaves { LeavesAll self.old self.new minor.old minor.new }
+        ensures shows { OnOk result (is_shared at ≡ true
+            → Shows (name_asks (names_of (tree_at self.old minor.old at).kids))
+            (marks_of self.old.seat.me.trail) (marks_of self.new.seat.me.trail)) }
+    {
+        client_trees::names(alloc, self, minor, at)
+    }
+
+    fn count(&mut self, minor: &mut MinorHeap, at: NodeAt) -> u64
+        requires inside { self.old.seat.me.presence.inside ≡ true }
+        requires node { IsTreeAt self.old minor.old at }
+        requires room { length self.old.seat.me.own.held + 8192
+            ≤ self.old.seat.me.room }
+        ensures count { result ≡ count (tree_at self.old minor.old at) }
+        ensures leaves { LeavesAll self.old self.new minor.old minor.new }
+        ensures shows { is_shared at ≡ true → Shows (gave (field.Num result) ∷ [])
+            (marks_of self.old.seat.me.trail) (marks_of self.new.seat.me.trail) }
+    {
+        client_trees::count(self, minor, at)
+    }
+
+    fn set_text(
+        &mut self,
+        minor: &mut MinorHeap,
+        root: NodeAt,
+        path: &Path,
+        text: &Text,
+    ) -> Result<NodeAt, EditFault>
+        requires inside { self.old.seat.me.presence.inside ≡ true }
+        requires node { IsTreeAt self.old minor.old root }
+        requires room { length self.old.seat.me.own.held + 8192
+            ≤ self.old.seat.me.room }
+        requires spare { length minor.old.records + 2285 ≤ minor.old.room }
+        ensures tree { answered (tree_at self.new minor.new) result
+            ≡ set_text path.now text.now (tree_at self.old minor.old root) }
+        ensures node { ForOk result (IsTreeAt self.new minor.new) }
+        ensures leaves { Leaves self.old self.new minor.old minor.new }
+        ensures held { length self.new.seat.me.own.held
+            ≤ length self.old.seat.me.own.held + 8192 }
+        ensures refused { OnErr result (length self.new.seat.me.own.held
+            ≡ length self.old.seat.me.own.held) }
+        ensures records { length minor.new.records ≤ length minor.old.records + 509 }
+    {
+        client_trees::set_text(self, minor, root, path, text)
+    }
+
+    fn delete(
+        &mut self,
+        minor: &mut MinorHeap,
+        root: NodeAt,
+        path: &Path,
+    ) -> Result<NodeAt, EditFault>
+        requires inside { self.old.seat.me.presence.inside ≡ true }
+        requires node { IsTreeAt self.old minor.old root }
+        requires room { length self.old.seat.me.own.held + 8192
+            ≤ self.old.seat.me.room }
+        requires spare { length minor.old.records + 2285 ≤ minor.old.room }
+        ensures tree { answered (tree_at self.new minor.new) result
+            ≡ delete path.now (tree_at self.old minor.old root) }
+        ensures node { ForOk result (IsTreeAt self.new minor.new) }
+        ensures leaves { Leaves self.old self.new minor.old minor.new }
+        ensures held { length self.new.seat.me.own.held
+            ≤ length self.old.seat.me.own.held + 8192 }
+        ensures refused { OnErr result (length self.new.seat.me.own.held
+            ≡ length self.old.seat.me.own.held) }
+        ensures records { length minor.new.records ≤ length minor.old.records + 509 }
+    {
+        client_trees::delete(self, minor, root, path)
+    }
+
+    fn attach(
+        &mut self,
+        minor: &mut MinorHeap,
+        root: NodeAt,
+        path: &Path,
+        sub: NodeAt,
+    ) -> Result<NodeAt, EditFault>
+        requires inside { self.old.seat.me.presence.inside ≡ true }
+        requires node { IsTreeAt self.old minor.old root }
+        requires sub { IsTreeAt self.old minor.old sub }
+        requires room { length self.old.seat.me.own.held + 8192
+            ≤ self.old.seat.me.room }
+        requires spare { length minor.old.records + 2285 ≤ minor.old.room }
+        ensures tree { answered (tree_at self.new minor.new) result
+            ≡ attach path.now (tree_at self.old minor.old sub)
+            (tree_at self.old minor.old root) }
+        ensures node { ForOk result (IsTreeAt self.new minor.new) }
+        ensures leaves { Leaves self.old self.new minor.old minor.new }
+        ensures held { length self.new.seat.me.own.held
+            ≤ length self.old.seat.me.own.held + 8192 }
+        ensures refused { OnErr result (length self.new.seat.me.own.held
+            ≡ length self.old.seat.me.own.held) }
+        ensures records { length minor.new.records ≤ length minor.old.records + 509 }
+    {
+        client_trees::attach(self, minor, root, path, sub)
+    }
+
+    fn make_draft(&mut self, minor: &MinorHeap, draft: &mut NodeAt, base: &mut usize, at: NodeAt)
+        requires sound { IsSound self.old minor.now draft.old base.old }
+        requires node { IsTreeAt self.old minor.now at }
+        requires room { length self.old.seat.me.own.held + length minor.now.records + 9100
+            ≤ self.old.seat.me.room }
+        ensures sound { IsSound self.new minor.now draft.new base.new }
+        ensures tree { tree_at self.new minor.now draft.new
+            ≡ tree_at self.old minor.now at }
+        ensures pass { self.new.seat.me.pass ≡ self.old.seat.me.pass }
+        ensures held { length self.new.seat.me.own.held
+            ≤ length self.old.seat.me.own.held }
+        ensures follows { Follows self.old self.new minor.now minor.now }
+    {
+        drafting::make_draft(self, minor, draft, base, at);
+    }
+
+    fn publish<R: Wait>(
+        &mut self,
+        rt: &R,
+        hints: &mut Hints<'q>,
+        minor: &MinorHeap,
+        promoter: &mut Promoter,
+        v: HeldVersion,
+        node: NodeAt,
+        versions: u64,
+    ) -> Result<u64, CommitRefusal>
+        requires inside { self.old.seat.me.presence.inside ≡ true }
+        requires room { length self.old.seat.me.own.held + length minor.now.records + 8192
+            ≤ self.old.seat.me.room }
+        requires copies { minor.now.room ≤ promoter.old }
+        requires version { IsHeld self.old (stored v) }
+        requires node { IsTreeAt self.old minor.now node }
+        requires below { v.number < versions }
+        requires few { length (commit_numbers self.old.seat.me.pass) < 100000 }
+        ensures number { IfOk result (λ number. number ≡ v.number + 1) }
+        ensures pass { OnOk result (self.new.seat.me.pass ≡ committed (v.number + 1)
+            (tree_of (root_at self.old v.place))
+            (tree_at self.old minor.now node) self.old.seat.me.pass) }
+        ensures rose { OnOk result (self.old.seat.me.own.claims
+            < self.new.seat.me.own.claims) }
+        ensures same { OnErr result (commit_numbers self.new.seat.me.pass
+            ≡ commit_numbers self.old.seat.me.pass) }
+        ensures moved { result ≡ Err CommitRefusal.Moved
+            → v.number < self.new.seat.me.pass.seen }
+        ensures full { result ≡ Err CommitRefusal.Full
+            → Had (IsFull self.old.seat.me.shape.cells)
+            (marks self.old) (marks self.new) }
+        ensures carries { Carries (length self.old.seat.me.own.held)
+            self.old self.new minor.now minor.now }
+        ensures held { length self.new.seat.me.own.held
+            ≤ length self.old.seat.me.own.held + 1 }
+        ensures promoter { promoter.new ≡ promoter.old }
+        ensures queue { queue_of hints.new ≡ queue_of hints.old }
+    {
+        publishing::publish(rt, hints, self, minor, promoter, v, node, versions)
+    }
+
+    fn make_room<R: Wait>(
+        &mut self,
+        rt: &R,
+        hints: &mut Hints<'q>,
+        minor: &mut MinorHeap,
+        promoter: &mut Promoter,
+        draft: &mut NodeAt,
+        base: &mut usize,
+    ) -> Result<(), HeapFull>
+        requires sound { IsSound self.old minor.old draft.old base.old }
+        requires copies { minor.old.room ≤ promoter.old }
+        requires ready { length self.old.seat.me.own.held + length minor.old.records + 9000
+            ≤ self.old.seat.me.room }
+        ensures sound { IsSound self.new minor.new draft.new base.new }
+        ensures cleared { OnOk result (IsCleared self.new minor.new) }
+        ensures idle { IsCleared self.old minor.old
+            → (self.new ≡ self.old) × (minor.new ≡ minor.old)
+            × (draft.new ≡ draft.old) × (base.new ≡ base.old) }
+        ensures full { OnErr result (Had (IsFull self.old.seat.me.shape.cells)
+            (marks self.old) (marks self.new)) }
+        ensures kept { length self.new.seat.me.own.held + length minor.new.records
+            ≤ length self.old.seat.me.own.held + length minor.old.records }
+        ensures tree { tree_at self.new minor.new draft.new
+            ≡ tree_at self.old minor.old draft.old }
+        ensures small { base.new ≤ max base.old 2 }
+        ensures follows { Follows self.old self.new minor.old minor.new }
+        ensures pass { self.new.seat.me.pass ≡ self.old.seat.me.pass }
+        ensures promoter { promoter.new ≡ promoter.old }
+        ensures queue { queue_of hints.new ≡ queue_of hints.old }
+    {
+        drafting::make_room(rt, hints, self, minor, promoter, draft, base)
+    }
+
+    fn cut_back(&mut self, minor: &MinorHeap, places: usize)
+        requires inside { self.old.seat.me.presence.inside ≡ true }
+        requires some { 1 ≤ places }
+        requires kept { places ≤ length self.old.seat.me.own.held }
+        ensures carries { Carries places self.old self.new minor.now minor.now }
+        ensures held { length self.new.seat.me.own.held ≡ places }
+        ensures claims { self.new.seat.me.own.claims ≡ self.old.seat.me.own.claims }
+        ensures pass { self.new.seat.me.pass ≡ self.old.seat.me.pass }
+    {
+        places::cut_back(self, minor, places);
+    }
+}
