@@ -1,6 +1,6 @@
-use Rattle.std.proofs.Common.{◌+◌, Some, sym, ◌∙◌, ap, subst, arith}
+use Rattle.std.proofs.Common.{◌≡◌, ◌+◌, ℕ, Some, sym, ◌∙◌, ap, subst, arith}
 use Rattle.core_machine.specs.Collector.{Collector}
-use Rattle.collector.specs.Bound.{scan_at}
+use Rattle.collector.specs.Bound.{part_of, scan_at}
 use Rattle.collector.specs.Counting.{TracesAtMost}
 use Rattle.collector.specs.declared.report.CycleReport.{CycleReport}
 use Rattle.collector.proofs.Counted.{at_most_more}
@@ -23,3 +23,10 @@ loop-field-preserved g c = (
         scan = Some (scan_at c.args.cell (c.loop-field.field + 1));
       }) c.loop-field.invariant.3,
 )
+
+pub returns-clause-part : goal.returns-clause-part
+returns-clause-part g c =
+    let last : c.loop-field.field ≡ 5 =
+    omega (arith, c.loop-field-test.false, c.loop-field.auto.field-end) in
+    c.loop-field.invariant.3
+    ∙ ap (λ (k : ℕ). record (part_of c.args.self.now) { scan = Some (scan_at c.args.cell k) }) last

@@ -1,10 +1,11 @@
-use Rattle.std.proofs.Common.{refl, ◌∙◌, ap}
+use Rattle.std.proofs.Common.{◌≡◌, ℕ, refl, ◌∙◌, ap, arith}
 use Rattle.std.proofs.lemmas.Bool.{lt-ltb}
 use Rattle.core_machine.specs.Collector.{Collector, wiped}
 use Rattle.core_machine.specs.Sweep.{may_wipe}
 use Rattle.core_machine.specs.declared.events.Event.TheVariants as event
 use Rattle.core_machine.specs.declared.events.Found.TheVariants as finds
 use Rattle.core_machine.specs.declared.progress.Sweeping.{Sweeping}
+use Rattle.core_machine.specs.declared.progress.Sweeping.TheVariants as sweeping
 use Rattle.collector.specs.Bound.{Bound, control_of, part_of}
 use Rattle.collector.specs.Counting.{nothing}
 use Rattle.collector.proofs.Joining.{does_and, does_none, does_still}
@@ -34,3 +35,10 @@ loop-field-preserved g c = (
   ap (λ (x : Bound _). part_of x) c.wipe_once.ensures.told
       ∙ ap (λ (p : Collector). record p { sweep = wiped p.sweep }) c.loop-field.invariant.2,
 )
+
+pub returns-clause-part : goal.returns-clause-part
+returns-clause-part g c =
+    let last : c.loop-field._field ≡ 6 =
+    omega (arith, c.loop-field-test.false, c.loop-field.auto._field-end) in
+    c.loop-field.invariant.2
+    ∙ ap (λ (k : ℕ). record (part_of c.args.self.now) { sweep = sweeping.Wiping k }) last
