@@ -1,12 +1,17 @@
-use Rattle.std.proofs.Common.{ℕ, Result, OnOk, IfErr, OnErr, length, map}
-use Rattle.std.proofs.Common.{refl, sym, subst, arith}
-use Rattle.std.specs.Prelude.{slice_index_or}
+use Rattle.std.proofs.Common.{◌≡◌, ◌∙◌, ℕ, [], Result, OnOk, IfErr, OnErr, length, map}
+use Rattle.std.proofs.Common.{refl, sym, ap, subst, arith}
+use Rattle.std.specs.Prelude.{IfOk, slice_index_or}
+use Rattle.std.proofs.lemmas.List.{length-map}
+use Rattle.minor_heap.specs.Nursery.{Nursery}
+use Rattle.minor_heap.specs.declared.fields.MinorRef.{MinorRef}
 use Rattle.mutator_seat.specs.declared.full.HeapFull.{HeapFull}
 use Rattle.heap_rule.specs.Lore.{known_at}
 use Rattle.mutator_seat.specs.Bound.{Bound, held_cells}
 use Rattle.promotion.specs.Linking.{KeepsCopies, LinksNothing}
 use Rattle.promotion.specs.Promoting.{Adds, Collected, Refused}
-use Rattle.promotion.proofs.Finishing.{collected_as, collected_links, refused_as, refused_links}
+use Rattle.promotion.specs.declared.promoter.Promoter.TheInside.{Inside}
+use Rattle.promotion.proofs.Finishing.{collected_as, collected_links, may_collect, refused_as}
+use Rattle.promotion.proofs.Finishing.{refused_links}
 use Rattle.promotion.proofs.promoter.Promoter.collect.Goals as goal
 use Rattle.promotion.proofs.promoter.Promoter.collect.Goals.{in-Ok, in-Err}
 
@@ -89,3 +94,73 @@ returns-clause-copies g c =
           subst (λ (x : Result ℕ HeapFull). OnOk x (Adds F a c.match-copy_reached.m))
           (sym w.result-is) tt
     ]
+
+pub keep-requires : goal.keep-requires
+keep-requires g c =
+    let b = c.copy_reached.new.m in
+    let roots = c.args.roots.now in
+    let places = c.copy_reached.new.places in
+    record {
+      may = may_collect c.args.m.now b c.hold_roots.new.m c.in-Ok.ensures.grown
+          (map (λ r. slice_index_or (held_cells b) (slice_index_or places r.number 0) 0) roots)
+          (map (λ r. known_at b.seat.me.known (slice_index_or places r.number 0)) roots)
+          c.hold_roots.ensures.appended c.args.base c.held_len-first.result (length roots)
+          (length c.args.minor.now.records) c.requires.inside c.requires.some c.requires.base
+          c.held_len-first.ensures.len (sym (length-map roots (λ (r : MinorRef).
+          slice_index_or (held_cells b) (slice_index_or places r.number 0) 0))) c.requires.room;
+    }
+
+pub returns-clause-emptied : goal.returns-clause-emptied
+returns-clause-emptied g c =
+    elim c.match-copy_reached.branch [
+      | in-Ok w ↦
+          subst (λ (x : Result ℕ HeapFull). OnOk x (c.match-copy_reached.minor.records ≡ []))
+          (sym w.result-is)
+          (ap (λ (n : Nursery). n.records) w.minor-is ∙ w.clear.ensures.records)
+      | in-Err w ↦
+          subst (λ (x : Result ℕ HeapFull). OnOk x (c.match-copy_reached.minor.records ≡ []))
+          (sym w.result-is) tt
+    ]
+
+pub returns-clause-base : goal.returns-clause-base
+returns-clause-base g c =
+    elim c.match-copy_reached.branch [
+      | in-Ok w ↦
+          subst (λ (x : Result ℕ HeapFull). IfOk x (λ first. first ≡ c.args.base))
+          (sym w.result-is) refl
+      | in-Err w ↦
+          subst (λ (x : Result ℕ HeapFull). IfOk x (λ first. first ≡ c.args.base))
+          (sym w.result-is) tt
+    ]
+
+pub returns-clause-unchanged : goal.returns-clause-unchanged
+returns-clause-unchanged g c =
+    let was = c.args.minor.now.records in
+    elim c.match-copy_reached.branch [
+      | in-Ok w ↦
+          subst (λ (x : Result ℕ HeapFull). OnErr x (c.match-copy_reached.minor.records ≡ was))
+          (sym w.result-is) tt
+      | in-Err w ↦
+          subst (λ (x : Result ℕ HeapFull). OnErr x (c.match-copy_reached.minor.records ≡ was))
+          (sym w.result-is) (ap (λ (n : Nursery). n.records) w.minor-is)
+    ]
+
+pub returns-clause-minor_room : goal.returns-clause-minor_room
+returns-clause-minor_room g c =
+    elim c.match-copy_reached.branch [
+      | in-Ok w ↦ ap (λ (n : Nursery). n.room) w.minor-is ∙ w.clear.ensures.room
+      | in-Err w ↦ ap (λ (n : Nursery). n.room) w.minor-is
+    ]
+
+pub returns-clause-room : goal.returns-clause-room
+returns-clause-room g c =
+    elim c.match-copy_reached.branch [
+      | in-Ok w ↦ ap (λ (s : Inside). s.room) w.self-inside-is ∙ c.self.view_is
+      | in-Err w ↦ ap (λ (s : Inside). s.room) w.self-inside-is ∙ c.self.view_is
+    ]
+
+pub returns-clause-queue : goal.returns-clause-queue
+returns-clause-queue g c = c.copy_reached.ensures.queue
+
+pub returns-clause-takes : goal.returns-clause-takes
+returns-clause-takes g c = c.copy_reached.ensures.takes
