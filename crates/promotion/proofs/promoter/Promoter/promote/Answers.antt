@@ -1,11 +1,12 @@
-use Rattle.std.proofs.Common.{ℕ, Result, OnOk, IfErr, OnErr, length}
+use Rattle.std.proofs.Common.{◌≡◌, ◌∙◌, ℕ, Result, OnOk, IfErr, OnErr, length}
 use Rattle.std.proofs.Common.{sym, ap, subst, arith}
-use Rattle.std.specs.Prelude.{slice_index_or}
+use Rattle.std.specs.Prelude.{IfOk, slice_index_or}
 use Rattle.heap_rule.specs.Facts.{is_term}
 use Rattle.mutator_seat.specs.declared.full.HeapFull.{HeapFull}
 use Rattle.mutator_seat.specs.Bound.{Bound}
 use Rattle.promotion.specs.Linking.{KeepsCopies, LinksNothing}
 use Rattle.promotion.specs.Promoting.{Adds, Promoted, Refused}
+use Rattle.promotion.specs.declared.promoter.Promoter.TheInside.{Inside}
 use Rattle.promotion.proofs.Finishing.{may_promote, promoted_as, promoted_links, refused_as}
 use Rattle.promotion.proofs.Finishing.{refused_links}
 use Rattle.promotion.proofs.promoter.Promoter.promote.Goals as goal
@@ -101,3 +102,27 @@ returns-clause-copies g c =
           subst (λ (x : Result ℕ HeapFull). OnOk x (Adds F a c.match-copy_reached.m))
           (sym w.result-is) tt
     ]
+
+pub returns-clause-place : goal.returns-clause-place
+returns-clause-place g c =
+    let held = length c.args.m.now.seat.me.own.held in
+    elim c.match-copy_reached.branch [
+      | in-Ok w ↦
+          subst (λ (x : Result ℕ HeapFull). IfOk x (λ place. place ≡ held)) (sym w.result-is)
+          c.held_len-held.ensures.len
+      | in-Err w ↦
+          subst (λ (x : Result ℕ HeapFull). IfOk x (λ place. place ≡ held)) (sym w.result-is) tt
+    ]
+
+pub returns-clause-room : goal.returns-clause-room
+returns-clause-room g c =
+    elim c.match-copy_reached.branch [
+      | in-Ok w ↦ ap (λ (s : Inside). s.room) w.self-inside-is ∙ c.self.view_is
+      | in-Err w ↦ ap (λ (s : Inside). s.room) w.self-inside-is ∙ c.self.view_is
+    ]
+
+pub returns-clause-queue : goal.returns-clause-queue
+returns-clause-queue g c = c.copy_reached.ensures.queue
+
+pub returns-clause-takes : goal.returns-clause-takes
+returns-clause-takes g c = c.copy_reached.ensures.takes
