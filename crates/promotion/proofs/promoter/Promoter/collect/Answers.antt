@@ -1,8 +1,7 @@
-use Rattle.std.proofs.Common.{◌≡◌, ◌∙◌, ℕ, [], Result, OnOk, IfErr, OnErr, length, map}
+use Rattle.std.proofs.Common.{◌≡◌, ◌∙◌, ℕ, Result, OnOk, IfErr, OnErr, length, map}
 use Rattle.std.proofs.Common.{refl, sym, ap, subst, arith}
 use Rattle.std.specs.Prelude.{IfOk, slice_index_or}
 use Rattle.std.proofs.lemmas.List.{length-map}
-use Rattle.minor_heap.specs.Nursery.{Nursery}
 use Rattle.minor_heap.specs.declared.fields.MinorRef.{MinorRef}
 use Rattle.mutator_seat.specs.declared.full.HeapFull.{HeapFull}
 use Rattle.heap_rule.specs.Lore.{known_at}
@@ -110,18 +109,6 @@ keep-requires g c =
           slice_index_or (held_cells b) (slice_index_or places r.number 0) 0))) c.requires.room;
     }
 
-pub returns-clause-emptied : goal.returns-clause-emptied
-returns-clause-emptied g c =
-    elim c.match-copy_reached.branch [
-      | in-Ok w ↦
-          subst (λ (x : Result ℕ HeapFull). OnOk x (c.match-copy_reached.minor.records ≡ []))
-          (sym w.result-is)
-          (ap (λ (n : Nursery). n.records) w.minor-is ∙ w.clear.ensures.records)
-      | in-Err w ↦
-          subst (λ (x : Result ℕ HeapFull). OnOk x (c.match-copy_reached.minor.records ≡ []))
-          (sym w.result-is) tt
-    ]
-
 pub returns-clause-base : goal.returns-clause-base
 returns-clause-base g c =
     elim c.match-copy_reached.branch [
@@ -131,25 +118,6 @@ returns-clause-base g c =
       | in-Err w ↦
           subst (λ (x : Result ℕ HeapFull). IfOk x (λ first. first ≡ c.args.base))
           (sym w.result-is) tt
-    ]
-
-pub returns-clause-unchanged : goal.returns-clause-unchanged
-returns-clause-unchanged g c =
-    let was = c.args.minor.now.records in
-    elim c.match-copy_reached.branch [
-      | in-Ok w ↦
-          subst (λ (x : Result ℕ HeapFull). OnErr x (c.match-copy_reached.minor.records ≡ was))
-          (sym w.result-is) tt
-      | in-Err w ↦
-          subst (λ (x : Result ℕ HeapFull). OnErr x (c.match-copy_reached.minor.records ≡ was))
-          (sym w.result-is) (ap (λ (n : Nursery). n.records) w.minor-is)
-    ]
-
-pub returns-clause-minor_room : goal.returns-clause-minor_room
-returns-clause-minor_room g c =
-    elim c.match-copy_reached.branch [
-      | in-Ok w ↦ ap (λ (n : Nursery). n.room) w.minor-is ∙ w.clear.ensures.room
-      | in-Err w ↦ ap (λ (n : Nursery). n.room) w.minor-is
     ]
 
 pub returns-clause-room : goal.returns-clause-room
