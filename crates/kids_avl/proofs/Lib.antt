@@ -1,3 +1,4 @@
+pub mod Descents
 pub mod Ends
 pub mod Heights
 pub mod Lists

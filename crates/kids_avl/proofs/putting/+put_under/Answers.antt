@@ -2,6 +2,8 @@ use Rattle.std.proofs.Common.{◌≡◌, ◌≤◌, ap, sym, ◌∙◌, arith}
 use Rattle.doc_tree.specs.Tree.{name_cmp, IsRising}
 use Rattle.kids_avl.specs.Entries.{entry, kids_of, height_of, name_of}
 use Rattle.kids_avl.specs.Pool.{under}
+use Rattle.kids_avl.proofs.Descents.{even_parts, later_then, low_left, low_right, put_left_ready}
+use Rattle.kids_avl.proofs.Descents.{put_right_ready, rising_left_of, rising_right_of}
 use Rattle.kids_avl.proofs.Heights.{entry_high}
 use Rattle.kids_avl.proofs.Steps.{put_equal_done, put_left_done, put_right_done, rising_other}
 use Rattle.kids_avl.proofs.putting.+put_under.Goals as goal
@@ -94,3 +96,364 @@ returns-in-Equal-clause-put g t c =
     (later_read.child_same c.args.child (later_order.child_still c.args.child c.requires.child)
     ∙ later_order.child_same c.args.child c.requires.child)
     (ap name_of (later_read.same c.in-Some.at stands_order)) c.make_like.ensures.entry
+
+pub order-order-requires-clause-stands : goal.order-order-requires-clause-stands
+order-order-requires-clause-stands g t c =
+    rw c.in-Some.is at c.requires.stands
+
+pub read_entry-entry-requires-clause-stands : goal.read_entry-entry-requires-clause-stands
+read_entry-entry-requires-clause-stands g t c =
+    let stands = rw c.in-Some.is at c.requires.stands in
+    let later_order = c.order-order.ensures.later in
+    later_order.still c.in-Some.at stands
+
+pub joined-requires-clause-like : goal.joined-requires-clause-like
+joined-requires-clause-like g t c =
+    let stands = rw c.in-Some.is at c.requires.stands in
+    let later_order = c.order-order.ensures.later in
+    let later_read = c.read_entry-entry.ensures.later in
+    let later_call = c.put_under-new.ensures.later in
+    let stands_order = later_order.still c.in-Some.at stands in
+    let stands_read = later_read.still c.in-Some.at stands_order in
+    later_call.still c.in-Some.at stands_read
+
+pub joined-requires-clause-child : goal.joined-requires-clause-child
+joined-requires-clause-child g t c =
+    let later_call = c.put_under-new.ensures.later in
+    later_call.child_still c.read_entry-entry.result.child c.read_entry-entry.ensures.child
+
+pub joined-requires-clause-left : goal.joined-requires-clause-left
+joined-requires-clause-left g t c =
+    c.put_under-new.ensures.stands
+
+pub joined-requires-clause-right : goal.joined-requires-clause-right
+joined-requires-clause-right g t c =
+    let later_call = c.put_under-new.ensures.later in
+    later_call.still_under c.read_entry-entry.result.right c.read_entry-entry.ensures.right
+
+pub joined-requires-clause-nearly : goal.joined-requires-clause-nearly
+joined-requires-clause-nearly g t c =
+    let stands = rw c.in-Some.is at c.requires.stands in
+    let later_order = c.order-order.ensures.later in
+    let later_read = c.read_entry-entry.ensures.later in
+    let later_call = c.put_under-new.ensures.later in
+    let stands_order = later_order.still c.in-Some.at stands in
+    let stands_read = later_read.still c.in-Some.at stands_order in
+    let whole =
+    ap (under g.K.KidPool.entries c.args.pool.now) c.in-Some.is
+    ∙ sym (later_order.same c.in-Some.at stands) ∙ c.read_entry-entry.ensures.entry in
+    put_left_ready _ _ _ _ _ _ _ _ _ _ _
+    whole c.requires.balanced c.requires.rising
+    (ap (λ e. name_cmp c.args.name.now (name_of e)) (later_order.same c.in-Some.at stands)
+    ∙ sym c.order-order.ensures.order ∙ c.in-Less.is)
+    c.put_under-new.ensures.put
+    (ap name_of (later_call.same c.in-Some.at stands_read
+    ∙ later_read.same c.in-Some.at stands_order))
+    (later_call.child_same c.read_entry-entry.result.child c.read_entry-entry.ensures.child)
+    (later_call.same_under c.read_entry-entry.result.right c.read_entry-entry.ensures.right)
+
+pub joined-requires-clause-places : goal.joined-requires-clause-places
+joined-requires-clause-places g t c =
+    let stands = rw c.in-Some.is at c.requires.stands in
+    let later_order = c.order-order.ensures.later in
+    let whole =
+    ap (under g.K.KidPool.entries c.args.pool.now) c.in-Some.is
+    ∙ sym (later_order.same c.in-Some.at stands) ∙ c.read_entry-entry.ensures.entry in
+    let low = low_left _ _ _ _ _ whole in
+    omega (
+      arith,
+      low,
+      c.requires.places,
+      c.order-order.ensures.places,
+      c.read_entry-entry.ensures.places,
+      c.put_under-new.ensures.places,
+    )
+
+pub joined-requires-clause-records : goal.joined-requires-clause-records
+joined-requires-clause-records g t c =
+    let stands = rw c.in-Some.is at c.requires.stands in
+    let later_order = c.order-order.ensures.later in
+    let whole =
+    ap (under g.K.KidPool.entries c.args.pool.now) c.in-Some.is
+    ∙ sym (later_order.same c.in-Some.at stands) ∙ c.read_entry-entry.ensures.entry in
+    let low = low_left _ _ _ _ _ whole in
+    omega (
+      arith,
+      low,
+      c.requires.records,
+      c.order-order.ensures.records,
+      c.read_entry-entry.ensures.records,
+      c.put_under-new.ensures.records,
+    )
+
+pub returns-in-Less-clause-stands : goal.returns-in-Less-clause-stands
+returns-in-Less-clause-stands g t c =
+    c.joined.ensures.stands
+
+pub returns-in-Less-clause-later : goal.returns-in-Less-clause-later
+returns-in-Less-clause-later g t c =
+    later_then (later_then c.order-order.ensures.later c.read_entry-entry.ensures.later)
+    (later_then c.put_under-new.ensures.later c.joined.ensures.later)
+
+pub returns-in-Less-clause-places : goal.returns-in-Less-clause-places
+returns-in-Less-clause-places g t c =
+    let stands = rw c.in-Some.is at c.requires.stands in
+    let later_order = c.order-order.ensures.later in
+    let whole =
+    ap (under g.K.KidPool.entries c.args.pool.now) c.in-Some.is
+    ∙ sym (later_order.same c.in-Some.at stands) ∙ c.read_entry-entry.ensures.entry in
+    let low = low_left _ _ _ _ _ whole in
+    omega (
+      arith,
+      low,
+      c.order-order.ensures.places,
+      c.read_entry-entry.ensures.places,
+      c.put_under-new.ensures.places,
+      c.joined.ensures.places,
+    )
+
+pub returns-in-Less-clause-records : goal.returns-in-Less-clause-records
+returns-in-Less-clause-records g t c =
+    let stands = rw c.in-Some.is at c.requires.stands in
+    let later_order = c.order-order.ensures.later in
+    let whole =
+    ap (under g.K.KidPool.entries c.args.pool.now) c.in-Some.is
+    ∙ sym (later_order.same c.in-Some.at stands) ∙ c.read_entry-entry.ensures.entry in
+    let low = low_left _ _ _ _ _ whole in
+    omega (
+      arith,
+      low,
+      c.order-order.ensures.records,
+      c.read_entry-entry.ensures.records,
+      c.put_under-new.ensures.records,
+      c.joined.ensures.records,
+    )
+
+pub returns-in-Less-clause-made : goal.returns-in-Less-clause-made
+returns-in-Less-clause-made g t c =
+    let stands = rw c.in-Some.is at c.requires.stands in
+    let later_order = c.order-order.ensures.later in
+    let whole =
+    ap (under g.K.KidPool.entries c.args.pool.now) c.in-Some.is
+    ∙ sym (later_order.same c.in-Some.at stands) ∙ c.read_entry-entry.ensures.entry in
+    let low = low_left _ _ _ _ _ whole in
+    omega (
+      arith,
+      low,
+      c.order-order.ensures.made,
+      c.read_entry-entry.ensures.made,
+      c.put_under-new.ensures.made,
+      c.joined.ensures.made,
+    )
+
+pub joined-requires-in-Greater-clause-like : goal.joined-requires-in-Greater-clause-like
+joined-requires-in-Greater-clause-like g t c =
+    let stands = rw c.in-Some.is at c.requires.stands in
+    let later_order = c.order-order.ensures.later in
+    let later_read = c.read_entry-entry.ensures.later in
+    let later_call = c.put_under-new-in-Greater.ensures.later in
+    let stands_order = later_order.still c.in-Some.at stands in
+    let stands_read = later_read.still c.in-Some.at stands_order in
+    later_call.still c.in-Some.at stands_read
+
+pub joined-requires-in-Greater-clause-child : goal.joined-requires-in-Greater-clause-child
+joined-requires-in-Greater-clause-child g t c =
+    let later_call = c.put_under-new-in-Greater.ensures.later in
+    later_call.child_still c.read_entry-entry.result.child c.read_entry-entry.ensures.child
+
+pub joined-requires-in-Greater-clause-right : goal.joined-requires-in-Greater-clause-right
+joined-requires-in-Greater-clause-right g t c =
+    c.put_under-new-in-Greater.ensures.stands
+
+pub joined-requires-in-Greater-clause-left : goal.joined-requires-in-Greater-clause-left
+joined-requires-in-Greater-clause-left g t c =
+    let later_call = c.put_under-new-in-Greater.ensures.later in
+    later_call.still_under c.read_entry-entry.result.left c.read_entry-entry.ensures.left
+
+pub joined-requires-in-Greater-clause-nearly : goal.joined-requires-in-Greater-clause-nearly
+joined-requires-in-Greater-clause-nearly g t c =
+    let stands = rw c.in-Some.is at c.requires.stands in
+    let later_order = c.order-order.ensures.later in
+    let later_read = c.read_entry-entry.ensures.later in
+    let later_call = c.put_under-new-in-Greater.ensures.later in
+    let stands_order = later_order.still c.in-Some.at stands in
+    let stands_read = later_read.still c.in-Some.at stands_order in
+    let whole =
+    ap (under g.K.KidPool.entries c.args.pool.now) c.in-Some.is
+    ∙ sym (later_order.same c.in-Some.at stands) ∙ c.read_entry-entry.ensures.entry in
+    put_right_ready _ _ _ _ _ _ _ _ _ _ _
+    whole c.requires.balanced c.requires.rising
+    (ap (λ e. name_cmp c.args.name.now (name_of e)) (later_order.same c.in-Some.at stands)
+    ∙ sym c.order-order.ensures.order ∙ c.in-Greater.is)
+    c.put_under-new-in-Greater.ensures.put
+    (ap name_of (later_call.same c.in-Some.at stands_read
+    ∙ later_read.same c.in-Some.at stands_order))
+    (later_call.child_same c.read_entry-entry.result.child c.read_entry-entry.ensures.child)
+    (later_call.same_under c.read_entry-entry.result.left c.read_entry-entry.ensures.left)
+
+pub joined-requires-in-Greater-clause-places : goal.joined-requires-in-Greater-clause-places
+joined-requires-in-Greater-clause-places g t c =
+    let stands = rw c.in-Some.is at c.requires.stands in
+    let later_order = c.order-order.ensures.later in
+    let whole =
+    ap (under g.K.KidPool.entries c.args.pool.now) c.in-Some.is
+    ∙ sym (later_order.same c.in-Some.at stands) ∙ c.read_entry-entry.ensures.entry in
+    let low = low_right _ _ _ _ _ whole in
+    omega (
+      arith,
+      low,
+      c.requires.places,
+      c.order-order.ensures.places,
+      c.read_entry-entry.ensures.places,
+      c.put_under-new-in-Greater.ensures.places,
+    )
+
+pub joined-requires-in-Greater-clause-records : goal.joined-requires-in-Greater-clause-records
+joined-requires-in-Greater-clause-records g t c =
+    let stands = rw c.in-Some.is at c.requires.stands in
+    let later_order = c.order-order.ensures.later in
+    let whole =
+    ap (under g.K.KidPool.entries c.args.pool.now) c.in-Some.is
+    ∙ sym (later_order.same c.in-Some.at stands) ∙ c.read_entry-entry.ensures.entry in
+    let low = low_right _ _ _ _ _ whole in
+    omega (
+      arith,
+      low,
+      c.requires.records,
+      c.order-order.ensures.records,
+      c.read_entry-entry.ensures.records,
+      c.put_under-new-in-Greater.ensures.records,
+    )
+
+pub returns-in-Greater-clause-stands : goal.returns-in-Greater-clause-stands
+returns-in-Greater-clause-stands g t c =
+    c.joined-in-Greater.ensures.stands
+
+pub returns-in-Greater-clause-later : goal.returns-in-Greater-clause-later
+returns-in-Greater-clause-later g t c =
+    later_then (later_then c.order-order.ensures.later c.read_entry-entry.ensures.later)
+    (later_then c.put_under-new-in-Greater.ensures.later c.joined-in-Greater.ensures.later)
+
+pub returns-in-Greater-clause-places : goal.returns-in-Greater-clause-places
+returns-in-Greater-clause-places g t c =
+    let stands = rw c.in-Some.is at c.requires.stands in
+    let later_order = c.order-order.ensures.later in
+    let whole =
+    ap (under g.K.KidPool.entries c.args.pool.now) c.in-Some.is
+    ∙ sym (later_order.same c.in-Some.at stands) ∙ c.read_entry-entry.ensures.entry in
+    let low = low_right _ _ _ _ _ whole in
+    omega (
+      arith,
+      low,
+      c.order-order.ensures.places,
+      c.read_entry-entry.ensures.places,
+      c.put_under-new-in-Greater.ensures.places,
+      c.joined-in-Greater.ensures.places,
+    )
+
+pub returns-in-Greater-clause-records : goal.returns-in-Greater-clause-records
+returns-in-Greater-clause-records g t c =
+    let stands = rw c.in-Some.is at c.requires.stands in
+    let later_order = c.order-order.ensures.later in
+    let whole =
+    ap (under g.K.KidPool.entries c.args.pool.now) c.in-Some.is
+    ∙ sym (later_order.same c.in-Some.at stands) ∙ c.read_entry-entry.ensures.entry in
+    let low = low_right _ _ _ _ _ whole in
+    omega (
+      arith,
+      low,
+      c.order-order.ensures.records,
+      c.read_entry-entry.ensures.records,
+      c.put_under-new-in-Greater.ensures.records,
+      c.joined-in-Greater.ensures.records,
+    )
+
+pub returns-in-Greater-clause-made : goal.returns-in-Greater-clause-made
+returns-in-Greater-clause-made g t c =
+    let stands = rw c.in-Some.is at c.requires.stands in
+    let later_order = c.order-order.ensures.later in
+    let whole =
+    ap (under g.K.KidPool.entries c.args.pool.now) c.in-Some.is
+    ∙ sym (later_order.same c.in-Some.at stands) ∙ c.read_entry-entry.ensures.entry in
+    let low = low_right _ _ _ _ _ whole in
+    omega (
+      arith,
+      low,
+      c.order-order.ensures.made,
+      c.read_entry-entry.ensures.made,
+      c.put_under-new-in-Greater.ensures.made,
+      c.joined-in-Greater.ensures.made,
+    )
+
+pub make_like-requires-clause-like : goal.make_like-requires-clause-like
+make_like-requires-clause-like g t c =
+    let stands = rw c.in-Some.is at c.requires.stands in
+    let later_order = c.order-order.ensures.later in
+    let later_read = c.read_entry-entry.ensures.later in
+    let stands_order = later_order.still c.in-Some.at stands in
+    later_read.still c.in-Some.at stands_order
+
+pub make_like-requires-clause-child : goal.make_like-requires-clause-child
+make_like-requires-clause-child g t c =
+    let later_order = c.order-order.ensures.later in
+    let later_read = c.read_entry-entry.ensures.later in
+    later_read.child_still c.args.child
+    (later_order.child_still c.args.child c.requires.child)
+
+pub make_like-requires-clause-left : goal.make_like-requires-clause-left
+make_like-requires-clause-left g t c =
+    c.read_entry-entry.ensures.left
+
+pub make_like-requires-clause-right : goal.make_like-requires-clause-right
+make_like-requires-clause-right g t c =
+    c.read_entry-entry.ensures.right
+
+pub make_like-requires-clause-balanced : goal.make_like-requires-clause-balanced
+make_like-requires-clause-balanced g t c =
+    let stands = rw c.in-Some.is at c.requires.stands in
+    let later_order = c.order-order.ensures.later in
+    let whole =
+    ap (under g.K.KidPool.entries c.args.pool.now) c.in-Some.is
+    ∙ sym (later_order.same c.in-Some.at stands) ∙ c.read_entry-entry.ensures.entry in
+    even_parts _ _ _ _ _ whole c.requires.balanced
+
+pub make_like-requires-clause-places : goal.make_like-requires-clause-places
+make_like-requires-clause-places g t c =
+    let stands = rw c.in-Some.is at c.requires.stands in
+    let later_order = c.order-order.ensures.later in
+    let whole =
+    ap (under g.K.KidPool.entries c.args.pool.now) c.in-Some.is
+    ∙ sym (later_order.same c.in-Some.at stands) ∙ c.read_entry-entry.ensures.entry in
+    let low = low_left _ _ _ _ _ whole in
+    omega (arith, low, c.requires.places, c.order-order.ensures.places, c.read_entry-entry.ensures.places)
+
+pub make_like-requires-clause-records : goal.make_like-requires-clause-records
+make_like-requires-clause-records g t c =
+    omega (arith, c.requires.records, c.order-order.ensures.records, c.read_entry-entry.ensures.records)
+
+pub returns-in-Equal-clause-stands : goal.returns-in-Equal-clause-stands
+returns-in-Equal-clause-stands g t c =
+    c.make_like.ensures.stands
+
+pub returns-in-Equal-clause-later : goal.returns-in-Equal-clause-later
+returns-in-Equal-clause-later g t c =
+    later_then (later_then c.order-order.ensures.later c.read_entry-entry.ensures.later)
+    c.make_like.ensures.later
+
+pub returns-in-Equal-clause-places : goal.returns-in-Equal-clause-places
+returns-in-Equal-clause-places g t c =
+    let stands = rw c.in-Some.is at c.requires.stands in
+    let later_order = c.order-order.ensures.later in
+    let whole =
+    ap (under g.K.KidPool.entries c.args.pool.now) c.in-Some.is
+    ∙ sym (later_order.same c.in-Some.at stands) ∙ c.read_entry-entry.ensures.entry in
+    let low = low_left _ _ _ _ _ whole in
+    omega (arith, low, c.order-order.ensures.places, c.read_entry-entry.ensures.places, c.make_like.ensures.places)
+
+pub returns-in-Equal-clause-records : goal.returns-in-Equal-clause-records
+returns-in-Equal-clause-records g t c =
+    omega (arith, c.order-order.ensures.records, c.read_entry-entry.ensures.records, c.make_like.ensures.records)
+
+pub returns-in-Equal-clause-made : goal.returns-in-Equal-clause-made
+returns-in-Equal-clause-made g t c =
+    omega (arith, c.order-order.ensures.made, c.read_entry-entry.ensures.made, c.make_like.ensures.made)

@@ -1,8 +1,10 @@
-use Rattle.std.proofs.Common.{◌≤◌, ap, sym, arith}
+use Rattle.std.proofs.Common.{◌≡◌, ◌+◌, ◌≤◌, ◌∙◌, ap, sym, arith}
 use Rattle.doc_tree.specs.Tree.{kid_count}
-use Rattle.kids_avl.specs.Entries.{kids_of}
+use Rattle.kids_avl.specs.Entries.{Entries, kids_of, left_of, right_of}
 use Rattle.kids_avl.specs.Pool.{under}
+use Rattle.kids_avl.proofs.Descents.{later_then}
 use Rattle.kids_avl.proofs.Heights.{entry_counts}
+use Rattle.kids_avl.proofs.Lists.{count_entry}
 use Rattle.kids_avl.proofs.reading.+count_under.Goals as goal
 
 pub left-left-requires-clause-places : goal.left-left-requires-clause-places
@@ -17,3 +19,64 @@ pub returns-in_default-clause-count : goal.returns-in_default-clause-count
 returns-in_default-clause-count g t c =
     sym (ap (λ o. kid_count (kids_of (under g.K.KidPool.entries c.args.pool.now o)))
     c.in_default.is)
+
+pub left-left-requires-clause-stands : goal.left-left-requires-clause-stands
+left-left-requires-clause-stands g t c =
+    rw c.in-Some.is at c.requires.stands
+
+pub right-right-requires-clause-stands : goal.right-right-requires-clause-stands
+right-right-requires-clause-stands g t c =
+    let stands = rw c.in-Some.is at c.requires.stands in
+    c.count_under-before.ensures.later.still c.in-Some.at (c.left-left.ensures.later.still c.in-Some.at stands)
+
+pub right-right-requires-clause-places : goal.right-right-requires-clause-places
+right-right-requires-clause-places g t c =
+    let stands = rw c.in-Some.is at c.requires.stands in
+    let at = g.K.KidPool.entries c.args.pool.now c.in-Some.at in
+    let is = g.met.K.KidPool.is_entry c.args.pool.now c.in-Some.at stands in
+    let all : kid_count (kids_of (under g.K.KidPool.entries c.args.pool.now c.args.top))
+    ≡ kid_count (kids_of (left_of at)) + 1 + kid_count (kids_of (right_of at)) =
+    rw c.in-Some.is (count_entry at is) in
+    let left = ap (λ (e : Entries). kid_count (kids_of e)) c.left-left.ensures.left in
+    omega (arith, all, left, c.requires.places, c.left-left.ensures.places, c.count_under-before.ensures.places)
+
+pub returns-clause-count : goal.returns-clause-count
+returns-clause-count g t c =
+    let stands = rw c.in-Some.is at c.requires.stands in
+    let at = g.K.KidPool.entries c.args.pool.now c.in-Some.at in
+    let is = g.met.K.KidPool.is_entry c.args.pool.now c.in-Some.at stands in
+    let all : kid_count (kids_of (under g.K.KidPool.entries c.args.pool.now c.args.top))
+    ≡ kid_count (kids_of (left_of at)) + 1 + kid_count (kids_of (right_of at)) =
+    rw c.in-Some.is (count_entry at is) in
+    let left = ap (λ (e : Entries). kid_count (kids_of e)) c.left-left.ensures.left in
+    let right = ap (λ (e : Entries). kid_count (kids_of e)) (c.right-right.ensures.right
+    ∙ ap right_of (c.count_under-before.ensures.later.same c.in-Some.at (c.left-left.ensures.later.still c.in-Some.at stands)
+    ∙ c.left-left.ensures.later.same c.in-Some.at stands)) in
+    omega (arith, all, left, right, c.count_under-before.ensures.count, c.count_under-after.ensures.count)
+
+pub returns-clause-later : goal.returns-clause-later
+returns-clause-later g t c =
+    later_then (later_then c.left-left.ensures.later c.count_under-before.ensures.later)
+    (later_then c.right-right.ensures.later c.count_under-after.ensures.later)
+
+pub returns-clause-places : goal.returns-clause-places
+returns-clause-places g t c =
+    let stands = rw c.in-Some.is at c.requires.stands in
+    let at = g.K.KidPool.entries c.args.pool.now c.in-Some.at in
+    let is = g.met.K.KidPool.is_entry c.args.pool.now c.in-Some.at stands in
+    let all : kid_count (kids_of (under g.K.KidPool.entries c.args.pool.now c.args.top))
+    ≡ kid_count (kids_of (left_of at)) + 1 + kid_count (kids_of (right_of at)) =
+    rw c.in-Some.is (count_entry at is) in
+    let left = ap (λ (e : Entries). kid_count (kids_of e)) c.left-left.ensures.left in
+    let right = ap (λ (e : Entries). kid_count (kids_of e)) (c.right-right.ensures.right
+    ∙ ap right_of (c.count_under-before.ensures.later.same c.in-Some.at (c.left-left.ensures.later.still c.in-Some.at stands)
+    ∙ c.left-left.ensures.later.same c.in-Some.at stands)) in
+    omega (arith, all, left, right, c.left-left.ensures.places, c.count_under-before.ensures.places, c.right-right.ensures.places, c.count_under-after.ensures.places)
+
+pub returns-clause-records : goal.returns-clause-records
+returns-clause-records g t c =
+    c.count_under-after.ensures.records ∙ c.right-right.ensures.records ∙ c.count_under-before.ensures.records ∙ c.left-left.ensures.records
+
+pub returns-clause-made : goal.returns-clause-made
+returns-clause-made g t c =
+    c.count_under-after.ensures.made ∙ c.right-right.ensures.made ∙ c.count_under-before.ensures.made ∙ c.left-left.ensures.made
