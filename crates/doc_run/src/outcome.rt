@@ -45,6 +45,15 @@ impl Outcome {
         Outcome::new(Some(fault), None)
     }
 
+    /// How a run ends whose words are faulty.
+    pub(crate) fn usage() -> Outcome
+        ensures status { result.status ≡ 1 }
+        ensures fault { result.fault ≡ Some Fault.Usage }
+        ensures finished { result.finished ≡ None }
+    {
+        Outcome::refused(Fault::Usage)
+    }
+
     /// How a run ends whose text was offered to a sink, by what became of the text.
     pub(crate) fn by_writing(wrote: Result<(), OutFault>, finished: Option<Finished>) -> Outcome
         ensures status { result.status ≡ status_of result.fault }

@@ -158,7 +158,7 @@ pub fn run<R: Threads + Wait + Sync, H: Shelf, S: Sink, G: Gate + Sync>(
         Ok(Request::Run(run)) => run_scripts(alloc, rt, &run, shelf, sink, gate),
         Ok(Request::Replay(name)) => run_schedule(alloc, name, shelf, sink),
         Ok(Request::Gen(made)) => run_generated(alloc, rt, made, sink, gate),
-        Err(WordsFault::Usage) => Outcome::refused(Fault::Usage),
+        Err(WordsFault::Usage) => Outcome::usage(),
         Err(WordsFault::NoMemory) => Outcome::refused(Fault::Memory),
     }
 }

@@ -57,7 +57,7 @@ returns-in-Ok-Replay-clause-opens g c =
 pub returns-in-Err-NoMemory-clause-scripts : goal.returns-in-Err-NoMemory-clause-scripts
 returns-in-Err-NoMemory-clause-scripts g c =
     unread_scripts (request_of c.args.words.now) (g.H.Shelf.holds c.args.shelf.now)
-    c.refused-in-Err-NoMemory.result.status c.refused-in-Err-NoMemory.ensures.status
+    c.refused.result.status c.refused.ensures.status
 
 pub returns-in-Ok-Run-clause-made : goal.returns-in-Ok-Run-clause-made
 returns-in-Ok-Run-clause-made g c =
@@ -560,45 +560,45 @@ returns-in-Ok-Gen-clause-unbroken_shelf g c =
 
 pub returns-in-Err-NoMemory-clause-large_made : goal.returns-in-Err-NoMemory-clause-large_made
 returns-in-Err-NoMemory-clause-large_made g c =
-    unread_large_made (request_of c.args.words.now) c.refused-in-Err-NoMemory.result.status
-    c.refused-in-Err-NoMemory.ensures.status
+    unread_large_made (request_of c.args.words.now) c.refused.result.status
+    c.refused.ensures.status
 
 pub returns-in-Err-NoMemory-clause-complete_made : goal.returns-in-Err-NoMemory-clause-complete_made
 returns-in-Err-NoMemory-clause-complete_made g c =
-    unread_complete_made (request_of c.args.words.now) c.refused-in-Err-NoMemory.result.status
-    c.refused-in-Err-NoMemory.ensures.status
+    unread_complete_made (request_of c.args.words.now) c.refused.result.status
+    c.refused.ensures.status
 
 pub returns-in-Err-NoMemory-clause-schedule : goal.returns-in-Err-NoMemory-clause-schedule
 returns-in-Err-NoMemory-clause-schedule g c =
     unread_schedule (request_of c.args.words.now) (g.H.Shelf.holds c.args.shelf.now)
-    c.refused-in-Err-NoMemory.result.status c.refused-in-Err-NoMemory.ensures.status
+    c.refused.result.status c.refused.ensures.status
 
 pub returns-in-Err-NoMemory-clause-large_schedule :
     goal.returns-in-Err-NoMemory-clause-large_schedule
 returns-in-Err-NoMemory-clause-large_schedule g c =
     unread_large (request_of c.args.words.now) (g.H.Shelf.holds c.args.shelf.now)
-    c.refused-in-Err-NoMemory.result.status c.refused-in-Err-NoMemory.ensures.status
+    c.refused.result.status c.refused.ensures.status
 
 pub returns-in-Err-NoMemory-clause-complete : goal.returns-in-Err-NoMemory-clause-complete
 returns-in-Err-NoMemory-clause-complete g c =
     unread_complete (request_of c.args.words.now) (g.H.Shelf.holds c.args.shelf.now)
-    c.refused-in-Err-NoMemory.result.status c.refused-in-Err-NoMemory.ensures.status
+    c.refused.result.status c.refused.ensures.status
 
 pub returns-in-Err-NoMemory-clause-done : goal.returns-in-Err-NoMemory-clause-done
 returns-in-Err-NoMemory-clause-done g c =
-    λ zero. absurd (omega (arith, c.refused-in-Err-NoMemory.ensures.status, zero))
+    λ zero. absurd (omega (arith, c.refused.ensures.status, zero))
 
 pub returns-in-Err-NoMemory-clause-made : goal.returns-in-Err-NoMemory-clause-made
 returns-in-Err-NoMemory-clause-made g c =
-    λ zero. absurd (omega (arith, c.refused-in-Err-NoMemory.ensures.status, zero))
+    λ zero. absurd (omega (arith, c.refused.ensures.status, zero))
 
 pub returns-in-Err-NoMemory-clause-replayed : goal.returns-in-Err-NoMemory-clause-replayed
 returns-in-Err-NoMemory-clause-replayed g c =
-    λ zero. absurd (omega (arith, c.refused-in-Err-NoMemory.ensures.status, zero))
+    λ zero. absurd (omega (arith, c.refused.ensures.status, zero))
 
 pub returns-in-Err-NoMemory-clause-all_opened : goal.returns-in-Err-NoMemory-clause-all_opened
 returns-in-Err-NoMemory-clause-all_opened g c =
-    λ zero. absurd (omega (arith, c.refused-in-Err-NoMemory.ensures.status, zero))
+    λ zero. absurd (omega (arith, c.refused.ensures.status, zero))
 
 pub returns-in-Err-NoMemory-clause-unbroken_shelf :
     goal.returns-in-Err-NoMemory-clause-unbroken_shelf
@@ -611,23 +611,23 @@ returns-in-Err-NoMemory-clause-unbroken_sink g c =
 
 pub returns-in-Err-NoMemory-clause-write : goal.returns-in-Err-NoMemory-clause-write
 returns-in-Err-NoMemory-clause-write g c =
-    λ four. absurd (omega (arith, c.refused-in-Err-NoMemory.ensures.status, four))
+    λ four. absurd (omega (arith, c.refused.ensures.status, four))
 
 pub returns-in-Err-NoMemory-clause-write_part : goal.returns-in-Err-NoMemory-clause-write_part
 returns-in-Err-NoMemory-clause-write_part g c =
-    λ four. absurd (omega (arith, c.refused-in-Err-NoMemory.ensures.status, four))
+    λ four. absurd (omega (arith, c.refused.ensures.status, four))
 
 pub returns-in-Err-NoMemory-clause-write_made : goal.returns-in-Err-NoMemory-clause-write_made
 returns-in-Err-NoMemory-clause-write_made g c =
-    λ four. absurd (omega (arith, c.refused-in-Err-NoMemory.ensures.status, four))
+    λ four. absurd (omega (arith, c.refused.ensures.status, four))
 
 pub returns-in-Err-NoMemory-clause-write_front : goal.returns-in-Err-NoMemory-clause-write_front
 returns-in-Err-NoMemory-clause-write_front g c =
-    λ four. absurd (omega (arith, c.refused-in-Err-NoMemory.ensures.status, four))
+    λ four. absurd (omega (arith, c.refused.ensures.status, four))
 
 pub returns-in-Err-NoMemory-clause-read : goal.returns-in-Err-NoMemory-clause-read
 returns-in-Err-NoMemory-clause-read g c =
-    λ three. absurd (omega (arith, c.refused-in-Err-NoMemory.ensures.status, three))
+    λ three. absurd (omega (arith, c.refused.ensures.status, three))
 
 pub returns-in-Err-NoMemory-clause-unwritten : goal.returns-in-Err-NoMemory-clause-unwritten
 returns-in-Err-NoMemory-clause-unwritten g c =
@@ -653,8 +653,8 @@ returns-in-Err-Usage-clause-usage g c =
     (subst (λ e. Gives asked_by (Err e) (request_of (map string_bytes c.all.result.now)))
     c.in-Err-Usage.field-0-is c.in-Err-Usage.ensures.request) in (
       (λ said. (
-        (λ five. absurd (omega (arith, c.refused.ensures.status, five))),
+        (λ five. absurd (omega (arith, c.usage.ensures.status, five))),
         subst (λ a. IsNone a) (sym none) refl,
       )),
-      (λ facts. c.refused.ensures.status),
+      (λ facts. c.usage.ensures.status),
     )
