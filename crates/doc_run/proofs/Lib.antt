@@ -1,7 +1,6 @@
 pub mod Ranges
 pub mod Due
 pub mod Asking
-pub mod Arms
 pub mod Writing
 pub mod Summaries
 pub mod Deciding
