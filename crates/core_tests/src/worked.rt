@@ -37,11 +37,13 @@ const WORKED: [(&str, &str); 11] = [
         "done 13\nfree 1\n",
     ),
     (
-        "core 3 1 8\nbegin 0\nlook 0\nclaim 0 1\nseal 0 1 record\nend 0\nplain\nplain\nplain\nplain\n",
+        "core 3 1 8\nbegin 0\nlook 0\nclaim 0 1\nseal 0 1 record\nend 0\n\
+        plain\nplain\nplain\nplain\n",
         "done 17\nfree 1\n",
     ),
     (
-        "core 3 1 8\nbegin 0\nlook 0\nclaim 0 1\nseal 0 1 record\nend 0\nplain\nplain\nplain\nplain\nplain\n",
+        "core 3 1 8\nbegin 0\nlook 0\nclaim 0 1\nseal 0 1 record\nend 0\n\
+        plain\nplain\nplain\nplain\nplain\n",
         "done 33\nfree 1\n",
     ),
     (
