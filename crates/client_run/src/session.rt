@@ -36,7 +36,6 @@ pub struct Limits {
 
 /// What a client keeps from one command to the next. Its commands are calls of `answer`, each with
 /// the same mutator.
-#[derive(Drop)]
 pub struct Session {
     pub journal: Journal,
     pub minor: MinorHeap,
@@ -44,6 +43,18 @@ pub struct Session {
     pub draft: NodeAt,
     /// so many places are held between commands
     pub base: usize,
+}
+
+impl Drop for Session {
+    fn drop(self) {
+        let Session {
+            journal: _journal,
+            minor: _minor,
+            promoter: _promoter,
+            draft: _,
+            base: _,
+        } = self;
+    }
 }
 
 impl Session {
@@ -153,7 +164,8 @@ impl Session {
             journal,
             minor: _minor,
             promoter: _promoter,
-            ..
+            draft: _,
+            base: _,
         } = self;
         journal.into_log()
     }

@@ -12,10 +12,18 @@ use std::alloc::Global;
 use std::marker::Model;
 
 /// Cells that wait for a look, up to a fixed number.
-#[derive(Drop)]
 pub struct MarkStack {
     items: Vec<u32>,
     height: usize,
+}
+
+impl Drop for MarkStack {
+    fn drop(self) {
+        let MarkStack {
+            items: _items,
+            height: _,
+        } = self;
+    }
 }
 
 impl Model for MarkStack {

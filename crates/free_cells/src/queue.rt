@@ -7,10 +7,18 @@ use crossbeam_queue::RuledArrayQueue;
 pub(crate) type Ring = RuledArrayQueue<u32, Counts, Below>;
 
 /// A queue of numbers of cells, with room for as many as there are cells.
-#[derive(Drop)]
 pub struct FreeQueue {
     pub(crate) ring: Ring,
     pub(crate) cells: u32,
     ghost room: { ruled_capacity ring ≡ cells },
     ghost some_cell: { 0 < cells },
+}
+
+impl Drop for FreeQueue {
+    fn drop(self) {
+        let FreeQueue {
+            ring: _ring,
+            cells: _,
+        } = self;
+    }
 }

@@ -15,10 +15,18 @@ use std::marker::Model;
 pub struct MinorFull;
 
 /// The records of one mutator, the oldest first.
-#[derive(Drop)]
 pub struct MinorHeap {
     pub(crate) records: Vec<Record>,
     room: u32,
+}
+
+impl Drop for MinorHeap {
+    fn drop(self) {
+        let MinorHeap {
+            records: _records,
+            room: _,
+        } = self;
+    }
 }
 
 impl Model for MinorHeap {

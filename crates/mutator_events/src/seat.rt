@@ -45,7 +45,6 @@ impl HeldRoom {
 }
 
 /// The right to make a mutator's events on a heap, with what it holds.
-#[derive(Drop)]
 pub struct MutSeat<P: Keeping> {
     pub(crate) seat: HeapSeat<P>,
     pub(crate) number: u32,
@@ -58,6 +57,21 @@ pub struct MutSeat<P: Keeping> {
     /// while it is in
     pub(crate) status: Status,
     pub(crate) claims: u64,
+}
+
+impl<P: Keeping> Drop for MutSeat<P> {
+    fn drop(self) {
+        let MutSeat {
+            seat: _seat,
+            number: _,
+            room: _,
+            held: _held,
+            mode: _,
+            inside: _,
+            status: _,
+            claims: _,
+        } = self;
+    }
 }
 
 impl<P: Keeping> Model for MutSeat<P> {
@@ -103,7 +117,17 @@ impl<P: Keeping> MutSeat<P> {
         ensures seat { result ≡ self }
         ensures role { result.me.role ≡ role.Mutator }
     {
-        self.seat
+        let MutSeat {
+            seat,
+            number: _,
+            room: _,
+            held: _held,
+            mode: _,
+            inside: _,
+            status: _,
+            claims: _,
+        } = self;
+        seat
     }
 
     /// How many cells it holds, counted by place.

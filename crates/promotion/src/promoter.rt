@@ -17,13 +17,22 @@ use std::marker::Model;
 use std::sync::Wait;
 
 /// Memory for the copying of so many records. Contracts see it as their number.
-#[derive(Drop)]
 pub struct Promoter {
     room: u32,
     /// by record, whether it is reached; between calls none is marked
     marks: Vec<bool>,
     /// by record, the place of its copy
     places: Vec<usize>,
+}
+
+impl Drop for Promoter {
+    fn drop(self) {
+        let Promoter {
+            room: _,
+            marks: _marks,
+            places: _places,
+        } = self;
+    }
 }
 
 impl Model for Promoter {
