@@ -1,5 +1,6 @@
-use Rattle.std.proofs.Common.{ℕ, subst, arith}
+use Rattle.std.proofs.Common.{ℕ, ap, subst, arith}
 use Rattle.version_rule.specs.Knowing.{link_cut}
+use Rattle.version_rule.specs.Pass.{Pass}
 use Rattle.version_store.specs.Walks.{Stopped, Walked}
 use Rattle.version_store.proofs.Backward.{walked_held, walked_some_room}
 use Rattle.version_store.proofs.Trimming.{cuts_stopped, cuts_walked, picks_cut}
@@ -19,6 +20,14 @@ pub cut_link-requires-clause-newest : goal.cut_link-requires-clause-newest
 cut_link-requires-clause-newest g c =
     walked_held c.args.m.now c.walk_back.new.m c.args.v c.in-Some.oldest _ c.in-Some.ensures.walked
     c.requires.version
+
+pub cut_link-requires-clause-due : goal.cut_link-requires-clause-due
+cut_link-requires-clause-due g c =
+    let walked = c.in-Some.ensures.walked in
+    let is = walked.number_is in
+    let some = walked.keeps_some in
+    let same = ap (λ (p : Pass). p.keep) walked.pass in
+    omega (arith, is, some, same, c.saturating_sub.ensures, c.requires.setting)
 
 pub returns-in-Some : goal.returns-in-Some
 returns-in-Some g c = record {

@@ -1,8 +1,19 @@
-use Rattle.std.proofs.Common.{◌∙◌, ap}
+use Rattle.std.proofs.Common.{◌∙◌, ap, sym}
+use Rattle.cell_words.specs.Modes.{next_status_of}
 use Rattle.cell_words.specs.declared.presences.Status.{Status}
+use Rattle.core_machine.specs.Words.{requests}
+use Rattle.mutator_seat.specs.Bound.{Bound}
 use Rattle.mutator_seat.specs.Stretches.{asks_next}
 use Rattle.mutator_seat.proofs.Handshakes.{answered, unasked}
 use Rattle.mutator_seat.proofs.mutator.Mutator.answer.Goals as goal
+
+pub answer_asked-requires-clause-asked : goal.answer_asked-requires-clause-asked
+answer_asked-requires-clause-asked g c =
+    let now = c.look_once-control.new.self in
+    ap (λ (m : Bound _). requests m.seat.me.own.mode (next_status_of now.seat.me.presence.status))
+    c.look_once-control.ensures.told
+    ∙ ap (λ (own : Status). asks_next c.look_once-control.result own) (sym c.status.ensures.status)
+    ∙ sym c.if-asks_next.ensures.asks
 
 pub returns-then-asks_next-clause-calm : goal.returns-then-asks_next-clause-calm
 returns-then-asks_next-clause-calm g c =

@@ -5,9 +5,18 @@ use Rattle.core_machine.specs.declared.events.Found.TheVariants as finds
 use Rattle.core_machine.specs.Places.{cell_at, mark_of}
 use Rattle.mutator_seat.specs.Bound.{Bound}
 use Rattle.mutator_seat.specs.Stretches.{are_marks}
-use Rattle.mutator_seat.proofs.Calm.{calm_one, calm_then, kept_mark}
+use Rattle.mutator_seat.proofs.Calm.{calm_none, calm_one, calm_then, kept_mark}
 use Rattle.mutator_seat.proofs.Marks.{MarkedBelow, all_of, marked_more, marks_join}
 use Rattle.mutator_seat.proofs.mutator.Mutator.mark_all.Goals as goal
+
+pub loop-place-init : goal.loop-place-init
+loop-place-init g c = (
+  calm_none are_marks c.args.self.now refl,
+  refl,
+  refl,
+  refl,
+  λ k lt. absurd (omega (arith, lt)),
+)
 
 pub loop-place-preserved : goal.loop-place-preserved
 loop-place-preserved g c =

@@ -1,8 +1,47 @@
-use Rattle.std.proofs.Common.{◌∙◌, sym, arith}
+use Rattle.std.proofs.Common.{refl, sym, ◌∙◌, arith}
+use Rattle.mutator_seat.specs.Claims.{Seeking}
+use Rattle.mutator_seat.proofs.Calm.{calm_none}
 use Rattle.mutator_seat.proofs.Seeking.{seeking_then}
 use Rattle.mutator_seat.proofs.Tries.{claimed_then, err_both, full_behind, ok_all}
 use Rattle.mutator_seat.proofs.Updates.{err_then}
+use Rattle.mutator_seat.proofs.Writes.{many_same}
 use Rattle.mutator_seat.proofs.mutator.Mutator.wait_for_cell.Goals as goal
+
+pub loop-init : goal.loop-init
+loop-init g c = (calm_none Seeking c.args.self.now refl, refl, omega arith)
+
+pub handshake-control-requires : goal.handshake-control-requires
+handshake-control-requires g c = record {
+  inside = c.loop.invariant.0.kept.inside ∙ c.requires.inside;
+}
+
+pub try_last-requires : goal.try_last-requires
+try_last-requires g c =
+    let asked = c.handshake-control in
+    let first = c.loop.invariant.0.kept in
+    let then = asked.ensures.seeking.kept in
+    let long = many_same asked.new.self.seat.me.own.held c.args.self.now.seat.me.own.held
+    (then.held ∙ first.held) in
+    let same = then.room ∙ first.room in
+    record {
+      inside = then.inside ∙ first.inside ∙ c.requires.inside;
+      room = omega (arith, long, same, c.requires.room);
+      mode = asked.ensures.mode;
+    }
+
+pub try_on-requires : goal.try_on-requires
+try_on-requires g c =
+    let asked = c.handshake-control in
+    let first = c.loop.invariant.0.kept in
+    let then = asked.ensures.seeking.kept in
+    let long = many_same asked.new.self.seat.me.own.held c.args.self.now.seat.me.own.held
+    (then.held ∙ first.held) in
+    let same = then.room ∙ first.room in
+    record {
+      inside = then.inside ∙ first.inside ∙ c.requires.inside;
+      room = omega (arith, long, same, c.requires.room);
+      mode = asked.ensures.mode;
+    }
 
 pub returns-then-decides-clause-got : goal.returns-then-decides-clause-got
 returns-then-decides-clause-got g c =
@@ -27,6 +66,19 @@ returns-then-decides-clause-seeking g c =
     seeking_then c.args.self.now asked.new.self c.try_last.new.self
     (seeking_then c.args.self.now c.loop.self asked.new.self c.loop.invariant.0
     asked.ensures.seeking) rest)
+
+pub returns-then-decides-clause-queue : goal.returns-then-decides-clause-queue
+returns-then-decides-clause-queue g c = c.loop.invariant.1
+
+pub returns-then-decides-clause-takes : goal.returns-then-decides-clause-takes
+returns-then-decides-clause-takes g c = c.loop.invariant.2
+
+pub returns-in-Some-try_on-clause-queue : goal.returns-in-Some-try_on-clause-queue
+returns-in-Some-try_on-clause-queue g c = c.try_on.ensures.queue ∙ c.loop.invariant.1
+
+pub returns-in-Some-try_on-clause-takes : goal.returns-in-Some-try_on-clause-takes
+returns-in-Some-try_on-clause-takes g c =
+    omega (arith, c.try_on.ensures.takes, c.loop.invariant.2)
 
 pub returns-in-Some-try_on-clause-got : goal.returns-in-Some-try_on-clause-got
 returns-in-Some-try_on-clause-got g c =
