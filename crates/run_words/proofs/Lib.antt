@@ -2,4 +2,5 @@ pub mod Accepted
 pub mod Behind
 pub mod Ends
 pub mod Numbers
+pub mod Rules
 pub mod Taken
