@@ -26,7 +26,8 @@ delete_one (m ∷ k ∷ path) n t d some first none there =
 delete_on : (names : List (List ℕ)) (n : List ℕ) (t s d e u : DocTree) → 1 ≤ length names
     → n ≡ get_or names 0 n → (length (take (length names - 1) (drop 1 names)) ≡ 0 → ⊥)
     → Some d ≡ child_of_name n t.kids
-    → Ok e ≡ delete (take (length names - 1) (drop 1 names)) d → s ≡ t → u ≡ with_child n e s → Ok u ≡ delete names t
+    → Ok e ≡ delete (take (length names - 1) (drop 1 names)) d → s ≡ t → u ≡ with_child n e s
+    → Ok u ≡ delete names t
 delete_on [] n t s d e u some first more there below kept made = absurd (omega (arith, some))
 delete_on (m ∷ []) n t s d e u some first more there below kept made = absurd (more refl)
 delete_on (m ∷ k ∷ path) n t s d e u some first more there below kept made =

@@ -269,28 +269,50 @@ put_under-new-requires g t c κs within =
     let even = even_parts _ _ _ _ _ whole c.requires.balanced in
     let rising = rising_left_of _ _ _ _ _ whole c.requires.rising in
     let child = c.read_entry-entry.ensures.later.child_still c.args.child
-    (later_order.child_still c.args.child c.requires.child) in
-    (omega (arith, top, same, read), (search rules, (search rules, (search rules,
-    (c.read_entry-entry.ensures.left, (child, (even.2, (rising, (
-      omega (
-        arith,
-        top,
-        same,
-        read,
-        c.requires.places,
-        c.order-order.ensures.places,
-        c.read_entry-entry.ensures.places,
+    (later_order.child_still c.args.child c.requires.child) in (
+      omega (arith, top, same, read),
+      (
+        search rules,
+        (
+          search rules,
+          (
+            search rules,
+            (
+              c.read_entry-entry.ensures.left,
+              (
+                child,
+                (
+                  even.2,
+                  (
+                    rising,
+                    (
+                      omega (
+                        arith,
+                        top,
+                        same,
+                        read,
+                        c.requires.places,
+                        c.order-order.ensures.places,
+                        c.read_entry-entry.ensures.places,
+                      ),
+                      omega (
+                        arith,
+                        top,
+                        same,
+                        read,
+                        c.requires.records,
+                        c.order-order.ensures.records,
+                        c.read_entry-entry.ensures.records,
+                      ),
+                    ),
+                  ),
+                ),
+              ),
+            ),
+          ),
+        ),
       ),
-      omega (
-        arith,
-        top,
-        same,
-        read,
-        c.requires.records,
-        c.order-order.ensures.records,
-        c.read_entry-entry.ensures.records,
-      ),
-    )))))))))
+    )
 
 pub put_under-new-requires-in-Greater : goal.put_under-new-requires-in-Greater
 put_under-new-requires-in-Greater g t c κs within =
@@ -305,25 +327,47 @@ put_under-new-requires-in-Greater g t c κs within =
     let even = even_parts _ _ _ _ _ whole c.requires.balanced in
     let rising = rising_right_of _ _ _ _ _ whole c.requires.rising in
     let child = c.read_entry-entry.ensures.later.child_still c.args.child
-    (later_order.child_still c.args.child c.requires.child) in
-    (omega (arith, top, same, read), (search rules, (search rules, (search rules,
-    (c.read_entry-entry.ensures.right, (child, (even.3, (rising, (
-      omega (
-        arith,
-        top,
-        same,
-        read,
-        c.requires.places,
-        c.order-order.ensures.places,
-        c.read_entry-entry.ensures.places,
+    (later_order.child_still c.args.child c.requires.child) in (
+      omega (arith, top, same, read),
+      (
+        search rules,
+        (
+          search rules,
+          (
+            search rules,
+            (
+              c.read_entry-entry.ensures.right,
+              (
+                child,
+                (
+                  even.3,
+                  (
+                    rising,
+                    (
+                      omega (
+                        arith,
+                        top,
+                        same,
+                        read,
+                        c.requires.places,
+                        c.order-order.ensures.places,
+                        c.read_entry-entry.ensures.places,
+                      ),
+                      omega (
+                        arith,
+                        top,
+                        same,
+                        read,
+                        c.requires.records,
+                        c.order-order.ensures.records,
+                        c.read_entry-entry.ensures.records,
+                      ),
+                    ),
+                  ),
+                ),
+              ),
+            ),
+          ),
+        ),
       ),
-      omega (
-        arith,
-        top,
-        same,
-        read,
-        c.requires.records,
-        c.order-order.ensures.records,
-        c.read_entry-entry.ensures.records,
-      ),
-    )))))))))
+    )

@@ -89,10 +89,25 @@ count_under-before-requires g t c κs within =
     let all : kid_count (kids_of (under g.K.KidPool.entries c.args.pool.now c.args.top))
     ≡ kid_count (kids_of (left_of at)) + 1 + kid_count (kids_of (right_of at)) =
     rw c.in-Some.is (count_entry at is) in
-    let left = ap (λ (e : Entries). kid_count (kids_of e)) c.left-left.ensures.left in
-    (omega (arith, all, left), (search rules, (search rules, (search rules,
-    (c.left-left.ensures.stands, (omega (arith, all, left, c.requires.few),
-    omega (arith, all, left, c.requires.places, c.left-left.ensures.places)))))))
+    let left = ap (λ (e : Entries). kid_count (kids_of e)) c.left-left.ensures.left in (
+      omega (arith, all, left),
+      (
+        search rules,
+        (
+          search rules,
+          (
+            search rules,
+            (
+              c.left-left.ensures.stands,
+              (
+                omega (arith, all, left, c.requires.few),
+                omega (arith, all, left, c.requires.places, c.left-left.ensures.places),
+              ),
+            ),
+          ),
+        ),
+      ),
+    )
 
 pub count_under-after-requires : goal.count_under-after-requires
 count_under-after-requires g t c κs within =
@@ -106,16 +121,31 @@ count_under-after-requires g t c κs within =
     let right = ap (λ (e : Entries). kid_count (kids_of e)) (c.right-right.ensures.right
     ∙ ap right_of (c.count_under-before.ensures.later.same c.in-Some.at
     (c.left-left.ensures.later.still c.in-Some.at stands)
-    ∙ c.left-left.ensures.later.same c.in-Some.at stands)) in
-    (omega (arith, all, right), (search rules, (search rules, (search rules,
-    (c.right-right.ensures.stands, (omega (arith, all, right, c.requires.few),
-    omega (
-      arith,
-      all,
-      left,
-      right,
-      c.requires.places,
-      c.left-left.ensures.places,
-      c.count_under-before.ensures.places,
-      c.right-right.ensures.places,
-    )))))))
+    ∙ c.left-left.ensures.later.same c.in-Some.at stands)) in (
+      omega (arith, all, right),
+      (
+        search rules,
+        (
+          search rules,
+          (
+            search rules,
+            (
+              c.right-right.ensures.stands,
+              (
+                omega (arith, all, right, c.requires.few),
+                omega (
+                  arith,
+                  all,
+                  left,
+                  right,
+                  c.requires.places,
+                  c.left-left.ensures.places,
+                  c.count_under-before.ensures.places,
+                  c.right-right.ensures.places,
+                ),
+              ),
+            ),
+          ),
+        ),
+      ),
+    )

@@ -115,18 +115,32 @@ find_under-requires g t c κs within =
     let rising : IsRising (kids_of at) = rw c.in-Some.is at c.requires.rising in
     let low : height_of (left_of at) + 1 ≤ height_of (under g.K.KidPool.entries pool c.args.top) =
     rw c.in-Some.is (left_lower at is) in
-    let high = ap height_of side in
-    (omega (arith, low, high), (search rules, (search rules, (search rules,
-    (c.left-left.ensures.stands,
-    (subst (λ (e : Entries). IsRising (kids_of e)) (sym side) (rising_before at rising),
-    omega (
-      arith,
-      low,
-      high,
-      c.requires.places,
-      c.order.ensures.places,
-      c.left-left.ensures.places,
-    )))))))
+    let high = ap height_of side in (
+      omega (arith, low, high),
+      (
+        search rules,
+        (
+          search rules,
+          (
+            search rules,
+            (
+              c.left-left.ensures.stands,
+              (
+                subst (λ (e : Entries). IsRising (kids_of e)) (sym side) (rising_before at rising),
+                omega (
+                  arith,
+                  low,
+                  high,
+                  c.requires.places,
+                  c.order.ensures.places,
+                  c.left-left.ensures.places,
+                ),
+              ),
+            ),
+          ),
+        ),
+      ),
+    )
 
 pub find_under-requires-in-Greater : goal.find_under-requires-in-Greater
 find_under-requires-in-Greater g t c κs within =
@@ -139,15 +153,29 @@ find_under-requires-in-Greater g t c κs within =
     let rising : IsRising (kids_of at) = rw c.in-Some.is at c.requires.rising in
     let low : height_of (right_of at) + 1 ≤ height_of (under g.K.KidPool.entries pool c.args.top) =
     rw c.in-Some.is (right_lower at is) in
-    let high = ap height_of side in
-    (omega (arith, low, high), (search rules, (search rules, (search rules,
-    (c.right-right.ensures.stands,
-    (subst (λ (e : Entries). IsRising (kids_of e)) (sym side) (rising_after at rising),
-    omega (
-      arith,
-      low,
-      high,
-      c.requires.places,
-      c.order.ensures.places,
-      c.right-right.ensures.places,
-    )))))))
+    let high = ap height_of side in (
+      omega (arith, low, high),
+      (
+        search rules,
+        (
+          search rules,
+          (
+            search rules,
+            (
+              c.right-right.ensures.stands,
+              (
+                subst (λ (e : Entries). IsRising (kids_of e)) (sym side) (rising_after at rising),
+                omega (
+                  arith,
+                  low,
+                  high,
+                  c.requires.places,
+                  c.order.ensures.places,
+                  c.right-right.ensures.places,
+                ),
+              ),
+            ),
+          ),
+        ),
+      ),
+    )

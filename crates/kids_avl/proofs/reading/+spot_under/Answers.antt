@@ -27,10 +27,22 @@ spot_under-requires g t c κs within =
     let all : kid_count (kids_of (under g.K.KidPool.entries c.args.pool.now c.args.top))
     ≡ kid_count (kids_of (left_of at)) + 1 + kid_count (kids_of (right_of at)) =
     rw c.in-Some.is (count_entry at is) in
-    let left = ap (λ (e : Entries). kid_count (kids_of e)) c.left-left.ensures.left in
-    (omega (arith, all, left), (search rules, (search rules, (search rules,
-    (c.left-left.ensures.stands,
-    omega (arith, all, left, c.requires.places, c.left-left.ensures.places))))))
+    let left = ap (λ (e : Entries). kid_count (kids_of e)) c.left-left.ensures.left in (
+      omega (arith, all, left),
+      (
+        search rules,
+        (
+          search rules,
+          (
+            search rules,
+            (
+              c.left-left.ensures.stands,
+              omega (arith, all, left, c.requires.places, c.left-left.ensures.places),
+            ),
+          ),
+        ),
+      ),
+    )
 
 pub right-right-requires-clause-stands : goal.right-right-requires-clause-stands
 right-right-requires-clause-stands g t c =
@@ -69,19 +81,31 @@ spot_under-requires-in-Past g t c κs within =
     (c.left-left.ensures.later.still c.in-Some.at stands)
     ∙ c.left-left.ensures.later.same c.in-Some.at stands in
     let right = ap (λ (e : Entries). kid_count (kids_of e))
-    (c.right-right.ensures.right ∙ ap right_of same) in
-    (omega (arith, all, right), (search rules, (search rules, (search rules,
-    (c.right-right.ensures.stands,
-    omega (
-      arith,
-      all,
-      left,
-      right,
-      c.requires.places,
-      c.left-left.ensures.places,
-      c.spot_under.ensures.places,
-      c.right-right.ensures.places,
-    ))))))
+    (c.right-right.ensures.right ∙ ap right_of same) in (
+      omega (arith, all, right),
+      (
+        search rules,
+        (
+          search rules,
+          (
+            search rules,
+            (
+              c.right-right.ensures.stands,
+              omega (
+                arith,
+                all,
+                left,
+                right,
+                c.requires.places,
+                c.left-left.ensures.places,
+                c.spot_under.ensures.places,
+                c.right-right.ensures.places,
+              ),
+            ),
+          ),
+        ),
+      ),
+    )
 
 pub returns-in-Here-clause-kid : goal.returns-in-Here-clause-kid
 returns-in-Here-clause-kid g t c =

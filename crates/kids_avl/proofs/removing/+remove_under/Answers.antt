@@ -108,28 +108,47 @@ remove_under-new-requires g t c κs within =
     let same = ap height_of (later_order.same c.in-Some.at stands) in
     let read = ap height_of c.read_entry-entry.ensures.entry in
     let even = even_parts _ _ _ _ _ whole c.requires.balanced in
-    let rising = rising_left_of _ _ _ _ _ whole c.requires.rising in
-    (omega (arith, top, same, read), (search rules, (search rules, (search rules,
-    (c.read_entry-entry.ensures.left, (even.2, (rising, (
-      omega (
-        arith,
-        top,
-        same,
-        read,
-        c.requires.places,
-        c.order-order.ensures.places,
-        c.read_entry-entry.ensures.places,
+    let rising = rising_left_of _ _ _ _ _ whole c.requires.rising in (
+      omega (arith, top, same, read),
+      (
+        search rules,
+        (
+          search rules,
+          (
+            search rules,
+            (
+              c.read_entry-entry.ensures.left,
+              (
+                even.2,
+                (
+                  rising,
+                  (
+                    omega (
+                      arith,
+                      top,
+                      same,
+                      read,
+                      c.requires.places,
+                      c.order-order.ensures.places,
+                      c.read_entry-entry.ensures.places,
+                    ),
+                    omega (
+                      arith,
+                      top,
+                      same,
+                      read,
+                      c.requires.records,
+                      c.order-order.ensures.records,
+                      c.read_entry-entry.ensures.records,
+                    ),
+                  ),
+                ),
+              ),
+            ),
+          ),
+        ),
       ),
-      omega (
-        arith,
-        top,
-        same,
-        read,
-        c.requires.records,
-        c.order-order.ensures.records,
-        c.read_entry-entry.ensures.records,
-      ),
-    ))))))))
+    )
 
 pub remove_under-new-requires-in-Greater : goal.remove_under-new-requires-in-Greater
 remove_under-new-requires-in-Greater g t c κs within =
@@ -142,28 +161,47 @@ remove_under-new-requires-in-Greater g t c κs within =
     let same = ap height_of (later_order.same c.in-Some.at stands) in
     let read = ap height_of c.read_entry-entry.ensures.entry in
     let even = even_parts _ _ _ _ _ whole c.requires.balanced in
-    let rising = rising_right_of _ _ _ _ _ whole c.requires.rising in
-    (omega (arith, top, same, read), (search rules, (search rules, (search rules,
-    (c.read_entry-entry.ensures.right, (even.3, (rising, (
-      omega (
-        arith,
-        top,
-        same,
-        read,
-        c.requires.places,
-        c.order-order.ensures.places,
-        c.read_entry-entry.ensures.places,
+    let rising = rising_right_of _ _ _ _ _ whole c.requires.rising in (
+      omega (arith, top, same, read),
+      (
+        search rules,
+        (
+          search rules,
+          (
+            search rules,
+            (
+              c.read_entry-entry.ensures.right,
+              (
+                even.3,
+                (
+                  rising,
+                  (
+                    omega (
+                      arith,
+                      top,
+                      same,
+                      read,
+                      c.requires.places,
+                      c.order-order.ensures.places,
+                      c.read_entry-entry.ensures.places,
+                    ),
+                    omega (
+                      arith,
+                      top,
+                      same,
+                      read,
+                      c.requires.records,
+                      c.order-order.ensures.records,
+                      c.read_entry-entry.ensures.records,
+                    ),
+                  ),
+                ),
+              ),
+            ),
+          ),
+        ),
       ),
-      omega (
-        arith,
-        top,
-        same,
-        read,
-        c.requires.records,
-        c.order-order.ensures.records,
-        c.read_entry-entry.ensures.records,
-      ),
-    ))))))))
+    )
 
 pub order-order-requires-clause-stands : goal.order-order-requires-clause-stands
 order-order-requires-clause-stands g t c = rw c.in-Some.is at c.requires.stands
