@@ -72,7 +72,7 @@ step_below make again n path t d f begun same along =
     rw (sym begun, sym went) refl
 
 -- .. where the names are a slice, of which the first was taken
-rest_all : (n : List ℕ) (names : List (List ℕ)) → take (length (n ∷ names) - 1) names ≡ names
+pub rest_all : (n : List ℕ) (names : List (List ℕ)) → take (length (n ∷ names) - 1) names ≡ names
 rest_all n names = take_all (length (n ∷ names) - 1) names (omega arith)
 
 pub rest_less : (names : List (List ℕ)) → 1 ≤ length names
@@ -103,6 +103,21 @@ along_below make again (m ∷ names) n t d f some first begun same along =
     subst (λ k. Err f ≡ edit_along make (k ∷ names) t) first
     (step_below make again n names t d f begun same below)
 
+-- .. and a step that was refused
+pub along_stop : (make : DocTree → DocTree) (names : List (List ℕ)) (n : List ℕ) (t : DocTree)
+    (f : EditFault) → 1 ≤ length names → n ≡ get_or names 0 n → Err f ≡ start n t
+    → Err f ≡ edit_along make names t
+along_stop make [] n t f some first begun = absurd (omega (arith, some))
+along_stop make (m ∷ names) n t f some first begun =
+    subst (λ k. Err f ≡ edit_along make (k ∷ names) t) first (rw (sym begun) refl)
+
+-- where an edit goes on in none there is room for a child
+pub begun_room : (n : List ℕ) (t d : DocTree) → Ok d ≡ start n t → child n t.kids ≡ None
+    → kid_count t.kids < 256
+begun_room n t d begun none =
+    let full : 256 ≤ kid_count t.kids → ⊥ = λ many. cc (begun_many n t (sym none) many, begun) in
+    omega (arith, full)
+
 -- what a call leaves of an end and of a node, or none
 pub made_same : {At F : Type 0} (s t : Shown At F) (end : End At) → Later s t → StandsAtEnd s end
     → made_at t end ≡ made_at s end
@@ -116,6 +131,11 @@ top_still s t (Some a) later top = record {
   stands = later.now a top.stands;
   node = subst IsTreeNode (sym (later.same a top.stands)) top.node;
 }
+
+pub end_still : {At F : Type 0} (s t : Shown At F) (end : End At) → Later s t → StandsAtEnd s end
+    → StandsAtEnd t end
+end_still s t (ends.Text text) later stands = tt
+end_still s t (ends.Node a) later stands = top_still s t (Some a) later stands
 
 pub top_same : {At F : Type 0} (s t : Shown At F) (o : Option At) → Later s t → IsTop s o
     → tree_under t o ≡ tree_under s o
@@ -146,6 +166,17 @@ within_step s o n d k m top is more =
       few = omega (arith, few, is.few, more, nodes_put n d kids);
       low = omega (arith, low, is.low, more, put_height n d kids);
     }
+
+pub within_made : {At F : Type 0} (s : Shown At F) (o : Option At) (end : End At) (k : ℕ)
+    → IsTop s o → StandsAtEnd s end → IsWithin k (made_at s end (tree_under s o))
+within_made s o (ends.Text text) k top stands = record {
+  few = omega (arith, top_few s o top);
+  low = omega (arith, top_low s o top);
+}
+within_made s o (ends.Node a) k top stands = record {
+  few = omega (arith, stands.node.lawful.few);
+  low = omega (arith, stands.node.lawful.low);
+}
 
 -- the limits, one after the other
 pub limit_deep : (t : DocTree) → 8 < height t → Err fault.Deep ≡ within_limits t

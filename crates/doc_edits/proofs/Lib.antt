@@ -6,3 +6,4 @@ pub mod Lawful
 pub mod Makings
 pub mod Pools
 pub mod Sized
+pub mod Standing

@@ -1,8 +1,9 @@
 -- Nodes that are made from a text and children, and how large they can be.
 use Rattle.std.proofs.Common.{◌≡◌, ℕ, ◌+◌, ◌≤◌, refl, sym, ap, subst, ◌∙◌, arith}
-use Rattle.std.proofs.Common.{Option, None, Some}
+use Rattle.std.proofs.Common.{List, Option, None, Some}
 use Rattle.cell_words.specs.Term.{Term, null, num, five, part}
-use Rattle.doc_tree.specs.Tree.{count, height_below}
+use Rattle.doc_tree.specs.Edits.{delete_child, with_child, without_child}
+use Rattle.doc_tree.specs.Tree.{DocTree, Kids, count, height_below, put_child}
 use Rattle.doc_tree.specs.Tree.{nodes_below, IsRising, kid_count}
 use Rattle.doc_tree.proofs.Sizes.{put_height}
 use Rattle.kids_avl.specs.Entries.{kids_of}
@@ -75,3 +76,14 @@ top_low s None is = omega arith
 top_low s (Some a) is = is.node.lawful.low
 
 pub ruleset with_low = (put_height, top_low)
+
+-- the node with a child that was put, and without one
+pub put_made : (u t d : DocTree) (n text : List ℕ) (row : Kids)
+    → u ≡ record { text = text; kids = row } → text ≡ t.text → row ≡ put_child n d t.kids
+    → u ≡ with_child n d t
+put_made u t d n text row made own kids = rw (made, own, kids) refl
+
+pub delete_made : (u t : DocTree) (n text : List ℕ) (row : Kids)
+    → u ≡ record { text = text; kids = row } → text ≡ t.text → row ≡ delete_child n t.kids
+    → u ≡ without_child n t
+delete_made u t n text row made own kids = rw (made, own, kids) refl

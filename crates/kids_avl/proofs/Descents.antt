@@ -1,5 +1,5 @@
 -- A descent: states one after the other, and what holds of the sides of an entry that was read.
-use Rattle.std.proofs.Common.{◌≡◌, ◌+◌, ◌≤◌, ◌∙◌, List, ℕ, Option, subst, sym}
+use Rattle.std.proofs.Common.{◌≡◌, ◌+◌, ◌≤◌, ◌∙◌, List, ℕ, subst, sym}
 use Rattle.std.specs.declared.cmp.Ordering.TheVariants.{Less, Greater}
 use Rattle.doc_tree.specs.Tree.{DocTree, IsRising, name_cmp}
 use Rattle.kids_avl.specs.Changes.{IsNearly, IsPut}

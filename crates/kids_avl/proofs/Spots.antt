@@ -3,6 +3,9 @@ use Rattle.std.proofs.Common.{◌≡◌, ℕ, zero, suc, ◌+◌, List, Some, re
 use Rattle.std.proofs.Common.{arith}
 use Rattle.doc_tree.specs.Tree.{DocTree, Kids, no_kids, kid, kid_count}
 use Rattle.doc_tree.specs.Rows.{join}
+use Rattle.kids_avl.specs.declared.reading.Spot.{Spot}
+use Rattle.kids_avl.specs.declared.reading.Spot.TheVariants.{Here, Past}
+use Rattle.kids_avl.specs.Spots.{IsPast}
 use Rattle.kids_avl.specs.Entries.{Entries, no_entries, entry, name_of, child_of, left_of, right_of}
 use Rattle.kids_avl.specs.Entries.{IsEntry, kids_of, kid_at}
 
@@ -36,5 +39,11 @@ pub spot_right : (i j : ℕ) (t : Entries) → IsEntry t
 spot_right i j no_entries is e = absurd is
 spot_right i j (entry n d l r) is e =
     sym (kid_past i (suc j) (kids_of l) (kid n d.text d.kids (kids_of r)) (omega (arith, e)))
+
+-- how far past the row an index is that was past what is left of an entry and the entry itself
+pub past_right : {A : Type 0} (i j l n m : ℕ) (spot : Spot A) → IsPast j n spot
+    → i ≡ j + 1 + l → m ≡ l + 1 + n → IsPast i m spot
+past_right i j l n m (Here a) past index row = tt
+past_right i j l n m (Past more) past index row = omega (arith, past, index, row)
 
 pub ruleset spots = (spot_left, spot_here, spot_right)

@@ -306,6 +306,12 @@ without_equal m n d l r new rising equal is = record {
   high = is.high;
 }
 
+pub without_equal_done : (m n k : List ℕ) (d : DocTree) (t l r new : Entries) → t ≡ entry n d l r
+    → IsRising (kids_of t) → name_cmp m n ≡ Equal → IsClosed (entry k d l r) new → k ≡ n
+    → IsWithout m t new
+without_equal_done m n k d t l r new whole rising equal is name =
+    rw whole (without_equal m n d l r new (rw whole at rising) equal (rw name at is))
+
 -- the first entry of a tree, and the others
 pub first_here : (n : List ℕ) (d : DocTree) (r : Entries) → IsBalanced (entry n d no_entries r)
     → IsFirst (entry n d no_entries r) (entry n d no_entries r) r

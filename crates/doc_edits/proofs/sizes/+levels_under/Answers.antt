@@ -8,6 +8,7 @@ use Rattle.doc_records.specs.Trees.{AreEntries, entries_of}
 use Rattle.doc_records.proofs.Rows.{entry_count, entry_left, entry_right}
 use Rattle.doc_edits.specs.Tops.{row_of}
 use Rattle.doc_edits.proofs.Sized.{entry_high, place_one, side_count, side_high}
+use Rattle.doc_edits.proofs.Standing.{later_then}
 use Rattle.doc_edits.proofs.sizes.+levels_under.Goals as goal
 
 pub levels_under-before-requires : goal.levels_under-before-requires
@@ -44,8 +45,16 @@ levels_under-before-requires g t c κs within =
       c.read_part-left.ensures.held,
       c.read_part-left.ensures.later.room,
       place_one left,
-    ) in
-    search (rules, less, entries, low, places)
+    ) in (
+      omega (arith, less),
+      (
+        search rules,
+        (
+          search rules,
+          (c.read_part-left.ensures.stands, (entries, (low, places))),
+        ),
+      ),
+    )
 
 pub levels_under-after-requires : goal.levels_under-after-requires
 levels_under-after-requires g t c κs within =
@@ -92,8 +101,16 @@ levels_under-after-requires g t c κs within =
       c.read_part-right.ensures.held,
       c.read_part-right.ensures.later.room,
       place_one right,
-    ) in
-    search (rules, less, entries, low, places)
+    ) in (
+      omega (arith, less),
+      (
+        search rules,
+        (
+          search rules,
+          (c.read_part-right.ensures.stands, (entries, (low, places))),
+        ),
+      ),
+    )
 
 pub returns-then-before-most-clause-levels : goal.returns-then-before-most-clause-levels
 returns-then-before-most-clause-levels g t c =
@@ -170,3 +187,156 @@ returns-clause-held g t c =
       place_one c.read_part-right.result,
       c.levels_under-after.ensures.held,
     )
+
+pub entry_levels-own-requires-clause-stands : goal.entry_levels-own-requires-clause-stands
+entry_levels-own-requires-clause-stands g t c =
+    let is = rw c.in-Record.is at c.requires.stands in
+    is.0
+
+pub entry_levels-own-requires-clause-five : goal.entry_levels-own-requires-clause-five
+entry_levels-own-requires-clause-five g t c =
+    let is = rw c.in-Record.is at c.requires.stands in
+    is.1
+
+pub entry_levels-own-requires-clause-entry : goal.entry_levels-own-requires-clause-entry
+entry_levels-own-requires-clause-entry g t c = rw c.in-Record.is at c.requires.entries
+
+pub entry_levels-own-requires-clause-places : goal.entry_levels-own-requires-clause-places
+entry_levels-own-requires-clause-places g t c =
+    let at = c.in-Record.at in
+    let s0 = g.R.RecordPool.shown c.args.records.now in
+    let t0 = s0.term at in
+    let is = rw c.in-Record.is at c.requires.stands in
+    let whole : kid_count (row_of s0 c.args.top)
+    ≡ kid_count (kids_of (entries_of (part 2 t0))) + 1
+    + kid_count (kids_of (entries_of (part 3 t0))) =
+    rw c.in-Record.is (entry_count t0 is.1) in
+    omega (arith, whole, c.requires.places)
+
+pub returns-then-own-most-clause-levels : goal.returns-then-own-most-clause-levels
+returns-then-own-most-clause-levels g t c =
+    let at = c.in-Record.at in
+    let t0 = (g.R.RecordPool.shown c.args.records.now).term at in
+    let is = rw c.in-Record.is at c.requires.stands in
+    let most = rw c.in-Record.is at c.requires.most in
+    let whole = entry_high t0 is.1 in
+    rw c.in-Record.is (omega (
+      arith,
+      whole,
+      most,
+      c.entry_levels-own.ensures.levels,
+      c.if-own-most.true,
+    ))
+
+pub returns-then-own-most-clause-held : goal.returns-then-own-most-clause-held
+returns-then-own-most-clause-held g t c =
+    let at = c.in-Record.at in
+    let s0 = g.R.RecordPool.shown c.args.records.now in
+    let t0 = s0.term at in
+    let is = rw c.in-Record.is at c.requires.stands in
+    let whole : kid_count (row_of s0 c.args.top)
+    ≡ kid_count (kids_of (entries_of (part 2 t0))) + 1
+    + kid_count (kids_of (entries_of (part 3 t0))) =
+    rw c.in-Record.is (entry_count t0 is.1) in
+    omega (arith, whole, c.entry_levels-own.ensures.held)
+
+pub read_part-left-requires-clause-stands : goal.read_part-left-requires-clause-stands
+read_part-left-requires-clause-stands g t c =
+    let is = rw c.in-Record.is at c.requires.stands in
+    c.entry_levels-own.ensures.later.now c.in-Record.at is.0
+
+pub read_part-left-requires-clause-place : goal.read_part-left-requires-clause-place
+read_part-left-requires-clause-place g t c =
+    let at = c.in-Record.at in
+    let s0 = g.R.RecordPool.shown c.args.records.now in
+    let t0 = s0.term at in
+    let is = rw c.in-Record.is at c.requires.stands in
+    let whole : kid_count (row_of s0 c.args.top)
+    ≡ kid_count (kids_of (entries_of (part 2 t0))) + 1
+    + kid_count (kids_of (entries_of (part 3 t0))) =
+    rw c.in-Record.is (entry_count t0 is.1) in
+    omega (
+      arith,
+      whole,
+      c.requires.places,
+      c.entry_levels-own.ensures.held,
+      c.entry_levels-own.ensures.later.room,
+    )
+
+pub returns-then-before-most-clause-later : goal.returns-then-before-most-clause-later
+returns-then-before-most-clause-later g t c =
+    later_then (later_then c.entry_levels-own.ensures.later c.read_part-left.ensures.later)
+    c.levels_under-before.ensures.later
+
+pub returns-then-before-most-clause-held : goal.returns-then-before-most-clause-held
+returns-then-before-most-clause-held g t c =
+    let at = c.in-Record.at in
+    let s0 = g.R.RecordPool.shown c.args.records.now in
+    let t0 = s0.term at in
+    let is = rw c.in-Record.is at c.requires.stands in
+    let whole : kid_count (row_of s0 c.args.top)
+    ≡ kid_count (kids_of (entries_of (part 2 t0))) + 1
+    + kid_count (kids_of (entries_of (part 3 t0))) =
+    rw c.in-Record.is (entry_count t0 is.1) in
+    let e1 = c.entry_levels-own.ensures.later.same at is.0 in
+    let before = side_count _ _ t0 2 c.read_part-left.ensures.part e1 in
+    omega (
+      arith,
+      whole,
+      before,
+      c.entry_levels-own.ensures.held,
+      c.read_part-left.ensures.held,
+      place_one c.read_part-left.result,
+      c.levels_under-before.ensures.held,
+    )
+
+pub returns-then-before-most-clause-records : goal.returns-then-before-most-clause-records
+returns-then-before-most-clause-records g t c =
+    c.levels_under-before.ensures.records ∙ c.read_part-left.ensures.records
+    ∙ c.entry_levels-own.ensures.records
+
+pub read_part-right-requires-clause-stands : goal.read_part-right-requires-clause-stands
+read_part-right-requires-clause-stands g t c =
+    let at = c.in-Record.at in
+    let is = rw c.in-Record.is at c.requires.stands in
+    c.levels_under-before.ensures.later.now at
+    (c.read_part-left.ensures.later.now at (c.entry_levels-own.ensures.later.now at is.0))
+
+pub read_part-right-requires-clause-place : goal.read_part-right-requires-clause-place
+read_part-right-requires-clause-place g t c =
+    let at = c.in-Record.at in
+    let s0 = g.R.RecordPool.shown c.args.records.now in
+    let t0 = s0.term at in
+    let is = rw c.in-Record.is at c.requires.stands in
+    let whole : kid_count (row_of s0 c.args.top)
+    ≡ kid_count (kids_of (entries_of (part 2 t0))) + 1
+    + kid_count (kids_of (entries_of (part 3 t0))) =
+    rw c.in-Record.is (entry_count t0 is.1) in
+    let e1 = c.entry_levels-own.ensures.later.same at is.0 in
+    let before = side_count _ _ t0 2 c.read_part-left.ensures.part e1 in
+    omega (
+      arith,
+      whole,
+      before,
+      c.requires.places,
+      c.entry_levels-own.ensures.held,
+      c.entry_levels-own.ensures.later.room,
+      c.read_part-left.ensures.held,
+      c.read_part-left.ensures.later.room,
+      place_one c.read_part-left.result,
+      c.levels_under-before.ensures.held,
+      c.levels_under-before.ensures.later.room,
+    )
+
+pub returns-clause-later : goal.returns-clause-later
+returns-clause-later g t c =
+    later_then
+    (later_then (later_then c.entry_levels-own.ensures.later c.read_part-left.ensures.later)
+    c.levels_under-before.ensures.later)
+    (later_then c.read_part-right.ensures.later c.levels_under-after.ensures.later)
+
+pub returns-clause-records : goal.returns-clause-records
+returns-clause-records g t c =
+    c.levels_under-after.ensures.records ∙ c.read_part-right.ensures.records
+    ∙ c.levels_under-before.ensures.records ∙ c.read_part-left.ensures.records
+    ∙ c.entry_levels-own.ensures.records

@@ -1,8 +1,8 @@
-use Rattle.std.proofs.Common.{◌≡◌, ◌≤◌, ap, sym, ◌∙◌, arith}
+use Rattle.std.proofs.Common.{◌≡◌, ◌≤◌, ap, sym, ◌∙◌, arith, rules}
 use Rattle.doc_tree.specs.Tree.{name_cmp, IsRising}
 use Rattle.kids_avl.specs.Entries.{entry, kids_of, height_of, name_of}
 use Rattle.kids_avl.specs.Pool.{under}
-use Rattle.kids_avl.proofs.Descents.{even_parts, later_then, low_left, low_right, put_left_ready}
+use Rattle.kids_avl.proofs.Descents.{even_parts, later_then, put_left_ready}
 use Rattle.kids_avl.proofs.Descents.{put_right_ready, rising_left_of, rising_right_of}
 use Rattle.kids_avl.proofs.Heights.{entry_high}
 use Rattle.kids_avl.proofs.Steps.{put_equal_done, put_left_done, put_right_done, rising_other}
@@ -152,40 +152,6 @@ joined-requires-clause-nearly g t c =
     (later_call.child_same c.read_entry-entry.result.child c.read_entry-entry.ensures.child)
     (later_call.same_under c.read_entry-entry.result.right c.read_entry-entry.ensures.right)
 
-pub joined-requires-clause-places : goal.joined-requires-clause-places
-joined-requires-clause-places g t c =
-    let stands = rw c.in-Some.is at c.requires.stands in
-    let later_order = c.order-order.ensures.later in
-    let whole =
-    ap (under g.K.KidPool.entries c.args.pool.now) c.in-Some.is
-    ∙ sym (later_order.same c.in-Some.at stands) ∙ c.read_entry-entry.ensures.entry in
-    let low = low_left _ _ _ _ _ whole in
-    omega (
-      arith,
-      low,
-      c.requires.places,
-      c.order-order.ensures.places,
-      c.read_entry-entry.ensures.places,
-      c.put_under-new.ensures.places,
-    )
-
-pub joined-requires-clause-records : goal.joined-requires-clause-records
-joined-requires-clause-records g t c =
-    let stands = rw c.in-Some.is at c.requires.stands in
-    let later_order = c.order-order.ensures.later in
-    let whole =
-    ap (under g.K.KidPool.entries c.args.pool.now) c.in-Some.is
-    ∙ sym (later_order.same c.in-Some.at stands) ∙ c.read_entry-entry.ensures.entry in
-    let low = low_left _ _ _ _ _ whole in
-    omega (
-      arith,
-      low,
-      c.requires.records,
-      c.order-order.ensures.records,
-      c.read_entry-entry.ensures.records,
-      c.put_under-new.ensures.records,
-    )
-
 pub returns-in-Less-clause-stands : goal.returns-in-Less-clause-stands
 returns-in-Less-clause-stands g t c =
     c.joined.ensures.stands
@@ -194,57 +160,6 @@ pub returns-in-Less-clause-later : goal.returns-in-Less-clause-later
 returns-in-Less-clause-later g t c =
     later_then (later_then c.order-order.ensures.later c.read_entry-entry.ensures.later)
     (later_then c.put_under-new.ensures.later c.joined.ensures.later)
-
-pub returns-in-Less-clause-places : goal.returns-in-Less-clause-places
-returns-in-Less-clause-places g t c =
-    let stands = rw c.in-Some.is at c.requires.stands in
-    let later_order = c.order-order.ensures.later in
-    let whole =
-    ap (under g.K.KidPool.entries c.args.pool.now) c.in-Some.is
-    ∙ sym (later_order.same c.in-Some.at stands) ∙ c.read_entry-entry.ensures.entry in
-    let low = low_left _ _ _ _ _ whole in
-    omega (
-      arith,
-      low,
-      c.order-order.ensures.places,
-      c.read_entry-entry.ensures.places,
-      c.put_under-new.ensures.places,
-      c.joined.ensures.places,
-    )
-
-pub returns-in-Less-clause-records : goal.returns-in-Less-clause-records
-returns-in-Less-clause-records g t c =
-    let stands = rw c.in-Some.is at c.requires.stands in
-    let later_order = c.order-order.ensures.later in
-    let whole =
-    ap (under g.K.KidPool.entries c.args.pool.now) c.in-Some.is
-    ∙ sym (later_order.same c.in-Some.at stands) ∙ c.read_entry-entry.ensures.entry in
-    let low = low_left _ _ _ _ _ whole in
-    omega (
-      arith,
-      low,
-      c.order-order.ensures.records,
-      c.read_entry-entry.ensures.records,
-      c.put_under-new.ensures.records,
-      c.joined.ensures.records,
-    )
-
-pub returns-in-Less-clause-made : goal.returns-in-Less-clause-made
-returns-in-Less-clause-made g t c =
-    let stands = rw c.in-Some.is at c.requires.stands in
-    let later_order = c.order-order.ensures.later in
-    let whole =
-    ap (under g.K.KidPool.entries c.args.pool.now) c.in-Some.is
-    ∙ sym (later_order.same c.in-Some.at stands) ∙ c.read_entry-entry.ensures.entry in
-    let low = low_left _ _ _ _ _ whole in
-    omega (
-      arith,
-      low,
-      c.order-order.ensures.made,
-      c.read_entry-entry.ensures.made,
-      c.put_under-new.ensures.made,
-      c.joined.ensures.made,
-    )
 
 pub joined-requires-in-Greater-clause-like : goal.joined-requires-in-Greater-clause-like
 joined-requires-in-Greater-clause-like g t c =
@@ -291,40 +206,6 @@ joined-requires-in-Greater-clause-nearly g t c =
     (later_call.child_same c.read_entry-entry.result.child c.read_entry-entry.ensures.child)
     (later_call.same_under c.read_entry-entry.result.left c.read_entry-entry.ensures.left)
 
-pub joined-requires-in-Greater-clause-places : goal.joined-requires-in-Greater-clause-places
-joined-requires-in-Greater-clause-places g t c =
-    let stands = rw c.in-Some.is at c.requires.stands in
-    let later_order = c.order-order.ensures.later in
-    let whole =
-    ap (under g.K.KidPool.entries c.args.pool.now) c.in-Some.is
-    ∙ sym (later_order.same c.in-Some.at stands) ∙ c.read_entry-entry.ensures.entry in
-    let low = low_right _ _ _ _ _ whole in
-    omega (
-      arith,
-      low,
-      c.requires.places,
-      c.order-order.ensures.places,
-      c.read_entry-entry.ensures.places,
-      c.put_under-new-in-Greater.ensures.places,
-    )
-
-pub joined-requires-in-Greater-clause-records : goal.joined-requires-in-Greater-clause-records
-joined-requires-in-Greater-clause-records g t c =
-    let stands = rw c.in-Some.is at c.requires.stands in
-    let later_order = c.order-order.ensures.later in
-    let whole =
-    ap (under g.K.KidPool.entries c.args.pool.now) c.in-Some.is
-    ∙ sym (later_order.same c.in-Some.at stands) ∙ c.read_entry-entry.ensures.entry in
-    let low = low_right _ _ _ _ _ whole in
-    omega (
-      arith,
-      low,
-      c.requires.records,
-      c.order-order.ensures.records,
-      c.read_entry-entry.ensures.records,
-      c.put_under-new-in-Greater.ensures.records,
-    )
-
 pub returns-in-Greater-clause-stands : goal.returns-in-Greater-clause-stands
 returns-in-Greater-clause-stands g t c =
     c.joined-in-Greater.ensures.stands
@@ -333,57 +214,6 @@ pub returns-in-Greater-clause-later : goal.returns-in-Greater-clause-later
 returns-in-Greater-clause-later g t c =
     later_then (later_then c.order-order.ensures.later c.read_entry-entry.ensures.later)
     (later_then c.put_under-new-in-Greater.ensures.later c.joined-in-Greater.ensures.later)
-
-pub returns-in-Greater-clause-places : goal.returns-in-Greater-clause-places
-returns-in-Greater-clause-places g t c =
-    let stands = rw c.in-Some.is at c.requires.stands in
-    let later_order = c.order-order.ensures.later in
-    let whole =
-    ap (under g.K.KidPool.entries c.args.pool.now) c.in-Some.is
-    ∙ sym (later_order.same c.in-Some.at stands) ∙ c.read_entry-entry.ensures.entry in
-    let low = low_right _ _ _ _ _ whole in
-    omega (
-      arith,
-      low,
-      c.order-order.ensures.places,
-      c.read_entry-entry.ensures.places,
-      c.put_under-new-in-Greater.ensures.places,
-      c.joined-in-Greater.ensures.places,
-    )
-
-pub returns-in-Greater-clause-records : goal.returns-in-Greater-clause-records
-returns-in-Greater-clause-records g t c =
-    let stands = rw c.in-Some.is at c.requires.stands in
-    let later_order = c.order-order.ensures.later in
-    let whole =
-    ap (under g.K.KidPool.entries c.args.pool.now) c.in-Some.is
-    ∙ sym (later_order.same c.in-Some.at stands) ∙ c.read_entry-entry.ensures.entry in
-    let low = low_right _ _ _ _ _ whole in
-    omega (
-      arith,
-      low,
-      c.order-order.ensures.records,
-      c.read_entry-entry.ensures.records,
-      c.put_under-new-in-Greater.ensures.records,
-      c.joined-in-Greater.ensures.records,
-    )
-
-pub returns-in-Greater-clause-made : goal.returns-in-Greater-clause-made
-returns-in-Greater-clause-made g t c =
-    let stands = rw c.in-Some.is at c.requires.stands in
-    let later_order = c.order-order.ensures.later in
-    let whole =
-    ap (under g.K.KidPool.entries c.args.pool.now) c.in-Some.is
-    ∙ sym (later_order.same c.in-Some.at stands) ∙ c.read_entry-entry.ensures.entry in
-    let low = low_right _ _ _ _ _ whole in
-    omega (
-      arith,
-      low,
-      c.order-order.ensures.made,
-      c.read_entry-entry.ensures.made,
-      c.put_under-new-in-Greater.ensures.made,
-      c.joined-in-Greater.ensures.made,
-    )
 
 pub make_like-requires-clause-like : goal.make_like-requires-clause-like
 make_like-requires-clause-like g t c =
@@ -417,20 +247,6 @@ make_like-requires-clause-balanced g t c =
     ∙ sym (later_order.same c.in-Some.at stands) ∙ c.read_entry-entry.ensures.entry in
     even_parts _ _ _ _ _ whole c.requires.balanced
 
-pub make_like-requires-clause-places : goal.make_like-requires-clause-places
-make_like-requires-clause-places g t c =
-    let stands = rw c.in-Some.is at c.requires.stands in
-    let later_order = c.order-order.ensures.later in
-    let whole =
-    ap (under g.K.KidPool.entries c.args.pool.now) c.in-Some.is
-    ∙ sym (later_order.same c.in-Some.at stands) ∙ c.read_entry-entry.ensures.entry in
-    let low = low_left _ _ _ _ _ whole in
-    omega (arith, low, c.requires.places, c.order-order.ensures.places, c.read_entry-entry.ensures.places)
-
-pub make_like-requires-clause-records : goal.make_like-requires-clause-records
-make_like-requires-clause-records g t c =
-    omega (arith, c.requires.records, c.order-order.ensures.records, c.read_entry-entry.ensures.records)
-
 pub returns-in-Equal-clause-stands : goal.returns-in-Equal-clause-stands
 returns-in-Equal-clause-stands g t c =
     c.make_like.ensures.stands
@@ -440,20 +256,118 @@ returns-in-Equal-clause-later g t c =
     later_then (later_then c.order-order.ensures.later c.read_entry-entry.ensures.later)
     c.make_like.ensures.later
 
-pub returns-in-Equal-clause-places : goal.returns-in-Equal-clause-places
-returns-in-Equal-clause-places g t c =
+pub put_under-new-requires : goal.put_under-new-requires
+put_under-new-requires g t c κs within =
     let stands = rw c.in-Some.is at c.requires.stands in
     let later_order = c.order-order.ensures.later in
     let whole =
     ap (under g.K.KidPool.entries c.args.pool.now) c.in-Some.is
     ∙ sym (later_order.same c.in-Some.at stands) ∙ c.read_entry-entry.ensures.entry in
-    let low = low_left _ _ _ _ _ whole in
-    omega (arith, low, c.order-order.ensures.places, c.read_entry-entry.ensures.places, c.make_like.ensures.places)
+    let top = ap (λ o. height_of (under g.K.KidPool.entries c.args.pool.now o)) c.in-Some.is in
+    let same = ap height_of (later_order.same c.in-Some.at stands) in
+    let read = ap height_of c.read_entry-entry.ensures.entry in
+    let even = even_parts _ _ _ _ _ whole c.requires.balanced in
+    let rising = rising_left_of _ _ _ _ _ whole c.requires.rising in
+    let child = c.read_entry-entry.ensures.later.child_still c.args.child
+    (later_order.child_still c.args.child c.requires.child) in (
+      omega (arith, top, same, read),
+      (
+        search rules,
+        (
+          search rules,
+          (
+            search rules,
+            (
+              c.read_entry-entry.ensures.left,
+              (
+                child,
+                (
+                  even.2,
+                  (
+                    rising,
+                    (
+                      omega (
+                        arith,
+                        top,
+                        same,
+                        read,
+                        c.requires.places,
+                        c.order-order.ensures.places,
+                        c.read_entry-entry.ensures.places,
+                      ),
+                      omega (
+                        arith,
+                        top,
+                        same,
+                        read,
+                        c.requires.records,
+                        c.order-order.ensures.records,
+                        c.read_entry-entry.ensures.records,
+                      ),
+                    ),
+                  ),
+                ),
+              ),
+            ),
+          ),
+        ),
+      ),
+    )
 
-pub returns-in-Equal-clause-records : goal.returns-in-Equal-clause-records
-returns-in-Equal-clause-records g t c =
-    omega (arith, c.order-order.ensures.records, c.read_entry-entry.ensures.records, c.make_like.ensures.records)
-
-pub returns-in-Equal-clause-made : goal.returns-in-Equal-clause-made
-returns-in-Equal-clause-made g t c =
-    omega (arith, c.order-order.ensures.made, c.read_entry-entry.ensures.made, c.make_like.ensures.made)
+pub put_under-new-requires-in-Greater : goal.put_under-new-requires-in-Greater
+put_under-new-requires-in-Greater g t c κs within =
+    let stands = rw c.in-Some.is at c.requires.stands in
+    let later_order = c.order-order.ensures.later in
+    let whole =
+    ap (under g.K.KidPool.entries c.args.pool.now) c.in-Some.is
+    ∙ sym (later_order.same c.in-Some.at stands) ∙ c.read_entry-entry.ensures.entry in
+    let top = ap (λ o. height_of (under g.K.KidPool.entries c.args.pool.now o)) c.in-Some.is in
+    let same = ap height_of (later_order.same c.in-Some.at stands) in
+    let read = ap height_of c.read_entry-entry.ensures.entry in
+    let even = even_parts _ _ _ _ _ whole c.requires.balanced in
+    let rising = rising_right_of _ _ _ _ _ whole c.requires.rising in
+    let child = c.read_entry-entry.ensures.later.child_still c.args.child
+    (later_order.child_still c.args.child c.requires.child) in (
+      omega (arith, top, same, read),
+      (
+        search rules,
+        (
+          search rules,
+          (
+            search rules,
+            (
+              c.read_entry-entry.ensures.right,
+              (
+                child,
+                (
+                  even.3,
+                  (
+                    rising,
+                    (
+                      omega (
+                        arith,
+                        top,
+                        same,
+                        read,
+                        c.requires.places,
+                        c.order-order.ensures.places,
+                        c.read_entry-entry.ensures.places,
+                      ),
+                      omega (
+                        arith,
+                        top,
+                        same,
+                        read,
+                        c.requires.records,
+                        c.order-order.ensures.records,
+                        c.read_entry-entry.ensures.records,
+                      ),
+                    ),
+                  ),
+                ),
+              ),
+            ),
+          ),
+        ),
+      ),
+    )

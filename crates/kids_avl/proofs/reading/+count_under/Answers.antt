@@ -1,4 +1,4 @@
-use Rattle.std.proofs.Common.{◌≡◌, ◌+◌, ◌≤◌, ◌∙◌, ap, sym, arith}
+use Rattle.std.proofs.Common.{◌≡◌, ◌+◌, ◌≤◌, ◌∙◌, ap, arith, rules, sym}
 use Rattle.doc_tree.specs.Tree.{kid_count}
 use Rattle.kids_avl.specs.Entries.{Entries, kids_of, left_of, right_of}
 use Rattle.kids_avl.specs.Pool.{under}
@@ -80,3 +80,72 @@ returns-clause-records g t c =
 pub returns-clause-made : goal.returns-clause-made
 returns-clause-made g t c =
     c.count_under-after.ensures.made ∙ c.right-right.ensures.made ∙ c.count_under-before.ensures.made ∙ c.left-left.ensures.made
+
+pub count_under-before-requires : goal.count_under-before-requires
+count_under-before-requires g t c κs within =
+    let stands = rw c.in-Some.is at c.requires.stands in
+    let at = g.K.KidPool.entries c.args.pool.now c.in-Some.at in
+    let is = g.met.K.KidPool.is_entry c.args.pool.now c.in-Some.at stands in
+    let all : kid_count (kids_of (under g.K.KidPool.entries c.args.pool.now c.args.top))
+    ≡ kid_count (kids_of (left_of at)) + 1 + kid_count (kids_of (right_of at)) =
+    rw c.in-Some.is (count_entry at is) in
+    let left = ap (λ (e : Entries). kid_count (kids_of e)) c.left-left.ensures.left in (
+      omega (arith, all, left),
+      (
+        search rules,
+        (
+          search rules,
+          (
+            search rules,
+            (
+              c.left-left.ensures.stands,
+              (
+                omega (arith, all, left, c.requires.few),
+                omega (arith, all, left, c.requires.places, c.left-left.ensures.places),
+              ),
+            ),
+          ),
+        ),
+      ),
+    )
+
+pub count_under-after-requires : goal.count_under-after-requires
+count_under-after-requires g t c κs within =
+    let stands = rw c.in-Some.is at c.requires.stands in
+    let at = g.K.KidPool.entries c.args.pool.now c.in-Some.at in
+    let is = g.met.K.KidPool.is_entry c.args.pool.now c.in-Some.at stands in
+    let all : kid_count (kids_of (under g.K.KidPool.entries c.args.pool.now c.args.top))
+    ≡ kid_count (kids_of (left_of at)) + 1 + kid_count (kids_of (right_of at)) =
+    rw c.in-Some.is (count_entry at is) in
+    let left = ap (λ (e : Entries). kid_count (kids_of e)) c.left-left.ensures.left in
+    let right = ap (λ (e : Entries). kid_count (kids_of e)) (c.right-right.ensures.right
+    ∙ ap right_of (c.count_under-before.ensures.later.same c.in-Some.at
+    (c.left-left.ensures.later.still c.in-Some.at stands)
+    ∙ c.left-left.ensures.later.same c.in-Some.at stands)) in (
+      omega (arith, all, right),
+      (
+        search rules,
+        (
+          search rules,
+          (
+            search rules,
+            (
+              c.right-right.ensures.stands,
+              (
+                omega (arith, all, right, c.requires.few),
+                omega (
+                  arith,
+                  all,
+                  left,
+                  right,
+                  c.requires.places,
+                  c.left-left.ensures.places,
+                  c.count_under-before.ensures.places,
+                  c.right-right.ensures.places,
+                ),
+              ),
+            ),
+          ),
+        ),
+      ),
+    )

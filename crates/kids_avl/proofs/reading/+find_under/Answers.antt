@@ -1,4 +1,4 @@
-use Rattle.std.proofs.Common.{◌≡◌, ◌+◌, ◌≤◌, Some, ap, subst, sym, ◌∙◌, arith}
+use Rattle.std.proofs.Common.{◌≡◌, ◌+◌, ◌≤◌, Some, ap, rules, subst, sym, ◌∙◌, arith}
 use Rattle.std.specs.declared.cmp.Ordering.TheVariants.{Equal, Greater, Less}
 use Rattle.doc_tree.specs.Tree.{DocTree, IsRising, child, name_cmp}
 use Rattle.kids_avl.specs.Entries.{Entries, child_of, height_of, kids_of, left_of, name_of, right_of}
@@ -40,16 +40,6 @@ left-left-requires-clause-stands g t c =
     let later_order = c.order.ensures.later in
     later_order.still c.in-Some.at stands
 
-pub left-left-requires-clause-places : goal.left-left-requires-clause-places
-left-left-requires-clause-places g t c =
-    let stands = rw c.in-Some.is at c.requires.stands in
-    let pool = c.args.pool.now in
-    let at = g.K.KidPool.entries pool c.in-Some.at in
-    let is = g.met.K.KidPool.is_entry pool c.in-Some.at stands in
-    let h : 1 ≤ height_of (under g.K.KidPool.entries pool c.args.top) =
-    rw c.in-Some.is (entry_high at is) in
-    omega (arith, h, c.requires.places, c.order.ensures.places)
-
 pub returns-in-Less-clause-stands : goal.returns-in-Less-clause-stands
 returns-in-Less-clause-stands g t c =
     c.find_under.ensures.stands
@@ -58,43 +48,11 @@ pub returns-in-Less-clause-later : goal.returns-in-Less-clause-later
 returns-in-Less-clause-later g t c =
     later_then (later_then c.order.ensures.later c.left-left.ensures.later) c.find_under.ensures.later
 
-pub returns-in-Less-clause-places : goal.returns-in-Less-clause-places
-returns-in-Less-clause-places g t c =
-    let stands = rw c.in-Some.is at c.requires.stands in
-    let pool = c.args.pool.now in
-    let at = g.K.KidPool.entries pool c.in-Some.at in
-    let later_order = c.order.ensures.later in
-    let same = later_order.same c.in-Some.at stands in
-    let is = g.met.K.KidPool.is_entry pool c.in-Some.at stands in
-    let side = c.left-left.ensures.left ∙ ap left_of same in
-    let low : height_of (left_of at) + 1 ≤ height_of (under g.K.KidPool.entries pool c.args.top) =
-    rw c.in-Some.is (left_lower at is) in
-    let high = ap height_of side in
-    omega (arith, low, high, c.order.ensures.places, c.left-left.ensures.places, c.find_under.ensures.places)
-
-pub returns-in-Less-clause-records : goal.returns-in-Less-clause-records
-returns-in-Less-clause-records g t c =
-    c.find_under.ensures.records ∙ c.left-left.ensures.records ∙ c.order.ensures.records
-
-pub returns-in-Less-clause-made : goal.returns-in-Less-clause-made
-returns-in-Less-clause-made g t c =
-    c.find_under.ensures.made ∙ c.left-left.ensures.made ∙ c.order.ensures.made
-
 pub right-right-requires-clause-stands : goal.right-right-requires-clause-stands
 right-right-requires-clause-stands g t c =
     let stands = rw c.in-Some.is at c.requires.stands in
     let later_order = c.order.ensures.later in
     later_order.still c.in-Some.at stands
-
-pub right-right-requires-clause-places : goal.right-right-requires-clause-places
-right-right-requires-clause-places g t c =
-    let stands = rw c.in-Some.is at c.requires.stands in
-    let pool = c.args.pool.now in
-    let at = g.K.KidPool.entries pool c.in-Some.at in
-    let is = g.met.K.KidPool.is_entry pool c.in-Some.at stands in
-    let h : 1 ≤ height_of (under g.K.KidPool.entries pool c.args.top) =
-    rw c.in-Some.is (entry_high at is) in
-    omega (arith, h, c.requires.places, c.order.ensures.places)
 
 pub returns-in-Greater-clause-child : goal.returns-in-Greater-clause-child
 returns-in-Greater-clause-child g t c =
@@ -120,43 +78,11 @@ pub returns-in-Greater-clause-later : goal.returns-in-Greater-clause-later
 returns-in-Greater-clause-later g t c =
     later_then (later_then c.order.ensures.later c.right-right.ensures.later) c.find_under-in-Greater.ensures.later
 
-pub returns-in-Greater-clause-places : goal.returns-in-Greater-clause-places
-returns-in-Greater-clause-places g t c =
-    let stands = rw c.in-Some.is at c.requires.stands in
-    let pool = c.args.pool.now in
-    let at = g.K.KidPool.entries pool c.in-Some.at in
-    let later_order = c.order.ensures.later in
-    let same = later_order.same c.in-Some.at stands in
-    let is = g.met.K.KidPool.is_entry pool c.in-Some.at stands in
-    let side = c.right-right.ensures.right ∙ ap right_of same in
-    let low : height_of (right_of at) + 1 ≤ height_of (under g.K.KidPool.entries pool c.args.top) =
-    rw c.in-Some.is (right_lower at is) in
-    let high = ap height_of side in
-    omega (arith, low, high, c.order.ensures.places, c.right-right.ensures.places, c.find_under-in-Greater.ensures.places)
-
-pub returns-in-Greater-clause-records : goal.returns-in-Greater-clause-records
-returns-in-Greater-clause-records g t c =
-    c.find_under-in-Greater.ensures.records ∙ c.right-right.ensures.records ∙ c.order.ensures.records
-
-pub returns-in-Greater-clause-made : goal.returns-in-Greater-clause-made
-returns-in-Greater-clause-made g t c =
-    c.find_under-in-Greater.ensures.made ∙ c.right-right.ensures.made ∙ c.order.ensures.made
-
 pub child-requires-clause-stands : goal.child-requires-clause-stands
 child-requires-clause-stands g t c =
     let stands = rw c.in-Some.is at c.requires.stands in
     let later_order = c.order.ensures.later in
     later_order.still c.in-Some.at stands
-
-pub child-requires-clause-places : goal.child-requires-clause-places
-child-requires-clause-places g t c =
-    let stands = rw c.in-Some.is at c.requires.stands in
-    let pool = c.args.pool.now in
-    let at = g.K.KidPool.entries pool c.in-Some.at in
-    let is = g.met.K.KidPool.is_entry pool c.in-Some.at stands in
-    let h : 1 ≤ height_of (under g.K.KidPool.entries pool c.args.top) =
-    rw c.in-Some.is (entry_high at is) in
-    omega (arith, h, c.requires.places, c.order.ensures.places)
 
 pub returns-in-Equal-clause-child : goal.returns-in-Equal-clause-child
 returns-in-Equal-clause-child g t c =
@@ -178,20 +104,78 @@ pub returns-in-Equal-clause-later : goal.returns-in-Equal-clause-later
 returns-in-Equal-clause-later g t c =
     later_then c.order.ensures.later c.child.ensures.later
 
-pub returns-in-Equal-clause-places : goal.returns-in-Equal-clause-places
-returns-in-Equal-clause-places g t c =
+pub find_under-requires : goal.find_under-requires
+find_under-requires g t c κs within =
     let stands = rw c.in-Some.is at c.requires.stands in
     let pool = c.args.pool.now in
     let at = g.K.KidPool.entries pool c.in-Some.at in
+    let same = c.order.ensures.later.same c.in-Some.at stands in
     let is = g.met.K.KidPool.is_entry pool c.in-Some.at stands in
-    let h : 1 ≤ height_of (under g.K.KidPool.entries pool c.args.top) =
-    rw c.in-Some.is (entry_high at is) in
-    omega (arith, h, c.order.ensures.places, c.child.ensures.places)
+    let side = c.left-left.ensures.left ∙ ap left_of same in
+    let rising : IsRising (kids_of at) = rw c.in-Some.is at c.requires.rising in
+    let low : height_of (left_of at) + 1 ≤ height_of (under g.K.KidPool.entries pool c.args.top) =
+    rw c.in-Some.is (left_lower at is) in
+    let high = ap height_of side in (
+      omega (arith, low, high),
+      (
+        search rules,
+        (
+          search rules,
+          (
+            search rules,
+            (
+              c.left-left.ensures.stands,
+              (
+                subst (λ (e : Entries). IsRising (kids_of e)) (sym side) (rising_before at rising),
+                omega (
+                  arith,
+                  low,
+                  high,
+                  c.requires.places,
+                  c.order.ensures.places,
+                  c.left-left.ensures.places,
+                ),
+              ),
+            ),
+          ),
+        ),
+      ),
+    )
 
-pub returns-in-Equal-clause-records : goal.returns-in-Equal-clause-records
-returns-in-Equal-clause-records g t c =
-    c.child.ensures.records ∙ c.order.ensures.records
-
-pub returns-in-Equal-clause-made : goal.returns-in-Equal-clause-made
-returns-in-Equal-clause-made g t c =
-    c.child.ensures.made ∙ c.order.ensures.made
+pub find_under-requires-in-Greater : goal.find_under-requires-in-Greater
+find_under-requires-in-Greater g t c κs within =
+    let stands = rw c.in-Some.is at c.requires.stands in
+    let pool = c.args.pool.now in
+    let at = g.K.KidPool.entries pool c.in-Some.at in
+    let same = c.order.ensures.later.same c.in-Some.at stands in
+    let is = g.met.K.KidPool.is_entry pool c.in-Some.at stands in
+    let side = c.right-right.ensures.right ∙ ap right_of same in
+    let rising : IsRising (kids_of at) = rw c.in-Some.is at c.requires.rising in
+    let low : height_of (right_of at) + 1 ≤ height_of (under g.K.KidPool.entries pool c.args.top) =
+    rw c.in-Some.is (right_lower at is) in
+    let high = ap height_of side in (
+      omega (arith, low, high),
+      (
+        search rules,
+        (
+          search rules,
+          (
+            search rules,
+            (
+              c.right-right.ensures.stands,
+              (
+                subst (λ (e : Entries). IsRising (kids_of e)) (sym side) (rising_after at rising),
+                omega (
+                  arith,
+                  low,
+                  high,
+                  c.requires.places,
+                  c.order.ensures.places,
+                  c.right-right.ensures.places,
+                ),
+              ),
+            ),
+          ),
+        ),
+      ),
+    )
