@@ -4,5 +4,7 @@ pub mod Kept
 pub mod Less
 pub mod Lines
 pub mod OneText
+pub mod Opened
 pub mod SomeText
 pub mod Turning
+pub mod Words
