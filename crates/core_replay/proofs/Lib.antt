@@ -1,8 +1,11 @@
+pub mod Counts
 pub mod Ending
 pub mod Falls
 pub mod Kept
 pub mod Less
 pub mod Lines
 pub mod OneText
+pub mod Opened
 pub mod SomeText
 pub mod Turning
+pub mod Words

@@ -1,30 +1,25 @@
 -- A schedule with sizes that a core can have has a replay text: turns leave less to do, so they
 -- come to an end.
-use Rattle.std.proofs.Common.{if◌then◌else◌, ◌≡◌, ◌<◌, ◌≤◌, ◌+◌, ℕ, zero, suc, Bool, true, false}
-use Rattle.std.proofs.Common.{nat_lt, nat_le, List, [], ◌∷◌, ◌++◌, length, replicate, Option, Some}
+use Rattle.std.proofs.Common.{if◌then◌else◌, ◌≡◌, ◌<◌, ◌+◌, ℕ, zero, suc, Bool, true, false}
+use Rattle.std.proofs.Common.{nat_lt, List, [], ◌∷◌, ◌++◌, Option, Some}
 use Rattle.std.proofs.Common.{None, Ok, IsTrue, refl, sym, subst, arith}
-use Rattle.std.proofs.lemmas.Bool.{and_parts, leb-true}
-use Rattle.std.proofs.lemmas.List.{length-replicate}
 use Rattle.core_machine.specs.Next.{next}
-use Rattle.core_machine.specs.State.{State, row_in}
+use Rattle.core_machine.specs.State.{State}
 use Rattle.core_machine.specs.declared.events.Event.{Event}
-use Rattle.core_machine.proofs.Ranges.Start.{opening_in_range, rows_below}
 use Rattle.core_replay.specs.Replay.{IsReplayText, Leads, Writes, WritesOn, after_event, shown}
 use Rattle.core_replay.specs.ReplayText.{cell_line_of, ending_of, not_now_line}
-use Rattle.core_replay.specs.Standing.{IsReplayed, Standing, anchor_row, counted, opened, taken_by}
+use Rattle.core_replay.specs.Standing.{IsReplayed, Standing, counted, opened, taken_by}
 use Rattle.core_replay.specs.Turns.{Outcome, Went, Stopped, Turn, Ends, GoesOn, PlainLeads, ends}
 use Rattle.core_replay.specs.Turns.{goes_on, is_post, look_before, looked, turn_of, turned}
 use Rattle.core_replay.specs.Work.{HasFallen, work}
 use Rattle.core_replay.specs.ScheduleValue.{ScheduleValue, are_sizes}
 use Rattle.core_replay.specs.declared.line.Numbered.{Numbered}
-use Rattle.core_replay.specs.declared.start.Sizes.{Sizes}
 use Rattle.core_replay.specs.declared.step.Step.{Step}
 use Rattle.core_replay.specs.declared.step.Step.TheVariants.{Take, Plain, Show}
 use Rattle.core_replay.proofs.Kept.{takes_replayed}
+use Rattle.core_replay.proofs.Opened.{opened_kept}
 use Rattle.core_replay.proofs.Turning.{turn_falls, turn_refused, turn_taken, turn_unlooked}
 use Rattle.core_replay.proofs.Turning.{turn_without}
-use Rattle.dlg_core.proofs.Starts.{opening_consistent}
-use Rattle.dlg_core.proofs.Throughout.{first_rows_named}
 use Rattle.dlg_core.specs.Plain.{next_plain_of}
 
 -- What is kept of a core stays so.
@@ -153,35 +148,6 @@ some_writing p (step ∷ later) kept =
     (on.0, on.1, (lead.0, lead.1, on.2))
 
 -- The start.
-
-six : (i : ℕ) → i < 1 → length (row_in (anchor_row ∷ []) i) ≡ 6
-six zero lt = refl
-six (suc i) lt = absurd (omega arith)
-
-few_of_rooms : (sizes : Sizes) → sizes.mutators ≤ 64
-    → length (replicate sizes.mutators sizes.room) ≤ 64
-few_of_rooms sizes few = subst (λ n. n ≤ 64) (sym (length-replicate sizes.mutators sizes.room)) few
-
-opened_kept : (sizes : Sizes) → IsTrue (are_sizes sizes) → IsReplayed (opened sizes).core
-opened_kept sizes allowed =
-    let rooms = replicate sizes.mutators sizes.room in
-    let first = anchor_row ∷ [] in
-    let e = and_parts _ (nat_le sizes.room 1024) allowed in
-    let d = and_parts _ (nat_le 1 sizes.room) e.0 in
-    let c = and_parts _ (nat_le sizes.mutators 64) d.0 in
-    let b = and_parts _ (nat_le 1 sizes.mutators) c.0 in
-    let a = and_parts (nat_le 1 sizes.cells) (nat_le sizes.cells 256) b.0 in
-    let some : 1 ≤ sizes.cells = leb-true 1 sizes.cells a.0 in
-    let few : sizes.cells ≤ 256 = leb-true sizes.cells 256 a.1 in
-    record {
-      kept = record {
-        range = opening_in_range sizes.cells rooms first (omega arith) (omega arith) some six
-            (rows_below sizes.cells first (first_rows_named sizes.cells first some refl));
-        consistent = opening_consistent sizes.cells rooms first some refl;
-      };
-      few_cells = few;
-      few_mutators = few_of_rooms sizes (leb-true sizes.mutators 64 c.1);
-    }
 
 pub some_text : (schedule : ScheduleValue) → IsTrue (are_sizes schedule.sizes)
     → (text : List ℕ) × IsReplayText schedule text

@@ -1,6 +1,7 @@
-use Rattle.std.proofs.Common.{Some, ap, subst, sym, ◌∙◌}
+use Rattle.std.proofs.Common.{Some, ap, arith, subst, sym, ◌∙◌}
 use Rattle.core_replay.specs.Standing.{IsReplayed, Standing}
-use Rattle.core_replay.specs.Turns.{Ends, Stopped, turned}
+use Rattle.core_replay.specs.Turns.{Ends, Stopped, look_before, turned}
+use Rattle.core_replay.proofs.Counts.{looked_few, taken_one}
 use Rattle.core_replay.proofs.Turning.{turn_falls, turn_refused, turn_taken, turn_unlooked}
 use Rattle.core_replay.proofs.replaying.Replaying.turn_with.Goals as goal
 
@@ -39,3 +40,50 @@ returns-else-posts-clause-falls c =
     c.requires.plain
     c.in_default.ensures.look c.in_default-take.ensures.event
     (sym c.posts.ensures ∙ c.if-posts.false)
+
+pub returns-in-Err-clause-falls : goal.returns-in-Err-clause-falls
+returns-in-Err-clause-falls c = λ goes_on. absurd cc
+
+pub returns-in-Err-clause-few : goal.returns-in-Err-clause-few
+returns-in-Err-clause-few c =
+    omega (arith, ap (λ (p : Standing). p.taken) c.in-Err.ensures.look.1)
+
+pub take-requires : goal.take-requires
+take-requires c =
+    omega (
+      arith,
+      looked_few c.args.self.now c.look.new.self (look_before c.args.event)
+          c.in_default.ensures.look,
+    )
+
+pub returns-in-Err-take-clause-falls : goal.returns-in-Err-take-clause-falls
+returns-in-Err-take-clause-falls c = λ goes_on. absurd cc
+
+pub returns-in-Err-take-clause-few : goal.returns-in-Err-take-clause-few
+returns-in-Err-take-clause-few c =
+    let few = looked_few c.args.self.now c.look.new.self (look_before c.args.event)
+    c.in_default.ensures.look in
+    omega (arith, ap (λ (p : Standing). p.taken) c.in-Err-take.ensures.event.1)
+
+pub returns-then-posts-clause-falls : goal.returns-then-posts-clause-falls
+returns-then-posts-clause-falls c = λ goes_on. absurd cc
+
+pub returns-then-posts-clause-few : goal.returns-then-posts-clause-few
+returns-then-posts-clause-few c =
+    let few = looked_few c.args.self.now c.look.new.self (look_before c.args.event)
+    c.in_default.ensures.look in
+    omega (
+      arith,
+      taken_one c.look.new.self c.take.new.self c.args.event
+          c.in_default-take.ensures.event,
+    )
+
+pub returns-else-posts-clause-few : goal.returns-else-posts-clause-few
+returns-else-posts-clause-few c =
+    let few = looked_few c.args.self.now c.look.new.self (look_before c.args.event)
+    c.in_default.ensures.look in
+    omega (
+      arith,
+      taken_one c.look.new.self c.take.new.self c.args.event
+          c.in_default-take.ensures.event,
+    )
