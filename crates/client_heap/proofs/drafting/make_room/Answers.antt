@@ -2,8 +2,10 @@ use Rattle.std.proofs.Common.{arith}
 use Rattle.client_heap.proofs.Carrying.{follows_then}
 use Rattle.client_heap.proofs.Commits.{full_late, on_refusal}
 use Rattle.client_heap.proofs.drafting.make_room.Goals as goal
-use Rattle.client_heap.proofs.drafting.make_room.Goals.{else-spare-ge2285-via-then-spare-ge2285+else-records-room}
-use Rattle.client_heap.proofs.drafting.make_room.Goals.{else-spare-ge2285-via-else-spare-ge2285}
+use Rattle.client_heap.proofs.drafting.make_room.Goals.{
+  else-spare-ge2285-via-then-spare-ge2285+else-records-room,
+  else-spare-ge2285-via-else-spare-ge2285,
+}
 
 pub returns-then-base-gt2-clause-full : goal.returns-then-base-gt2-clause-full
 returns-then-base-gt2-clause-full g c =
