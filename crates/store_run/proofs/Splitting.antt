@@ -8,9 +8,12 @@ use Rattle.cell_words.specs.declared.fields.Field.{Field}
 use Rattle.doc_records.specs.Trees.{IsTreeNode, tree_of}
 use Rattle.document_versions.specs.Spelled.{bare_is_empty, bare_is_node}
 use Rattle.heap_rule.specs.Moves.{split_view}
+use Rattle.heap_rule.specs.Shape.{Shape}
 use Rattle.heap_table.specs.Opening.{Opens}
 use Rattle.heap_table.specs.Seats.{SeatView}
+use Rattle.store_run.specs.Opened.{shape_of}
 use Rattle.store_run.specs.Parts.{IsStill}
+use Rattle.store_run.specs.declared.options.Options.{Options}
 use Rattle.version_rule.specs.Opening.{first_rows, first_terms}
 use Rattle.version_rule.specs.Pass.{Pass, opening_pass}
 use Rattle.version_rule.specs.Versions.{HoldsVersions}
@@ -33,6 +36,16 @@ opens cells mutators keep rows is fewer least most =
             few = fewer;
           },
     )
+
+-- the shape of the heap that is opened is that of the run's options
+pub opened_shape : (o : Options) (h : Shape) (mutators keep : ℕ) (rows : List (List Field))
+    → h ≡ record { cells = o.cells; mutators = mutators; setting = keep; first = rows }
+    → keep ≡ o.keep → rows ≡ first_rows → h ≡ shape_of o mutators
+opened_shape o h mutators keep rows is kept are =
+    subst (λ (first : List (List Field)). h
+    ≡ record { cells = o.cells; mutators = mutators; setting = o.keep; first = first }) are
+    (subst (λ (setting : ℕ). h
+    ≡ record { cells = o.cells; mutators = mutators; setting = setting; first = rows }) kept is)
 
 -- every one of so many is unsplit at the opening
 pub all_alike : {A : Type 0} (a : A) (n i : ℕ) → i < n

@@ -1,6 +1,11 @@
 use Rattle.std.proofs.Common.{arith}
+use Rattle.client_heap.proofs.Carrying.{follows_then}
 use Rattle.client_heap.proofs.Commits.{full_late, on_refusal}
 use Rattle.client_heap.proofs.drafting.make_room.Goals as goal
+use Rattle.client_heap.proofs.drafting.make_room.Goals.{
+  else-spare-ge2285-via-then-spare-ge2285+else-records-room,
+  else-spare-ge2285-via-else-spare-ge2285,
+}
 
 pub returns-then-base-gt2-clause-full : goal.returns-then-base-gt2-clause-full
 returns-then-base-gt2-clause-full g c =
@@ -14,3 +19,41 @@ returns-then-records-room-clause-cleared g c = record {
   room = omega arith;
   spare = omega arith;
 }
+
+pub returns-then-base-gt2-clause-follows : goal.returns-then-base-gt2-clause-follows
+returns-then-base-gt2-clause-follows g c =
+    follows_then c.draw_in.ensures.follows c.clear_around-cleared.ensures.follows
+
+pub returns-then-base-gt2-clause-idle : goal.returns-then-base-gt2-clause-idle
+returns-then-base-gt2-clause-idle g c = λ cleared. absurd (
+    elim c.else-spare-ge2285.branch [
+      | else-spare-ge2285-via-then-spare-ge2285+else-records-room w ↦ omega arith
+      | else-spare-ge2285-via-else-spare-ge2285 w ↦ omega arith
+    ]
+    )
+
+pub returns-else-base-gt2-clause-idle : goal.returns-else-base-gt2-clause-idle
+returns-else-base-gt2-clause-idle g c = λ cleared. absurd (
+    elim c.else-spare-ge2285.branch [
+      | else-spare-ge2285-via-then-spare-ge2285+else-records-room w ↦ omega arith
+      | else-spare-ge2285-via-else-spare-ge2285 w ↦ omega arith
+    ]
+    )
+
+pub returns-in_ok-share_draft-in-Minor-clause-idle :
+    goal.returns-in_ok-share_draft-in-Minor-clause-idle
+returns-in_ok-share_draft-in-Minor-clause-idle g c = λ cleared. absurd (
+    elim c.else-spare-ge2285.branch [
+      | else-spare-ge2285-via-then-spare-ge2285+else-records-room w ↦ omega arith
+      | else-spare-ge2285-via-else-spare-ge2285 w ↦ omega arith
+    ]
+    )
+
+pub returns-in_err-share_draft-in-Minor-clause-idle :
+    goal.returns-in_err-share_draft-in-Minor-clause-idle
+returns-in_err-share_draft-in-Minor-clause-idle g c = λ cleared. absurd (
+    elim c.else-spare-ge2285.branch [
+      | else-spare-ge2285-via-then-spare-ge2285+else-records-room w ↦ omega arith
+      | else-spare-ge2285-via-else-spare-ge2285 w ↦ omega arith
+    ]
+    )

@@ -1,5 +1,13 @@
-use Rattle.std.proofs.Common.{arith}
-use Rattle.store_run.proofs.Splitting.{opens}
+use Rattle.std.proofs.Common.{◌∙◌, ◌++◌, List, ap, arith, length, subst}
+use Rattle.cell_words.specs.declared.controls.Control.{Control}
+use Rattle.client_run.specs.declared.session.Limits.{Limits}
+use Rattle.client_threads.specs.Clients.{AllReady}
+use Rattle.core_machine.specs.declared.events.Taken.{Taken}
+use Rattle.heap_rule.specs.declared.view.Place.{Place}
+use Rattle.heap_table.specs.Seats.{SeatView}
+use Rattle.version_rule.specs.Pass.{Pass}
+use Rattle.store_run.specs.Finished.{duty_on}
+use Rattle.store_run.proofs.Splitting.{opened_shape, opens}
 use Rattle.store_run.proofs.opening.open_store.Goals as goal
 
 pub open-requires-2-clause-rule : goal.open-requires-2-clause-rule
@@ -8,3 +16,33 @@ open-requires-2-clause-rule g c =
     let range = c.requires.options.keep in
     opens c.args.options.now.cells _ c.from-keep.result _ c.opening_rows-rows.ensures.rows
     (omega (arith, c.requires.few)) (omega (arith, keep, range.0)) (omega (arith, keep, range.1))
+
+pub returns : goal.returns
+returns g c =
+    let o = c.args.options.now in
+    let seat = c.in_ok-heap.ensures.seat in
+    let duty = c.begin_duty.ensures.duty in
+    let split = c.in_ok-clients.ensures.seat in
+    record {
+      opened = record {
+        shape = opened_shape o c.in_ok-heap.heap.shape (length c.args.scripts.now)
+            c.from-keep.result c.opening_rows-rows.result c.in_ok-heap.ensures.heap
+            c.from-keep.ensures c.opening_rows-rows.ensures.rows;
+        seat = (
+          duty.table ∙ split.still.table ∙ ap (λ (s : SeatView Pass). s.table) seat,
+          duty.shape ∙ split.still.shape ∙ ap (λ (s : SeatView Pass). s.me.shape) seat,
+        );
+        idle = duty.idle;
+        no_cycles = duty.ended ∙ ap (λ (k : Control). k.cycles) split.still.control
+            ∙ ap (λ (s : SeatView Pass). s.me.control.cycles) seat;
+        trail = duty.trail ∙ ap (λ (events : List Taken). events ++ duty_on o.cycles)
+            (split.still.trail ∙ ap (λ (s : SeatView Pass). s.me.trail) seat);
+        places = ap (λ (ps : List (Place Pass)). length ps) duty.places ∙ split.many;
+        pass = c.in_ok-clients.ensures.pass;
+        hinted = c.in_ok-queue.ensures.cells;
+        ready = subst (λ (l : Limits). AllReady c.in_ok-heap.heap c.in_ok-queue.queue l
+            c.args.scripts.now c.in_ok-clients.clients.items)
+            c.client_limits-limits.ensures.limits c.in_ok-clients.ensures.ready;
+        many = c.in_ok-clients.ensures.many;
+      };
+    }
