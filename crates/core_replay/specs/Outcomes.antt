@@ -1,6 +1,6 @@
 -- How the results of a replay's calls stand to the definitions.
 -- Source: this project's.
-use Rattle.std.specs.Prelude.{◌≡◌, Bool, true, false, [], Option, Some, None, Result, Ok, Err}
+use Rattle.std.specs.Prelude.{Bool, true, false, [], Option, Some, None}
 use Rattle.std.specs.Prelude.{String, string_bytes}
 use Rattle.std.specs.declared.alloc.Global.{Global}
 use Rattle.core_replay.specs.Standing.{Standing}
