@@ -1,12 +1,7 @@
-use Rattle.std.proofs.Common.{◌≡◌, ◌∙◌, ◌<◌, List, [], ◌∷◌, ℕ, Ok, ap, arith, length, refl, sym}
-use Rattle.std.specs.Option.{option_copied}
-use Rattle.std.specs.declared.rc.Rc.{Rc}
-use Rattle.std.specs.declared.alloc.Global.{Global}
-use Rattle.doc_tree.specs.declared.chunk.Chunk.{Chunk}
-use Rattle.doc_tree.specs.Chunks.{kids_of}
-use Rattle.doc_tree.specs.Edits.{edit_along, with_child}
+use Rattle.std.proofs.Common.{◌≡◌, ◌<◌, List, [], ◌∷◌, ℕ, Ok, arith, length, refl}
+use Rattle.doc_tree.specs.Edits.{edit_along}
 use Rattle.doc_tree.specs.Ends.{tree_at_end}
-use Rattle.doc_tree.specs.Tree.{DocTree, child as child_of_name}
+use Rattle.doc_tree.specs.Tree.{DocTree}
 use Rattle.doc_tree.proofs.tree.Tree.+edit_along.Goals as goal
 
 -- at the end of the path
