@@ -1,4 +1,5 @@
-use Rattle.std.proofs.Common.{◌≡◌, Some, None, take, drop, ◌++◌, ◌∷◌, [], sym, arith}
+use Rattle.std.proofs.Common.{◌≡◌, ◌∙◌, ℕ, List, Some, None, ap, take, drop, ◌++◌, ◌∷◌, [], sym}
+use Rattle.std.proofs.Common.{arith}
 use Rattle.doc_tree.specs.Words.{name_of}
 use Rattle.doc_tree.proofs.Pieces.{refused_piece, refused_more, refused_last, whole_path}
 use Rattle.doc_tree.proofs.Pieces.{more_names, more_pieces}
@@ -27,9 +28,9 @@ loop-at-preserved c =
     let named : name_of (take c.in-Some.at c.loop-at.rest.now) ≡ Some c.in-Some-2.name =
     cc (c.in_ok-name.ensures, c.split_at.ensures.front) in
     let names : c.push.new.self.items ≡ c.loop-at.names.items ++ c.in-Some-2.name ∷ [] =
-    cc (c.in_ok-push.ensures.items) in
+    c.in_ok-push.ensures.items in
     let rest : c.split_at-in-Some.result.1.now ≡ drop 1 (drop c.in-Some.at c.loop-at.rest.now) =
-    cc (c.split_at.ensures.back, c.split_at-in-Some.ensures.back) in
+    c.split_at-in-Some.ensures.back ∙ ap (λ (xs : List ℕ). drop 1 xs) c.split_at.ensures.back in
     record {
       short = omega (arith, c.in_ok-push.ensures.len);
       named = rw names (more_names c.loop-at.names.items
@@ -43,7 +44,7 @@ pub returns : goal.returns
 returns c =
     let named : name_of c.loop-at.rest.now ≡ Some c.in-Some-3.name = cc (c.in_ok-name-2.ensures) in
     let names : c.shrink_to_fit.new.self.items ≡ c.loop-at.names.items ++ c.in-Some-3.name ∷ [] =
-    cc (c.in_ok-push-2.ensures.items, c.shrink_to_fit.ensures.items) in
+    c.shrink_to_fit.ensures.items ∙ c.in_ok-push-2.ensures.items in
     rw names (whole_path c.loop-at.names.items c.loop-at.rest.now c.in-Some-3.name _
     (sym c.in_default.ensures) c.loop-at.invariant.whole named c.loop-at.invariant.named
     c.loop-at.invariant.short)
