@@ -11,7 +11,7 @@ ghost use Rattle.std.specs.Prelude.{ok_or, ◌<◌, ◌^◌, ◌≡◌};
 use crate::fault::ScheduleKind;
 use crate::numbers::{read_index, read_value};
 use crate::step::Step;
-use crate::verb::{Single, Verb, bare_step, duty_named, kind_named, stage_named};
+use crate::verb::{Single, Verb, bare_step, duty_named, is, kind_named, stage_named};
 use core_machine::Event;
 use line_words::{first_word, next_rest, next_word};
 
@@ -217,8 +217,9 @@ fn read_over(i: u32, rest: &[u8]) -> Result<Event, ScheduleKind>
     if rest.is_empty() {
         return Ok(Event::AnswerOut(i, false));
     }
-    match next_word(rest).0 {
-        b"over" => at_end(next_rest(rest), Event::AnswerOut(i, true)),
-        _ => Err(ScheduleKind::NoEvent),
+    if is(next_word(rest).0, b"over") {
+        at_end(next_rest(rest), Event::AnswerOut(i, true))
+    } else {
+        Err(ScheduleKind::NoEvent)
     }
 }

@@ -16,7 +16,7 @@ pub struct Numbered {
 }
 
 /// What a line gives.
-#[derive(Clone, Copy, Debug)]
+#[derive(Clone, Copy)]
 pub(crate) enum Reading {
     Nothing,
     Start(Sizes),

@@ -1,6 +1,6 @@
 //! Numbers and values of fields.
 ghost use Rattle.core_replay.specs.Numbers.{index_in, number_to, value_in, value_of};
-ghost use Rattle.std.specs.Prelude.{◌≡◌};
+ghost use Rattle.std.specs.Prelude.{◌∷◌, ◌≡◌};
 
 use crate::fault::ScheduleKind;
 use cell_words::Field;
@@ -19,14 +19,25 @@ pub(crate) fn read_value(rest: &[u8]) -> Result<Field, ScheduleKind>
     ensures { result ≡ value_in rest.now }
 {
     match next_word(rest).0 {
-        [b'-'] => Ok(Field::Null),
-        [b'=', digits @ ..] => Ok(Field::Num(read_number(digits, GREATEST_NUMBER)?)),
-        [b'@', digits @ ..] => {
-            let cell = read_number(digits, u64::from(u32::MAX))?;
-            Ok(Field::Cell(cell as u32))
-        }
-        _ => Err(ScheduleKind::BadNumber),
+        [] => Err(ScheduleKind::BadNumber),
+        [sign, digits @ ..] => read_signed(*sign, digits),
     }
+}
+
+fn read_signed(sign: u8, digits: &[u8]) -> Result<Field, ScheduleKind>
+    ensures { result ≡ value_of (sign ∷ digits.now) }
+{
+    if sign == b'-' && digits.is_empty() {
+        return Ok(Field::Null);
+    }
+    if sign == b'=' {
+        return Ok(Field::Num(read_number(digits, GREATEST_NUMBER)?));
+    }
+    if sign == b'@' {
+        let cell = read_number(digits, u64::from(u32::MAX))?;
+        return Ok(Field::Cell(cell as u32));
+    }
+    Err(ScheduleKind::BadNumber)
 }
 
 /// A word as a number of at most this size.

@@ -39,7 +39,7 @@ impl Model for Replaying {
 }
 
 /// How a turn of the plain collector ended.
-#[derive(Clone, Copy, Debug)]
+#[derive(Clone, Copy)]
 pub(crate) enum Turned {
     Posted,
     GoesOn,

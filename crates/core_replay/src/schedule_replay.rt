@@ -2,7 +2,8 @@
 ghost use Rattle.core_replay.specs.Outcomes.{told_by};
 ghost use Rattle.core_replay.specs.Replay.{IsReplayText, Leads, Writes};
 ghost use Rattle.core_replay.specs.ReplayText.{ending_of};
-ghost use Rattle.std.specs.Prelude.{IfOk, length, string_bytes, ◌*◌, ◌+◌, ◌<◌, ◌^◌, ◌≡◌, ◌≤◌};
+ghost use Rattle.std.specs.Prelude.{IfOk, List, length, string_bytes, ℕ, ◌*◌, ◌++◌, ◌+◌, ◌<◌, ◌^◌};
+ghost use Rattle.std.specs.Prelude.{◌≡◌, ◌≤◌};
 
 use crate::line::Numbered;
 use crate::replay_text::refusal_line;
@@ -18,12 +19,21 @@ pub fn replay(alloc: Global, schedule: &Schedule) -> Result<Vec<u8>, NoMemory>
     ensures text { IfOk result (λ text. IsReplayText schedule.now text.items) }
 {
     let mut replaying = Replaying::open(alloc, schedule.sizes())?;
-    let mut text = replaying.steps(alloc, schedule.steps())?;
-    text.extend_from_slice(replaying.ending(alloc)?.as_bytes())?;
-    Ok(text)
+    replaying.whole(alloc, schedule.steps())
 }
 
 impl Replaying {
+    // Takes the steps, and gives what they write, with the last two lines.
+    fn whole(&mut self, alloc: Global, steps: &[Numbered]) -> Result<Vec<u8>, NoMemory>
+        requires { self.old.taken + length steps.now * 2 ^ 18 < 2 ^ 64 }
+        ensures text { IfOk result (λ text. (lines : List ℕ)
+            × Writes self.old steps.now lines self.new × (text.items ≡ lines ++ ending_of self.new)) }
+    {
+        let mut text = self.steps(alloc, steps)?;
+        text.extend_from_slice(self.ending(alloc)?.as_bytes())?;
+        Ok(text)
+    }
+
     // Takes the steps, and gives what they write.
     fn steps(&mut self, alloc: Global, steps: &[Numbered]) -> Result<Vec<u8>, NoMemory>
         requires { self.old.taken + length steps.now * 2 ^ 18 < 2 ^ 64 }

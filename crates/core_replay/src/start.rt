@@ -6,6 +6,7 @@ ghost use Rattle.std.specs.Prelude.{IfOk, IsTrue, ◌<◌, ◌≡◌, ◌≤◌}
 use crate::event::at_end;
 use crate::fault::ScheduleKind;
 use crate::numbers::read_number;
+use crate::verb::is;
 use line_words::{first_word, next_rest, next_word};
 
 /// The sizes of a core: its cells, its mutators, and the room of every mutator.
@@ -21,9 +22,11 @@ pub(crate) fn read_start(line: &[u8]) -> Result<Sizes, ScheduleKind>
     ensures sizes { result ≡ start_of line.now }
     ensures allowed { IfOk result (λ sizes. IsTrue (are_sizes sizes)) }
 {
-    match first_word(line) {
-        (b"core", rest) => read_sizes(rest),
-        _ => Err(ScheduleKind::NoStart),
+    let (word, rest) = first_word(line);
+    if is(word, b"core") {
+        read_sizes(rest)
+    } else {
+        Err(ScheduleKind::NoStart)
     }
 }
 

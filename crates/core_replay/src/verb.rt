@@ -1,14 +1,14 @@
 //! The first words of lines, and the words that name a stage, a kind or a duty.
 ghost use Rattle.core_replay.specs.Steps.{bare_step_of, duty_of, kind_of, single_of, stage_of};
 ghost use Rattle.core_replay.specs.Steps.{verb_of};
-ghost use Rattle.std.specs.Prelude.{◌≡◌};
+ghost use Rattle.std.specs.Prelude.{bytes_eq, ◌≡◌};
 
 use crate::step::Step;
 use cell_words::{Kind, Stage};
 use core_machine::Event;
 
 /// A step with one number: that of a mutator, or of a cell.
-#[derive(Clone, Copy, Debug)]
+#[derive(Clone, Copy)]
 pub(crate) enum Single {
     Begin,
     Look,
@@ -21,7 +21,7 @@ pub(crate) enum Single {
 }
 
 /// A step with other words behind the first.
-#[derive(Clone, Copy, Debug)]
+#[derive(Clone, Copy)]
 pub(crate) enum Verb {
     Read,
     Mark,
@@ -35,30 +35,37 @@ pub(crate) enum Verb {
     Out,
 }
 
+// Whether the word is this text. A comparison in each place is dearer to prove.
+pub(crate) fn is(word: &[u8], text: &[u8]) -> bool
+    ensures { result ≡ bytes_eq word.now text.now }
+{
+    word == text
+}
+
 pub(crate) fn bare_step(word: &[u8]) -> Option<Step>
     ensures { result ≡ bare_step_of word.now }
 {
-    if word == b"plain".as_slice() {
+    if is(word, b"plain") {
         Some(Step::Plain)
-    } else if word == b"clear".as_slice() {
+    } else if is(word, b"clear") {
         Some(Step::Take(Event::ClearCell))
-    } else if word == b"anchor".as_slice() {
+    } else if is(word, b"anchor") {
         Some(Step::Take(Event::Anchor))
-    } else if word == b"scan".as_slice() {
+    } else if is(word, b"scan") {
         Some(Step::Take(Event::Scan))
-    } else if word == b"shade".as_slice() {
+    } else if is(word, b"shade") {
         Some(Step::Take(Event::Shade))
-    } else if word == b"blacken".as_slice() {
+    } else if is(word, b"blacken") {
         Some(Step::Take(Event::Blacken))
-    } else if word == b"sweep".as_slice() {
+    } else if is(word, b"sweep") {
         Some(Step::Take(Event::SweepLook))
-    } else if word == b"wipe".as_slice() {
+    } else if is(word, b"wipe") {
         Some(Step::Take(Event::Wipe))
-    } else if word == b"free".as_slice() {
+    } else if is(word, b"free") {
         Some(Step::Take(Event::Free))
-    } else if word == b"whiten".as_slice() {
+    } else if is(word, b"whiten") {
         Some(Step::Take(Event::Whiten))
-    } else if word == b"advance".as_slice() {
+    } else if is(word, b"advance") {
         Some(Step::Take(Event::Advance))
     } else {
         None
@@ -69,21 +76,21 @@ impl Single {
     pub(crate) fn read(word: &[u8]) -> Option<Single>
         ensures { result ≡ single_of word.now }
     {
-        if word == b"begin".as_slice() {
+        if is(word, b"begin") {
             Some(Single::Begin)
-        } else if word == b"look".as_slice() {
+        } else if is(word, b"look") {
             Some(Single::Look)
-        } else if word == b"answer".as_slice() {
+        } else if is(word, b"answer") {
             Some(Single::Answer)
-        } else if word == b"end".as_slice() {
+        } else if is(word, b"end") {
             Some(Single::End)
-        } else if word == b"over".as_slice() {
+        } else if is(word, b"over") {
             Some(Single::Over)
-        } else if word == b"poll".as_slice() {
+        } else if is(word, b"poll") {
             Some(Single::Poll)
-        } else if word == b"see".as_slice() {
+        } else if is(word, b"see") {
             Some(Single::See)
-        } else if word == b"show".as_slice() {
+        } else if is(word, b"show") {
             Some(Single::Show)
         } else {
             None
@@ -95,25 +102,25 @@ impl Verb {
     pub(crate) fn read(word: &[u8]) -> Option<Verb>
         ensures { result ≡ verb_of word.now }
     {
-        if word == b"read".as_slice() {
+        if is(word, b"read") {
             Some(Verb::Read)
-        } else if word == b"mark".as_slice() {
+        } else if is(word, b"mark") {
             Some(Verb::Mark)
-        } else if word == b"write".as_slice() {
+        } else if is(word, b"write") {
             Some(Verb::Write)
-        } else if word == b"claim".as_slice() {
+        } else if is(word, b"claim") {
             Some(Verb::Claim)
-        } else if word == b"fill".as_slice() {
+        } else if is(word, b"fill") {
             Some(Verb::Fill)
-        } else if word == b"seal".as_slice() {
+        } else if is(word, b"seal") {
             Some(Verb::Seal)
-        } else if word == b"keep".as_slice() {
+        } else if is(word, b"keep") {
             Some(Verb::Keep)
-        } else if word == b"post".as_slice() {
+        } else if is(word, b"post") {
             Some(Verb::Post)
-        } else if word == b"duty".as_slice() {
+        } else if is(word, b"duty") {
             Some(Verb::Duty)
-        } else if word == b"out".as_slice() {
+        } else if is(word, b"out") {
             Some(Verb::Out)
         } else {
             None
@@ -124,9 +131,9 @@ impl Verb {
 pub(crate) fn kind_named(word: &[u8]) -> Option<Kind>
     ensures { result ≡ kind_of word.now }
 {
-    if word == b"record".as_slice() {
+    if is(word, b"record") {
         Some(Kind::Record)
-    } else if word == b"box".as_slice() {
+    } else if is(word, b"box") {
         Some(Kind::Boxed)
     } else {
         None
@@ -136,17 +143,17 @@ pub(crate) fn kind_named(word: &[u8]) -> Option<Kind>
 pub(crate) fn stage_named(word: &[u8]) -> Option<Stage>
     ensures { result ≡ stage_of word.now }
 {
-    if word == b"sync1".as_slice() {
+    if is(word, b"sync1") {
         Some(Stage::Sync1)
-    } else if word == b"clear".as_slice() {
+    } else if is(word, b"clear") {
         Some(Stage::Clear)
-    } else if word == b"sync2".as_slice() {
+    } else if is(word, b"sync2") {
         Some(Stage::Sync2)
-    } else if word == b"trace".as_slice() {
+    } else if is(word, b"trace") {
         Some(Stage::Trace)
-    } else if word == b"sweep".as_slice() {
+    } else if is(word, b"sweep") {
         Some(Stage::Sweep)
-    } else if word == b"idle".as_slice() {
+    } else if is(word, b"idle") {
         Some(Stage::Idle)
     } else {
         None
@@ -156,9 +163,9 @@ pub(crate) fn stage_named(word: &[u8]) -> Option<Stage>
 pub(crate) fn duty_named(word: &[u8]) -> Option<bool>
     ensures { result ≡ duty_of word.now }
 {
-    if word == b"on".as_slice() {
+    if is(word, b"on") {
         Some(true)
-    } else if word == b"off".as_slice() {
+    } else if is(word, b"off") {
         Some(false)
     } else {
         None
