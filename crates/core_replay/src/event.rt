@@ -217,7 +217,7 @@ fn read_over(i: u32, rest: &[u8]) -> Result<Event, ScheduleKind>
     if rest.is_empty() {
         return Ok(Event::AnswerOut(i, false));
     }
-    if is(next_word(rest).0, b"over") {
+    if is(next_word(rest).0, "over") {
         at_end(next_rest(rest), Event::AnswerOut(i, true))
     } else {
         Err(ScheduleKind::NoEvent)

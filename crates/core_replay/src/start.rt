@@ -23,7 +23,7 @@ pub(crate) fn read_start(line: &[u8]) -> Result<Sizes, ScheduleKind>
     ensures allowed { IfOk result (λ sizes. IsTrue (are_sizes sizes)) }
 {
     let (word, rest) = first_word(line);
-    if is(word, b"core") {
+    if is(word, "core") {
         read_sizes(rest)
     } else {
         Err(ScheduleKind::NoStart)

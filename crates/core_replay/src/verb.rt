@@ -36,36 +36,36 @@ pub(crate) enum Verb {
 }
 
 // Whether the word is this text. A comparison in each place is dearer to prove.
-pub(crate) fn is(word: &[u8], text: &[u8]) -> bool
+pub(crate) fn is(word: &[u8], text: &str) -> bool
     ensures { result ≡ bytes_eq word.now text.now }
 {
-    word == text
+    word == text.as_bytes()
 }
 
 pub(crate) fn bare_step(word: &[u8]) -> Option<Step>
     ensures { result ≡ bare_step_of word.now }
 {
-    if is(word, b"plain") {
+    if is(word, "plain") {
         Some(Step::Plain)
-    } else if is(word, b"clear") {
+    } else if is(word, "clear") {
         Some(Step::Take(Event::ClearCell))
-    } else if is(word, b"anchor") {
+    } else if is(word, "anchor") {
         Some(Step::Take(Event::Anchor))
-    } else if is(word, b"scan") {
+    } else if is(word, "scan") {
         Some(Step::Take(Event::Scan))
-    } else if is(word, b"shade") {
+    } else if is(word, "shade") {
         Some(Step::Take(Event::Shade))
-    } else if is(word, b"blacken") {
+    } else if is(word, "blacken") {
         Some(Step::Take(Event::Blacken))
-    } else if is(word, b"sweep") {
+    } else if is(word, "sweep") {
         Some(Step::Take(Event::SweepLook))
-    } else if is(word, b"wipe") {
+    } else if is(word, "wipe") {
         Some(Step::Take(Event::Wipe))
-    } else if is(word, b"free") {
+    } else if is(word, "free") {
         Some(Step::Take(Event::Free))
-    } else if is(word, b"whiten") {
+    } else if is(word, "whiten") {
         Some(Step::Take(Event::Whiten))
-    } else if is(word, b"advance") {
+    } else if is(word, "advance") {
         Some(Step::Take(Event::Advance))
     } else {
         None
@@ -76,21 +76,21 @@ impl Single {
     pub(crate) fn read(word: &[u8]) -> Option<Single>
         ensures { result ≡ single_of word.now }
     {
-        if is(word, b"begin") {
+        if is(word, "begin") {
             Some(Single::Begin)
-        } else if is(word, b"look") {
+        } else if is(word, "look") {
             Some(Single::Look)
-        } else if is(word, b"answer") {
+        } else if is(word, "answer") {
             Some(Single::Answer)
-        } else if is(word, b"end") {
+        } else if is(word, "end") {
             Some(Single::End)
-        } else if is(word, b"over") {
+        } else if is(word, "over") {
             Some(Single::Over)
-        } else if is(word, b"poll") {
+        } else if is(word, "poll") {
             Some(Single::Poll)
-        } else if is(word, b"see") {
+        } else if is(word, "see") {
             Some(Single::See)
-        } else if is(word, b"show") {
+        } else if is(word, "show") {
             Some(Single::Show)
         } else {
             None
@@ -102,25 +102,25 @@ impl Verb {
     pub(crate) fn read(word: &[u8]) -> Option<Verb>
         ensures { result ≡ verb_of word.now }
     {
-        if is(word, b"read") {
+        if is(word, "read") {
             Some(Verb::Read)
-        } else if is(word, b"mark") {
+        } else if is(word, "mark") {
             Some(Verb::Mark)
-        } else if is(word, b"write") {
+        } else if is(word, "write") {
             Some(Verb::Write)
-        } else if is(word, b"claim") {
+        } else if is(word, "claim") {
             Some(Verb::Claim)
-        } else if is(word, b"fill") {
+        } else if is(word, "fill") {
             Some(Verb::Fill)
-        } else if is(word, b"seal") {
+        } else if is(word, "seal") {
             Some(Verb::Seal)
-        } else if is(word, b"keep") {
+        } else if is(word, "keep") {
             Some(Verb::Keep)
-        } else if is(word, b"post") {
+        } else if is(word, "post") {
             Some(Verb::Post)
-        } else if is(word, b"duty") {
+        } else if is(word, "duty") {
             Some(Verb::Duty)
-        } else if is(word, b"out") {
+        } else if is(word, "out") {
             Some(Verb::Out)
         } else {
             None
@@ -131,9 +131,9 @@ impl Verb {
 pub(crate) fn kind_named(word: &[u8]) -> Option<Kind>
     ensures { result ≡ kind_of word.now }
 {
-    if is(word, b"record") {
+    if is(word, "record") {
         Some(Kind::Record)
-    } else if is(word, b"box") {
+    } else if is(word, "box") {
         Some(Kind::Boxed)
     } else {
         None
@@ -143,17 +143,17 @@ pub(crate) fn kind_named(word: &[u8]) -> Option<Kind>
 pub(crate) fn stage_named(word: &[u8]) -> Option<Stage>
     ensures { result ≡ stage_of word.now }
 {
-    if is(word, b"sync1") {
+    if is(word, "sync1") {
         Some(Stage::Sync1)
-    } else if is(word, b"clear") {
+    } else if is(word, "clear") {
         Some(Stage::Clear)
-    } else if is(word, b"sync2") {
+    } else if is(word, "sync2") {
         Some(Stage::Sync2)
-    } else if is(word, b"trace") {
+    } else if is(word, "trace") {
         Some(Stage::Trace)
-    } else if is(word, b"sweep") {
+    } else if is(word, "sweep") {
         Some(Stage::Sweep)
-    } else if is(word, b"idle") {
+    } else if is(word, "idle") {
         Some(Stage::Idle)
     } else {
         None
@@ -163,9 +163,9 @@ pub(crate) fn stage_named(word: &[u8]) -> Option<Stage>
 pub(crate) fn duty_named(word: &[u8]) -> Option<bool>
     ensures { result ≡ duty_of word.now }
 {
-    if is(word, b"on") {
+    if is(word, "on") {
         Some(true)
-    } else if is(word, b"off") {
+    } else if is(word, "off") {
         Some(false)
     } else {
         None
