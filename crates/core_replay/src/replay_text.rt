@@ -2,7 +2,7 @@
 ghost use Rattle.core_machine.specs.State.{State};
 ghost use Rattle.core_replay.specs.ReplayText.{cell_line_of, colour_text, ending_line, field_text};
 ghost use Rattle.core_replay.specs.ReplayText.{fields_text, not_now_line, six_texts};
-ghost use Rattle.std.specs.Prelude.{IfOk, string_bytes, ◌<◌, ◌≡◌};
+ghost use Rattle.std.specs.Prelude.{IfOk, codes, string_bytes, ◌++◌, ◌<◌, ◌≡◌};
 
 use cell_words::{Colour, Field};
 use dlg_core::{Core, NoMemory};
@@ -16,29 +16,29 @@ pub(crate) fn cell_line(alloc: Global, core: &Core, cell: u32) -> Result<String,
     let colour = colour_word(core.colour(cell));
     let fields = fields_said(alloc, core, cell)?;
     let freed = core.freed(cell);
-    format!(in alloc; "cell {cell} {colour} {fields} freed {freed}\n")
+    format!(in alloc; "cell {cell} {colour}{fields} freed {freed}\n")
 }
 
+// The fields of the cell, each behind a space.
 fn fields_said(alloc: Global, core: &Core, cell: u32) -> Result<String, NoMemory>
     requires { cell < core.now.cells }
-    ensures { IfOk result (λ text. string_bytes text ≡ fields_text core.now cell) }
+    ensures { IfOk result (λ text. string_bytes text ≡ codes " " ++ fields_text core.now cell) }
 {
-    let a = field_said(alloc, core.field(cell, 0))?;
-    let b = field_said(alloc, core.field(cell, 1))?;
-    let c = field_said(alloc, core.field(cell, 2))?;
-    let d = field_said(alloc, core.field(cell, 3))?;
-    let e = field_said(alloc, core.field(cell, 4))?;
-    let f = field_said(alloc, core.field(cell, 5))?;
-    format!(in alloc; "{a} {b} {c} {d} {e} {f}")
+    let mut text = String::new(alloc);
+    for i in 0..6 {
+        text = with_field(alloc, text, core.field(cell, i))?;
+    }
+    Ok(text)
 }
 
-fn field_said(alloc: Global, field: Field) -> Result<String, NoMemory>
-    ensures { IfOk result (λ text. string_bytes text ≡ field_text field) }
+fn with_field(alloc: Global, text: String, field: Field) -> Result<String, NoMemory>
+    ensures { IfOk result
+        (λ all. string_bytes all ≡ string_bytes text ++ (codes " " ++ field_text field)) }
 {
     match field {
-        Field::Null => String::from_str(alloc, "-"),
-        Field::Num(number) => format!(in alloc; "={number}"),
-        Field::Cell(cell) => format!(in alloc; "@{cell}"),
+        Field::Null => format!(in alloc; "{text} -"),
+        Field::Num(number) => format!(in alloc; "{text} ={number}"),
+        Field::Cell(cell) => format!(in alloc; "{text} @{cell}"),
     }
 }
 

@@ -1,7 +1,7 @@
-use Rattle.std.proofs.Common.{Some, ap, arith, subst, sym, ◌∙◌}
+use Rattle.std.proofs.Common.{Some, ap, subst, sym, ◌∙◌}
 use Rattle.core_replay.specs.Standing.{IsReplayed, Standing}
 use Rattle.core_replay.specs.Turns.{Ends, Stopped, look_before, turned}
-use Rattle.core_replay.proofs.Counts.{looked_few, taken_one}
+use Rattle.core_replay.proofs.Counts.{few_both, few_look, few_none, looked_few, room_left, taken_one}
 use Rattle.core_replay.proofs.Turning.{turn_falls, turn_refused, turn_taken, turn_unlooked}
 use Rattle.core_replay.proofs.replaying.Replaying.turn_with.Goals as goal
 
@@ -46,44 +46,36 @@ returns-in-Err-clause-falls c = λ goes_on. absurd cc
 
 pub returns-in-Err-clause-few : goal.returns-in-Err-clause-few
 returns-in-Err-clause-few c =
-    omega (arith, ap (λ (p : Standing). p.taken) c.in-Err.ensures.look.1)
+    few_none c.args.self.now c.look.new.self c.in-Err.ensures.look.1
 
 pub take-requires : goal.take-requires
 take-requires c =
-    omega (
-      arith,
-      looked_few c.args.self.now c.look.new.self (look_before c.args.event)
-          c.in_default.ensures.look,
-    )
+    room_left c.args.self.now c.look.new.self
+    (looked_few c.args.self.now c.look.new.self (look_before c.args.event)
+    c.in_default.ensures.look) c.requires.room
 
 pub returns-in-Err-take-clause-falls : goal.returns-in-Err-take-clause-falls
 returns-in-Err-take-clause-falls c = λ goes_on. absurd cc
 
 pub returns-in-Err-take-clause-few : goal.returns-in-Err-take-clause-few
 returns-in-Err-take-clause-few c =
-    let few = looked_few c.args.self.now c.look.new.self (look_before c.args.event)
-    c.in_default.ensures.look in
-    omega (arith, ap (λ (p : Standing). p.taken) c.in-Err-take.ensures.event.1)
+    few_look c.args.self.now c.look.new.self c.take.new.self
+    (looked_few c.args.self.now c.look.new.self (look_before c.args.event)
+    c.in_default.ensures.look) c.in-Err-take.ensures.event.1
 
 pub returns-then-posts-clause-falls : goal.returns-then-posts-clause-falls
 returns-then-posts-clause-falls c = λ goes_on. absurd cc
 
 pub returns-then-posts-clause-few : goal.returns-then-posts-clause-few
 returns-then-posts-clause-few c =
-    let few = looked_few c.args.self.now c.look.new.self (look_before c.args.event)
-    c.in_default.ensures.look in
-    omega (
-      arith,
-      taken_one c.look.new.self c.take.new.self c.args.event
-          c.in_default-take.ensures.event,
-    )
+    few_both c.args.self.now c.look.new.self c.take.new.self
+    (looked_few c.args.self.now c.look.new.self (look_before c.args.event)
+    c.in_default.ensures.look)
+    (taken_one c.look.new.self c.take.new.self c.args.event c.in_default-take.ensures.event)
 
 pub returns-else-posts-clause-few : goal.returns-else-posts-clause-few
 returns-else-posts-clause-few c =
-    let few = looked_few c.args.self.now c.look.new.self (look_before c.args.event)
-    c.in_default.ensures.look in
-    omega (
-      arith,
-      taken_one c.look.new.self c.take.new.self c.args.event
-          c.in_default-take.ensures.event,
-    )
+    few_both c.args.self.now c.look.new.self c.take.new.self
+    (looked_few c.args.self.now c.look.new.self (look_before c.args.event)
+    c.in_default.ensures.look)
+    (taken_one c.look.new.self c.take.new.self c.args.event c.in_default-take.ensures.event)
