@@ -1,9 +1,16 @@
-use Rattle.std.proofs.Common.{Some, ap, subst, sym, ◌∙◌}
+use Rattle.std.proofs.Common.{Some, ap, subst, sym, ◌≡◌, ◌∙◌}
 use Rattle.core_replay.specs.Standing.{IsReplayed, Standing}
 use Rattle.core_replay.specs.Turns.{Ends, Stopped, look_before, turned}
 use Rattle.core_replay.proofs.Counts.{few_both, few_look, few_none, looked_few, room_left, taken_one}
 use Rattle.core_replay.proofs.Turning.{turn_falls, turn_refused, turn_taken, turn_unlooked}
+use Rattle.core_replay.specs.declared.replaying.Turned.TheVariants as turned_so
 use Rattle.core_replay.proofs.replaying.Replaying.turn_with.Goals as goal
+
+stuck : {A : Type 0} → turned_so.Stuck ≡ turned_so.GoesOn → A
+stuck is = absurd cc
+
+posted : {A : Type 0} → turned_so.Posted ≡ turned_so.GoesOn → A
+posted is = absurd cc
 
 pub returns-in-Err-clause-turn : goal.returns-in-Err-clause-turn
 returns-in-Err-clause-turn c =
@@ -42,7 +49,7 @@ returns-else-posts-clause-falls c =
     (sym c.posts.ensures ∙ c.if-posts.false)
 
 pub returns-in-Err-clause-falls : goal.returns-in-Err-clause-falls
-returns-in-Err-clause-falls c = λ goes_on. absurd cc
+returns-in-Err-clause-falls c = λ goes_on. stuck goes_on
 
 pub returns-in-Err-clause-few : goal.returns-in-Err-clause-few
 returns-in-Err-clause-few c =
@@ -55,7 +62,7 @@ take-requires c =
     c.in_default.ensures.look) c.requires.room
 
 pub returns-in-Err-take-clause-falls : goal.returns-in-Err-take-clause-falls
-returns-in-Err-take-clause-falls c = λ goes_on. absurd cc
+returns-in-Err-take-clause-falls c = λ goes_on. stuck goes_on
 
 pub returns-in-Err-take-clause-few : goal.returns-in-Err-take-clause-few
 returns-in-Err-take-clause-few c =
@@ -64,7 +71,7 @@ returns-in-Err-take-clause-few c =
     c.in_default.ensures.look) c.in-Err-take.ensures.event.1
 
 pub returns-then-posts-clause-falls : goal.returns-then-posts-clause-falls
-returns-then-posts-clause-falls c = λ goes_on. absurd cc
+returns-then-posts-clause-falls c = λ goes_on. posted goes_on
 
 pub returns-then-posts-clause-few : goal.returns-then-posts-clause-few
 returns-then-posts-clause-few c =
