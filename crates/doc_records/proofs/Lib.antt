@@ -6,3 +6,4 @@ pub mod Makings
 pub mod Rows
 pub mod Spelled
 pub mod Spellings
+pub mod Steps

@@ -1,7 +1,366 @@
-use Rattle.std.proofs.Common.{◌≡◌, ◌∙◌, ap, [], ◌∷◌, ◌++◌, List, ℕ}
-use Rattle.cell_words.specs.Term.{Term, part}
-use Rattle.doc_records.proofs.Rows.{names_read, entry_told}
+use Rattle.std.proofs.Common.{◌≡◌, ◌∙◌, ◌+◌, ◌*◌, ◌<◌, ◌≤◌, ap, subst, sym, [], ◌∷◌, ◌++◌, List, ℕ}
+use Rattle.std.proofs.Common.{arith, refl}
+use Rattle.cell_words.specs.Term.{Term, part, IsFive}
+use Rattle.doc_records.specs.Pool.{part_term}
+use Rattle.doc_records.specs.Trees.{AreEntries}
+use Rattle.doc_records.proofs.Rows.{entry_left, entry_right, entry_told, names_read}
+use Rattle.doc_records.proofs.Steps.{later_then, place_one, row_count, row_counts}
 use Rattle.doc_records.proofs.listing.+push_names.Goals as goal
+
+-- the places: one for the left side and six for each entry there, four for the name, and one for
+-- the right side and six for each entry there
+left_place : (n l r h m : ℕ) → n ≡ l + 1 + r → h + 6 * n ≤ m → h < m
+left_place n l r h m whole fits = omega (arith, whole, fits)
+
+left_fits : (n l r h0 h1 m0 m1 : ℕ) → n ≡ l + 1 + r → h0 + 6 * n ≤ m0 → h1 ≤ h0 + 1 → m1 ≡ m0
+    → h1 + 6 * l ≤ m1
+left_fits n l r h0 h1 m0 m1 whole fits a1 b1 = omega (arith, whole, fits, a1, b1)
+
+name_fits : (n l r h0 h1 h2 m0 m1 m2 : ℕ) → n ≡ l + 1 + r → h0 + 6 * n ≤ m0 → h1 ≤ h0 + 1
+    → m1 ≡ m0 → h2 ≤ h1 + 6 * l → m2 ≡ m1 → h2 + 5 + 6 * r ≤ m2
+name_fits n l r h0 h1 h2 m0 m1 m2 whole fits a1 b1 a2 b2 =
+    omega (arith, whole, fits, a1, b1, a2, b2)
+
+five_fit : (r h m : ℕ) → h + 5 + 6 * r ≤ m → h + 5 ≤ m
+five_fit r h m fits = omega (arith, fits)
+
+right_place : (r h2 h3 m2 m3 : ℕ) → h2 + 5 + 6 * r ≤ m2 → h3 ≤ h2 + 4 → m3 ≡ m2 → h3 < m3
+right_place r h2 h3 m2 m3 fits a3 b3 = omega (arith, fits, a3, b3)
+
+right_fits : (r h2 h3 h4 m2 m3 m4 : ℕ) → h2 + 5 + 6 * r ≤ m2 → h3 ≤ h2 + 4 → m3 ≡ m2
+    → h4 ≤ h3 + 1 → m4 ≡ m3 → h4 + 6 * r ≤ m4
+right_fits r h2 h3 h4 m2 m3 m4 fits a3 b3 a4 b4 = omega (arith, fits, a3, b3, a4, b4)
+
+left_held : (n l r h0 h1 h2 : ℕ) → n ≡ l + 1 + r → h1 ≤ h0 + 1 → h2 ≤ h1 + 6 * l
+    → h2 ≤ h0 + 6 * n
+left_held n l r h0 h1 h2 whole a1 a2 = omega (arith, whole, a1, a2)
+
+name_held : (n l r h0 h1 h2 h3 : ℕ) → n ≡ l + 1 + r → h1 ≤ h0 + 1 → h2 ≤ h1 + 6 * l
+    → h3 ≤ h2 + 4 → h3 ≤ h0 + 6 * n
+name_held n l r h0 h1 h2 h3 whole a1 a2 a3 = omega (arith, whole, a1, a2, a3)
+
+all_held : (n l r h0 h1 h2 h3 h4 h5 : ℕ) → n ≡ l + 1 + r → h1 ≤ h0 + 1 → h2 ≤ h1 + 6 * l
+    → h3 ≤ h2 + 4 → h4 ≤ h3 + 1 → h5 ≤ h4 + 6 * r → h5 ≤ h0 + 6 * n
+all_held n l r h0 h1 h2 h3 h4 h5 whole a1 a2 a3 a4 a5 = omega (arith, whole, a1, a2, a3, a4, a5)
+
+left_less : (n l r t : ℕ) → n ≡ l + 1 + r → n ≡ t → l < t
+left_less n l r t whole all = omega (arith, whole, all)
+
+right_less : (n l r t : ℕ) → n ≡ l + 1 + r → n ≡ t → r < t
+right_less n l r t whole all = omega (arith, whole, all)
+
+pub read_part-left-requires-clause-stands : goal.read_part-left-requires-clause-stands
+read_part-left-requires-clause-stands g t c =
+    let is = rw c.in-Record.is at c.requires.stands in
+    is.0
+
+pub read_part-left-requires-clause-place : goal.read_part-left-requires-clause-place
+read_part-left-requires-clause-place g t c =
+    let s0 = g.R.RecordPool.shown c.args.records.now in
+    let at = c.in-Record.at in
+    let t0 = s0.term at in
+    let is = rw c.in-Record.is at c.requires.stands in
+    let places = rw c.in-Record.is at c.requires.places in
+    left_place _ _ _ _ _ (row_counts t0 _ _ is.1 refl refl) places
+
+pub push_names-requires : goal.push_names-requires
+push_names-requires g t c κs within =
+    let s0 = g.R.RecordPool.shown c.args.records.now in
+    let at = c.in-Record.at in
+    let t0 = s0.term at in
+    let is = rw c.in-Record.is at c.requires.stands in
+    let places = rw c.in-Record.is at c.requires.places in
+    let s1 = g.R.RecordPool.shown c.read_part-left.new.records in
+    let left = c.read_part-left.result in
+    let whole =
+    row_counts t0 (part_term (g.R.RecordPool.shown c.read_part-left.new.records).term
+    c.read_part-left.result) _ is.1 c.read_part-left.ensures.part refl in
+    let one = place_one c.read_part-left.result _ _ c.read_part-left.ensures.held in
+    let entries : AreEntries (part_term s1.term left) =
+    subst AreEntries (sym c.read_part-left.ensures.part)
+    (entry_left t0 is.1 (rw c.in-Record.is at c.requires.entries)) in
+    let all : row_count (part_term s0.term c.args.top) ≡ t = c.decreases in (
+      left_less _ _ _ _ whole (rw c.in-Record.is at all),
+      (
+        within.0,
+        (
+          within.1,
+          (
+            c.read_part-left.ensures.stands,
+            (
+              entries,
+              left_fits _ _ _ _ _ _ _ whole places one c.read_part-left.ensures.later.room,
+            ),
+          ),
+        ),
+      ),
+    )
+
+pub returns-in_err-push_names-clause-later : goal.returns-in_err-push_names-clause-later
+returns-in_err-push_names-clause-later g t c =
+    later_then c.read_part-left.ensures.later c.push_names.ensures.later
+
+pub returns-in_err-push_names-clause-held : goal.returns-in_err-push_names-clause-held
+returns-in_err-push_names-clause-held g t c =
+    let s0 = g.R.RecordPool.shown c.args.records.now in
+    let at = c.in-Record.at in
+    let t0 = s0.term at in
+    let is = rw c.in-Record.is at c.requires.stands in
+    let whole =
+    row_counts t0 (part_term (g.R.RecordPool.shown c.read_part-left.new.records).term
+    c.read_part-left.result) _ is.1 c.read_part-left.ensures.part refl in
+    let one = place_one c.read_part-left.result _ _ c.read_part-left.ensures.held in
+    rw c.in-Record.is (left_held _ _ _ _ _ _ whole one c.push_names.ensures.held)
+
+pub returns-in_err-push_names-clause-records : goal.returns-in_err-push_names-clause-records
+returns-in_err-push_names-clause-records g t c =
+    c.push_names.ensures.records ∙ c.read_part-left.ensures.records
+
+pub read_name-requires-clause-stands : goal.read_name-requires-clause-stands
+read_name-requires-clause-stands g t c =
+    let is = rw c.in-Record.is at c.requires.stands in
+    let s1 = c.read_part-left.ensures.later.now c.in-Record.at is.0 in
+    c.push_names.ensures.later.now c.in-Record.at s1
+
+pub read_name-requires-clause-five : goal.read_name-requires-clause-five
+read_name-requires-clause-five g t c =
+    let s0 = g.R.RecordPool.shown c.args.records.now in
+    let at = c.in-Record.at in
+    let t0 = s0.term at in
+    let is = rw c.in-Record.is at c.requires.stands in
+    let s1 = c.read_part-left.ensures.later.now at is.0 in
+    let e1 = c.read_part-left.ensures.later.same at is.0 in
+    let s2 = c.push_names.ensures.later.now at s1 in
+    let e2 : (g.R.RecordPool.shown c.push_names.new.records).term at ≡ t0 =
+    c.push_names.ensures.later.same at s1 ∙ e1 in
+    subst IsFive (sym e2) is.1
+
+pub read_name-requires-clause-entry : goal.read_name-requires-clause-entry
+read_name-requires-clause-entry g t c =
+    let s0 = g.R.RecordPool.shown c.args.records.now in
+    let at = c.in-Record.at in
+    let t0 = s0.term at in
+    let is = rw c.in-Record.is at c.requires.stands in
+    let s1 = c.read_part-left.ensures.later.now at is.0 in
+    let e1 = c.read_part-left.ensures.later.same at is.0 in
+    let s2 = c.push_names.ensures.later.now at s1 in
+    let e2 : (g.R.RecordPool.shown c.push_names.new.records).term at ≡ t0 =
+    c.push_names.ensures.later.same at s1 ∙ e1 in
+    subst AreEntries (sym e2) (rw c.in-Record.is at c.requires.entries)
+
+pub read_name-requires-clause-places : goal.read_name-requires-clause-places
+read_name-requires-clause-places g t c =
+    let s0 = g.R.RecordPool.shown c.args.records.now in
+    let at = c.in-Record.at in
+    let t0 = s0.term at in
+    let is = rw c.in-Record.is at c.requires.stands in
+    let whole =
+    row_counts t0 (part_term (g.R.RecordPool.shown c.read_part-left.new.records).term
+    c.read_part-left.result) _ is.1 c.read_part-left.ensures.part refl in
+    let places = rw c.in-Record.is at c.requires.places in
+    let one = place_one c.read_part-left.result _ _ c.read_part-left.ensures.held in
+    let fits =
+    name_fits _ _ _ _ _ _ _ _ _ whole places one c.read_part-left.ensures.later.room
+    c.push_names.ensures.held c.push_names.ensures.later.room in
+    five_fit (row_count (part 3 t0)) _ _ fits
+
+pub returns-in_err-name-clause-later : goal.returns-in_err-name-clause-later
+returns-in_err-name-clause-later g t c =
+    later_then (later_then c.read_part-left.ensures.later c.push_names.ensures.later)
+    c.read_name.ensures.later
+
+pub returns-in_err-name-clause-held : goal.returns-in_err-name-clause-held
+returns-in_err-name-clause-held g t c =
+    let s0 = g.R.RecordPool.shown c.args.records.now in
+    let at = c.in-Record.at in
+    let t0 = s0.term at in
+    let is = rw c.in-Record.is at c.requires.stands in
+    let whole =
+    row_counts t0 (part_term (g.R.RecordPool.shown c.read_part-left.new.records).term
+    c.read_part-left.result) _ is.1 c.read_part-left.ensures.part refl in
+    let one = place_one c.read_part-left.result _ _ c.read_part-left.ensures.held in
+    rw c.in-Record.is
+    (name_held _ _ _ _ _ _ _ whole one c.push_names.ensures.held c.read_name.ensures.held)
+
+pub returns-in_err-name-clause-records : goal.returns-in_err-name-clause-records
+returns-in_err-name-clause-records g t c =
+    c.read_name.ensures.records ∙ c.push_names.ensures.records
+    ∙ c.read_part-left.ensures.records
+
+pub returns-in_err-push-clause-later : goal.returns-in_err-push-clause-later
+returns-in_err-push-clause-later g t c =
+    later_then (later_then c.read_part-left.ensures.later c.push_names.ensures.later)
+    c.read_name.ensures.later
+
+pub returns-in_err-push-clause-held : goal.returns-in_err-push-clause-held
+returns-in_err-push-clause-held g t c =
+    let s0 = g.R.RecordPool.shown c.args.records.now in
+    let at = c.in-Record.at in
+    let t0 = s0.term at in
+    let is = rw c.in-Record.is at c.requires.stands in
+    let whole =
+    row_counts t0 (part_term (g.R.RecordPool.shown c.read_part-left.new.records).term
+    c.read_part-left.result) _ is.1 c.read_part-left.ensures.part refl in
+    let one = place_one c.read_part-left.result _ _ c.read_part-left.ensures.held in
+    rw c.in-Record.is
+    (name_held _ _ _ _ _ _ _ whole one c.push_names.ensures.held c.read_name.ensures.held)
+
+pub returns-in_err-push-clause-records : goal.returns-in_err-push-clause-records
+returns-in_err-push-clause-records g t c =
+    c.read_name.ensures.records ∙ c.push_names.ensures.records
+    ∙ c.read_part-left.ensures.records
+
+pub read_part-right-requires-clause-stands : goal.read_part-right-requires-clause-stands
+read_part-right-requires-clause-stands g t c =
+    let s0 = g.R.RecordPool.shown c.args.records.now in
+    let at = c.in-Record.at in
+    let t0 = s0.term at in
+    let is = rw c.in-Record.is at c.requires.stands in
+    let s1 = c.read_part-left.ensures.later.now at is.0 in
+    let e1 = c.read_part-left.ensures.later.same at is.0 in
+    let s2 = c.push_names.ensures.later.now at s1 in
+    let e2 : (g.R.RecordPool.shown c.push_names.new.records).term at ≡ t0 =
+    c.push_names.ensures.later.same at s1 ∙ e1 in
+    c.read_name.ensures.later.now at s2
+
+pub read_part-right-requires-clause-place : goal.read_part-right-requires-clause-place
+read_part-right-requires-clause-place g t c =
+    let s0 = g.R.RecordPool.shown c.args.records.now in
+    let at = c.in-Record.at in
+    let t0 = s0.term at in
+    let is = rw c.in-Record.is at c.requires.stands in
+    let whole =
+    row_counts t0 (part_term (g.R.RecordPool.shown c.read_part-left.new.records).term
+    c.read_part-left.result) _ is.1 c.read_part-left.ensures.part refl in
+    let places = rw c.in-Record.is at c.requires.places in
+    let one = place_one c.read_part-left.result _ _ c.read_part-left.ensures.held in
+    let fits =
+    name_fits _ _ _ _ _ _ _ _ _ whole places one c.read_part-left.ensures.later.room
+    c.push_names.ensures.held c.push_names.ensures.later.room in
+    right_place (row_count (part 3 t0)) _ _ _ _ fits c.read_name.ensures.held
+    c.read_name.ensures.later.room
+
+pub push_names-requires-2 : goal.push_names-requires-2
+push_names-requires-2 g t c κs within =
+    let s0 = g.R.RecordPool.shown c.args.records.now in
+    let at = c.in-Record.at in
+    let t0 = s0.term at in
+    let is = rw c.in-Record.is at c.requires.stands in
+    let places = rw c.in-Record.is at c.requires.places in
+    let s1 = c.read_part-left.ensures.later.now at is.0 in
+    let e1 = c.read_part-left.ensures.later.same at is.0 in
+    let s2 = c.push_names.ensures.later.now at s1 in
+    let e2 : (g.R.RecordPool.shown c.push_names.new.records).term at ≡ t0 =
+    c.push_names.ensures.later.same at s1 ∙ e1 in
+    let e3 : (g.R.RecordPool.shown c.read_name.new.records).term at ≡ t0 =
+    c.read_name.ensures.later.same at s2 ∙ e2 in
+    let whole =
+    row_counts t0 (part_term (g.R.RecordPool.shown c.read_part-left.new.records).term
+    c.read_part-left.result) (part_term (g.R.RecordPool.shown c.read_part-right.new.records).term
+    c.read_part-right.result) is.1 c.read_part-left.ensures.part
+    (c.read_part-right.ensures.part ∙ ap (λ (u : Term). part 3 u) e3) in
+    let one = place_one c.read_part-left.result _ _ c.read_part-left.ensures.held in
+    let fits =
+    name_fits _ _ _ _ _ _ _ _ _ whole places one c.read_part-left.ensures.later.room
+    c.push_names.ensures.held c.push_names.ensures.later.room in
+    let s4 = g.R.RecordPool.shown c.read_part-right.new.records in
+    let right = c.read_part-right.result in
+    let entries : AreEntries (part_term s4.term right) =
+    subst AreEntries (sym (c.read_part-right.ensures.part ∙ ap (λ (u : Term). part 3 u) e3))
+    (entry_right t0 is.1 (rw c.in-Record.is at c.requires.entries)) in
+    let all : row_count (part_term s0.term c.args.top) ≡ t = c.decreases in (
+      right_less _ _ _ _ whole (rw c.in-Record.is at all),
+      (
+        within.0,
+        (
+          within.1,
+          (
+            c.read_part-right.ensures.stands,
+            (
+              entries,
+              right_fits _ _ _ _ _ _ _ fits c.read_name.ensures.held
+                  c.read_name.ensures.later.room
+                  (place_one right _ _ c.read_part-right.ensures.held)
+                  c.read_part-right.ensures.later.room,
+            ),
+          ),
+        ),
+      ),
+    )
+
+pub returns-in_err-push_names-2-clause-later : goal.returns-in_err-push_names-2-clause-later
+returns-in_err-push_names-2-clause-later g t c =
+    later_then
+    (later_then (later_then c.read_part-left.ensures.later c.push_names.ensures.later)
+    c.read_name.ensures.later)
+    (later_then c.read_part-right.ensures.later c.push_names-2.ensures.later)
+
+pub returns-in_err-push_names-2-clause-held : goal.returns-in_err-push_names-2-clause-held
+returns-in_err-push_names-2-clause-held g t c =
+    let s0 = g.R.RecordPool.shown c.args.records.now in
+    let at = c.in-Record.at in
+    let t0 = s0.term at in
+    let is = rw c.in-Record.is at c.requires.stands in
+    let s1 = c.read_part-left.ensures.later.now at is.0 in
+    let e1 = c.read_part-left.ensures.later.same at is.0 in
+    let s2 = c.push_names.ensures.later.now at s1 in
+    let e2 : (g.R.RecordPool.shown c.push_names.new.records).term at ≡ t0 =
+    c.push_names.ensures.later.same at s1 ∙ e1 in
+    let e3 : (g.R.RecordPool.shown c.read_name.new.records).term at ≡ t0 =
+    c.read_name.ensures.later.same at s2 ∙ e2 in
+    let whole =
+    row_counts t0 (part_term (g.R.RecordPool.shown c.read_part-left.new.records).term
+    c.read_part-left.result) (part_term (g.R.RecordPool.shown c.read_part-right.new.records).term
+    c.read_part-right.result) is.1 c.read_part-left.ensures.part
+    (c.read_part-right.ensures.part ∙ ap (λ (u : Term). part 3 u) e3) in
+    let one = place_one c.read_part-left.result _ _ c.read_part-left.ensures.held in
+    rw c.in-Record.is
+    (all_held _ _ _ _ _ _ _ _ _ whole one c.push_names.ensures.held c.read_name.ensures.held
+    (place_one c.read_part-right.result _ _ c.read_part-right.ensures.held)
+    c.push_names-2.ensures.held)
+
+pub returns-in_err-push_names-2-clause-records : goal.returns-in_err-push_names-2-clause-records
+returns-in_err-push_names-2-clause-records g t c =
+    c.push_names-2.ensures.records ∙ c.read_part-right.ensures.records
+    ∙ c.read_name.ensures.records ∙ c.push_names.ensures.records
+    ∙ c.read_part-left.ensures.records
+
+pub returns-clause-later : goal.returns-clause-later
+returns-clause-later g t c =
+    later_then
+    (later_then (later_then c.read_part-left.ensures.later c.push_names.ensures.later)
+    c.read_name.ensures.later)
+    (later_then c.read_part-right.ensures.later c.push_names-2.ensures.later)
+
+pub returns-clause-held : goal.returns-clause-held
+returns-clause-held g t c =
+    let s0 = g.R.RecordPool.shown c.args.records.now in
+    let at = c.in-Record.at in
+    let t0 = s0.term at in
+    let is = rw c.in-Record.is at c.requires.stands in
+    let s1 = c.read_part-left.ensures.later.now at is.0 in
+    let e1 = c.read_part-left.ensures.later.same at is.0 in
+    let s2 = c.push_names.ensures.later.now at s1 in
+    let e2 : (g.R.RecordPool.shown c.push_names.new.records).term at ≡ t0 =
+    c.push_names.ensures.later.same at s1 ∙ e1 in
+    let e3 : (g.R.RecordPool.shown c.read_name.new.records).term at ≡ t0 =
+    c.read_name.ensures.later.same at s2 ∙ e2 in
+    let whole =
+    row_counts t0 (part_term (g.R.RecordPool.shown c.read_part-left.new.records).term
+    c.read_part-left.result) (part_term (g.R.RecordPool.shown c.read_part-right.new.records).term
+    c.read_part-right.result) is.1 c.read_part-left.ensures.part
+    (c.read_part-right.ensures.part ∙ ap (λ (u : Term). part 3 u) e3) in
+    let one = place_one c.read_part-left.result _ _ c.read_part-left.ensures.held in
+    rw c.in-Record.is
+    (all_held _ _ _ _ _ _ _ _ _ whole one c.push_names.ensures.held c.read_name.ensures.held
+    (place_one c.read_part-right.result _ _ c.read_part-right.ensures.held)
+    c.push_names-2.ensures.held)
+
+pub returns-clause-records : goal.returns-clause-records
+returns-clause-records g t c =
+    c.push_names-2.ensures.records ∙ c.read_part-right.ensures.records
+    ∙ c.read_name.ensures.records ∙ c.push_names.ensures.records
+    ∙ c.read_part-left.ensures.records
 
 pub returns-clause-names : goal.returns-clause-names
 returns-clause-names g t c =

@@ -1,0 +1,216 @@
+use Rattle.std.proofs.Common.{◌≡◌, ◌∙◌, ◌+◌, ◌-◌, ◌<◌, ◌≤◌, ◌++◌, List, ap, append_assoc, subst, sym, ℕ}
+use Rattle.std.proofs.Common.{arith}
+use Rattle.cell_words.specs.Term.{Term, part, IsFive}
+use Rattle.trails.specs.Marks.{Mark}
+use Rattle.trails.specs.Telling.{Due, Tells}
+use Rattle.doc_records.specs.Pool.{part_term}
+use Rattle.doc_records.specs.Shapes.{IsChain, ask_cell, ask_text, cells_of}
+use Rattle.doc_records.specs.Texts.{bytes_here, text_of}
+use Rattle.doc_records.proofs.Chains.{ask_next, cells_next, chain_next}
+use Rattle.doc_records.proofs.Steps.{later_then, place_cell, place_one}
+use Rattle.doc_records.proofs.texts.+push_text.Goals as goal
+
+-- a cell, and the text that comes after it
+cells_then : (t u : Term) → IsFive t → u ≡ part 4 t → cells_of t ≡ cells_of u + 1
+cells_then t u is next = rw next (cells_next t is)
+
+text_read : (t u : Term) (here old one new : List ℕ)
+    → text_of t ≡ here ++ text_of (part 4 t) → u ≡ part 4 t
+    → one ≡ old ++ here → new ≡ one ++ text_of u → new ≡ old ++ text_of t
+text_read t u here old one new whole next first others =
+    others
+    ∙ rw (first, next)
+    (append_assoc old here (text_of (part 4 t)) ∙ ap (λ bytes. old ++ bytes) (sym whole))
+
+text_told : (t u : Term) (a b c d : List Mark) → IsFive t → u ≡ part 4 t
+    → Tells (ask_cell t) a b → Tells (λ rest. rest) b c → Tells (ask_text u) c d
+    → Tells (ask_text t) a d
+text_told t u a b c d is next first none others all rest due =
+    let asked : Due all (ask_cell t (ask_text u rest)) a =
+    rw next (rw (sym (ask_next t rest is)) due) in
+    others all rest (none all (ask_text u rest) (first all (ask_text u rest) asked))
+
+-- the places: one for each cell but the first
+cell_place : (n k h m : ℕ) → n ≡ k + 1 → h + n ≤ m → h < m
+cell_place n k h m whole fits = omega (arith, whole, fits)
+
+next_place : (n k h0 h1 m0 m1 : ℕ) → n ≡ k + 1 → h0 + n ≤ m0 → h1 ≡ h0 → m1 ≡ m0 → h1 < m1
+next_place n k h0 h1 m0 m1 whole fits a1 b1 = omega (arith, whole, fits, a1, b1)
+
+next_fits : (n k h0 h1 h2 m0 m1 m2 : ℕ) → n ≡ k + 1 → h0 + n ≤ m0 → h1 ≡ h0 → m1 ≡ m0
+    → h2 ≤ h1 + 1 → m2 ≡ m1 → h2 + k ≤ m2
+next_fits n k h0 h1 h2 m0 m1 m2 whole fits a1 b1 a2 b2 =
+    omega (arith, whole, fits, a1, b1, a2, b2)
+
+next_less : (n k t : ℕ) → n ≡ k + 1 → n ≡ t → k < t
+next_less n k t whole all = omega (arith, whole, all)
+
+cell_held : (n h0 h1 : ℕ) → h1 ≡ h0 → h1 ≤ h0 + n
+cell_held n h0 h1 a1 = omega (arith, a1)
+
+next_held : (n k p h0 h1 h2 h3 : ℕ) → n ≡ k + 1 → h1 ≡ h0 → h2 ≤ h1 + p → h2 ≤ h1 + 1 → p ≤ k
+    → h3 ≤ h2 + (k - 1) → h3 ≤ h0 + (n - 1)
+next_held n k p h0 h1 h2 h3 whole a1 a2 one some a3 = omega (arith, whole, a1, a2, one, some, a3)
+
+pub read_cell-cell-requires-clause-stands : goal.read_cell-cell-requires-clause-stands
+read_cell-cell-requires-clause-stands g t c =
+    let is = rw c.in-Record.is at c.requires.stands in
+    is.0
+
+pub read_cell-cell-requires-clause-five : goal.read_cell-cell-requires-clause-five
+read_cell-cell-requires-clause-five g t c =
+    let is = rw c.in-Record.is at c.requires.stands in
+    is.1
+
+pub read_cell-cell-requires-clause-place : goal.read_cell-cell-requires-clause-place
+read_cell-cell-requires-clause-place g t c =
+    let s0 = g.R.RecordPool.shown c.args.records.now in
+    let at = c.in-Record.at in
+    let t0 = s0.term at in
+    let is = rw c.in-Record.is at c.requires.stands in
+    let places = rw c.in-Record.is at c.requires.places in
+    cell_place _ _ _ _ (cells_next t0 is.1) places
+
+pub read_cell-cell-requires-clause-chain : goal.read_cell-cell-requires-clause-chain
+read_cell-cell-requires-clause-chain g t c = rw c.in-Record.is at c.requires.chain
+
+pub returns-in_err-push_cell-clause-later : goal.returns-in_err-push_cell-clause-later
+returns-in_err-push_cell-clause-later g t c = c.read_cell-cell.ensures.later
+
+pub returns-in_err-push_cell-clause-held : goal.returns-in_err-push_cell-clause-held
+returns-in_err-push_cell-clause-held g t c = cell_held _ _ _ c.read_cell-cell.ensures.held
+
+pub returns-in_err-push_cell-clause-records : goal.returns-in_err-push_cell-clause-records
+returns-in_err-push_cell-clause-records g t c = c.read_cell-cell.ensures.records
+
+pub read_part-next-requires-clause-stands : goal.read_part-next-requires-clause-stands
+read_part-next-requires-clause-stands g t c =
+    let is = rw c.in-Record.is at c.requires.stands in
+    c.read_cell-cell.ensures.later.now c.in-Record.at is.0
+
+pub read_part-next-requires-clause-place : goal.read_part-next-requires-clause-place
+read_part-next-requires-clause-place g t c =
+    let s0 = g.R.RecordPool.shown c.args.records.now in
+    let at = c.in-Record.at in
+    let t0 = s0.term at in
+    let is = rw c.in-Record.is at c.requires.stands in
+    let places = rw c.in-Record.is at c.requires.places in
+    next_place _ _ _ _ _ _ (cells_next t0 is.1) places c.read_cell-cell.ensures.held
+    c.read_cell-cell.ensures.later.room
+
+pub push_text-requires : goal.push_text-requires
+push_text-requires g t c κs within =
+    let s0 = g.R.RecordPool.shown c.args.records.now in
+    let at = c.in-Record.at in
+    let t0 = s0.term at in
+    let is = rw c.in-Record.is at c.requires.stands in
+    let chain = rw c.in-Record.is at c.requires.chain in
+    let places = rw c.in-Record.is at c.requires.places in
+    let e1 = c.read_cell-cell.ensures.later.same at is.0 in
+    let s2 = g.R.RecordPool.shown c.read_part-next.new.records in
+    let next = c.read_part-next.result in
+    let same : part_term s2.term next ≡ part 4 t0 =
+    c.read_part-next.ensures.part ∙ ap (λ (u : Term). part 4 u) e1 in
+    let whole = cells_then t0 _ is.1 same in
+    let chain_in : IsChain (part_term s2.term next) =
+    subst IsChain (sym same) (chain_next t0 is.1 chain) in
+    let fits =
+    next_fits _ _ _ _ _ _ _ _ whole places c.read_cell-cell.ensures.held
+    c.read_cell-cell.ensures.later.room (place_one next _ _ c.read_part-next.ensures.held)
+    c.read_part-next.ensures.later.room in
+    let all : cells_of (part_term s0.term c.args.top) ≡ t = c.decreases in (
+      next_less _ _ _ whole (rw c.in-Record.is at all),
+      (
+        within.0,
+        (
+          within.1,
+          (c.read_part-next.ensures.stands, (chain_in, fits)),
+        ),
+      ),
+    )
+
+pub returns-in_err-push_text-clause-later : goal.returns-in_err-push_text-clause-later
+returns-in_err-push_text-clause-later g t c =
+    later_then (later_then c.read_cell-cell.ensures.later c.read_part-next.ensures.later)
+    c.push_text.ensures.later
+
+pub returns-in_err-push_text-clause-held : goal.returns-in_err-push_text-clause-held
+returns-in_err-push_text-clause-held g t c =
+    let s0 = g.R.RecordPool.shown c.args.records.now in
+    let at = c.in-Record.at in
+    let t0 = s0.term at in
+    let is = rw c.in-Record.is at c.requires.stands in
+    let e1 = c.read_cell-cell.ensures.later.same at is.0 in
+    let s2 = g.R.RecordPool.shown c.read_part-next.new.records in
+    let next = c.read_part-next.result in
+    let same : part_term s2.term next ≡ part 4 t0 =
+    c.read_part-next.ensures.part ∙ ap (λ (u : Term). part 4 u) e1 in
+    rw c.in-Record.is
+    (next_held _ _ _ _ _ _ _ (cells_then t0 _ is.1 same) c.read_cell-cell.ensures.held
+    c.read_part-next.ensures.held (place_one next _ _ c.read_part-next.ensures.held)
+    (place_cell s2 next c.read_part-next.ensures.stands) c.push_text.ensures.held)
+
+pub returns-in_err-push_text-clause-records : goal.returns-in_err-push_text-clause-records
+returns-in_err-push_text-clause-records g t c =
+    c.push_text.ensures.records ∙ c.read_part-next.ensures.records
+    ∙ c.read_cell-cell.ensures.records
+
+pub returns-clause-later : goal.returns-clause-later
+returns-clause-later g t c =
+    later_then (later_then c.read_cell-cell.ensures.later c.read_part-next.ensures.later)
+    c.push_text.ensures.later
+
+pub returns-clause-held : goal.returns-clause-held
+returns-clause-held g t c =
+    let s0 = g.R.RecordPool.shown c.args.records.now in
+    let at = c.in-Record.at in
+    let t0 = s0.term at in
+    let is = rw c.in-Record.is at c.requires.stands in
+    let e1 = c.read_cell-cell.ensures.later.same at is.0 in
+    let s2 = g.R.RecordPool.shown c.read_part-next.new.records in
+    let next = c.read_part-next.result in
+    let same : part_term s2.term next ≡ part 4 t0 =
+    c.read_part-next.ensures.part ∙ ap (λ (u : Term). part 4 u) e1 in
+    rw c.in-Record.is
+    (next_held _ _ _ _ _ _ _ (cells_then t0 _ is.1 same) c.read_cell-cell.ensures.held
+    c.read_part-next.ensures.held (place_one next _ _ c.read_part-next.ensures.held)
+    (place_cell s2 next c.read_part-next.ensures.stands) c.push_text.ensures.held)
+
+pub returns-clause-records : goal.returns-clause-records
+returns-clause-records g t c =
+    c.push_text.ensures.records ∙ c.read_part-next.ensures.records
+    ∙ c.read_cell-cell.ensures.records
+
+pub returns-clause-bytes : goal.returns-clause-bytes
+returns-clause-bytes g t c =
+    let s0 = g.R.RecordPool.shown c.args.records.now in
+    let at = c.in-Record.at in
+    let t0 = s0.term at in
+    let is = rw c.in-Record.is at c.requires.stands in
+    let e1 = c.read_cell-cell.ensures.later.same at is.0 in
+    let s2 = g.R.RecordPool.shown c.read_part-next.new.records in
+    let next = c.read_part-next.result in
+    let same : part_term s2.term next ≡ part 4 t0 =
+    c.read_part-next.ensures.part ∙ ap (λ (u : Term). part 4 u) e1 in
+    let cell = c.read_cell-cell.result in
+    rw c.in-Record.is
+    (text_read t0 _ (bytes_here cell.count cell.first cell.second cell.third)
+    c.args.bytes.now.items c.push_cell.new.bytes.items _ c.read_cell-cell.ensures.text same c.in_ok-push_cell.ensures
+    c.in_ok-push_text.ensures.bytes)
+
+pub returns-clause-told : goal.returns-clause-told
+returns-clause-told g t c shared =
+    let s0 = g.R.RecordPool.shown c.args.records.now in
+    let at = c.in-Record.at in
+    let t0 = s0.term at in
+    let is = rw c.in-Record.is at c.requires.stands in
+    let e1 = c.read_cell-cell.ensures.later.same at is.0 in
+    let s2 = g.R.RecordPool.shown c.read_part-next.new.records in
+    let next = c.read_part-next.result in
+    let same : part_term s2.term next ≡ part 4 t0 =
+    c.read_part-next.ensures.part ∙ ap (λ (u : Term). part 4 u) e1 in
+    let own = rw c.in-Record.is at shared in
+    rw c.in-Record.is
+    (text_told _ _ _ _ _ _ is.1 same (c.read_cell-cell.ensures.told own)
+    (c.read_part-next.ensures.told own)
+    (c.in_ok-push_text.ensures.told (c.read_part-next.ensures.shared own)))
