@@ -5,12 +5,13 @@ use Rattle.std.specs.Option.{ForSome}
 use Rattle.cell_words.specs.Term.{Term, part, IsFive}
 use Rattle.doc_tree.specs.Tree.{kid_count}
 use Rattle.kids_avl.specs.Entries.{kids_of}
+use Rattle.trails.specs.Asks.{Ask}
 use Rattle.trails.specs.Marks.{Mark}
 use Rattle.trails.specs.Telling.{Tells}
 use Rattle.doc_records.specs.declared.pool.Part.{Part}
 use Rattle.doc_records.specs.declared.pool.Part.TheVariants as parts
 use Rattle.doc_records.specs.Pool.{Later, Shown, Stands, part_term, places_of}
-use Rattle.doc_records.specs.Shapes.{ask_text, cells_of}
+use Rattle.doc_records.specs.Shapes.{cells_of}
 use Rattle.doc_records.specs.Trees.{entries_of}
 use Rattle.doc_records.proofs.Chains.{cells_next}
 use Rattle.doc_records.proofs.Rows.{entry_count}
@@ -74,10 +75,10 @@ pub text_held : (more n h0 h1 h2 : ℕ) → h1 ≤ h0 + 1 → h2 ≤ h1 + (n - 1
     → h2 ≤ h0 + (more + 1)
 text_held more n h0 h1 h2 first others few = omega (arith, first, others, few)
 
-pub text_told : (t u : Term) (a b c : List Mark) → u ≡ t → Tells (λ rest. rest) a b
-    → Tells (ask_text u) b c → Tells (ask_text t) a c
-text_told t u a b c same first second all rest due =
-    second all rest (first all (ask_text u rest) (rw same due))
+pub part_told : (f : Term → List Ask → List Ask) (t u : Term) (a b c : List Mark) → u ≡ t
+    → Tells (λ rest. rest) a b → Tells (f u) b c → Tells (f t) a c
+part_told f t u a b c same first second all rest due =
+    second all rest (first all (f u rest) (rw same due))
 
 pub low_then : {A F : Type 0} {s t : Shown A F} {n : ℕ} → Later s t → n ≤ s.held → n ≤ t.held
 low_then later low = omega (arith, low, later.longer)

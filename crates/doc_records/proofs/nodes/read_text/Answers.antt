@@ -2,10 +2,11 @@ use Rattle.std.proofs.Common.{◌≡◌, ◌∙◌, ◌++◌, ap, true, List, �
 use Rattle.cell_words.specs.Term.{part}
 use Rattle.doc_tree.specs.Words.{is_text}
 use Rattle.doc_records.specs.Pool.{part_term}
+use Rattle.doc_records.specs.Shapes.{ask_text}
 use Rattle.doc_records.specs.Texts.{IsText, text_of}
 use Rattle.doc_records.proofs.Spellings.{node_text, text_cells, text_chain}
 use Rattle.doc_records.proofs.Steps.{later_then, place_one, read_none, read_some, room_some}
-use Rattle.doc_records.proofs.Steps.{text_fits, text_held, text_told}
+use Rattle.doc_records.proofs.Steps.{text_fits, text_held, part_told}
 use Rattle.doc_records.proofs.nodes.read_text.Goals as goal
 
 pub read_part-top-requires-clause-stands : goal.read_part-top-requires-clause-stands
@@ -111,5 +112,6 @@ returns-clause-text g c =
 
 pub returns-clause-told : goal.returns-clause-told
 returns-clause-told g c shared =
-    text_told _ _ _ _ _ c.read_part-top.ensures.part (c.read_part-top.ensures.told shared)
+    part_told ask_text _ _ _ _ _ c.read_part-top.ensures.part
+    (c.read_part-top.ensures.told shared)
     (c.in_ok-push_text.ensures.told (c.read_part-top.ensures.shared shared))

@@ -1,5 +1,5 @@
-use Rattle.std.proofs.Common.{◌≡◌, ◌∙◌, ◌+◌, ◌-◌, ◌<◌, ◌≤◌, ◌++◌, List, ap, append_assoc, subst, sym, ℕ}
-use Rattle.std.proofs.Common.{arith}
+use Rattle.std.proofs.Common.{◌≡◌, ◌∙◌, ◌+◌, ◌-◌, ◌<◌, ◌≤◌, ◌++◌, List, ap, arith}
+use Rattle.std.proofs.Common.{append_assoc, subst, sym, ℕ}
 use Rattle.cell_words.specs.Term.{Term, part, IsFive}
 use Rattle.trails.specs.Marks.{Mark}
 use Rattle.trails.specs.Telling.{Due, Tells}
@@ -195,8 +195,8 @@ returns-clause-bytes g t c =
     let cell = c.read_cell-cell.result in
     rw c.in-Record.is
     (text_read t0 _ (bytes_here cell.count cell.first cell.second cell.third)
-    c.args.bytes.now.items c.push_cell.new.bytes.items _ c.read_cell-cell.ensures.text same c.in_ok-push_cell.ensures
-    c.in_ok-push_text.ensures.bytes)
+    c.args.bytes.now.items c.push_cell.new.bytes.items _ c.read_cell-cell.ensures.text same
+    c.in_ok-push_cell.ensures c.in_ok-push_text.ensures.bytes)
 
 pub returns-clause-told : goal.returns-clause-told
 returns-clause-told g t c shared =

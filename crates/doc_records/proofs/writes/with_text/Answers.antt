@@ -1,5 +1,5 @@
-use Rattle.std.proofs.Common.{◌≡◌, ◌∙◌, ◌+◌, ◌/◌, ◌^◌, ◌<◌, ◌≤◌, List, ap, arith, length, refl, subst}
-use Rattle.std.proofs.Common.{sym, true, ℕ}
+use Rattle.std.proofs.Common.{◌≡◌, ◌∙◌, ◌+◌, ◌/◌, ◌^◌, ◌<◌, ◌≤◌, List, ap, arith, length, refl}
+use Rattle.std.proofs.Common.{subst, sym, true, ℕ}
 use Rattle.cell_words.specs.Term.{Term, null, num, five, number, part}
 use Rattle.doc_tree.specs.Words.{is_text}
 use Rattle.doc_records.specs.Shapes.{IsNum}
