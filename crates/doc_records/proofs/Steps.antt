@@ -1,7 +1,8 @@
 -- One call after another: what stands, how many places are held, and what was told.
-use Rattle.std.proofs.Common.{◌≡◌, ◌∙◌, ◌+◌, ◌-◌, ◌<◌, ◌≤◌, Bool, List, None, Some, ℕ, arith}
-use Rattle.std.proofs.Common.{if◌then◌else◌, false, refl, subst, sym, true}
+use Rattle.std.proofs.Common.{◌≡◌, ◌∙◌, ◌+◌, ◌-◌, ◌<◌, ◌≤◌, Bool, Err, IfOk, List, None, Ok, OnOk, Result, Some, ℕ}
+use Rattle.std.proofs.Common.{arith, if◌then◌else◌, false, ap, refl, subst, sym, true}
 use Rattle.std.specs.Option.{ForSome}
+use Rattle.std.specs.Result.{IsErr}
 use Rattle.cell_words.specs.Term.{Term, part, IsFive}
 use Rattle.doc_tree.specs.Tree.{kid_count}
 use Rattle.kids_avl.specs.Entries.{kids_of}
@@ -83,6 +84,12 @@ part_told f t u a b c same first second all rest due =
 pub low_then : {A F : Type 0} {s t : Shown A F} {n : ℕ} → Later s t → n ≤ s.held → n ≤ t.held
 low_then later low = omega (arith, low, later.longer)
 
+-- a field that was read later
+pub field_same : {A F : Type 0} (i : ℕ) (s t u : Shown A F) (at : A) (p : Part A) → Later s t
+    → s.stands s.held at → part_term u.term p ≡ part i (t.term at)
+    → part_term u.term p ≡ part i (s.term at)
+field_same i s t u at p later stands is = is ∙ ap (part i) (later.same at stands)
+
 pub some_is : {A : Type 0} (P : A → Type 0) (a : A) → P a → ForSome (Some a) P
 some_is P a is = λ x e.
     let same : a ≡ x = cc in
@@ -104,3 +111,12 @@ read_some false x y is = absurd (cc is)
 pub read_none : (b : Bool) (y : List ℕ) → (if b then Some y else None) ≡ None → b ≡ true → ⊥
 read_none true y is test = absurd (cc is)
 read_none false y is test = absurd (cc test)
+
+-- a call that gave an error owes nothing of what it would have given
+pub none_owed : {T E : Type 0} (r : Result T E) (P : Type 0) → IsErr r → OnOk r P
+none_owed (Ok x) P is = absurd (cc is)
+none_owed (Err e) P is = tt
+
+pub none_given : {T E : Type 0} (r : Result T E) (P : T → Type 0) → IsErr r → IfOk r P
+none_given (Ok x) P is = absurd (cc is)
+none_given (Err e) P is = tt

@@ -4,7 +4,8 @@ use Rattle.cell_words.specs.Term.{Term, part, IsFive}
 use Rattle.doc_records.specs.Pool.{part_term}
 use Rattle.doc_records.specs.Trees.{AreEntries}
 use Rattle.doc_records.proofs.Rows.{entry_left, entry_right, entry_told, names_read}
-use Rattle.doc_records.proofs.Steps.{later_then, place_one, row_count, row_counts}
+use Rattle.doc_records.proofs.Steps.{field_same, later_then, none_owed, place_one, row_count}
+use Rattle.doc_records.proofs.Steps.{row_counts}
 use Rattle.doc_records.proofs.listing.+push_names.Goals as goal
 
 -- the places: one for the left side and six for each entry there, four for the name, and one for
@@ -128,12 +129,8 @@ read_name-requires-clause-five g t c =
     let at = c.in-Record.at in
     let t0 = s0.term at in
     let is = rw c.in-Record.is at c.requires.stands in
-    let s1 = c.read_part-left.ensures.later.now at is.0 in
-    let e1 = c.read_part-left.ensures.later.same at is.0 in
-    let s2 = c.push_names.ensures.later.now at s1 in
-    let e2 : (g.R.RecordPool.shown c.push_names.new.records).term at ≡ t0 =
-    c.push_names.ensures.later.same at s1 ∙ e1 in
-    subst IsFive (sym e2) is.1
+    let later = later_then c.read_part-left.ensures.later c.push_names.ensures.later in
+    subst IsFive (sym (later.same at is.0)) is.1
 
 pub read_name-requires-clause-entry : goal.read_name-requires-clause-entry
 read_name-requires-clause-entry g t c =
@@ -141,12 +138,8 @@ read_name-requires-clause-entry g t c =
     let at = c.in-Record.at in
     let t0 = s0.term at in
     let is = rw c.in-Record.is at c.requires.stands in
-    let s1 = c.read_part-left.ensures.later.now at is.0 in
-    let e1 = c.read_part-left.ensures.later.same at is.0 in
-    let s2 = c.push_names.ensures.later.now at s1 in
-    let e2 : (g.R.RecordPool.shown c.push_names.new.records).term at ≡ t0 =
-    c.push_names.ensures.later.same at s1 ∙ e1 in
-    subst AreEntries (sym e2) (rw c.in-Record.is at c.requires.entries)
+    let later = later_then c.read_part-left.ensures.later c.push_names.ensures.later in
+    subst AreEntries (sym (later.same at is.0)) (rw c.in-Record.is at c.requires.entries)
 
 pub read_name-requires-clause-places : goal.read_name-requires-clause-places
 read_name-requires-clause-places g t c =
@@ -216,12 +209,8 @@ read_part-right-requires-clause-stands g t c =
     let at = c.in-Record.at in
     let t0 = s0.term at in
     let is = rw c.in-Record.is at c.requires.stands in
-    let s1 = c.read_part-left.ensures.later.now at is.0 in
-    let e1 = c.read_part-left.ensures.later.same at is.0 in
-    let s2 = c.push_names.ensures.later.now at s1 in
-    let e2 : (g.R.RecordPool.shown c.push_names.new.records).term at ≡ t0 =
-    c.push_names.ensures.later.same at s1 ∙ e1 in
-    c.read_name.ensures.later.now at s2
+    let later = later_then c.read_part-left.ensures.later c.push_names.ensures.later in
+    c.read_name.ensures.later.now at (later.now at is.0)
 
 pub read_part-right-requires-clause-place : goal.read_part-right-requires-clause-place
 read_part-right-requires-clause-place g t c =
@@ -247,18 +236,16 @@ push_names-requires-2 g t c κs within =
     let t0 = s0.term at in
     let is = rw c.in-Record.is at c.requires.stands in
     let places = rw c.in-Record.is at c.requires.places in
-    let s1 = c.read_part-left.ensures.later.now at is.0 in
-    let e1 = c.read_part-left.ensures.later.same at is.0 in
-    let s2 = c.push_names.ensures.later.now at s1 in
-    let e2 : (g.R.RecordPool.shown c.push_names.new.records).term at ≡ t0 =
-    c.push_names.ensures.later.same at s1 ∙ e1 in
-    let e3 : (g.R.RecordPool.shown c.read_name.new.records).term at ≡ t0 =
-    c.read_name.ensures.later.same at s2 ∙ e2 in
+    let later =
+    later_then (later_then c.read_part-left.ensures.later c.push_names.ensures.later)
+    c.read_name.ensures.later in
+    let right_is =
+    field_same 3 s0 _ (g.R.RecordPool.shown c.read_part-right.new.records) at
+    c.read_part-right.result later is.0 c.read_part-right.ensures.part in
     let whole =
     row_counts t0 (part_term (g.R.RecordPool.shown c.read_part-left.new.records).term
     c.read_part-left.result) (part_term (g.R.RecordPool.shown c.read_part-right.new.records).term
-    c.read_part-right.result) is.1 c.read_part-left.ensures.part
-    (c.read_part-right.ensures.part ∙ ap (λ (u : Term). part 3 u) e3) in
+    c.read_part-right.result) is.1 c.read_part-left.ensures.part right_is in
     let one = place_one c.read_part-left.result _ _ c.read_part-left.ensures.held in
     let fits =
     name_fits _ _ _ _ _ _ _ _ _ whole places one c.read_part-left.ensures.later.room
@@ -266,7 +253,7 @@ push_names-requires-2 g t c κs within =
     let s4 = g.R.RecordPool.shown c.read_part-right.new.records in
     let right = c.read_part-right.result in
     let entries : AreEntries (part_term s4.term right) =
-    subst AreEntries (sym (c.read_part-right.ensures.part ∙ ap (λ (u : Term). part 3 u) e3))
+    subst AreEntries (sym right_is)
     (entry_right t0 is.1 (rw c.in-Record.is at c.requires.entries)) in
     let all : row_count (part_term s0.term c.args.top) ≡ t = c.decreases in (
       right_less _ _ _ _ whole (rw c.in-Record.is at all),
@@ -301,18 +288,16 @@ returns-in_err-push_names-2-clause-held g t c =
     let at = c.in-Record.at in
     let t0 = s0.term at in
     let is = rw c.in-Record.is at c.requires.stands in
-    let s1 = c.read_part-left.ensures.later.now at is.0 in
-    let e1 = c.read_part-left.ensures.later.same at is.0 in
-    let s2 = c.push_names.ensures.later.now at s1 in
-    let e2 : (g.R.RecordPool.shown c.push_names.new.records).term at ≡ t0 =
-    c.push_names.ensures.later.same at s1 ∙ e1 in
-    let e3 : (g.R.RecordPool.shown c.read_name.new.records).term at ≡ t0 =
-    c.read_name.ensures.later.same at s2 ∙ e2 in
+    let later =
+    later_then (later_then c.read_part-left.ensures.later c.push_names.ensures.later)
+    c.read_name.ensures.later in
+    let right_is =
+    field_same 3 s0 _ (g.R.RecordPool.shown c.read_part-right.new.records) at
+    c.read_part-right.result later is.0 c.read_part-right.ensures.part in
     let whole =
     row_counts t0 (part_term (g.R.RecordPool.shown c.read_part-left.new.records).term
     c.read_part-left.result) (part_term (g.R.RecordPool.shown c.read_part-right.new.records).term
-    c.read_part-right.result) is.1 c.read_part-left.ensures.part
-    (c.read_part-right.ensures.part ∙ ap (λ (u : Term). part 3 u) e3) in
+    c.read_part-right.result) is.1 c.read_part-left.ensures.part right_is in
     let one = place_one c.read_part-left.result _ _ c.read_part-left.ensures.held in
     rw c.in-Record.is
     (all_held _ _ _ _ _ _ _ _ _ whole one c.push_names.ensures.held c.read_name.ensures.held
@@ -338,18 +323,16 @@ returns-clause-held g t c =
     let at = c.in-Record.at in
     let t0 = s0.term at in
     let is = rw c.in-Record.is at c.requires.stands in
-    let s1 = c.read_part-left.ensures.later.now at is.0 in
-    let e1 = c.read_part-left.ensures.later.same at is.0 in
-    let s2 = c.push_names.ensures.later.now at s1 in
-    let e2 : (g.R.RecordPool.shown c.push_names.new.records).term at ≡ t0 =
-    c.push_names.ensures.later.same at s1 ∙ e1 in
-    let e3 : (g.R.RecordPool.shown c.read_name.new.records).term at ≡ t0 =
-    c.read_name.ensures.later.same at s2 ∙ e2 in
+    let later =
+    later_then (later_then c.read_part-left.ensures.later c.push_names.ensures.later)
+    c.read_name.ensures.later in
+    let right_is =
+    field_same 3 s0 _ (g.R.RecordPool.shown c.read_part-right.new.records) at
+    c.read_part-right.result later is.0 c.read_part-right.ensures.part in
     let whole =
     row_counts t0 (part_term (g.R.RecordPool.shown c.read_part-left.new.records).term
     c.read_part-left.result) (part_term (g.R.RecordPool.shown c.read_part-right.new.records).term
-    c.read_part-right.result) is.1 c.read_part-left.ensures.part
-    (c.read_part-right.ensures.part ∙ ap (λ (u : Term). part 3 u) e3) in
+    c.read_part-right.result) is.1 c.read_part-left.ensures.part right_is in
     let one = place_one c.read_part-left.result _ _ c.read_part-left.ensures.held in
     rw c.in-Record.is
     (all_held _ _ _ _ _ _ _ _ _ whole one c.push_names.ensures.held c.read_name.ensures.held
@@ -362,23 +345,51 @@ returns-clause-records g t c =
     ∙ c.read_name.ensures.records ∙ c.push_names.ensures.records
     ∙ c.read_part-left.ensures.records
 
+pub returns-in_err-push_names-clause-names : goal.returns-in_err-push_names-clause-names
+returns-in_err-push_names-clause-names g t c =
+    none_owed _ _ c.from_residual.ensures.0
+
+pub returns-in_err-push_names-clause-told : goal.returns-in_err-push_names-clause-told
+returns-in_err-push_names-clause-told g t c =
+    none_owed _ _ c.from_residual.ensures.0
+
+pub returns-in_err-name-clause-names : goal.returns-in_err-name-clause-names
+returns-in_err-name-clause-names g t c =
+    none_owed _ _ c.from_residual-in_err-name.ensures.0
+
+pub returns-in_err-name-clause-told : goal.returns-in_err-name-clause-told
+returns-in_err-name-clause-told g t c =
+    none_owed _ _ c.from_residual-in_err-name.ensures.0
+
+pub returns-in_err-push-clause-names : goal.returns-in_err-push-clause-names
+returns-in_err-push-clause-names g t c =
+    none_owed _ _ c.from_residual-in_err-push.ensures.0
+
+pub returns-in_err-push-clause-told : goal.returns-in_err-push-clause-told
+returns-in_err-push-clause-told g t c =
+    none_owed _ _ c.from_residual-in_err-push.ensures.0
+
+pub returns-in_err-push_names-2-clause-names : goal.returns-in_err-push_names-2-clause-names
+returns-in_err-push_names-2-clause-names g t c =
+    none_owed _ _ c.from_residual-in_err-push_names-2.ensures.0
+
+pub returns-in_err-push_names-2-clause-told : goal.returns-in_err-push_names-2-clause-told
+returns-in_err-push_names-2-clause-told g t c =
+    none_owed _ _ c.from_residual-in_err-push_names-2.ensures.0
+
 pub returns-clause-names : goal.returns-clause-names
 returns-clause-names g t c =
+    let s0 = g.R.RecordPool.shown c.args.records.now in
     let at = c.in-Record.at in
     let is = rw c.in-Record.is at c.requires.stands in
-    let s1 = c.read_part-left.ensures.later.now at is.0 in
-    let e1 = c.read_part-left.ensures.later.same at is.0 in
-    let s2 = c.push_names.ensures.later.now at s1 in
-    let e2 : (g.R.RecordPool.shown c.push_names.new.records).term c.in-Record.at
-    ≡ (g.R.RecordPool.shown c.args.records.now).term c.in-Record.at =
-    c.push_names.ensures.later.same at s1 ∙ e1 in
-    let e3 : (g.R.RecordPool.shown c.read_name.new.records).term c.in-Record.at
-    ≡ (g.R.RecordPool.shown c.args.records.now).term c.in-Record.at =
-    c.read_name.ensures.later.same at s2 ∙ e2 in
+    let first = later_then c.read_part-left.ensures.later c.push_names.ensures.later in
+    let right_is =
+    field_same 3 s0 _ (g.R.RecordPool.shown c.read_part-right.new.records) at
+    c.read_part-right.result (later_then first c.read_name.ensures.later) is.0
+    c.read_part-right.ensures.part in
     rw c.in-Record.is
     (names_read _ _ _ _ _ _ _ _ is.1 c.read_part-left.ensures.part
-    (ap (λ (u : Term). part 0 u) e2)
-    (c.read_part-right.ensures.part ∙ ap (λ (u : Term). part 3 u) e3)
+    (ap (λ (u : Term). part 0 u) (first.same at is.0)) right_is
     c.in_ok-push_names.ensures.names
     (c.in_ok-push.ensures.ok
     ∙ ap (λ (name : List ℕ). c.push_names.new.names ++ name ∷ []) c.in_ok-name.ensures.name)
@@ -386,22 +397,18 @@ returns-clause-names g t c =
 
 pub returns-clause-told : goal.returns-clause-told
 returns-clause-told g t c shared =
+    let s0 = g.R.RecordPool.shown c.args.records.now in
     let at = c.in-Record.at in
     let is = rw c.in-Record.is at c.requires.stands in
     let own = rw c.in-Record.is at shared in
-    let s1 = c.read_part-left.ensures.later.now at is.0 in
-    let e1 = c.read_part-left.ensures.later.same at is.0 in
-    let s2 = c.push_names.ensures.later.now at s1 in
-    let e2 : (g.R.RecordPool.shown c.push_names.new.records).term c.in-Record.at
-    ≡ (g.R.RecordPool.shown c.args.records.now).term c.in-Record.at =
-    c.push_names.ensures.later.same at s1 ∙ e1 in
-    let e3 : (g.R.RecordPool.shown c.read_name.new.records).term c.in-Record.at
-    ≡ (g.R.RecordPool.shown c.args.records.now).term c.in-Record.at =
-    c.read_name.ensures.later.same at s2 ∙ e2 in
+    let first = later_then c.read_part-left.ensures.later c.push_names.ensures.later in
+    let right_is =
+    field_same 3 s0 _ (g.R.RecordPool.shown c.read_part-right.new.records) at
+    c.read_part-right.result (later_then first c.read_name.ensures.later) is.0
+    c.read_part-right.ensures.part in
     rw c.in-Record.is
     (entry_told _ _ _ _ _ _ _ _ _ _ is.1 c.read_part-left.ensures.part
-    (ap (λ (u : Term). part 0 u) e2)
-    (c.read_part-right.ensures.part ∙ ap (λ (u : Term). part 3 u) e3)
+    (ap (λ (u : Term). part 0 u) (first.same at is.0)) right_is
     (c.read_part-left.ensures.told own)
     (c.in_ok-push_names.ensures.told (c.read_part-left.ensures.shared own))
     (c.in_ok-name.ensures.told own) (c.read_part-right.ensures.told own)

@@ -5,8 +5,8 @@ use Rattle.doc_records.specs.Pool.{part_term}
 use Rattle.doc_records.specs.Shapes.{ask_text}
 use Rattle.doc_records.specs.Texts.{IsName, text_of}
 use Rattle.doc_records.proofs.Rows.{entry_name, name_cells, name_chain}
-use Rattle.doc_records.proofs.Steps.{later_then, place_one, read_none, read_some, room_some}
-use Rattle.doc_records.proofs.Steps.{text_fits, text_held, part_told}
+use Rattle.doc_records.proofs.Steps.{later_then, none_given, none_owed, place_one, read_none}
+use Rattle.doc_records.proofs.Steps.{read_some, room_some, text_fits, text_held, part_told}
 use Rattle.doc_records.proofs.listing.read_name.Goals as goal
 
 pub read_part-top-requires-clause-stands : goal.read_part-top-requires-clause-stands
@@ -91,6 +91,22 @@ returns-clause-held g c =
 pub returns-clause-records : goal.returns-clause-records
 returns-clause-records g c =
     c.push_text.ensures.records ∙ c.read_part-top.ensures.records
+
+pub returns-in_err-push_text-clause-name : goal.returns-in_err-push_text-clause-name
+returns-in_err-push_text-clause-name g c =
+    none_given _ _ c.from_residual.ensures.0
+
+pub returns-in_err-push_text-clause-told : goal.returns-in_err-push_text-clause-told
+returns-in_err-push_text-clause-told g c =
+    none_owed _ _ c.from_residual.ensures.0
+
+pub returns-in_err-name-clause-name : goal.returns-in_err-name-clause-name
+returns-in_err-name-clause-name g c =
+    none_given _ _ c.from_residual-in_err-name.ensures.0
+
+pub returns-in_err-name-clause-told : goal.returns-in_err-name-clause-told
+returns-in_err-name-clause-told g c =
+    none_owed _ _ c.from_residual-in_err-name.ensures.0
 
 pub unreachable-requires : goal.unreachable-requires
 unreachable-requires g c =

@@ -6,7 +6,8 @@ use Rattle.doc_records.specs.Pool.{part_term}
 use Rattle.doc_records.specs.Shapes.{ask_names}
 use Rattle.doc_records.specs.Trees.{AreEntries, entries_of}
 use Rattle.doc_records.proofs.Rows.{node_entries, node_few, node_kids}
-use Rattle.doc_records.proofs.Steps.{later_then, part_told, place_one, room_some, row_count}
+use Rattle.doc_records.proofs.Steps.{later_then, none_given, none_owed, part_told, place_one}
+use Rattle.doc_records.proofs.Steps.{room_some, row_count}
 use Rattle.doc_records.proofs.listing.read_names.Goals as goal
 
 names_fit : (n h0 h1 m0 m1 : ℕ) → n ≤ 256 → h0 + 1538 ≤ m0 → h1 ≤ h0 + 1 → m1 ≡ m0
@@ -48,6 +49,14 @@ returns-clause-later g c = later_then c.read_part-top.ensures.later c.push_names
 
 pub returns-clause-records : goal.returns-clause-records
 returns-clause-records g c = c.push_names.ensures.records ∙ c.read_part-top.ensures.records
+
+pub returns-in_err-push_names-clause-names : goal.returns-in_err-push_names-clause-names
+returns-in_err-push_names-clause-names g c =
+    none_given _ _ c.from_residual.ensures.0
+
+pub returns-in_err-push_names-clause-told : goal.returns-in_err-push_names-clause-told
+returns-in_err-push_names-clause-told g c =
+    none_owed _ _ c.from_residual.ensures.0
 
 pub returns-clause-names : goal.returns-clause-names
 returns-clause-names g c =

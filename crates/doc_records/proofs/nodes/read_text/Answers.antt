@@ -5,8 +5,8 @@ use Rattle.doc_records.specs.Pool.{part_term}
 use Rattle.doc_records.specs.Shapes.{ask_text}
 use Rattle.doc_records.specs.Texts.{IsText, text_of}
 use Rattle.doc_records.proofs.Spellings.{node_text, text_cells, text_chain}
-use Rattle.doc_records.proofs.Steps.{later_then, place_one, read_none, read_some, room_some}
-use Rattle.doc_records.proofs.Steps.{text_fits, text_held, part_told}
+use Rattle.doc_records.proofs.Steps.{later_then, none_given, none_owed, place_one, read_none}
+use Rattle.doc_records.proofs.Steps.{read_some, room_some, text_fits, text_held, part_told}
 use Rattle.doc_records.proofs.nodes.read_text.Goals as goal
 
 pub read_part-top-requires-clause-stands : goal.read_part-top-requires-clause-stands
@@ -86,6 +86,22 @@ returns-clause-held g c =
 pub returns-clause-records : goal.returns-clause-records
 returns-clause-records g c =
     c.push_text.ensures.records ∙ c.read_part-top.ensures.records
+
+pub returns-in_err-push_text-clause-text : goal.returns-in_err-push_text-clause-text
+returns-in_err-push_text-clause-text g c =
+    none_given _ _ c.from_residual.ensures.0
+
+pub returns-in_err-push_text-clause-told : goal.returns-in_err-push_text-clause-told
+returns-in_err-push_text-clause-told g c =
+    none_owed _ _ c.from_residual.ensures.0
+
+pub returns-in_err-text-clause-text : goal.returns-in_err-text-clause-text
+returns-in_err-text-clause-text g c =
+    none_given _ _ c.from_residual-in_err-text.ensures.0
+
+pub returns-in_err-text-clause-told : goal.returns-in_err-text-clause-told
+returns-in_err-text-clause-told g c =
+    none_owed _ _ c.from_residual-in_err-text.ensures.0
 
 pub unreachable-requires : goal.unreachable-requires
 unreachable-requires g c =

@@ -7,7 +7,7 @@ use Rattle.doc_records.specs.Pool.{part_term}
 use Rattle.doc_records.specs.Shapes.{IsChain, ask_cell, ask_text, cells_of}
 use Rattle.doc_records.specs.Texts.{bytes_here, text_of}
 use Rattle.doc_records.proofs.Chains.{ask_next, cells_next, chain_next}
-use Rattle.doc_records.proofs.Steps.{later_then, place_cell, place_one}
+use Rattle.doc_records.proofs.Steps.{later_then, none_owed, place_cell, place_one}
 use Rattle.doc_records.proofs.texts.+push_text.Goals as goal
 
 -- a cell, and the text that comes after it
@@ -180,6 +180,22 @@ pub returns-clause-records : goal.returns-clause-records
 returns-clause-records g t c =
     c.push_text.ensures.records ∙ c.read_part-next.ensures.records
     ∙ c.read_cell-cell.ensures.records
+
+pub returns-in_err-push_cell-clause-bytes : goal.returns-in_err-push_cell-clause-bytes
+returns-in_err-push_cell-clause-bytes g t c =
+    none_owed _ _ c.from_residual.ensures.0
+
+pub returns-in_err-push_cell-clause-told : goal.returns-in_err-push_cell-clause-told
+returns-in_err-push_cell-clause-told g t c =
+    none_owed _ _ c.from_residual.ensures.0
+
+pub returns-in_err-push_text-clause-bytes : goal.returns-in_err-push_text-clause-bytes
+returns-in_err-push_text-clause-bytes g t c =
+    none_owed _ _ c.from_residual-in_err-push_text.ensures.0
+
+pub returns-in_err-push_text-clause-told : goal.returns-in_err-push_text-clause-told
+returns-in_err-push_text-clause-told g t c =
+    none_owed _ _ c.from_residual-in_err-push_text.ensures.0
 
 pub returns-clause-bytes : goal.returns-clause-bytes
 returns-clause-bytes g t c =
