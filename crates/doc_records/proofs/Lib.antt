@@ -1,4 +1,5 @@
 pub mod Bytewise
+pub mod Cells
 pub mod Chains
 pub mod Fields
 pub mod Letters

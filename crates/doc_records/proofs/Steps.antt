@@ -1,6 +1,7 @@
 -- One call after another: what stands, how many places are held, and what was told.
-use Rattle.std.proofs.Common.{◌≡◌, ◌∙◌, ◌+◌, ◌-◌, ◌<◌, ◌≤◌, Bool, Err, IfOk, List, None, Ok, OnOk, Result, Some, ℕ}
-use Rattle.std.proofs.Common.{arith, if◌then◌else◌, false, ap, refl, subst, sym, true}
+use Rattle.std.proofs.Common.{◌≡◌, ◌∙◌, ◌+◌, ◌-◌, ◌<◌, ◌≤◌, Bool, Err, IfOk, List, None, Ok, OnOk}
+use Rattle.std.proofs.Common.{Result, Some, ℕ, ap, arith, false, if◌then◌else◌, refl, subst, sym}
+use Rattle.std.proofs.Common.{true}
 use Rattle.std.specs.Option.{ForSome}
 use Rattle.std.specs.Result.{IsErr}
 use Rattle.cell_words.specs.Term.{Term, part, IsFive}
@@ -12,9 +13,7 @@ use Rattle.trails.specs.Telling.{Tells}
 use Rattle.doc_records.specs.declared.pool.Part.{Part}
 use Rattle.doc_records.specs.declared.pool.Part.TheVariants as parts
 use Rattle.doc_records.specs.Pool.{Later, Shown, Stands, part_term, places_of}
-use Rattle.doc_records.specs.Shapes.{cells_of}
 use Rattle.doc_records.specs.Trees.{entries_of}
-use Rattle.doc_records.proofs.Chains.{cells_next}
 use Rattle.doc_records.proofs.Rows.{entry_count}
 
 pub later_then : {A F : Type 0} {a b c : Shown A F} → Later a b → Later b c → Later a c
@@ -57,12 +56,6 @@ pub place_one : {A : Type 0} (p : Part A) (old new : ℕ) → new ≤ old + plac
 place_one parts.Null old new held = omega (arith, held)
 place_one (parts.Num n) old new held = omega (arith, held)
 place_one (parts.Record a) old new held = held
-
-pub place_cell : {A F : Type 0} (s : Shown A F) (p : Part A) → Stands s p
-    → places_of p ≤ cells_of (part_term s.term p)
-place_cell s parts.Null is = omega arith
-place_cell s (parts.Num n) is = omega arith
-place_cell s (parts.Record a) is = omega (arith, cells_next (s.term a) is.1)
 
 pub room_some : (n held room : ℕ) → held + (n + 1) ≤ room → held < room
 room_some n held room fits = omega (arith, fits)

@@ -7,7 +7,7 @@ use Rattle.doc_records.specs.Pool.{IsOn, part_term}
 use Rattle.doc_records.specs.Trees.{AreEntries, IsNodeAt, entries_of, tree_of}
 use Rattle.doc_records.proofs.Rows.{entry_left, entry_right, find_equal, find_greater, find_less}
 use Rattle.doc_records.proofs.Rows.{left_low, right_low, rising_on_left, rising_on_right}
-use Rattle.doc_records.proofs.Steps.{later_then, low_then, place_one, some_is}
+use Rattle.doc_records.proofs.Steps.{field_same, later_then, low_then, place_one, some_is}
 use Rattle.doc_records.proofs.finding.+find_under.Goals as goal
 
 abbrev high : Term → ℕ
@@ -85,11 +85,11 @@ find_under-requires g t c κs within =
     let entries = rw c.in-Record.is at c.requires.entries in
     let rising = rw c.in-Record.is at c.requires.rising in
     let places = rw c.in-Record.is at c.requires.places in
-    let e1 = c.order_entry.ensures.later.same at is.0 in
     let s2 = g.R.RecordPool.shown c.read_part-left.new.records in
     let side = c.read_part-left.result in
     let same : part_term s2.term side ≡ part 2 t0 =
-    c.read_part-left.ensures.part ∙ ap (λ (u : Term). part 2 u) e1 in
+    field_same 2 s0 _ s2 at side c.order_entry.ensures.later is.0
+    c.read_part-left.ensures.part in
     let low : high (part_term s2.term side) + 1 ≤ high t0 =
     subst (λ (u : Term). high u + 1 ≤ high t0) (sym same) (left_low t0 is.1) in
     let entries_in : AreEntries (part_term s2.term side) =
@@ -119,11 +119,11 @@ returns-in-Less-clause-child g t c =
     let t0 = s0.term at in
     let is = rw c.in-Record.is at c.requires.stands in
     let rising = rw c.in-Record.is at c.requires.rising in
-    let e1 = c.order_entry.ensures.later.same at is.0 in
     let s2 = g.R.RecordPool.shown c.read_part-left.new.records in
     let side = c.read_part-left.result in
     let same : part_term s2.term side ≡ part 2 t0 =
-    c.read_part-left.ensures.part ∙ ap (λ (u : Term). part 2 u) e1 in
+    field_same 2 s0 _ s2 at side c.order_entry.ensures.later is.0
+    c.read_part-left.ensures.part in
     let name = c.args.name.now in
     rw c.in-Record.is
     (c.find_under.ensures.child
@@ -157,11 +157,11 @@ returns-in-Less-clause-held g t c =
     let at = c.in-Record.at in
     let t0 = s0.term at in
     let is = rw c.in-Record.is at c.requires.stands in
-    let e1 = c.order_entry.ensures.later.same at is.0 in
     let s2 = g.R.RecordPool.shown c.read_part-left.new.records in
     let side = c.read_part-left.result in
     let same : part_term s2.term side ≡ part 2 t0 =
-    c.read_part-left.ensures.part ∙ ap (λ (u : Term). part 2 u) e1 in
+    field_same 2 s0 _ s2 at side c.order_entry.ensures.later is.0
+    c.read_part-left.ensures.part in
     let low : high (part_term s2.term side) + 1 ≤ high t0 =
     subst (λ (u : Term). high u + 1 ≤ high t0) (sym same) (left_low t0 is.1) in
     rw c.in-Record.is
@@ -197,11 +197,11 @@ find_under-requires-in-Greater g t c κs within =
     let entries = rw c.in-Record.is at c.requires.entries in
     let rising = rw c.in-Record.is at c.requires.rising in
     let places = rw c.in-Record.is at c.requires.places in
-    let e1 = c.order_entry.ensures.later.same at is.0 in
     let s2 = g.R.RecordPool.shown c.read_part-right.new.records in
     let side = c.read_part-right.result in
     let same : part_term s2.term side ≡ part 3 t0 =
-    c.read_part-right.ensures.part ∙ ap (λ (u : Term). part 3 u) e1 in
+    field_same 3 s0 _ s2 at side c.order_entry.ensures.later is.0
+    c.read_part-right.ensures.part in
     let low : high (part_term s2.term side) + 1 ≤ high t0 =
     subst (λ (u : Term). high u + 1 ≤ high t0) (sym same) (right_low t0 is.1) in
     let entries_in : AreEntries (part_term s2.term side) =
@@ -231,11 +231,11 @@ returns-in-Greater-clause-child g t c =
     let t0 = s0.term at in
     let is = rw c.in-Record.is at c.requires.stands in
     let rising = rw c.in-Record.is at c.requires.rising in
-    let e1 = c.order_entry.ensures.later.same at is.0 in
     let s2 = g.R.RecordPool.shown c.read_part-right.new.records in
     let side = c.read_part-right.result in
     let same : part_term s2.term side ≡ part 3 t0 =
-    c.read_part-right.ensures.part ∙ ap (λ (u : Term). part 3 u) e1 in
+    field_same 3 s0 _ s2 at side c.order_entry.ensures.later is.0
+    c.read_part-right.ensures.part in
     let name = c.args.name.now in
     rw c.in-Record.is
     (c.find_under-in-Greater.ensures.child
@@ -269,11 +269,11 @@ returns-in-Greater-clause-held g t c =
     let at = c.in-Record.at in
     let t0 = s0.term at in
     let is = rw c.in-Record.is at c.requires.stands in
-    let e1 = c.order_entry.ensures.later.same at is.0 in
     let s2 = g.R.RecordPool.shown c.read_part-right.new.records in
     let side = c.read_part-right.result in
     let same : part_term s2.term side ≡ part 3 t0 =
-    c.read_part-right.ensures.part ∙ ap (λ (u : Term). part 3 u) e1 in
+    field_same 3 s0 _ s2 at side c.order_entry.ensures.later is.0
+    c.read_part-right.ensures.part in
     let low : high (part_term s2.term side) + 1 ≤ high t0 =
     subst (λ (u : Term). high u + 1 ≤ high t0) (sym same) (right_low t0 is.1) in
     rw c.in-Record.is

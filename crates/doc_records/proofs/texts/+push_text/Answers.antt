@@ -1,4 +1,4 @@
-use Rattle.std.proofs.Common.{◌≡◌, ◌∙◌, ◌+◌, ◌-◌, ◌<◌, ◌≤◌, ◌++◌, List, ap, arith}
+use Rattle.std.proofs.Common.{◌≡◌, ◌∙◌, ◌++◌, List, ap}
 use Rattle.std.proofs.Common.{append_assoc, subst, sym, ℕ}
 use Rattle.cell_words.specs.Term.{Term, part, IsFive}
 use Rattle.trails.specs.Marks.{Mark}
@@ -6,14 +6,13 @@ use Rattle.trails.specs.Telling.{Due, Tells}
 use Rattle.doc_records.specs.Pool.{part_term}
 use Rattle.doc_records.specs.Shapes.{IsChain, ask_cell, ask_text, cells_of}
 use Rattle.doc_records.specs.Texts.{bytes_here, text_of}
+use Rattle.doc_records.proofs.Cells.{cell_held, cell_place, cells_then, next_fits, next_held}
+use Rattle.doc_records.proofs.Cells.{next_less, next_place, place_cell}
 use Rattle.doc_records.proofs.Chains.{ask_next, cells_next, chain_next}
-use Rattle.doc_records.proofs.Steps.{later_then, none_owed, place_cell, place_one}
+use Rattle.doc_records.proofs.Steps.{field_same, later_then, none_owed, place_one}
 use Rattle.doc_records.proofs.texts.+push_text.Goals as goal
 
 -- a cell, and the text that comes after it
-cells_then : (t u : Term) → IsFive t → u ≡ part 4 t → cells_of t ≡ cells_of u + 1
-cells_then t u is next = rw next (cells_next t is)
-
 text_read : (t u : Term) (here old one new : List ℕ)
     → text_of t ≡ here ++ text_of (part 4 t) → u ≡ part 4 t
     → one ≡ old ++ here → new ≡ one ++ text_of u → new ≡ old ++ text_of t
@@ -29,28 +28,6 @@ text_told t u a b c d is next first none others all rest due =
     let asked : Due all (ask_cell t (ask_text u rest)) a =
     rw next (rw (sym (ask_next t rest is)) due) in
     others all rest (none all (ask_text u rest) (first all (ask_text u rest) asked))
-
--- the places: one for each cell but the first
-cell_place : (n k h m : ℕ) → n ≡ k + 1 → h + n ≤ m → h < m
-cell_place n k h m whole fits = omega (arith, whole, fits)
-
-next_place : (n k h0 h1 m0 m1 : ℕ) → n ≡ k + 1 → h0 + n ≤ m0 → h1 ≡ h0 → m1 ≡ m0 → h1 < m1
-next_place n k h0 h1 m0 m1 whole fits a1 b1 = omega (arith, whole, fits, a1, b1)
-
-next_fits : (n k h0 h1 h2 m0 m1 m2 : ℕ) → n ≡ k + 1 → h0 + n ≤ m0 → h1 ≡ h0 → m1 ≡ m0
-    → h2 ≤ h1 + 1 → m2 ≡ m1 → h2 + k ≤ m2
-next_fits n k h0 h1 h2 m0 m1 m2 whole fits a1 b1 a2 b2 =
-    omega (arith, whole, fits, a1, b1, a2, b2)
-
-next_less : (n k t : ℕ) → n ≡ k + 1 → n ≡ t → k < t
-next_less n k t whole all = omega (arith, whole, all)
-
-cell_held : (n h0 h1 : ℕ) → h1 ≡ h0 → h1 ≤ h0 + n
-cell_held n h0 h1 a1 = omega (arith, a1)
-
-next_held : (n k p h0 h1 h2 h3 : ℕ) → n ≡ k + 1 → h1 ≡ h0 → h2 ≤ h1 + p → h2 ≤ h1 + 1 → p ≤ k
-    → h3 ≤ h2 + (k - 1) → h3 ≤ h0 + (n - 1)
-next_held n k p h0 h1 h2 h3 whole a1 a2 one some a3 = omega (arith, whole, a1, a2, one, some, a3)
 
 pub read_cell-cell-requires-clause-stands : goal.read_cell-cell-requires-clause-stands
 read_cell-cell-requires-clause-stands g t c =
@@ -106,11 +83,11 @@ push_text-requires g t c κs within =
     let is = rw c.in-Record.is at c.requires.stands in
     let chain = rw c.in-Record.is at c.requires.chain in
     let places = rw c.in-Record.is at c.requires.places in
-    let e1 = c.read_cell-cell.ensures.later.same at is.0 in
     let s2 = g.R.RecordPool.shown c.read_part-next.new.records in
     let next = c.read_part-next.result in
     let same : part_term s2.term next ≡ part 4 t0 =
-    c.read_part-next.ensures.part ∙ ap (λ (u : Term). part 4 u) e1 in
+    field_same 4 s0 _ s2 at next c.read_cell-cell.ensures.later is.0
+    c.read_part-next.ensures.part in
     let whole = cells_then t0 _ is.1 same in
     let chain_in : IsChain (part_term s2.term next) =
     subst IsChain (sym same) (chain_next t0 is.1 chain) in
@@ -140,11 +117,11 @@ returns-in_err-push_text-clause-held g t c =
     let at = c.in-Record.at in
     let t0 = s0.term at in
     let is = rw c.in-Record.is at c.requires.stands in
-    let e1 = c.read_cell-cell.ensures.later.same at is.0 in
     let s2 = g.R.RecordPool.shown c.read_part-next.new.records in
     let next = c.read_part-next.result in
     let same : part_term s2.term next ≡ part 4 t0 =
-    c.read_part-next.ensures.part ∙ ap (λ (u : Term). part 4 u) e1 in
+    field_same 4 s0 _ s2 at next c.read_cell-cell.ensures.later is.0
+    c.read_part-next.ensures.part in
     rw c.in-Record.is
     (next_held _ _ _ _ _ _ _ (cells_then t0 _ is.1 same) c.read_cell-cell.ensures.held
     c.read_part-next.ensures.held (place_one next _ _ c.read_part-next.ensures.held)
@@ -166,11 +143,11 @@ returns-clause-held g t c =
     let at = c.in-Record.at in
     let t0 = s0.term at in
     let is = rw c.in-Record.is at c.requires.stands in
-    let e1 = c.read_cell-cell.ensures.later.same at is.0 in
     let s2 = g.R.RecordPool.shown c.read_part-next.new.records in
     let next = c.read_part-next.result in
     let same : part_term s2.term next ≡ part 4 t0 =
-    c.read_part-next.ensures.part ∙ ap (λ (u : Term). part 4 u) e1 in
+    field_same 4 s0 _ s2 at next c.read_cell-cell.ensures.later is.0
+    c.read_part-next.ensures.part in
     rw c.in-Record.is
     (next_held _ _ _ _ _ _ _ (cells_then t0 _ is.1 same) c.read_cell-cell.ensures.held
     c.read_part-next.ensures.held (place_one next _ _ c.read_part-next.ensures.held)
@@ -203,11 +180,11 @@ returns-clause-bytes g t c =
     let at = c.in-Record.at in
     let t0 = s0.term at in
     let is = rw c.in-Record.is at c.requires.stands in
-    let e1 = c.read_cell-cell.ensures.later.same at is.0 in
     let s2 = g.R.RecordPool.shown c.read_part-next.new.records in
     let next = c.read_part-next.result in
     let same : part_term s2.term next ≡ part 4 t0 =
-    c.read_part-next.ensures.part ∙ ap (λ (u : Term). part 4 u) e1 in
+    field_same 4 s0 _ s2 at next c.read_cell-cell.ensures.later is.0
+    c.read_part-next.ensures.part in
     let cell = c.read_cell-cell.result in
     rw c.in-Record.is
     (text_read t0 _ (bytes_here cell.count cell.first cell.second cell.third)
@@ -220,11 +197,11 @@ returns-clause-told g t c shared =
     let at = c.in-Record.at in
     let t0 = s0.term at in
     let is = rw c.in-Record.is at c.requires.stands in
-    let e1 = c.read_cell-cell.ensures.later.same at is.0 in
     let s2 = g.R.RecordPool.shown c.read_part-next.new.records in
     let next = c.read_part-next.result in
     let same : part_term s2.term next ≡ part 4 t0 =
-    c.read_part-next.ensures.part ∙ ap (λ (u : Term). part 4 u) e1 in
+    field_same 4 s0 _ s2 at next c.read_cell-cell.ensures.later is.0
+    c.read_part-next.ensures.part in
     let own = rw c.in-Record.is at shared in
     rw c.in-Record.is
     (text_told _ _ _ _ _ _ is.1 same (c.read_cell-cell.ensures.told own)
