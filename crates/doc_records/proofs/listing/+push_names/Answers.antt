@@ -74,8 +74,7 @@ push_names-requires g t c κs within =
     let s1 = g.R.RecordPool.shown c.read_part-left.new.records in
     let left = c.read_part-left.result in
     let whole =
-    row_counts t0 (part_term (g.R.RecordPool.shown c.read_part-left.new.records).term
-    c.read_part-left.result) _ is.1 c.read_part-left.ensures.part refl in
+    row_counts t0 _ _ is.1 c.read_part-left.ensures.part refl in
     let one = place_one c.read_part-left.result _ _ c.read_part-left.ensures.held in
     let entries : AreEntries (part_term s1.term left) =
     subst AreEntries (sym c.read_part-left.ensures.part)
@@ -108,8 +107,7 @@ returns-in_err-push_names-clause-held g t c =
     let t0 = s0.term at in
     let is = rw c.in-Record.is at c.requires.stands in
     let whole =
-    row_counts t0 (part_term (g.R.RecordPool.shown c.read_part-left.new.records).term
-    c.read_part-left.result) _ is.1 c.read_part-left.ensures.part refl in
+    row_counts t0 _ _ is.1 c.read_part-left.ensures.part refl in
     let one = place_one c.read_part-left.result _ _ c.read_part-left.ensures.held in
     rw c.in-Record.is (left_held _ _ _ _ _ _ whole one c.push_names.ensures.held)
 
@@ -148,8 +146,7 @@ read_name-requires-clause-places g t c =
     let t0 = s0.term at in
     let is = rw c.in-Record.is at c.requires.stands in
     let whole =
-    row_counts t0 (part_term (g.R.RecordPool.shown c.read_part-left.new.records).term
-    c.read_part-left.result) _ is.1 c.read_part-left.ensures.part refl in
+    row_counts t0 _ _ is.1 c.read_part-left.ensures.part refl in
     let places = rw c.in-Record.is at c.requires.places in
     let one = place_one c.read_part-left.result _ _ c.read_part-left.ensures.held in
     let fits =
@@ -169,8 +166,7 @@ returns-in_err-name-clause-held g t c =
     let t0 = s0.term at in
     let is = rw c.in-Record.is at c.requires.stands in
     let whole =
-    row_counts t0 (part_term (g.R.RecordPool.shown c.read_part-left.new.records).term
-    c.read_part-left.result) _ is.1 c.read_part-left.ensures.part refl in
+    row_counts t0 _ _ is.1 c.read_part-left.ensures.part refl in
     let one = place_one c.read_part-left.result _ _ c.read_part-left.ensures.held in
     rw c.in-Record.is
     (name_held _ _ _ _ _ _ _ whole one c.push_names.ensures.held c.read_name.ensures.held)
@@ -192,8 +188,7 @@ returns-in_err-push-clause-held g t c =
     let t0 = s0.term at in
     let is = rw c.in-Record.is at c.requires.stands in
     let whole =
-    row_counts t0 (part_term (g.R.RecordPool.shown c.read_part-left.new.records).term
-    c.read_part-left.result) _ is.1 c.read_part-left.ensures.part refl in
+    row_counts t0 _ _ is.1 c.read_part-left.ensures.part refl in
     let one = place_one c.read_part-left.result _ _ c.read_part-left.ensures.held in
     rw c.in-Record.is
     (name_held _ _ _ _ _ _ _ whole one c.push_names.ensures.held c.read_name.ensures.held)
@@ -219,8 +214,7 @@ read_part-right-requires-clause-place g t c =
     let t0 = s0.term at in
     let is = rw c.in-Record.is at c.requires.stands in
     let whole =
-    row_counts t0 (part_term (g.R.RecordPool.shown c.read_part-left.new.records).term
-    c.read_part-left.result) _ is.1 c.read_part-left.ensures.part refl in
+    row_counts t0 _ _ is.1 c.read_part-left.ensures.part refl in
     let places = rw c.in-Record.is at c.requires.places in
     let one = place_one c.read_part-left.result _ _ c.read_part-left.ensures.held in
     let fits =
@@ -243,9 +237,7 @@ push_names-requires-2 g t c κs within =
     field_same 3 s0 _ (g.R.RecordPool.shown c.read_part-right.new.records) at
     c.read_part-right.result later is.0 c.read_part-right.ensures.part in
     let whole =
-    row_counts t0 (part_term (g.R.RecordPool.shown c.read_part-left.new.records).term
-    c.read_part-left.result) (part_term (g.R.RecordPool.shown c.read_part-right.new.records).term
-    c.read_part-right.result) is.1 c.read_part-left.ensures.part right_is in
+    row_counts t0 _ _ is.1 c.read_part-left.ensures.part right_is in
     let one = place_one c.read_part-left.result _ _ c.read_part-left.ensures.held in
     let fits =
     name_fits _ _ _ _ _ _ _ _ _ whole places one c.read_part-left.ensures.later.room
@@ -295,9 +287,7 @@ returns-in_err-push_names-2-clause-held g t c =
     field_same 3 s0 _ (g.R.RecordPool.shown c.read_part-right.new.records) at
     c.read_part-right.result later is.0 c.read_part-right.ensures.part in
     let whole =
-    row_counts t0 (part_term (g.R.RecordPool.shown c.read_part-left.new.records).term
-    c.read_part-left.result) (part_term (g.R.RecordPool.shown c.read_part-right.new.records).term
-    c.read_part-right.result) is.1 c.read_part-left.ensures.part right_is in
+    row_counts t0 _ _ is.1 c.read_part-left.ensures.part right_is in
     let one = place_one c.read_part-left.result _ _ c.read_part-left.ensures.held in
     rw c.in-Record.is
     (all_held _ _ _ _ _ _ _ _ _ whole one c.push_names.ensures.held c.read_name.ensures.held
@@ -330,9 +320,7 @@ returns-clause-held g t c =
     field_same 3 s0 _ (g.R.RecordPool.shown c.read_part-right.new.records) at
     c.read_part-right.result later is.0 c.read_part-right.ensures.part in
     let whole =
-    row_counts t0 (part_term (g.R.RecordPool.shown c.read_part-left.new.records).term
-    c.read_part-left.result) (part_term (g.R.RecordPool.shown c.read_part-right.new.records).term
-    c.read_part-right.result) is.1 c.read_part-left.ensures.part right_is in
+    row_counts t0 _ _ is.1 c.read_part-left.ensures.part right_is in
     let one = place_one c.read_part-left.result _ _ c.read_part-left.ensures.held in
     rw c.in-Record.is
     (all_held _ _ _ _ _ _ _ _ _ whole one c.push_names.ensures.held c.read_name.ensures.held
