@@ -80,22 +80,31 @@ fn words_of_a_command_come_in_their_order(rt: HostRuntime) -> Result<(), Fail> {
     Ok(())
 }
 
-const FAULTLESS: [&str; 6] = ["", "\n", "\r\n", "# \u{e4}\t\n", "#\r\r\n", "put a "];
+/// Scripts with their first faults.
+const SCRIPTS: [(&str, Option<(u32, ScriptKind)>); 8] = [
+    ("", None),
+    ("\n", None),
+    ("\r\n", None),
+    ("# \u{e4}\t\n", None),
+    ("#\r\r\n", None),
+    ("put a ", None),
+    ("\n\n# get\nget a b", Some((4, ScriptKind::Extra))),
+    ("get a\nput\nget", Some((2, ScriptKind::BadPath))),
+];
+
+/// The first of the scripts that has not its fault.
+fn first_other_script(alloc: Global) -> Option<&'static str> {
+    for (script, fault) in &SCRIPTS {
+        if fault_of(alloc, script.as_bytes()) != *fault {
+            return Some(*script);
+        }
+    }
+    None
+}
 
 #[test]
 fn lines_without_a_command_are_counted(rt: HostRuntime) {
-    let alloc = rt.alloc();
-    for script in &FAULTLESS {
-        assert_eq!(rt; fault_of(alloc, script.as_bytes()), None, "at {script:?}");
-    }
-    assert_eq!(rt;
-        fault_of(alloc, b"\n\n# get\nget a b"),
-        Some((4, ScriptKind::Extra))
-    );
-    assert_eq!(rt;
-        fault_of(alloc, b"get a\nput\nget"),
-        Some((2, ScriptKind::BadPath))
-    );
+    assert_eq!(rt; first_other_script(rt.alloc()), None);
 }
 
 /// Lines with their faults.
@@ -139,16 +148,19 @@ const FAULTS: [(&str, ScriptKind); 37] = [
     ("get a/b/c/d/e/f/g/h/i", ScriptKind::BadPath),
 ];
 
+/// The first of the lines that has not its fault.
+fn first_other_line(alloc: Global) -> Option<&'static str> {
+    for (line, kind) in &FAULTS {
+        if fault_of(alloc, line.as_bytes()) != Some((1, *kind)) {
+            return Some(*line);
+        }
+    }
+    None
+}
+
 #[test]
 fn the_first_fault_of_a_line_counts(rt: HostRuntime) {
-    let alloc = rt.alloc();
-    for (line, kind) in &FAULTS {
-        assert_eq!(rt;
-            fault_of(alloc, line.as_bytes()),
-            Some((1, *kind)),
-            "at {line:?}"
-        );
-    }
+    assert_eq!(rt; first_other_line(rt.alloc()), None);
 }
 
 /// The first fault of a line of two parts.
@@ -174,18 +186,29 @@ const RESTS: [(&str, Option<(u32, ScriptKind)>); 7] = [
     (" a b", Some((1, ScriptKind::Extra))),
 ];
 
-#[test]
-fn a_command_on_one_path_has_one(rt: HostRuntime) -> Result<(), Fail> {
-    let alloc = rt.alloc();
-    for verb in &VERBS {
-        for (rest, fault) in &RESTS {
-            assert_eq!(rt;
-                fault_of_parts(alloc, verb, rest)?,
-                *fault,
-                "at {verb:?} {rest:?}"
-            );
+/// The first rest behind the word that has not its fault.
+fn first_other_rest(alloc: Global, verb: &str) -> Result<Option<&'static str>, NoMemory> {
+    for (rest, fault) in &RESTS {
+        if fault_of_parts(alloc, verb, rest)? != *fault {
+            return Ok(Some(*rest));
         }
     }
+    Ok(None)
+}
+
+/// The first word and rest that have not their fault.
+fn first_other_parts(alloc: Global) -> Result<Option<(&'static str, &'static str)>, NoMemory> {
+    for verb in &VERBS {
+        if let Some(rest) = first_other_rest(alloc, verb)? {
+            return Ok(Some((*verb, rest)));
+        }
+    }
+    Ok(None)
+}
+
+#[test]
+fn a_command_on_one_path_has_one(rt: HostRuntime) -> Result<(), Fail> {
+    assert_eq!(rt; first_other_parts(rt.alloc())?, None);
     Ok(())
 }
 
@@ -288,14 +311,45 @@ fn heading_is(alloc: Global, client: u32, line: &[u8]) -> Result<bool, NoMemory>
 }
 
 #[test]
-fn every_reply_has_its_line(rt: HostRuntime) -> Result<(), Fail> {
-    let alloc = rt.alloc();
-    assert_eq!(rt; first_wrong_of_plain(alloc)?, None);
-    for (word, line) in [("hello you", "val 5 hello you\n"), ("", "val 5 \n")] {
-        assert!(rt; val_has_line(alloc, word, line)?, "at {line:?}");
+fn a_plain_reply_has_its_line(rt: HostRuntime) -> Result<(), Fail> {
+    assert_eq!(rt; first_wrong_of_plain(rt.alloc())?, None);
+    Ok(())
+}
+
+/// Texts with the lines of the replies that show them.
+const VALUES: [(&str, &str); 2] = [("hello you", "val 5 hello you\n"), ("", "val 5 \n")];
+
+/// The first wrong line of replies with a text.
+fn first_wrong_of_values(alloc: Global) -> Result<Option<&'static str>, Unmade> {
+    for (word, line) in &VALUES {
+        if !val_has_line(alloc, word, line)? {
+            return Ok(Some(*line));
+        }
     }
-    assert!(rt; two_names_have_line(alloc, "names 5 about index\n")?);
-    assert!(rt; no_names_have_line(alloc, "names 5\n")?);
-    assert!(rt; heading_is(alloc, 64, b"client 64\n")?);
+    Ok(None)
+}
+
+#[test]
+fn a_value_has_its_line(rt: HostRuntime) -> Result<(), Fail> {
+    assert_eq!(rt; first_wrong_of_values(rt.alloc())?, None);
+    Ok(())
+}
+
+fn names_have_their_lines(alloc: Global) -> Result<bool, NoMemory> {
+    Ok(
+        two_names_have_line(alloc, "names 5 about index\n")?
+            && no_names_have_line(alloc, "names 5\n")?,
+    )
+}
+
+#[test]
+fn names_have_their_line(rt: HostRuntime) -> Result<(), Fail> {
+    assert!(rt; names_have_their_lines(rt.alloc())?);
+    Ok(())
+}
+
+#[test]
+fn a_client_has_its_heading(rt: HostRuntime) -> Result<(), Fail> {
+    assert!(rt; heading_is(rt.alloc(), 64, b"client 64\n")?);
     Ok(())
 }
