@@ -1,9 +1,10 @@
-//! Single cycles, with the mutator over. What they count was worked out by hand.
+//! Single cycles, with the mutator over, and claims without a cycle. What they count was worked out
+//! by hand.
 ghost use Rattle.std.specs.Prelude.{◌≡◌};
 
 use crate::collecting::{collect_alone, collect_once};
 use crate::heaps::{CHAIN, close, open_chain, open_hints, open_plain, open_star};
-use crate::mutating::make_and_drop;
+use crate::mutating::{make_and_drop, make_hinted};
 use cell_heap::{Image, NoMemory};
 use cell_words::{Colour, Field};
 use collector::{CycleReport, MarkStack};
@@ -50,6 +51,40 @@ fn an_unlinked_cell_is_freed_in_a_cycle(rt: HostRuntime) -> Result<(), Fail> {
     };
     let shown = (1, Colour::Blue, [Field::Null; 6]);
     assert_eq!(rt; collect_unlinked(rt.alloc(), &rt)?, (1, report, shown));
+    Ok(())
+}
+
+/// The colours of the cells 1 and 2, of which one was claimed with this hint. The queue has none.
+fn claimed_with<R: Wait>(
+    alloc: Global,
+    rt: &R,
+    hint: Option<u32>,
+) -> Result<(Colour, Colour), NoMemory> {
+    let (queue, pass, _) = open_hints(alloc, rt, 3, 3)?;
+    let (heap, collector, mutator) = open_plain(alloc, 3, 2)?;
+    let mutator = make_hinted(rt, &heap, mutator, &queue, pass, hint);
+    let image = close(heap, collector, mutator);
+    Ok((image.colour(1), image.colour(2)))
+}
+
+/// The same with the hint of a free cell, of the anchor, of a cell behind the last, and with none.
+fn claimed_with_each<R: Wait>(alloc: Global, rt: &R) -> Result<[(Colour, Colour); 4], NoMemory> {
+    Ok([
+        claimed_with(alloc, rt, Some(2))?,
+        claimed_with(alloc, rt, Some(0))?,
+        claimed_with(alloc, rt, Some(3))?,
+        claimed_with(alloc, rt, None)?,
+    ])
+}
+
+#[test]
+fn a_hint_names_the_cell_that_is_claimed_if_it_is_free(rt: HostRuntime) -> Result<(), Fail> {
+    let hinted = (Colour::Blue, Colour::White);
+    let first = (Colour::White, Colour::Blue);
+    assert_eq!(rt;
+        claimed_with_each(rt.alloc(), &rt)?,
+        [hinted, first, first, first]
+    );
     Ok(())
 }
 

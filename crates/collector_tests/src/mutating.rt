@@ -40,6 +40,27 @@ pub(crate) fn make_and_drop<R: Wait>(
     (mutator.finish(), made)
 }
 
+/// Comes in, makes a record with this hint, and is over.
+pub(crate) fn make_hinted<R: Wait>(
+    rt: &R,
+    heap: &CellHeap<NoRule>,
+    seat: MutSeat<NoRule>,
+    queue: &FreeQueue,
+    pass: HintPass,
+    hint: Option<u32>,
+) -> MutSeat<NoRule>
+    requires out { IsOut heap.now 2 seat }
+    requires pass { IsHintPass queue.now pass }
+    ensures over { IsOver heap.now result }
+{
+    let mut hints = queue.hints(pass);
+    let mut mutator = Mutator::new(heap, seat);
+    mutator.begin();
+    let _ = make_one(rt, heap, &mut mutator, &mut hints, hint);
+    mutator.end();
+    mutator.finish()
+}
+
 /// Makes a record and drops it, so many times.
 fn make_all<R: Wait>(
     rt: &R,
@@ -53,24 +74,27 @@ fn make_all<R: Wait>(
 {
     let mut made = 0;
     for _ in 0..times {
-        made += make_one(rt, heap, mutator, hints);
+        let hint = hints.take(rt);
+        made += make_one(rt, heap, mutator, hints, hint);
     }
     made
 }
 
-/// Makes a record and drops it. It gives how many cells it got: one, or none.
+/// Makes a record, of the hint's cell if that is free, and drops it. It gives how many cells it got:
+/// one, or none.
 fn make_one<R: Wait>(
     rt: &R,
     heap: &CellHeap<NoRule>,
     mutator: &mut Mutator<'_, NoRule>,
     hints: &mut Hints<'_>,
+    hint: Option<u32>,
 ) -> u32
     requires one { HoldsOne heap.now mutator.old }
     ensures one { HoldsOne heap.now mutator.new }
     ensures few { result ≤ 1 }
 {
     let _ = heap;
-    match mutator.claim(rt, hints) {
+    match mutator.claim_hinted(rt, hints, hint) {
         Ok(place) => {
             mutator.seal_record(place);
             mutator.cut(1);

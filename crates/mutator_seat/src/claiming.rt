@@ -84,9 +84,31 @@ impl<'a, P: Keeping> Mutator<'a, P> {
         ensures queue { queue_of hints.new ≡ queue_of hints.old }
         ensures takes { (counts_of hints.old).takes < (counts_of hints.new).takes }
     {
+        let first = hints.take(rt);
+        self.claim_hinted(rt, hints, first)
+    }
+
+    /// The same with a first hint that was taken before, if there was one. Who needs many cells takes
+    /// their hints in one go, for threads that take by turns wait for each other at the queue.
+    pub fn claim_hinted<R: Wait>(
+        &mut self,
+        rt: &R,
+        hints: &mut Hints<'_>,
+        hint: Option<u32>,
+    ) -> Result<usize, HeapFull>
+        requires inside { self.old.seat.me.presence.inside ≡ true }
+        requires room { length self.old.seat.me.own.held < self.old.seat.me.room }
+        ensures got { IfOk result (λ place. Claimed self.old place self.new) }
+        ensures full { IfErr result (λ full.
+            Calm (FindsFull self.old.seat.me.number self.old.seat.me.shape.cells
+            full.off_duty full.began full.ended) self.old self.new) }
+        ensures seeking { IfErr result (λ full. Calm Seeking self.old self.new) }
+        ensures queue { queue_of hints.new ≡ queue_of hints.old }
+        ensures takes { (counts_of hints.old).takes ≤ (counts_of hints.new).takes }
+    {
         let first = self.look_once();
         let began = begun(first);
-        match self.try_hint(rt, hints) {
+        match self.try_hinted(hint) {
             Some(place) => Ok(place),
             None => self.wait_for_cell(rt, hints, began),
         }
@@ -190,7 +212,19 @@ impl<'a, P: Keeping> Mutator<'a, P> {
         ensures queue { queue_of hints.new ≡ queue_of hints.old }
         ensures takes { (counts_of hints.new).takes ≡ (counts_of hints.old).takes + 1 }
     {
-        match hints.take(rt) {
+        let hint = hints.take(rt);
+        self.try_hinted(hint)
+    }
+
+    /// Tries the cell of a hint, if there is one.
+    fn try_hinted(&mut self, hint: Option<u32>) -> Option<usize>
+        requires inside { self.old.seat.me.presence.inside ≡ true }
+        requires room { length self.old.seat.me.own.held < self.old.seat.me.room }
+        requires mode { HasMode self.old }
+        ensures got { IfSome result (λ place. Claimed self.old place self.new) }
+        ensures none { IfNone result (Calm Seeking self.old self.new) }
+    {
+        match hint {
             Some(cell) => self.try_within(cell),
             None => None,
         }

@@ -1,7 +1,9 @@
--- How many marks are set: as many as the records that are marked.
+-- How many marks are set: as many as the records that are marked, and as the hints that are taken.
 use Rattle.std.proofs.Common.{◌≡◌, ◌+◌, ◌<◌, ◌≤◌, ℕ, zero, suc, Bool, true, false, List, [], ◌∷◌}
 use Rattle.std.proofs.Common.{length, take, refl, sym, ap, arith}
-use Rattle.std.specs.Prelude.{slice_index_or}
+use Rattle.std.specs.Prelude.{slice_index_or, MatchOption, Option, Some, None}
+use Rattle.free_cells.specs.declared.counts.Counts.{Counts}
+use Rattle.free_cells.specs.Counts.{none_taken, taken}
 use Rattle.minor_heap.specs.Marking.{marked_of}
 use Rattle.promotion.specs.Copying.{marked_count}
 
@@ -68,3 +70,9 @@ count_all (true ∷ marks) (suc n) below =
     ap suc (count_all marks n (λ k is. let l = below (suc k) is in omega (arith, l)))
 count_all (false ∷ marks) (suc n) below =
     count_all marks n (λ k is. let l = below (suc k) is in omega (arith, l))
+
+-- a call that takes a hint is counted, whether it finds one or not
+pub one_take : (r : Option ℕ) (a b : Counts) → MatchOption r (b ≡ none_taken a) (λ cell. b ≡ taken a)
+    → b.takes ≡ a.takes + 1
+one_take (Some cell) a b is = ap (λ (c : Counts). c.takes) is
+one_take None a b is = ap (λ (c : Counts). c.takes) is

@@ -43,7 +43,7 @@ fn value_of(minor: &MinorHeap, places: &[usize], r: MinorRef, i: usize) -> Value
     }
 }
 
-/// Copies a record whose older ones are copied.
+/// Copies a record whose older ones are copied. The hint is one that was taken for it.
 fn copy_record<P: Keeping, R: Wait>(
     rt: &R,
     hints: &mut Hints<'_>,
@@ -51,6 +51,7 @@ fn copy_record<P: Keeping, R: Wait>(
     minor: &MinorHeap,
     places: &[usize],
     r: MinorRef,
+    hint: Option<u32>,
 ) -> Result<usize, HeapFull>
     requires inside { m.old.seat.me.presence.inside ≡ true }
     requires room { length m.old.seat.me.own.held < m.old.seat.me.room }
@@ -67,7 +68,7 @@ fn copy_record<P: Keeping, R: Wait>(
     ensures queue { queue_of hints.new ≡ queue_of hints.old }
     ensures takes { (counts_of hints.old).takes ≤ (counts_of hints.new).takes }
 {
-    match m.claim(rt, hints) {
+    match m.claim_hinted(rt, hints, hint) {
         Ok(place) => {
             for i in 0..5 {
                 let value = value_of(minor, places, r, i);
@@ -80,8 +81,32 @@ fn copy_record<P: Keeping, R: Wait>(
     }
 }
 
-/// Copies each record that is marked, the oldest first. Of a record that is marked the place is that
-/// of its copy.
+/// Takes a hint for each record that is marked, all of them before the first cell is claimed. Where
+/// the queue is empty a record has none.
+fn take_hints<R: Wait>(
+    rt: &R,
+    hints: &mut Hints<'_>,
+    marks: &[bool],
+    span: RecordSpan,
+    taken: &mut [Option<u32>],
+)
+    requires within { AreWithin span marks.now }
+    requires marks { span.end ≤ length marks.now }
+    requires room { span.end ≤ length taken.old }
+    ensures taken { length taken.new ≡ length taken.old }
+    ensures queue { queue_of hints.new ≡ queue_of hints.old }
+    ensures takes { (counts_of hints.new).takes
+        ≡ (counts_of hints.old).takes + marked_count marks.now }
+{
+    for number in span.first..span.end {
+        if marks[number as usize] {
+            taken[number as usize] = hints.take(rt);
+        }
+    }
+}
+
+/// Copies each record that is marked, the oldest first, with the hint that was taken for it. Of a
+/// record that is marked the place is that of its copy.
 pub(crate) fn copy_all<P: Keeping, R: Wait>(
     rt: &R,
     hints: &mut Hints<'_>,
@@ -89,10 +114,12 @@ pub(crate) fn copy_all<P: Keeping, R: Wait>(
     minor: &MinorHeap,
     marks: &[bool],
     span: RecordSpan,
+    taken: &[Option<u32>],
     places: &mut [usize],
 ) -> Result<(), HeapFull>
     requires inside { m.old.seat.me.presence.inside ≡ true }
     requires room { length m.old.seat.me.own.held + length minor.now.records ≤ m.old.seat.me.room }
+    requires taken { length minor.now.records ≤ length taken.now }
     requires ordered { IsOrdered 0 minor.now.records }
     requires within { AreWithin span marks.now }
     requires stands { span.end ≤ length minor.now.records }
@@ -115,7 +142,7 @@ pub(crate) fn copy_all<P: Keeping, R: Wait>(
     for number in span.first..span.end {
         if marks[number as usize] {
             let r = MinorRef { number };
-            match copy_record(rt, hints, m, minor, places, r) {
+            match copy_record(rt, hints, m, minor, places, r, taken[number as usize]) {
                 Ok(place) => places[number as usize] = place,
                 Err(full) => return Err(full),
             }
@@ -132,6 +159,7 @@ pub(crate) fn copy_reached<P: Keeping, R: Wait>(
     minor: &MinorHeap,
     from: &[MinorRef],
     marks: &mut [bool],
+    taken: &mut [Option<u32>],
     places: &mut [usize],
 ) -> Result<(), HeapFull>
     requires inside { m.old.seat.me.presence.inside ≡ true }
@@ -140,9 +168,11 @@ pub(crate) fn copy_reached<P: Keeping, R: Wait>(
     requires shares { ShareRecords m.old.seat.me.known minor.now.records from.now }
     requires none { NoneMarked marks.old }
     requires marks { length minor.now.records ≤ length marks.old }
+    requires taken { length minor.now.records ≤ length taken.old }
     requires places { length minor.now.records ≤ length places.old }
     ensures none_marked { NoneMarked marks.new }
     ensures marks { length marks.new ≡ length marks.old }
+    ensures taken { length taken.new ≡ length taken.old }
     ensures places { length places.new ≡ length places.old }
     ensures claims { OnOk result (ClaimsFor m.old minor.now.records from.now m.new) }
     ensures grown { OnOk result (Grown anything m.old m.new) }
@@ -161,7 +191,8 @@ pub(crate) fn copy_reached<P: Keeping, R: Wait>(
     ensures takes { (counts_of hints.old).takes ≤ (counts_of hints.new).takes }
 {
     let span = minor.mark_span(from, marks);
-    let copied = copy_all(rt, hints, m, minor, marks, span, places);
+    take_hints(rt, hints, marks, span, taken);
+    let copied = copy_all(rt, hints, m, minor, marks, span, taken, places);
     span.unmark(marks);
     copied
 }

@@ -21,6 +21,8 @@ pub struct Promoter {
     room: u32,
     /// by record, whether it is reached; between calls none is marked
     marks: Vec<bool>,
+    /// by record, the hint that was taken for its copy
+    taken: Vec<Option<u32>>,
     /// by record, the place of its copy
     places: Vec<usize>,
 }
@@ -30,6 +32,7 @@ impl Drop for Promoter {
         let Promoter {
             room: _,
             marks: _marks,
+            taken: _taken,
             places: _places,
         } = self;
     }
@@ -43,7 +46,7 @@ impl Model for Promoter {
 
     ghost view = { λ p. p.room };
 
-    ghost invariant = { λ p. IsReadyFor p.room p.marks.items p.places.items };
+    ghost invariant = { λ p. IsReadyFor p.room p.marks.items p.taken.items p.places.items };
 }
 
 impl Promoter {
@@ -54,6 +57,7 @@ impl Promoter {
         Ok(Promoter {
             room: records,
             marks: Vec::from_elem(alloc, false, records as usize)?,
+            taken: Vec::from_elem(alloc, None, records as usize)?,
             places: Vec::from_elem(alloc, 0, records as usize)?,
         })
     }
@@ -87,8 +91,9 @@ impl Promoter {
     {
         let held = m.held_len();
         let marks = self.marks.as_mut_slice();
+        let taken = self.taken.as_mut_slice();
         let places = self.places.as_mut_slice();
-        match copy_reached(rt, hints, m, minor, &[r], marks, places) {
+        match copy_reached(rt, hints, m, minor, &[r], marks, taken, places) {
             Ok(()) => {
                 let place = places[r.number as usize];
                 m.keep(held, place, 1);
@@ -137,8 +142,9 @@ impl Promoter {
     {
         let held = m.held_len();
         let marks = self.marks.as_mut_slice();
+        let taken = self.taken.as_mut_slice();
         let places = self.places.as_mut_slice();
-        match copy_reached(rt, hints, m, minor, roots, marks, places) {
+        match copy_reached(rt, hints, m, minor, roots, marks, taken, places) {
             Ok(()) => {
                 let first = m.held_len();
                 hold_roots(m, places, roots);

@@ -18,11 +18,11 @@ pub loop-i-init : goal.loop-i-init
 loop-i-init g c = (
   five_nulls,
   (
-    opened c.args.m.now c.claim.new.self c.in-Ok.place c.in-Ok.ensures.got,
+    opened c.args.m.now c.claim_hinted.new.self c.in-Ok.place c.in-Ok.ensures.got,
     filled_none (held_cells c.args.m.now)
         (λ i. value_of c.args.places.now
         (record_field c.args.minor.now.records c.args.r.number i)),
-    copy_begun (length c.args.m.now.seat.me.own.held) c.args.m.now c.claim.new.self c.in-Ok.place
+    copy_begun (length c.args.m.now.seat.me.own.held) c.args.m.now c.claim_hinted.new.self c.in-Ok.place
         c.in-Ok.ensures.got,
   ),
 )
@@ -110,5 +110,5 @@ returns-after-loop-i-clause-copies g c =
 
 pub returns-in-Err-clause-copies : goal.returns-in-Err-clause-copies
 returns-in-Err-clause-copies g c =
-    copying_calm (length c.args.m.now.seat.me.own.held) c.args.m.now c.claim.new.self
+    copying_calm (length c.args.m.now.seat.me.own.held) c.args.m.now c.claim_hinted.new.self
     c.in-Err.ensures.seeking

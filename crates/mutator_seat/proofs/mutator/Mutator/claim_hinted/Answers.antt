@@ -1,13 +1,13 @@
 use Rattle.mutator_seat.proofs.Seeking.{look_seeks, seeking_then}
 use Rattle.mutator_seat.proofs.Tries.{claimed_then, finds_full, ok_all}
 use Rattle.mutator_seat.proofs.Updates.{err_then}
-use Rattle.mutator_seat.proofs.mutator.Mutator.claim.Goals as goal
+use Rattle.mutator_seat.proofs.mutator.Mutator.claim_hinted.Goals as goal
 
 pub returns-in-Some-clause-got : goal.returns-in-Some-clause-got
 returns-in-Some-clause-got g c =
     let was = c.args.self.now in
     let first = c.look_once-first in
-    claimed_then was first.new.self c.try_hint.new.self c.in-Some.place
+    claimed_then was first.new.self c.try_hinted.new.self c.in-Some.place
     (look_seeks was first.new.self first.result first.ensures.told) c.in-Some.ensures.got
 
 pub returns-in-None-clause-got : goal.returns-in-None-clause-got
@@ -15,14 +15,14 @@ returns-in-None-clause-got g c =
     let was = c.args.self.now in
     let first = c.look_once-first in
     ok_all c.wait_for_cell.result c.wait_for_cell.ensures.got (λ place got.
-    claimed_then was c.try_hint.new.self c.wait_for_cell.new.self place
-    (seeking_then was first.new.self c.try_hint.new.self
+    claimed_then was c.try_hinted.new.self c.wait_for_cell.new.self place
+    (seeking_then was first.new.self c.try_hinted.new.self
     (look_seeks was first.new.self first.result first.ensures.told) c.in-None.ensures.none) got)
 
 pub returns-in-None-clause-full : goal.returns-in-None-clause-full
 returns-in-None-clause-full g c =
     err_then c.wait_for_cell.result c.wait_for_cell.ensures.full (λ full behind.
-    finds_full c.args.self.now c.look_once-first.new.self c.try_hint.new.self
+    finds_full c.args.self.now c.look_once-first.new.self c.try_hinted.new.self
     c.wait_for_cell.new.self c.begun-began.result c.look_once-first.result full
     c.look_once-first.ensures.told c.in-None.ensures.none behind c.begun-began.ensures.begun)
 
@@ -30,7 +30,7 @@ pub returns-in-None-clause-seeking : goal.returns-in-None-clause-seeking
 returns-in-None-clause-seeking g c =
     let was = c.args.self.now in
     let first = c.look_once-first in
-    let tried = c.try_hint.new.self in
+    let tried = c.try_hinted.new.self in
     err_then c.wait_for_cell.result c.wait_for_cell.ensures.seeking (λ full rest.
     seeking_then was tried c.wait_for_cell.new.self
     (seeking_then was first.new.self tried
