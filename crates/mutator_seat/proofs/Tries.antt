@@ -1,7 +1,7 @@
 -- Claims as stretches: what a try shows, how tries follow one another, and when the heap is full.
 use Rattle.std.proofs.Common.{◌≡◌, ◌+◌, ◌==◌, ◌&&◌, ◌||◌, ℕ, Bool, true, false, List, []}
 use Rattle.std.proofs.Common.{◌∷◌, ◌++◌, length, refl, sym, ◌∙◌, ap, subst, arith, ⊎_elim, not, IfOk}
-use Rattle.std.proofs.Common.{Option, Some, None, IfNone, Result, Ok, Err, IfErr}
+use Rattle.std.proofs.Common.{Option, Some, None, IfNone, IfSome, Result, Ok, Err, IfErr}
 use Rattle.std.proofs.lemmas.Bool.{cases_lt, eq-eqb}
 use Rattle.std.proofs.lemmas.List.{append_assoc, map-append}
 use Rattle.cell_words.specs.declared.colours.Colour.{Colour}
@@ -24,12 +24,17 @@ use Rattle.trails.specs.Claims.{AllUsed, FindsFull, begun_of, decides, look_of}
 use Rattle.trails.proofs.Claims.{used_late, used_on}
 use Rattle.mutator_seat.specs.declared.full.HeapFull.{HeapFull}
 use Rattle.mutator_seat.specs.Bound.{Bound, held_cells, takes}
-use Rattle.mutator_seat.specs.Claims.{Claimed, Ends, FullBehind, Seeking}
+use Rattle.mutator_seat.specs.Claims.{Claimed, Ends, FullBehind, Seeking, Tried, TriedFirst}
 use Rattle.mutator_seat.specs.Stretches.{Calm, Kept, LookAndAnswer}
-use Rattle.mutator_seat.proofs.Calm.{calm_none, calm_one, calm_then}
+use Rattle.mutator_seat.proofs.Calm.{calm_none, calm_one, calm_then, trail_all}
 use Rattle.mutator_seat.proofs.Handshakes.{looked_at}
 use Rattle.mutator_seat.proofs.Seeking.{seeking_then}
 use Rattle.mutator_seat.proofs.Writes.{many_same}
+
+pub some_all : {T : Type 0} {A B : T → Type 0} (r : Option T) → IfSome r A
+    → ((x : T) → A x → B x) → IfSome r B
+some_all (Some x) a f = f x a
+some_all None a f = a
 
 pub none_then : {T : Type 0} {A B : Type 0} (r : Option T) → IfNone r A → (A → B) → IfNone r B
 none_then (Some x) a f = a
@@ -316,3 +321,42 @@ module _ {P : Type 0} where
       (ws ++ es))
       (FindsFull a.seat.me.number a.seat.me.shape.cells full.off_duty full.began full.ended) a b d
       (λ xs ys opens rest. rest xs opens) look tail
+
+  -- A hint.
+
+  -- a call that claims or seeks adds to the trail
+  pub grown : (a b : Bound P) (r : Result ℕ HeapFull) → IfOk r (λ place. Claimed a place b)
+      → IfErr r (λ full. Calm Seeking a b)
+      → (more : List Taken) × (b.seat.me.trail ≡ a.seat.me.trail ++ more)
+  grown a b (Ok place) got sought =
+      let last = took (event.Claim got.at.seat.me.number got.cell) (finds.Colour colour.Blue) in (
+        got.calm.added ++ last ∷ [],
+        ap (λ (m : Bound P). m.seat.me.trail) got.told
+            ∙ ap (λ (ts : List Taken). ts ++ last ∷ [])
+            (ap (λ (m : Bound P). m.seat.me.trail) got.calm.told ∙ trail_all a got.calm.added)
+            ∙ append_assoc a.seat.me.trail got.calm.added (last ∷ []),
+      )
+  grown a b (Err full) got sought = (
+    sought.added,
+    ap (λ (m : Bound P). m.seat.me.trail) sought.told ∙ trail_all a sought.added,
+  )
+
+  -- the first look, the try of the hint's cell, and the rest
+  pub tried_first : (a b c d : Bound P) (control : Control) (cell : ℕ) (more : List Taken)
+      → b ≡ takes a (event.Look a.seat.me.number) (finds.Control control) → Tried cell b c
+      → d.seat.me.trail ≡ c.seat.me.trail ++ more → TriedFirst cell a d
+  tried_first a b c d control cell more told tried grows =
+      let look = look_of a.seat.me.number control in
+      let try : ℕ → Taken = λ n. took (event.Claim n cell) (finds.Colour tried.0) in
+      let same = ap (λ (m : Bound P). m.seat.me.number) told in
+      let first = ap (λ (m : Bound P). m.seat.me.trail) told in record {
+        control = control;
+        found = tried.0;
+        rest = more;
+        trail = grows
+            ∙ ap (λ (ts : List Taken). ts ++ more) (ap (λ (m : Bound P). m.seat.me.trail) tried.1
+            ∙ ap (λ (ts : List Taken). ts ++ try b.seat.me.number ∷ []) first
+            ∙ ap (λ (n : ℕ). (a.seat.me.trail ++ look ∷ []) ++ try n ∷ []) same
+            ∙ append_assoc a.seat.me.trail (look ∷ []) (try a.seat.me.number ∷ []))
+            ∙ append_assoc a.seat.me.trail (look ∷ try a.seat.me.number ∷ []) more;
+      }

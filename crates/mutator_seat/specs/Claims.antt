@@ -3,6 +3,7 @@
 use Rattle.std.specs.Prelude.{ℕ, ◌≡◌, Bool, true, false, not, List, [], ◌∷◌, ◌++◌, length}
 use Rattle.std.specs.Prelude.{is_some}
 use Rattle.std.specs.List.{list_all}
+use Rattle.cell_words.specs.declared.colours.Colour.{Colour}
 use Rattle.cell_words.specs.declared.colours.Colour.TheVariants as colour
 use Rattle.cell_words.specs.declared.controls.Control.{Control}
 use Rattle.cell_words.specs.declared.presences.Status.{Status}
@@ -14,6 +15,7 @@ use Rattle.core_machine.specs.declared.events.Taken.{Taken}
 use Rattle.heap_rule.specs.declared.known.Known.TheVariants as knows
 use Rattle.heap_rule.specs.Apart.{IsNewTo}
 use Rattle.heap_rule.specs.Lore.{five_nulls}
+use Rattle.heap_rule.specs.Rule.{took}
 use Rattle.trails.specs.Claims.{AllUsed, decides, is_used, look_of}
 use Rattle.mutator_seat.specs.declared.full.HeapFull.{HeapFull}
 use Rattle.mutator_seat.specs.Bound.{Bound, held_cells, takes}
@@ -77,3 +79,16 @@ module _ {P : Type 0} where
     pub is_new : IsNewTo (held_cells old) old.seat.me.known cell
     pub held : held_cells new ≡ held_cells old ++ cell ∷ []
     pub known : new.seat.me.known ≡ old.seat.me.known ++ knows.Raw five_nulls ∷ []
+
+  -- one claim of this cell, whatever it found
+  abbrev pub Tried : ℕ → Bound P → Bound P → Type 0
+  Tried cell old new =
+      (found : Colour) × (new ≡ takes old (event.Claim old.seat.me.number cell) (finds.Colour found))
+
+  -- a look, such a claim, and what followed
+  pub record TriedFirst (cell : ℕ) (old new : Bound P) : Type 0 where
+    pub control : Control
+    pub found : Colour
+    pub rest : List Taken
+    pub trail : new.seat.me.trail ≡ old.seat.me.trail ++ look_of old.seat.me.number control
+        ∷ took (event.Claim old.seat.me.number cell) (finds.Colour found) ∷ rest

@@ -12,7 +12,8 @@ ghost use Rattle.free_cells.specs.Hints.{counts_of, queue_of};
 ghost use Rattle.heap_rule.specs.Apart.{IsNewTo};
 ghost use Rattle.heap_rule.specs.Asks.{MayClaim};
 ghost use Rattle.mutator_seat.specs.Bound.{held_cells, takes};
-ghost use Rattle.mutator_seat.specs.Claims.{Claimed, Ends, FullBehind, HasMode, Seeking};
+ghost use Rattle.mutator_seat.specs.Claims.{Claimed, Ends, FullBehind, HasMode, Seeking, Tried};
+ghost use Rattle.mutator_seat.specs.Claims.{TriedFirst};
 ghost use Rattle.mutator_seat.specs.Stretches.{Calm};
 ghost use Rattle.trails.specs.Claims.{AllUsed, FindsFull, begun_of, decides};
 
@@ -88,8 +89,8 @@ impl<'a, P: Keeping> Mutator<'a, P> {
         self.claim_hinted(rt, hints, first)
     }
 
-    /// The same with a first hint that was taken before, if there was one. Who needs many cells takes
-    /// their hints in one go, for threads that take by turns wait for each other at the queue.
+    /// The same with a first hint that was taken before, if there was one. Who needs many cells
+    /// takes their hints in one go, for threads that take by turns wait for each other at the queue.
     pub fn claim_hinted<R: Wait>(
         &mut self,
         rt: &R,
@@ -103,6 +104,8 @@ impl<'a, P: Keeping> Mutator<'a, P> {
             Calm (FindsFull self.old.seat.me.number self.old.seat.me.shape.cells
             full.off_duty full.began full.ended) self.old self.new) }
         ensures seeking { IfErr result (λ full. Calm Seeking self.old self.new) }
+        ensures tries { IfSome hint (λ cell. cell < self.old.seat.me.shape.cells
+            → TriedFirst cell self.old self.new) }
         ensures queue { queue_of hints.new ≡ queue_of hints.old }
         ensures takes { (counts_of hints.old).takes ≤ (counts_of hints.new).takes }
     {
@@ -223,6 +226,8 @@ impl<'a, P: Keeping> Mutator<'a, P> {
         requires mode { HasMode self.old }
         ensures got { IfSome result (λ place. Claimed self.old place self.new) }
         ensures none { IfNone result (Calm Seeking self.old self.new) }
+        ensures tried { IfSome hint (λ cell. cell < self.old.seat.me.shape.cells
+            → Tried cell self.old self.new) }
     {
         match hint {
             Some(cell) => self.try_within(cell),
@@ -239,6 +244,7 @@ impl<'a, P: Keeping> Mutator<'a, P> {
         ensures cell { IfSome result (λ place. held_cells self.new
             ≡ held_cells self.old ++ cell ∷ []) }
         ensures none { IfNone result (Calm Seeking self.old self.new) }
+        ensures tried { cell < self.old.seat.me.shape.cells → Tried cell self.old self.new }
         ensures used { cell < self.old.seat.me.shape.cells
             → IfNone result (Calm (AllUsed cell (cell + 1)) self.old self.new) }
     {
@@ -286,6 +292,7 @@ impl<'a, P: Keeping> Mutator<'a, P> {
         ensures cell { IfSome result (λ place. held_cells self.new
             ≡ held_cells self.old ++ cell ∷ []) }
         ensures none { IfNone result (Calm (AllUsed cell (cell + 1)) self.old self.new) }
+        ensures tried { Tried cell self.old self.new }
         ensures seeking { IfNone result (Calm Seeking self.old self.new) }
         ensures mode { IfNone result (HasMode self.new) }
     {

@@ -72,7 +72,7 @@ count_all (false ∷ marks) (suc n) below =
     count_all marks n (λ k is. let l = below (suc k) is in omega (arith, l))
 
 -- a call that takes a hint is counted, whether it finds one or not
-pub one_take : (r : Option ℕ) (a b : Counts) → MatchOption r (b ≡ none_taken a) (λ cell. b ≡ taken a)
-    → b.takes ≡ a.takes + 1
+pub one_take : (r : Option ℕ) (a b : Counts)
+    → MatchOption r (b ≡ none_taken a) (λ cell. b ≡ taken a) → b.takes ≡ a.takes + 1
 one_take (Some cell) a b is = ap (λ (c : Counts). c.takes) is
 one_take None a b is = ap (λ (c : Counts). c.takes) is

@@ -22,8 +22,8 @@ loop-i-init g c = (
     filled_none (held_cells c.args.m.now)
         (λ i. value_of c.args.places.now
         (record_field c.args.minor.now.records c.args.r.number i)),
-    copy_begun (length c.args.m.now.seat.me.own.held) c.args.m.now c.claim_hinted.new.self c.in-Ok.place
-        c.in-Ok.ensures.got,
+    copy_begun (length c.args.m.now.seat.me.own.held) c.args.m.now c.claim_hinted.new.self
+        c.in-Ok.place c.in-Ok.ensures.got,
   ),
 )
 

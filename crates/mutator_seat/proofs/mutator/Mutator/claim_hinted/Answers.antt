@@ -1,5 +1,9 @@
 use Rattle.mutator_seat.proofs.Seeking.{look_seeks, seeking_then}
-use Rattle.mutator_seat.proofs.Tries.{claimed_then, finds_full, ok_all}
+use Rattle.std.proofs.Common.{[], sym, ap, arith}
+use Rattle.std.proofs.lemmas.List.{append-nil}
+use Rattle.mutator_seat.specs.Bound.{Bound}
+use Rattle.mutator_seat.proofs.Tries.{claimed_then, finds_full, grown, ok_all, some_all}
+use Rattle.mutator_seat.proofs.Tries.{tried_first}
 use Rattle.mutator_seat.proofs.Updates.{err_then}
 use Rattle.mutator_seat.proofs.mutator.Mutator.claim_hinted.Goals as goal
 
@@ -35,3 +39,26 @@ returns-in-None-clause-seeking g c =
     seeking_then was tried c.wait_for_cell.new.self
     (seeking_then was first.new.self tried
     (look_seeks was first.new.self first.result first.ensures.told) c.in-None.ensures.none) rest)
+
+pub returns-in-Some-clause-tries : goal.returns-in-Some-clause-tries
+returns-in-Some-clause-tries g c =
+    let was = c.args.self.now in
+    let first = c.look_once-first in
+    let tried = c.try_hinted.new.self in
+    some_all c.args.hint c.try_hinted.ensures.tried (λ cell is below.
+    tried_first was first.new.self tried tried first.result cell [] first.ensures.told
+    (is (omega (arith, below, ap (λ (m : Bound _). m.seat.me.shape.cells) first.ensures.told)))
+    (sym (append-nil tried.seat.me.trail)))
+
+pub returns-in-None-clause-tries : goal.returns-in-None-clause-tries
+returns-in-None-clause-tries g c =
+    let was = c.args.self.now in
+    let first = c.look_once-first in
+    let tried = c.try_hinted.new.self in
+    let last = c.wait_for_cell.new.self in
+    let more = grown tried last c.wait_for_cell.result c.wait_for_cell.ensures.got
+    c.wait_for_cell.ensures.seeking in
+    some_all c.args.hint c.try_hinted.ensures.tried (λ cell is below.
+    tried_first was first.new.self tried last first.result cell more.0 first.ensures.told
+    (is (omega (arith, below, ap (λ (m : Bound _). m.seat.me.shape.cells) first.ensures.told)))
+    more.1)
