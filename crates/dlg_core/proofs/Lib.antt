@@ -5,6 +5,7 @@ pub mod Collects
 pub mod Computes
 pub mod CutOff
 pub mod Each
+pub mod Finishing
 pub mod HeldLists
 pub mod Joins
 pub mod Keeps

@@ -3,8 +3,10 @@ pub mod Consistent
 pub mod Facts
 pub mod FirstRows
 pub mod Kept
+pub mod Left
 pub mod Paths
 pub mod Plain
+pub mod PlainCycle
 pub mod Reachable
 pub mod Runs
 pub mod Safe

@@ -13,6 +13,7 @@
 //! proofs/Collects, from Followed on.
 #![tactic(auto)]
 
+mod cycle;
 mod machine;
 mod plain;
 mod reachability;
