@@ -182,3 +182,41 @@ fn tracing_may_not_begin_before_all_have_answered(rt: HostRuntime) -> Result<(),
     assert_eq!(rt; run_to(rt.alloc(), &UNANSWERED)?, wanted);
     Ok(())
 }
+
+/// What whole cycles answer: two right after each other, one with the mutator in, and one when it
+/// has gone out.
+type Cycles = [Result<u64, NotNow>; 4];
+
+fn finish_cycles(core: &mut Core) -> Cycles {
+    let first = core.finish_cycle();
+    let second = core.finish_cycle();
+    let _ = core.apply(Event::Begin(0));
+    let inside = core.finish_cycle();
+    let _ = core.apply(Event::End(0));
+    [first, second, inside, core.finish_cycle()]
+}
+
+fn cycles_of_one(alloc: Global) -> Result<Cycles, NoMemory> {
+    let mut core = Core::open(alloc, 3, 1, 8, &[ANCHOR])?;
+    Ok(finish_cycles(&mut core))
+}
+
+#[test]
+fn a_cycle_of_the_anchor_alone_has_36_events(rt: HostRuntime) -> Result<(), Fail> {
+    let wanted = [Ok(36), Ok(36), Err(NotNow), Ok(36)];
+    assert_eq!(rt; cycles_of_one(rt.alloc())?, wanted);
+    Ok(())
+}
+
+fn finish_in_sync1(alloc: Global) -> Result<(Result<u64, NotNow>, Stage), NoMemory> {
+    let mut core = Core::open(alloc, 3, 1, 8, &[ANCHOR])?;
+    let _ = core.apply(Event::Post(Stage::Sync1));
+    let answer = core.finish_cycle();
+    Ok((answer, core.control().stage))
+}
+
+#[test]
+fn a_cycle_that_has_begun_is_not_taken_whole(rt: HostRuntime) -> Result<(), Fail> {
+    assert_eq!(rt; finish_in_sync1(rt.alloc())?, (Err(NotNow), Stage::Sync1));
+    Ok(())
+}

@@ -17,7 +17,7 @@ fn has_text(alloc: Global, schedule: &str, text: &str) -> Result<bool, ScheduleE
 }
 
 /// Schedules with their texts.
-const WORKED: [(&str, &str); 11] = [
+const WORKED: [(&str, &str); 12] = [
     (
         "core 3 1 8\nbegin 0\nlook 0\nclaim 0 1\nseal 0 1 record\nend 0\nshow 1\n\
         plain\nplain\nplain\nplain\nplain\nplain\nshow 1\n",
@@ -70,6 +70,11 @@ const WORKED: [(&str, &str); 11] = [
         scan\nscan\nscan\nscan\nblacken\nsee 0\nsee 1\nread 0 0 0\nread 0 1 0\nlook 0\n\
         mark 0 2\nsee 2\nscan\nshade\nscan\nscan\nscan\nscan\nblacken\nsee 2\npost sweep\n",
         "not now 43\ndone 49\nfree 0\n",
+    ),
+    (
+        "core 2 1 4\nplain\nplain\nbegin 0\nplain\nlook 0\nanswer 0\nplain\nend 0\n\
+        plain\nplain\nshow 0\n",
+        "cell 0 white - - - - - =2 freed 0\ndone 34\nfree 1\n",
     ),
     (
         "core 2 1 1\nshow 0\nshow 2\nshow 0\n",
