@@ -6,7 +6,8 @@ one_processor.py PROGRAM.. [--rounds N] [--limit SECONDS] [--processor K]
 Each script has 250 drafts with texts of 2,000 bytes, on a heap of 8,500 cells that keeps one
 version: over 250 paths they outgrow the heap, so that more than half of the replies are `full`;
 over 80 paths they come near to it; over 30 they fit. The fourth has four clients that put such
-texts, which make versions beside each other. A claim that waits for the collector must let it run,
+texts, which make versions beside each other; the fifth 900 commands of all kinds that change a
+tree, over 40 paths. A claim that waits for the collector must let it run,
 and on one processor each time that it does so costs a part of a cycle; so that is what this shows.
 The program runs by `taskset -c K` and without. A line for each has the processor and the wall time,
 the least over the rounds, the ratio of the processor times, and the cycles of the last round. A run
@@ -18,27 +19,36 @@ DRAFTS, BYTES = 250, 2000
 LETTERS = "abcdefghijklmnopqrstuvwxyz ABCDEFGH0123456789"
 
 
-def script(word, paths, count, seed):
-    some = random.Random(seed)
-    text = lambda: "".join(some.choice(LETTERS) for _ in range(BYTES))
-    return "".join(f"{word} n{k % paths} {text()}\n" for k in range(count))
+KINDS = ["put", "dput", "del", "copy", "publish", "take"]
 
-
+# of each client: the commands, over so many paths, and how many
 SCRIPTS = {
-    "drafts over 250 paths": ["dput 250"],
-    "drafts over 80 paths": ["dput 80"],
-    "drafts over 30 paths": ["dput 30"],
-    "puts of four clients": ["put 5"] * 4,
+    "drafts over 250 paths": [(["dput"], 250, DRAFTS)],
+    "drafts over 80 paths": [(["dput"], 80, DRAFTS)],
+    "drafts over 30 paths": [(["dput"], 30, DRAFTS)],
+    "puts of four clients": [(["put"], 5, DRAFTS)] * 4,
+    "900 of all kinds": [(KINDS, 40, 900)],
 }
+
+
+def line(some, kind, path, paths):
+    if kind in ("put", "dput"):
+        return f"{kind} n{path} " + "".join(some.choice(LETTERS) for _ in range(BYTES))
+    return f"copy n{path} n{some.randrange(paths)}" if kind == "copy" else f"{kind} n{path}"
+
+
+def script(kinds, paths, count, seed):
+    some = random.Random(seed)
+    lines = (line(some, some.choice(kinds), k % paths, paths) for k in range(count))
+    return "".join(f"{text}\n" for text in lines)
 
 
 def write(folder, name):
     files = []
-    for k, line in enumerate(SCRIPTS[name]):
-        word, paths = line.split()
+    for k, (kinds, paths, count) in enumerate(SCRIPTS[name]):
         files.append(f"{folder}/{name.replace(' ', '_')}_{k}")
         with open(files[-1], "w") as it:
-            it.write(script(word, int(paths), DRAFTS, k))
+            it.write(script(kinds, paths, count, k))
     return files
 
 

@@ -21,16 +21,16 @@ abbrev pub status_on : Status → Event → Status
 status_on own (event.Answer i) = next_status_of own
 status_on own _ = own
 
--- The steps since the mutator last owed no answer: those begin anew with an answer, and with a look
--- that asks for none. Steps are the tries of a cell and the looks that ask.
+-- The steps behind the last point at which the mutator owed the collector no answer: an answer, or
+-- a look that asks for none. Steps are tries of a cell, and looks that ask.
 abbrev pub steps_on : Status → ℕ → Event → Found → ℕ
 steps_on own n (event.Look i) found = if asks own found then n + 1 else 0
 steps_on own n (event.Answer i) found = 0
 steps_on own n (event.Claim i cell) found = n + 1
 steps_on own n _ found = n
 
--- At no event are there more of them than 64 tries with a look before and a look behind, where there
--- were n before the first.
+-- They are never more than 64 tries with a look before and one behind, where there were n of them
+-- before the first event.
 abbrev pub IsPrompt : Status → ℕ → List Taken → Type 0
 IsPrompt own n [] = n ≤ 66
 IsPrompt own n (t ∷ ts) =

@@ -1,7 +1,7 @@
 //! Claiming a cell: hints first, then every cell; and waiting for the collector.
 //!
-//! While it waits it answers handshakes, for a cycle cannot end without its answers. It pauses where
-//! the queue gave no hint, and nowhere else: on one processor a pause is a third of a cycle.
+//! While it waits it answers handshakes, for a cycle cannot end without its answers. It pauses
+//! where the queue gave no hint, and nowhere else: on one processor a pause is a third of a cycle.
 ghost use Rattle.std.specs.Prelude.{◌≡◌, ◌<◌, ◌≤◌, ◌+◌, true, not};
 ghost use Rattle.std.specs.Prelude.{IfErr, IfNone, IfOk, IfSome, length};
 ghost use Rattle.free_cells.specs.Hints.{counts_of, queue_of};

@@ -7,8 +7,8 @@
 //!
 //! Only `claim` waits. No call takes memory.
 //!
-//! Reading order: specs/Bound, Stretches, Writes, Claims, Pacing; then `mutator`, `steps`, `coming`, `making`,
-//! `looking`, `writing`, `trying`, `claiming`.
+//! Reading order: specs/Bound, Stretches, Writes, Claims, Pacing; then `mutator`, `steps`, `coming`,
+//! `making`, `looking`, `writing`, `trying`, `claiming`.
 #![tactic(auto)]
 
 mod claiming;

@@ -4,8 +4,8 @@ ghost use Rattle.cell_words.specs.Modes.{next_status_of};
 ghost use Rattle.cell_words.specs.declared.presences.Status.TheVariants as status;
 ghost use Rattle.core_machine.specs.Places.{all_marked};
 ghost use Rattle.core_machine.specs.Words.{requests, same_status};
-ghost use Rattle.mutator_seat.specs.Stretches.{Answering, AreBefore, Calm, LookAndAnswer, are_marks};
-ghost use Rattle.mutator_seat.specs.Stretches.{asks_next, status_behind};
+ghost use Rattle.mutator_seat.specs.Stretches.{Answering, AreBefore, Calm, LookAndAnswer};
+ghost use Rattle.mutator_seat.specs.Stretches.{are_marks, asks_next, status_behind};
 
 use crate::mutator::Mutator;
 use cell_words::modes::{next_status, requested};

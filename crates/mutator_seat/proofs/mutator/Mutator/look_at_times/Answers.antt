@@ -8,4 +8,5 @@ returns-then-tries-eq-TRIES-clause-pace g c =
     (omega (arith, c.requires.few)) (omega arith) c.handshake.ensures.pace
 
 pub returns-else-tries-eq-TRIES-clause-pace : goal.returns-else-tries-eq-TRIES-clause-pace
-returns-else-tries-eq-TRIES-clause-pace g c = paces_none c.args.self.now (c.args.tries + 1) (c.args.tries + 1) (omega arith)
+returns-else-tries-eq-TRIES-clause-pace g c =
+    paces_none c.args.self.now (c.args.tries + 1) (c.args.tries + 1) (omega arith)

@@ -14,7 +14,8 @@ returns-in-Some-clause-pace g c =
     let was = c.args.self.now in
     let loop = c.loop-cell in
     let few : loop.tries ≤ 63 = loop.invariant.3 in
-    paces_within was c.try_cell.new.self 1 (loop.tries + 1 + 1) 1 65 (omega arith) (omega (arith, few))
+    paces_within was c.try_cell.new.self 1 (loop.tries + 1 + 1) 1 65 (omega arith)
+    (omega (arith, few))
     (paces_then was loop.self c.try_cell.new.self 1 (loop.tries + 1) (loop.tries + 1 + 1)
     loop.invariant.4
     (paces_try loop.self c.try_cell.new.self loop.cell (loop.tries + 1) (omega (arith, few))
