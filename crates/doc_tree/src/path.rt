@@ -6,11 +6,13 @@ use crate::NoMemory;
 use crate::text::Name;
 use std::alloc::Global;
 use std::marker::Model;
+use std::sync::Arc;
 
-/// The names on the way from the root to a node: 1 to 8 of them. The root has no path.
+/// The names on the way from the root to a node: 1 to 8 of them. The root has no path. All copies
+/// of a path share its names, as a command and its entry in a log do.
 #[derive(Debug)]
 pub struct Path {
-    names: Vec<Name>,
+    names: Arc<Vec<Name>>,
 }
 
 impl Drop for Path {
@@ -20,14 +22,15 @@ impl Drop for Path {
 }
 
 impl Model for Path {
+    ghost use Rattle.std.specs.Arc.{arc_value};
     ghost use Rattle.std.specs.Prelude.{List, ℕ, IsTrue};
     ghost use Rattle.doc_tree.specs.Words.{is_path};
 
     ghost Value = { List (List ℕ) };
 
-    ghost view = { λ p. p.names.items };
+    ghost view = { λ p. (arc_value p.names).items };
 
-    ghost invariant = { λ p. IsTrue (is_path p.names.items) };
+    ghost invariant = { λ p. IsTrue (is_path (arc_value p.names).items) };
 }
 
 /// A list of names, as the children of a node.
@@ -61,7 +64,7 @@ impl PartialEq for Path {
     ghost laws = { partial_equiv_from_equiv (lists_equiv nat_list_eq_equiv) };
 
     fn eq(&self, other: &Path) -> bool {
-        self.names == other.names
+        self.names() == other.names()
     }
 }
 
@@ -97,7 +100,9 @@ impl Path {
         };
         names.push(name)?;
         names.shrink_to_fit();
-        Ok(Some(Path { names }))
+        Ok(Some(Path {
+            names: Arc::new(alloc, names)?,
+        }))
     }
 
     /// An equal path.
@@ -105,7 +110,7 @@ impl Path {
         ensures { IfOk result (λ path. path ≡ self.now) }
     {
         Ok(Path {
-            names: copies(&self.names)?,
+            names: self.names.clone()?,
         })
     }
 
