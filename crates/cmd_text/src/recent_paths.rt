@@ -3,66 +3,15 @@
 //! Scripts name the same paths again and again. A path that is still at hand is shared and not made
 //! anew: it takes no further memory, neither in a command nor in the log.
 ghost use Rattle.doc_tree.specs.Words.{path_of};
-ghost use Rattle.std.specs.Prelude.{◌≡◌, IfOk, Some, true};
+ghost use Rattle.std.specs.Prelude.{◌≡◌, IfOk};
 
 use doc_model::{NoMemory, Path};
 use std::alloc::Global;
-use std::marker::Model;
-
-/// A path, with the bytes that it was read from. Contracts see it as these bytes.
-struct PathRead {
-    bytes: Vec<u8>,
-    path: Path,
-}
-
-impl Drop for PathRead {
-    fn drop(self) {
-        let PathRead {
-            bytes: _bytes,
-            path: _path,
-        } = self;
-    }
-}
-
-impl Model for PathRead {
-    ghost use Rattle.doc_tree.specs.Words.{path_of};
-    ghost use Rattle.std.specs.Prelude.{◌≡◌, List, Some, ℕ};
-
-    ghost Value = { List ℕ };
-
-    ghost view = { λ read. read.bytes.items };
-
-    ghost invariant = { λ read. path_of read.bytes.items ≡ Some read.path };
-}
-
-impl PathRead {
-    fn new(alloc: Global, bytes: &[u8], path: &Path) -> Result<PathRead, NoMemory>
-        requires path { path_of bytes.now ≡ Some path.now }
-        ensures bytes { IfOk result (λ read. read ≡ bytes.now) }
-    {
-        Ok(PathRead {
-            bytes: Vec::from_slice(alloc, bytes)?,
-            path: path.copy()?,
-        })
-    }
-
-    fn is_of(&self, bytes: &[u8]) -> bool
-        ensures same { result ≡ true → self.now ≡ bytes.now }
-    {
-        self.bytes.as_slice() == bytes
-    }
-
-    fn path(&self) -> Result<Path, NoMemory>
-        ensures path { IfOk result (λ path. path_of self.now ≡ Some path) }
-    {
-        self.path.copy()
-    }
-}
 
 /// The paths that are at hand, each at the place that its bytes have.
 #[derive(Drop)]
 pub(crate) struct RecentPaths {
-    places: Vec<Option<PathRead>>,
+    places: Vec<Option<Path>>,
 }
 
 impl RecentPaths {
@@ -82,15 +31,15 @@ impl RecentPaths {
         let place = place_of(bytes, self.places.len());
         if let Some(Some(known)) = self.places.get(place) {
             if known.is_of(bytes) {
-                return Ok(Some(known.path()?));
+                return Ok(Some(known.copy()?));
             }
         }
         let Some(path) = Path::read(alloc, bytes)? else {
             return Ok(None);
         };
-        let read = PathRead::new(alloc, bytes, &path)?;
-        if let Some(kept) = self.places.get_mut(place) {
-            *kept = Some(read);
+        let kept = path.copy()?;
+        if let Some(known) = self.places.get_mut(place) {
+            *known = Some(kept);
         }
         Ok(Some(path))
     }

@@ -11,11 +11,11 @@ use doc_model::Command;
 use std::alloc::Global;
 
 // So many paths are at hand at most while a script is read.
-const MOST_PATHS: usize = 4_096;
+const MOST_PATHS: usize = 16_384;
 
 // As many as a script of this length may well have.
 fn paths_for(bytes: &[u8]) -> usize {
-    (bytes.len() / 16).min(MOST_PATHS)
+    (bytes.len() / 8).min(MOST_PATHS)
 }
 
 /// The commands of a script, or its first faulty line. The length has its bound so that the number

@@ -1,6 +1,6 @@
 //! Paths from the root of a tree to a node, and lists of names.
-ghost use Rattle.std.specs.Prelude.{◌≡◌, [], ◌∷◌, ◌++◌, IfOk, IsTrue, OnOk, OnErr, position, ◌==◌};
-ghost use Rattle.doc_tree.specs.Words.{path_of, is_path};
+ghost use Rattle.std.specs.Prelude.{◌≡◌, [], ◌∷◌, ◌++◌, IfOk, IsTrue, OnOk, OnErr, Some, position, true, ◌==◌};
+ghost use Rattle.doc_tree.specs.Words.{path_of, is_path, pieces};
 
 use crate::NoMemory;
 use crate::text::Name;
@@ -82,7 +82,7 @@ impl Path {
     pub fn read(alloc: Global, bytes: &[u8]) -> Result<Option<Path>, NoMemory>
         ensures { IfOk result (λ path. path ≡ path_of bytes.now) }
     {
-        let mut names = Vec::new(alloc);
+        let mut names = Vec::with_capacity(alloc, names_in(bytes))?;
         let mut rest = bytes;
         while let Some(at) = first_slash(rest) {
             let (piece, after) = rest.split_at(at);
@@ -99,7 +99,6 @@ impl Path {
             return Ok(None);
         };
         names.push(name)?;
-        names.shrink_to_fit();
         Ok(Some(Path {
             names: Arc::new(alloc, names)?,
         }))
@@ -119,6 +118,14 @@ impl Path {
         ensures path { IsTrue (is_path self.now) }
     {
         &self.names
+    }
+
+    /// Whether these bytes are known to be this path.
+    #[tactic(auto, using(crate::proofs::Pieces::a_path))]
+    pub fn is_of(&self, bytes: &[u8]) -> bool
+        ensures path { result ≡ true → path_of bytes.now ≡ Some self.now }
+    {
+        are_pieces(self.names(), bytes)
     }
 }
 
@@ -175,6 +182,34 @@ impl Names {
         ensures { result.now ≡ self.now }
     {
         &self.names
+    }
+}
+
+// How many names a path of these bytes has, or one that is as long as may be.
+fn names_in(bytes: &[u8]) -> usize {
+    let mut names = 1;
+    for byte in bytes {
+        if *byte == b'/' && names < Path::MOST {
+            names += 1;
+        }
+    }
+    names
+}
+
+// Whether the pieces of the bytes between slashes are these names.
+#[tactic(auto, using(crate::proofs::Pieces::cut_at, crate::proofs::Pieces::uncut, crate::proofs::Pieces::cut_room))]
+fn are_pieces(names: &[Name], bytes: &[u8]) -> bool
+    ensures pieces { result ≡ true → pieces bytes.now ≡ names.now }
+{
+    let Some((first, others)) = names.split_first() else {
+        return false;
+    };
+    match first_slash(bytes) {
+        None => others.is_empty() && first.bytes() == bytes,
+        Some(at) => {
+            let (piece, after) = bytes.split_at(at);
+            first.bytes() == piece && are_pieces(others, after.split_at(1).1)
+        }
     }
 }
 
