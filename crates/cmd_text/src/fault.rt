@@ -53,6 +53,14 @@ impl From<NoMemory> for LineError {
     }
 }
 
+impl From<NoMemory> for ScriptError {
+    ghost from_gives = { λ _ error. error ≡ script.NoMemory };
+
+    fn from(_: NoMemory) -> ScriptError {
+        ScriptError::NoMemory
+    }
+}
+
 impl<T: Drop> From<AllocFailed<T>> for ScriptError {
     ghost from_gives = { λ _ error. error ≡ script.NoMemory };
 

@@ -5,11 +5,12 @@
 //! there. The line calls give the exact bytes that the program writes, line feed included.
 //! What a command does, and where bytes come from and go to, is left to others.
 //!
-//! Reading order: `fault`, `verb`, `line`, `script`, `reply`, `summary`.
+//! Reading order: `fault`, `verb`, `recent_paths`, `line`, `script`, `reply`, `summary`.
 #![tactic(auto)]
 
 mod fault;
 mod line;
+mod recent_paths;
 mod reply;
 mod script;
 mod summary;

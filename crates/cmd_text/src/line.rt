@@ -7,6 +7,7 @@ ghost use Rattle.std.specs.List.{list_all};
 ghost use Rattle.std.specs.Prelude.{IsTrue};
 
 use crate::fault::{LineError, ScriptKind};
+use crate::recent_paths::RecentPaths;
 use crate::verb::Verb;
 use doc_model::{Command, Path, Text};
 use line_words::{
@@ -15,7 +16,11 @@ use line_words::{
 use std::alloc::Global;
 
 /// The command that a line holds, if it holds one. The line comes without its line feed.
-pub(crate) fn read_line(alloc: Global, line: &[u8]) -> Result<Option<Command>, LineError>
+pub(crate) fn read_line(
+    alloc: Global,
+    paths: &mut RecentPaths,
+    line: &[u8],
+) -> Result<Option<Command>, LineError>
     ensures { Gives result (reading_of line.now) }
 {
     let line = without_return(line);
@@ -25,90 +30,99 @@ pub(crate) fn read_line(alloc: Global, line: &[u8]) -> Result<Option<Command>, L
     if !is_plain(line) {
         return Err(LineError::Fault(ScriptKind::BadByte));
     }
-    Ok(Some(read_command(alloc, line)?))
+    Ok(Some(read_command(alloc, paths, line)?))
 }
 
-fn read_command(alloc: Global, line: &[u8]) -> Result<Command, LineError>
+fn read_command(alloc: Global, paths: &mut RecentPaths, line: &[u8]) -> Result<Command, LineError>
     requires { IsTrue (list_all is_plain_byte line.now) }
     ensures { Gives result (command_of line.now) }
 {
     let (word, rest) = first_word(line);
     match Verb::read(word) {
         None => Err(LineError::Fault(ScriptKind::NoCommand)),
-        Some(verb) => read_arguments(alloc, verb, rest),
+        Some(verb) => read_arguments(alloc, paths, verb, rest),
     }
 }
 
-fn read_arguments(alloc: Global, verb: Verb, rest: &[u8]) -> Result<Command, LineError>
+fn read_arguments(
+    alloc: Global,
+    paths: &mut RecentPaths,
+    verb: Verb,
+    rest: &[u8],
+) -> Result<Command, LineError>
     requires { IsTrue (list_all is_plain_byte rest.now) }
     ensures { Gives result (arguments_in verb rest.now) }
 {
     match verb {
         Verb::Put => {
-            let (path, text) = read_path_and_text(alloc, rest)?;
+            let (path, text) = read_path_and_text(alloc, paths, rest)?;
             Ok(Command::Put { path, text })
         }
         Verb::DraftPut => {
-            let (path, text) = read_path_and_text(alloc, rest)?;
+            let (path, text) = read_path_and_text(alloc, paths, rest)?;
             Ok(Command::DraftPut { path, text })
         }
         Verb::Copy => {
-            let from = read_path(alloc, rest)?;
-            let to = read_last_path(alloc, next_rest(rest))?;
+            let from = read_path(alloc, paths, rest)?;
+            let to = read_last_path(alloc, paths, next_rest(rest))?;
             Ok(Command::Copy { from, to })
         }
         Verb::Old => {
             let back = read_number(rest)?;
-            let path = read_last_path(alloc, next_rest(rest))?;
+            let path = read_last_path(alloc, paths, next_rest(rest))?;
             Ok(Command::Old { back, path })
         }
         Verb::Del => Ok(Command::Del {
-            path: read_last_path(alloc, rest)?,
+            path: read_last_path(alloc, paths, rest)?,
         }),
         Verb::Get => Ok(Command::Get {
-            path: read_last_path(alloc, rest)?,
+            path: read_last_path(alloc, paths, rest)?,
         }),
         Verb::List => Ok(Command::List {
-            path: read_last_path(alloc, rest)?,
+            path: read_last_path(alloc, paths, rest)?,
         }),
         Verb::Size => Ok(Command::Size {
-            path: read_last_path(alloc, rest)?,
+            path: read_last_path(alloc, paths, rest)?,
         }),
         Verb::DraftGet => Ok(Command::DraftGet {
-            path: read_last_path(alloc, rest)?,
+            path: read_last_path(alloc, paths, rest)?,
         }),
         Verb::Take => Ok(Command::Take {
-            path: read_last_path(alloc, rest)?,
+            path: read_last_path(alloc, paths, rest)?,
         }),
         Verb::Publish => Ok(Command::Publish {
-            path: read_last_path(alloc, rest)?,
+            path: read_last_path(alloc, paths, rest)?,
         }),
     }
 }
 
-fn read_path_and_text(alloc: Global, rest: &[u8]) -> Result<(Path, Text), LineError>
+fn read_path_and_text(
+    alloc: Global,
+    paths: &mut RecentPaths,
+    rest: &[u8],
+) -> Result<(Path, Text), LineError>
     requires { IsTrue (list_all is_plain_byte rest.now) }
     ensures { Gives result (path_and_text_in rest.now) }
 {
-    let path = read_path(alloc, rest)?;
+    let path = read_path(alloc, paths, rest)?;
     let text = read_text(alloc, next_rest(rest))?;
     Ok((path, text))
 }
 
-fn read_path(alloc: Global, rest: &[u8]) -> Result<Path, LineError>
+fn read_path(alloc: Global, paths: &mut RecentPaths, rest: &[u8]) -> Result<Path, LineError>
     ensures { Gives result (path_in rest.now) }
 {
-    match Path::read(alloc, next_word(rest).0)? {
+    match paths.read(alloc, next_word(rest).0)? {
         Some(path) => Ok(path),
         None => Err(LineError::Fault(ScriptKind::BadPath)),
     }
 }
 
 // A path with which the line ends.
-fn read_last_path(alloc: Global, rest: &[u8]) -> Result<Path, LineError>
+fn read_last_path(alloc: Global, paths: &mut RecentPaths, rest: &[u8]) -> Result<Path, LineError>
     ensures { Gives result (last_path_in rest.now) }
 {
-    let path = read_path(alloc, rest)?;
+    let path = read_path(alloc, paths, rest)?;
     if !next_rest(rest).is_empty() {
         return Err(LineError::Fault(ScriptKind::Extra));
     }

@@ -6,8 +6,17 @@ ghost use Rattle.std.specs.Prelude.{length, ◌-◌, ◌<◌, ◌^◌};
 
 use crate::fault::{LineError, ScriptError, ScriptFault};
 use crate::line::read_line;
+use crate::recent_paths::RecentPaths;
 use doc_model::Command;
 use std::alloc::Global;
+
+// So many paths are at hand at most while a script is read.
+const MOST_PATHS: usize = 16_384;
+
+// As many as a script of this length may well have.
+fn paths_for(bytes: &[u8]) -> usize {
+    (bytes.len() / 8).min(MOST_PATHS)
+}
 
 /// The commands of a script, or its first faulty line. The length has its bound so that the number
 /// of every line fits.
@@ -16,10 +25,11 @@ pub fn read_script(alloc: Global, bytes: &[u8]) -> Result<Vec<Command>, ScriptEr
     ensures script { Reads result (script_of bytes.now) }
 {
     let mut commands = Vec::new(alloc);
+    let mut paths = RecentPaths::with_room(alloc, paths_for(bytes))?;
     let mut number = 0;
     for line in bytes.split(|byte| *byte == b'\n') {
         number += 1;
-        match read_numbered(alloc, number, line) {
+        match read_numbered(alloc, &mut paths, number, line) {
             Ok(None) => {}
             Ok(Some(command)) => commands.push(command)?,
             Err(error) => return Err(error),
@@ -28,10 +38,15 @@ pub fn read_script(alloc: Global, bytes: &[u8]) -> Result<Vec<Command>, ScriptEr
     Ok(commands)
 }
 
-fn read_numbered(alloc: Global, number: u32, line: &[u8]) -> Result<Option<Command>, ScriptError>
+fn read_numbered(
+    alloc: Global,
+    paths: &mut RecentPaths,
+    number: u32,
+    line: &[u8],
+) -> Result<Option<Command>, ScriptError>
     ensures { GivesAt number result (reading_of line.now) }
 {
-    match read_line(alloc, line) {
+    match read_line(alloc, paths, line) {
         Ok(command) => Ok(command),
         Err(LineError::Fault(kind)) => Err(ScriptError::Fault(ScriptFault { line: number, kind })),
         Err(LineError::NoMemory) => Err(ScriptError::NoMemory),

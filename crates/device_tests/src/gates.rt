@@ -1,4 +1,4 @@
-use outside::{CrossGate, Gate, OpenGate};
+use outside::{CrossGate, Gate, HoldGate, OpenGate};
 use std::thread;
 
 // As many looks as no thread needs to begin.
@@ -51,4 +51,24 @@ fn an_open_gate_lets_all_begin(rt: HostRuntime) {
         );
         OpenGate.done(client, number);
     }
+}
+
+// The held command is sent away twice, all others begin at once.
+#[test]
+fn a_gate_holds_one_command_for_so_many_turns(rt: HostRuntime) {
+    let gate = HoldGate::new(2, 3, 2);
+    for (client, number) in [(1, 3), (2, 2), (3, 3), (2, 4)] {
+        assert!(rt;
+            gate.go(client, number),
+            "client {client}, command {number}"
+        );
+    }
+    let first = gate.go(2, 3);
+    let second = gate.go(2, 3);
+    let third = gate.go(2, 3);
+    gate.done(2, 3);
+    assert_eq!(rt;
+        (first, second, third, gate.asked()),
+        (false, false, true, 3)
+    );
 }

@@ -73,7 +73,7 @@ some_named bs name e =
 no_path : (names : List (List ℕ)) → is_path names ≡ false → path_with names ≡ None
 no_path names e = cond-false (is_path names) (Some names) None e
 
-a_path : (names : List (List ℕ)) → is_path names ≡ true → path_with names ≡ Some names
+pub a_path : (names : List (List ℕ)) → is_path names ≡ true → path_with names ≡ Some names
 a_path names e = cond-true (is_path names) (Some names) None e
 
 -- a piece that is no name

@@ -1,16 +1,18 @@
 //! Paths from the root of a tree to a node, and lists of names.
-ghost use Rattle.std.specs.Prelude.{◌≡◌, [], ◌∷◌, ◌++◌, IfOk, IsTrue, OnOk, OnErr, position, ◌==◌};
-ghost use Rattle.doc_tree.specs.Words.{path_of, is_path};
+ghost use Rattle.std.specs.Prelude.{◌≡◌, [], ◌∷◌, ◌++◌, IfOk, IsTrue, OnOk, OnErr, Some, position, true, ◌==◌};
+ghost use Rattle.doc_tree.specs.Words.{path_of, is_path, pieces};
 
 use crate::NoMemory;
 use crate::text::Name;
 use std::alloc::Global;
 use std::marker::Model;
+use std::sync::Arc;
 
-/// The names on the way from the root to a node: 1 to 8 of them. The root has no path.
+/// The names on the way from the root to a node: 1 to 8 of them. The root has no path. All copies
+/// of a path share its names, as a command and its entry in a log do.
 #[derive(Debug)]
 pub struct Path {
-    names: Vec<Name>,
+    names: Arc<Vec<Name>>,
 }
 
 impl Drop for Path {
@@ -20,14 +22,15 @@ impl Drop for Path {
 }
 
 impl Model for Path {
+    ghost use Rattle.std.specs.Arc.{arc_value};
     ghost use Rattle.std.specs.Prelude.{List, ℕ, IsTrue};
     ghost use Rattle.doc_tree.specs.Words.{is_path};
 
     ghost Value = { List (List ℕ) };
 
-    ghost view = { λ p. p.names.items };
+    ghost view = { λ p. (arc_value p.names).items };
 
-    ghost invariant = { λ p. IsTrue (is_path p.names.items) };
+    ghost invariant = { λ p. IsTrue (is_path (arc_value p.names).items) };
 }
 
 /// A list of names, as the children of a node.
@@ -61,7 +64,7 @@ impl PartialEq for Path {
     ghost laws = { partial_equiv_from_equiv (lists_equiv nat_list_eq_equiv) };
 
     fn eq(&self, other: &Path) -> bool {
-        self.names == other.names
+        self.names() == other.names()
     }
 }
 
@@ -79,7 +82,7 @@ impl Path {
     pub fn read(alloc: Global, bytes: &[u8]) -> Result<Option<Path>, NoMemory>
         ensures { IfOk result (λ path. path ≡ path_of bytes.now) }
     {
-        let mut names = Vec::new(alloc);
+        let mut names = Vec::with_capacity(alloc, names_in(bytes))?;
         let mut rest = bytes;
         while let Some(at) = first_slash(rest) {
             let (piece, after) = rest.split_at(at);
@@ -96,8 +99,9 @@ impl Path {
             return Ok(None);
         };
         names.push(name)?;
-        names.shrink_to_fit();
-        Ok(Some(Path { names }))
+        Ok(Some(Path {
+            names: Arc::new(alloc, names)?,
+        }))
     }
 
     /// An equal path.
@@ -105,7 +109,7 @@ impl Path {
         ensures { IfOk result (λ path. path ≡ self.now) }
     {
         Ok(Path {
-            names: copies(&self.names)?,
+            names: self.names.clone()?,
         })
     }
 
@@ -114,6 +118,14 @@ impl Path {
         ensures path { IsTrue (is_path self.now) }
     {
         &self.names
+    }
+
+    /// Whether these bytes are known to be this path.
+    #[tactic(auto, using(crate::proofs::Pieces::a_path))]
+    pub fn is_of(&self, bytes: &[u8]) -> bool
+        ensures path { result ≡ true → path_of bytes.now ≡ Some self.now }
+    {
+        are_pieces(self.names(), bytes)
     }
 }
 
@@ -170,6 +182,34 @@ impl Names {
         ensures { result.now ≡ self.now }
     {
         &self.names
+    }
+}
+
+// How many names a path of these bytes has, or one that is as long as may be.
+fn names_in(bytes: &[u8]) -> usize {
+    let mut names = 1;
+    for byte in bytes {
+        if *byte == b'/' && names < Path::MOST {
+            names += 1;
+        }
+    }
+    names
+}
+
+// Whether the pieces of the bytes between slashes are these names.
+#[tactic(auto, using(crate::proofs::Pieces::cut_at, crate::proofs::Pieces::uncut, crate::proofs::Pieces::cut_room))]
+fn are_pieces(names: &[Name], bytes: &[u8]) -> bool
+    ensures pieces { result ≡ true → pieces bytes.now ≡ names.now }
+{
+    let Some((first, others)) = names.split_first() else {
+        return false;
+    };
+    match first_slash(bytes) {
+        None => others.is_empty() && first.bytes() == bytes,
+        Some(at) => {
+            let (piece, after) = bytes.split_at(at);
+            first.bytes() == piece && are_pieces(others, after.split_at(1).1)
+        }
     }
 }
 

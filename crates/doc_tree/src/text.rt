@@ -13,26 +13,24 @@ use std::cmp::Ordering;
 use std::fmt;
 use std::marker::Model;
 
-/// The name of a child among its siblings: 1 to 64 letters, digits, `-` and `_`.
+/// The name of a child among its siblings: 1 to 64 letters, digits, `-` and `_`. They lie in the
+/// value: a list of long names takes no more than its bytes, and no name takes memory of its own.
+#[derive(Drop)]
 pub struct Name {
-    letters: Letters,
-}
-
-impl Drop for Name {
-    fn drop(self) {
-        let Name { letters: _letters } = self;
-    }
+    len: u8,
+    // the first `len` of these
+    letters: [u8; Name::MOST],
 }
 
 impl Model for Name {
-    ghost use Rattle.std.specs.Prelude.{List, ℕ, IsTrue};
+    ghost use Rattle.std.specs.Prelude.{List, ℕ, ◌≤◌, IsTrue, take};
     ghost use Rattle.doc_tree.specs.Words.{is_name};
 
     ghost Value = { List ℕ };
 
-    ghost view = { λ n. n.letters };
+    ghost view = { λ n. take n.len n.letters };
 
-    ghost invariant = { λ n. IsTrue (is_name n.letters) };
+    ghost invariant = { λ n. (n.len ≤ 64) × IsTrue (is_name (take n.len n.letters)) };
 }
 
 /// What a node of a tree says: 0 to 4,096 characters from the space to the tilde.
@@ -98,11 +96,15 @@ impl Name {
     pub fn read(alloc: Global, bytes: &[u8]) -> Result<Option<Name>, NoMemory>
         ensures { IfOk result (λ name. name ≡ name_of bytes.now) }
     {
+        let _ = alloc;
         if !is_name(bytes) {
             return Ok(None);
         }
+        let mut letters = [0; Name::MOST];
+        letters[..bytes.len()].copy_from_slice(bytes);
         Ok(Some(Name {
-            letters: Letters::new(alloc, bytes)?,
+            len: bytes.len() as u8,
+            letters,
         }))
     }
 
@@ -111,7 +113,8 @@ impl Name {
         ensures { IfOk result (λ name. name ≡ self.now) }
     {
         Ok(Name {
-            letters: self.letters.copy()?,
+            len: self.len,
+            letters: self.letters,
         })
     }
 
@@ -119,7 +122,7 @@ impl Name {
         ensures bytes { result.now ≡ self.now }
         ensures name { IsTrue (is_name self.now) }
     {
-        self.letters.bytes()
+        &self.letters[..self.len as usize]
     }
 
     #[tactic(auto, using(crate::proofs::Plain::name_is_ascii))]

@@ -6,9 +6,11 @@ use Rattle.outside.specs.Causes.{next_count}
 use Rattle.outside.specs.Named.{content_named}
 use Rattle.outside.specs.declared.course.Course.{Course}
 
--- a shelf that fails at the calls with the numbers in `failing`
+-- a shelf that gives at most `most` bytes in a read, and fails at the calls with the numbers in
+-- `failing`
 pub record ShelfState : Type 0 where
   pub files : List (List ℕ × List ℕ)
+  pub most : ℕ
   pub failing : List ℕ
   pub calls : ℕ
   pub opens : ℕ

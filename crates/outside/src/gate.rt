@@ -5,7 +5,7 @@
 //! in atomics.
 ghost use Rattle.std.specs.Prelude.{IsTrue};
 
-use std::sync::atomic::{AtomicBool, Ordering};
+use std::sync::atomic::{AtomicBool, AtomicU64, Ordering};
 
 /// Who lets the commands of clients begin.
 pub trait Gate {
@@ -78,6 +78,42 @@ impl Gate for CrossGate {
             _ => {}
         }
         true
+    }
+
+    fn done(&self, _client: u32, _number: u32) {}
+}
+
+/// A gate that sends one command of one client away so many times, and lets all else begin at once.
+#[derive(Drop)]
+pub struct HoldGate {
+    client: u32,
+    number: u32,
+    turns: u64,
+    asked: AtomicU64,
+}
+
+impl HoldGate {
+    /// A gate that was not asked yet.
+    pub fn new(client: u32, number: u32, turns: u64) -> HoldGate {
+        HoldGate {
+            client,
+            number,
+            turns,
+            asked: AtomicU64::new(0),
+        }
+    }
+
+    /// How often it was asked for the command that it holds.
+    pub fn asked(&self) -> u64 {
+        self.asked.load(Ordering::SeqCst)
+    }
+}
+
+impl Gate for HoldGate {
+    fn go(&self, client: u32, number: u32) -> bool {
+        client != self.client
+            || number != self.number
+            || self.turns <= self.asked.fetch_add(1, Ordering::SeqCst)
     }
 
     fn done(&self, _client: u32, _number: u32) {}

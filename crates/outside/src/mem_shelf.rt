@@ -1,6 +1,6 @@
 ghost use Rattle.std.specs.Prelude.{◌≡◌, ℕ, ◌+◌, ◌<◌, ◌≤◌, ◌⊎◌, ◌↔◌, None, length, Contains, IsErr};
 ghost use Rattle.std.specs.Prelude.{IfErr, IfOk, IfSome, OnOk, OnErr, is_ok, IsErrOf, IsSome};
-ghost use Rattle.std.specs.Prelude.{IsNone, min};
+ghost use Rattle.std.specs.Prelude.{◌-◌, ◌^◌, IsNone, min};
 ghost use Rattle.std.specs.Io.{ReadsAtMost};
 ghost use Rattle.std.specs.Io.KnownBytes.{ReadConsumes, Consumes};
 ghost use Rattle.outside.specs.Calls.{after_call, IsUnbroken};
@@ -17,10 +17,12 @@ use std::marker::Model;
 
 /// A shelf in memory that fails at chosen calls, for tests and for what is proved of failures.
 ///
-/// Its calls of `open` and `read` are numbered together, from 1.
+/// Its calls of `open` and `read` are numbered together, from 1. A call of `read` gives at most a
+/// chosen number of bytes.
 pub struct MemShelf {
     files: Vec<(String, Vec<u8>)>,
     place: Option<Place>,
+    most: usize,
     failing: Vec<u64>,
     calls: u64,
     opens: u64,
@@ -33,6 +35,7 @@ impl Drop for MemShelf {
         let MemShelf {
             files: _files,
             place: _,
+            most: _,
             failing: _failing,
             calls: _,
             opens: _,
@@ -43,6 +46,7 @@ impl Drop for MemShelf {
 }
 
 impl Model for MemShelf {
+    ghost use Rattle.std.specs.Prelude.{◌≤◌};
     ghost use Rattle.outside.specs.Memory.{ShelfState};
     ghost use Rattle.outside.specs.Named.{files_of, left_of};
 
@@ -50,6 +54,7 @@ impl Model for MemShelf {
 
     ghost view = { λ s. record {
       files = files_of s.files.items;
+      most = s.most;
       failing = s.failing.items;
       calls = s.calls;
       opens = s.opens;
@@ -57,12 +62,28 @@ impl Model for MemShelf {
       course = s.course;
       left = left_of (files_of s.files.items) s.place;
     } };
+
+    ghost invariant = { λ s. 1 ≤ s.most };
 }
 
 impl MemShelf {
     /// A shelf of these names and contents, whose calls with these numbers fail.
     pub fn new(files: Vec<(String, Vec<u8>)>, failing: Vec<u64>) -> MemShelf
         ensures files { result.files ≡ files_of files.items }
+        ensures most { result.most ≡ 2 ^ 64 - 1 }
+        ensures failing { result.failing ≡ failing.items }
+        ensures unused { (result.calls ≡ 0) × (result.opens ≡ 0) × (result.faults ≡ 0) }
+        ensures unbroken { IsUnbroken result.course }
+        ensures closed { result.left ≡ None }
+    {
+        MemShelf::short(files, usize::MAX, failing)
+    }
+
+    /// The same, where a call of `read` gives at most so many bytes.
+    pub fn short(files: Vec<(String, Vec<u8>)>, most: usize, failing: Vec<u64>) -> MemShelf
+        requires some { 1 ≤ most }
+        ensures files { result.files ≡ files_of files.items }
+        ensures most { result.most ≡ most }
         ensures failing { result.failing ≡ failing.items }
         ensures unused { (result.calls ≡ 0) × (result.opens ≡ 0) × (result.faults ≡ 0) }
         ensures unbroken { IsUnbroken result.course }
@@ -71,6 +92,7 @@ impl MemShelf {
         MemShelf {
             files,
             place: None,
+            most,
             failing,
             calls: 0,
             opens: 0,
@@ -150,11 +172,11 @@ impl Shelf for MemShelf {
         ensures cause { IsErrOf result OutFault.Failed → Rose self.old.faults self.new.faults }
 
         // It fails at a chosen call alone, asks for no memory, and gives all that there is room
-        // for.
+        // for, up to the most that it may.
         ensures failed { IsErr result ↔ Contains self.old.failing (next_count self.old.calls) }
         ensures memory { IfErr result (λ fault. fault ≡ OutFault.Failed) }
         ensures count { IfOk result (λ count. IfSome self.old.left (λ left.
-            count ≡ min (length left) (length buffer.old))) }
+            count ≡ min (length left) (min self.old.most (length buffer.old)))) }
         ensures ok { OnOk result (self.new ≡ after_read self.old self.new.left) }
         ensures err { OnErr result (self.new ≡ after_failed_read self.old) }
     {
@@ -167,7 +189,8 @@ impl Shelf for MemShelf {
         let Some(place) = self.place else {
             unreachable!();
         };
-        let (count, behind) = read_at(&self.files, place, buffer);
+        let room = self.most.min(buffer.len());
+        let (count, behind) = read_at(&self.files, place, &mut buffer[..room]);
         self.place = Some(behind);
         self.course = self.course.after(true);
         Ok(count)

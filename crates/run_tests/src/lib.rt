@@ -1,11 +1,13 @@
 //! What no clause says of doc_run: whole runs, from the bytes of a file to the bytes written, the
 //! merged history of two clients, which gate they ask, and the text of each fault.
 //!
-//! Reading order: `outcomes`; `runs`, `options`, `totals`, `clients`.
+//! Reading order: `outcomes`; `runs`, `failing`, `options`, `totals`, `clients`.
 #![tactic(auto)]
 
 #[cfg(test)]
 mod clients;
+#[cfg(test)]
+mod failing;
 #[cfg(test)]
 mod options;
 #[cfg(test)]

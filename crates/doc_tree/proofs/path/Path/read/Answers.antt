@@ -43,8 +43,8 @@ loop-at-preserved c =
 pub returns : goal.returns
 returns c =
     let named : name_of c.loop-at.rest.now ≡ Some c.in-Some-3.name = cc (c.in_ok-name-2.ensures) in
-    let names : c.shrink_to_fit.new.self.items ≡ c.loop-at.names.items ++ c.in-Some-3.name ∷ [] =
-    c.shrink_to_fit.ensures.items ∙ c.in_ok-push-2.ensures.items in
+    let names : c.in_ok-new.field-0.value.items ≡ c.loop-at.names.items ++ c.in-Some-3.name ∷ [] =
+    ap (λ v. v.items) c.in_ok-new.ensures.ok ∙ c.in_ok-push-2.ensures.items in
     rw names (whole_path c.loop-at.names.items c.loop-at.rest.now c.in-Some-3.name _
     (sym c.in_default.ensures) c.loop-at.invariant.whole named c.loop-at.invariant.named
     c.loop-at.invariant.short)
