@@ -246,6 +246,20 @@ module _ {P : Type 0} where
             told;
       }
 
+  -- what stays held, of the first places so many at least
+  pub collected_keeps : (a b d e : Bound P) (g : Grown anything a b) (cells : List ℕ)
+      (known : List Known) (so : Appended b cells known d) (least base first count : ℕ)
+      → least ≤ base → least ≤ length a.seat.me.own.held
+      → e ≡ takes d (event.Keep d.seat.me.number base first count)
+      (finds.Presence d.seat.me.presence) → Keeping a.seat.me.number least b e
+  collected_keeps a b d e g cells known so least base first count few within told =
+      keeping_then a.seat.me.number least b d e
+      (subst (λ (k : ℕ). Keeping k least b d) g.stays.number
+      (keeping_less b.seat.me.number least (length b.seat.me.own.held) b d
+      (omega (arith, within, grown_many anything a b g)) so.adds))
+      (keeping_event a.seat.me.number least d e base first count
+      (so.stays.number ∙ g.stays.number) few told)
+
   pub collected_links : (a b d e : Bound P) (g : Grown anything a b) (cells : List ℕ)
       (known : List Known) (so : Appended b cells known d) (base first count : ℕ)
       → base ≤ length a.seat.me.own.held → Copying (length a.seat.me.own.held) a b
@@ -254,12 +268,7 @@ module _ {P : Type 0} where
       → Adds (KeepsCopies a.seat.me.number base (length a.seat.me.own.held)) a e
   collected_links a b d e g cells known so base first count within copying told =
       copies_kept a.seat.me.number base (length a.seat.me.own.held) a b e copying
-      (keeping_then a.seat.me.number base b d e
-      (subst (λ (k : ℕ). Keeping k base b d) g.stays.number
-      (keeping_less b.seat.me.number base (length b.seat.me.own.held) b d
-      (omega (arith, within, grown_many anything a b g)) so.adds))
-      (keeping_event a.seat.me.number base d e base first count
-      (so.stays.number ∙ g.stays.number) (omega arith) told))
+      (collected_keeps a b d e g cells known so base base first count (omega arith) within told)
 
   -- Where a claim found the heap full.
 

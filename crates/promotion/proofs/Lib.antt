@@ -2,6 +2,7 @@ pub mod Counting
 pub mod Filling
 pub mod Finishing
 pub mod Growing
+pub mod Hinting
 pub mod Holding
 pub mod Knowing
 pub mod Linked

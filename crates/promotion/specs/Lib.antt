@@ -1,4 +1,5 @@
 pub mod Copying
+pub mod Hinting
 pub mod Linking
 pub mod Promoting
 pub mod Ready

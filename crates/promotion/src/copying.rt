@@ -1,10 +1,10 @@
 //! Copying: a raw cell is claimed, its fields are filled, and it is sealed as a record.
 ghost use Rattle.std.specs.Prelude.{◌≡◌, ◌<◌, ◌≤◌, ◌+◌, All, IfErr, IfOk, OnOk, [], false, length, map, true};
-ghost use Rattle.std.specs.Prelude.{ℕ, slice_index_or};
+ghost use Rattle.std.specs.Prelude.{None, ℕ, slice_index_or};
 ghost use Rattle.cell_words.specs.Term.{null};
 ghost use Rattle.core_machine.specs.declared.events.Event.TheVariants as event;
 ghost use Rattle.core_machine.specs.declared.events.Found.TheVariants as finds;
-ghost use Rattle.free_cells.specs.Hints.{counts_of, queue_of};
+ghost use Rattle.free_cells.specs.Hints.{cells_of, counts_of, queue_of};
 ghost use Rattle.heap_rule.specs.Lore.{known_at};
 ghost use Rattle.minor_heap.specs.Nursery.{FitsRecord, IsOrdered, Stands, field_at};
 ghost use Rattle.minor_heap.specs.Spans.{AreWithin, NoneMarked};
@@ -16,6 +16,7 @@ ghost use Rattle.mutator_seat.specs.Claims.{anything};
 ghost use Rattle.mutator_seat.specs.Stretches.{Calm};
 ghost use Rattle.promotion.specs.Copying.{Appended, AreCopied, Copied, Grown, GrownBy, Halted, IsReady};
 ghost use Rattle.promotion.specs.Copying.{copied_term, marked_count, value_of};
+ghost use Rattle.promotion.specs.Hinting.{AreCopies, GiveAll, Hinted, IsCopy, KeepHints, hints_of};
 ghost use Rattle.promotion.specs.Linking.{AreCopying};
 ghost use Rattle.promotion.specs.Promoting.{Adds, ClaimsFor, knows_term};
 ghost use Rattle.promotion.specs.Sharing.{ShareRecords, SharesRecord, known_terms};
@@ -65,6 +66,8 @@ fn copy_record<P: Keeping, R: Wait>(
         Calm (FindsFull m.old.seat.me.number m.old.seat.me.shape.cells
         full.off_duty full.began full.ended) m.old m.new) }
     ensures copies { Adds (AreCopying (length m.old.seat.me.own.held)) m.old m.new }
+    ensures tries { OnOk result
+        (Adds (IsCopy m.old.seat.me.number m.old.seat.me.shape.cells hint) m.old m.new) }
     ensures queue { queue_of hints.new ≡ queue_of hints.old }
     ensures takes { (counts_of hints.old).takes ≤ (counts_of hints.new).takes }
 {
@@ -94,6 +97,8 @@ fn take_hints<R: Wait>(
     requires marks { span.end ≤ length marks.now }
     requires room { span.end ≤ length taken.old }
     ensures taken { length taken.new ≡ length taken.old }
+    ensures given { GiveAll (cells_of (queue_of hints.old)) (counts_of hints.old)
+        (hints_of taken.new marks.now) }
     ensures queue { queue_of hints.new ≡ queue_of hints.old }
     ensures takes { (counts_of hints.new).takes
         ≡ (counts_of hints.old).takes + marked_count marks.now }
@@ -105,6 +110,57 @@ fn take_hints<R: Wait>(
     }
 }
 
+/// Takes a hint again for each of these records that is marked and has none, up to the first that
+/// the queue has none for.
+fn take_again<R: Wait>(
+    rt: &R,
+    hints: &mut Hints<'_>,
+    marks: &[bool],
+    span: RecordSpan,
+    taken: &mut [Option<u32>],
+)
+    requires marks { span.end ≤ length marks.now }
+    requires room { span.end ≤ length taken.old }
+    ensures taken { length taken.new ≡ length taken.old }
+    ensures keeps { KeepHints taken.old taken.new }
+    ensures queue { queue_of hints.new ≡ queue_of hints.old }
+    ensures takes { (counts_of hints.old).takes ≤ (counts_of hints.new).takes }
+{
+    for number in span.first..span.end {
+        if marks[number as usize] && taken[number as usize].is_none() {
+            match hints.take(rt) {
+                Some(cell) => taken[number as usize] = Some(cell),
+                None => return,
+            }
+        }
+    }
+}
+
+/// The hint of the first of these records. Where it has none, the queue was empty when its turn came.
+/// By now a claim may have waited for the collector, and so hints are taken in one go again, for
+/// those that follow too.
+fn hint_for<R: Wait>(
+    rt: &R,
+    hints: &mut Hints<'_>,
+    marks: &[bool],
+    span: RecordSpan,
+    taken: &mut [Option<u32>],
+) -> Option<u32>
+    requires some { span.first < span.end }
+    requires marks { span.end ≤ length marks.now }
+    requires room { span.end ≤ length taken.old }
+    ensures own { result ≡ slice_index_or taken.new span.first None }
+    ensures taken { length taken.new ≡ length taken.old }
+    ensures keeps { KeepHints taken.old taken.new }
+    ensures queue { queue_of hints.new ≡ queue_of hints.old }
+    ensures takes { (counts_of hints.old).takes ≤ (counts_of hints.new).takes }
+{
+    if taken[span.first as usize].is_none() {
+        take_again(rt, hints, marks, span, taken);
+    }
+    taken[span.first as usize]
+}
+
 /// Copies each record that is marked, the oldest first, with the hint that was taken for it. Of a
 /// record that is marked the place is that of its copy.
 pub(crate) fn copy_all<P: Keeping, R: Wait>(
@@ -114,12 +170,12 @@ pub(crate) fn copy_all<P: Keeping, R: Wait>(
     minor: &MinorHeap,
     marks: &[bool],
     span: RecordSpan,
-    taken: &[Option<u32>],
+    taken: &mut [Option<u32>],
     places: &mut [usize],
 ) -> Result<(), HeapFull>
     requires inside { m.old.seat.me.presence.inside ≡ true }
     requires room { length m.old.seat.me.own.held + length minor.now.records ≤ m.old.seat.me.room }
-    requires taken { length minor.now.records ≤ length taken.now }
+    requires taken { length minor.now.records ≤ length taken.old }
     requires ordered { IsOrdered 0 minor.now.records }
     requires within { AreWithin span marks.now }
     requires stands { span.end ≤ length minor.now.records }
@@ -130,19 +186,27 @@ pub(crate) fn copy_all<P: Keeping, R: Wait>(
     requires shares { (k i : ℕ) → i < 5 → slice_index_or marks.now k false ≡ true
         → SharesRecord m.old.seat.me.known (field_at minor.now.records k i) }
     requires places { length minor.now.records ≤ length places.old }
+    ensures taken { length taken.new ≡ length taken.old }
     ensures places { length places.new ≡ length places.old }
     ensures grown { OnOk result (GrownBy (marked_count marks.now) m.old m.new) }
     ensures copied { OnOk result (AreCopied m.new.seat.me.known marks.now span.end places.new
         (terms_of (known_terms m.old.seat.me.known) minor.now.records)) }
     ensures full { IfErr result (λ full. Halted m.old full m.new) }
     ensures copies { Adds (AreCopying (length m.old.seat.me.own.held)) m.old m.new }
+    ensures tries { OnOk result (Adds (AreCopies m.old.seat.me.number m.old.seat.me.shape.cells
+        (hints_of taken.old marks.now)) m.old m.new) }
     ensures queue { queue_of hints.new ≡ queue_of hints.old }
     ensures takes { (counts_of hints.old).takes ≤ (counts_of hints.new).takes }
 {
     for number in span.first..span.end {
         if marks[number as usize] {
             let r = MinorRef { number };
-            match copy_record(rt, hints, m, minor, places, r, taken[number as usize]) {
+            let rest = RecordSpan {
+                first: number,
+                end: span.end,
+            };
+            let hint = hint_for(rt, hints, marks, rest, taken);
+            match copy_record(rt, hints, m, minor, places, r, hint) {
                 Ok(place) => places[number as usize] = place,
                 Err(full) => return Err(full),
             }
@@ -187,6 +251,7 @@ pub(crate) fn copy_reached<P: Keeping, R: Wait>(
         ≡ knows_term m.old minor.now.records r) from.now) }
     ensures full { IfErr result (λ full. Halted m.old full m.new) }
     ensures copies { Adds (AreCopying (length m.old.seat.me.own.held)) m.old m.new }
+    ensures hinted { OnOk result (Hinted m.old minor.now.records from.now hints.old hints.new m.new) }
     ensures queue { queue_of hints.new ≡ queue_of hints.old }
     ensures takes { (counts_of hints.old).takes ≤ (counts_of hints.new).takes }
 {

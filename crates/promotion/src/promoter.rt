@@ -2,6 +2,7 @@
 ghost use Rattle.std.specs.Prelude.{◌≡◌, ◌≤◌, ◌+◌, ◌∷◌, All, IfErr, IfOk, OnErr, OnOk, [], length, true};
 ghost use Rattle.free_cells.specs.Hints.{counts_of, queue_of};
 ghost use Rattle.minor_heap.specs.Nursery.{Stands};
+ghost use Rattle.promotion.specs.Hinting.{Hinted};
 ghost use Rattle.promotion.specs.Linking.{KeepsCopies, LinksNothing};
 ghost use Rattle.promotion.specs.Promoting.{Adds, Collected, Promoted, Refused};
 ghost use Rattle.promotion.specs.Sharing.{ShareRecords};
@@ -82,6 +83,8 @@ impl Promoter {
         ensures place { IfOk result (λ place. place ≡ length m.old.seat.me.own.held) }
         ensures copies { OnOk result (Adds (KeepsCopies m.old.seat.me.number
             (length m.old.seat.me.own.held) (length m.old.seat.me.own.held)) m.old m.new) }
+        ensures hinted { OnOk result
+            (Hinted m.old minor.now.records (r ∷ []) hints.old hints.new m.new) }
         ensures full { IfErr result (λ full. Refused m.old full m.new) }
         ensures unlinked { OnErr result (Adds (LinksNothing m.old.seat.me.number
             (length m.old.seat.me.own.held)) m.old m.new) }
@@ -131,6 +134,8 @@ impl Promoter {
         ensures emptied { OnOk result (minor.new.records ≡ []) }
         ensures copies { OnOk result (Adds (KeepsCopies m.old.seat.me.number base
             (length m.old.seat.me.own.held)) m.old m.new) }
+        ensures hinted { OnOk result
+            (Hinted m.old minor.old.records roots.now hints.old hints.new m.new) }
         ensures full { IfErr result (λ full. Refused m.old full m.new) }
         ensures unlinked { OnErr result (Adds (LinksNothing m.old.seat.me.number
             (length m.old.seat.me.own.held)) m.old m.new) }

@@ -94,16 +94,18 @@ fn cells_of(image: &Image) -> Cells {
     ]
 }
 
-/// What a promotion in a heap of so many cells comes to.
+/// What a promotion in a heap of so many cells comes to, where hints name the cells from one on.
 pub(crate) fn promoted<R: Wait>(
     alloc: Global,
     rt: &R,
     cells: u32,
+    first: u32,
 ) -> Result<(Found, Cells), NoMemory>
     requires some { 1 ≤ cells }
     requires few { cells ≤ 1000 }
+    requires first { first ≤ cells }
 {
-    let (queue, pass) = FreeQueue::open(alloc, rt, cells, 1)?;
+    let (queue, pass) = FreeQueue::open(alloc, rt, cells, first)?;
     let mut promoter = Promoter::with_room(alloc, 2)?;
     let minor = two_records(alloc)?;
     let (heap, collector, seat) = open_one(alloc, cells)?;

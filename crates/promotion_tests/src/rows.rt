@@ -1,5 +1,5 @@
 //! Rows, worked out by hand. Hints come in order, so that record 0 is copied to cell 1 and record 1
-//! to cell 2; and nobody else claims.
+//! to cell 2, where no row says otherwise; and nobody else claims.
 use crate::promoting::{collected, promoted};
 use cell_words::Field::{Cell, Null, Num};
 use cell_words::Row;
@@ -25,7 +25,16 @@ const FREE: Option<Row> = Some([Null, Null, Null, Null, Null, Null]);
 #[test]
 fn a_record_that_is_named_twice_is_copied_once(rt: HostRuntime) -> Result<(), Fail> {
     let wanted = ((Ok(1), 2, 2, 2), [ANCHOR, FIRST, SECOND, FREE]);
-    assert_eq!(rt; promoted(rt.alloc(), &rt, 4)?, wanted);
+    assert_eq!(rt; promoted(rt.alloc(), &rt, 4, 1)?, wanted);
+    Ok(())
+}
+
+// The only hint names the last cell, and the record behind it takes the first that is free.
+#[test]
+fn a_record_without_a_hint_finds_a_cell(rt: HostRuntime) -> Result<(), Fail> {
+    let second = Some([Cell(3), Cell(3), Null, Null, Null, Num(1)]);
+    let wanted = ((Ok(1), 2, 2, 2), [ANCHOR, second, FREE, FIRST]);
+    assert_eq!(rt; promoted(rt.alloc(), &rt, 4, 3)?, wanted);
     Ok(())
 }
 
@@ -46,7 +55,7 @@ fn roots_stand_in_order_and_equal_ones_share_a_cell(rt: HostRuntime) -> Result<(
 #[test]
 fn a_full_heap_refuses_and_all_is_as_before(rt: HostRuntime) -> Result<(), Fail> {
     let wanted = ((Err(FULL), 0, 1, 2), [ANCHOR, None, None, None]);
-    assert_eq!(rt; promoted(rt.alloc(), &rt, 1)?, wanted);
+    assert_eq!(rt; promoted(rt.alloc(), &rt, 1, 1)?, wanted);
     Ok(())
 }
 

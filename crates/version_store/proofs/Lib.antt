@@ -4,6 +4,7 @@ pub mod Going
 pub mod Knowns
 pub mod Lasting
 pub mod Latest
+pub mod Leaving
 pub mod Links
 pub mod Putting
 pub mod Steps

@@ -6,3 +6,4 @@ pub mod Reads
 pub mod Walks
 pub mod Makes
 pub mod Lasts
+pub mod Writes

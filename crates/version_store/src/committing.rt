@@ -1,7 +1,7 @@
 //! The commit: a new box over the version that a mutator has, and one exchange of the anchor's
 //! field.
 ghost use Rattle.std.specs.Prelude.{◌≡◌, ◌<◌, ◌≤◌, ◌+◌, ◌↔◌, IfErr, IfOk, OnOk, length, []};
-ghost use Rattle.std.specs.Prelude.{true, false};
+ghost use Rattle.std.specs.Prelude.{◌⊎◌, OnErr, true, false};
 ghost use Rattle.cell_words.specs.declared.fields.Field.TheVariants as field;
 ghost use Rattle.core_machine.specs.Words.{same_field};
 ghost use Rattle.free_cells.specs.Hints.{queue_of};
@@ -14,6 +14,7 @@ ghost use Rattle.version_store.specs.Commits.{Committed, FindsNewer, Refused, Sh
 ghost use Rattle.version_store.specs.Held.{IsHeld, IsRecord, term_at};
 ghost use Rattle.version_store.specs.Lasts.{IsSameMutator, LastsAcross};
 ghost use Rattle.version_store.specs.Makes.{Behind, IsClaimed, Makes, MayMake};
+ghost use Rattle.version_store.specs.Writes.{Leaves, LosesOnce, WritesNothing, WritesOnce};
 
 use crate::fault::CommitFault;
 use crate::held::HeldVersion;
@@ -47,6 +48,8 @@ pub fn commit<S: Spelling, R: Wait>(
     ensures refused { IfErr result (λ fault. Refused m.old m.new v fault) }
     ensures worn { (result ≡ Err CommitFault.Worn) ↔ (v.number ≡ versions) }
     ensures shows { IfErr result (λ fault. ShowsRefusal m.old m.new fault) }
+    ensures writes { OnOk result (WritesOnce m.old m.new) }
+    ensures leaves { IfErr result (λ fault. Leaves m.old m.new fault) }
     ensures held { Holds [] m.old m.new }
     ensures lasts { LastsAcross m.old m.new }
     ensures same { IsSameMutator m.old m.new }
@@ -88,6 +91,8 @@ fn put_version<S: Spelling>(
     ensures made { OnOk result (Committed S.is_tree S.tree_of m.old m.new v tree) }
     ensures newer { IfErr result (λ newer. FindsNewer m.old m.new v newer) }
     ensures behind { Behind fresh m.old m.new }
+    ensures writes { OnOk result (WritesOnce m.old m.new) }
+    ensures leaves { OnErr result (WritesNothing m.old m.new ⊎ LosesOnce m.old m.new) }
 {
     let newest = latest(m);
     if newest.number != v.number {
@@ -111,6 +116,7 @@ fn make_version<S: Spelling>(
     requires may { MayMake m.old fresh latest tree }
     requires small { number ≤ 6400001 }
     ensures makes { Makes m.old m.new fresh number latest tree }
+    ensures writes { WritesNothing m.old m.new }
 {
     m.fill::<Brand>(fresh, 0, Value::Num(number));
     m.fill::<Brand>(fresh, 1, Value::Held(tree));

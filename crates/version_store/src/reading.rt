@@ -9,6 +9,7 @@ ghost use Rattle.version_store.specs.Calls.{IsCoherent, IsIn, version_asks};
 ghost use Rattle.version_store.specs.Held.{GivesLatest, GivesRoot, IsHeld};
 ghost use Rattle.version_store.specs.Lasts.{IsSameMutator, LastsAcross, marks};
 ghost use Rattle.version_store.specs.Reads.{FindsLatest, FindsNumber};
+ghost use Rattle.version_store.specs.Writes.{WritesNothing};
 
 use crate::held::HeldVersion;
 use mutator_seat::{Mutator, Value};
@@ -24,6 +25,7 @@ pub fn current<S: Spelling>(m: &mut Mutator<'_, Versions<S>>) -> HeldVersion
     ensures seen { m.new.seat.me.pass.seen ≡ result.number }
     ensures shows { Shows (version_asks (target m.new.seat.me result.place) result.number)
         (marks m.old) (marks m.new) }
+    ensures writes { WritesNothing m.old m.new }
     ensures lasts { LastsAcross m.old m.new }
     ensures same { IsSameMutator m.old m.new }
 {
@@ -41,6 +43,7 @@ pub(crate) fn latest<S: Spelling>(m: &mut Mutator<'_, Versions<S>>) -> HeldVersi
     ensures seen { m.new.seat.me.pass.seen ≡ result.number }
     ensures coherent { IsCoherent m.old.seat.me }
     ensures many { length m.new.seat.me.known ≡ length m.new.seat.me.own.held }
+    ensures writes { WritesNothing m.old m.new }
 {
     let place = read_anchor(m);
     let number = read_number(m, place);
@@ -52,6 +55,7 @@ fn read_anchor<S: Spelling>(m: &mut Mutator<'_, Versions<S>>) -> usize
     requires inside { IsIn m.old }
     requires room { length m.old.seat.me.own.held < m.old.seat.me.room }
     ensures latest { FindsLatest m.old m.new result }
+    ensures writes { WritesNothing m.old m.new }
 {
     match m.read::<Brand>(0, 0) {
         Value::Held(place) => place,
@@ -66,6 +70,7 @@ pub(crate) fn read_number<S: Spelling>(m: &mut Mutator<'_, Versions<S>>, place: 
     requires version { (number : ℕ) × ((root : Term)
         × KnowsVersion m.old.seat.me place number root) }
     ensures number { FindsNumber m.old m.new place result }
+    ensures writes { WritesNothing m.old m.new }
 {
     match m.read::<Brand>(place, 0) {
         Value::Num(number) => number,
@@ -81,6 +86,7 @@ pub fn tree<S: Spelling>(m: &mut Mutator<'_, Versions<S>>, v: HeldVersion) -> us
     ensures root { GivesRoot S.is_tree S.tree_of m.old m.new v result }
     ensures shows { Shows (gave_at (target m.old.seat.me v.place) 1
         (field.Cell (target m.new.seat.me result)) ∷ []) (marks m.old) (marks m.new) }
+    ensures writes { WritesNothing m.old m.new }
     ensures lasts { LastsAcross m.old m.new }
     ensures same { IsSameMutator m.old m.new }
 {

@@ -10,6 +10,7 @@ ghost use Rattle.version_store.specs.Lasts.{IsSameMutator, LastsAcross};
 ghost use Rattle.version_store.specs.Older.{GivesOlder, Trims};
 ghost use Rattle.version_store.specs.Walks.{CutsOff, EndsThere, FollowsLink, LinkIsNull, LinkTaken};
 ghost use Rattle.version_store.specs.Walks.{PicksLink, Stopped, Walked};
+ghost use Rattle.version_store.specs.Writes.{WritesNothing};
 
 use crate::fault::Cut;
 use crate::held::HeldVersion;
@@ -35,6 +36,7 @@ pub fn older<S: Spelling>(
     ensures shows { IfErr result (λ cut. ShowsNewer m.old m.new cut.newer) }
     ensures held { OnErr result (Holds [] m.old m.new) }
     ensures claims { m.new.seat.me.own.claims ≡ m.old.seat.me.own.claims }
+    ensures writes { WritesNothing m.old m.new }
     ensures lasts { LastsAcross m.old m.new }
     ensures same { IsSameMutator m.old m.new }
 {
@@ -107,6 +109,7 @@ fn walk_back<S: Spelling, C: Choice<Versions<S>>>(
     requires picks { PicksLink (HoldsVersions S.is_tree S.tree_of) C.next }
     ensures walked { IfSome result (λ at. Walked m.old m.new v at back) }
     ensures stopped { IfNone result (Stopped C.next m.old m.new v back) }
+    ensures writes { WritesNothing m.old m.new }
 {
     let _ = read_number(m, v.place);
     let mut at = v;
@@ -131,6 +134,7 @@ fn follow<S: Spelling, C: Choice<Versions<S>>>(
     requires picks { PicksLink (HoldsVersions S.is_tree S.tree_of) C.next }
     ensures follows { IfSome result (λ before. FollowsLink m.old m.new v before) }
     ensures ends { IfNone result (EndsThere C.next m.old m.new v) }
+    ensures writes { WritesNothing m.old m.new }
 {
     match m.read::<C>(v.place, 2) {
         Value::Held(place) => Some(HeldVersion {

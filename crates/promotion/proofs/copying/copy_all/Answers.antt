@@ -1,15 +1,18 @@
 use Rattle.std.proofs.Common.{◌<◌, ◌+◌, ℕ, List, length, refl, sym, ◌∙◌, ap, subst}
 use Rattle.std.proofs.Common.{◌≤◌, arith, take}
-use Rattle.std.specs.Prelude.{slice_set}
+use Rattle.std.specs.Prelude.{Option, slice_set}
 use Rattle.std.proofs.lemmas.List.{length-set}
 use Rattle.free_cells.specs.Hints.{counts_of, queue_of}
 use Rattle.minor_heap.specs.Terms.{terms_of}
 use Rattle.mutator_seat.specs.Bound.{Bound}
 use Rattle.mutator_seat.specs.Claims.{anything}
 use Rattle.promotion.specs.Copying.{AreCopied, GrownBy, marked_count}
+use Rattle.promotion.specs.Hinting.{KeepHints}
 use Rattle.promotion.specs.Sharing.{known_terms}
 use Rattle.promotion.proofs.Growing.{all_grown, copied_on, fields_ready, halted, none_copied}
 use Rattle.promotion.proofs.Growing.{room_left, step_copied, step_passed, still_records}
+use Rattle.promotion.proofs.Hinting.{CopiesBelow, all_below, copied_below, keep_all, keep_then}
+use Rattle.promotion.proofs.Hinting.{none_below, passed_below}
 use Rattle.promotion.proofs.Linked.{Copying, copying_none}
 use Rattle.promotion.proofs.copying.copy_all.Goals as goal
 use Rattle.promotion.proofs.copying.copy_all.Goals.{then-marks-number+in-Ok, else-marks-number}
@@ -23,6 +26,10 @@ loop-number-init g c = (
   refl,
   omega arith,
   copying_none (length c.args.m.now.seat.me.own.held) c.args.m.now,
+  refl,
+  keep_all c.args.taken.now,
+  none_below c.args.taken.now c.args.marks.now c.args.span.first c.args.m.now
+      (λ k is. (c.requires.within (record { number = k }) is).0),
 )
 
 pub copy_record-requires : goal.copy_record-requires
@@ -75,12 +82,30 @@ loop-number-preserved g c =
                 (sym w.places-is)
                 (subst (λ (m : Bound _). AreCopied m.seat.me.known marks (n + 1)
                 (slice_set was n place) terms) (sym w.m-is) step.1),
-            ap queue_of w.hints-is ∙ w.copy_record.ensures.queue ∙ so.3,
+            ap queue_of w.hints-is ∙ w.copy_record.ensures.queue
+                ∙ w.hint_for-hint.ensures.queue ∙ so.3,
             subst (λ h. (counts_of c.args.hints.now).takes ≤ (counts_of h).takes)
-                (sym w.hints-is) (omega (arith, w.copy_record.ensures.takes, so.4)),
+                (sym w.hints-is)
+                (omega (
+                  arith,
+                  w.hint_for-hint.ensures.takes,
+                  w.copy_record.ensures.takes,
+                  so.4,
+                )),
             subst (λ (m : Bound _). Copying (length a.seat.me.own.held) a m) (sym w.m-is)
                 (copied_on a c.loop-number.m b (marked_count (take n marks)) so.0 so.5
                 w.copy_record.ensures.copies),
+            ap (λ (l : List (Option ℕ)). length l) w.taken-is ∙ w.hint_for-hint.ensures.taken
+                ∙ so.6,
+            subst (λ (l : List (Option ℕ)). KeepHints c.args.taken.now l) (sym w.taken-is)
+                (keep_then c.args.taken.now c.loop-number.taken w.hint_for-hint.new.taken so.7
+                w.hint_for-hint.ensures.keeps),
+            subst (λ (m : Bound _). CopiesBelow c.args.taken.now marks (n + 1) a m) (sym w.m-is)
+                (copied_below c.args.taken.now w.hint_for-hint.new.taken marks n
+                w.hint_for-hint.result a c.loop-number.m b
+                (keep_then c.args.taken.now c.loop-number.taken w.hint_for-hint.new.taken so.7
+                w.hint_for-hint.ensures.keeps) w.hint_for-hint.ensures.own is
+                so.0.grown.stays.number so.0.grown.stays.shape so.8 w.in-Ok.ensures.tries),
           )
       | else-marks-number w ↦
           let step = step_passed a c.loop-number.m marks was terms n w.if-marks-number.false
@@ -97,6 +122,11 @@ loop-number-preserved g c =
             subst (λ h. (counts_of c.args.hints.now).takes ≤ (counts_of h).takes)
                 (sym w.hints-is) so.4,
             subst (λ (m : Bound _). Copying (length a.seat.me.own.held) a m) (sym w.m-is) so.5,
+            ap (λ (l : List (Option ℕ)). length l) w.taken-is ∙ so.6,
+            subst (λ (l : List (Option ℕ)). KeepHints c.args.taken.now l) (sym w.taken-is) so.7,
+            subst (λ (m : Bound _). CopiesBelow c.args.taken.now marks (n + 1) a m) (sym w.m-is)
+                (passed_below c.args.taken.now marks n a c.loop-number.m w.if-marks-number.false
+                so.8),
           )
     ]
 
@@ -119,3 +149,10 @@ returns-clause-grown g c =
 pub returns-clause-copied : goal.returns-clause-copied
 returns-clause-copied g c k lt is =
     c.loop-number.invariant.2 k (omega (arith, lt, c.loop-number-test.false)) is
+
+pub returns-clause-tries : goal.returns-clause-tries
+returns-clause-tries g c =
+    let past = c.loop-number-test.false in
+    all_below c.args.taken.now c.args.marks.now c.loop-number.number c.args.m.now c.loop-number.m
+    (λ k is. let below = (c.requires.within (record { number = k }) is).1 in
+    omega (arith, below, past)) c.loop-number.invariant.8

@@ -1,5 +1,6 @@
 use Rattle.std.proofs.Common.{length}
 use Rattle.promotion.proofs.Growing.{few_held, ok_both, ok_two}
+use Rattle.promotion.proofs.Hinting.{hinted_by}
 use Rattle.promotion.proofs.Reaching.{claims_for, fit_held, marks_closed, marks_share}
 use Rattle.promotion.proofs.Reaching.{none_held, roots_copied}
 use Rattle.promotion.proofs.copying.copy_reached.Goals as goal
@@ -47,3 +48,11 @@ returns-clause-few g c =
     few_held c.mark_span-span.new.marks c.mark_span-span.result c.args.m.now
     c.copy_all-copied.new.m (length c.args.minor.now.records) c.mark_span-span.ensures.within
     c.mark_span-span.ensures.stands so)
+
+pub returns-clause-hinted : goal.returns-clause-hinted
+returns-clause-hinted g c =
+    ok_both c.copy_all-copied.result c.copy_all-copied.ensures.tries (λ tries.
+    hinted_by c.args.minor.now.records c.args.from.now c.mark_span-span.new.marks
+    c.take_hints.new.taken c.args.hints.now c.take_hints.new.hints c.copy_all-copied.new.hints
+    c.args.m.now c.copy_all-copied.new.m c.mark_span-span.ensures.reached
+    c.take_hints.ensures.given c.take_hints.ensures.takes c.copy_all-copied.ensures.takes tries)

@@ -11,6 +11,7 @@ use Rattle.mutator_seat.specs.Bound.{held_cells, takes}
 use Rattle.promotion.specs.Copying.{AreFilled, IsReady, value_of}
 use Rattle.promotion.proofs.Filling.{filled_more, fill_rule, filled_none, may_fill, may_seal}
 use Rattle.promotion.proofs.Filling.{opened, ready_now, sealed_as}
+use Rattle.promotion.proofs.Hinting.{copy_begun_by, copy_made}
 use Rattle.promotion.proofs.Linked.{copy_begun, copying_calm, copying_event, copying_then}
 use Rattle.promotion.proofs.copying.copy_record.Goals as goal
 
@@ -24,6 +25,8 @@ loop-i-init g c = (
         (record_field c.args.minor.now.records c.args.r.number i)),
     copy_begun (length c.args.m.now.seat.me.own.held) c.args.m.now c.claim_hinted.new.self
         c.in-Ok.place c.in-Ok.ensures.got,
+    copy_begun_by c.args.m.now c.claim_hinted.new.self c.in-Ok.place c.args.hint
+        c.in-Ok.ensures.got c.claim_hinted.ensures.tries,
   ),
 )
 
@@ -69,6 +72,11 @@ loop-i-preserved g c =
             (event.Fill m.seat.me.number c.in-Ok.place c.loop-i.i
             (field_at m.seat.me.own.held c.value_of-value.result)) finds.Stored further
             c.fill.ensures.told),
+        copy_made c.args.m.now.seat.me.number c.args.m.now.seat.me.shape.cells c.args.hint
+            c.args.m.now m c.fill.new.self
+            (event.Fill m.seat.me.number c.in-Ok.place c.loop-i.i
+            (field_at m.seat.me.own.held c.value_of-value.result)) finds.Stored refl
+            c.fill.ensures.told so.1.3,
       ),
     )
 
@@ -107,6 +115,13 @@ returns-after-loop-i-clause-copies g c =
     (copying_event held m c.seal_record.new.self
     (event.Seal m.seat.me.number c.in-Ok.place kind.Record) finds.Stored (further, refl)
     c.seal_record.ensures.told)
+
+pub returns-after-loop-i-clause-tries : goal.returns-after-loop-i-clause-tries
+returns-after-loop-i-clause-tries g c =
+    let m = c.loop-i.m in
+    copy_made c.args.m.now.seat.me.number c.args.m.now.seat.me.shape.cells c.args.hint c.args.m.now
+    m c.seal_record.new.self (event.Seal m.seat.me.number c.in-Ok.place kind.Record) finds.Stored
+    refl c.seal_record.ensures.told c.loop-i.invariant.1.3
 
 pub returns-in-Err-clause-copies : goal.returns-in-Err-clause-copies
 returns-in-Err-clause-copies g c =

@@ -1,6 +1,8 @@
 use Rattle.std.proofs.Common.{◌≡◌, ◌+◌, length, take}
-use Rattle.free_cells.specs.Hints.{counts_of, queue_of}
+use Rattle.free_cells.specs.Hints.{cells_of, counts_of, queue_of}
 use Rattle.promotion.specs.Copying.{marked_count}
+use Rattle.promotion.specs.Hinting.{GiveAll}
+use Rattle.promotion.proofs.Hinting.{after_takes, hints_below}
 use Rattle.promotion.proofs.copying.take_hints.Given as goal
 
 abbrev pub invariant-loop-number : goal.invariant-loop-number
@@ -9,3 +11,7 @@ invariant-loop-number g l =
     × (queue_of l.hints ≡ queue_of l.fn.hints)
     × ((counts_of l.hints).takes
     ≡ (counts_of l.fn.hints).takes + marked_count (take l.number l.marks))
+    × GiveAll (cells_of (queue_of l.fn.hints)) (counts_of l.fn.hints)
+    (hints_below l.taken l.marks l.number)
+    × (counts_of l.hints
+    ≡ after_takes (counts_of l.fn.hints) (hints_below l.taken l.marks l.number))

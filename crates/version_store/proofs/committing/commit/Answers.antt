@@ -4,7 +4,8 @@ use Rattle.version_rule.specs.Pass.{Pass}
 use Rattle.version_store.proofs.Going.{comes_in, kept_holds}
 use Rattle.version_store.proofs.Lasting.{full_lasts, full_shows, goes_same, lasts_still, made_lasts}
 use Rattle.version_store.proofs.Lasting.{newer_lasts, newer_shows, same_still}
-use Rattle.version_store.proofs.Widening.{claimed_held, claimed_in, claimed_is, claimed_pass}
+use Rattle.version_store.proofs.Leaving.{claimed_writes, left_around, once_around, writes_told}
+use Rattle.version_store.proofs.Widening.{claimed_goes, claimed_held, claimed_in, claimed_is, claimed_pass}
 use Rattle.version_store.proofs.Widening.{claimed_record, claimed_room, claimed_term, claims_all}
 use Rattle.version_store.proofs.Widening.{committed_all, holds_all, kept_some, newer_all}
 use Rattle.version_store.proofs.committing.commit.Goals as goal
@@ -137,3 +138,23 @@ returns-in-Err-clause-shows g c =
 pub returns-in-Err-clause-lasts : goal.returns-in-Err-clause-lasts
 returns-in-Err-clause-lasts g c =
     full_lasts c.args.m.now c.claim.new.self c.in-Err.full c.in-Err.ensures.full
+
+pub returns-in-Ok-put-clause-writes : goal.returns-in-Ok-put-clause-writes
+returns-in-Ok-put-clause-writes g c =
+    let a = c.args.m.now in
+    let b = c.claim.new.self in
+    let got = c.in-Ok.ensures.got in
+    let d = c.put_version-put.new.m in
+    let goes = claimed_goes a b c.in-Ok.fresh got in
+    once_around a b d c.cut.new.self goes.number (claimed_writes a b c.in-Ok.fresh got)
+    (writes_told d c.cut.new.self _ _ c.cut.ensures.told) c.in-Ok-put.ensures.writes
+
+pub returns-in-Err-put-clause-leaves : goal.returns-in-Err-put-clause-leaves
+returns-in-Err-put-clause-leaves g c =
+    let a = c.args.m.now in
+    let b = c.claim.new.self in
+    let got = c.in-Ok.ensures.got in
+    let d = c.put_version-put.new.m in
+    let goes = claimed_goes a b c.in-Ok.fresh got in
+    left_around a b d c.cut.new.self goes.number (claimed_writes a b c.in-Ok.fresh got)
+    (writes_told d c.cut.new.self _ _ c.cut.ensures.told) c.in-Err-put.ensures.leaves

@@ -10,6 +10,7 @@ use Rattle.heap_rule.proofs.Filling.{fill_picks}
 use Rattle.version_store.proofs.Filling.{filled_link, filled_number, filled_tree, filling_starts}
 use Rattle.version_store.proofs.Filling.{makes, may_fill, may_seal, names_place, sealed_place}
 use Rattle.version_store.proofs.Filling.{settled_place, spared_settled}
+use Rattle.version_store.proofs.Leaving.{filled_writes, nothing_then, writes_told}
 use Rattle.version_store.proofs.committing.make_version.Goals as goal
 
 pub fill-requires-clause-may : goal.fill-requires-clause-may
@@ -133,4 +134,8 @@ returns g c =
           (filled_number m m a c.args.fresh c.args.latest c.args.tree c.args.number may
           c.fill.ensures.told) c.fill-2.ensures.told) c.fill-3.ensures.told) may.there
           c.seal_box.ensures.told;
+      writes = nothing_then [] m a c.seal_box.new.self (filled_writes m a _ _ _ c.fill.ensures.told)
+          (nothing_then [] a b c.seal_box.new.self (filled_writes a b _ _ _ c.fill-2.ensures.told)
+          (nothing_then [] b d c.seal_box.new.self (filled_writes b d _ _ _ c.fill-3.ensures.told)
+          (writes_told d c.seal_box.new.self _ _ c.seal_box.ensures.told)));
     }

@@ -1,8 +1,11 @@
-use Rattle.std.proofs.Common.{◌<◌, length, ◌∙◌, sym, subst}
+use Rattle.std.proofs.Common.{◌<◌, [], inl, inr, length, refl, ◌∙◌, sym, subst}
 use Rattle.version_rule.specs.Pass.{Pass}
 use Rattle.version_store.proofs.Putting.{behind_first, behind_last, behind_write, committed_is}
 use Rattle.version_store.proofs.Putting.{in_write, may_make, may_pick, may_publish, newer_first}
 use Rattle.version_store.proofs.Putting.{newer_last, room_write}
+use Rattle.version_store.proofs.Going.{goes_then}
+use Rattle.version_store.proofs.Leaving.{lost_around, loses_once, nothing_then, once_around}
+use Rattle.version_store.proofs.Leaving.{writes_none, writes_once}
 use Rattle.version_store.proofs.committing.put_version.Goals as goal
 
 pub returns-then-newest-v-clause-newer : goal.returns-then-newest-v-clause-newer
@@ -99,3 +102,29 @@ returns-in-Err-clause-behind g c =
     c.latest-newest.ensures.coherent c.requires.root.known c.make_version.ensures.makes
     c.publish.new.m c.if-newest-v.false _ c.in-Err.ensures.moved.1 c.in-Err.ensures.moved.0
     c.latest.new.m c.latest.result c.latest.ensures.latest
+
+pub returns-then-newest-v-clause-leaves : goal.returns-then-newest-v-clause-leaves
+returns-then-newest-v-clause-leaves g c = inl c.latest-newest.ensures.writes
+
+pub returns-in-Ok-clause-writes : goal.returns-in-Ok-clause-writes
+returns-in-Ok-clause-writes g c =
+    let a = c.args.m.now in
+    let b = c.latest-newest.new.m in
+    let d = c.make_version.new.m in
+    let e = c.publish.new.m in
+    let goes = goes_then c.latest-newest.ensures.latest.goes c.make_version.ensures.makes.goes in
+    once_around a d e e goes.number
+    (nothing_then [] a b d c.latest-newest.ensures.writes c.make_version.ensures.writes)
+    (writes_none e) (writes_once _ _ d e _ _ _ refl c.in-Ok.ensures.made)
+
+pub returns-in-Err-clause-leaves : goal.returns-in-Err-clause-leaves
+returns-in-Err-clause-leaves g c =
+    let a = c.args.m.now in
+    let b = c.latest-newest.new.m in
+    let d = c.make_version.new.m in
+    let e = c.publish.new.m in
+    let goes = goes_then c.latest-newest.ensures.latest.goes c.make_version.ensures.makes.goes in
+    inr (lost_around a d e c.latest.new.m goes.number
+    (nothing_then [] a b d c.latest-newest.ensures.writes c.make_version.ensures.writes)
+    c.latest.ensures.writes
+    (loses_once _ _ d e _ _ _ c.in-Err.ensures.moved.0 c.in-Err.ensures.moved.1))

@@ -1,6 +1,7 @@
 use Rattle.std.proofs.Common.{[], ◌∷◌, arith}
 use Rattle.version_store.proofs.Going.{in_still, many_held}
 use Rattle.version_store.proofs.Latest.{gives_latest, seen_is}
+use Rattle.version_store.proofs.Leaving.{nothing_then}
 use Rattle.version_store.proofs.reading.latest.Goals as goal
 
 pub read_number-number-requires : goal.read_number-number-requires
@@ -36,3 +37,8 @@ returns-clause-seen g c =
     (gives_latest c.args.m.now c.read_anchor-place.new.m c.read_number-number.new.m
     c.read_anchor-place.result c.read_number-number.result c.requires.inside
     c.read_anchor-place.ensures.latest c.read_number-number.ensures.number)
+
+pub returns-clause-writes : goal.returns-clause-writes
+returns-clause-writes g c =
+    nothing_then [] c.args.m.now c.read_anchor-place.new.m c.read_number-number.new.m
+    c.read_anchor-place.ensures.writes c.read_number-number.ensures.writes

@@ -1,5 +1,6 @@
 use Rattle.std.proofs.Common.{sym, ◌∙◌}
 use Rattle.version_rule.proofs.Reading.{latest_picks}
+use Rattle.version_store.proofs.Leaving.{read_writes}
 use Rattle.version_store.proofs.Latest.{anchor_cell, finds_latest, held_alone}
 use Rattle.version_store.proofs.reading.read_anchor.Goals as goal
 
@@ -24,4 +25,5 @@ returns g c =
       latest = finds_latest s.is_tree s.tree_of s.is_record c.args.m.now c.read.new.self
           c.read.ensures.heap c.read.ensures.table c.requires.inside told.0 told.2 c.in-Held.place
           (sym c.in-Held.is ∙ told.1);
+      writes = read_writes _ _ c.args.m.now c.read.new.self 0 0 _ told.2;
     }

@@ -1,6 +1,7 @@
 use Rattle.std.proofs.Common.{sym, ◌∙◌}
 use Rattle.version_rule.proofs.Reading.{tree_picks}
 use Rattle.version_store.proofs.Lasting.{goes_same, root_lasts, root_shows}
+use Rattle.version_store.proofs.Leaving.{read_writes}
 use Rattle.version_store.proofs.Latest.{gives_root, held_alone, root_cell}
 use Rattle.version_store.proofs.reading.tree.Goals as goal
 
@@ -32,6 +33,7 @@ returns g c =
       root = gives;
       shows = root_shows s.is_tree s.tree_of a b c.args.v c.in-Held.place c.held_len.ensures.left
           gives;
+      writes = read_writes _ _ a b c.args.v.place 1 _ told.2;
       lasts = root_lasts s.is_tree s.tree_of a b c.args.v c.in-Held.place gives;
       same = goes_same a b gives.goes;
     }

@@ -1,4 +1,5 @@
 use Rattle.std.proofs.Common.{sym, ◌∙◌}
+use Rattle.version_store.proofs.Leaving.{read_writes}
 use Rattle.version_store.proofs.Links.{ends, follows, link_is_no_number}
 use Rattle.version_store.proofs.walking.follow.Goals as goal
 
@@ -31,3 +32,11 @@ unreachable-requires g c =
     link_is_no_number s.is_tree s.tree_of s.is_record g.C.Choice.next c.args.m.now c.read.new.self
     c.read.ensures.heap c.read.ensures.table c.args.v c.requires.version told.0 told.2 _
     (sym c.in-Num.is ∙ told.1)
+
+pub returns-in-Held-clause-writes : goal.returns-in-Held-clause-writes
+returns-in-Held-clause-writes g c =
+    read_writes _ _ c.args.m.now c.read.new.self c.args.v.place 2 _ c.read.ensures.told.2
+
+pub returns-in-Null-clause-writes : goal.returns-in-Null-clause-writes
+returns-in-Null-clause-writes g c =
+    read_writes _ _ c.args.m.now c.read.new.self c.args.v.place 2 _ c.read.ensures.told.2

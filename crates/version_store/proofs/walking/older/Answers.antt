@@ -1,7 +1,8 @@
-use Rattle.std.proofs.Common.{arith}
+use Rattle.std.proofs.Common.{[], arith}
 use Rattle.version_store.proofs.Backward.{cut_back, cut_back_claims, cut_newer, gives_older}
 use Rattle.version_store.proofs.Backward.{may_keep, stopped_in, stopped_room}
 use Rattle.version_store.proofs.Going.{comes_in}
+use Rattle.version_store.proofs.Leaving.{nothing_then, writes_told}
 use Rattle.version_store.proofs.Lasting.{goes_same, newer_lasts, newer_shows, older_lasts}
 use Rattle.version_store.proofs.Trimming.{picks_seen}
 use Rattle.version_store.proofs.walking.older.Goals as goal
@@ -92,3 +93,15 @@ returns-in-None-clause-same g c =
     c.args.v c.latest-newest.result c.args.back c.held_len-held.result _ c.requires.kept
     c.in-None.ensures.stopped c.latest-newest.ensures.latest c.cut.ensures.told in
     goes_same c.args.m.now c.cut.new.self finds.goes
+
+pub returns-in-Some-clause-writes : goal.returns-in-Some-clause-writes
+returns-in-Some-clause-writes g c =
+    nothing_then [] c.args.m.now c.walk_back.new.m c.keep.new.self c.walk_back.ensures.writes
+    (writes_told c.walk_back.new.m c.keep.new.self _ _ c.keep.ensures.told)
+
+pub returns-in-None-clause-writes : goal.returns-in-None-clause-writes
+returns-in-None-clause-writes g c =
+    nothing_then [] c.args.m.now c.walk_back.new.m c.cut.new.self c.walk_back.ensures.writes
+    (nothing_then [] c.walk_back.new.m c.latest-newest.new.m c.cut.new.self
+    c.latest-newest.ensures.writes
+    (writes_told c.latest-newest.new.m c.cut.new.self _ _ c.cut.ensures.told))

@@ -6,11 +6,13 @@ use Rattle.minor_heap.specs.declared.fields.MinorRef.{MinorRef}
 use Rattle.mutator_seat.specs.declared.full.HeapFull.{HeapFull}
 use Rattle.heap_rule.specs.Lore.{known_at}
 use Rattle.mutator_seat.specs.Bound.{Bound, held_cells}
+use Rattle.promotion.specs.Hinting.{Hinted}
 use Rattle.promotion.specs.Linking.{KeepsCopies, LinksNothing}
 use Rattle.promotion.specs.Promoting.{Adds, Collected, Refused}
 use Rattle.promotion.specs.declared.promoter.Promoter.TheInside.{Inside}
-use Rattle.promotion.proofs.Finishing.{collected_as, collected_links, may_collect, refused_as}
-use Rattle.promotion.proofs.Finishing.{refused_links}
+use Rattle.promotion.proofs.Finishing.{collected_as, collected_keeps, collected_links, may_collect}
+use Rattle.promotion.proofs.Finishing.{refused_as, refused_links}
+use Rattle.promotion.proofs.Hinting.{hinted_kept}
 use Rattle.promotion.proofs.promoter.Promoter.collect.Goals as goal
 use Rattle.promotion.proofs.promoter.Promoter.collect.Goals.{in-Ok, in-Err}
 
@@ -92,6 +94,31 @@ returns-clause-copies g c =
       | in-Err w ↦
           subst (λ (x : Result ℕ HeapFull). OnOk x (Adds F a c.match-copy_reached.m))
           (sym w.result-is) tt
+    ]
+
+pub returns-clause-hinted : goal.returns-clause-hinted
+returns-clause-hinted g c =
+    let a = c.args.m.now in
+    let b = c.copy_reached.new.m in
+    let records = c.args.minor.now.records in
+    let roots = c.args.roots.now in
+    let places = c.copy_reached.new.places in
+    let before = c.args.hints.now in
+    let after = c.copy_reached.new.hints in
+    elim c.match-copy_reached.branch [
+      | in-Ok w ↦
+          subst (λ (x : Result ℕ HeapFull).
+          OnOk x (Hinted a records roots before after c.match-copy_reached.m)) (sym w.result-is)
+          (subst (λ (m : Bound _). Hinted a records roots before after m) (sym w.m-is)
+          (hinted_kept records roots before after a b w.keep.new.self w.in-Ok.ensures.hinted
+          (collected_keeps a b w.hold_roots.new.m w.keep.new.self w.in-Ok.ensures.grown
+          (map (λ r. slice_index_or (held_cells b) (slice_index_or places r.number 0) 0) roots)
+          (map (λ r. known_at b.seat.me.known (slice_index_or places r.number 0)) roots)
+          w.hold_roots.ensures.appended 0 c.args.base w.held_len-first.result (length roots)
+          (omega arith) (omega arith) w.keep.ensures.told)))
+      | in-Err w ↦
+          subst (λ (x : Result ℕ HeapFull).
+          OnOk x (Hinted a records roots before after c.match-copy_reached.m)) (sym w.result-is) tt
     ]
 
 pub keep-requires : goal.keep-requires

@@ -1,14 +1,18 @@
-use Rattle.std.proofs.Common.{◌≡◌, ◌∙◌, ℕ, Result, OnOk, IfErr, OnErr, length}
+use Rattle.std.proofs.Common.{◌≡◌, ◌∙◌, ◌∷◌, ℕ, Result, OnOk, IfErr, OnErr, List, [], length}
 use Rattle.std.proofs.Common.{sym, ap, subst, arith}
 use Rattle.std.specs.Prelude.{IfOk, slice_index_or}
 use Rattle.heap_rule.specs.Facts.{is_term}
+use Rattle.minor_heap.specs.declared.fields.MinorRef.{MinorRef}
 use Rattle.mutator_seat.specs.declared.full.HeapFull.{HeapFull}
 use Rattle.mutator_seat.specs.Bound.{Bound}
+use Rattle.promotion.specs.Hinting.{Hinted}
 use Rattle.promotion.specs.Linking.{KeepsCopies, LinksNothing}
 use Rattle.promotion.specs.Promoting.{Adds, Promoted, Refused}
 use Rattle.promotion.specs.declared.promoter.Promoter.TheInside.{Inside}
 use Rattle.promotion.proofs.Finishing.{may_promote, promoted_as, promoted_links, refused_as}
 use Rattle.promotion.proofs.Finishing.{refused_links}
+use Rattle.promotion.proofs.Hinting.{hinted_kept}
+use Rattle.promotion.proofs.Linked.{keeping_event}
 use Rattle.promotion.proofs.promoter.Promoter.promote.Goals as goal
 use Rattle.promotion.proofs.promoter.Promoter.promote.Goals.{in-Ok, in-Err}
 
@@ -101,6 +105,28 @@ returns-clause-copies g c =
       | in-Err w ↦
           subst (λ (x : Result ℕ HeapFull). OnOk x (Adds F a c.match-copy_reached.m))
           (sym w.result-is) tt
+    ]
+
+pub returns-clause-hinted : goal.returns-clause-hinted
+returns-clause-hinted g c =
+    let a = c.args.m.now in
+    let b = c.copy_reached.new.m in
+    let records = c.args.minor.now.records in
+    let before = c.args.hints.now in
+    let after = c.copy_reached.new.hints in
+    let roots : List MinorRef = c.args.r ∷ [] in
+    elim c.match-copy_reached.branch [
+      | in-Ok w ↦
+          subst (λ (x : Result ℕ HeapFull).
+          OnOk x (Hinted a records roots before after c.match-copy_reached.m)) (sym w.result-is)
+          (subst (λ (m : Bound _). Hinted a records roots before after m) (sym w.m-is)
+          (hinted_kept records roots before after a b w.keep.new.self w.in-Ok.ensures.hinted
+          (keeping_event a.seat.me.number 0 b w.keep.new.self c.held_len-held.result
+          (slice_index_or c.copy_reached.new.places c.args.r.number 0) 1
+          w.in-Ok.ensures.grown.stays.number (omega arith) w.keep.ensures.told)))
+      | in-Err w ↦
+          subst (λ (x : Result ℕ HeapFull).
+          OnOk x (Hinted a records roots before after c.match-copy_reached.m)) (sym w.result-is) tt
     ]
 
 pub returns-clause-place : goal.returns-clause-place

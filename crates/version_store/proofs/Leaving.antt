@@ -1,0 +1,216 @@
+-- The writes of calls that follow one another.
+use Rattle.std.proofs.Common.{◌≡◌, ◌⊎◌, true, false, List, [], ◌∷◌, ◌++◌, inl, inr, refl, sym}
+use Rattle.std.proofs.Common.{◌∙◌, ap, subst, ℕ}
+use Rattle.std.specs.List.{list_all}
+use Rattle.std.proofs.lemmas.Bool.{and_parts}
+use Rattle.std.proofs.lemmas.List.{append-nil, append_assoc}
+use Rattle.cell_words.specs.declared.colours.Colour.TheVariants as colour
+use Rattle.cell_words.specs.declared.fields.Field.{Field}
+use Rattle.core_machine.specs.declared.events.Event.{Event}
+use Rattle.core_machine.specs.declared.events.Event.TheVariants as event
+use Rattle.core_machine.specs.declared.events.Found.{Found}
+use Rattle.core_machine.specs.declared.events.Found.TheVariants as finds
+use Rattle.core_machine.specs.declared.events.Taken.{Taken}
+use Rattle.core_machine.specs.Words.{same_field}
+use Rattle.heap_rule.specs.declared.known.Learned.{Learned}
+use Rattle.heap_rule.specs.declared.view.View.{View}
+use Rattle.heap_rule.specs.Boxes.{Map}
+use Rattle.heap_rule.specs.Rule.{took}
+use Rattle.mutator_events.specs.declared.values.Value.{Value}
+use Rattle.mutator_events.specs.Events.{AtEvent}
+use Rattle.mutator_events.specs.Values.{field_at}
+use Rattle.mutator_seat.specs.Bound.{Bound, takes, takes_with}
+use Rattle.mutator_seat.specs.Claims.{Claimed, Seeking, seeks}
+use Rattle.mutator_seat.specs.Stretches.{Calm, are_marks, is_mark}
+use Rattle.mutator_seat.specs.Writes.{LookAndMarks, Updated, write_of}
+use Rattle.mutator_seat.proofs.Writes.{field_same}
+use Rattle.version_rule.specs.Pass.{Pass}
+use Rattle.version_rule.specs.Versions.{is_fixed}
+use Rattle.version_store.specs.Writes.{LosesOnce, Writes, WritesNothing, WritesOnce, exchange}
+use Rattle.version_store.specs.Writes.{is_write, kept_if, writes_in}
+use Rattle.version_store.proofs.Going.{calm_trail}
+
+writes_append : (xs ys : List Taken) → writes_in (xs ++ ys) ≡ writes_in xs ++ writes_in ys
+writes_append [] ys = refl
+writes_append (t ∷ xs) ys =
+    let first = kept_if (is_write t.event) t in
+    ap (λ (ts : List Taken). first ++ ts) (writes_append xs ys)
+    ∙ sym (append_assoc first (writes_in xs) (writes_in ys))
+
+pub writes_none : (a : Bound Pass) → WritesNothing a a
+writes_none a = record {
+  added = [];
+  trail = sym (append-nil a.seat.me.trail);
+  writes_are = refl;
+}
+
+pub writes_then : (xs ys : List Taken) (a b c : Bound Pass) → Writes xs a b → Writes ys b c
+    → Writes (xs ++ ys) a c
+writes_then xs ys a b c first second = record {
+  added = first.added ++ second.added;
+  trail = second.trail ∙ ap (λ (ts : List Taken). ts ++ second.added) first.trail
+      ∙ append_assoc a.seat.me.trail first.added second.added;
+  writes_are = writes_append first.added second.added
+      ∙ (λ i. first.writes_are i ++ second.writes_are i);
+}
+
+pub nothing_then : (ys : List Taken) (a b c : Bound Pass) → WritesNothing a b → Writes ys b c
+    → Writes ys a c
+nothing_then ys a b c first second = writes_then [] ys a b c first second
+
+pub then_nothing : (xs : List Taken) (a b c : Bound Pass) → Writes xs a b → WritesNothing b c
+    → Writes xs a c
+then_nothing xs a b c first second =
+    subst (λ (ws : List Taken). Writes ws a c) (append-nil xs)
+    (writes_then xs [] a b c first second)
+
+-- One event.
+
+pub writes_event : (a b : Bound Pass) (e : Event) (found : Found)
+    → b.seat.me.trail ≡ a.seat.me.trail ++ took e found ∷ []
+    → Writes (kept_if (is_write e) (took e found)) a b
+writes_event a b e found grows = record {
+  added = took e found ∷ [];
+  trail = grows;
+  writes_are = append-nil (kept_if (is_write e) (took e found));
+}
+
+pub writes_told : (a b : Bound Pass) (e : Event) (found : Found) → b ≡ takes a e found
+    → Writes (kept_if (is_write e) (took e found)) a b
+writes_told a b e found told =
+    writes_event a b e found (ap (λ (m : Bound Pass). m.seat.me.trail) told)
+
+pub filled_writes : (a b : Bound Pass) (e : Event) (found : Found) (pass : Pass)
+    → b ≡ takes_with a e found pass → Writes (kept_if (is_write e) (took e found)) a b
+filled_writes a b e found pass told =
+    writes_event a b e found (ap (λ (m : Bound Pass). m.seat.me.trail) told)
+
+pub read_writes : (holds : Map → List Pass → Type 0) (next : Learned → Found → Pass → Pass)
+    (a b : Bound Pass) (place f : ℕ) (found : Found)
+    → AtEvent holds is_fixed a.seat.me (event.Read a.seat.me.number place f) next found b.seat.me
+    → WritesNothing a b
+read_writes holds next a b place f found step =
+    writes_event a b (event.Read a.seat.me.number place f) found
+    (ap (λ (v : View Pass). v.trail) step.new)
+
+-- Stretches that kept all.
+
+calm_writes : (F : List Taken → Type 0) (a b : Bound Pass)
+    → ((es : List Taken) → F es → writes_in es ≡ []) → Calm F a b → WritesNothing a b
+calm_writes F a b none calm = record {
+  added = calm.added;
+  trail = calm_trail F a b calm;
+  writes_are = none calm.added calm.fact;
+}
+
+seeks_kept : (t : Taken) (e : Event) (found : Found) → seeks e found ≡ true
+    → kept_if (is_write e) t ≡ []
+seeks_kept t (event.Look i) found is = refl
+seeks_kept t (event.Mark i place) found is = refl
+seeks_kept t (event.Answer i) found is = refl
+seeks_kept t (event.Claim i cell) found is = refl
+seeks_kept t e found is = absurd cc
+
+seeking_none : (es : List Taken) → Seeking es → writes_in es ≡ []
+seeking_none [] are = refl
+seeking_none (t ∷ ts) are =
+    let parts = and_parts (seeks t.event t.found)
+    (list_all (λ (u : Taken). seeks u.event u.found) ts) are in
+    λ i. seeks_kept t t.event t.found parts.0 i ++ seeking_none ts parts.1 i
+
+mark_kept : (t : Taken) (e : Event) → is_mark e ≡ true → kept_if (is_write e) t ≡ []
+mark_kept t (event.Mark i place) is = refl
+mark_kept t e is = absurd cc
+
+marks_none : (es : List Taken) → are_marks es → writes_in es ≡ []
+marks_none [] are = refl
+marks_none (t ∷ ts) are =
+    let parts = and_parts (is_mark t.event)
+    (list_all (λ (u : Taken). is_mark u.event) ts) are in
+    λ i. mark_kept t t.event parts.0 i ++ marks_none ts parts.1 i
+
+look_none : (number : ℕ) (es : List Taken) → LookAndMarks number es → writes_in es ≡ []
+look_none number es is = ap writes_in is.split ∙ marks_none is.marks is.marks_are
+
+pub sought_writes : (a b : Bound Pass) → Calm Seeking a b → WritesNothing a b
+sought_writes a b calm = calm_writes Seeking a b seeking_none calm
+
+pub claimed_writes : (a b : Bound Pass) (place : ℕ) → Claimed a place b → WritesNothing a b
+claimed_writes a b place got =
+    nothing_then [] a got.at b (sought_writes a got.at got.calm)
+    (writes_told got.at b (event.Claim got.at.seat.me.number got.cell) (finds.Colour colour.Blue)
+    got.told)
+
+-- A write, with its look and its marks.
+module _ (holds : Map → List Pass → Type 0) (next : Learned → Found → Pass → Pass)
+    (a b : Bound Pass) (old new : Value) (found : Field)
+    (wrote : Updated holds is_fixed next a 0 0 old new found b) where
+  abbrev from : Field
+  from = field_at a.seat.me.own.held old
+
+  abbrev box : Field
+  box = field_at wrote.at.seat.me.own.held new
+
+  pub exchanged : Writes (exchange a.seat.me.number from box found ∷ []) a b
+  exchanged =
+      let at = wrote.at in
+      let word = field_same at.seat.me.own.held a.seat.me.own.held wrote.calm.kept.held old in
+      subst (λ (t : Taken). Writes (t ∷ []) a b)
+      (λ i. exchange (wrote.calm.kept.number i) (word i) box found)
+      (nothing_then (took (write_of at 0 0 old new) (finds.Field found) ∷ []) a at b
+      (calm_writes (LookAndMarks a.seat.me.number) a at (look_none a.seat.me.number) wrote.calm)
+      (writes_event at b (write_of at 0 0 old new) (finds.Field found)
+      (ap (λ (v : View Pass). v.trail) wrote.event.new)))
+
+pub writes_once : (holds : Map → List Pass → Type 0) (next : Learned → Found → Pass → Pass)
+    (a b : Bound Pass) (old new : Value) (found : Field) → found ≡ field_at a.seat.me.own.held old
+    → Updated holds is_fixed next a 0 0 old new found b → WritesOnce a b
+writes_once holds next a b old new found is wrote = record {
+  from = field_at a.seat.me.own.held old;
+  box = field_at wrote.at.seat.me.own.held new;
+  writes = subst (λ (w : Field). Writes (exchange a.seat.me.number
+      (field_at a.seat.me.own.held old) (field_at wrote.at.seat.me.own.held new) w ∷ []) a b) is
+      (exchanged holds next a b old new found wrote);
+}
+
+pub loses_once : (holds : Map → List Pass → Type 0) (next : Learned → Found → Pass → Pass)
+    (a b : Bound Pass) (old new : Value) (found : Field)
+    → same_field found (field_at a.seat.me.own.held old) ≡ false
+    → Updated holds is_fixed next a 0 0 old new found b → LosesOnce a b
+loses_once holds next a b old new found other wrote = record {
+  from = field_at a.seat.me.own.held old;
+  box = field_at wrote.at.seat.me.own.held new;
+  found = found;
+  other = other;
+  writes = exchanged holds next a b old new found wrote;
+}
+
+-- What a commit does: it claims a cell, reads, makes the box, writes, and cuts its places.
+
+module _ (a b c d : Bound Pass) (number : b.seat.me.number ≡ a.seat.me.number)
+    (first : WritesNothing a b) (last : WritesNothing c d) where
+  around : (writes : List Taken) → Writes writes b c → Writes writes a d
+  around writes middle =
+      then_nothing writes a c d (nothing_then writes a b c first middle) last
+
+  pub once_around : WritesOnce b c → WritesOnce a d
+  once_around once = record {
+    from = once.from;
+    box = once.box;
+    writes = subst (λ (n : ℕ). Writes (exchange n once.from once.box once.from ∷ []) a d) number
+        (around (exchange b.seat.me.number once.from once.box once.from ∷ []) once.writes);
+  }
+
+  pub lost_around : LosesOnce b c → LosesOnce a d
+  lost_around lost = record {
+    from = lost.from;
+    box = lost.box;
+    found = lost.found;
+    other = lost.other;
+    writes = subst (λ (n : ℕ). Writes (exchange n lost.from lost.box lost.found ∷ []) a d) number
+        (around (exchange b.seat.me.number lost.from lost.box lost.found ∷ []) lost.writes);
+  }
+
+  pub left_around : WritesNothing b c ⊎ LosesOnce b c → WritesNothing a d ⊎ LosesOnce a d
+  left_around (inl none) = inl (around [] none)
+  left_around (inr lost) = inr (lost_around lost)
