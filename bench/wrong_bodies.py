@@ -1,14 +1,21 @@
 #!/usr/bin/env python3
-"""Tries the wrong bodies of wrong_bodies/CRATE: bugs of the kind that an engineer makes, each of
-which the prover should refuse. They are too many for the gate; must-fail/ has the most telling.
+"""Tries the wrong bodies of wrong_bodies/CRATE: bugs of the kind that an engineer makes. They are
+too many for the gate; must-fail/ has the most telling.
 
     wrong_bodies.py CRATE [NAME..]   all of the crate's, or these
 
-One check tries as many as there are functions, one in each, so ten take little longer than one. A
-function that is not proved counts as the refusal of its wrong body. 'no mark' says that its
-function is proved; then it is to be tried alone, by its name, since the refusal may come in a
-caller. The sources are changed in place and put back; whatever is uncommitted in the crate stops
-it.
+What comes out is one of three words, and wrong_bodies/LISTS has the one that is to be expected:
+
+    false   refused, since a goal is false: a clause, or what a call asks for
+    name    refused only since a proof names what the body took away, which says little of the
+            contract
+    proves  the contracts let it through; a test tells it, or nothing
+
+A line that begins with DIFFERENT tells that another one came out, or that LISTS has none; then the
+script ends with status 1. One check tries as many as there are functions, one in each, so ten take
+little longer than one. A function that is not proved counts as the refusal of its wrong body; where
+it is proved the wrong body is tried once more, alone, since the refusal may come in a caller. The
+sources are changed in place and put back; whatever is uncommitted in the crate stops it.
 """
 import os
 import re
@@ -20,6 +27,8 @@ PLACE = re.compile(
     r"(?m)^(?:so far: )?(?:(?:note|error): )?"
     r"(?:\./)?((?:src|proofs)/\S+?):(\d+):\d+: (.*)$"
 )
+# what is said where a proof names what is no more there, or cites a proof that does
+NAMES = re.compile(r"error: .*(has no field|is not in scope|has no `|was not admitted)")
 FUNCTION = re.compile(r"\s*(?:pub(?:\([^)]*\))? )?(?:const )?fn (\w+)")
 
 
@@ -97,8 +106,25 @@ class Crate:
                 name = function_at(texts.get(source, self.text(source)).split("\n"), int(row))
             else:
                 name = parts[-2].lstrip("+")
-            said.setdefault(name, []).append(words)
+            # a remark at a place is no refusal
+            if not words.startswith("note: "):
+                said.setdefault(name, []).append(words)
         return ran.returncode, said
+
+
+def listed(name):
+    """Gives what LISTS expects of each wrong body of the crate."""
+    found = {}
+    for line in open(f"{TOP}/bench/wrong_bodies/LISTS", encoding="utf-8"):
+        words = line.split()
+        if words and words[0] in ("false", "name", "proves") and words[1] == name:
+            found[words[2]] = words[0]
+    return found
+
+
+def kind_of(words):
+    """Gives which word these refusals come to."""
+    return "name" if all(NAMES.search(it) for it in words if "error" in it) else "false"
 
 
 def main(name, wanted):
@@ -106,35 +132,48 @@ def main(name, wanted):
     status = ["git", "status", "--short", "."]
     if subprocess.run(status, cwd=crate.folder, capture_output=True).stdout:
         sys.exit(f"{name} has changes that are not committed")
-    bodies = wrong_bodies(f"{TOP}/bench/wrong_bodies/{name}")
-    left = {}
+    bodies, expected = wrong_bodies(f"{TOP}/bench/wrong_bodies/{name}"), listed(name)
+    left, alone, differ = {}, [], 0
+
+    def tell(body, kind, words):
+        nonlocal differ
+        same = expected.get(body) == kind
+        differ += not same
+        start = "" if same else f"DIFFERENT ({expected.get(body, 'no')} in LISTS): "
+        print(f"{start}{kind} {name} {body}{': ' + words[0][:160] if words else ''}", flush=True)
+
     for body in wanted or bodies:
         functions = crate.functions(bodies[body])
         if functions is None:
-            print(f"{body}: an old text does not stand once")
+            differ += 1
+            print(f"DIFFERENT: {name} {body}: an old text does not stand once")
         else:
             left[body] = functions
-    while left:
+    while left or alone:
         together, taken = [], set()
         # a definition is cited by many functions, so it is changed alone
-        alone = next((body for body in left if bodies[body][0][0].startswith("specs/")), None)
-        for body, functions in left.items():
-            if (alone is None or body == alone) and not functions & taken:
-                together.append(body)
-                taken |= functions
+        single = next((body for body in left if bodies[body][0][0].startswith("specs/")), None)
+        if left:
+            for body, functions in left.items():
+                if (single is None or body == single) and not functions & taken:
+                    together.append(body)
+                    taken |= functions
+        else:
+            together = [alone.pop()]
         status, said = crate.check([change for body in together for change in bodies[body]])
         for body in together:
-            words = [it for function in left.pop(body) for it in said.get(function, [])]
+            functions = left.pop(body, None)
+            words = [it for function in functions or said for it in said.get(function, [])]
             if status == 0:
-                print(f"{body}: PROVES")
+                tell(body, "proves", [])
             elif words:
-                print(f"{body}: refused: {words[0][:160]}")
+                tell(body, kind_of(words), words)
             elif len(together) == 1:
-                places, first = ", ".join(str(it) for it in said), [*said.values()][0][0]
-                print(f"{body}: refused in {places}: {first[:160]}")
+                words = [it for all_of in said.values() for it in all_of]
+                tell(body, kind_of(words), words or ["refused, and nothing is said of where"])
             else:
-                print(f"{body}: no mark")
-        sys.stdout.flush()
+                alone.append(body)
+    sys.exit(1 if differ else 0)
 
 
 main(sys.argv[1], sys.argv[2:])

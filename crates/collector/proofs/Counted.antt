@@ -1,17 +1,22 @@
 -- Counts of events: of one event, and of some that follow others.
 use Rattle.std.proofs.Common.{◌≡◌, ◌≤◌, ◌+◌, ◌&&◌, ℕ, Bool, true, false, not, cond}
-use Rattle.std.proofs.Common.{List, [], ◌∷◌, ◌++◌, refl, sym, ◌∙◌, ap, arith, add_assoc}
-use Rattle.std.proofs.Common.{zero-add}
+use Rattle.std.proofs.Common.{List, [], ◌∷◌, ◌++◌, refl, sym, ◌∙◌, ap, subst, arith}
+use Rattle.std.proofs.Common.{add_assoc, zero-add}
 use Rattle.std.proofs.lemmas.Bool.{false≢true}
 use Rattle.std.proofs.lemmas.List.Folds.{list_all-append}
 use Rattle.std.proofs.lemmas.List.Sums.{sum_by-append}
 use Rattle.std.specs.List.{count_by, list_all}
-use Rattle.core_machine.specs.Collector.{Collector}
+use Rattle.cell_words.specs.declared.controls.Control.{Control}
+use Rattle.cell_words.specs.declared.controls.Stage.{Stage}
+use Rattle.cell_words.specs.declared.controls.Stage.TheVariants as stage
+use Rattle.core_machine.specs.Collector.{Collector, control_after, posted_control}
 use Rattle.core_machine.specs.declared.events.Event.{Event}
 use Rattle.core_machine.specs.declared.events.Event.TheVariants as event
 use Rattle.core_machine.specs.declared.events.Found.{Found}
+use Rattle.core_machine.specs.declared.events.Found.TheVariants as finds
 use Rattle.core_machine.specs.declared.events.Taken.{Taken}
 use Rattle.heap_rule.specs.Rule.{took}
+use Rattle.collector.specs.Answering.{AnswersNext, AnswersWhoIsOut, BeginWith, stage_after}
 use Rattle.collector.specs.Counting.{Comes, Counts, TracesAtMost, goes_on, is_blacken, is_free}
 use Rattle.collector.specs.Counting.{nothing, plus}
 use Rattle.collector.specs.Replay.{Work, count_along, ends_pass, is_shade, spills, stack_after}
@@ -66,7 +71,7 @@ at_most_of m n r le few = record {
 
 -- Events that follow others.
 
-count_append : (test : Taken → Bool) (xs ys : List Taken)
+pub count_append : (test : Taken → Bool) (xs ys : List Taken)
     → count_by test (xs ++ ys) ≡ count_by test xs + count_by test ys
 count_append test xs ys = sum_by-append (λ t. cond (test t) 1 0) xs ys
 
@@ -117,18 +122,57 @@ comes_join a b c r q xs ys first second = record {
   straight = counted_along strays a b xs ys 0 0 first.leads first.straight second.straight;
 }
 
+begins_on : (e : Event) (xs ys : List Taken) → BeginWith e xs → BeginWith e (xs ++ ys)
+begins_on e [] ys begins = absurd begins
+begins_on e (x ∷ xs) ys begins = begins
+
+next_on : (at : Stage) (e : Event) (found : Found) (xs ys : List Taken)
+    → AnswersNext at e found xs → AnswersNext at e found (xs ++ ys)
+next_on at (event.Poll i) (finds.Presence found) xs ys next =
+    λ calls. begins_on (event.AnswerOut i found.over) xs ys (next calls)
+next_on at _ found xs ys next = next
+
+stage_is : (control : Control) (e : Event) → (control_after control e).stage
+    ≡ stage_after control.stage e
+stage_is control (event.Post target) = posted_stage control target
+  where
+    posted_stage : (c : Control) (s : Stage) → (posted_control c s).stage ≡ s
+    posted_stage c stage.Idle = refl
+    posted_stage c stage.Sync1 = refl
+    posted_stage c stage.Clear = refl
+    posted_stage c stage.Sync2 = refl
+    posted_stage c stage.Trace = refl
+    posted_stage c stage.Sweep = refl
+stage_is control _ = refl
+
+pub answers_on : (w : Work) (xs ys : List Taken) → AnswersWhoIsOut w.control.stage xs
+    → AnswersWhoIsOut (work_after_all w xs).control.stage ys
+    → AnswersWhoIsOut w.control.stage (xs ++ ys)
+answers_on w [] ys first second = second
+answers_on w (x ∷ xs) ys first second =
+    let same = stage_is w.control x.event in (
+      next_on w.control.stage x.event x.found xs ys first.0,
+      subst (λ (s : Stage). AnswersWhoIsOut s (xs ++ ys)) same
+          (answers_on (work_after w x) xs ys
+          (subst (λ (s : Stage). AnswersWhoIsOut s xs) (sym same) first.1) second),
+    )
+
 pub counts_join : (a b c : Work) (r q : CycleReport) (xs ys : List Taken) → Counts a b r xs
     → Counts b c q ys → Counts a c (plus r q) (xs ++ ys)
 counts_join a b c r q xs ys first second = record {
   on = list_all-append (λ (t : Taken). goes_on t.event) xs ys
       ∙ ap (λ (x : Bool). x && list_all (λ (t : Taken). goes_on t.event) ys) first.on
       ∙ second.on;
+  answers = answers_on a xs ys first.answers
+      (subst (λ (w : Work). AnswersWhoIsOut w.control.stage ys) (sym first.comes.leads)
+      second.answers);
   comes = comes_join a b c r q xs ys first.comes second.comes;
 }
 
 pub counts_none : (w : Work) → Counts w w nothing []
 counts_none w = record {
   on = refl;
+  answers = tt;
   comes = record {
     leads = refl;
     passes_are = refl;
@@ -142,8 +186,9 @@ counts_none w = record {
 
 -- One event.
 
--- it counts for nothing, and leaves the stack
+-- it counts for nothing, leaves the stack, and calls for no answer
 abbrev pub is_still : Event → Bool
+is_still (event.Poll i) = false
 is_still (event.See c) = false
 is_still event.Shade = false
 is_still event.Blacken = false
@@ -158,6 +203,7 @@ still_stack s part _ still = refl
 
 pub still_comes : (w : Work) (e : Event) (found : Found) → is_still e ≡ true
     → Comes w (work_after w (took e found)) nothing (took e found ∷ [])
+still_comes w (event.Poll i) found still = absurd (false≢true still)
 still_comes w (event.See c) found still = absurd (false≢true still)
 still_comes w event.Shade found still = absurd (false≢true still)
 still_comes w event.Blacken found still = absurd (false≢true still)
@@ -172,10 +218,29 @@ still_comes w _ found still = record {
   straight = refl;
 }
 
+-- a look at a presence, which may call for an answer
+pub poll_comes : (w : Work) (i : ℕ) (found : Found)
+    → Comes w (work_after w (took (event.Poll i) found)) nothing (took (event.Poll i) found ∷ [])
+poll_comes w i found = record {
+  leads = refl;
+  passes_are = refl;
+  scanned_are = refl;
+  freed_are = refl;
+  stacked_are = refl;
+  spilled_are = refl;
+  straight = refl;
+}
+
+still_answers : (at : Stage) (e : Event) (found : Found) → is_still e ≡ true
+    → AnswersNext at e found []
+still_answers at (event.Poll i) found still = absurd (false≢true still)
+still_answers at _ found still = tt
+
 pub still_counts : (w : Work) (e : Event) (found : Found) → goes_on e ≡ true → is_still e ≡ true
     → Counts w (work_after w (took e found)) nothing (took e found ∷ [])
 still_counts w e found on still = record {
   on = ap (λ (x : Bool). x && true) on;
+  answers = (still_answers w.control.stage e found still, tt);
   comes = still_comes w e found still;
 }
 

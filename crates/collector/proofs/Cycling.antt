@@ -5,6 +5,7 @@ use Rattle.std.proofs.Common.{refl, ◌∙◌, ap, subst}
 use Rattle.std.proofs.lemmas.List.{append_assoc}
 use Rattle.std.specs.List.{list_all}
 use Rattle.cell_heap.specs.Telling.{FindsKnown}
+use Rattle.cell_words.specs.declared.controls.Stage.{Stage}
 use Rattle.cell_words.specs.declared.controls.Stage.TheVariants as stage
 use Rattle.core_machine.specs.declared.events.Event.TheVariants as event
 use Rattle.core_machine.specs.declared.events.Found.TheVariants as finds
@@ -12,6 +13,7 @@ use Rattle.core_machine.specs.declared.events.Taken.{Taken}
 use Rattle.heap_rule.specs.Asks.{collector_state}
 use Rattle.heap_rule.specs.Rule.{took}
 use Rattle.heap_rule.specs.Shape.{Shape}
+use Rattle.collector.specs.Answering.{AnswersWhoIsOut}
 use Rattle.collector.specs.Bound.{Bound, HaveAnswered, control_of, mutators_of, part_of}
 use Rattle.collector.specs.Bound.{takes}
 use Rattle.collector.specs.Counting.{Comes, Counts, Does, nothing, plus}
@@ -173,7 +175,13 @@ module _ {P : Type 0} where
             }));
         fact = record {
           reported = record {
-            cycle = record { between = ys; whole = refl; one = made.fact.0.on };
+            cycle = record {
+              between = ys;
+              whole = refl;
+              one = made.fact.0.on;
+              answers = subst (λ (s : Stage). AnswersWhoIsOut s ys)
+                  (ap (λ (y : Bound P). (control_of y).stage) begins) made.fact.0.answers;
+            };
             first = made.fact.2;
             passes_are = comes.passes_are;
             scanned_are = comes.scanned_are;

@@ -1,11 +1,16 @@
 -- Handshakes: what the polls found, mutator by mutator.
-use Rattle.std.proofs.Common.{◌≡◌, ◌+◌, ◌&&◌, ◌||◌, ℕ, Bool, true, IsTrue}
-use Rattle.std.proofs.Common.{List, [], ◌∷◌, ◌++◌, inl, inr, refl, sym, ◌∙◌, ap, arith, eq-eqb}
-use Rattle.std.proofs.lemmas.Bool.{and_parts, cases_lt, or_left, or_right}
+use Rattle.std.proofs.Common.{◌≡◌, ◌+◌, ◌&&◌, ◌||◌, ℕ, Bool, true, not, IsTrue}
+use Rattle.std.proofs.Common.{List, [], ◌∷◌, ◌++◌, inl, inr, refl, sym, ◌∙◌, ap, subst, arith}
+use Rattle.std.proofs.Common.{eq-eqb}
+use Rattle.std.proofs.lemmas.Bool.{and_parts, cases_lt, false≢true, or_left, or_right}
 use Rattle.std.proofs.lemmas.List.Folds.{list_any-append}
+use Rattle.cell_words.specs.Modes.{next_status_of, requested_of}
 use Rattle.cell_words.specs.declared.presences.Presence.{Presence}
+use Rattle.cell_words.specs.declared.presences.Status.{Status}
+use Rattle.cell_words.specs.declared.presences.Status.TheVariants as status
 use Rattle.cell_heap.specs.Telling.{AtCollectorEvent, FindsKnown}
 use Rattle.core_machine.specs.Next.{after}
+use Rattle.core_machine.specs.Words.{may_answer_out, same_status}
 use Rattle.core_machine.specs.declared.events.Event.{Event}
 use Rattle.core_machine.specs.declared.events.Event.TheVariants as event
 use Rattle.core_machine.specs.declared.events.Found.{Found}
@@ -14,12 +19,12 @@ use Rattle.core_machine.specs.declared.events.Taken.{Taken}
 use Rattle.atomic_table.specs.Seated.{TableId}
 use Rattle.heap_rule.specs.Rule.{took}
 use Rattle.heap_rule.specs.declared.view.View.{View}
-use Rattle.collector.specs.Bound.{Bound, part_of, tells_at}
-use Rattle.collector.specs.Counting.{Counts, Does, goes_on, nothing}
+use Rattle.collector.specs.Bound.{Bound, control_of, tells_at}
+use Rattle.collector.specs.Counting.{Counts, Does, nothing}
 use Rattle.collector.specs.Over.{AllOver, Hears, finds_over, was_over}
-use Rattle.collector.specs.Replay.{Work, work_of}
-use Rattle.collector.proofs.Counted.{counts_join, is_still, still_counts, still_stack}
-use Rattle.collector.proofs.Joining.{counts_to, does_event, stretch_as, stretch_one, stretch_then}
+use Rattle.collector.specs.Replay.{Work, work_after, work_of}
+use Rattle.collector.proofs.Counted.{counts_join, poll_comes}
+use Rattle.collector.proofs.Joining.{counts_to, stretch_as, stretch_one, stretch_then, work_is}
 
 over_here : (m : ℕ) (found : Presence) → IsTrue found.over
     → AllOver m (m + 1) (took (event.Poll m) (finds.Presence found) ∷ [])
@@ -104,28 +109,94 @@ module _ {P : Type 0} where
       ap (λ (t : TableId). record b.seat { table = t }) table
       ∙ ap (λ (me : View P). record a.seat { me = me }) told.new
 
-  pub does_met : (fixed : ℕ → Bool) (a b : Bound P) (e : Event) (found : Found)
-      → b.heap ≡ a.heap → b.seat.table ≡ a.seat.table → b.stack ≡ a.stack → goes_on e ≡ true
-      → is_still e ≡ true → AtCollectorEvent fixed a.seat.me e found b.seat.me
-      → FindsKnown a.seat.me e found → Does nothing a b
-  does_met fixed a b e found heap table stack on still told known =
-      does_event nothing a b e found (after told.core e) heap
-      (seat_is fixed a b e found table told)
-      (stack ∙ sym (still_stack a.stack (part_of a) e still)) known
-      (still_counts (work_of a) e found on still)
-
+  -- a look that calls for no answer
   pub hears_one : (fixed : ℕ → Bool) (a b : Bound P) (m : ℕ) (found : Presence)
       → b.heap ≡ a.heap → b.seat.table ≡ a.seat.table → b.stack ≡ a.stack
       → AtCollectorEvent fixed a.seat.me (event.Poll m) (finds.Presence found) b.seat.me
       → FindsKnown a.seat.me (event.Poll m) (finds.Presence found)
+      → ¬ IsTrue (may_answer_out (requested_of (control_of a).stage) found.over found)
       → Hears found.over m (m + 1) a b
-  hears_one fixed a b m found heap table stack told known =
+  hears_one fixed a b m found heap table stack told known none =
       let e = event.Poll m in
       let now = after told.core e in
       let seat = seat_is fixed a b e (finds.Presence found) table told in
       stretch_one (HearsBy found.over m (m + 1) (work_of a) (work_of b)) a b e
       (finds.Presence found) now heap seat stack known (
-        counts_to nothing a b e (finds.Presence found) now seat stack
-            (still_counts (work_of a) e (finds.Presence found) refl refl),
+        counts_to nothing a b e (finds.Presence found) now seat stack (record {
+          on = refl;
+          answers = (λ calls. absurd (none calls), tt);
+          comes = poll_comes (work_of a) m (finds.Presence found);
+        }),
         λ so. over_here m found so,
       )
+
+  -- a look, and the answer for the mutator right behind it
+  pub hears_two : (fixed : ℕ → Bool) (a b c : Bound P) (m : ℕ) (found met : Presence)
+      → b.heap ≡ a.heap → b.seat.table ≡ a.seat.table → b.stack ≡ a.stack
+      → AtCollectorEvent fixed a.seat.me (event.Poll m) (finds.Presence found) b.seat.me
+      → FindsKnown a.seat.me (event.Poll m) (finds.Presence found)
+      → c.heap ≡ b.heap → c.seat.table ≡ b.seat.table → c.stack ≡ b.stack
+      → AtCollectorEvent fixed b.seat.me (event.AnswerOut m found.over) (finds.Presence met)
+      c.seat.me
+      → FindsKnown b.seat.me (event.AnswerOut m found.over) (finds.Presence met)
+      → Hears found.over m (m + 1) a c
+  hears_two fixed a b c m found met heap table stack told known heap_on table_on stack_on told_on
+      known_on =
+      let looks = event.Poll m in
+      let answers = event.AnswerOut m found.over in
+      let p = took looks (finds.Presence found) in
+      let q = took answers (finds.Presence met) in
+      let seat = seat_is fixed a b looks (finds.Presence found) table told in
+      let seat_on = seat_is fixed b c answers (finds.Presence met) table_on told_on in
+      let reached = work_is a b looks (finds.Presence found) (after told.core looks) seat stack in
+      let ends = work_is b c answers (finds.Presence met) (after told_on.core answers) seat_on
+      stack_on in
+      stretch_then (λ (xs : List Taken). xs ≡ p ∷ []) (λ (ys : List Taken). ys ≡ q ∷ [])
+      (HearsBy found.over m (m + 1) (work_of a) (work_of c)) a b c
+      (λ xs ys first second. subst (HearsBy found.over m (m + 1) (work_of a) (work_of c))
+      (sym (ap (λ (zs : List Taken). zs ++ ys) first
+      ∙ ap (λ (zs : List Taken). (p ∷ []) ++ zs) second)) (
+        record {
+          on = refl;
+          answers = (λ calls. refl, (tt, tt));
+          comes = record {
+            leads = sym (ends ∙ ap (λ (w : Work). work_after w q) reached);
+            passes_are = refl;
+            scanned_are = refl;
+            freed_are = refl;
+            stacked_are = refl;
+            spilled_are = refl;
+            straight = refl;
+          };
+        },
+        λ so. over_on m (m + 1) (p ∷ []) (q ∷ []) (over_here m found so),
+      ))
+      (stretch_one (λ (xs : List Taken). xs ≡ p ∷ []) a b looks (finds.Presence found)
+      (after told.core looks) heap seat stack known refl)
+      (stretch_one (λ (ys : List Taken). ys ≡ q ∷ []) b c answers (finds.Presence met)
+      (after told_on.core answers) heap_on seat_on stack_on known_on refl)
+
+-- Who has answered, and who is in, is not to be answered for.
+
+next_is_not : (s wanted : Status) → same_status s wanted ≡ true
+    → ¬ (same_status (next_status_of s) wanted ≡ true)
+next_is_not status.Async status.Async is next = false≢true next
+next_is_not status.Async status.Sync1 is next = false≢true is
+next_is_not status.Async status.Sync2 is next = false≢true is
+next_is_not status.Sync1 status.Async is next = false≢true is
+next_is_not status.Sync1 status.Sync1 is next = false≢true next
+next_is_not status.Sync1 status.Sync2 is next = false≢true is
+next_is_not status.Sync2 status.Async is next = false≢true is
+next_is_not status.Sync2 status.Sync1 is next = false≢true is
+next_is_not status.Sync2 status.Sync2 is next = false≢true next
+
+pub answered_already : (wanted : Status) (found : Presence)
+    → same_status found.status wanted ≡ true
+    → ¬ IsTrue (may_answer_out wanted found.over found)
+answered_already wanted found is calls =
+    next_is_not found.status wanted is (and_parts _ _ calls).1
+
+pub is_inside : (wanted : Status) (found : Presence) → found.inside ≡ true
+    → ¬ IsTrue (may_answer_out wanted found.over found)
+is_inside wanted found is calls =
+    false≢true (sym (ap not is) ∙ (and_parts _ _ (and_parts _ _ calls).0).0)

@@ -48,6 +48,7 @@ look_counts w c found next =
     let ends = sees_last w (event.See c) found in
     record {
       on = refl;
+      answers = (tt, tt);
       comes = record {
         leads = refl;
         passes_are = look_passes ends;
@@ -96,6 +97,7 @@ shade_counts w found =
     let room = has_room w.stack in
     record {
       on = refl;
+      answers = (tt, tt);
       comes = record {
         leads = refl;
         passes_are = shade_passes room;

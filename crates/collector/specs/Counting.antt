@@ -1,4 +1,5 @@
--- What a stretch of the collector's events comes to: that it ends no cycle, and its counts.
+-- What a stretch of the collector's events comes to: that it ends no cycle, that it answers for who
+-- is out, and its counts.
 -- Source: this project's.
 use Rattle.std.specs.Prelude.{ℕ, ◌≡◌, ◌≤◌, ◌+◌, ◌==◌, ◌&&◌, Bool, true, false, not, List}
 use Rattle.std.specs.List.{count_by, list_all}
@@ -7,6 +8,7 @@ use Rattle.cell_words.specs.declared.controls.Stage.TheVariants as stage
 use Rattle.core_machine.specs.declared.events.Event.{Event}
 use Rattle.core_machine.specs.declared.events.Event.TheVariants as event
 use Rattle.core_machine.specs.declared.events.Taken.{Taken}
+use Rattle.collector.specs.Answering.{AnswersWhoIsOut}
 use Rattle.collector.specs.Bound.{Bound, cells_of, part_of}
 use Rattle.collector.specs.Replay.{Work, count_along, ends_pass, spills, stacks, strays}
 use Rattle.collector.specs.Replay.{work_after_all}
@@ -92,9 +94,10 @@ pub record Comes (from to : Work) (r : CycleReport) (events : List Taken) : Type
   -- no look is at another cell than the next
   pub straight : count_along strays from events ≡ 0
 
--- and none of them ends a cycle or tells of duty
+-- and none of them ends a cycle or tells of duty, and whoever is found out is answered for
 pub record Counts (from to : Work) (r : CycleReport) (events : List Taken) : Type 0 where
   pub on : list_all (λ (t : Taken). goes_on t.event) events ≡ true
+  pub answers : AnswersWhoIsOut from.control.stage events
   pub comes : Comes from to r events
 
 module _ {P : Type 0} where

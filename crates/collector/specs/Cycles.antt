@@ -9,18 +9,20 @@ use Rattle.core_machine.specs.declared.events.Event.TheVariants as event
 use Rattle.core_machine.specs.declared.events.Found.TheVariants as finds
 use Rattle.core_machine.specs.declared.events.Taken.{Taken}
 use Rattle.heap_rule.specs.Rule.{took}
+use Rattle.collector.specs.Answering.{AnswersWhoIsOut}
 use Rattle.collector.specs.Counting.{goes_on, is_blacken, is_duty, is_free}
 use Rattle.collector.specs.Over.{AllOver}
 use Rattle.collector.specs.Replay.{Work, count_along, ends_pass, is_shade, spills, stacks}
 use Rattle.collector.specs.Replay.{strays}
 use Rattle.collector.specs.declared.report.CycleReport.{CycleReport}
 
--- the events are one whole cycle
+-- The events are one whole cycle, in which whoever was found out was answered for.
 pub record IsWhole (events : List Taken) : Type 0 where
   pub between : List Taken
   pub whole : events ≡ took (event.Post stage.Sync1) finds.Stored
       ∷ (between ++ took (event.Post stage.Idle) finds.Stored ∷ [])
   pub one : list_all (λ (t : Taken). goes_on t.event) between ≡ true
+  pub answers : AnswersWhoIsOut stage.Sync1 between
 
 -- The events of a cycle behind its first one: the first handshake's, and the others. Where the
 -- first handshake found every mutator over, and nothing was spilled, tracing took two passes.

@@ -1,3 +1,4 @@
+pub mod Answering
 pub mod Bound
 pub mod Counting
 pub mod Cycles

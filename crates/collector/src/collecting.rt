@@ -98,7 +98,7 @@ impl<'a, P: Keeping> Collector<'a, P> {
     }
 
     /// How many cells the heap has.
-    pub fn cells(&self) -> u32
+    pub(crate) fn cells(&self) -> u32
         ensures cells { result ≡ cells_of self.now }
         ensures some { 0 < result }
     {
@@ -107,7 +107,7 @@ impl<'a, P: Keeping> Collector<'a, P> {
 
     /// How many mutators it has. For each it is kept whether it has answered, and whether it was
     /// found over; once all were, the state is known.
-    pub fn mutators(&self) -> u32
+    pub(crate) fn mutators(&self) -> u32
         ensures mutators { result ≡ mutators_of self.now }
         ensures answers { length (part_of self.now).answered ≡ result }
         ensures over { length self.now.seat.me.over ≡ result }
@@ -118,7 +118,7 @@ impl<'a, P: Keeping> Collector<'a, P> {
     }
 
     /// The control, as it was stored last.
-    pub fn control(&self) -> Control
+    pub(crate) fn control(&self) -> Control
         ensures control { result ≡ control_of self.now }
     {
         self.seat.control()

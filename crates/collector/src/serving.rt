@@ -6,6 +6,7 @@ ghost use Rattle.std.specs.Prelude.{◌≡◌, ◌≤◌, ◌+◌, false, ℕ};
 ghost use Rattle.cell_words.specs.declared.controls.Stage.TheVariants as stage;
 ghost use Rattle.collector.specs.Bound.{cells_of, control_of, mutators_of};
 ghost use Rattle.collector.specs.Cycles.{MadeCycles, Served};
+ghost use Rattle.collector.specs.Offering.{OffersAll, freed_since};
 ghost use Rattle.collector.specs.Serving.{is_done, next_rest};
 ghost use Rattle.collector.specs.Stretches.{Stretch};
 ghost use Rattle.core_machine.specs.State.{greatest_cycles};
@@ -63,6 +64,7 @@ impl<'a, P: Keeping> Collector<'a, P> {
         ensures idle { (control_of self.new).stage ≡ stage.Idle }
         ensures off_duty { (control_of self.new).duty ≡ false }
         ensures queue { queue_of hints.new ≡ queue_of hints.old }
+        ensures offered { OffersAll (freed_since self.old self.new) (counts_of hints.old) (counts_of hints.new) }
         ensures puts { (counts_of hints.new).puts ≡ (counts_of hints.old).puts + result }
     {
         let freed = self.cycles_of(rt, hints, cycles);
@@ -80,6 +82,7 @@ impl<'a, P: Keeping> Collector<'a, P> {
             × Stretch (MadeCycles (mutators_of self.old) cycles made result) self.old self.new }
         ensures idle { (control_of self.new).stage ≡ stage.Idle }
         ensures queue { queue_of hints.new ≡ queue_of hints.old }
+        ensures offered { OffersAll (freed_since self.old self.new) (counts_of hints.old) (counts_of hints.new) }
         ensures puts { (counts_of hints.new).puts ≡ (counts_of hints.old).puts + result }
     {
         let mut freed = 0;

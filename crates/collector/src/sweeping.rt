@@ -3,7 +3,7 @@ ghost use Rattle.std.specs.Prelude.{◌≡◌, ◌<◌, ◌≤◌, ◌+◌, ◌^
 ghost use Rattle.cell_words.specs.declared.controls.Stage.TheVariants as stage;
 ghost use Rattle.collector.specs.Bound.{KeepsAnswers, cells_of, control_of, part_of};
 ghost use Rattle.collector.specs.Counting.{Does, frees, nothing};
-ghost use Rattle.collector.specs.Offering.{Offers};
+ghost use Rattle.collector.specs.Offering.{Offers, OffersAll, freed_since};
 ghost use Rattle.core_machine.specs.declared.progress.Sweeping.TheVariants as sweeping;
 ghost use Rattle.free_cells.specs.Hints.{cells_of as hinted_of, counts_of, queue_of};
 
@@ -13,18 +13,22 @@ use free_cells::Hints;
 use heap_rule::Keeping;
 use std::sync::Wait;
 
-/// Offers the number of a freed cell to whoever claims next; where there is no room it is left out.
-fn offer<R: Wait>(rt: &R, hints: &mut Hints<'_>, cell: u32)
-    requires range { cell < hinted_of (queue_of hints.old) }
-    ensures queue { queue_of hints.new ≡ queue_of hints.old }
-    ensures offered { Offers cell (counts_of hints.old) (counts_of hints.new) }
-{
-    if hints.put(rt, cell) {
-        return;
-    }
-}
-
 impl<'a, P: Keeping> Collector<'a, P> {
+    /// Offers the number of the cell that was just freed to whoever claims next; where there is no
+    /// room it is left out.
+    fn offer<R: Wait>(&self, rt: &R, hints: &mut Hints<'_>)
+        requires freed { (part_of self.now).sweep ≡ sweeping.Done }
+        requires hints { hinted_of (queue_of hints.old) ≡ cells_of self.now }
+        requires there { (control_of self.now).position < cells_of self.now }
+        ensures queue { queue_of hints.new ≡ queue_of hints.old }
+        ensures offered { Offers (control_of self.now).position (counts_of hints.old) (counts_of hints.new) }
+    {
+        let cell = self.control().position;
+        if hints.put(rt, cell) {
+            return;
+        }
+    }
+
     /// Stores null in all six fields of the white cell at the position.
     fn wipe_all(&mut self)
         requires found { (part_of self.old).sweep ≡ sweeping.Wiping 0 }
@@ -47,13 +51,12 @@ impl<'a, P: Keeping> Collector<'a, P> {
         ensures done { (part_of self.new).sweep ≡ sweeping.Done }
         ensures kept { KeepsAnswers (part_of self.old) (part_of self.new) }
         ensures queue { queue_of hints.new ≡ queue_of hints.old }
-        ensures offered { Offers (control_of self.old).position (counts_of hints.old) (counts_of hints.new) }
+        ensures offered { OffersAll (freed_since self.old self.new) (counts_of hints.old) (counts_of hints.new) }
         ensures puts { (counts_of hints.new).puts ≡ (counts_of hints.old).puts + 1 }
     {
-        let cell = self.control().position;
         self.wipe_all();
         self.free_once();
-        offer(rt, hints, cell);
+        self.offer(rt, hints);
     }
 
     /// Looks at the cell at the position and does what its colour asks for. It gives how many cells
@@ -69,6 +72,7 @@ impl<'a, P: Keeping> Collector<'a, P> {
         ensures done { (part_of self.new).sweep ≡ sweeping.Done }
         ensures kept { KeepsAnswers (part_of self.old) (part_of self.new) }
         ensures queue { queue_of hints.new ≡ queue_of hints.old }
+        ensures offered { OffersAll (freed_since self.old self.new) (counts_of hints.old) (counts_of hints.new) }
         ensures puts { (counts_of hints.new).puts ≡ (counts_of hints.old).puts + result }
     {
         match self.sweep_look_once() {
@@ -98,6 +102,7 @@ impl<'a, P: Keeping> Collector<'a, P> {
         ensures fresh { (part_of self.new).sweep ≡ sweeping.Fresh }
         ensures kept { KeepsAnswers (part_of self.old) (part_of self.new) }
         ensures queue { queue_of hints.new ≡ queue_of hints.old }
+        ensures offered { OffersAll (freed_since self.old self.new) (counts_of hints.old) (counts_of hints.new) }
         ensures puts { (counts_of hints.new).puts ≡ (counts_of hints.old).puts + result }
     {
         let freed = self.sweep_found(rt, hints);
@@ -118,6 +123,7 @@ impl<'a, P: Keeping> Collector<'a, P> {
         ensures fresh { (part_of self.new).sweep ≡ sweeping.Fresh }
         ensures kept { KeepsAnswers (part_of self.old) (part_of self.new) }
         ensures queue { queue_of hints.new ≡ queue_of hints.old }
+        ensures offered { OffersAll (freed_since self.old self.new) (counts_of hints.old) (counts_of hints.new) }
         ensures puts { (counts_of hints.new).puts ≡ (counts_of hints.old).puts + result }
     {
         let mut freed = 0;

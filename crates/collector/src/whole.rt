@@ -6,6 +6,7 @@ ghost use Rattle.collector.specs.Bound.{KeepsWork, cells_of, control_of, mutator
 ghost use Rattle.collector.specs.Bound.{takes};
 ghost use Rattle.collector.specs.Counting.{Counts, Does, nothing};
 ghost use Rattle.collector.specs.Cycles.{Heard, IsAsked, Reported};
+ghost use Rattle.collector.specs.Offering.{OffersAll, freed_since};
 ghost use Rattle.collector.specs.Over.{AllOver};
 ghost use Rattle.collector.specs.Replay.{fresh_work_of, work_of};
 ghost use Rattle.collector.specs.Stack.{emptied};
@@ -76,6 +77,7 @@ impl<'a, P: Keeping> Collector<'a, P> {
         ensures control { control_of self.new ≡ record (control_of self.old)
             { stage = stage.Sweep; position = cells_of self.old } }
         ensures queue { queue_of hints.new ≡ queue_of hints.old }
+        ensures offered { OffersAll (freed_since self.old self.new) (counts_of hints.old) (counts_of hints.new) }
         ensures puts { (counts_of hints.new).puts ≡ (counts_of hints.old).puts + result.freed }
     {
         let traced = self.trace_all(rt);
@@ -98,6 +100,7 @@ impl<'a, P: Keeping> Collector<'a, P> {
         ensures control { control_of self.new ≡ record (control_of self.old)
             { stage = stage.Sweep; position = cells_of self.old } }
         ensures queue { queue_of hints.new ≡ queue_of hints.old }
+        ensures offered { OffersAll (freed_since self.old self.new) (counts_of hints.old) (counts_of hints.new) }
         ensures puts { (counts_of hints.new).puts ≡ (counts_of hints.old).puts + result.freed }
     {
         self.clear_stage();
@@ -120,6 +123,7 @@ impl<'a, P: Keeping> Collector<'a, P> {
         ensures control { control_of self.new ≡ record (control_of self.old)
             { stage = stage.Sweep; position = cells_of self.old } }
         ensures queue { queue_of hints.new ≡ queue_of hints.old }
+        ensures offered { OffersAll (freed_since self.old self.new) (counts_of hints.old) (counts_of hints.new) }
         ensures puts { (counts_of hints.new).puts
             ≡ (counts_of hints.old).puts + result.report.freed }
     {
@@ -159,6 +163,7 @@ impl<'a, P: Keeping> Collector<'a, P> {
         ensures control { control_of self.new ≡ record (control_of self.old)
             { position = 0; cycles = (control_of self.old).cycles + 1 } }
         ensures queue { queue_of hints.new ≡ queue_of hints.old }
+        ensures offered { OffersAll (freed_since self.old self.new) (counts_of hints.old) (counts_of hints.new) }
         ensures puts { (counts_of hints.new).puts
             ≡ (counts_of hints.old).puts + result.report.freed }
     {
@@ -179,6 +184,7 @@ impl<'a, P: Keeping> Collector<'a, P> {
         ensures control { control_of self.new ≡ record (control_of self.old)
             { position = 0; cycles = (control_of self.old).cycles + 1 } }
         ensures queue { queue_of hints.new ≡ queue_of hints.old }
+        ensures offered { OffersAll (freed_since self.old self.new) (counts_of hints.old) (counts_of hints.new) }
         ensures puts { (counts_of hints.new).puts ≡ (counts_of hints.old).puts + result.freed }
     {
         let made = self.one_cycle(rt, hints);

@@ -8,7 +8,9 @@ use Rattle.collector.specs.Serving.{ServesOn, next_rest}
 use Rattle.collector.specs.Stretches.{Stretch}
 use Rattle.collector.specs.declared.serving.Rest.{Rest}
 use Rattle.collector.proofs.InARow.{made_all, made_done, serves_more}
+use Rattle.free_cells.specs.Hints.{counts_of}
 use Rattle.collector.proofs.Joining.{stretch_as, stretch_then}
+use Rattle.collector.proofs.Offered.{offers_then}
 use Rattle.collector.proofs.collecting.Collector.cycles_of.Goals as goal
 
 pub returns-then-is_done-clause-made : goal.returns-then-is_done-clause-made
@@ -53,6 +55,9 @@ loop-made-preserved g c =
       cycle.ensures.queue ∙ old.invariant.3,
       omega (arith, cycle.ensures.puts, old.invariant.4),
       omega (arith, cycle.ensures.few, old.invariant.5),
+      offers_then _ _ c.args.self.now old.self cycle.new.self (counts_of c.args.hints.now)
+          (counts_of old.hints) (counts_of cycle.new.hints) old.invariant.0 cycle.ensures.heard
+          old.invariant.6 cycle.ensures.offered,
     )
 
 pub returns-clause-made : goal.returns-clause-made

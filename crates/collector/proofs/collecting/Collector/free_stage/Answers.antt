@@ -9,8 +9,10 @@ use Rattle.core_machine.specs.declared.events.Found.TheVariants as finds
 use Rattle.core_machine.specs.declared.progress.Scanning.{Scanning}
 use Rattle.collector.specs.Bound.{mutators_of}
 use Rattle.collector.specs.Counting.{frees}
+use Rattle.free_cells.specs.Hints.{counts_of}
 use Rattle.collector.proofs.Cycling.{answered_all}
 use Rattle.collector.proofs.Joining.{does_and, does_both, does_still}
+use Rattle.collector.proofs.Offered.{offers_after}
 use Rattle.collector.proofs.Scanning.{frees_too}
 use Rattle.collector.proofs.collecting.Collector.free_stage.Goals as goal
 
@@ -43,3 +45,14 @@ returns-clause-does g c =
     (does_still c.trace_all-traced.new.self c.post_once.new.self (event.Post stage.Sweep)
     finds.Stored refl refl c.post_once.ensures.told c.post_once.ensures.known))
     c.sweep_all-freed.ensures.does
+
+pub returns-clause-offered : goal.returns-clause-offered
+returns-clause-offered g c =
+    offers_after c.trace_all-traced.result _ c.args.self.now c.post_once.new.self
+    c.sweep_all-freed.new.self (counts_of c.args.hints.now) (counts_of c.sweep_all-freed.new.hints)
+    c.trace_all-traced.ensures.few.freed
+    (does_and c.trace_all-traced.result c.args.self.now c.trace_all-traced.new.self
+    c.post_once.new.self c.trace_all-traced.ensures.does
+    (does_still c.trace_all-traced.new.self c.post_once.new.self (event.Post stage.Sweep)
+    finds.Stored refl refl c.post_once.ensures.told c.post_once.ensures.known))
+    c.sweep_all-freed.ensures.does c.sweep_all-freed.ensures.offered

@@ -14,6 +14,7 @@ returns-clause-does g c =
     finds.Stored c.blacken_once.ensures.told c.blacken_once.ensures.known refl
     (record {
       on = refl;
+      answers = (tt, tt);
       comes = record {
         leads = refl;
         passes_are = refl;

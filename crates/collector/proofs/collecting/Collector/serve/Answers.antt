@@ -6,7 +6,9 @@ use Rattle.heap_rule.specs.Asks.{collector_state}
 use Rattle.heap_rule.specs.Rule.{took}
 use Rattle.collector.specs.Bound.{Bound, control_of, mutators_of}
 use Rattle.collector.specs.Cycles.{MadeCycles, Served}
+use Rattle.free_cells.specs.Hints.{counts_of}
 use Rattle.collector.proofs.Joining.{stretch_one, stretch_then}
+use Rattle.collector.proofs.Offered.{offers_and}
 use Rattle.collector.proofs.collecting.Collector.serve.Goals as goal
 
 pub returns-clause-served : goal.returns-clause-served
@@ -35,3 +37,11 @@ returns-clause-served g c =
           (ap (λ (x : Bound _). x.stack) c.duty.ensures.told) c.duty.ensures.known
           refl),
     )
+
+pub returns-clause-offered : goal.returns-clause-offered
+returns-clause-offered g c =
+    let told = c.cycles_of-freed.ensures.made in
+    offers_and _ c.args.self.now c.cycles_of-freed.new.self c.duty.new.self
+    (counts_of c.args.hints.now) (counts_of c.cycles_of-freed.new.hints) (event.Duty false)
+    finds.Stored refl refl c.duty.ensures.told c.duty.ensures.known told.2
+    c.cycles_of-freed.ensures.offered

@@ -1,4 +1,4 @@
-use Rattle.std.proofs.Common.{◌<◌, true, false, ℕ, replicate, sym, ◌∙◌, ap, subst}
+use Rattle.std.proofs.Common.{◌<◌, true, false, ℕ, replicate, refl, sym, ◌∙◌, ap, subst}
 use Rattle.std.proofs.lemmas.Bool.{and_from}
 use Rattle.std.proofs.lemmas.List.{length-replicate}
 use Rattle.cell_words.specs.declared.controls.Control.{Control}
@@ -6,10 +6,17 @@ use Rattle.cell_words.specs.declared.controls.Stage.{Stage}
 use Rattle.cell_words.specs.declared.controls.Stage.TheVariants as stage
 use Rattle.core_machine.specs.Collector.{Collector, nobody_answered}
 use Rattle.core_machine.specs.Words.{same_stage}
+use Rattle.core_machine.specs.declared.events.Event.TheVariants as event
+use Rattle.core_machine.specs.declared.events.Found.TheVariants as finds
 use Rattle.heap_rule.specs.Shape.{Shape}
 use Rattle.collector.specs.Bound.{Bound, mutators_of, part_of}
+use Rattle.collector.specs.Counting.{nothing}
+use Rattle.free_cells.specs.Hints.{counts_of}
 use Rattle.collector.proofs.Answered.{nobody_now}
 use Rattle.collector.proofs.Cycling.{answered_all, made_of}
+use Rattle.collector.proofs.Hearing.{hears_does}
+use Rattle.collector.proofs.Joining.{does_and, does_still}
+use Rattle.collector.proofs.Offered.{offers_after}
 use Rattle.collector.proofs.collecting.Collector.work.Goals as goal
 
 pub post_once-requires : goal.post_once-requires
@@ -46,3 +53,14 @@ returns-clause-made g c =
     (subst (λ (k : ℕ). 0 < k) (sym same) some))
     (ap (λ (x : Control). x.stage) c.await_all-over.ensures.control ∙ c.requires.stage)
     (ap (λ (x : Control). x.stage) c.collect-report.ensures.control)
+
+pub returns-clause-offered : goal.returns-clause-offered
+returns-clause-offered g c =
+    offers_after nothing _ c.args.self.now c.post_once.new.self c.collect-report.new.self
+    (counts_of c.args.hints.now) (counts_of c.collect-report.new.hints) refl
+    (does_and nothing c.args.self.now c.await_all-over.new.self c.post_once.new.self
+    (hears_does c.await_all-over.result 0 (mutators_of c.args.self.now) c.args.self.now
+    c.await_all-over.new.self c.await_all-over.ensures.hears)
+    (does_still c.await_all-over.new.self c.post_once.new.self (event.Post stage.Clear)
+    finds.Stored refl refl c.post_once.ensures.told c.post_once.ensures.known))
+    c.collect-report.ensures.does c.collect-report.ensures.offered
