@@ -1,11 +1,13 @@
 -- A handshake as one stretch: the look, the marks, and the answer.
 use Rattle.std.proofs.Common.{◌≡◌, ℕ, true, false, [], ◌∷◌, ◌++◌, refl, ◌∙◌, ap, subst}
+use Rattle.cell_words.specs.Modes.{next_status_of}
 use Rattle.cell_words.specs.declared.controls.Control.{Control}
+use Rattle.cell_words.specs.declared.presences.Status.{Status}
 use Rattle.core_machine.specs.declared.events.Event.TheVariants as event
 use Rattle.core_machine.specs.declared.events.Found.TheVariants as finds
 use Rattle.trails.specs.Claims.{look_of}
 use Rattle.mutator_seat.specs.Bound.{Bound, takes}
-use Rattle.mutator_seat.specs.Stretches.{Answering, Calm, LookAndAnswer, answer_of, are_marks}
+use Rattle.mutator_seat.specs.Stretches.{Answering, AreBefore, Calm, LookAndAnswer, answer_of}
 use Rattle.mutator_seat.specs.Stretches.{asks_next}
 use Rattle.mutator_seat.proofs.Calm.{calm_one, calm_then, kept_answer, kept_look}
 
@@ -22,11 +24,11 @@ module _ {P : Type 0} (a b : Bound P) where
   pub answered : (c : Bound P) (control : Control)
       → b ≡ takes a (event.Look a.seat.me.number) (finds.Control control)
       → true ≡ asks_next control b.seat.me.presence.status
-      → Calm (Answering b.seat.me.number) b c
+      → Calm (Answering b.seat.me.number b.seat.me.presence.status) b c
       → Calm (LookAndAnswer a.seat.me.number a.seat.me.presence.status true) a c
   answered c control told asked rest =
       calm_then (λ es. es ≡ look_of a.seat.me.number control ∷ [])
-      (Answering b.seat.me.number)
+      (Answering b.seat.me.number b.seat.me.presence.status)
       (LookAndAnswer a.seat.me.number a.seat.me.presence.status true) a b c
       (λ xs ys first second. record {
         control = control;
@@ -34,8 +36,10 @@ module _ {P : Type 0} (a b : Bound P) where
         split = ap (λ zs. zs ++ ys) first;
         asked = asked
             ∙ ap (λ (m : Bound P). asks_next control m.seat.me.presence.status) told;
-        answer = subst (λ (n : ℕ). Answering n ys) (ap (λ (m : Bound P). m.seat.me.number) told)
-            second;
+        answer = subst (λ (n : ℕ). Answering n a.seat.me.presence.status ys)
+            (ap (λ (m : Bound P). m.seat.me.number) told)
+            (subst (λ (own : Status). Answering b.seat.me.number own ys)
+            (ap (λ (m : Bound P). m.seat.me.presence.status) told) second);
       })
       (looked_at control told) rest
 
@@ -58,12 +62,14 @@ module _ {P : Type 0} (a b : Bound P) where
       })
 
   -- marks, and then the answer
-  pub answered_behind : (c : Bound P) → Calm are_marks a b
+  pub answered_behind : (c : Bound P)
+      → Calm (AreBefore (next_status_of a.seat.me.presence.status)) a b
       → c ≡ takes b (event.Answer b.seat.me.number) finds.Stored
-      → Calm (Answering a.seat.me.number) a c
+      → Calm (Answering a.seat.me.number a.seat.me.presence.status) a c
   answered_behind c marks told =
-      calm_then are_marks (λ es. es ≡ answer_of a.seat.me.number ∷ [])
-      (Answering a.seat.me.number) a b c
+      calm_then (AreBefore (next_status_of a.seat.me.presence.status))
+      (λ es. es ≡ answer_of a.seat.me.number ∷ [])
+      (Answering a.seat.me.number a.seat.me.presence.status) a b c
       (λ xs ys first second. record {
         marks = xs;
         split = ap (λ zs. xs ++ zs) second;

@@ -1,5 +1,6 @@
 pub mod Handshakes
 pub mod Calm
+pub mod Pacing
 pub mod Seeking
 pub mod Tries
 pub mod Marks

@@ -3,13 +3,15 @@ use Rattle.std.proofs.Common.{◌≡◌, ◌<◌, ◌≤◌, ◌+◌, ◌==◌, 
 use Rattle.std.proofs.Common.{◌∷◌, ◌++◌, length, map, get_or, refl, sym, ◌∙◌, ap, subst, arith}
 use Rattle.std.proofs.Common.{⊎_elim, if◌then◌else◌}
 use Rattle.std.proofs.lemmas.Bool.{cases_lt, eq-eqb}
-use Rattle.std.proofs.lemmas.List.{get_or-map}
+use Rattle.std.proofs.lemmas.List.{get_or-map, map-append}
 use Rattle.std.proofs.lemmas.List.Folds.{list_all-append}
 use Rattle.std.specs.List.{list_all}
+use Rattle.core_machine.specs.declared.events.Event.{Event}
+use Rattle.core_machine.specs.declared.events.Event.TheVariants as event
 use Rattle.core_machine.specs.declared.events.Taken.{Taken}
 use Rattle.core_machine.specs.declared.places.Held.{Held}
 use Rattle.core_machine.specs.Places.{all_marked, cell_at, mark_of, no_place}
-use Rattle.mutator_seat.specs.Stretches.{are_marks, is_mark}
+use Rattle.mutator_seat.specs.Stretches.{MarksOf, are_marks, is_mark}
 
 -- each place below this one is marked
 abbrev pub MarkedBelow : ℕ → List Held → Type 0
@@ -54,3 +56,13 @@ marks_join xs ys first second =
     list_all-append (λ (t : Taken). is_mark t.event) xs ys
     ∙ ap (λ b. b && list_all (λ (t : Taken). is_mark t.event) ys) first
     ∙ second
+
+-- marks of some places, and then of others
+pub marks_of_join : (number : ℕ) (ps qs : List ℕ) (xs ys : List Taken) → MarksOf number ps xs
+    → MarksOf number qs ys → MarksOf number (ps ++ qs) (xs ++ ys)
+marks_of_join number ps qs xs ys first second =
+    let mark : ℕ → Event = λ place. event.Mark number place in
+    map-append (λ (t : Taken). t.event) xs ys
+    ∙ ap (λ (es : List Event). es ++ map (λ (t : Taken). t.event) ys) first
+    ∙ ap (λ (es : List Event). map mark ps ++ es) second
+    ∙ sym (map-append mark ps qs)

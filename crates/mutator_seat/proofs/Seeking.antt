@@ -5,7 +5,9 @@ use Rattle.std.proofs.lemmas.Bool.{and_parts}
 use Rattle.std.proofs.lemmas.List.Folds.{list_all-append}
 use Rattle.std.specs.List.{list_all}
 use Rattle.cell_words.specs.declared.controls.Control.{Control}
+use Rattle.cell_words.specs.Modes.{next_status_of}
 use Rattle.cell_words.specs.declared.presences.Status.{Status}
+use Rattle.cell_words.specs.declared.presences.Status.TheVariants as status
 use Rattle.core_machine.specs.declared.events.Event.{Event}
 use Rattle.core_machine.specs.declared.events.Event.TheVariants as event
 use Rattle.core_machine.specs.declared.events.Found.{Found}
@@ -14,7 +16,7 @@ use Rattle.core_machine.specs.declared.events.Taken.{Taken}
 use Rattle.trails.specs.Claims.{look_of}
 use Rattle.mutator_seat.specs.Bound.{Bound, takes}
 use Rattle.mutator_seat.specs.Claims.{Seeking, seeks}
-use Rattle.mutator_seat.specs.Stretches.{AnsweringIf, Calm, LookAndAnswer, answer_of}
+use Rattle.mutator_seat.specs.Stretches.{AnsweringIf, AreBefore, Calm, LookAndAnswer, answer_of}
 use Rattle.mutator_seat.specs.Stretches.{are_marks, is_mark}
 use Rattle.mutator_seat.proofs.Calm.{calm_as, calm_then}
 use Rattle.mutator_seat.proofs.Handshakes.{looked_at}
@@ -36,18 +38,23 @@ marks_seek (t ∷ ts) are =
     ap (λ b. b && list_all (λ (u : Taken). seeks u.event u.found) ts)
     (mark_seeks t.event t.found parts.0) ∙ marks_seek ts parts.1
 
-rest_seeks : (answered : Bool) (number : ℕ) (es : List Taken) → AnsweringIf answered number es
-    → Seeking es
-rest_seeks true number es answer =
+before_seeks : (own : Status) (es : List Taken) → AreBefore own es → Seeking es
+before_seeks status.Async es are = marks_seek es are
+before_seeks status.Sync1 es none = subst Seeking (sym none) refl
+before_seeks status.Sync2 es none = subst Seeking (sym none) refl
+
+rest_seeks : (answered : Bool) (number : ℕ) (own : Status) (es : List Taken)
+    → AnsweringIf answered number own es → Seeking es
+rest_seeks true number own es answer =
     subst Seeking (sym answer.split)
-    (seeking_join answer.marks (answer_of number ∷ []) (marks_seek answer.marks answer.marks_are)
-    refl)
-rest_seeks false number es none = subst Seeking (sym none) refl
+    (seeking_join answer.marks (answer_of number ∷ [])
+    (before_seeks (next_status_of own) answer.marks answer.marks_are) refl)
+rest_seeks false number own es none = subst Seeking (sym none) refl
 
 pub answer_seeks : (number : ℕ) (own : Status) (answered : Bool) (es : List Taken)
     → LookAndAnswer number own answered es → Seeking es
 answer_seeks number own answered es both =
-    subst Seeking (sym both.split) (rest_seeks answered number both.rest both.answer)
+    subst Seeking (sym both.split) (rest_seeks answered number own both.rest both.answer)
 
 module _ {P : Type 0} where
   pub look_seeks : (a b : Bound P) (control : Control)

@@ -1,8 +1,11 @@
 -- What a write tells, together with its look and its marks.
 use Rattle.std.proofs.Common.{◌≡◌, ℕ, Bool, false, List, [], ◌∷◌, ◌++◌, ◌∙◌, ap}
 use Rattle.std.proofs.Common.{subst, Result, Ok, Err, OnOk, IfErr}
+use Rattle.cell_words.specs.Modes.{barrier_of}
 use Rattle.cell_words.specs.declared.controls.Control.{Control}
 use Rattle.cell_words.specs.declared.fields.Field.{Field}
+use Rattle.cell_words.specs.declared.presences.Status.{Status}
+use Rattle.cell_words.specs.declared.write_barrier.Barrier.{Barrier}
 use Rattle.core_machine.specs.declared.events.Event.TheVariants as event
 use Rattle.core_machine.specs.declared.events.Found.{Found}
 use Rattle.core_machine.specs.declared.events.Found.TheVariants as finds
@@ -18,8 +21,8 @@ use Rattle.mutator_events.specs.Events.{AtEvent}
 use Rattle.mutator_events.specs.Values.{field_at}
 use Rattle.trails.specs.Claims.{look_of}
 use Rattle.mutator_seat.specs.Bound.{Bound, takes}
-use Rattle.mutator_seat.specs.Stretches.{Calm, are_marks}
-use Rattle.mutator_seat.specs.Writes.{LookAndMarks, Updated, write_of}
+use Rattle.mutator_seat.specs.Stretches.{Calm, MarksOf}
+use Rattle.mutator_seat.specs.Writes.{LookAndMarks, Updated, wanted_by, write_of}
 use Rattle.mutator_seat.proofs.Calm.{calm_then}
 use Rattle.mutator_seat.proofs.Handshakes.{looked_at}
 use Rattle.mutator_seat.proofs.Writes.{field_same}
@@ -34,32 +37,41 @@ err_then (Ok x) a f = a
 err_then (Err e) a f = f e a
 
 module _ {P : Type 0} where
-  pub looked_and_marked : (a b c : Bound P) (control : Control)
-      → b ≡ takes a (event.Look a.seat.me.number) (finds.Control control) → Calm are_marks b c
-      → Calm (LookAndMarks a.seat.me.number) a c
-  looked_and_marked a b c control told marks =
-      calm_then (λ es. es ≡ look_of a.seat.me.number control ∷ []) are_marks
-      (LookAndMarks a.seat.me.number) a b c
+  pub looked_and_marked : (a b c : Bound P) (control : Control) (wanted : Barrier) (old new : Value)
+      → b ≡ takes a (event.Look a.seat.me.number) (finds.Control control)
+      → wanted ≡ barrier_of b.seat.me.presence.status control
+      → Calm (MarksOf b.seat.me.number (wanted_by wanted old new)) b c
+      → Calm (LookAndMarks a.seat.me.number a.seat.me.presence.status old new) a c
+  looked_and_marked a b c control wanted old new told is marks =
+      let own = a.seat.me.presence.status in
+      let status = ap (λ (m : Bound P). m.seat.me.presence.status) told in
+      calm_then (λ es. es ≡ look_of a.seat.me.number control ∷ [])
+      (MarksOf b.seat.me.number (wanted_by wanted old new))
+      (LookAndMarks a.seat.me.number own old new) a b c
       (λ xs ys first second. record {
         control = control;
         marks = ys;
         split = ap (λ zs. zs ++ ys) first;
-        marks_are = second;
+        marks_are = subst (λ (n : ℕ). MarksOf n (wanted_by (barrier_of own control) old new) ys)
+            (ap (λ (m : Bound P). m.seat.me.number) told)
+            (subst (λ (x : Barrier). MarksOf b.seat.me.number (wanted_by x old new) ys)
+            (is ∙ ap (λ (s : Status). barrier_of s control) status) second);
       })
       (looked_at a b control told) marks
 
   -- the value that was expected is the same behind the look and the marks
-  pub other_as : (m at : Bound P) (old : Value) (found : Field)
-      → Calm (LookAndMarks m.seat.me.number) m at
+  pub other_as : (m at : Bound P) (old new : Value) (found : Field)
+      → Calm (LookAndMarks m.seat.me.number m.seat.me.presence.status old new) m at
       → same_field found (field_at at.seat.me.own.held old) ≡ false
       → same_field found (field_at m.seat.me.own.held old) ≡ false
-  other_as m at old found calm other =
+  other_as m at old new found calm other =
       subst (λ (x : Field). same_field found x ≡ false)
       (field_same at.seat.me.own.held m.seat.me.own.held calm.kept.held old) other
 
 module _ {P : Type 0} (holds : Map → List P → Type 0) (fixed : ℕ → Bool)
     (next : Learned → Found → P → P) (m at : Bound P) (seat : SeatView P) (place f : ℕ)
-    (old new : Value) (calm : Calm (LookAndMarks m.seat.me.number) m at) where
+    (old new : Value)
+    (calm : Calm (LookAndMarks m.seat.me.number m.seat.me.presence.status old new) m at) where
   pub updated : (found : Field)
       → AtEvent holds fixed at.seat.me (write_of at place f old new) next (finds.Field found) seat.me
       → seat.table ≡ at.seat.table

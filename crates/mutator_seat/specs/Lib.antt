@@ -1,4 +1,5 @@
 pub mod Bound
 pub mod Claims
+pub mod Pacing
 pub mod Stretches
 pub mod Writes

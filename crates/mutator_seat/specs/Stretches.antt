@@ -1,10 +1,11 @@
 -- A call of several events: the stretch of the trail that it adds, and what it leaves as it was.
 -- Source: this project's.
-use Rattle.std.specs.Prelude.{ℕ, ◌≡◌, Bool, true, false, List, [], ◌∷◌, ◌++◌, Some}
+use Rattle.std.specs.Prelude.{ℕ, ◌≡◌, Bool, true, false, List, [], ◌∷◌, ◌++◌, Some, map}
 use Rattle.std.specs.List.{list_all}
 use Rattle.cell_words.specs.Modes.{next_status_of}
 use Rattle.cell_words.specs.declared.controls.Control.{Control}
 use Rattle.cell_words.specs.declared.presences.Status.{Status}
+use Rattle.cell_words.specs.declared.presences.Status.TheVariants as status
 use Rattle.core_machine.specs.declared.events.Event.{Event}
 use Rattle.core_machine.specs.declared.events.Event.TheVariants as event
 use Rattle.core_machine.specs.declared.events.Found.TheVariants as finds
@@ -52,6 +53,18 @@ is_mark _ = false
 abbrev pub are_marks : List Taken → Type 0
 are_marks events = list_all (λ (t : Taken). is_mark t.event) events ≡ true
 
+-- they mark these places, one after the other, and do nothing else
+abbrev pub MarksOf : ℕ → List ℕ → List Taken → Type 0
+MarksOf number places events =
+    map (λ (t : Taken). t.event) events ≡ map (λ place. event.Mark number place) places
+
+-- what comes before an answer by this status: marks before the third of a cycle, and before the
+-- first two nothing
+abbrev pub AreBefore : Status → List Taken → Type 0
+AreBefore status.Async events = are_marks events
+AreBefore status.Sync1 events = events ≡ []
+AreBefore status.Sync2 events = events ≡ []
+
 abbrev pub answer_of : ℕ → Taken
 answer_of number = record { event = event.Answer number; found = finds.Stored }
 
@@ -59,16 +72,16 @@ answer_of number = record { event = event.Answer number; found = finds.Stored }
 abbrev pub asks_next : Control → Status → Bool
 asks_next control own = requests (Some control) (next_status_of own)
 
--- some marks, and then the answer
-pub record Answering (number : ℕ) (events : List Taken) : Type 0 where
+-- the marks that come before the answer, and then the answer
+pub record Answering (number : ℕ) (own : Status) (events : List Taken) : Type 0 where
   pub marks : List Taken
   pub split : events ≡ marks ++ answer_of number ∷ []
-  pub marks_are : are_marks marks
+  pub marks_are : AreBefore (next_status_of own) marks
 
 -- the answer where one was given, and nothing else
-abbrev pub AnsweringIf : Bool → ℕ → List Taken → Type 0
-AnsweringIf true number events = Answering number events
-AnsweringIf false number events = events ≡ []
+abbrev pub AnsweringIf : Bool → ℕ → Status → List Taken → Type 0
+AnsweringIf true number own events = Answering number own events
+AnsweringIf false number own events = events ≡ []
 
 -- one look, and the answer exactly where this asked for the next status
 pub record LookAndAnswer (number : ℕ) (own : Status) (answered : Bool) (events : List Taken)
@@ -77,7 +90,7 @@ pub record LookAndAnswer (number : ℕ) (own : Status) (answered : Bool) (events
   pub rest : List Taken
   pub split : events ≡ look_of number control ∷ rest
   pub asked : answered ≡ asks_next control own
-  pub answer : AnsweringIf answered number rest
+  pub answer : AnsweringIf answered number own rest
 
 -- the status after a call that answered, or did not
 abbrev pub status_behind : Bool → Status → Status

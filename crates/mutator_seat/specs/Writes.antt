@@ -1,8 +1,13 @@
 -- A write of a box: what it needs, and what it tells.
 -- Source: this project's.
-use Rattle.std.specs.Prelude.{ℕ, ◌≡◌, ◌<◌, ◌≤◌, ◌^◌, Bool, true, List, ◌∷◌, length, nat_lt}
+use Rattle.std.specs.Prelude.{ℕ, ◌≡◌, ◌<◌, ◌≤◌, ◌^◌, Bool, true, List, [], ◌∷◌, ◌++◌, length}
+use Rattle.std.specs.Prelude.{nat_lt}
+use Rattle.cell_words.specs.Modes.{barrier_of}
 use Rattle.cell_words.specs.declared.controls.Control.{Control}
 use Rattle.cell_words.specs.declared.fields.Field.{Field}
+use Rattle.cell_words.specs.declared.presences.Status.{Status}
+use Rattle.cell_words.specs.declared.write_barrier.Barrier.{Barrier}
+use Rattle.cell_words.specs.declared.write_barrier.Barrier.TheVariants as barrier
 use Rattle.core_machine.specs.declared.events.Event.{Event}
 use Rattle.core_machine.specs.declared.events.Event.TheVariants as event
 use Rattle.core_machine.specs.declared.events.Found.{Found}
@@ -20,7 +25,7 @@ use Rattle.mutator_events.specs.declared.values.Value.TheVariants as values
 use Rattle.mutator_events.specs.Events.{AtEvent}
 use Rattle.mutator_events.specs.Values.{field_at}
 use Rattle.mutator_seat.specs.Bound.{Bound, held_cells}
-use Rattle.mutator_seat.specs.Stretches.{Calm, Kept, are_marks}
+use Rattle.mutator_seat.specs.Stretches.{Calm, Kept, MarksOf}
 use Rattle.trails.specs.Claims.{look_of}
 
 -- null, a number below 2^62, or a place in range
@@ -29,12 +34,25 @@ IsNamed held values.Null = Unit {0}
 IsNamed held (values.Num n) = nat_lt n (2 ^ 62) ≡ true
 IsNamed held (values.Held place) = place < length held
 
--- one look, and marks
-pub record LookAndMarks (number : ℕ) (events : List Taken) : Type 0 where
+-- the place of a value that is a held cell
+abbrev pub places_in : Value → List ℕ
+places_in values.Null = []
+places_in (values.Num n) = []
+places_in (values.Held place) = place ∷ []
+
+-- the places that the barrier asks to have marked before new is written over old
+abbrev pub wanted_by : Barrier → Value → Value → List ℕ
+wanted_by barrier.Nothing old new = []
+wanted_by barrier.Old old new = places_in old
+wanted_by barrier.Both old new = places_in old ++ places_in new
+
+-- one look, and the marks that the barrier asks for by this status and what the look found
+pub record LookAndMarks (number : ℕ) (own : Status) (old new : Value) (events : List Taken)
+    : Type 0 where
   pub control : Control
   pub marks : List Taken
   pub split : events ≡ look_of number control ∷ marks
-  pub marks_are : are_marks marks
+  pub marks_are : MarksOf number (wanted_by (barrier_of own control) old new) marks
 
 module _ {P : Type 0} where
   pub record MayUpdate (fixed : ℕ → Bool) (v : View P) (place f : ℕ) (old new : Value)
@@ -67,7 +85,7 @@ module _ {P : Type 0} where
       (found : Field) (after : Bound P) : Type 0 where
     -- as it was at the write
     pub at : Bound P
-    pub calm : Calm (LookAndMarks m.seat.me.number) m at
+    pub calm : Calm (LookAndMarks m.seat.me.number m.seat.me.presence.status old new) m at
     pub event : AtEvent holds fixed at.seat.me (write_of at place f old new) next
         (finds.Field found) after.seat.me
     pub heap : after.heap ≡ m.heap

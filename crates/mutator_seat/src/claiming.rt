@@ -1,19 +1,13 @@
 //! Claiming a cell: hints first, then every cell; and waiting for the collector.
 //!
-//! One look serves many tries, since a try that misses leaves it. While it waits it answers
-//! handshakes, for a cycle cannot end without its answers.
-ghost use Rattle.std.specs.Prelude.{◌≡◌, ◌<◌, ◌≤◌, ◌+◌, ◌∷◌, ◌++◌, ◌==◌, [], true, not};
+//! While it waits it answers handshakes, for a cycle cannot end without its answers. It pauses
+//! where the queue gave no hint, and nowhere else: on one processor a pause is a third of a cycle.
+ghost use Rattle.std.specs.Prelude.{◌≡◌, ◌<◌, ◌≤◌, ◌+◌, true, not};
 ghost use Rattle.std.specs.Prelude.{IfErr, IfNone, IfOk, IfSome, length};
-ghost use Rattle.cell_words.specs.declared.colours.Colour.{Colour};
-ghost use Rattle.core_machine.specs.Words.{is_blue};
-ghost use Rattle.core_machine.specs.declared.events.Event.TheVariants as event;
-ghost use Rattle.core_machine.specs.declared.events.Found.TheVariants as finds;
 ghost use Rattle.free_cells.specs.Hints.{counts_of, queue_of};
-ghost use Rattle.heap_rule.specs.Apart.{IsNewTo};
-ghost use Rattle.heap_rule.specs.Asks.{MayClaim};
-ghost use Rattle.mutator_seat.specs.Bound.{held_cells, takes};
 ghost use Rattle.mutator_seat.specs.Claims.{Claimed, Ends, FullBehind, HasMode, Seeking, Tried};
 ghost use Rattle.mutator_seat.specs.Claims.{TriedFirst};
+ghost use Rattle.mutator_seat.specs.Pacing.{Paces, Prompt};
 ghost use Rattle.mutator_seat.specs.Stretches.{Calm};
 ghost use Rattle.trails.specs.Claims.{AllUsed, FindsFull, begun_of, decides};
 
@@ -29,11 +23,8 @@ use std::thread;
 /// How often a waiting claim pauses between two looks.
 const PAUSES: u32 = 100;
 
-/// How often a waiting claim takes a hint before it tries every cell.
+/// How often a waiting claim finds no hint before it tries every cell.
 const WAITS: u32 = 1000;
-
-/// How many cells are tried by one look.
-const TRIES: u32 = 64;
 
 /// The cycles that are ended or under way.
 fn begun(control: Control) -> u32
@@ -61,6 +52,22 @@ fn decides(began: u32, control: Control) -> bool
     !control.duty || began + 2 <= control.cycles
 }
 
+/// Takes one hint, if there is one.
+fn take_hint<R: Wait>(rt: &R, hints: &mut Hints<'_>) -> Option<u32>
+    ensures queue { queue_of hints.new ≡ queue_of hints.old }
+    ensures takes { (counts_of hints.new).takes ≡ (counts_of hints.old).takes + 1 }
+{
+    hints.take(rt)
+}
+
+/// How often a claim has waited behind a round that took this.
+fn waited_on(hint: Option<u32>, waited: u32) -> u32 {
+    match hint {
+        Some(_) => waited,
+        None => waited.saturating_add(1),
+    }
+}
+
 /// Lets other threads run for a while.
 fn pause() {
     for _pause in 0..PAUSES {
@@ -84,6 +91,7 @@ impl<'a, P: Keeping> Mutator<'a, P> {
         ensures seeking { IfErr result (λ full. Calm Seeking self.old self.new) }
         ensures queue { queue_of hints.new ≡ queue_of hints.old }
         ensures takes { (counts_of hints.old).takes < (counts_of hints.new).takes }
+        ensures prompt { Prompt self.old self.new }
     {
         let first = hints.take(rt);
         self.claim_hinted(rt, hints, first)
@@ -108,6 +116,7 @@ impl<'a, P: Keeping> Mutator<'a, P> {
             → TriedFirst cell self.old self.new) }
         ensures queue { queue_of hints.new ≡ queue_of hints.old }
         ensures takes { (counts_of hints.old).takes ≤ (counts_of hints.new).takes }
+        ensures prompt { Prompt self.old self.new }
     {
         let first = self.look_once();
         let began = begun(first);
@@ -134,6 +143,7 @@ impl<'a, P: Keeping> Mutator<'a, P> {
         ensures seeking { IfErr result (λ full. Calm Seeking self.old self.new) }
         ensures queue { queue_of hints.new ≡ queue_of hints.old }
         ensures takes { (counts_of hints.old).takes ≤ (counts_of hints.new).takes }
+        ensures pace { Paces 65 65 self.old self.new }
     {
         let mut waited: u32 = 0;
         for _ in rt.forever() {
@@ -141,21 +151,23 @@ impl<'a, P: Keeping> Mutator<'a, P> {
             if decides(began, control) {
                 return self.try_last(began, control);
             }
-            match self.try_on(rt, hints, waited) {
+            let hint = take_hint(rt, hints);
+            match self.try_on(hint, waited) {
                 Some(place) => return Ok(place),
-                None => waited = waited.saturating_add(1),
+                None => waited = waited_on(hint, waited),
             }
         }
         unreachable!()
     }
 
     /// Answers a handshake, if one is asked for, and looks again.
-    fn handshake(&mut self) -> Control
+    pub(crate) fn handshake(&mut self) -> Control
         requires inside { self.old.seat.me.presence.inside ≡ true }
         ensures calm { Calm (Ends self.old.seat.me.number self.old.seat.me.presence.status result)
             self.old self.new }
         ensures seeking { Calm Seeking self.old self.new }
         ensures mode { HasMode self.new }
+        ensures pace { Paces 65 1 self.old self.new }
     {
         let _ = self.answer();
         self.look_once()
@@ -172,6 +184,7 @@ impl<'a, P: Keeping> Mutator<'a, P> {
         ensures tried { IfErr result (λ full.
             Calm (AllUsed 0 self.old.seat.me.shape.cells) self.old self.new) }
         ensures seeking { IfErr result (λ full. Calm Seeking self.old self.new) }
+        ensures pace { Paces 1 65 self.old self.new }
     {
         match self.try_all() {
             Some(place) => Ok(place),
@@ -183,44 +196,9 @@ impl<'a, P: Keeping> Mutator<'a, P> {
         }
     }
 
-    /// Waits a while and takes one hint; after so many of them it tries every cell, once.
-    fn try_on<R: Wait>(&mut self, rt: &R, hints: &mut Hints<'_>, waited: u32) -> Option<usize>
-        requires inside { self.old.seat.me.presence.inside ≡ true }
-        requires room { length self.old.seat.me.own.held < self.old.seat.me.room }
-        requires mode { HasMode self.old }
-        ensures got { IfSome result (λ place. Claimed self.old place self.new) }
-        ensures none { IfNone result (Calm Seeking self.old self.new) }
-        ensures all { waited ≡ 1000 → IfNone result
-            (Calm (AllUsed 0 self.old.seat.me.shape.cells) self.old self.new) }
-        ensures queue { queue_of hints.new ≡ queue_of hints.old }
-        ensures takes { (counts_of hints.old).takes ≤ (counts_of hints.new).takes }
-        ensures hint { not (waited == 1000) ≡ true
-            → (counts_of hints.new).takes ≡ (counts_of hints.old).takes + 1 }
-    {
-        if waited == WAITS {
-            self.try_all()
-        } else {
-            pause();
-            self.try_hint(rt, hints)
-        }
-    }
-
-    /// Takes one hint, and tries its cell.
-    fn try_hint<R: Wait>(&mut self, rt: &R, hints: &mut Hints<'_>) -> Option<usize>
-        requires inside { self.old.seat.me.presence.inside ≡ true }
-        requires room { length self.old.seat.me.own.held < self.old.seat.me.room }
-        requires mode { HasMode self.old }
-        ensures got { IfSome result (λ place. Claimed self.old place self.new) }
-        ensures none { IfNone result (Calm Seeking self.old self.new) }
-        ensures queue { queue_of hints.new ≡ queue_of hints.old }
-        ensures takes { (counts_of hints.new).takes ≡ (counts_of hints.old).takes + 1 }
-    {
-        let hint = hints.take(rt);
-        self.try_hinted(hint)
-    }
-
-    /// Tries the cell of a hint, if there is one.
-    fn try_hinted(&mut self, hint: Option<u32>) -> Option<usize>
+    /// Tries the cell of a hint. Where the queue gave none it waits a while, and tries every cell
+    /// once, where it waited so often.
+    fn try_on(&mut self, hint: Option<u32>, waited: u32) -> Option<usize>
         requires inside { self.old.seat.me.presence.inside ≡ true }
         requires room { length self.old.seat.me.own.held < self.old.seat.me.room }
         requires mode { HasMode self.old }
@@ -228,97 +206,32 @@ impl<'a, P: Keeping> Mutator<'a, P> {
         ensures none { IfNone result (Calm Seeking self.old self.new) }
         ensures tried { IfSome hint (λ cell. cell < self.old.seat.me.shape.cells
             → Tried cell self.old self.new) }
+        ensures all { waited ≡ 1000 → IfNone hint (IfNone result
+            (Calm (AllUsed 0 self.old.seat.me.shape.cells) self.old self.new)) }
+        ensures pace { Paces 1 65 self.old self.new }
     {
         match hint {
             Some(cell) => self.try_within(cell),
-            None => None,
+            None => self.try_unhinted(waited),
         }
     }
 
-    /// Tries this cell, if the heap has it.
-    fn try_within(&mut self, cell: u32) -> Option<usize>
+    /// Waits a while; the time after so many of them it tries every cell instead.
+    fn try_unhinted(&mut self, waited: u32) -> Option<usize>
         requires inside { self.old.seat.me.presence.inside ≡ true }
         requires room { length self.old.seat.me.own.held < self.old.seat.me.room }
         requires mode { HasMode self.old }
         ensures got { IfSome result (λ place. Claimed self.old place self.new) }
-        ensures cell { IfSome result (λ place. held_cells self.new
-            ≡ held_cells self.old ++ cell ∷ []) }
         ensures none { IfNone result (Calm Seeking self.old self.new) }
-        ensures tried { cell < self.old.seat.me.shape.cells → Tried cell self.old self.new }
-        ensures used { cell < self.old.seat.me.shape.cells
-            → IfNone result (Calm (AllUsed cell (cell + 1)) self.old self.new) }
+        ensures all { waited ≡ 1000 → IfNone result
+            (Calm (AllUsed 0 self.old.seat.me.shape.cells) self.old self.new) }
+        ensures pace { Paces 1 65 self.old self.new }
     {
-        if cell < self.cells() {
-            self.try_cell(cell)
+        if waited == WAITS {
+            self.try_all()
         } else {
+            pause();
             None
         }
-    }
-
-    /// Tries every cell in turn.
-    fn try_all(&mut self) -> Option<usize>
-        requires inside { self.old.seat.me.presence.inside ≡ true }
-        requires room { length self.old.seat.me.own.held < self.old.seat.me.room }
-        requires mode { HasMode self.old }
-        ensures got { IfSome result (λ place. Claimed self.old place self.new) }
-        ensures none { IfNone result (Calm (AllUsed 0 self.old.seat.me.shape.cells) self.old self.new) }
-        ensures seeking { IfNone result (Calm Seeking self.old self.new) }
-    {
-        for cell in 0..self.cells() {
-            match self.try_cell(cell) {
-                Some(place) => return Some(place),
-                None => self.look_at_times(cell),
-            }
-        }
-        None
-    }
-
-    /// Answers handshakes at every so many tries.
-    fn look_at_times(&mut self, cell: u32)
-        requires inside { self.old.seat.me.presence.inside ≡ true }
-        requires mode { HasMode self.old }
-        ensures calm { Calm Seeking self.old self.new }
-        ensures mode { HasMode self.new }
-    {
-        if cell % TRIES == TRIES - 1 {
-            let _ = self.handshake();
-        }
-    }
-
-    /// Claims the cell, if it is blue, and gives its place.
-    fn try_cell(&mut self, cell: u32) -> Option<usize>
-        requires may { MayClaim self.old.seat.me cell }
-        ensures got { IfSome result (λ place. Claimed self.old place self.new) }
-        ensures cell { IfSome result (λ place. held_cells self.new
-            ≡ held_cells self.old ++ cell ∷ []) }
-        ensures none { IfNone result (Calm (AllUsed cell (cell + 1)) self.old self.new) }
-        ensures tried { Tried cell self.old self.new }
-        ensures seeking { IfNone result (Calm Seeking self.old self.new) }
-        ensures mode { IfNone result (HasMode self.new) }
-    {
-        let place = self.held_len();
-        if self.claim_once(cell) {
-            Some(place)
-        } else {
-            None
-        }
-    }
-
-    /// One claim of the seat.
-    fn claim_once(&mut self, cell: u32) -> bool
-        requires may { MayClaim self.old.seat.me cell }
-        ensures told { (found : Colour) × (result ≡ is_blue found)
-            × (self.new ≡ takes self.old (event.Claim self.old.seat.me.number cell)
-            (finds.Colour found)) }
-        ensures new { result ≡ true → IsNewTo (held_cells self.old) self.old.seat.me.known cell }
-    {
-        self.seat.claim(self.heap, cell)
-    }
-
-    /// How many cells the heap has.
-    fn cells(&self) -> u32
-        ensures cells { result ≡ self.now.seat.me.shape.cells }
-    {
-        self.heap.cells()
     }
 }

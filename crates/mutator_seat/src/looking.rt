@@ -4,8 +4,8 @@ ghost use Rattle.cell_words.specs.Modes.{next_status_of};
 ghost use Rattle.cell_words.specs.declared.presences.Status.TheVariants as status;
 ghost use Rattle.core_machine.specs.Places.{all_marked};
 ghost use Rattle.core_machine.specs.Words.{requests, same_status};
-ghost use Rattle.mutator_seat.specs.Stretches.{Answering, Calm, LookAndAnswer, are_marks, asks_next};
-ghost use Rattle.mutator_seat.specs.Stretches.{status_behind};
+ghost use Rattle.mutator_seat.specs.Stretches.{Answering, AreBefore, Calm, LookAndAnswer};
+ghost use Rattle.mutator_seat.specs.Stretches.{are_marks, asks_next, status_behind};
 
 use crate::mutator::Mutator;
 use cell_words::modes::{next_status, requested};
@@ -49,7 +49,8 @@ impl<'a, P: Keeping> Mutator<'a, P> {
         requires inside { self.old.seat.me.presence.inside ≡ true }
         requires asked { requests self.old.seat.me.own.mode
             (next_status_of self.old.seat.me.presence.status) ≡ true }
-        ensures calm { Calm (Answering self.old.seat.me.number) self.old self.new }
+        ensures calm { Calm (Answering self.old.seat.me.number self.old.seat.me.presence.status)
+            self.old self.new }
         ensures status { self.new.seat.me.presence.status
             ≡ next_status_of self.old.seat.me.presence.status }
     {
@@ -61,7 +62,8 @@ impl<'a, P: Keeping> Mutator<'a, P> {
     fn mark_before_third(&mut self)
         requires inside { self.old.seat.me.presence.inside ≡ true }
         requires mode { is_some self.old.seat.me.own.mode ≡ true }
-        ensures calm { Calm are_marks self.old self.new }
+        ensures calm { Calm (AreBefore (next_status_of self.old.seat.me.presence.status))
+            self.old self.new }
         ensures mode { self.new.seat.me.own.mode ≡ self.old.seat.me.own.mode }
         ensures presence { self.new.seat.me.presence ≡ self.old.seat.me.presence }
         ensures marked { (not (same_status (next_status_of self.new.seat.me.presence.status) status.Async)

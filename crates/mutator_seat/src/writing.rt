@@ -8,8 +8,9 @@ ghost use Rattle.cell_words.specs.declared.fields.Field.{Field};
 ghost use Rattle.core_machine.specs.Places.{is_marked_value, marks_stand};
 ghost use Rattle.core_machine.specs.Words.{barrier_in, marks_some, same_field};
 ghost use Rattle.mutator_events.specs.Values.{field_at};
-ghost use Rattle.mutator_seat.specs.Stretches.{Calm, are_marks};
+ghost use Rattle.mutator_seat.specs.Stretches.{Calm, MarksOf};
 ghost use Rattle.mutator_seat.specs.Writes.{IsNamed, LookAndMarks, MayUpdate, PicksUpdate, Updated};
+ghost use Rattle.mutator_seat.specs.Writes.{places_in, wanted_by};
 
 use crate::mutator::Mutator;
 use cell_words::Barrier;
@@ -44,7 +45,8 @@ impl<'a, P: Keeping> Mutator<'a, P> {
         requires inside { self.old.seat.me.presence.inside ≡ true }
         requires old_named { IsNamed self.old.seat.me.own.held old }
         requires new_named { IsNamed self.old.seat.me.own.held new }
-        ensures calm { Calm (LookAndMarks self.old.seat.me.number) self.old self.new }
+        ensures calm { Calm (LookAndMarks self.old.seat.me.number
+            self.old.seat.me.presence.status old new) self.old self.new }
         ensures mode { is_some self.new.seat.me.own.mode ≡ true }
         ensures presence { self.new.seat.me.presence ≡ self.old.seat.me.presence }
         ensures marks { marks_stand (barrier_in self.new.seat.me.presence.status self.new.seat.me.own.mode)
@@ -63,7 +65,8 @@ impl<'a, P: Keeping> Mutator<'a, P> {
             ≡ wanted }
         requires old_named { IsNamed self.old.seat.me.own.held old }
         requires new_named { IsNamed self.old.seat.me.own.held new }
-        ensures calm { Calm are_marks self.old self.new }
+        ensures calm { Calm (MarksOf self.old.seat.me.number (wanted_by wanted old new))
+            self.old self.new }
         ensures mode { self.new.seat.me.own.mode ≡ self.old.seat.me.own.mode }
         ensures presence { self.new.seat.me.presence ≡ self.old.seat.me.presence }
         ensures marks { marks_stand wanted self.new.seat.me.own.held
@@ -84,7 +87,8 @@ impl<'a, P: Keeping> Mutator<'a, P> {
             self.old.seat.me.own.mode) ≡ true }
         requires old_named { IsNamed self.old.seat.me.own.held old }
         requires new_named { IsNamed self.old.seat.me.own.held new }
-        ensures calm { Calm are_marks self.old self.new }
+        ensures calm { Calm (MarksOf self.old.seat.me.number (wanted_by barrier.Both old new))
+            self.old self.new }
         ensures mode { self.new.seat.me.own.mode ≡ self.old.seat.me.own.mode }
         ensures presence { self.new.seat.me.presence ≡ self.old.seat.me.presence }
         ensures marks { marks_stand barrier.Both self.new.seat.me.own.held
@@ -101,7 +105,8 @@ impl<'a, P: Keeping> Mutator<'a, P> {
         requires barrier { marks_some (barrier_in self.old.seat.me.presence.status
             self.old.seat.me.own.mode) ≡ true }
         requires named { IsNamed self.old.seat.me.own.held value }
-        ensures calm { Calm are_marks self.old self.new }
+        ensures calm { Calm (MarksOf self.old.seat.me.number (places_in value))
+            self.old self.new }
         ensures mode { self.new.seat.me.own.mode ≡ self.old.seat.me.own.mode }
         ensures presence { self.new.seat.me.presence ≡ self.old.seat.me.presence }
         ensures marked { is_marked_value self.new.seat.me.own.held

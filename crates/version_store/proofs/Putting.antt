@@ -420,7 +420,8 @@ module _ (is_tree : Term → Type 0) (tree_of : Term → DocTree)
 
     goes_at : Goes [] a at
     goes_at = goes_on (goes_none a) (goes_then latest.goes (goes_then made.goes
-        (calm_goes (LookAndMarks c.seat.me.number) c at wrote.calm)))
+        (calm_goes (LookAndMarks c.seat.me.number c.seat.me.presence.status (values.Held v.place)
+        (values.Held fresh)) c at wrote.calm)))
 
     from_is : target at.seat.me v.place ≡ from
     from_is = cell_same at.seat.me.own.held c.seat.me.own.held wrote.calm.kept.held v.place

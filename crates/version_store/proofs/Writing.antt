@@ -49,7 +49,8 @@ module _ (holds : Map → List Pass → Type 0) (next : Learned → Found → Pa
 
   pub wrote_goes : Goes [] a b
   wrote_goes =
-      goes_then (calm_goes (LookAndMarks a.seat.me.number) a at wrote.calm)
+      goes_then
+      (calm_goes (LookAndMarks a.seat.me.number a.seat.me.presence.status old new) a at wrote.calm)
       (goes_told at b [] write (finds.Field found) tells (next tells (finds.Field found)
       at.seat.me.pass) (wrote.heap ∙ sym wrote.calm.kept.heap)
       (wrote.table ∙ sym wrote.calm.kept.table) wrote.event.new refl nothing)

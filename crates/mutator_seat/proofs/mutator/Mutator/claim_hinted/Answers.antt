@@ -2,6 +2,7 @@ use Rattle.mutator_seat.proofs.Seeking.{look_seeks, seeking_then}
 use Rattle.std.proofs.Common.{[], sym, ap, arith}
 use Rattle.std.proofs.lemmas.List.{append-nil}
 use Rattle.mutator_seat.specs.Bound.{Bound}
+use Rattle.mutator_seat.proofs.Pacing.{paces_look, paces_prompt, paces_then}
 use Rattle.mutator_seat.proofs.Tries.{claimed_then, finds_full, grown, ok_all, some_all}
 use Rattle.mutator_seat.proofs.Tries.{tried_first}
 use Rattle.mutator_seat.proofs.Updates.{err_then}
@@ -62,3 +63,23 @@ returns-in-None-clause-tries g c =
     tried_first was first.new.self tried last first.result cell more.0 first.ensures.told
     (is (omega (arith, below, ap (λ (m : Bound _). m.seat.me.shape.cells) first.ensures.told)))
     more.1)
+
+pub returns-in-Some-clause-prompt : goal.returns-in-Some-clause-prompt
+returns-in-Some-clause-prompt g c =
+    let was = c.args.self.now in
+    let first = c.look_once-first in
+    paces_prompt was c.try_hinted.new.self
+    (paces_then was first.new.self c.try_hinted.new.self 0 1 65
+    (paces_look was first.new.self first.result 0 (omega arith) first.ensures.told)
+    c.try_hinted.ensures.pace)
+
+pub returns-in-None-clause-prompt : goal.returns-in-None-clause-prompt
+returns-in-None-clause-prompt g c =
+    let was = c.args.self.now in
+    let first = c.look_once-first in
+    let tried = c.try_hinted.new.self in
+    paces_prompt was c.wait_for_cell.new.self
+    (paces_then was tried c.wait_for_cell.new.self 0 65 65
+    (paces_then was first.new.self tried 0 1 65
+    (paces_look was first.new.self first.result 0 (omega arith) first.ensures.told)
+    c.try_hinted.ensures.pace) c.wait_for_cell.ensures.pace)

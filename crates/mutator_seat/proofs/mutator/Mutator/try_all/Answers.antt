@@ -1,3 +1,5 @@
+use Rattle.std.proofs.Common.{◌≤◌, ◌+◌, arith}
+use Rattle.mutator_seat.proofs.Pacing.{paces_then, paces_try, paces_within}
 use Rattle.mutator_seat.proofs.Seeking.{seeking_then}
 use Rattle.mutator_seat.proofs.Tries.{claimed_then, tries_on}
 use Rattle.mutator_seat.proofs.mutator.Mutator.try_all.Goals as goal
@@ -7,14 +9,41 @@ returns-in-Some-clause-got g c =
     claimed_then c.args.self.now c.loop-cell.self c.try_cell.new.self c.in-Some.place
     c.loop-cell.invariant.2 c.in-Some.ensures.got
 
+pub returns-in-Some-clause-pace : goal.returns-in-Some-clause-pace
+returns-in-Some-clause-pace g c =
+    let was = c.args.self.now in
+    let loop = c.loop-cell in
+    let few : loop.tries ≤ 63 = loop.invariant.3 in
+    paces_within was c.try_cell.new.self 1 (loop.tries + 1 + 1) 1 65 (omega arith)
+    (omega (arith, few))
+    (paces_then was loop.self c.try_cell.new.self 1 (loop.tries + 1) (loop.tries + 1 + 1)
+    loop.invariant.4
+    (paces_try loop.self c.try_cell.new.self loop.cell (loop.tries + 1) (omega (arith, few))
+    c.try_cell.ensures.tried))
+
+pub returns-clause-pace : goal.returns-clause-pace
+returns-clause-pace g c =
+    let loop = c.loop-cell in
+    let few : loop.tries ≤ 63 = loop.invariant.3 in
+    paces_within c.args.self.now loop.self 1 (loop.tries + 1) 1 65 (omega arith)
+    (omega (arith, few)) loop.invariant.4
+
 pub loop-cell-preserved : goal.loop-cell-preserved
 loop-cell-preserved g c =
     let was = c.args.self.now in
-    let tried = c.try_cell.new.self in (
-      tries_on was c.loop-cell.self tried c.look_at_times.new.self c.loop-cell.cell
-          c.loop-cell.invariant.0 c.in-None.ensures.none c.look_at_times.ensures.calm,
-      c.look_at_times.ensures.mode,
-      seeking_then was tried c.look_at_times.new.self
-          (seeking_then was c.loop-cell.self tried c.loop-cell.invariant.2
-          c.in-None.ensures.seeking) c.look_at_times.ensures.calm,
+    let loop = c.loop-cell in
+    let tried = c.try_cell.new.self in
+    let looked = c.look_at_times-tries in
+    let few : loop.tries ≤ 63 = loop.invariant.3 in (
+      tries_on was loop.self tried looked.new.self loop.cell
+          loop.invariant.0 c.in-None.ensures.none looked.ensures.calm,
+      looked.ensures.mode,
+      seeking_then was tried looked.new.self
+          (seeking_then was loop.self tried loop.invariant.2
+          c.in-None.ensures.seeking) looked.ensures.calm,
+      looked.ensures.few,
+      paces_then was tried looked.new.self 1 (loop.tries + 1 + 1) (looked.result + 1)
+          (paces_then was loop.self tried 1 (loop.tries + 1) (loop.tries + 1 + 1) loop.invariant.4
+          (paces_try loop.self tried loop.cell (loop.tries + 1) (omega (arith, few))
+          c.try_cell.ensures.tried)) looked.ensures.pace,
     )

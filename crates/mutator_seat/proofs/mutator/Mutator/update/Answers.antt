@@ -27,8 +27,10 @@ write-requires-clause-rule g c =
 
 pub returns-clause-made : goal.returns-clause-made
 returns-clause-made g c =
-    let calm = subst (λ (m : Bound _). Calm (LookAndMarks c.args.self.now.seat.me.number) c.args.self.now m)
-    (sym c.self.view_is) c.look_and_mark.ensures.calm in
+    let was = c.args.self.now in
+    let marks = LookAndMarks was.seat.me.number was.seat.me.presence.status c.args.old c.args.new in
+    let calm = subst (λ (m : Bound _). Calm marks was m) (sym c.self.view_is)
+    c.look_and_mark.ensures.calm in
     ok_then c.write.result c.write.ensures.made (λ at.
     updated_as g.P.Keeping.holds g.P.Keeping.fixed g.C.Choice.next c.args.self.now _
     c.write.new.self c.args.place c.args.field c.args.old c.args.new calm at
@@ -36,10 +38,12 @@ returns-clause-made g c =
 
 pub returns-clause-moved : goal.returns-clause-moved
 returns-clause-moved g c =
-    let calm = subst (λ (m : Bound _). Calm (LookAndMarks c.args.self.now.seat.me.number) c.args.self.now m)
-    (sym c.self.view_is) c.look_and_mark.ensures.calm in
+    let was = c.args.self.now in
+    let marks = LookAndMarks was.seat.me.number was.seat.me.presence.status c.args.old c.args.new in
+    let calm = subst (λ (m : Bound _). Calm marks was m) (sym c.self.view_is)
+    c.look_and_mark.ensures.calm in
     err_then c.write.result c.write.ensures.moved (λ moved both. (
-      other_as c.args.self.now _ c.args.old moved.found calm both.0,
+      other_as c.args.self.now _ c.args.old c.args.new moved.found calm both.0,
       updated g.P.Keeping.holds g.P.Keeping.fixed g.C.Choice.next c.args.self.now _
           c.write.new.self c.args.place c.args.field c.args.old c.args.new calm moved.found both.1
           c.write.ensures.table,

@@ -1,6 +1,7 @@
 use Rattle.std.proofs.Common.{refl, sym, ◌∙◌, arith}
 use Rattle.mutator_seat.specs.Claims.{Seeking}
 use Rattle.mutator_seat.proofs.Calm.{calm_none}
+use Rattle.mutator_seat.proofs.Pacing.{paces_none, paces_then}
 use Rattle.mutator_seat.proofs.Seeking.{seeking_then}
 use Rattle.mutator_seat.proofs.Tries.{claimed_then, err_both, full_behind, ok_all}
 use Rattle.mutator_seat.proofs.Updates.{err_then}
@@ -8,7 +9,12 @@ use Rattle.mutator_seat.proofs.Writes.{many_same}
 use Rattle.mutator_seat.proofs.mutator.Mutator.wait_for_cell.Goals as goal
 
 pub loop-init : goal.loop-init
-loop-init g c = (calm_none Seeking c.args.self.now refl, refl, omega arith)
+loop-init g c = (
+  calm_none Seeking c.args.self.now refl,
+  refl,
+  omega arith,
+  paces_none c.args.self.now 65 65 (omega arith),
+)
 
 pub handshake-control-requires : goal.handshake-control-requires
 handshake-control-requires g c = record {
@@ -74,11 +80,11 @@ pub returns-then-decides-clause-takes : goal.returns-then-decides-clause-takes
 returns-then-decides-clause-takes g c = c.loop.invariant.2
 
 pub returns-in-Some-try_on-clause-queue : goal.returns-in-Some-try_on-clause-queue
-returns-in-Some-try_on-clause-queue g c = c.try_on.ensures.queue ∙ c.loop.invariant.1
+returns-in-Some-try_on-clause-queue g c = c.take_hint-hint.ensures.queue ∙ c.loop.invariant.1
 
 pub returns-in-Some-try_on-clause-takes : goal.returns-in-Some-try_on-clause-takes
 returns-in-Some-try_on-clause-takes g c =
-    omega (arith, c.try_on.ensures.takes, c.loop.invariant.2)
+    omega (arith, c.take_hint-hint.ensures.takes, c.loop.invariant.2)
 
 pub returns-in-Some-try_on-clause-got : goal.returns-in-Some-try_on-clause-got
 returns-in-Some-try_on-clause-got g c =
@@ -87,12 +93,29 @@ returns-in-Some-try_on-clause-got g c =
     (seeking_then c.args.self.now c.loop.self asked.new.self c.loop.invariant.0
     asked.ensures.seeking) c.in-Some-try_on.ensures.got
 
+pub returns-then-decides-clause-pace : goal.returns-then-decides-clause-pace
+returns-then-decides-clause-pace g c =
+    let asked = c.handshake-control in
+    paces_then c.args.self.now asked.new.self c.try_last.new.self 65 1 65
+    (paces_then c.args.self.now c.loop.self asked.new.self 65 65 1 c.loop.invariant.3
+    asked.ensures.pace) c.try_last.ensures.pace
+
+pub returns-in-Some-try_on-clause-pace : goal.returns-in-Some-try_on-clause-pace
+returns-in-Some-try_on-clause-pace g c =
+    let asked = c.handshake-control in
+    paces_then c.args.self.now asked.new.self c.try_on.new.self 65 1 65
+    (paces_then c.args.self.now c.loop.self asked.new.self 65 65 1 c.loop.invariant.3
+    asked.ensures.pace) c.try_on.ensures.pace
+
 pub loop-preserved : goal.loop-preserved
 loop-preserved g c =
     let asked = c.handshake-control in (
       seeking_then c.args.self.now asked.new.self c.try_on.new.self
           (seeking_then c.args.self.now c.loop.self asked.new.self c.loop.invariant.0
           asked.ensures.seeking) c.in-None-try_on.ensures.none,
-      c.try_on.ensures.queue ∙ c.loop.invariant.1,
-      omega (arith, c.try_on.ensures.takes, c.loop.invariant.2),
+      c.take_hint-hint.ensures.queue ∙ c.loop.invariant.1,
+      omega (arith, c.take_hint-hint.ensures.takes, c.loop.invariant.2),
+      paces_then c.args.self.now asked.new.self c.try_on.new.self 65 1 65
+          (paces_then c.args.self.now c.loop.self asked.new.self 65 65 1 c.loop.invariant.3
+          asked.ensures.pace) c.try_on.ensures.pace,
     )
