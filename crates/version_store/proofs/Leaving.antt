@@ -4,6 +4,8 @@ use Rattle.std.proofs.Common.{◌∙◌, ap, subst, ℕ}
 use Rattle.std.specs.List.{list_all}
 use Rattle.std.proofs.lemmas.Bool.{and_parts}
 use Rattle.std.proofs.lemmas.List.{append-nil, append_assoc}
+use Rattle.cell_words.specs.Modes.{barrier_of}
+use Rattle.cell_words.specs.declared.presences.Status.{Status}
 use Rattle.cell_words.specs.declared.colours.Colour.TheVariants as colour
 use Rattle.cell_words.specs.declared.fields.Field.{Field}
 use Rattle.core_machine.specs.declared.events.Event.{Event}
@@ -21,8 +23,8 @@ use Rattle.mutator_events.specs.Events.{AtEvent}
 use Rattle.mutator_events.specs.Values.{field_at}
 use Rattle.mutator_seat.specs.Bound.{Bound, takes, takes_with}
 use Rattle.mutator_seat.specs.Claims.{Claimed, Seeking, seeks}
-use Rattle.mutator_seat.specs.Stretches.{Calm, are_marks, is_mark}
-use Rattle.mutator_seat.specs.Writes.{LookAndMarks, Updated, write_of}
+use Rattle.mutator_seat.specs.Stretches.{Calm, MarksOf}
+use Rattle.mutator_seat.specs.Writes.{LookAndMarks, Updated, wanted_by, write_of}
 use Rattle.mutator_seat.proofs.Writes.{field_same}
 use Rattle.version_rule.specs.Pass.{Pass}
 use Rattle.version_rule.specs.Versions.{is_fixed}
@@ -118,19 +120,21 @@ seeking_none (t ∷ ts) are =
     (list_all (λ (u : Taken). seeks u.event u.found) ts) are in
     λ i. seeks_kept t t.event t.found parts.0 i ++ seeking_none ts parts.1 i
 
-mark_kept : (t : Taken) (e : Event) → is_mark e ≡ true → kept_if (is_write e) t ≡ []
-mark_kept t (event.Mark i place) is = refl
-mark_kept t e is = absurd cc
+-- marks of some places
+marks_none : (number : ℕ) (places : List ℕ) (es : List Taken) → MarksOf number places es
+    → writes_in es ≡ []
+marks_none number places [] are = refl
+marks_none number [] (t ∷ ts) are = absurd cc
+marks_none number (place ∷ places) (t ∷ ts) are =
+    let first : t.event ≡ event.Mark number place = cc in
+    let rest : MarksOf number places ts = cc in
+    λ i. kept_if (is_write (first i)) t ++ marks_none number places ts rest i
 
-marks_none : (es : List Taken) → are_marks es → writes_in es ≡ []
-marks_none [] are = refl
-marks_none (t ∷ ts) are =
-    let parts = and_parts (is_mark t.event)
-    (list_all (λ (u : Taken). is_mark u.event) ts) are in
-    λ i. mark_kept t t.event parts.0 i ++ marks_none ts parts.1 i
-
-look_none : (number : ℕ) (es : List Taken) → LookAndMarks number es → writes_in es ≡ []
-look_none number es is = ap writes_in is.split ∙ marks_none is.marks is.marks_are
+look_none : (number : ℕ) (own : Status) (old new : Value) (es : List Taken)
+    → LookAndMarks number own old new es → writes_in es ≡ []
+look_none number own old new es is =
+    ap writes_in is.split
+    ∙ marks_none number (wanted_by (barrier_of own is.control) old new) is.marks is.marks_are
 
 pub sought_writes : (a b : Bound Pass) → Calm Seeking a b → WritesNothing a b
 sought_writes a b calm = calm_writes Seeking a b seeking_none calm
@@ -158,7 +162,8 @@ module _ (holds : Map → List Pass → Type 0) (next : Learned → Found → Pa
       subst (λ (t : Taken). Writes (t ∷ []) a b)
       (λ i. exchange (wrote.calm.kept.number i) (word i) box found)
       (nothing_then (took (write_of at 0 0 old new) (finds.Field found) ∷ []) a at b
-      (calm_writes (LookAndMarks a.seat.me.number) a at (look_none a.seat.me.number) wrote.calm)
+      (calm_writes (LookAndMarks a.seat.me.number a.seat.me.presence.status old new) a at
+      (look_none a.seat.me.number a.seat.me.presence.status old new) wrote.calm)
       (writes_event at b (write_of at 0 0 old new) (finds.Field found)
       (ap (λ (v : View Pass). v.trail) wrote.event.new)))
 
