@@ -124,7 +124,7 @@ def listed(name):
 
 def kind_of(words):
     """Gives which word these refusals come to."""
-    return "name" if all(NAMES.search(it) for it in words if "error" in it) else "false"
+    return "name" if all(NAMES.search(it) for it in words) else "false"
 
 
 def main(name, wanted):

@@ -76,17 +76,6 @@ module _ {P : Type 0} where
         λ so. over_late from end xs ys (two.1 so),
       )) first second
 
-  pub hears_and : (over : Bool) (from end : ℕ) (a b c : Bound P) → Hears over from end a b
-      → Does nothing b c → Hears over from end a c
-  hears_and over from end a b c first second =
-      stretch_then (HearsBy over from end (work_of a) (work_of b))
-      (Counts (work_of b) (work_of c) nothing)
-      (HearsBy over from end (work_of a) (work_of c)) a b c
-      (λ xs ys one two. (
-        counts_join (work_of a) (work_of b) (work_of c) nothing nothing xs ys one.0 two,
-        λ so. over_on from end xs ys (one.1 so),
-      )) first second
-
   -- one mutator more
   pub hears_more : (all one both : Bool) (m : ℕ) (a b c : Bound P) → both ≡ (all && one)
       → Hears all 0 m a b → Hears one m (m + 1) b c → Hears both 0 (m + 1) a c

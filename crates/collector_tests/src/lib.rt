@@ -1,7 +1,8 @@
-//! Whole cycles on a heap of words: what the reports of cycles count, worked out by hand, and
-//! mutators that claim on threads of their own beside a collector that serves.
+//! Whole cycles on a heap of words: what the reports of cycles count, worked out by hand; cycles
+//! beside a mutator that is out; and mutators that claim on threads of their own beside a collector
+//! that serves.
 //!
-//! Reading order: `heaps`, `collecting`, `mutating`; `cycles`, `threads`.
+//! Reading order: `heaps`, `collecting`, `mutating`; `cycles`, `who_is_out`, `threads`.
 #![tactic(auto)]
 
 mod collecting;
@@ -11,3 +12,5 @@ mod heaps;
 mod mutating;
 #[cfg(test)]
 mod threads;
+#[cfg(test)]
+mod who_is_out;

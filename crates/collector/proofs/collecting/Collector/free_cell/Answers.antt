@@ -1,6 +1,6 @@
-use Rattle.collector.specs.Counting.{Does, frees, nothing}
-use Rattle.free_cells.specs.Hints.{counts_of}
 use Rattle.std.proofs.Common.{refl}
+use Rattle.collector.specs.Counting.{frees, nothing}
+use Rattle.free_cells.specs.Hints.{counts_of}
 use Rattle.collector.proofs.Joining.{does_after}
 use Rattle.collector.proofs.Offered.{free_does, offer_counts, offers_after, offers_one}
 use Rattle.collector.proofs.collecting.Collector.free_cell.Goals as goal
