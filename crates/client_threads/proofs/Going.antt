@@ -22,27 +22,29 @@ use Rattle.client_threads.proofs.Waiting.{waits_mutator, waits_same}
 
 module _ (s : Session) (m : Bound Pass) (t : Session) (n : Bound Pass) where
   pub went_on : (c : Command) (reply : Reply) → MayGo t n → IsSameMutator m n
-      → t.journal.limits ≡ s.journal.limits
+      → t.journal.limits ≡ s.journal.limits → t.minor.room ≡ s.minor.room
       → t.journal.log.client ≡ s.journal.log.client
       → Enters s.journal t.journal c reply (state_of m s.minor s.draft s.base)
       (state_of n t.minor t.draft t.base)
       → Went (c ∷ []) s m t n
-  went_on c reply may same limits client enters = record {
+  went_on c reply may same limits minor client enters = record {
     may = may;
     same = same;
     limits = limits;
+    minor = minor;
     client = client;
     commands = ap commands_of enters.entries
         ∙ map-append (λ (e : Entry). e.command) s.journal.log.entries _;
   }
 
   pub went_none : MayGo t n → IsSameMutator m n → t.journal.limits ≡ s.journal.limits
-      → t.journal.log.client ≡ s.journal.log.client
+      → t.minor.room ≡ s.minor.room → t.journal.log.client ≡ s.journal.log.client
       → t.journal.log.entries ≡ s.journal.log.entries → Went [] s m t n
-  went_none may same limits client entries = record {
+  went_none may same limits minor client entries = record {
     may = may;
     same = same;
     limits = limits;
+    minor = minor;
     client = client;
     commands = ap commands_of entries ∙ sym (append-nil (commands_of s.journal.log.entries));
   }
@@ -54,6 +56,7 @@ waited_went more s t a m n waits went = record {
   may = went.may;
   same = same_then a m n (waits_mutator a m waits) went.same;
   limits = went.limits;
+  minor = went.minor;
   client = went.client;
   commands = went.commands;
 }
@@ -62,7 +65,7 @@ waited_went more s t a m n waits went = record {
 
 pub went_first : (s : Session) (m : Bound Pass) → MayGo s m → Went [] s m s m
 went_first s m may =
-    went_none s m s m may (waits_mutator m m (waits_same m)) refl refl refl
+    went_none s m s m may (waits_mutator m m (waits_same m)) refl refl refl refl
 
 pub went_then : (xs ys : List Command) (s t u : Session) (a b c : Bound Pass) → Went xs s a t b
     → Went ys t b u c → Went (xs ++ ys) s a u c
@@ -70,6 +73,7 @@ went_then xs ys s t u a b c first second = record {
   may = second.may;
   same = same_then a b c first.same second.same;
   limits = second.limits ∙ first.limits;
+  minor = second.minor ∙ first.minor;
   client = second.client ∙ first.client;
   commands = second.commands
       ∙ ap (λ (cs : List Command). cs ++ ys) first.commands

@@ -77,6 +77,7 @@ module _ (a b : Bound Pass) (i j : ℕ) (out over : Found) (seat : SeatView Pass
         table = ap (λ (s : SeatView Pass). s.table) is;
         shape = ap (λ (s : SeatView Pass). s.me.shape) is;
         number = ap (λ (s : SeatView Pass). s.me.number) is;
+        room = ap (λ (s : SeatView Pass). s.me.room) is;
         pass = ap (λ (s : SeatView Pass). s.me.pass) is;
         claims = ap (λ (s : SeatView Pass). s.me.own.claims) is;
         marks = ap (λ (s : SeatView Pass). marks_of s.me.trail) is
@@ -146,6 +147,8 @@ module _ (heap : HeapId) (queue : FreeQueue) (l : Limits) (script : List Command
       left.shape ∙ shape,
     );
     number_is = left.number ∙ front.went.same.number ∙ came.number ∙ ready.seat.number_is;
+    minor = front.went.minor ∙ ready.session.minor;
+    room = left.room ∙ front.went.same.room ∙ came.room ∙ ready.seat.room;
     over = left.over;
     left = record {
       state = state_of n new.session.minor new.session.draft new.session.base;

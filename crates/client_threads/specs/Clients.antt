@@ -1,6 +1,6 @@
 -- What a client has before its run, and what it leaves.
 -- Source: this project's.
-use Rattle.std.specs.Prelude.{ℕ, zero, suc, ◌≡◌, ◌≤◌, ◌+◌, true, false, List, []}
+use Rattle.std.specs.Prelude.{ℕ, zero, suc, ◌≡◌, ◌≤◌, ◌+◌, ◌*◌, true, false, List, []}
 use Rattle.std.specs.Prelude.{◌∷◌, length, map, take, Vec}
 use Rattle.std.specs.declared.alloc.Global.{Global}
 use Rattle.client_run.specs.Own.{MayAnswer}
@@ -22,6 +22,11 @@ use Rattle.version_rule.specs.Pass.{Pass}
 abbrev pub store_limits : Limits → StoreLimits
 store_limits l = record { keep = l.keep; versions = l.versions }
 
+-- the places of a client's mutator: four for each private record that there is room for, and some
+-- more
+abbrev pub places_for : ℕ → ℕ
+places_for minor = 4 * minor + 16_384
+
 -- the commands that were answered
 abbrev pub commands_of : List Entry → List Command
 commands_of entries = map (λ (e : Entry). e.command) entries
@@ -32,13 +37,15 @@ script_of [] place = []
 script_of (script ∷ scripts) zero = script.items
 script_of (script ∷ scripts) (suc place) = script_of scripts place
 
--- The session is as it was made for this client, and answered nothing yet: it may answer by each
--- mutator of so much room that is in, holds the anchor alone and made no version.
+-- The session is as it was made for this client, and answered nothing yet: it has a private heap of
+-- as many records as it is to have, and may answer by each mutator of so much room that is in, holds
+-- the anchor alone and made no version.
 pub record IsNewSession (l : Limits) (client room : ℕ) (s : Session) : Type 0 where
   pub entries : s.journal.log.entries ≡ []
   pub client_is : s.journal.log.client ≡ client
   pub keep : s.journal.limits.keep ≡ l.keep
   pub versions : s.journal.limits.versions ≡ l.versions
+  pub minor : s.minor.room ≡ l.minor
   pub may : (m : Bound Pass) → m.seat.me.presence.inside ≡ true
       → length m.seat.me.own.held ≡ 1 → m.seat.me.pass.keep ≡ l.keep
       → m.seat.me.pass.commits ≡ [] → m.seat.me.room ≡ room
@@ -49,6 +56,7 @@ pub record IsNewSeat (heap : HeapId) (l : Limits) (place : ℕ) (seat : SeatView
     : Type 0 where
   pub seat_is : IsSeatOf heap seat
   pub number_is : seat.me.number ≡ place
+  pub room : seat.me.room ≡ places_for l.minor
   pub out : seat.me.presence.inside ≡ false
   pub not_over : seat.me.presence.over ≡ false
   pub keep : seat.me.pass.keep ≡ l.keep
@@ -64,13 +72,16 @@ pub record IsReady (heap : HeapId) (queue : FreeQueue) (l : Limits) (script : Li
   pub not_failed : client.failed ≡ false
   pub short : length script ≤ 100_000
 
--- The client is through: its mutator is over, and its log is in step with what the seat has. Where
--- memory was wanting it stopped early, and its log is of the script's first commands.
+-- The client is through: its mutator is over, and its log is in step with what the seat has; its
+-- private heap and its mutator have the room that they were to have. Where memory was wanting it
+-- stopped early, and its log is of the script's first commands.
 pub record IsDone (heap : HeapId) (l : Limits) (script : List Command) (place : ℕ)
     (client : Client) : Type 0 where
   pub place_is : client.place ≡ place
   pub seat_is : IsSeatOf heap client.seat
   pub number_is : client.seat.me.number ≡ place
+  pub minor : client.session.minor.room ≡ l.minor
+  pub room : client.seat.me.room ≡ places_for l.minor
   pub over : client.seat.me.presence.over ≡ true
   pub left : IsLeft (store_limits l) heap.shape.cells (place + 1) client.session.journal.log
       (share_of client.seat.me)

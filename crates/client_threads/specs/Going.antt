@@ -34,6 +34,7 @@ pub record Went (more : List Command) (s : Session) (m : Bound Pass) (t : Sessio
   pub may : MayGo t n
   pub same : IsSameMutator m n
   pub limits : t.journal.limits ≡ s.journal.limits
+  pub minor : t.minor.room ≡ s.minor.room
   pub client : t.journal.log.client ≡ s.journal.log.client
   pub commands : commands_of t.journal.log.entries ≡ commands_of s.journal.log.entries ++ more
 
@@ -65,6 +66,7 @@ pub record Left (m : Bound Pass) (seat : SeatView Pass) : Type 0 where
   pub table : seat.table ≡ m.seat.table
   pub shape : seat.me.shape ≡ m.seat.me.shape
   pub number : seat.me.number ≡ m.seat.me.number
+  pub room : seat.me.room ≡ m.seat.me.room
   pub pass : seat.me.pass ≡ m.seat.me.pass
   pub claims : seat.me.own.claims ≡ m.seat.me.own.claims
   pub marks : marks_of seat.me.trail ≡ marks_of m.seat.me.trail

@@ -99,23 +99,50 @@ fn two_clients_make_each_version_once(rt: HostRuntime) -> Result<(), Fail> {
     Ok(())
 }
 
-/// The status of a run of two clients, whether one looked for the other in vain, and how often
-/// their gate was asked and told.
+/// The status of a run of two clients by these words, whether one looked for the other in vain, and
+/// how often their gate was asked and told.
 fn meeting<R: Threads + Wait + Sync>(
     alloc: Global,
     rt: &R,
+    all: &[&str],
 ) -> Result<(u8, bool, u32, u32), NoMemory> {
     let gate = new_gate();
-    let all = ["run", "f", "f"];
-    let (outcome, _sink) = outcome_at(alloc, rt, &all, b"put a x\nget a\n", &gate)?;
+    let (outcome, _sink) = outcome_at(alloc, rt, all, b"put a x\nget a\n", &gate)?;
     let asked = gate.asked.load(Ordering::SeqCst);
     let told = gate.told.load(Ordering::SeqCst);
     Ok((outcome.status, gate.cross.late(), asked, told))
 }
 
-// The clients ask the gate that the run was given, and it lets each command begin.
+// The clients ask the gate that the run was given, and it lets each command begin. So do those of
+// generated scripts.
 #[test]
 fn the_first_commands_of_two_clients_meet(rt: HostRuntime) -> Result<(), Fail> {
-    assert_eq!(rt; meeting(rt.alloc(), &rt)?, (0, false, 4, 4));
+    let table: [&[&str]; 2] = [&["run", "f", "f"], &["gen", "1", "2", "2"]];
+    for all in table {
+        let met = meeting(rt.alloc(), &rt, all)?;
+        assert_eq!(rt; met, (0, false, 4, 4), "{all:?}");
+    }
+    Ok(())
+}
+
+/// The status of two runs of the same generated scripts, and whether both print the same summary,
+/// in which no reply is `full`.
+fn summaries<R: Threads + Wait + Sync>(
+    alloc: Global,
+    rt: &R,
+) -> Result<(u8, u8, bool, bool), NoMemory> {
+    let all = ["gen", "7", "3", "200"];
+    let (first, one) = outcome_at(alloc, rt, &all, b"", &OpenGate)?;
+    let (second, other) = outcome_at(alloc, rt, &all, b"", &OpenGate)?;
+    let same = one.written() == other.written();
+    let spare = one.written().ends_with(b"\nfull 0\nlegal yes\n");
+    Ok((first.status, second.status, same, spare))
+}
+
+// Which of the legal histories comes of it is another at each run; where no heap was full the summary
+// is one.
+#[test]
+fn two_runs_of_generated_scripts_print_one_summary(rt: HostRuntime) -> Result<(), Fail> {
+    assert_eq!(rt; summaries(rt.alloc(), &rt)?, (0, 0, true, true));
     Ok(())
 }

@@ -1,7 +1,8 @@
-//! What no clause says of doc_run: whole runs, from the bytes of a file to the bytes written, the
-//! merged history of two clients, which gate they ask, and the text of each fault.
+//! What no clause says of doc_run: whole runs, from the bytes of a file to the bytes written, in
+//! which pieces these are offered, the merged history of two clients, which gate they ask, and the
+//! text of each fault.
 //!
-//! Reading order: `outcomes`; `runs`, `failing`, `options`, `totals`, `clients`.
+//! Reading order: `outcomes`; `runs`, `pieces`, `failing`, `options`, `totals`, `clients`.
 #![tactic(auto)]
 
 #[cfg(test)]
@@ -12,6 +13,8 @@ mod failing;
 mod options;
 #[cfg(test)]
 mod outcomes;
+#[cfg(test)]
+mod pieces;
 #[cfg(test)]
 mod runs;
 #[cfg(test)]

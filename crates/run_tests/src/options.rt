@@ -37,6 +37,67 @@ fn draft_shown<R: Threads + Wait + Sync>(
     shown_by(alloc, rt, all, &script, &output)
 }
 
+/// So many puts at one name of the draft.
+fn name_script(alloc: Global, count: u32) -> Result<Vec<u8>, NoMemory> {
+    let mut text = Vec::new(alloc);
+    for _ in 0..count {
+        text.extend_from_slice(b"dput a x\n")?;
+    }
+    Ok(text)
+}
+
+/// What is written of them where so many cells are claimed, of 64, and none is freed.
+fn name_output(alloc: Global, count: u32, claimed: u32) -> Result<Vec<u8>, NoMemory> {
+    let mut text = Vec::from_slice(alloc, b"client 1\n")?;
+    for _ in 0..count {
+        text.extend_from_slice(b"drafted 0\n")?;
+    }
+    let used = claimed.saturating_add(3);
+    let free = 64u32.saturating_sub(used);
+    let front = format!(in alloc; "stats\ncommands {count}\nversions 0\nclaimed {claimed}\n")?;
+    let back = format!(in alloc; "freed 0\nused {used}\nfree {free}\ncycles 0\n")?;
+    text.extend_from_slice(front.as_bytes())?;
+    text.extend_from_slice(back.as_bytes())?;
+    Ok(text)
+}
+
+/// What is shown of so many such puts where the private heap has room for so many records, and so
+/// many cells are to be claimed.
+fn name_shown<R: Threads + Wait + Sync>(
+    alloc: Global,
+    rt: &R,
+    minor: &str,
+    count: u32,
+    claimed: u32,
+) -> Result<Shown, NoMemory> {
+    let all = [
+        "run", "--minor", minor, "--cells", "64", "--cycles", "0", "--stats", "f",
+    ];
+    let script = name_script(alloc, count)?;
+    let output = name_output(alloc, count, claimed)?;
+    shown_by(alloc, rt, &all, &script, &output)
+}
+
+// The empty draft is one record, the first put makes five, and each further one four. Records are
+// collected before an edit for which fewer than 2,285 are free, and the draft then takes five cells:
+// so it is behind 453 puts in a room for 4,096, which have made 1,814, and not behind 452.
+#[test]
+fn records_are_collected_by_the_room_that_was_asked_for(rt: HostRuntime) -> Result<(), Fail> {
+    let table = [
+        ("4096", 453, 0),
+        ("4096", 454, 5),
+        ("4100", 454, 0),
+        ("4100", 455, 5),
+        ("8192", 1_477, 0),
+        ("8192", 1_478, 5),
+    ];
+    for (minor, count, claimed) in table {
+        let shown = name_shown(rt.alloc(), &rt, minor, count, claimed)?;
+        assert_eq!(rt; shown, FINISHED, "{minor} {count}");
+    }
+    Ok(())
+}
+
 // A version that is cut off is gone; none is made past the last.
 #[test]
 fn versions_are_cut_off_and_worn(rt: HostRuntime) -> Result<(), Fail> {

@@ -1,5 +1,7 @@
 //! Whole runs of one client, replays, generated scripts, and what is refused.
 use crate::outcomes::{DONE, FINISHED, Shown, files, refusal_by, shown_by, shown_of, words};
+use cmd_text::ScriptKind;
+use core_replay::ScheduleKind;
 use doc_model::NoMemory;
 use doc_run::{Words, run};
 use outside::{MemShelf, MemSink, OpenGate, SureShelf, SureSink};
@@ -275,6 +277,21 @@ fn texts_are(alloc: Global, fault: Fault, text: &str) -> Result<(bool, bool), No
 fn each_fault_has_its_text(rt: HostRuntime) -> Result<(), Fail> {
     let table = [
         (Fault::Usage, "docheap: usage"),
+        (
+            Fault::Script {
+                file: 2,
+                line: 7,
+                kind: ScriptKind::BadPath,
+            },
+            "docheap: file 2: line 7: BadPath",
+        ),
+        (
+            Fault::Schedule {
+                line: 7,
+                kind: ScheduleKind::NoEvent,
+            },
+            "docheap: file 1: line 7: NoEvent",
+        ),
         (Fault::ReadFault { file: 1 }, "docheap: file 1: read fault"),
         (Fault::WriteFault, "docheap: write fault"),
         (Fault::Memory, "docheap: out of memory"),

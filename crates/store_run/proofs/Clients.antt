@@ -22,6 +22,7 @@ use Rattle.heap_rule.specs.declared.view.Share.{Share}
 use Rattle.heap_table.specs.Seats.{HeapId}
 use Rattle.run_history.specs.Left.{AreLeft, IsLeft}
 use Rattle.store_run.specs.Opened.{lists_of}
+use Rattle.store_run.specs.Parts.{AllHadRoom}
 use Rattle.version_rule.specs.Pass.{Pass}
 
 -- one more client, at the next place
@@ -90,6 +91,28 @@ left_push l cells count logs log at share many lt left is = λ i below.
             ≡ some (places.Joined share)) (sym same)
             (set_here at count (places.Joined share) lt);
         left = subst (λ (n : ℕ). IsLeft l cells (n + 1) log share) (sym same) is;
+      }
+    ]
+
+-- one more mutator that was joined, with its places
+pub rooms_push : (room count : ℕ) (at : List (Place Pass)) (share : Share Pass)
+    → count < length at → AllHadRoom room at count → share.room ≡ room
+    → AllHadRoom room (slice_set at count (places.Joined share)) (count + 1)
+rooms_push room count at share lt had is = λ i below.
+    elim (cases_lt i count) [
+      | inl before ↦ let old = had i before in record {
+        share = old.share;
+        share_at = subst (λ p. p ≡ some (places.Joined old.share))
+            (sym (set_else at count i (places.Joined share) (λ e. omega (arith, before, e))))
+            old.share_at;
+        room_is = old.room_is;
+      }
+      | inr behind ↦ let same : i ≡ count = omega (arith, below, behind) in record {
+        share = share;
+        share_at = subst (λ (n : ℕ). get_elem? (slice_set at count (places.Joined share)) n
+            ≡ some (places.Joined share)) (sym same)
+            (set_here at count (places.Joined share) lt);
+        room_is = is;
       }
     ]
 

@@ -12,6 +12,7 @@ use Rattle.std.specs.List.{list_any}
 use Rattle.std.proofs.lemmas.List.Folds.{list_any-append}
 use mathlib.Core.Option.{some}
 use lib.ListN.{get_elem?}
+use Rattle.client_threads.specs.Clients.{places_for}
 use Rattle.client_threads.specs.Serving.{off_first}
 use Rattle.client_turns.specs.Runs.{was_full}
 use Rattle.closed_store.specs.Chain.{ShowsVersions}
@@ -38,14 +39,17 @@ use Rattle.doc_model.specs.declared.command.Entry.{Entry}
 use Rattle.doc_model.specs.declared.totals.Totals.{Totals}
 use Rattle.heap_rule.specs.Rule.{took}
 use Rattle.heap_rule.specs.Shape.{IsSound, Shape}
+use Rattle.heap_rule.specs.declared.view.Place.{Place}
+use Rattle.heap_rule.specs.declared.view.Place.TheVariants as places
 use Rattle.heap_rule.specs.declared.view.View.{View}
 use Rattle.heap_table.specs.Images.{ImageView, Shows}
 use Rattle.run_history.specs.Agreed.{LogsAgree}
 use Rattle.run_history.specs.Left.{AreLeft}
 use Rattle.run_history.proofs.Agreeing.{logs_agree}
+use Rattle.run_history.proofs.Indices.{at_once}
 use Rattle.store_run.specs.Finished.{Comes, IsTiedTo, IsTotals, commands_of, duty_on}
 use Rattle.store_run.specs.Opened.{IsWithin, limits_of, shape_of}
-use Rattle.store_run.specs.Parts.{IsCounted}
+use Rattle.store_run.specs.Parts.{AllHadRoom, IsCounted}
 use Rattle.store_run.specs.declared.options.Options.{Options}
 use Rattle.version_rule.specs.Opening.{first_rows}
 use Rattle.version_rule.specs.Pass.{Pass}
@@ -146,6 +150,12 @@ there [] i x h = absurd cc
 there (y ∷ ys) zero x h = omega arith
 there (y ∷ ys) (suc i) x h = let rest = there ys i x h in omega (arith, rest)
 
+-- how many places a joined mutator had
+room_in : Place Pass → ℕ
+room_in places.Unsplit = 0
+room_in places.Away = 0
+room_in (places.Joined share) = share.room
+
 -- What is known where the heap of a run is closed: of its clients, and of its collector.
 pub record AtClose (o : Options) (scripts : List (List Command)) (logs : List ClientLog)
     (v : View Pass) : Type 0 where
@@ -153,6 +163,7 @@ pub record AtClose (o : Options) (scripts : List (List Command)) (logs : List Cl
   pub within : IsWithin o
   pub many : length logs ≡ length scripts
   pub left : AreLeft (limits_of o) o.cells logs v.places (length scripts)
+  pub rooms : AllHadRoom (places_for o.minor) v.places (length scripts)
   -- the collector's trail and its control
   pub held_back : Bool
   pub made : ℕ
@@ -203,15 +214,20 @@ module _ (o : Options) (scripts : List (List Command)) (logs : List ClientLog)
       versions = stay;
     }
 
-    tied_here : (i : ℕ) → i < length scripts → IsTiedTo (limits_of o) o.cells logs v.places i
+    tied_here : (i : ℕ) → i < length scripts
+        → IsTiedTo (limits_of o) o.cells (places_for o.minor) logs v.places i
     tied_here i lt =
         let one = at.left i lt in
+        let had = at.rooms i lt in
         let its = agreed.clients i one.log one.share one.log_at one.share_at in
         record {
           log = one.log;
           log_at = one.log_at;
           share = one.share;
           share_at = one.share_at;
+          room_is = ap (λ (p : Place Pass). room_in p)
+              (at_once v.places i (places.Joined one.share) (places.Joined had.share)
+              one.share_at had.share_at) ∙ had.room_is;
           tied = its.tied;
           shows = its.shows;
         }

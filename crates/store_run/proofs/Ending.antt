@@ -11,7 +11,7 @@ use Rattle.std.proofs.lemmas.List.Elements.{All-cons, All-head, All-nil, All-tai
 use Rattle.cell_heap.specs.Telling.{AreJoined}
 use Rattle.cell_words.specs.declared.controls.Control.{Control}
 use Rattle.client_run.specs.declared.session.Limits.{Limits as ClientLimits}
-use Rattle.client_threads.specs.Clients.{store_limits}
+use Rattle.client_threads.specs.Clients.{places_for, store_limits}
 use Rattle.client_threads.specs.Serving.{MayServe, ServesLate, Stands, off_first}
 use Rattle.client_threads.specs.declared.keeper.Standby.{Standby}
 use Rattle.collector.specs.Cycles.{Served}
@@ -28,7 +28,7 @@ use Rattle.heap_table.specs.Seats.{HeapId, IsSeatOf, SeatView}
 use Rattle.run_history.specs.Left.{AreLeft}
 use Rattle.store_run.specs.Finished.{commands_of, duty_on}
 use Rattle.store_run.specs.Opened.{IsWithin, client_limits, limits_of, lists_of, shape_of}
-use Rattle.store_run.specs.Parts.{AreTaken, IsOpened, IsStill}
+use Rattle.store_run.specs.Parts.{AllHadRoom, AreTaken, IsOpened, IsStill}
 use Rattle.store_run.specs.declared.opening.Opened.{Opened}
 use Rattle.store_run.specs.declared.options.Options.{Options}
 use Rattle.version_rule.specs.Pass.{Pass}
@@ -141,7 +141,8 @@ pub at_close : (o : Options) (scripts : List (Vec Command Global)) (heap : HeapI
     → heap.shape ≡ shape_of o (length scripts) → IsSeatOf heap first
     → first.me.trail ≡ duty_on o.cycles → first.me.control.cycles ≡ 0
     → Stands heap queue o.cycles first mid standby
-    → AreTaken (limits_of o) heap.shape.cells (length scripts) logs mid joined
+    → AreTaken (limits_of o) heap.shape.cells (places_for o.minor) (length scripts) logs mid
+    joined
     → ServesLate o.cycles standby joined last
     → AtClose o (lists_of scripts) logs last.me
 at_close o scripts heap queue first mid joined last standby logs least within shape is trail
@@ -165,6 +166,9 @@ at_close o scripts heap queue first mid joined last standby logs least within sh
           (length scripts)) (sym w.places)
           (subst (λ (h : Shape). AreLeft (limits_of o) h.cells logs joined.me.places
           (length scripts)) shape taken.left));
+      rooms = subst (λ (n : ℕ). AllHadRoom (places_for o.minor) last.me.places n) (sym many)
+          (subst (λ (ps : List (Place Pass)). AllHadRoom (places_for o.minor) ps
+          (length scripts)) (sym w.places) taken.rooms);
       held_back = w.held_back;
       made = w.made;
       freed = w.freed;
@@ -193,11 +197,12 @@ module _ (o : Options) (scripts : List (Vec Command Global)) (made : Opened)
       (standby : Option Standby) (logs : List ClientLog)
       → 1 ≤ length scripts → IsWithin o → limits ≡ client_limits o
       → Stands made.heap queue o.cycles made.keeper.seat mid standby
-      → AreTaken (store_limits limits) made.heap.shape.cells (length scripts) logs mid joined
+      → AreTaken (store_limits limits) made.heap.shape.cells (places_for limits.minor)
+      (length scripts) logs mid joined
       → ServesLate o.cycles standby joined last
       → AtClose o (lists_of scripts) logs last.me
   closing limits queue mid joined last standby logs least within limits_are stands taken late =
       at_close o scripts made.heap queue made.keeper.seat mid joined last standby logs least within
       opened.shape opened.seat opened.trail opened.no_cycles stands
       (subst (λ (l : ClientLimits). AreTaken (store_limits l) made.heap.shape.cells
-      (length scripts) logs mid joined) limits_are taken) late
+      (places_for l.minor) (length scripts) logs mid joined) limits_are taken) late

@@ -7,7 +7,8 @@ use Rattle.std.specs.Prelude.{Vec}
 use Rattle.std.specs.declared.alloc.Global.{Global}
 use Rattle.std.proofs.lemmas.List.{length-append, length-map, length-set, map-append, take_all}
 use Rattle.client_run.specs.declared.session.Limits.{Limits as ClientLimits}
-use Rattle.client_threads.specs.Clients.{AllDone, AllFrom, IsDone, script_of, store_limits}
+use Rattle.client_threads.specs.Clients.{AllDone, AllFrom, IsDone, places_for, script_of}
+use Rattle.client_threads.specs.Clients.{store_limits}
 use Rattle.client_threads.specs.declared.clients.Client.{Client}
 use Rattle.doc_model.specs.ClientLog.{ClientLog}
 use Rattle.doc_model.specs.declared.command.Command.{Command}
@@ -19,9 +20,9 @@ use Rattle.heap_table.specs.Seats.{HeapId, IsSeatOf, SeatView}
 use Rattle.run_history.specs.Left.{AreLeft, IsLeft}
 use Rattle.store_run.specs.Finished.{commands_of}
 use Rattle.store_run.specs.Opened.{lists_of}
-use Rattle.store_run.specs.Parts.{AreTaken, IsStill}
+use Rattle.store_run.specs.Parts.{AllHadRoom, AreTaken, IsStill}
 use Rattle.version_rule.specs.Pass.{Pass}
-use Rattle.store_run.proofs.Clients.{left_push, scripts_more}
+use Rattle.store_run.proofs.Clients.{left_push, rooms_push, scripts_more}
 
 -- The logs are those of the first clients, whose seats are joined, and these clients are left.
 pub record Taking (heap : HeapId) (limits : ClientLimits) (scripts : List (Vec Command Global))
@@ -33,6 +34,7 @@ pub record Taking (heap : HeapId) (limits : ClientLimits) (scripts : List (Vec C
   pub done : AllFrom (λ place client. IsDone heap limits (script_of scripts place) place client)
       (length logs) rest
   pub left : AreLeft (store_limits limits) heap.shape.cells logs new.me.places (length logs)
+  pub rooms : AllHadRoom (places_for limits.minor) new.me.places (length logs)
   pub whole : failed ≡ false → map commands_of logs ≡ take (length logs) (lists_of scripts)
 
 module _ (heap : HeapId) (limits : ClientLimits) (scripts : List (Vec Command Global)) where
@@ -46,6 +48,7 @@ module _ (heap : HeapId) (limits : ClientLimits) (scripts : List (Vec Command Gl
     many = omega (arith, many);
     done = done;
     left = λ i lt. absurd (omega (arith, lt));
+    rooms = λ i lt. absurd (omega (arith, lt));
     whole = λ so. refl;
   }
 
@@ -84,6 +87,10 @@ module _ (heap : HeapId) (limits : ClientLimits) (scripts : List (Vec Command Gl
       mid.me.places (share_of client.seat.me) refl there t.left its in
       let at_new = subst (λ (ps : List (Place Pass)). AreLeft (store_limits limits)
       heap.shape.cells (logs ++ log ∷ []) ps (length logs + 1)) (sym placed) pushed in
+      let roomy = subst (λ (ps : List (Place Pass)). AllHadRoom (places_for limits.minor) ps
+      (length logs + 1)) (sym placed)
+      (rooms_push (places_for limits.minor) (length logs) mid.me.places
+      (share_of client.seat.me) there t.rooms is.room) in
       record {
         still = record {
           table = ap (λ (s : SeatView Pass). s.table) new_is ∙ t.still.table;
@@ -99,6 +106,8 @@ module _ (heap : HeapId) (limits : ClientLimits) (scripts : List (Vec Command Gl
             IsDone heap limits (script_of scripts place) place c) n rest) (sym one) t.done.1;
         left = subst (λ (n : ℕ). AreLeft (store_limits limits) heap.shape.cells
             (logs ++ log ∷ []) new.me.places n) (sym one) at_new;
+        rooms = subst (λ (n : ℕ). AllHadRoom (places_for limits.minor) new.me.places n)
+            (sym one) roomy;
         whole = λ so. let both = by so in
             map-append commands_of logs (log ∷ [])
             ∙ ap (λ (cs : List (List Command)). cs ++ commands_of log ∷ []) (t.whole both.0)
@@ -110,7 +119,8 @@ module _ (heap : HeapId) (limits : ClientLimits) (scripts : List (Vec Command Gl
 
   pub taking_ends : (logs : List ClientLog) (failed : Bool) (old new : SeatView Pass)
       → Taking heap limits scripts [] logs failed old new
-      → AreTaken (store_limits limits) heap.shape.cells (length scripts) logs old new
+      → AreTaken (store_limits limits) heap.shape.cells (places_for limits.minor)
+      (length scripts) logs old new
   taking_ends logs failed old new t =
       let count = t.many in
       let all : length logs ≡ length scripts = omega (arith, count) in
@@ -119,6 +129,8 @@ module _ (heap : HeapId) (limits : ClientLimits) (scripts : List (Vec Command Gl
         many = all;
         left = subst (λ (n : ℕ). AreLeft (store_limits limits) heap.shape.cells logs
             new.me.places n) all t.left;
+        rooms = subst (λ (n : ℕ). AllHadRoom (places_for limits.minor) new.me.places n) all
+            t.rooms;
       }
 
   pub all_whole : (logs : List ClientLog) (failed : Bool) (old new : SeatView Pass)

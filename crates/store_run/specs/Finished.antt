@@ -10,6 +10,7 @@ use Rattle.std.specs.Prelude.{List, [], ◌∷◌, length, map}
 use Rattle.std.specs.List.{list_any}
 use mathlib.Core.Option.{some}
 use lib.ListN.{get_elem?}
+use Rattle.client_threads.specs.Clients.{places_for}
 use Rattle.client_turns.specs.Runs.{ShowsRun, was_full}
 use Rattle.closed_store.specs.Chain.{ShowsVersions}
 use Rattle.closed_store.specs.Closing.{EndedStore}
@@ -47,13 +48,15 @@ abbrev pub commands_of : ClientLog → List Command
 commands_of log = map (λ (e : Entry). e.command) log.entries
 
 -- The log with this index and what the mutator with this index left: its seat was joined, the log
--- is tied to its pass, and its trail shows what the log tells of. So many cells has the heap.
-pub record IsTiedTo (l : Limits) (cells : ℕ) (logs : List ClientLog) (joined : List (Place Pass))
+-- is tied to its pass, and its trail shows what the log tells of. So many cells has the heap, and so
+-- many places the mutator.
+pub record IsTiedTo (l : Limits) (cells room : ℕ) (logs : List ClientLog) (joined : List (Place Pass))
     (i : ℕ) : Type 0 where
   pub log : ClientLog
   pub log_at : get_elem? logs i ≡ some log
   pub share : Share Pass
   pub share_at : get_elem? joined i ≡ some (places.Joined share)
+  pub room_is : share.room ≡ room
   pub tied : Tied l share.pass log
   pub shows : ShowsRun cells log.entries (marks_of share.trail)
 
@@ -98,9 +101,10 @@ pub record Comes (o : Options) (scripts : List (List Command)) (logs : List Clie
   -- the image is that of a store's heap, which opened with a mutator for each client
   pub ended : EndedStore (shape_of o (length scripts)) image.words passes
   pub shown : Shows image ended.shows.core
-  -- each log is tied to what its own mutator left
+  -- each log is tied to what its own mutator left, which had the places that go with a private heap
+  -- of so many records
   pub tied : (i : ℕ) → i < length scripts
-      → IsTiedTo (limits_of o) o.cells logs passes.places i
+      → IsTiedTo (limits_of o) o.cells (places_for o.minor) logs passes.places i
   -- the logs agree on the versions of that heap, and merged they are a legal history
   pub agree : Agree (limits_of o) ended.shows.kept.trees logs
   pub merged : (entries : List Entry) → IsMerge logs entries

@@ -2,7 +2,7 @@
 //! is kept.
 ghost use Rattle.std.specs.Prelude.{◌≡◌, ◌≤◌, [], false, true, length, map};
 ghost use Rattle.std.specs.Prelude.{vec_capacity};
-ghost use Rattle.client_threads.specs.Clients.{AllDone, IsDone, store_limits};
+ghost use Rattle.client_threads.specs.Clients.{AllDone, IsDone, places_for, store_limits};
 ghost use Rattle.heap_rule.specs.Moves.{joined_view};
 ghost use Rattle.heap_table.specs.Seats.{IsSeatOf};
 ghost use Rattle.store_run.specs.Finished.{commands_of};
@@ -33,8 +33,8 @@ pub(crate) fn take_back(
     requires done { AllDone heap.now limits scripts.now clients.items }
     requires empty { logs.old.items ≡ [] }
     requires room { length scripts.now ≤ vec_capacity logs.old }
-    ensures taken { AreTaken (store_limits limits) heap.now.shape.cells (length scripts.now)
-        logs.new.items seat.old seat.new }
+    ensures taken { AreTaken (store_limits limits) heap.now.shape.cells (places_for limits.minor)
+        (length scripts.now) logs.new.items seat.old seat.new }
     ensures whole { result ≡ false → map commands_of logs.new.items ≡ lists_of scripts.now }
 {
     let _ = limits;

@@ -38,6 +38,7 @@ returns g c =
         trail = duty.trail ∙ ap (λ (events : List Taken). events ++ duty_on o.cycles)
             (split.still.trail ∙ ap (λ (s : SeatView Pass). s.me.trail) seat);
         places = ap (λ (ps : List (Place Pass)). length ps) duty.places ∙ split.many;
+        stack = c.in_ok-stack.ensures.stack;
         pass = c.in_ok-clients.ensures.pass;
         hinted = c.in_ok-queue.ensures.cells;
         ready = subst (λ (l : Limits). AllReady c.in_ok-heap.heap c.in_ok-queue.queue l
