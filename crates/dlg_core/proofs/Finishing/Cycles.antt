@@ -26,7 +26,7 @@ use Rattle.dlg_core.specs.PlainCycle.{HasFinished, PlainCycle, behind_look, ends
 use Rattle.dlg_core.specs.PlainCycle.{ends_cycle, is_out, look_before, may_finish, most_events}
 use Rattle.dlg_core.specs.PlainCycle.{turn_with}
 use Rattle.dlg_core.specs.Runs.{LeadsTo}
-use Rattle.dlg_core.proofs.Finishing.Events.{left_at}
+use Rattle.dlg_core.proofs.Finishing.Falls.{left_at}
 use Rattle.dlg_core.proofs.Finishing.Turns.{LooksFirst, planned}
 
 -- Runs.
