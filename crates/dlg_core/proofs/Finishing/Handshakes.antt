@@ -1,5 +1,5 @@
--- A turn of the plain collector that is possible leaves less by as many events as it has, on the way
--- of a cycle or not: the work of a stage, and the handshakes.
+-- A turn of the plain collector that is possible leaves less, by as many events as it has, on the
+-- way of a cycle or not: the work of a stage, and the handshakes.
 use Rattle.std.proofs.Common.{if◌then◌else◌, ◌≡◌, ℕ, suc, ◌+◌, ◌*◌, ◌<◌, ◌≤◌, Bool, true, false}
 use Rattle.std.proofs.Common.{not, ◌&&◌, List, [], ◌∷◌, length, get_or, Option, Some, None, refl}
 use Rattle.std.proofs.Common.{sym, ap, subst, arith}

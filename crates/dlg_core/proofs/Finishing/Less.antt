@@ -291,10 +291,12 @@ trace_most cells k clean cursor scan few =
         → (k - 1) * (cells + 12) ≤ cells * (cells + 12)
         → trace_left cells k clean cursor scan ≤ cells * (cells + 12) + 2 * cells + 11
     most true None less fewer =
-        let some = all (k * (cells + 12)) (cells * (cells + 12)) 0 cells cursor less (omega arith) in
+        let some = all (k * (cells + 12)) (cells * (cells + 12)) 0 cells cursor less
+        (omega arith) in
         omega arith
     most false None less fewer =
-        let some = all (k * (cells + 12)) (cells * (cells + 12)) 0 cells cursor less (omega arith) in
+        let some = all (k * (cells + 12)) (cells * (cells + 12)) 0 cells cursor less
+        (omega arith) in
         omega arith
     most clean (Some x) less fewer =
         all ((k - 1) * (cells + 12)) (cells * (cells + 12)) (scan_left x.next x.child) cells cursor
