@@ -51,6 +51,7 @@ use Rattle.version_store.specs.Calls.{StaysKnown, StillKnown}
 use Rattle.version_store.specs.Lasts.{IsSameMutator, LastsAcross, marks}
 use Rattle.version_store.proofs.Going.{many_cells, many_held, still_same}
 use Rattle.client_heap.specs.Carries.{Carries, Follows}
+use Rattle.client_heap.specs.Shows.{node_term}
 use Rattle.client_heap.proofs.Carrying.{carries_known}
 
 -- No event takes a claim back.
@@ -220,11 +221,6 @@ module _ (m n : Bound Pass) (full : HeapFull) (refused : Refused m full n) where
 
 -- The copy of a node.
 
-pub node_term : (known : List Known) (records : List (List MinorField)) (r : MinorRef) (k : Known)
-    → k ≡ knows.Record (term_of (terms_known known) records r)
-    → known_term k ≡ term_of (terms_known known) records r
-node_term known records r k is = ap known_term is
-
 node_record : (known : List Known) (records : List (List MinorField)) (r : MinorRef) (k : Known)
     → k ≡ knows.Record (term_of (terms_known known) records r)
     → IsTreeNode (term_of (terms_known known) records r) → IsRecord k
@@ -241,8 +237,11 @@ module _ (m n : Bound Pass) (old new : Nursery) (r : MinorRef)
     node = subst IsTreeNode (sym (ap known_term is)) node.node;
   }
 
+  pub copy_term : node_term n new (at.Shared place) ≡ node_term m old (at.Minor r)
+  copy_term = ap known_term is
+
   pub copy_tree : tree_at n new (at.Shared place) ≡ tree_at m old (at.Minor r)
-  copy_tree = ap tree_of (ap known_term is)
+  copy_tree = ap tree_of copy_term
 
 module _ (m n : Bound Pass) (minor : Nursery) (r : MinorRef)
     (promoted : Promoted m minor.records r n)

@@ -4,14 +4,15 @@ use Rattle.std.proofs.Common.{◌∙◌, ap, subst, arith}
 use Rattle.client_records.specs.declared.at.NodeAt.{NodeAt}
 use Rattle.client_records.specs.declared.at.NodeAt.TheVariants as at
 use Rattle.client_records.specs.Records.{IsRecord, known_term, stands_on}
-use Rattle.client_trees.specs.Nodes.{IsTreeAt, tree_at}
-use Rattle.doc_records.specs.Trees.{IsTreeNode, tree_of}
+use Rattle.client_trees.specs.Nodes.{IsTreeAt}
+use Rattle.doc_records.specs.Trees.{IsTreeNode}
 use Rattle.heap_rule.specs.Asks.{known_of}
 use Rattle.minor_heap.specs.Nursery.{Nursery}
 use Rattle.minor_heap.specs.declared.fields.MinorField.{MinorField}
 use Rattle.mutator_seat.specs.Bound.{Bound}
 use Rattle.version_rule.specs.Pass.{Pass}
 use Rattle.client_heap.specs.Carries.{Follows}
+use Rattle.client_heap.specs.Shows.{node_term}
 use Rattle.client_heap.specs.Sound.{IsCleared, IsSound}
 use Rattle.client_heap.proofs.Carrying.{stands_more}
 
@@ -59,8 +60,8 @@ module _ (m n : Bound Pass) (minor : Nursery) (d : NodeAt) (b place : ℕ)
     ready = let same = f.room in omega (arith, ready, same);
   }
 
-  pub alone_tree : tree_at n minor (at.Shared 1) ≡ tree_at m minor (at.Shared place)
-  alone_tree = ap tree_of (ap known_term known)
+  pub alone_term : node_term n minor (at.Shared 1) ≡ node_term m minor (at.Shared place)
+  alone_term = ap known_term known
 
 -- no record is left, and few places
 module _ (m n : Bound Pass) (old new : Nursery) (d : NodeAt) (b : ℕ) (sound : IsSound m old d b)
@@ -103,8 +104,8 @@ module _ (m n : Bound Pass) (old new : Nursery) (d : NodeAt) (b : ℕ) (sound : 
 module _ (m n : Bound Pass) (old new : Nursery) (place b : ℕ)
     (sound : IsSound m old (at.Shared place) b) (held : length n.seat.me.own.held ≡ b)
     (known : (p : ℕ) → p < b → known_of n.seat.me p ≡ known_of m.seat.me p) where
-  pub cleared_tree : tree_at n new (at.Shared place) ≡ tree_at m old (at.Shared place)
-  cleared_tree = ap tree_of (ap known_term (known place sound.stands.0))
+  pub cleared_term : node_term n new (at.Shared place) ≡ node_term m old (at.Shared place)
+  cleared_term = ap known_term (known place sound.stands.0)
 
   pub cleared_node : IsTreeAt n new (at.Shared place)
   cleared_node = record {

@@ -11,7 +11,7 @@ use Rattle.minor_heap.specs.Nursery.{Nursery}
 use Rattle.mutator_seat.specs.Bound.{Bound}
 use Rattle.version_rule.specs.Pass.{Pass, commit_numbers}
 use Rattle.client_heap.specs.Carries.{Carries, Follows}
-use Rattle.client_heap.specs.Shows.{handles_of, state_of, stored}
+use Rattle.client_heap.specs.Shows.{handles_of, node_term, state_of, stored}
 use Rattle.client_heap.specs.Sound.{IsSound}
 use Rattle.client_heap.proofs.Carrying.{stands_more}
 
@@ -32,11 +32,11 @@ module _ (m n : Bound Pass) (old new : Nursery) (f : Follows m n old new) where
 module _ (places : ℕ) (m n : Bound Pass) (old new : Nursery) (c : Carries places m n old new)
   where
     module _ (d : NodeAt) (b : ℕ) (sound : IsSound m old d b) (small : b ≤ places) where
-      draft_term : stands_on m.seat.me.known old.records places d
-      draft_term = stands_more m.seat.me.known old.records b places d small sound.stands
+      draft_stands : stands_on m.seat.me.known old.records places d
+      draft_stands = stands_more m.seat.me.known old.records b places d small sound.stands
 
-      pub draft_on : tree_at n new d ≡ tree_at m old d
-      draft_on = ap tree_of (c.same d draft_term)
+      pub draft_on : node_term n new d ≡ node_term m old d
+      draft_on = c.same d draft_stands
 
       pub sound_on : b + length new.records + 9100 ≤ m.seat.me.room → IsSound n new d b
       sound_on ready = record {
@@ -44,7 +44,7 @@ module _ (places : ℕ) (m n : Bound Pass) (old new : Nursery) (c : Carries plac
         some = sound.some;
         kept = let long = c.longer in omega (arith, long, small);
         stands = c.still d b small sound.stands;
-        node = subst IsTreeNode (sym (c.same d draft_term)) sound.node;
+        node = subst IsTreeNode (sym (c.same d draft_stands)) sound.node;
         records =
             let same = c.follows.minor_room in let few = sound.records in omega (arith, same, few);
         places =

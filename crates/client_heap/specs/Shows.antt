@@ -1,6 +1,8 @@
 -- What a client's mutator and private heap show of the client, in the words of its session.
 -- Source: this project's.
 use Rattle.std.specs.Prelude.{ℕ, ◌+◌, ◌-◌, length}
+use Rattle.cell_words.specs.Term.{Term}
+use Rattle.client_records.specs.Records.{term_at}
 use Rattle.client_records.specs.declared.at.NodeAt.{NodeAt}
 use Rattle.client_session.specs.Handles.{Handles}
 use Rattle.client_session.specs.declared.held.HeldVersion.{HeldVersion}
@@ -14,6 +16,10 @@ use Rattle.version_rule.specs.Pass.{Pass}
 use Rattle.version_store.specs.Held.{IsHeld, root_at}
 use Rattle.version_store.specs.declared.held.HeldVersion.{HeldVersion as StoreVersion}
 
+-- the term of the node that stands there
+abbrev pub node_term : Bound Pass → Nursery → NodeAt → Term
+node_term m minor at = term_at m.seat.me.known minor.records at
+
 -- where a draft stands that a number of first places stay for
 abbrev pub state_of : Bound Pass → Nursery → NodeAt → ℕ → ClientState
 state_of m minor draft base = record {
@@ -21,7 +27,7 @@ state_of m minor draft base = record {
   pass = m.seat.me.pass;
   marks = marks_of m.seat.me.trail;
   claims = m.seat.me.own.claims;
-  draft = tree_at m minor draft;
+  draft = node_term m minor draft;
   base = base;
   held = length m.seat.me.own.held;
   room = m.seat.me.room - (length m.seat.me.own.held + length minor.records);

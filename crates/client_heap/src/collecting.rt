@@ -2,8 +2,9 @@
 ghost use Rattle.std.specs.Prelude.{ℕ, ◌≡◌, ◌<◌, ◌≤◌, ◌+◌, [], OnErr, OnOk};
 ghost use Rattle.std.specs.Prelude.{length, true};
 ghost use Rattle.client_heap.specs.Carries.{Carries, Follows};
+ghost use Rattle.client_heap.specs.Shows.{node_term};
 ghost use Rattle.client_records.specs.declared.at.NodeAt.TheVariants as at;
-ghost use Rattle.client_trees.specs.Nodes.{IsTreeAt, tree_at};
+ghost use Rattle.client_trees.specs.Nodes.{IsTreeAt};
 ghost use Rattle.free_cells.specs.Hints.{queue_of};
 ghost use Rattle.heap_rule.specs.Asks.{known_of};
 ghost use Rattle.trails.specs.Claims.{IsFull};
@@ -35,8 +36,8 @@ pub(crate) fn share_node<R: Wait>(
     requires room { length m.old.seat.me.own.held + length minor.old.records + 1
         ≤ m.old.seat.me.room }
     ensures node { OnOk result (IsTreeAt m.new minor.new (at.Shared 1)) }
-    ensures tree { OnOk result (tree_at m.new minor.new (at.Shared 1)
-        ≡ tree_at m.old minor.old (at.Minor r)) }
+    ensures term { OnOk result (node_term m.new minor.new (at.Shared 1)
+        ≡ node_term m.old minor.old (at.Minor r)) }
     ensures held { OnOk result (length m.new.seat.me.own.held ≡ 2) }
     ensures emptied { OnOk result (minor.new.records ≡ []) }
     ensures full { OnErr result (Had (IsFull m.old.seat.me.shape.cells) (marks m.old)

@@ -2,9 +2,10 @@
 ghost use Rattle.std.specs.Prelude.{◌≡◌, ◌+◌, ◌<◌, ◌≤◌, OnErr, OnOk, length};
 ghost use Rattle.std.specs.Prelude.{max, true};
 ghost use Rattle.client_heap.specs.Carries.{Carries, Follows};
+ghost use Rattle.client_heap.specs.Shows.{node_term};
 ghost use Rattle.client_heap.specs.Sound.{IsCleared, IsSound};
 ghost use Rattle.client_records.specs.declared.at.NodeAt.TheVariants as at;
-ghost use Rattle.client_trees.specs.Nodes.{IsTreeAt, tree_at};
+ghost use Rattle.client_trees.specs.Nodes.{IsTreeAt};
 ghost use Rattle.free_cells.specs.Hints.{queue_of};
 ghost use Rattle.trails.specs.Claims.{IsFull};
 ghost use Rattle.trails.specs.Stretches.{Had};
@@ -35,7 +36,7 @@ pub(crate) fn make_draft(
     requires room { length m.old.seat.me.own.held + length minor.now.records + 9100
         ≤ m.old.seat.me.room }
     ensures sound { IsSound m.new minor.now draft.new base.new }
-    ensures tree { tree_at m.new minor.now draft.new ≡ tree_at m.old minor.now at }
+    ensures term { node_term m.new minor.now draft.new ≡ node_term m.old minor.now at }
     ensures pass { m.new.seat.me.pass ≡ m.old.seat.me.pass }
     ensures held { length m.new.seat.me.own.held ≤ length m.old.seat.me.own.held }
     ensures follows { Follows m.old m.new minor.now minor.now }
@@ -74,12 +75,12 @@ fn share_draft<R: Wait>(
     requires ready { length m.old.seat.me.own.held + length minor.old.records + 9000
         ≤ m.old.seat.me.room }
     ensures shared { OnOk result (IsSound m.new minor.new (at.Shared 1) 2) }
-    ensures tree { OnOk result (tree_at m.new minor.new (at.Shared 1)
-        ≡ tree_at m.old minor.old (at.Minor r)) }
+    ensures term { OnOk result (node_term m.new minor.new (at.Shared 1)
+        ≡ node_term m.old minor.old (at.Minor r)) }
     ensures cleared { OnOk result (IsCleared m.new minor.new) }
     ensures sound { OnErr result (IsSound m.new minor.new (at.Minor r) base) }
-    ensures same { OnErr result (tree_at m.new minor.new (at.Minor r)
-        ≡ tree_at m.old minor.old (at.Minor r)) }
+    ensures same { OnErr result (node_term m.new minor.new (at.Minor r)
+        ≡ node_term m.old minor.old (at.Minor r)) }
     ensures full { OnErr result (Had (IsFull m.old.seat.me.shape.cells) (marks m.old)
         (marks m.new)) }
     ensures kept { length m.new.seat.me.own.held + length minor.new.records
@@ -112,8 +113,8 @@ fn clear_around<R: Wait>(
     requires ready { length m.old.seat.me.own.held + length minor.old.records + 9000
         ≤ m.old.seat.me.room }
     ensures sound { IsSound m.new minor.new (at.Shared place) base }
-    ensures tree { tree_at m.new minor.new (at.Shared place)
-        ≡ tree_at m.old minor.old (at.Shared place) }
+    ensures term { node_term m.new minor.new (at.Shared place)
+        ≡ node_term m.old minor.old (at.Shared place) }
     ensures cleared { OnOk result (IsCleared m.new minor.new) }
     ensures full { OnErr result (Had (IsFull m.old.seat.me.shape.cells) (marks m.old)
         (marks m.new)) }
@@ -136,8 +137,8 @@ fn draw_in(m: &mut Mutator<'_, Documents>, minor: &MinorHeap, place: usize, base
     requires sound { IsSound m.old minor.now (at.Shared place) base }
     requires many { 2 < base }
     ensures sound { IsSound m.new minor.now (at.Shared 1) 2 }
-    ensures tree { tree_at m.new minor.now (at.Shared 1)
-        ≡ tree_at m.old minor.now (at.Shared place) }
+    ensures term { node_term m.new minor.now (at.Shared 1)
+        ≡ node_term m.old minor.now (at.Shared place) }
     ensures held { length m.new.seat.me.own.held ≤ length m.old.seat.me.own.held }
     ensures follows { Follows m.old m.new minor.now minor.now }
     ensures pass { m.new.seat.me.pass ≡ m.old.seat.me.pass }
@@ -169,7 +170,7 @@ pub(crate) fn make_room<R: Wait>(
         (marks m.new)) }
     ensures kept { length m.new.seat.me.own.held + length minor.new.records
         ≤ length m.old.seat.me.own.held + length minor.old.records }
-    ensures tree { tree_at m.new minor.new draft.new ≡ tree_at m.old minor.old draft.old }
+    ensures term { node_term m.new minor.new draft.new ≡ node_term m.old minor.old draft.old }
     ensures small { base.new ≤ max base.old 2 }
     ensures follows { Follows m.old m.new minor.old minor.new }
     ensures pass { m.new.seat.me.pass ≡ m.old.seat.me.pass }

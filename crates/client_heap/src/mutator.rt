@@ -5,7 +5,7 @@ ghost use Rattle.std.specs.Option.{ForSome, option_map};
 ghost use Rattle.std.specs.Result.{ForOk};
 ghost use Rattle.cell_words.specs.declared.fields.Field.TheVariants as field;
 ghost use Rattle.client_heap.specs.Carries.{Carries, Follows};
-ghost use Rattle.client_heap.specs.Shows.{stored};
+ghost use Rattle.client_heap.specs.Shows.{node_term, stored};
 ghost use Rattle.client_heap.specs.Sound.{IsCleared, IsSound};
 ghost use Rattle.client_records.specs.Records.{is_shared};
 ghost use Rattle.client_trees.specs.Leaves.{Leaves, LeavesAll};
@@ -261,8 +261,8 @@ impl<'h, 'q> StoreSeat<Hints<'q>> for Mutator<'h, Documents> {
         requires room { length self.old.seat.me.own.held + length minor.now.records + 9100
             ≤ self.old.seat.me.room }
         ensures sound { IsSound self.new minor.now draft.new base.new }
-        ensures tree { tree_at self.new minor.now draft.new
-            ≡ tree_at self.old minor.now at }
+        ensures term { node_term self.new minor.now draft.new
+            ≡ node_term self.old minor.now at }
         ensures pass { self.new.seat.me.pass ≡ self.old.seat.me.pass }
         ensures held { length self.new.seat.me.own.held
             ≤ length self.old.seat.me.own.held }
@@ -334,8 +334,8 @@ impl<'h, 'q> StoreSeat<Hints<'q>> for Mutator<'h, Documents> {
             (marks self.old) (marks self.new)) }
         ensures kept { length self.new.seat.me.own.held + length minor.new.records
             ≤ length self.old.seat.me.own.held + length minor.old.records }
-        ensures tree { tree_at self.new minor.new draft.new
-            ≡ tree_at self.old minor.old draft.old }
+        ensures term { node_term self.new minor.new draft.new
+            ≡ node_term self.old minor.old draft.old }
         ensures small { base.new ≤ max base.old 2 }
         ensures follows { Follows self.old self.new minor.old minor.new }
         ensures pass { self.new.seat.me.pass ≡ self.old.seat.me.pass }

@@ -5,7 +5,7 @@ ghost use Rattle.std.specs.Option.{ForSome, option_map};
 ghost use Rattle.std.specs.Result.{ForOk};
 ghost use Rattle.cell_words.specs.declared.fields.Field.TheVariants as field;
 ghost use Rattle.client_heap.specs.Carries.{Carries, Follows};
-ghost use Rattle.client_heap.specs.Shows.{stored};
+ghost use Rattle.client_heap.specs.Shows.{node_term, stored};
 ghost use Rattle.client_heap.specs.Sound.{IsCleared, IsSound};
 ghost use Rattle.client_records.specs.Records.{is_shared};
 ghost use Rattle.client_trees.specs.Leaves.{Leaves, LeavesAll};
@@ -241,8 +241,8 @@ pub trait StoreSeat<Q> {
         requires room { length (bound self.old).seat.me.own.held + length minor.now.records + 9100
             ≤ (bound self.old).seat.me.room }
         ensures sound { IsSound (bound self.new) minor.now draft.new base.new }
-        ensures tree { tree_at (bound self.new) minor.now draft.new
-            ≡ tree_at (bound self.old) minor.now at }
+        ensures term { node_term (bound self.new) minor.now draft.new
+            ≡ node_term (bound self.old) minor.now at }
         ensures pass { (bound self.new).seat.me.pass ≡ (bound self.old).seat.me.pass }
         ensures held { length (bound self.new).seat.me.own.held
             ≤ length (bound self.old).seat.me.own.held }
@@ -310,8 +310,8 @@ pub trait StoreSeat<Q> {
             (marks (bound self.old)) (marks (bound self.new))) }
         ensures kept { length (bound self.new).seat.me.own.held + length minor.new.records
             ≤ length (bound self.old).seat.me.own.held + length minor.old.records }
-        ensures tree { tree_at (bound self.new) minor.new draft.new
-            ≡ tree_at (bound self.old) minor.old draft.old }
+        ensures term { node_term (bound self.new) minor.new draft.new
+            ≡ node_term (bound self.old) minor.old draft.old }
         ensures small { base.new ≤ max base.old 2 }
         ensures follows { Follows (bound self.old) (bound self.new) minor.old minor.new }
         ensures pass { (bound self.new).seat.me.pass ≡ (bound self.old).seat.me.pass }

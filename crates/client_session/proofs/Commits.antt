@@ -1,10 +1,11 @@
 -- The ends of a commit.
-use Rattle.std.proofs.Common.{◌≡◌, ℕ, ◌+◌, ◌≤◌, ◌<◌, sym, subst, arith, Some}
+use Rattle.std.proofs.Common.{◌≡◌, ℕ, ◌+◌, ◌≤◌, ◌<◌, false, sym, ◌∙◌, ap, subst, arith, Some}
 use Rattle.std.proofs.Common.{refl, Ok, Err}
+use Rattle.std.proofs.lemmas.Bool.{true≢false}
 use Rattle.client_session.specs.Turns.{Answered, Outrun, account_of, bounds}
 use Rattle.client_session.specs.declared.given.Given.{Given}
 use Rattle.client_session.specs.declared.journal.Journal.{Journal}
-use Rattle.client_turns.specs.Progress.{MakesNone}
+use Rattle.client_turns.specs.Progress.{MakesNone, runs_out}
 use Rattle.client_turns.specs.State.{ClientState, IsReady, Lasts, Rests}
 use Rattle.client_turns.specs.Turns.{Begun, Turned}
 use Rattle.client_turns.proofs.States.{none_lost, none_then, rests_none}
@@ -16,10 +17,16 @@ use Rattle.doc_model.specs.declared.command.Reply.{Reply}
 use Rattle.doc_model.specs.declared.command.Reply.TheVariants as reply
 use Rattle.doc_tree.specs.Tree.{DocTree}
 use Rattle.doc_tree.specs.declared.edit.EditFault.{EditFault}
+use Rattle.doc_tree.specs.declared.edit.EditFault.TheVariants as fault
 use Rattle.trails.specs.Claims.{IsFull}
 use Rattle.trails.specs.Stretches.{Had}
 use Rattle.trails.proofs.Stretches.{had_late}
 use Rattle.version_rule.specs.Pass.{commit_numbers, committed}
+
+-- what wants memory is no edit of records
+pub never_wants : (e : EditFault) → e ≡ fault.NoMemory → runs_out (Err e) ≡ false → ⊥
+never_wants e is spared =
+    true≢false (sym (ap (λ (x : EditFault). runs_out (Err x)) is) ∙ spared)
 
 -- a commit that was not made
 pub unmade_none : {s t : ClientState} → Lasts s t

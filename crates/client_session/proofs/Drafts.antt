@@ -1,6 +1,7 @@
 -- The ends of the commands that make the draft.
 use Rattle.std.proofs.Common.{◌≡◌, ℕ, List, sym, ◌∙◌, ap, subst, Some, None, Ok, Err}
 use Rattle.std.proofs.Common.{refl}
+use Rattle.cell_words.specs.Term.{Term}
 use Rattle.client_session.specs.Handles.{Edits, Handles}
 use Rattle.client_session.specs.Turns.{Answered, Begins, MayTurn, account_of, bounds}
 use Rattle.client_session.specs.declared.given.Given.{Given}
@@ -20,6 +21,7 @@ use Rattle.doc_model.specs.Answers.{refusal}
 use Rattle.doc_model.specs.declared.command.Command.TheVariants as command
 use Rattle.doc_model.specs.declared.command.Reply.{Reply}
 use Rattle.doc_model.specs.declared.command.Reply.TheVariants as reply
+use Rattle.doc_records.specs.Trees.{tree_of}
 use Rattle.doc_tree.specs.Edits.{set_text}
 use Rattle.doc_tree.specs.Tree.{DocTree, node}
 use Rattle.doc_tree.specs.declared.edit.EditFault.{EditFault}
@@ -28,8 +30,8 @@ use Rattle.trails.specs.Stretches.{Had}
 use Rattle.version_rule.specs.Pass.{commit_numbers}
 
 -- a node became the draft
-pub drafts_of : {tree : DocTree} {s t : ClientState} → t.pass ≡ s.pass → t.draft ≡ tree
-    → Lasts s t → Drafts tree s t
+pub drafts_of : {tree : DocTree} {s t : ClientState} → t.pass ≡ s.pass
+    → tree_of t.draft ≡ tree → Lasts s t → Drafts tree s t
 drafts_of pass draft lasts =
     record { lasts = lasts; commits = ap commit_numbers pass; draft = draft }
 
@@ -47,19 +49,20 @@ module _ (j : Journal) (path : List (List ℕ)) {s : ClientState} (may : MayTurn
 
     pub dput_ends : {t u w : ClientState} (tree : DocTree) (places : ℕ) → MakesNone s t
         → Edits places t u
-        → set_text path text t.draft ≡ Ok tree → Drafts tree u w → IsReady w
+        → set_text path text (tree_of t.draft) ≡ Ok tree → Drafts tree u w → IsReady w
         → Answered j (command.DraftPut path text) s w
         (record { reply = reply.Drafted j.last; kept = reply.Drafted j.last; place = j.last })
     dput_ends tree places none edits made drafts ready = record {
       turned = dput_turned (bounds j.limits) j.log.client (account_of j s)
           (account_is j s may.last) ready path text tree
-          (ap (set_text path text) (sym none.draft) ∙ made)
+          (ap (λ (t : Term). set_text path text (tree_of t)) (sym none.draft) ∙ made)
           (drafts_late none (drafts_late (edits_none edits) drafts));
       kept = refl;
     }
 
     pub dput_refused_ends : {t u : ClientState} (e : EditFault) (g : Given) (places : ℕ)
-        → MakesNone s t → Edits places t u → set_text path text t.draft ≡ Err e
+        → MakesNone s t → Edits places t u
+        → set_text path text (tree_of t.draft) ≡ Err e
         → IsReady u
         → g.reply ≡ refusal e j.last → g.kept ≡ g.reply → g.place ≡ j.last
         → Answered j (command.DraftPut path text) s u g
@@ -67,7 +70,7 @@ module _ (j : Journal) (path : List (List ℕ)) {s : ClientState} (may : MayTurn
       turned =
           let turned = dput_refused (bounds j.limits) j.log.client (account_of j s)
           (account_is j s may.last) ready path text e
-          (ap (set_text path text) (sym none.draft) ∙ made)
+          (ap (λ (t : Term). set_text path text (tree_of t)) (sym none.draft) ∙ made)
           (none_then none (edits_none edits)) in
           subst (λ (p : ℕ). Turned (bounds j.limits) j.log.client (account_of j s)
           (command.DraftPut path text) s u g.reply p)

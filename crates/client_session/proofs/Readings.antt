@@ -21,6 +21,7 @@ use Rattle.doc_model.specs.declared.command.Command.{Command}
 use Rattle.doc_model.specs.declared.command.Command.TheVariants as command
 use Rattle.doc_model.specs.declared.command.Reply.{Reply}
 use Rattle.doc_model.specs.declared.command.Reply.TheVariants as reply
+use Rattle.doc_records.specs.Trees.{tree_of}
 use Rattle.doc_tree.specs.Tree.{DocTree, node}
 use Rattle.trails.specs.Asks.{Shows}
 use Rattle.version_rule.specs.Fits.{Fits}
@@ -88,7 +89,7 @@ module _ (j : Journal) (c : Command) {s : ClientState} (may : MayTurn j s) where
 -- the text in the draft
 pub draft_ends : (j : Journal) {s u : ClientState} (path : List (List ℕ)) (draft : DocTree)
     (g : Given) → MayTurn j s
-    → draft ≡ s.draft → text_shown j.last j.last (node path draft) ≡ told g.reply j.last
+    → draft ≡ tree_of s.draft → text_shown j.last j.last (node path draft) ≡ told g.reply j.last
     → g.kept ≡ g.reply → g.place ≡ j.last → IsPlain g.reply → Rests 8 s u
     → 9_100 ≤ s.room
     → Answered j (command.DraftGet path) s u g

@@ -1,6 +1,7 @@
 -- How a command ends, where nothing was made before it or behind it.
 use Rattle.std.proofs.Common.{◌≡◌, ap, subst, arith, length, Option, Some, None, Result, Ok}
 use Rattle.std.proofs.Common.{Err}
+use Rattle.cell_words.specs.Term.{Term}
 use Rattle.client_session.specs.Turns.{Answered, Ends, MayTurn, account_of, bounds}
 use Rattle.client_session.specs.declared.given.Given.{Given}
 use Rattle.client_session.specs.declared.journal.Journal.{Journal}
@@ -11,15 +12,15 @@ use Rattle.client_turns.proofs.States.{lost_none, lost_then, none_lost, rests_no
 use Rattle.client_turns.proofs.Turning.{lost_turned, turned_on}
 use Rattle.doc_model.specs.declared.answer.Account.{Account}
 use Rattle.doc_model.specs.declared.command.Command.{Command}
-use Rattle.doc_tree.specs.Tree.{DocTree}
+use Rattle.doc_records.specs.Trees.{tree_of}
 
 pub may_lost : {j : Journal} {s t : ClientState} → MayTurn j s → Lost s t → MayTurn j t
 may_lost may lost = may_on may (lost_none lost)
 
 same_account : (j : Journal) {s t : ClientState} → Lost s t → account_of j t ≡ account_of j s
 same_account j lost =
-    ap (λ (d : DocTree). record { draft = d; last = j.last; answered = length j.log.entries })
-    lost.draft
+    ap (λ (d : Term).
+    record { draft = tree_of d; last = j.last; answered = length j.log.entries }) lost.draft
 
 -- however a command ends there is room for every reading, and so there is where room was given back
 pub ends_ready : (j : Journal) (c : Command) (s t : ClientState) {E : Type 0}

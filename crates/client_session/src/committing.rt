@@ -1,7 +1,8 @@
 //! The commands that make a version: an edit of the latest one, and the commit.
-ghost use Rattle.std.specs.Prelude.{◌≡◌, ◌≤◌, IfErr, IfOk, Ok, Some, true};
+ghost use Rattle.std.specs.Prelude.{◌≡◌, ◌≤◌, IfErr, IfOk, IsOk, Ok, Some, false, true};
 ghost use Rattle.client_session.specs.Handles.{Edits, Still};
 ghost use Rattle.client_session.specs.Turns.{Begins, Ends, FindsFull, MayTurn, account_of, bounds};
+ghost use Rattle.client_turns.specs.Progress.{runs_out};
 ghost use Rattle.client_turns.specs.State.{ClientState};
 ghost use Rattle.client_turns.specs.Turns.{Begun};
 ghost use Rattle.client_session.specs.Handles.{answered};
@@ -81,6 +82,7 @@ impl Journal {
             (H.state heap.old) (Ok ((H.shown heap.old).tree at))
             → full_place version.number (account_of self.now s) c ≡ Some version.number
             → Ends self.now c s (H.state heap.new) result }
+        ensures spared { IsOk result }
         ensures lent { H.lent heap.new ≡ H.lent heap.old }
     {
         let shown = version.number;
@@ -118,6 +120,7 @@ impl Journal {
             (H.state heap.old) (Ok ((H.shown heap.old).tree at))
             → full_place version.number (account_of self.now s) c ≡ Some version.number
             → Ends self.now c s (H.state heap.new) result }
+        ensures spared { IsOk result }
         ensures lent { H.lent heap.new ≡ H.lent heap.old }
     {
         let latest = heap.current();
@@ -145,6 +148,7 @@ impl Journal {
             (H.state heap.old) (answered (H.shown heap.old).tree edited)
             → full_place version.number (account_of self.now s) c ≡ Some version.number
             → Ends self.now c s (H.state heap.new) result }
+        ensures spared { runs_out (answered (H.shown heap.old).tree edited) ≡ false → IsOk result }
         ensures lent { H.lent heap.new ≡ H.lent heap.old }
     {
         match edited {
@@ -171,6 +175,7 @@ impl Journal {
         requires room { 9100 ≤ (H.state heap.old).room }
         ensures ends { Ends self.now (command.Put path.now text.now) (H.state heap.old)
             (H.state heap.new) result }
+        ensures spared { IsOk result }
         ensures lent { H.lent heap.new ≡ H.lent heap.old }
     {
         match begin(rt, heap) {
@@ -194,6 +199,7 @@ impl Journal {
         requires room { 9100 ≤ (H.state heap.old).room }
         ensures ends { Ends self.now (command.Del path.now) (H.state heap.old) (H.state heap.new)
             result }
+        ensures spared { IsOk result }
         ensures lent { H.lent heap.new ≡ H.lent heap.old }
     {
         match begin(rt, heap) {
@@ -218,6 +224,7 @@ impl Journal {
         requires room { 9100 ≤ (H.state heap.old).room }
         ensures ends { Ends self.now (command.Copy «from».now to.now) (H.state heap.old)
             (H.state heap.new) result }
+        ensures spared { IsOk result }
         ensures lent { H.lent heap.new ≡ H.lent heap.old }
     {
         match begin(rt, heap) {
@@ -241,6 +248,7 @@ impl Journal {
         requires room { 9100 ≤ (H.state heap.old).room }
         ensures ends { Ends self.now (command.Publish path.now) (H.state heap.old)
             (H.state heap.new) result }
+        ensures spared { IsOk result }
         ensures lent { H.lent heap.new ≡ H.lent heap.old }
     {
         match begin(rt, heap) {

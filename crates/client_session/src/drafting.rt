@@ -1,5 +1,5 @@
 //! The commands that make the draft.
-ghost use Rattle.std.specs.Prelude.{◌≡◌, ◌≢◌, ◌≤◌, IfOk, OnOk};
+ghost use Rattle.std.specs.Prelude.{◌≡◌, ◌≢◌, ◌≤◌, IfOk, IsOk, OnErr, OnOk};
 ghost use Rattle.client_session.specs.Turns.{Ends, MayTurn};
 ghost use Rattle.doc_model.specs.Answers.{refusal};
 ghost use Rattle.doc_model.specs.declared.command.Command.TheVariants as command;
@@ -18,6 +18,7 @@ pub(crate) fn refused(fault: EditFault, shown: u64) -> Result<Given, NoMemory>
     ensures reply { IfOk result (λ given. given.reply ≡ refusal fault shown) }
     ensures kept { IfOk result (λ given. given.kept ≡ given.reply) }
     ensures memory { OnOk result (fault ≢ EditFault.NoMemory) }
+    ensures wants { OnErr result (fault ≡ EditFault.NoMemory) }
     ensures place { IfOk result (λ given. given.place ≡ shown) }
 {
     match fault {
@@ -42,6 +43,7 @@ impl Journal {
         requires room { 9100 ≤ (H.state heap.old).room }
         ensures ends { Ends self.now (command.DraftPut path.now text.now) (H.state heap.old)
             (H.state heap.new) result }
+        ensures spared { IsOk result }
         ensures lent { H.lent heap.new ≡ H.lent heap.old }
     {
         let shown = self.last;
@@ -74,6 +76,7 @@ impl Journal {
         requires room { 9100 ≤ (H.state heap.old).room }
         ensures ends { Ends self.now (command.Take path.now) (H.state heap.old)
             (H.state heap.new) result }
+        ensures spared { IsOk result }
         ensures lent { H.lent heap.new ≡ H.lent heap.old }
     {
         match begin(rt, heap) {

@@ -9,6 +9,7 @@ ghost use Rattle.client_turns.specs.State.{ClientState, IsReady, IsSettled, Last
 ghost use Rattle.client_turns.specs.State.{StaysSmall};
 ghost use Rattle.client_session.specs.Handles.{answered};
 ghost use Rattle.doc_records.specs.Texts.{name_asks, text_asks};
+ghost use Rattle.doc_records.specs.Trees.{tree_of};
 ghost use Rattle.doc_tree.specs.Edits.{attach, delete, set_text};
 ghost use Rattle.doc_tree.specs.Tree.{count, names_of, node};
 ghost use Rattle.trails.specs.Asks.{Shows, gave};
@@ -137,7 +138,7 @@ pub trait ClientHeap {
     /// The client's draft.
     fn draft(&self) -> Self::At
         ensures node { (shown self.now).is_node result }
-        ensures tree { (shown self.now).tree result ≡ (state self.now).draft };
+        ensures tree { (shown self.now).tree result ≡ tree_of (state self.now).draft };
 
     /// The tree with a text at a path, as doc_tree's edit of that name; so the two below.
     fn set_text(&mut self, root: Self::At, path: &Path, text: &Text) -> Result<Self::At, EditFault>
@@ -180,7 +181,7 @@ pub trait ClientHeap {
     fn set_draft(&mut self, at: Self::At)
         requires room { 9100 ≤ (state self.old).room }
         requires node { (shown self.old).is_node at }
-        ensures draft { (state self.new).draft ≡ (shown self.old).tree at }
+        ensures draft { tree_of (state self.new).draft ≡ (shown self.old).tree at }
         ensures pass { (state self.new).pass ≡ (state self.old).pass }
         ensures room { (state self.old).room ≤ (state self.new).room }
         ensures lasts { Lasts (state self.old) (state self.new) }

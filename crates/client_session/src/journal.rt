@@ -2,6 +2,7 @@
 ghost use Rattle.std.specs.Prelude.{◌≡◌, ◌≤◌, []};
 ghost use Rattle.client_session.specs.Turns.{InStep};
 ghost use Rattle.client_turns.specs.State.{ClientState};
+ghost use Rattle.doc_records.specs.Trees.{tree_of};
 ghost use Rattle.doc_tree.specs.Tree.{empty};
 
 use doc_model::Log;
@@ -32,7 +33,7 @@ impl Journal {
         ensures client { result.log.client ≡ client }
         ensures entries { result.log.entries ≡ [] }
         ensures step { (s : ClientState) → s.pass.keep ≡ limits.keep → s.pass.commits ≡ []
-            → s.draft ≡ empty → InStep result s }
+            → tree_of s.draft ≡ empty → InStep result s }
     {
         Journal {
             limits,

@@ -1,5 +1,5 @@
 //! Answering: a turn for each try, until one has an answer; then the entry.
-ghost use Rattle.std.specs.Prelude.{◌≡◌, ◌≤◌, ◌<◌, ◌+◌, IfOk, OnErr, length};
+ghost use Rattle.std.specs.Prelude.{◌≡◌, ◌≤◌, ◌<◌, ◌+◌, IfOk, IsOk, OnErr, length};
 ghost use Rattle.std.specs.Prelude.{[], ◌∷◌, ◌++◌, false, true};
 ghost use Rattle.client_session.specs.Turns.{Answered, Ends, EndsPlain, Enters, InStep, IsPlain};
 ghost use Rattle.client_session.specs.Turns.{MayTurn};
@@ -39,6 +39,7 @@ impl Journal {
         ensures reads { is_reading command.now ≡ true
             → OnlyReads (H.state heap.old) (H.state heap.new) }
         ensures plain { is_reading command.now ≡ true → EndsPlain result }
+        ensures spared { is_reading command.now ≡ false → IsOk result }
         ensures lent { H.lent heap.new ≡ H.lent heap.old }
     {
         match command {
@@ -71,6 +72,7 @@ impl Journal {
         ensures reads { is_reading command.now ≡ true
             → OnlyReads (H.state heap.old) (H.state heap.new) }
         ensures plain { is_reading command.now ≡ true → EndsPlain result }
+        ensures spared { is_reading command.now ≡ false → IsOk result }
         ensures lent { H.lent heap.new ≡ H.lent heap.old }
     {
         heap.settle();
@@ -97,6 +99,7 @@ impl Journal {
             → OnlyReads (H.state heap.old) (H.state heap.new) }
         ensures plain { is_reading command.now ≡ true
             → IfOk result (λ given. IsPlain given.reply) }
+        ensures spared { is_reading command.now ≡ false → IsOk result }
         ensures lent { H.lent heap.new ≡ H.lent heap.old }
     {
         for _ in rt.forever() {
@@ -138,6 +141,8 @@ impl Journal {
         ensures reads { is_reading command.now ≡ true
             → OnlyReads (H.state heap.old) (H.state heap.new) }
         ensures plain { is_reading command.now ≡ true → IfOk result IsPlain }
+        ensures untouched { is_reading command.now ≡ false
+            → OnErr result (heap.new ≡ heap.old) }
         ensures lent { H.lent heap.new ≡ H.lent heap.old }
     {
         self.log.reserve(1)?;

@@ -5,6 +5,7 @@ use Rattle.cell_words.specs.declared.colours.Colour.TheVariants as colour
 use Rattle.cell_words.specs.declared.controls.Control.{Control}
 use Rattle.cell_words.specs.declared.controls.Stage.TheVariants as stage
 use Rattle.cell_words.specs.declared.fields.Field.TheVariants as field
+use Rattle.cell_words.specs.Term.{null}
 use Rattle.doc_model.specs.Answers.{Limits}
 use Rattle.doc_model.specs.ClientLog.{ClientLog}
 use Rattle.doc_model.specs.declared.command.Command.TheVariants as command
@@ -40,7 +41,7 @@ opened = record {
   pass = opening_pass 1 2;
   marks = [];
   claims = 0;
-  draft = empty;
+  draft = null;
   base = 1;
   held = 1;
   room = 9_000;

@@ -3,6 +3,7 @@ use Rattle.std.proofs.Common.{◌≡◌, ℕ, ◌+◌, ◌≤◌, [], ◌∷◌,
 use Rattle.std.proofs.Common.{arith}
 use Rattle.std.proofs.lemmas.List.{map-append}
 use Rattle.doc_model.specs.declared.answer.Account.{Account}
+use Rattle.doc_records.specs.Trees.{tree_of}
 use Rattle.doc_tree.specs.Tree.{DocTree}
 use Rattle.trails.proofs.Orders.{grown_same, grown_then}
 use Rattle.version_rule.specs.Fits.{Grows}
@@ -146,7 +147,7 @@ lost_late none lost = none_lost lost.ready (none_then none (lost_none lost))
 
 pub account_on : {m : Account} {s t : ClientState} → IsAccount m s → MakesNone s t → IsAccount m t
 account_on account none = record {
-  draft = account.draft ∙ sym none.draft;
+  draft = account.draft ∙ sym (ap tree_of none.draft);
   last = let x = account.last in let y = none.lasts.passes.seen in omega (arith, x, y);
 }
 

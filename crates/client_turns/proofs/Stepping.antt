@@ -6,6 +6,7 @@ use Rattle.std.proofs.Common.{arith, unwrap_or}
 use Rattle.std.proofs.lemmas.Bool.{cases_lt}
 use Rattle.std.proofs.lemmas.List.{append-nil, length-append, length_push, map-append}
 use Rattle.std.proofs.lemmas.List.Elements.{All-nil, All-push, All-weaker, filter-append}
+use Rattle.cell_words.specs.Term.{Term}
 use Rattle.doc_model.specs.Agreement.{ok_places}
 use Rattle.doc_model.specs.Answers.{Limits, is_ok}
 use Rattle.doc_model.specs.ClientLog.{ClientLog}
@@ -15,6 +16,7 @@ use Rattle.doc_model.specs.declared.command.Command.{Command}
 use Rattle.doc_model.specs.declared.command.Entry.{Entry}
 use Rattle.doc_model.specs.declared.command.Reply.{Reply}
 use Rattle.doc_model.proofs.Growth.{keeps_up}
+use Rattle.doc_records.specs.Trees.{tree_of}
 use Rattle.doc_tree.specs.Tree.{DocTree, empty}
 use Rattle.trails.specs.Stretches.{InTurn}
 use Rattle.trails.proofs.Stretches.{turns_grown, turns_had}
@@ -89,7 +91,8 @@ step_account l s last log step = record { draft = refl; last = step.seen }
 -- The opening.
 
 pub in_step_opening : (l : Limits) (s : ClientState) (log : ClientLog) → s.pass.keep ≡ l.keep
-    → commit_numbers s.pass ≡ [] → s.draft ≡ empty → log.entries ≡ [] → IsInStep l s 0 log
+    → commit_numbers s.pass ≡ [] → tree_of s.draft ≡ empty → log.entries ≡ []
+    → IsInStep l s 0 log
 in_step_opening l s log keep none draft entries =
     let May : List DocTree → Type 0 = λ trees. Fits trees s.pass in
     let opens : KeepsUp l May (account_in s 0 0) [] = record {
@@ -125,7 +128,8 @@ in_step_lost l {s = s} {t = t} last log step lost = record {
     follows = λ trees fits. step.keeps_up.follows trees (lost.lasts.passes.narrows trees fits);
     account = λ trees fits.
         step.keeps_up.account trees (lost.lasts.passes.narrows trees fits)
-        ∙ ap (λ (d : DocTree). record { draft = d; last = last; answered = length log.entries })
+        ∙ ap (λ (d : Term).
+        record { draft = tree_of d; last = last; answered = length log.entries })
         (sym lost.draft);
   };
   turns = subst (λ (n : ℕ). InTurn (Demand n) log.entries t.marks) (sym lost.lasts.cells)
@@ -171,7 +175,7 @@ in_step_turned l {s = s} {t = t} last log new c r place step turned same entries
     } in
     let grown : KeepsUp l May behind es =
     keeps_up l (λ trees. Fits trees s.pass) May m log.entries e _ step.keeps_up
-    turned.lasts.passes.narrows (answered l log.client m c r place t.pass t.draft h) in
+    turned.lasts.passes.narrows (answered l log.client m c r place t.pass (tree_of t.draft) h) in
     let account : behind ≡ account_in t place (length es) =
     ap (λ (d : DocTree). record { draft = d; last = place; answered = length log.entries + 1 })
     (sym h.left)

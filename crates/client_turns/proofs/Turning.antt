@@ -12,6 +12,7 @@ use Rattle.doc_model.specs.declared.answer.Account.{Account}
 use Rattle.doc_model.specs.declared.command.Command.{Command}
 use Rattle.doc_model.specs.declared.command.Reply.{Reply}
 use Rattle.doc_model.specs.declared.command.Reply.TheVariants as reply
+use Rattle.doc_records.specs.Trees.{tree_of}
 use Rattle.doc_tree.specs.Tree.{DocTree}
 use Rattle.doc_tree.specs.declared.edit.EditFault.{EditFault}
 use Rattle.trails.specs.Asks.{Ask, Shows}
@@ -88,7 +89,7 @@ pub drafts_on : {tree : DocTree} {s t u : ClientState} → Drafts tree s t → M
 drafts_on drafts none = record {
   lasts = lasts_then drafts.lasts none.lasts;
   commits = none.commits ∙ drafts.commits;
-  draft = none.draft ∙ drafts.draft;
+  draft = ap tree_of none.draft ∙ drafts.draft;
 }
 
 numbers_none : (ns : List ℕ) (r : Reply) (place : ℕ) → is_ok r ≡ false
@@ -101,7 +102,7 @@ module _ (l : Limits) (client : ℕ) (m : Account) (c : Command) where
   unmade_turned : {s t : ClientState} (r : Reply) (place : ℕ) → is_ok r ≡ false → Lasts s t
       → commit_numbers t.pass ≡ commit_numbers s.pass → IsReady t
       → (is_keeping c ≡ false → StaysSmall s t)
-      → Answers l t.pass client m c r place t.draft
+      → Answers l t.pass client m c r place (tree_of t.draft)
       → Had (Demand s.cells (entry_for client m c r place)) s.marks t.marks
       → Turned l client m c s t r place
   unmade_turned {s = s} r place plain lasts commits ready small answers meets = record {
@@ -136,8 +137,8 @@ module _ (l : Limits) (client : ℕ) (m : Account) (c : Command) where
       → Turned l client m c s t r v
   read_turned {s = s} {t = t} r v plain spare account read ready is =
       unmade_turned r v plain read.none.lasts read.none.commits ready (λ _. read.none.small)
-      (plain_answers l client m c t.pass r v None t.draft plain spare (last_before account read)
-      read.seen is (read.none.draft ∙ sym account.draft))
+      (plain_answers l client m c t.pass r v None (tree_of t.draft) plain spare
+      (last_before account read) read.seen is (ap tree_of read.none.draft ∙ sym account.draft))
       (shown_met s.cells (entry_for client m c r v) read.cell spare (asked r v plain read))
 
   -- A version was read, and a node of it is the draft now.
@@ -149,7 +150,7 @@ module _ (l : Limits) (client : ℕ) (m : Account) (c : Command) where
       unmade_turned (reply.Drafted v) v refl (lasts_then read.none.lasts drafts.lasts)
       (drafts.commits ∙ read.none.commits) ready
       (λ small. absurd (true≢false (sym keeping ∙ small)))
-      (plain_answers l client m c u.pass (reply.Drafted v) v (Some tree) u.draft refl refl
+      (plain_answers l client m c u.pass (reply.Drafted v) v (Some tree) (tree_of u.draft) refl refl
       (last_before account read)
       (let x = read.seen in let y = drafts.lasts.passes.seen in omega (arith, x, y)) is
       drafts.draft)
@@ -168,8 +169,8 @@ module _ (l : Limits) (client : ℕ) (m : Account) (c : Command) where
       → Turned l client m c s t r m.last
   draft_turned {s = s} {t = t} r drafting plain spare account none ready is =
       unmade_turned r m.last plain none.lasts none.commits ready (λ _. none.small)
-      (plain_answers l client m c t.pass r m.last None t.draft plain spare (omega arith)
-      (last_seen account none.lasts) is (none.draft ∙ sym account.draft))
+      (plain_answers l client m c t.pass r m.last None (tree_of t.draft) plain spare (omega arith)
+      (last_seen account none.lasts) is (ap tree_of none.draft ∙ sym account.draft))
       (draft_met s.cells (entry_for client m c r m.last) drafting spare none.lasts.grown)
 
   -- And one that changes it.
@@ -181,8 +182,8 @@ module _ (l : Limits) (client : ℕ) (m : Account) (c : Command) where
   drafted_turned {s = s} {t = t} tree drafting keeping account drafts ready is =
       unmade_turned (reply.Drafted m.last) m.last refl drafts.lasts drafts.commits ready
       (λ small. absurd (true≢false (sym keeping ∙ small)))
-      (plain_answers l client m c t.pass (reply.Drafted m.last) m.last (Some tree) t.draft refl refl
-      (omega arith) (last_seen account drafts.lasts) is drafts.draft)
+      (plain_answers l client m c t.pass (reply.Drafted m.last) m.last (Some tree)
+      (tree_of t.draft) refl refl (omega arith) (last_seen account drafts.lasts) is drafts.draft)
       (draft_met s.cells (entry_for client m c (reply.Drafted m.last) m.last) drafting refl
       drafts.lasts.grown)
 
@@ -192,8 +193,8 @@ module _ (l : Limits) (client : ℕ) (m : Account) (c : Command) where
       → Had (IsFull s.cells) s.marks t.marks → Turned l client m c s t (reply.Full m.last) m.last
   draft_full_turned {s = s} {t = t} drafting needs account none ready had =
       unmade_turned (reply.Full m.last) m.last refl none.lasts none.commits ready (λ _. none.small)
-      (full_answers l client m c t.pass m.last t.draft needs (omega arith)
-      (last_seen account none.lasts) (none.draft ∙ sym account.draft))
+      (full_answers l client m c t.pass m.last (tree_of t.draft) needs (omega arith)
+      (last_seen account none.lasts) (ap tree_of none.draft ∙ sym account.draft))
       (draft_full_met s.cells (entry_for client m c (reply.Full m.last) m.last) drafting had)
 
   -- The heap was full for a command that read a version, before that or behind it.
@@ -203,8 +204,8 @@ module _ (l : Limits) (client : ℕ) (m : Account) (c : Command) where
   full_turned {s = s} {t = t} v needs account read ready had =
       unmade_turned (reply.Full v) v refl read.none.lasts read.none.commits ready
       (λ _. read.none.small)
-      (full_answers l client m c t.pass v t.draft needs (last_before account read) read.seen
-      (read.none.draft ∙ sym account.draft))
+      (full_answers l client m c t.pass v (tree_of t.draft) needs (last_before account read)
+      read.seen (ap tree_of read.none.draft ∙ sym account.draft))
       (full_met s.cells (entry_for client m c (reply.Full v) v) read.cell
       (asked (reply.Full v) v refl read) had)
 
@@ -244,9 +245,9 @@ module _ (l : Limits) (client : ℕ) (m : Account) (c : Command) where
       let spare = refusal_full e v ∙ begun.spared in
       unmade_turned (refusal e v) v plain begun.read.none.lasts begun.read.none.commits ready
       (λ _. begun.read.none.small)
-      (plain_answers l client m c t.pass (refusal e v) v None t.draft plain spare
+      (plain_answers l client m c t.pass (refusal e v) v None (tree_of t.draft) plain spare
       (last_before begun.account begun.read) begun.read.seen begun.is
-      (begun.read.none.draft ∙ sym begun.account.draft))
+      (ap tree_of begun.read.none.draft ∙ sym begun.account.draft))
       (shown_met s.cells (entry_for client m c (refusal e v) v) begun.read.cell spare
       (subst (λ (asks : List Ask). Shows (version_asks begun.read.cell
       (seen_by (entry_for client m c (refusal e v) v)) ++ asks) s.marks t.marks)
@@ -277,10 +278,10 @@ module _ (l : Limits) (client : ℕ) (m : Account) (c : Command) where
     lasts = lasts_then begun.read.none.lasts made.lasts;
     ready = ready;
     commits = made.commits ∙ ap (λ (ns : List ℕ). ns ++ (v + 1) ∷ []) begun.read.none.commits;
-    answers = ok_answers l client m c u.pass v tree u.draft below
+    answers = ok_answers l client m c u.pass v tree (tree_of u.draft) below
         (last_before begun.account begun.read) made.seen
         (λ trees fits. begun.is trees (made.lasts.passes.narrows trees fits)) made.tree_is
-        (made.draft ∙ begun.read.none.draft ∙ sym begun.account.draft);
+        (ap tree_of (made.draft ∙ begun.read.none.draft) ∙ sym begun.account.draft);
     meets = met_on s.cells (entry_for client m c (reply.Committed (v + 1)) (v + 1))
         (shown_met s.cells (entry_for client m c (reply.Committed (v + 1)) (v + 1))
         begun.read.cell refl
@@ -333,7 +334,7 @@ module _ (l : Limits) (client : ℕ) (m : Account) (c : Command) where
           seen = let x = turned.answers.seen in let y = grows.seen in omega (arith, x, y);
           is = λ trees fits. turned.answers.is trees (grows.narrows trees fits);
           made_is = λ trees fits. turned.answers.made_is trees (grows.narrows trees fits);
-          left = lost.draft ∙ turned.answers.left;
+          left = ap tree_of lost.draft ∙ turned.answers.left;
         };
         meets = met_on s.cells (entry_for client m c r place) turned.meets lost.lasts.grown;
         rose = λ ok. let x = turned.rose ok in let y = lost.lasts.claims in omega (arith, x, y);

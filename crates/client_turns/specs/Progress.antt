@@ -4,6 +4,7 @@ use Rattle.std.specs.Prelude.{ℕ, ◌≡◌, ◌≤◌, ◌<◌, ◌+◌, ◌++
 use Rattle.std.specs.Prelude.{Result, Ok, Err}
 use Rattle.doc_model.specs.Store.{tree_at}
 use Rattle.doc_model.specs.declared.answer.Account.{Account}
+use Rattle.doc_records.specs.Trees.{tree_of}
 use Rattle.doc_tree.specs.Tree.{DocTree}
 use Rattle.doc_tree.specs.declared.edit.EditFault.{EditFault}
 use Rattle.doc_tree.specs.declared.edit.EditFault.TheVariants as fault
@@ -15,7 +16,7 @@ use Rattle.client_turns.specs.State.{ClientState, Lasts, StaysSmall}
 
 -- the account is that of the client in this state
 pub record IsAccount (m : Account) (s : ClientState) : Type 0 where
-  pub draft : m.draft ≡ s.draft
+  pub draft : m.draft ≡ tree_of s.draft
   pub last : m.last ≤ s.pass.seen
 
 -- neither a version nor a draft was made
@@ -41,7 +42,7 @@ pub record HasRead (v : ℕ) (asks : List Ask) (s t : ClientState) : Type 0 wher
 pub record Drafts (tree : DocTree) (s t : ClientState) : Type 0 where
   pub lasts : Lasts s t
   pub commits : commit_numbers t.pass ≡ commit_numbers s.pass
-  pub draft : t.draft ≡ tree
+  pub draft : tree_of t.draft ≡ tree
 
 -- The version after this one was made, with this tree.
 pub record Made (v : ℕ) (tree : DocTree) (s t : ClientState) : Type 0 where

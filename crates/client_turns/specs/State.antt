@@ -1,7 +1,7 @@
 -- What a client's heap shows of itself, in plain values, and what its calls leave of that.
 -- Source: this project's.
 use Rattle.std.specs.Prelude.{ℕ, ◌≡◌, ◌≤◌, ◌+◌, List, max}
-use Rattle.doc_tree.specs.Tree.{DocTree}
+use Rattle.cell_words.specs.Term.{Term}
 use Rattle.trails.specs.Asks.{Grown}
 use Rattle.trails.specs.Marks.{Mark}
 use Rattle.version_rule.specs.Fits.{Grows}
@@ -13,8 +13,8 @@ pub record ClientState : Type 0 where
   pub pass : Pass
   pub marks : List Mark
   pub claims : ℕ
-  -- the tree of the client's draft
-  pub draft : DocTree
+  -- the term of the client's draft; `tree_of` gives its tree
+  pub draft : Term
   -- the places of the held list that stay between commands
   pub base : ℕ
   -- all places that it has

@@ -12,6 +12,7 @@ use Rattle.doc_model.specs.declared.answer.Account.{Account}
 use Rattle.doc_model.specs.declared.command.Command.{Command}
 use Rattle.doc_model.specs.declared.command.Entry.{Entry}
 use Rattle.doc_model.specs.declared.command.Reply.{Reply}
+use Rattle.doc_records.specs.Trees.{tree_of}
 use Rattle.doc_tree.specs.Tree.{DocTree}
 use Rattle.doc_tree.specs.declared.edit.EditFault.{EditFault}
 use Rattle.std.specs.Prelude.{All}
@@ -34,7 +35,7 @@ entry_for client m c reply place = record {
 
 -- the account of a client in this state, after its last place and so many answers
 abbrev pub account_in : ClientState → ℕ → ℕ → Account
-account_in s last answered = record { draft = s.draft; last = last; answered = answered }
+account_in s last answered = record { draft = tree_of s.draft; last = last; answered = answered }
 
 -- The reply and the place are the answer of the command, over every list of versions that the pass
 -- allows.
@@ -63,7 +64,7 @@ pub record Turned (l : Limits) (client : ℕ) (m : Account) (c : Command) (s t :
   pub lasts : Lasts s t
   pub ready : IsReady t
   pub commits : commit_numbers t.pass ≡ commit_numbers s.pass ++ new_numbers (is_ok reply) place
-  pub answers : Answers l t.pass client m c reply place t.draft
+  pub answers : Answers l t.pass client m c reply place (tree_of t.draft)
   pub meets : Had (Demand s.cells (entry_for client m c reply place)) s.marks t.marks
   pub rose : is_ok reply ≡ true → s.claims < t.claims
   pub trimmed : is_ok reply ≡ true → l.keep ≤ place → place + 1 ≤ t.pass.cut + l.keep

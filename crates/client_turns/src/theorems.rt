@@ -5,6 +5,7 @@ ghost use Rattle.doc_model.specs.ClientLog.{ClientLog};
 ghost use Rattle.doc_model.specs.declared.answer.Account.{Account};
 ghost use Rattle.doc_model.specs.declared.command.Command.{Command};
 ghost use Rattle.doc_model.specs.declared.command.Reply.{Reply};
+ghost use Rattle.doc_records.specs.Trees.{tree_of};
 ghost use Rattle.doc_tree.specs.Tree.{DocTree, empty};
 ghost use Rattle.trails.specs.Asks.{Grown};
 ghost use Rattle.trails.specs.Marks.{Mark};
@@ -18,7 +19,8 @@ ghost use Rattle.client_turns.specs.Turns.{IsInStep, Lost, Turned, account_in, e
 /// An empty log is in step with a client that has made no version and has an empty draft.
 pub fn an_empty_log_is_in_step()
     ensures { (l : Limits) (s : ClientState) (log : ClientLog) → s.pass.keep ≡ l.keep
-        → commit_numbers s.pass ≡ [] → s.draft ≡ empty → log.entries ≡ [] → IsInStep l s 0 log }
+        → commit_numbers s.pass ≡ [] → tree_of s.draft ≡ empty → log.entries ≡ []
+        → IsInStep l s 0 log }
 {}
 
 /// A turn that is lost leaves the log in step, and one that is answered leaves it so with the entry

@@ -1,6 +1,6 @@
 use Rattle.std.proofs.Common.{◌∙◌, arith, rules}
 use Rattle.client_records.proofs.Resting.{rests_stands}
-use Rattle.client_heap.proofs.Copies.{copy_node, copy_tree, node_shares, refused_carries}
+use Rattle.client_heap.proofs.Copies.{copy_node, copy_term, node_shares, refused_carries}
 use Rattle.client_heap.proofs.Copies.{refused_follows, refused_full, refused_held, shared_held}
 use Rattle.client_heap.proofs.Copies.{shared_is, stays_follows}
 use Rattle.client_heap.proofs.collecting.share_node.Goals as goal
@@ -22,14 +22,14 @@ returns-in-Ok-clause-node g c =
     copy_node m n old c.collect.new.minor c.args.r c.requires.node 1 (omega (arith, two))
     (shared_is m n old c.args.r c.in-Ok.ensures.collected fit c.requires.some)
 
-pub returns-in-Ok-clause-tree : goal.returns-in-Ok-clause-tree
-returns-in-Ok-clause-tree g c =
+pub returns-in-Ok-clause-term : goal.returns-in-Ok-clause-term
+returns-in-Ok-clause-term g c =
     let m = c.args.m.now in
     let n = c.collect.new.m in
     let old = c.args.minor.now in
     let fit = c.held_len-held.ensures.known ∙ c.held_len-held.ensures.len in
     let two = shared_held m n old c.args.r c.in-Ok.ensures.collected fit c.requires.some in
-    copy_tree m n old c.collect.new.minor c.args.r c.requires.node 1 (omega (arith, two))
+    copy_term m n old c.collect.new.minor c.args.r c.requires.node 1 (omega (arith, two))
     (shared_is m n old c.args.r c.in-Ok.ensures.collected fit c.requires.some)
 
 pub returns-in-Ok-clause-held : goal.returns-in-Ok-clause-held

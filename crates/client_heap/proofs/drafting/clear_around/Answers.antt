@@ -1,6 +1,6 @@
 use Rattle.std.proofs.Common.{arith, ap, length}
 use Rattle.client_records.specs.declared.at.NodeAt.TheVariants as at
-use Rattle.client_heap.proofs.Drafts.{cleared_node, cleared_tree, few_cleared, few_sound}
+use Rattle.client_heap.proofs.Drafts.{cleared_node, cleared_term, few_cleared, few_sound}
 use Rattle.client_heap.proofs.Resting.{draft_on, sound_on}
 use Rattle.client_heap.proofs.drafting.clear_around.Goals as goal
 
@@ -21,9 +21,9 @@ returns-in-Ok-clause-sound g c =
     (cleared_node m n old new c.args.place c.args.base sound c.in-Ok.ensures.held
     c.in-Ok.ensures.known)
 
-pub returns-in-Ok-clause-tree : goal.returns-in-Ok-clause-tree
-returns-in-Ok-clause-tree g c =
-    cleared_tree c.args.m.now c.clear_records.new.m c.args.minor.now c.clear_records.new.minor
+pub returns-in-Ok-clause-term : goal.returns-in-Ok-clause-term
+returns-in-Ok-clause-term g c =
+    cleared_term c.args.m.now c.clear_records.new.m c.args.minor.now c.clear_records.new.minor
     c.args.place c.args.base c.requires.sound c.in-Ok.ensures.held c.in-Ok.ensures.known
 
 pub returns-in-Ok-clause-cleared : goal.returns-in-Ok-clause-cleared
@@ -46,8 +46,8 @@ returns-in-Err-clause-sound g c =
     c.in-Err.ensures.refused (at.Shared c.args.place) c.args.base c.requires.sound
     c.requires.sound.kept (omega (arith, same, ready))
 
-pub returns-in-Err-clause-tree : goal.returns-in-Err-clause-tree
-returns-in-Err-clause-tree g c =
+pub returns-in-Err-clause-term : goal.returns-in-Err-clause-term
+returns-in-Err-clause-term g c =
     draft_on _ c.args.m.now c.clear_records.new.m c.args.minor.now c.clear_records.new.minor
     c.in-Err.ensures.refused (at.Shared c.args.place) c.args.base c.requires.sound
     c.requires.sound.kept

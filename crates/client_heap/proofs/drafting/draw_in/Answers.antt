@@ -1,6 +1,6 @@
 use Rattle.std.proofs.Common.{arith}
 use Rattle.client_records.specs.declared.at.NodeAt.TheVariants as at
-use Rattle.client_heap.proofs.Drafts.{alone_sound, alone_tree}
+use Rattle.client_heap.proofs.Drafts.{alone_sound, alone_term}
 use Rattle.client_heap.proofs.drafting.draw_in.Goals as goal
 
 pub keep_alone-requires-clause-there : goal.keep_alone-requires-clause-there
@@ -21,10 +21,10 @@ returns-clause-sound c =
     c.args.base c.args.place sound sound.stands.1 sound.node c.keep_alone.ensures.carries.follows
     c.keep_alone.ensures.held c.keep_alone.ensures.known (omega (arith, ready, many))
 
-pub returns-clause-tree : goal.returns-clause-tree
-returns-clause-tree c =
+pub returns-clause-term : goal.returns-clause-term
+returns-clause-term c =
     let sound = c.requires.sound in
-    alone_tree c.args.m.now c.keep_alone.new.m c.args.minor.now (at.Shared c.args.place)
+    alone_term c.args.m.now c.keep_alone.new.m c.args.minor.now (at.Shared c.args.place)
     c.args.base c.args.place sound sound.stands.1 sound.node c.keep_alone.ensures.carries.follows
     c.keep_alone.ensures.held c.keep_alone.ensures.known
 

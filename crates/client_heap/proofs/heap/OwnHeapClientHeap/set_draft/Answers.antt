@@ -1,6 +1,7 @@
-use Rattle.std.proofs.Common.{refl}
+use Rattle.std.proofs.Common.{ap, refl}
 use Rattle.client_heap.proofs.Lending.{lent_stays}
 use Rattle.client_heap.proofs.heap.OwnHeapClientHeap.set_draft.Goals as goal
+use Rattle.doc_records.specs.Trees.{tree_of}
 
 pub returns-clause-lent : goal.returns-clause-lent
 returns-clause-lent g c =
@@ -8,3 +9,6 @@ returns-clause-lent g c =
     let did = c.make_draft.ensures in
     lent_stays (bound c.args.self.now.m.now) (bound c.make_draft.new.self) did.follows.same refl
     refl refl
+
+pub returns-clause-draft : goal.returns-clause-draft
+returns-clause-draft g c = ap tree_of c.make_draft.ensures.term

@@ -1,4 +1,5 @@
-use Rattle.std.proofs.Common.{refl}
+use Rattle.std.proofs.Common.{refl, sym}
+use Rattle.std.proofs.lemmas.Bool.{true≢false}
 use Rattle.client_session.specs.Turns.{bounds}
 use Rattle.client_session.specs.declared.journal.Journal.{Journal}
 use Rattle.client_session.proofs.Entering.{entered_step, lost_step, may_of, same_step}
@@ -53,3 +54,7 @@ returns-in_err-copied-clause-small g c = λ is. small_still (g.H.ClientHeap.stat
 
 pub returns-in_err-copied-clause-reads : goal.returns-in_err-copied-clause-reads
 returns-in_err-copied-clause-reads g c = λ is. reads_still (g.H.ClientHeap.state c.args.heap.now)
+
+pub returns-in_err-given-clause-untouched : goal.returns-in_err-given-clause-untouched
+returns-in_err-given-clause-untouched g c = λ plain.
+    absurd (true≢false (sym (c.in_err-given.ensures.spared plain)))

@@ -1,4 +1,4 @@
-use Rattle.std.proofs.Common.{arith, ℕ, ◌∙◌, subst, sym}
+use Rattle.std.proofs.Common.{arith, ℕ, ◌∙◌, refl, subst, sym}
 use Rattle.client_session.specs.Turns.{Answered}
 use Rattle.client_session.proofs.Commits.{made_ends, outrun_ends, stopped_ends, unmade_none}
 use Rattle.client_session.proofs.Commits.{worn_ends}
@@ -67,3 +67,6 @@ trim-requires-clause-keep g c =
     ∙ sym (c.current-latest.ensures.rests.lasts.passes.keep
     ∙ c.in-Ok.ensures.lasts.passes.keep
     ∙ c.requires.may.keep)
+
+pub returns-in-Err-Moved-clause-spared : goal.returns-in-Err-Moved-clause-spared
+returns-in-Err-Moved-clause-spared g c = refl

@@ -1,9 +1,12 @@
 use Rattle.std.proofs.Common.{◌≤◌, ◌∙◌, arith, ap, sym}
 use Rattle.client_session.proofs.Drafts.{dput_ends, dput_full_ends, dput_refused_ends, drafts_of}
+use Rattle.client_session.proofs.Commits.{never_wants}
 use Rattle.client_session.proofs.Editing.{edits_none}
 use Rattle.client_session.proofs.Rooms.{same_none}
 use Rattle.client_session.proofs.journal.Journal.draft_put.Goals as goal
 use Rattle.client_turns.proofs.States.{none_lost, none_then}
+use Rattle.client_turns.proofs.Spared.{set_text_spared}
+use Rattle.client_turns.specs.Progress.{runs_out}
 use Rattle.doc_tree.specs.Edits.{set_text}
 
 pub returns-in-Err-clause-ends : goal.returns-in-Err-clause-ends
@@ -58,3 +61,9 @@ returns-in-Ok-refused-clause-lent g c = c.set_text.ensures.lent ∙ c.in-Ok.ensu
 pub returns-in-Ok-set_text-clause-lent : goal.returns-in-Ok-set_text-clause-lent
 returns-in-Ok-set_text-clause-lent g c =
     c.set_draft.ensures.lent ∙ c.set_text.ensures.lent ∙ c.in-Ok.ensures.lent
+
+pub returns-in-Err-refused-clause-spared : goal.returns-in-Err-refused-clause-spared
+returns-in-Err-refused-clause-spared g c =
+    absurd (never_wants c.in-Err-set_text.fault c.in-Err-refused.ensures.wants
+    (ap runs_out c.in-Err-set_text.ensures.tree
+    ∙ set_text_spared c.args.path.now c.args.text.now _))

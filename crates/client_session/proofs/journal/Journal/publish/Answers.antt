@@ -4,7 +4,9 @@ use Rattle.client_session.proofs.Rooms.{full_ends, may_on}
 use Rattle.client_session.proofs.journal.Journal.publish.Goals as goal
 use Rattle.client_turns.proofs.Spared.{attach_spared}
 use Rattle.client_turns.proofs.States.{none_then}
+use Rattle.client_turns.specs.Progress.{runs_out}
 use Rattle.doc_model.specs.declared.command.Command.TheVariants as command
+use Rattle.doc_records.specs.Trees.{tree_of}
 use Rattle.doc_tree.specs.Edits.{attach}
 use Rattle.doc_tree.specs.Tree.{DocTree}
 
@@ -29,14 +31,19 @@ returns-in-Ok-clause-ends g c =
     let root = (h.shown c.begin.new.heap).tree c.in-Ok.opened.root in
     let publish = command.Publish path in
     c.finish-ended.ensures.ends publish s
-    (edited_begun j publish c.in-Ok.opened 0 (attach path s.draft) _ c.requires.may
+    (edited_begun j publish c.in-Ok.opened 0 (attach path (tree_of s.draft)) _ c.requires.may
     begins c.attach-edited.ensures.edits
     (c.attach-edited.ensures.tree
     ∙ ap (λ (d : DocTree). attach path d root)
-    (c.draft-draft.ensures.tree ∙ begins.read.none.draft))
-    (attach_spared path s.draft) (λ trees. refl)) refl
+    (c.draft-draft.ensures.tree ∙ ap tree_of begins.read.none.draft))
+    (attach_spared path (tree_of s.draft)) (λ trees. refl)) refl
 
 pub returns-in-Err-clause-ends : goal.returns-in-Err-clause-ends
 returns-in-Err-clause-ends g c =
     full_ends c.args.self.now (command.Publish c.args.path.now) c.in-Err.shown
     c.requires.may refl c.in-Err.ensures.full
+
+pub returns-in-Ok-clause-spared : goal.returns-in-Ok-clause-spared
+returns-in-Ok-clause-spared g c =
+    c.finish-ended.ensures.spared
+    (ap runs_out c.attach-edited.ensures.tree ∙ attach_spared c.args.path.now _ _)

@@ -1,9 +1,10 @@
-use Rattle.std.proofs.Common.{arith, refl}
+use Rattle.std.proofs.Common.{◌∙◌, ap, arith, refl}
 use Rattle.client_session.proofs.Editing.{edited_begun, edits_none}
 use Rattle.client_session.proofs.Rooms.{full_ends, may_on}
 use Rattle.client_session.proofs.journal.Journal.put.Goals as goal
 use Rattle.client_turns.proofs.Spared.{set_text_spared}
 use Rattle.client_turns.proofs.States.{none_then}
+use Rattle.client_turns.specs.Progress.{runs_out}
 use Rattle.doc_model.specs.declared.command.Command.TheVariants as command
 use Rattle.doc_tree.specs.Edits.{set_text}
 
@@ -34,3 +35,9 @@ pub returns-in-Err-clause-ends : goal.returns-in-Err-clause-ends
 returns-in-Err-clause-ends g c =
     full_ends c.args.self.now (command.Put c.args.path.now c.args.text.now) c.in-Err.shown
     c.requires.may refl c.in-Err.ensures.full
+
+pub returns-in-Ok-clause-spared : goal.returns-in-Ok-clause-spared
+returns-in-Ok-clause-spared g c =
+    c.finish-ended.ensures.spared
+    (ap runs_out c.set_text-edited.ensures.tree
+    ∙ set_text_spared c.args.path.now c.args.text.now _)

@@ -1,4 +1,5 @@
-use Rattle.std.proofs.Common.{◌∙◌, refl}
+use Rattle.std.proofs.Common.{◌∙◌, refl, sym}
+use Rattle.std.proofs.lemmas.Bool.{true≢false}
 use Rattle.std.proofs.lemmas.Result.{err_from_is_err_and}
 use Rattle.client_session.proofs.Turning.{answered_late, may_lost}
 use Rattle.client_session.proofs.journal.Journal.turns.Goals as goal
@@ -57,3 +58,7 @@ returns-in_err-ended-clause-settled g c = c.in_err-ended.ensures.settled
 
 pub returns-in_err-ended-clause-lent : goal.returns-in_err-ended-clause-lent
 returns-in_err-ended-clause-lent g c = c.in_err-ended.ensures.lent ∙ c.loop.invariant.1.0
+
+pub returns-in_err-ended-clause-spared : goal.returns-in_err-ended-clause-spared
+returns-in_err-ended-clause-spared g c = λ plain.
+    absurd (true≢false (sym (c.in_err-ended.ensures.spared plain)))
