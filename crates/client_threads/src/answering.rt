@@ -13,6 +13,7 @@ use mutator_seat::Mutator;
 use outside::Gate;
 use std::alloc::Global;
 use std::sync::Wait;
+use std::thread;
 
 /// Answers a handshake, if one is asked for.
 fn handshake(m: &mut Mutator<'_, Documents>)
@@ -22,7 +23,7 @@ fn handshake(m: &mut Mutator<'_, Documents>)
     let _ = m.answer();
 }
 
-/// Waits until the gate lets the command begin.
+/// Waits until the gate lets the command begin. Between two questions other threads may run.
 fn await_gate<R: Wait, G: Gate>(
     rt: &R,
     gate: &G,
@@ -38,6 +39,7 @@ fn await_gate<R: Wait, G: Gate>(
         if gate.go(client, number) {
             return;
         }
+        thread::yield_now();
     }
     unreachable!()
 }
