@@ -26,7 +26,7 @@ use Rattle.dlg_core.specs.PlainCycle.{HasFinished, PlainCycle, behind_look, ends
 use Rattle.dlg_core.specs.PlainCycle.{ends_cycle, is_out, look_before, may_finish, most_events}
 use Rattle.dlg_core.specs.PlainCycle.{turn_with}
 use Rattle.dlg_core.specs.Runs.{LeadsTo}
-use Rattle.dlg_core.proofs.Finishing.Events.{left_at}
+use Rattle.dlg_core.proofs.Finishing.Falls.{left_at}
 use Rattle.dlg_core.proofs.Finishing.Turns.{LooksFirst, planned}
 
 -- Runs.
@@ -124,7 +124,8 @@ pub record IsBegun (s : State) : Type 0 where
 
 pub begun : (s : State) → may_finish s ≡ true → IsBegun s
 begun s may =
-    let parts = and_parts (at_stage s stage.Idle && nat_lt s.control.cycles greatest_cycles) _ may in
+    let parts = and_parts (at_stage s stage.Idle && nat_lt s.control.cycles greatest_cycles) _
+    may in
     let first = and_parts (at_stage s stage.Idle) _ parts.0 in
     let now = is_idle s.control.stage first.0 in
     record {
@@ -167,7 +168,8 @@ so_far_more s q r taken more e far k is leads many other =
       way = subst IsOnItsWay same (turn.stays other);
       less = omega arith;
       later = (λ t rest plain.
-          let whole = far.later t (turn_with e ++ rest) (goes_on e r rest is other leads plain refl) in (
+          let on = goes_on e r rest is other leads plain refl in
+          let whole = far.later t (turn_with e ++ rest) on in (
             whole.0,
             whole.1,
             (let long = length-append (turn_with e) rest in

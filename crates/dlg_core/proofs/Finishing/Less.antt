@@ -271,6 +271,37 @@ trace_few cells k cursor None none few =
     all_few p q cells cursor few = omega arith
 trace_few cells k cursor (Some x) none few = absurd cc
 
+scan_most : (next : ℕ) (child : Option ℕ) → scan_left next child ≤ 11
+scan_most next None = omega arith
+scan_most next (Some c) = omega arith
+
+-- any tracing
+pub trace_most : (cells k : ℕ) (clean : Bool) (cursor : ℕ) (scan : Option Scanning) → k ≤ cells
+    → trace_left cells k clean cursor scan ≤ cells * (cells + 12) + 2 * cells + 11
+trace_most cells k clean cursor scan few =
+    most clean scan (mul-le k (cells + 12) cells (cells + 12) few (omega arith))
+    (mul-le (k - 1) (cells + 12) cells (cells + 12) (omega arith) (omega arith))
+  where
+    all : (p q a cells cursor : ℕ) → p ≤ q → a ≤ 11
+        → p + cells + (cells - cursor) + a ≤ q + 2 * cells + 11
+    all p q a cells cursor less few = omega arith
+
+    most : (clean : Bool) (scan : Option Scanning)
+        → k * (cells + 12) ≤ cells * (cells + 12)
+        → (k - 1) * (cells + 12) ≤ cells * (cells + 12)
+        → trace_left cells k clean cursor scan ≤ cells * (cells + 12) + 2 * cells + 11
+    most true None less fewer =
+        let some = all (k * (cells + 12)) (cells * (cells + 12)) 0 cells cursor less
+        (omega arith) in
+        omega arith
+    most false None less fewer =
+        let some = all (k * (cells + 12)) (cells * (cells + 12)) 0 cells cursor less
+        (omega arith) in
+        omega arith
+    most clean (Some x) less fewer =
+        all ((k - 1) * (cells + 12)) (cells * (cells + 12)) (scan_left x.next x.child) cells cursor
+        fewer (scan_most x.next x.child)
+
 -- The sweep: more of the cell's events are done.
 
 -- where the cell is one of those that are left
