@@ -1,9 +1,7 @@
 pub mod Counts
 pub mod Ending
-pub mod Falls
 pub mod Fields
 pub mod Kept
-pub mod Less
 pub mod Lines
 pub mod OneText
 pub mod Opened

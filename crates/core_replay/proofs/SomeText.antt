@@ -8,10 +8,9 @@ use Rattle.core_machine.specs.State.{State}
 use Rattle.core_machine.specs.declared.events.Event.{Event}
 use Rattle.core_replay.specs.Replay.{IsReplayText, Leads, Writes, WritesOn, after_event, shown}
 use Rattle.core_replay.specs.ReplayText.{cell_line_of, ending_of, not_now_line}
-use Rattle.core_replay.specs.Standing.{IsReplayed, Standing, counted, opened, taken_by}
+use Rattle.core_replay.specs.Standing.{HasFallen, IsReplayed, Standing, counted, opened, taken_by}
 use Rattle.core_replay.specs.Turns.{Outcome, Went, Stopped, Turn, Ends, GoesOn, PlainLeads, ends}
-use Rattle.core_replay.specs.Turns.{goes_on, is_post, look_before, looked, turn_of, turned}
-use Rattle.core_replay.specs.Work.{HasFallen, work}
+use Rattle.core_replay.specs.Turns.{goes_on, is_post, looked, turn_of, turned}
 use Rattle.core_replay.specs.ScheduleValue.{ScheduleValue, are_sizes}
 use Rattle.core_replay.specs.declared.line.Numbered.{Numbered}
 use Rattle.core_replay.specs.declared.step.Step.{Step}
@@ -20,7 +19,9 @@ use Rattle.core_replay.proofs.Kept.{takes_replayed}
 use Rattle.core_replay.proofs.Opened.{opened_kept}
 use Rattle.core_replay.proofs.Turning.{turn_falls, turn_refused, turn_taken, turn_unlooked}
 use Rattle.core_replay.proofs.Turning.{turn_without}
+use Rattle.dlg_core.specs.Left.{left}
 use Rattle.dlg_core.specs.Plain.{next_plain_of}
+use Rattle.dlg_core.specs.PlainCycle.{look_before}
 
 -- What is kept of a core stays so.
 
@@ -91,13 +92,13 @@ abbrev SomeEnd : Standing → Type 0
 SomeEnd p = (outcome : Outcome) × PlainLeads outcome p × EndKept outcome
 
 by_turn : (p : Standing) (turn : Turn) → turn_of p ≡ turn → Ahead p turn
-    → ((q : Standing) → work q.core < work p.core → IsReplayed q.core → SomeEnd q) → SomeEnd p
+    → ((q : Standing) → left q.core < left p.core → IsReplayed q.core → SomeEnd q) → SomeEnd p
 by_turn p (Ends outcome) is kept later = (outcome, ends is, kept)
 by_turn p (GoesOn q) is next later =
     let rest = later q next.0.0 next.1 in
     (rest.0, goes_on q is rest.1, rest.2)
 
-some_end : (n : ℕ) (p : Standing) → work p.core < n → IsReplayed p.core → SomeEnd p
+some_end : (n : ℕ) (p : Standing) → left p.core < n → IsReplayed p.core → SomeEnd p
 some_end zero p below kept = absurd (omega arith)
 some_end (suc n) p below kept =
     by_turn p (turn_of p) refl (ahead_with p (next_plain_of p.core) kept refl)
@@ -124,7 +125,7 @@ some_lead p (Take e) kept = (
   after_kept p (taken_by p e) kept
       (λ q is. taken_kept p q e kept is),
 )
-some_lead p Plain kept = some_end (work p.core + 1) p (omega arith) kept
+some_lead p Plain kept = some_end (left p.core + 1) p (omega arith) kept
 some_lead p (Show c)
     kept = (shown p c, refl, shown_kept p (nat_lt c p.core.cells) (cell_line_of p.core c) kept)
 

@@ -10,4 +10,3 @@ pub mod Standing
 pub mod Start
 pub mod Steps
 pub mod Turns
-pub mod Work

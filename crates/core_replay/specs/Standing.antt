@@ -1,6 +1,6 @@
 -- Where a replay stands: the state of its core, and how many events it has taken.
 -- Source: this project's.
-use Rattle.std.specs.Prelude.{ℕ, ◌+◌, ◌≤◌, List, [], ◌∷◌, replicate, Option, Some, None}
+use Rattle.std.specs.Prelude.{ℕ, ◌+◌, ◌<◌, ◌≤◌, List, [], ◌∷◌, replicate, Option, Some, None}
 use Rattle.cell_words.specs.declared.fields.Field.{Field}
 use Rattle.cell_words.specs.declared.fields.Field.TheVariants.{Null, Num}
 use Rattle.core_machine.specs.Next.{next}
@@ -8,6 +8,7 @@ use Rattle.core_machine.specs.State.{State, opening}
 use Rattle.core_machine.specs.declared.events.Event.{Event}
 use Rattle.core_replay.specs.declared.start.Sizes.{Sizes}
 use Rattle.dlg_core.specs.Kept.{IsKept}
+use Rattle.dlg_core.specs.Left.{left}
 
 pub record Standing : Type 0 where
   -- the state of the core
@@ -34,6 +35,11 @@ counted taken (Some s) = Some (record { core = s; taken = taken + 1 })
 -- after the event, where it can happen
 abbrev pub taken_by : Standing → Event → Option Standing
 taken_by p e = counted p.taken (next p.core e)
+
+-- the plain collector has less to do, by as much at least as events were taken
+abbrev pub HasFallen : Standing → Standing → Type 0
+HasFallen old new = (left new.core < left old.core)
+    × (new.taken + left new.core ≤ old.taken + left old.core)
 
 -- what is kept of the core: its invariant, and sizes that a schedule can give
 pub record IsReplayed (s : State) : Type 0 where

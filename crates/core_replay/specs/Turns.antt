@@ -9,6 +9,7 @@ use Rattle.core_machine.specs.declared.events.Event.{Event}
 use Rattle.core_machine.specs.declared.events.Event.TheVariants as event
 use Rattle.core_replay.specs.Standing.{Standing, taken_by}
 use Rattle.dlg_core.specs.Plain.{next_plain_of}
+use Rattle.dlg_core.specs.PlainCycle.{look_before}
 
 -- what a step of a schedule leads to
 pub data Outcome : Type 0 where
@@ -27,11 +28,6 @@ pub data Turn : Type 0 where
 abbrev pub is_post : Event → Bool
 is_post (event.Post stage) = true
 is_post _ = false
-
--- the look before the event
-abbrev pub look_before : Event → Option Event
-look_before (event.AnswerOut i over) = Some (event.Poll i)
-look_before _ = None
 
 abbrev pub looked : Standing → Option Event → Option Standing
 looked p None = Some p

@@ -1,16 +1,16 @@
 //! A replay on its way: one event, and the turns of the plain collector.
 //!
-//! The turns of a line `plain` end because each leaves the collector less to do before it posts:
-//! specs/Work has the number that falls.
+//! The turns of a line `plain` end because each leaves the collector less to do: dlg_core's
+//! specs/Left has the number that falls.
 ghost use Rattle.core_machine.specs.Takes.{Takes};
 ghost use Rattle.core_replay.specs.Outcomes.{outcome_by, told_by, turn_with_last};
 ghost use Rattle.core_replay.specs.Replay.{shown};
 ghost use Rattle.core_replay.specs.ReplayText.{ending_of};
-ghost use Rattle.core_replay.specs.Standing.{opened, taken_by};
-ghost use Rattle.core_replay.specs.Turns.{PlainLeads, is_post, look_before, looked, turn_of};
-ghost use Rattle.core_replay.specs.Work.{HasFallen};
+ghost use Rattle.core_replay.specs.Standing.{HasFallen, opened, taken_by};
+ghost use Rattle.core_replay.specs.Turns.{PlainLeads, is_post, looked, turn_of};
 ghost use Rattle.core_replay.specs.ScheduleValue.{are_sizes};
 ghost use Rattle.dlg_core.specs.Plain.{next_plain_of};
+ghost use Rattle.dlg_core.specs.PlainCycle.{look_before};
 ghost use Rattle.std.specs.Prelude.{IfOk, IsTrue, Some, string_bytes, ◌+◌, ◌<◌, ◌^◌, ◌≡◌, ◌≤◌};
 
 use crate::replay_text::{cell_line, last_lines};

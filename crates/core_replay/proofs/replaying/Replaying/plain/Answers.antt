@@ -1,12 +1,12 @@
 use Rattle.std.proofs.Common.{[], arith, refl, subst}
 use Rattle.core_replay.specs.Standing.{IsReplayed, Standing}
 use Rattle.core_replay.specs.Turns.{Went, Stopped, ends, goes_on}
-use Rattle.core_replay.proofs.Falls.{work_few}
+use Rattle.core_replay.proofs.Turning.{left_few}
 use Rattle.core_replay.proofs.replaying.Replaying.plain.Goals as goal
 
 pub turn-requires : goal.turn-requires
 turn-requires c =
-    let few = work_few c.args.self.now.core
+    let few = left_few c.args.self.now.core
     (subst (λ (p : Standing). IsReplayed p.core) c.self.view_is c.self.invariant) in
     let so_far = c.loop.invariant.few in
     omega arith
@@ -17,7 +17,7 @@ returns-in-Posted-clause-outcome c = c.loop.invariant.leads (Went [] c.turn.new.
 
 pub returns-in-Posted-clause-few : goal.returns-in-Posted-clause-few
 returns-in-Posted-clause-few c =
-    let few = work_few c.args.self.now.core
+    let few = left_few c.args.self.now.core
     (subst (λ (p : Standing). IsReplayed p.core) c.self.view_is c.self.invariant) in
     let so_far = c.loop.invariant.few in
     omega arith
@@ -38,7 +38,7 @@ returns-in-Stuck-clause-outcome c = c.loop.invariant.leads (Stopped c.turn.new.s
 
 pub returns-in-Stuck-clause-few : goal.returns-in-Stuck-clause-few
 returns-in-Stuck-clause-few c =
-    let few = work_few c.args.self.now.core
+    let few = left_few c.args.self.now.core
     (subst (λ (p : Standing). IsReplayed p.core) c.self.view_is c.self.invariant) in
     let so_far = c.loop.invariant.few in
     omega arith

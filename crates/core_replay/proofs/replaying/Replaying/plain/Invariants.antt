@@ -1,13 +1,13 @@
 use Rattle.std.proofs.Common.{◌+◌, ◌≤◌}
 use Rattle.core_replay.specs.Turns.{Outcome, PlainLeads}
-use Rattle.core_replay.specs.Work.{work}
+use Rattle.dlg_core.specs.Left.{left}
 use Rattle.core_replay.proofs.replaying.Replaying.plain.Given as goal
 
 abbrev pub invariant-loop : goal.invariant-loop
 invariant-loop l = record {
   leads : (outcome : Outcome) → PlainLeads outcome l.self → PlainLeads outcome l.initial.self;
-  few : l.self.taken + work l.self.core ≤ l.initial.self.taken + work l.initial.self.core;
+  few : l.self.taken + left l.self.core ≤ l.initial.self.taken + left l.initial.self.core;
 }
 
 abbrev pub decreases-loop : goal.decreases-loop
-decreases-loop l = work l.self.core
+decreases-loop l = left l.self.core

@@ -1,6 +1,7 @@
 use Rattle.std.proofs.Common.{Some, ap, subst, sym, ◌≡◌, ◌∙◌}
 use Rattle.core_replay.specs.Standing.{IsReplayed, Standing}
-use Rattle.core_replay.specs.Turns.{Ends, Stopped, look_before, turned}
+use Rattle.core_replay.specs.Turns.{Ends, Stopped, turned}
+use Rattle.dlg_core.specs.PlainCycle.{look_before}
 use Rattle.core_replay.proofs.Counts.{few_both, few_look, few_none, looked_few, room_left, taken_one}
 use Rattle.core_replay.proofs.Turning.{turn_falls, turn_refused, turn_taken, turn_unlooked}
 use Rattle.core_replay.specs.declared.replaying.Turned.TheVariants as turned_so
