@@ -3,7 +3,8 @@
 
 stress.py DOCHEAP [--runs N] [--seed S] [--jobs J] [--only NAME] [--limit SECONDS]
 
-N runs of each kind; a run is made again by its kind and its seed.
+N runs of each kind; a run is made again by its kind and its seed. Two kinds of long runs are made
+only where --only names them: 64 clients with 1,500 commands each on 64 cells, and 2 to 64 clients.
 
 The checker shares nothing with the program: it reads the scripts by the grammar, folds the merged
 history over whole trees, and compares each reply; it compares the history with the clients' own
@@ -324,11 +325,20 @@ KINDS = {
 }
 
 
+# Long runs, made where --only names them.
+LONG = {
+    "64 clients, 64 cells, 1500 commands": lambda r: (
+        scripts_of(r, 64, 1500, "abc"), 64, 1, MILLION),
+    "2 to 64 clients, keep 1": lambda r: (
+        scripts_of(r, r.randint(2, 64), 60, "abc"), r.choice((64, 200, 2048)), 1, MILLION),
+}
+
+
 def one(docheap, name, seed, limit):
     """What is wrong with a run, or None, and what was seen in it."""
     seen = {}
     r = random.Random(f"{name} {seed}")
-    scripts, cells, keep, versions = KINDS[name](r)
+    scripts, cells, keep, versions = {**KINDS, **LONG}[name](r)
     cycles = r.choice((4_000_000_000, 4_000_000_000, 4_000_000_000, 0, 1, 3))
     folder = tempfile.mkdtemp(prefix="docheap-stress-")
     files = []
@@ -368,7 +378,7 @@ def main():
     p.add_argument("--limit", type=int, default=120)
     args = p.parse_args()
     bad, runs, many_late, all_seen = 0, 0, 0, {}
-    for name in KINDS:
+    for name in {**KINDS, **LONG} if args.only else KINDS:
         if args.only and args.only not in name:
             continue
         with concurrent.futures.ThreadPoolExecutor(args.jobs) as pool:
