@@ -6,7 +6,7 @@ use Rattle.std.proofs.Common.{Option, Some, None, refl, sym, ◌∙◌, ap, subs
 use Rattle.std.specs.Prelude.{Vec}
 use Rattle.std.specs.declared.alloc.Global.{Global}
 use Rattle.std.proofs.lemmas.Bool.{false≢true}
-use Rattle.std.proofs.lemmas.List.{append_assoc, append-nil, length-map}
+use Rattle.std.proofs.lemmas.List.{append_assoc, append-nil, length-map, length-take}
 use Rattle.std.proofs.lemmas.List.Elements.{All-cons, All-head, All-nil, All-tail}
 use Rattle.cell_heap.specs.Telling.{AreJoined}
 use Rattle.cell_words.specs.declared.controls.Control.{Control}
@@ -24,9 +24,10 @@ use Rattle.doc_model.specs.declared.command.Entry.{Entry}
 use Rattle.free_cells.specs.declared.queue.FreeQueue.{FreeQueue}
 use Rattle.heap_rule.specs.Shape.{Shape}
 use Rattle.heap_rule.specs.declared.view.Place.{Place}
+use Rattle.heap_rule.specs.declared.view.View.{View}
 use Rattle.heap_table.specs.Seats.{HeapId, IsSeatOf, SeatView}
 use Rattle.run_history.specs.Left.{AreLeft}
-use Rattle.store_run.specs.Finished.{commands_of, duty_on}
+use Rattle.store_run.specs.Finished.{AreFronts, commands_of, duty_on}
 use Rattle.store_run.specs.Opened.{IsWithin, client_limits, limits_of, lists_of, shape_of}
 use Rattle.store_run.specs.Parts.{AllHadRoom, AreTaken, IsOpened, IsStill}
 use Rattle.store_run.specs.declared.opening.Opened.{Opened}
@@ -34,24 +35,48 @@ use Rattle.store_run.specs.declared.options.Options.{Options}
 use Rattle.version_rule.specs.Pass.{Pass}
 use Rattle.store_run.proofs.Closed.{AtClose}
 
--- logs with all commands of short scripts are short
+-- logs with the first commands of short scripts are short
 pub short_logs : (scripts : List (Vec Command Global)) (logs : List ClientLog)
     → All (λ (script : Vec Command Global). length script.items ≤ 100_000) scripts
-    → map commands_of logs ≡ lists_of scripts
+    → AreFronts (map commands_of logs) (lists_of scripts)
     → All (λ (g : ClientLog). length g.entries ≤ 100_000) logs
-short_logs [] [] short same = All-nil (λ (g : ClientLog). length g.entries ≤ 100_000)
-short_logs [] (g ∷ logs) short same = absurd cc
-short_logs (script ∷ scripts) [] short same = absurd cc
-short_logs (script ∷ scripts) (g ∷ logs) short same =
-    let first = ap (λ (xs : List (List Command)). length (get_or xs 0 [])) same in
+short_logs [] [] short fronts = All-nil (λ (g : ClientLog). length g.entries ≤ 100_000)
+short_logs [] (g ∷ logs) short fronts = absurd fronts
+short_logs (script ∷ scripts) [] short fronts = absurd fronts
+short_logs (script ∷ scripts) (g ∷ logs) short fronts =
+    let first = ap (λ (xs : List Command). length xs) fronts.0 in
+    let cut = length-take (length (commands_of g)) script.items in
     let many = length-map g.entries (λ (e : Entry). e.command) in
     let few = All-head (λ (script : Vec Command Global). length script.items ≤ 100_000) script
     scripts short in
     All-cons (λ (g : ClientLog). length g.entries ≤ 100_000) g logs
-    (omega (arith, first, many, few))
+    (omega (arith, first, cut, many, few))
     (short_logs scripts logs
     (All-tail (λ (script : Vec Command Global). length script.items ≤ 100_000) script scripts
-    short) (ap (λ (xs : List (List Command)). drop 1 xs) same))
+    short) fronts.1)
+
+-- What is known at a close speaks of scripts by their number alone.
+pub by_number : (o : Options) (scripts others : List (List Command)) (logs : List ClientLog)
+    (v : View Pass) → length others ≡ length scripts → AtClose o scripts logs v
+    → AtClose o others logs v
+by_number o scripts others logs v same at =
+    let least = at.least in
+    record {
+      least = omega (arith, least, same);
+      within = at.within;
+      many = at.many ∙ sym same;
+      left = subst (λ (n : ℕ). AreLeft (limits_of o) o.cells logs v.places n) (sym same) at.left;
+      rooms = subst (λ (n : ℕ). AllHadRoom (places_for o.minor) v.places n) (sym same) at.rooms;
+      held_back = at.held_back;
+      made = at.made;
+      freed = at.freed;
+      added = at.added;
+      trail = at.trail;
+      served = subst (λ (n : ℕ). Served n o.cycles at.made at.freed at.added) (sym same)
+          at.served;
+      late = at.late;
+      cycles = at.cycles;
+    }
 
 -- What the collector's seat has at the close, by what it had first, and when all seats were joined.
 record Worked (cycles : ℕ) (first joined last : SeatView Pass) : Type 0 where

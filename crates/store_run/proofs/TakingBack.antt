@@ -18,7 +18,8 @@ use Rattle.heap_rule.specs.declared.view.Place.{Place}
 use Rattle.heap_rule.specs.declared.view.Place.TheVariants as places
 use Rattle.heap_table.specs.Seats.{HeapId, IsSeatOf, SeatView}
 use Rattle.run_history.specs.Left.{AreLeft, IsLeft}
-use Rattle.store_run.specs.Finished.{commands_of}
+use Rattle.doc_model.specs.declared.command.Entry.{Entry}
+use Rattle.store_run.specs.Finished.{AreFronts, commands_of}
 use Rattle.store_run.specs.Opened.{lists_of}
 use Rattle.store_run.specs.Parts.{AllHadRoom, AreTaken, IsStill}
 use Rattle.version_rule.specs.Pass.{Pass}
@@ -35,7 +36,18 @@ pub record Taking (heap : HeapId) (limits : ClientLimits) (scripts : List (Vec C
       (length logs) rest
   pub left : AreLeft (store_limits limits) heap.shape.cells logs new.me.places (length logs)
   pub rooms : AllHadRoom (places_for limits.minor) new.me.places (length logs)
+  pub fronts : AreFronts (map commands_of logs) (take (length logs) (lists_of scripts))
   pub whole : failed ≡ false → map commands_of logs ≡ take (length logs) (lists_of scripts)
+
+-- one front more
+fronts_push : (fronts wholes : List (List Command)) (front whole : List Command)
+    → AreFronts fronts wholes → front ≡ take (length front) whole
+    → AreFronts (fronts ++ front ∷ []) (wholes ++ whole ∷ [])
+fronts_push [] [] front whole are is = (is, tt)
+fronts_push [] (w ∷ wholes) front whole are is = absurd are
+fronts_push (f ∷ fronts) [] front whole are is = absurd are
+fronts_push (f ∷ fronts) (w ∷ wholes) front whole are is =
+    (are.0, fronts_push fronts wholes front whole are.1 is)
 
 module _ (heap : HeapId) (limits : ClientLimits) (scripts : List (Vec Command Global)) where
   pub taking_starts : (clients : List Client) (seat : SeatView Pass)
@@ -49,6 +61,7 @@ module _ (heap : HeapId) (limits : ClientLimits) (scripts : List (Vec Command Gl
     done = done;
     left = λ i lt. absurd (omega (arith, lt));
     rooms = λ i lt. absurd (omega (arith, lt));
+    fronts = tt;
     whole = λ so. refl;
   }
 
@@ -108,6 +121,19 @@ module _ (heap : HeapId) (limits : ClientLimits) (scripts : List (Vec Command Gl
             (logs ++ log ∷ []) new.me.places n) (sym one) at_new;
         rooms = subst (λ (n : ℕ). AllHadRoom (places_for limits.minor) new.me.places n)
             (sym one) roomy;
+        fronts = subst (λ (cs : List (List Command)). AreFronts cs
+            (take (length (logs ++ log ∷ [])) (lists_of scripts)))
+            (sym (map-append commands_of logs (log ∷ [])))
+            (subst (λ (ls : List (List Command)).
+            AreFronts (map commands_of logs ++ commands_of log ∷ []) ls)
+            (sym (ap (λ (n : ℕ). take n (lists_of scripts)) one
+            ∙ scripts_more scripts (length logs) below))
+            (fronts_push (map commands_of logs) (take (length logs) (lists_of scripts))
+            (commands_of log) (script_of scripts (length logs)) t.fronts
+            (ap commands_of log_is ∙ is.front
+            ∙ ap (λ (n : ℕ). take n (script_of scripts (length logs)))
+            (sym (length-map log.entries (λ (e : Entry). e.command)
+            ∙ ap (λ (g : ClientLog). length g.entries) log_is)))));
         whole = λ so. let both = by so in
             map-append commands_of logs (log ∷ [])
             ∙ ap (λ (cs : List (List Command)). cs ++ commands_of log ∷ []) (t.whole both.0)
@@ -140,3 +166,12 @@ module _ (heap : HeapId) (limits : ClientLimits) (scripts : List (Vec Command Gl
       let count = t.many in
       let many = length-map scripts (λ (script : Vec Command Global). script.items) in
       t.whole so ∙ take_all (length logs) (lists_of scripts) (omega (arith, count, many))
+
+  pub all_fronts : (logs : List ClientLog) (failed : Bool) (old new : SeatView Pass)
+      → Taking heap limits scripts [] logs failed old new
+      → AreFronts (map commands_of logs) (lists_of scripts)
+  all_fronts logs failed old new t =
+      let count = t.many in
+      let many = length-map scripts (λ (script : Vec Command Global). script.items) in
+      subst (λ (ls : List (List Command)). AreFronts (map commands_of logs) ls)
+      (take_all (length logs) (lists_of scripts) (omega (arith, count, many))) t.fronts

@@ -6,7 +6,7 @@
 -- Source: this project's.
 use Rattle.std.specs.Prelude.{ℕ, zero, suc, ◌≡◌, ◌≤◌, ◌<◌, ◌+◌, ◌-◌}
 use Rattle.std.specs.Prelude.{◌++◌, ◌⊎◌, true, false}
-use Rattle.std.specs.Prelude.{List, [], ◌∷◌, length, map}
+use Rattle.std.specs.Prelude.{List, [], ◌∷◌, length, map, take}
 use Rattle.std.specs.List.{list_any}
 use mathlib.Core.Option.{some}
 use lib.ListN.{get_elem?}
@@ -46,6 +46,14 @@ use Rattle.version_rule.specs.Tied.{Tied}
 -- The commands of a log.
 abbrev pub commands_of : ClientLog → List Command
 commands_of log = map (λ (e : Entry). e.command) log.entries
+
+-- each of these lists is a front of the one that stands beside it
+abbrev pub AreFronts : List (List Command) → List (List Command) → Type 0
+AreFronts [] [] = Unit {0}
+AreFronts [] (whole ∷ wholes) = ⊥
+AreFronts (front ∷ fronts) [] = ⊥
+AreFronts (front ∷ fronts) (whole ∷ wholes) =
+    (front ≡ take (length front) whole) × AreFronts fronts wholes
 
 -- The log with this index and what the mutator with this index left: its seat was joined, the log
 -- is tied to its pass, and its trail shows what the log tells of. So many cells has the heap, and so

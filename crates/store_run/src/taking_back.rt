@@ -5,7 +5,7 @@ ghost use Rattle.std.specs.Prelude.{vec_capacity};
 ghost use Rattle.client_threads.specs.Clients.{AllDone, IsDone, places_for, store_limits};
 ghost use Rattle.heap_rule.specs.Moves.{joined_view};
 ghost use Rattle.heap_table.specs.Seats.{IsSeatOf};
-ghost use Rattle.store_run.specs.Finished.{commands_of};
+ghost use Rattle.store_run.specs.Finished.{AreFronts, commands_of};
 ghost use Rattle.store_run.specs.Opened.{lists_of};
 ghost use Rattle.store_run.specs.Parts.{AreTaken};
 
@@ -35,6 +35,7 @@ pub(crate) fn take_back(
     requires room { length scripts.now ≤ vec_capacity logs.old }
     ensures taken { AreTaken (store_limits limits) heap.now.shape.cells (places_for limits.minor)
         (length scripts.now) logs.new.items seat.old seat.new }
+    ensures fronts { AreFronts (map commands_of logs.new.items) (lists_of scripts.now) }
     ensures whole { result ≡ false → map commands_of logs.new.items ≡ lists_of scripts.now }
 {
     let _ = limits;

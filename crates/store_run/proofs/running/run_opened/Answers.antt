@@ -9,65 +9,65 @@ use Rattle.version_rule.specs.Pass.{Pass}
 use Rattle.store_run.proofs.Closed.{comes, counted}
 use Rattle.store_run.proofs.Ending.{closing, late_seat, may_serve, shape_there, short_logs}
 use Rattle.store_run.proofs.Ending.{stands_places, stands_seat, still_seat}
-use Rattle.store_run.proofs.running.run_clients.Goals as goal
+use Rattle.store_run.proofs.running.run_opened.Goals as goal
 
 pub totals_of-totals-requires-clause-short : goal.totals_of-totals-requires-clause-short
 totals_of-totals-requires-clause-short g c =
     subst (λ (gs : List ClientLog). All (λ (log : ClientLog). length log.entries ≤ 100_000) gs)
     (sym c.deref.ensures.value)
     (short_logs c.args.scripts.now c.take_back-failed.new.logs.items c.requires.short
-    (c.take_back-failed.ensures.whole c.if-failed.false))
+    c.take_back-failed.ensures.fronts)
 
 pub totals_of-totals-requires-clause-counted : goal.totals_of-totals-requires-clause-counted
 totals_of-totals-requires-clause-counted g c =
     let o = c.args.options.now in
     let scripts = c.args.scripts.now in
-    let opened = c.in_ok-heap.ensures.opened in
+    let opened = c.requires.opened in
     let new = c.serve_after-seat.result in
     let logs = c.take_back-failed.new.logs.items in
-    let at = closing o scripts c.in_ok-heap.field-0 opened c.client_limits-limits.result
-    c.in_ok-heap.field-0.queue c.run_beside-clients.result.1 c.take_back-failed.new.seat new
+    let at = closing o scripts c.args.opened opened c.client_limits-limits.result
+    c.args.opened.queue c.run_beside-clients.result.1 c.take_back-failed.new.seat new
     c.run_beside-clients.result.2 logs c.requires.some c.requires.options
     c.client_limits-limits.ensures.limits c.run_beside-clients.ensures.stands
     c.take_back-failed.ensures.taken c.serve_after-seat.ensures.served in
     counted o (lists_of scripts) logs c.close-image.result.0 new.me at
-    c.in_ok-heap.field-0.heap.shape (shape_there o scripts c.in_ok-heap.field-0 opened)
+    c.args.opened.heap.shape (shape_there o scripts c.args.opened opened)
     c.close-image.ensures.ended
     (c.close-image.ensures.shown c.close-image.ensures.ended) c.freed-freed.result
     (sym c.freed-freed.ensures.freed)
 
 pub take_back-failed-requires-clause-seat : goal.take_back-failed-requires-clause-seat
 take_back-failed-requires-clause-seat g c =
-    let opened = c.in_ok-heap.ensures.opened in
-    stands_seat c.in_ok-heap.field-0.heap c.in_ok-heap.field-0.queue c.args.options.now.cycles
-    c.in_ok-heap.field-0.keeper.seat c.run_beside-clients.result.1
+    let opened = c.requires.opened in
+    stands_seat c.args.opened.heap c.args.opened.queue c.args.options.now.cycles
+    c.args.opened.keeper.seat c.run_beside-clients.result.1
     c.run_beside-clients.result.1 c.run_beside-clients.result.2 opened.seat
     c.run_beside-clients.ensures.stands
 
 pub take_back-failed-requires-clause-places : goal.take_back-failed-requires-clause-places
 take_back-failed-requires-clause-places g c =
-    let opened = c.in_ok-heap.ensures.opened in
+    let opened = c.requires.opened in
     ap (λ (ps : List (Place Pass)). length ps)
-    (stands_places c.in_ok-heap.field-0.heap c.in_ok-heap.field-0.queue
-    c.args.options.now.cycles c.in_ok-heap.field-0.keeper.seat c.run_beside-clients.result.1
+    (stands_places c.args.opened.heap c.args.opened.queue
+    c.args.options.now.cycles c.args.opened.keeper.seat c.run_beside-clients.result.1
     c.run_beside-clients.result.1 c.run_beside-clients.result.2
     c.run_beside-clients.ensures.stands) ∙ opened.places
 
 pub serve_after-seat-requires : goal.serve_after-seat-requires
 serve_after-seat-requires g c = record {
-  may = may_serve c.in_ok-heap.field-0.heap c.in_ok-heap.field-0.queue c.args.options.now.cycles
-      c.in_ok-heap.field-0.keeper.seat c.run_beside-clients.result.1
+  may = may_serve c.args.opened.heap c.args.opened.queue c.args.options.now.cycles
+      c.args.opened.keeper.seat c.run_beside-clients.result.1
       c.take_back-failed.new.seat c.run_beside-clients.result.2
       c.run_beside-clients.ensures.stands c.take_back-failed.ensures.taken.still;
 }
 
 pub close-image-requires : goal.close-image-requires
 close-image-requires g c =
-    let opened = c.in_ok-heap.ensures.opened in
-    let heap = c.in_ok-heap.field-0.heap in
-    let queue = c.in_ok-heap.field-0.queue in
+    let opened = c.requires.opened in
+    let heap = c.args.opened.heap in
+    let queue = c.args.opened.queue in
     let cycles = c.args.options.now.cycles in
-    let first = c.in_ok-heap.field-0.keeper.seat in
+    let first = c.args.opened.keeper.seat in
     let mid = c.run_beside-clients.result.1 in
     let joined = c.take_back-failed.new.seat in
     let standby = c.run_beside-clients.result.2 in
@@ -83,19 +83,19 @@ pub returns : goal.returns
 returns g c =
     let o = c.args.options.now in
     let scripts = c.args.scripts.now in
-    let opened = c.in_ok-heap.ensures.opened in
+    let opened = c.requires.opened in
     let new = c.serve_after-seat.result in
     let logs = c.take_back-failed.new.logs.items in
     let image = c.close-image.result.0 in
     let totals = c.totals_of-totals.result in
-    let shape = shape_there o scripts c.in_ok-heap.field-0 opened in
-    let at = closing o scripts c.in_ok-heap.field-0 opened c.client_limits-limits.result
-    c.in_ok-heap.field-0.queue c.run_beside-clients.result.1 c.take_back-failed.new.seat new
+    let shape = shape_there o scripts c.args.opened opened in
+    let at = closing o scripts c.args.opened opened c.client_limits-limits.result
+    c.args.opened.queue c.run_beside-clients.result.1 c.take_back-failed.new.seat new
     c.run_beside-clients.result.2 logs c.requires.some c.requires.options
     c.client_limits-limits.ensures.limits c.run_beside-clients.ensures.stands
     c.take_back-failed.ensures.taken c.serve_after-seat.ensures.served in
     let whole = comes o (lists_of scripts) logs image new.me at
-    c.in_ok-heap.field-0.heap.shape shape
+    c.args.opened.heap.shape shape
     c.close-image.ensures.ended (c.close-image.ensures.shown c.close-image.ensures.ended) totals
     record {
       freed = c.freed-freed.result;
