@@ -6,7 +6,7 @@ too many for the gate; must-fail/ has the most telling.
 
 What comes out is one of three words, and wrong_bodies/LISTS has the one that is to be expected:
 
-    false   refused, since a goal is false: a clause, or what a call asks for
+    false   refused by a goal that was tried: a clause, or what a call asks for
     name    refused only since a proof names what the body took away, which says little of the
             contract
     proves  the contracts let it through; a test tells it, or nothing
