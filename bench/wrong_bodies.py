@@ -6,7 +6,7 @@ too many for the gate; must-fail/ has the most telling.
 
 What comes out is one of three words, and wrong_bodies/LISTS has the one that is to be expected:
 
-    false   refused, since a goal is false: a clause, or what a call asks for
+    false   refused by a goal that was tried: a clause, or what a call asks for
     name    refused only since a proof names what the body took away, which says little of the
             contract
     proves  the contracts let it through; a test tells it, or nothing
@@ -27,8 +27,9 @@ PLACE = re.compile(
     r"(?m)^(?:so far: )?(?:(?:note|error): )?"
     r"(?:\./)?((?:src|proofs)/\S+?):(\d+):\d+: (.*)$"
 )
-# what is said where a proof names what is no more there, or cites a proof that does
-NAMES = re.compile(r"error: .*(has no field|is not in scope|has no `|was not admitted)")
+# what is said where a proof names what is no more there, and of what cites a refused proof
+NAMES = re.compile(r"error: .*(has no field|is not in scope|has no `)")
+CITES = re.compile(r"error: .*(was not admitted|was rejected)")
 FUNCTION = re.compile(r"\s*(?:pub(?:\([^)]*\))? )?(?:const )?fn (\w+)")
 
 
@@ -124,7 +125,7 @@ def listed(name):
 
 def kind_of(words):
     """Gives which word these refusals come to."""
-    return "name" if all(NAMES.search(it) for it in words) else "false"
+    return "name" if all(NAMES.search(it) or CITES.search(it) for it in words) else "false"
 
 
 def main(name, wanted):

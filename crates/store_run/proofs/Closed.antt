@@ -151,7 +151,7 @@ there (y ∷ ys) zero x h = omega arith
 there (y ∷ ys) (suc i) x h = let rest = there ys i x h in omega (arith, rest)
 
 -- how many places a joined mutator had
-room_in : Place Pass → ℕ
+abbrev room_in : Place Pass → ℕ
 room_in places.Unsplit = 0
 room_in places.Away = 0
 room_in (places.Joined share) = share.room
