@@ -1,13 +1,18 @@
-use Rattle.std.proofs.Common.{◌≤◌, ◌∙◌, List, All, ap, length, subst, sym}
+use Rattle.std.proofs.Common.{◌≡◌, ◌≤◌, ◌∙◌, ℕ, List, All, ap, length, map, refl, subst, sym}
+use Rattle.std.specs.Prelude.{Vec}
+use Rattle.std.specs.declared.alloc.Global.{Global}
+use Rattle.std.proofs.lemmas.List.{length-map}
 use Rattle.doc_model.specs.ClientLog.{ClientLog}
+use Rattle.doc_model.specs.declared.command.Command.{Command}
 use Rattle.heap_rule.specs.Shape.{Shape}
 use Rattle.heap_rule.specs.declared.view.Place.{Place}
 use Rattle.heap_rule.specs.declared.view.View.{View}
-use Rattle.store_run.specs.Finished.{Comes, IsTotals}
-use Rattle.store_run.specs.Opened.{lists_of}
+use Rattle.store_run.specs.Finished.{Comes, IsTotals, commands_of}
+use Rattle.store_run.specs.Opened.{lists_of, shape_of}
 use Rattle.version_rule.specs.Pass.{Pass}
 use Rattle.store_run.proofs.Closed.{comes, counted}
-use Rattle.store_run.proofs.Ending.{closing, late_seat, may_serve, shape_there, short_logs}
+use Rattle.store_run.proofs.Ending.{by_number, closing, late_seat, may_serve, shape_there}
+use Rattle.store_run.proofs.Ending.{short_logs}
 use Rattle.store_run.proofs.Ending.{stands_places, stands_seat, still_seat}
 use Rattle.store_run.proofs.running.run_opened.Goals as goal
 
@@ -79,8 +84,8 @@ close-image-requires g c =
           c.serve_after-seat.ensures.served;
     }
 
-pub returns : goal.returns
-returns g c =
+pub returns-clause-comes : goal.returns-clause-comes
+returns-clause-comes g c =
     let o = c.args.options.now in
     let scripts = c.args.scripts.now in
     let opened = c.requires.opened in
@@ -88,13 +93,20 @@ returns g c =
     let logs = c.take_back-failed.new.logs.items in
     let image = c.close-image.result.0 in
     let totals = c.totals_of-totals.result in
-    let shape = shape_there o scripts c.args.opened opened in
-    let at = closing o scripts c.args.opened opened c.client_limits-limits.result
+    let taken = c.take_back-failed.ensures.taken in
+    let answered = map commands_of logs in
+    let many : length answered ≡ length (lists_of scripts) =
+    length-map logs commands_of ∙ taken.many
+    ∙ sym (length-map scripts (λ (script : Vec Command Global). script.items)) in
+    let shape = shape_there o scripts c.args.opened opened
+    ∙ ap (λ (n : ℕ). shape_of o n) (sym many) in
+    let at = by_number o (lists_of scripts) answered logs new.me many
+    (closing o scripts c.args.opened opened c.client_limits-limits.result
     c.args.opened.queue c.run_beside-clients.result.1 c.take_back-failed.new.seat new
     c.run_beside-clients.result.2 logs c.requires.some c.requires.options
     c.client_limits-limits.ensures.limits c.run_beside-clients.ensures.stands
-    c.take_back-failed.ensures.taken c.serve_after-seat.ensures.served in
-    let whole = comes o (lists_of scripts) logs image new.me at
+    taken c.serve_after-seat.ensures.served) in
+    let whole = comes o answered logs image new.me at
     c.args.opened.heap.shape shape
     c.close-image.ensures.ended (c.close-image.ensures.shown c.close-image.ensures.ended) totals
     record {
@@ -106,6 +118,6 @@ returns g c =
       balance = c.totals_of-totals.ensures.balance;
       all_cells = c.totals_of-totals.ensures.all_cells ∙ c.close-image.ensures.sizes.0
           ∙ ap (λ (h : Shape). h.cells) shape;
-    } (c.take_back-failed.ensures.whole c.if-failed.false) in
-    subst (λ (v : View Pass). Comes o (lists_of scripts) logs image v totals)
+    } refl in
+    subst (λ (v : View Pass). Comes o answered logs image v totals)
     (sym c.close-image.ensures.passes) whole
