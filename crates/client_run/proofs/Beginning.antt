@@ -68,7 +68,7 @@ module _ (m : Bound Pass) (minor : Nursery) (r : MinorRef)
   module _ (j : Journal) (copies most keep : ℕ)
       (client : (1 ≤ j.log.client) × (j.log.client ≤ 64))
       (step : (s : ClientState) → s.pass.keep ≡ keep → s.pass.commits ≡ []
-      → s.draft ≡ empty → InStep j s)
+      → tree_of s.draft ≡ empty → InStep j s)
       (many : 4_096 ≤ most) (room : minor.room ≡ most) (copied : copies ≡ most)
       (inside : m.seat.me.presence.inside ≡ true) (held : length m.seat.me.own.held ≡ 1)
       (keeps : m.seat.me.pass.keep ≡ keep) (none : m.seat.me.pass.commits ≡ [])

@@ -17,7 +17,7 @@ use Rattle.client_turns.proofs.Stepping.{in_step_lost}
 use Rattle.core_machine.specs.Own.{no_own}
 use Rattle.core_machine.specs.Trail.{own_along}
 use Rattle.core_machine.specs.declared.events.Taken.{Taken}
-use Rattle.doc_records.specs.Trees.{IsTreeNode, tree_of}
+use Rattle.doc_records.specs.Trees.{IsTreeNode}
 use Rattle.heap_rule.specs.declared.known.Known.{Known}
 use Rattle.minor_heap.specs.Nursery.{Nursery}
 use Rattle.mutator_seat.specs.Bound.{Bound}
@@ -88,7 +88,7 @@ module _ (a b : Bound Pass) (stays : Kept a b)
       };
       ready = still_ready;
       commits = ap commit_numbers stays.pass;
-      draft = ap tree_of same_term;
+      draft = same_term;
       small = small_still (state_of a minor draft base);
     }
 

@@ -53,6 +53,9 @@ pub(crate) fn answer_over<M: StoreSeat<Q>, Q, R: Wait>(
     ensures lost { OnErr result (Lost
         (state_of (M.bound m.old) minor.old draft.old base.old)
         (state_of (M.bound m.new) minor.new draft.new base.new)) }
+    ensures untouched { is_reading command.now ≡ false → OnErr result
+        ((M.bound m.new ≡ M.bound m.old) × (minor.new ≡ minor.old)
+        × (draft.new ≡ draft.old) × (base.new ≡ base.old)) }
 {
     let mut heap = OwnHeap::new(m, hints, minor, promoter, *draft, *base);
     let answered = journal.answer(alloc, rt, &mut heap, command);

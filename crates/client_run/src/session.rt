@@ -135,6 +135,9 @@ impl Session {
         ensures lost { OnErr result (Lost
             (state_of m.old self.old.minor self.old.draft self.old.base)
             (state_of m.new self.new.minor self.new.draft self.new.base)) }
+        ensures untouched { is_reading command.now ≡ false → OnErr result
+            ((m.new ≡ m.old) × (self.new.minor ≡ self.old.minor)
+            × (self.new.draft ≡ self.old.draft) × (self.new.base ≡ self.old.base)) }
     {
         answer_over(
             alloc,
