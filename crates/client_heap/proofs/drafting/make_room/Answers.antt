@@ -57,3 +57,13 @@ returns-in_err-share_draft-in-Minor-clause-idle g c = λ cleared. absurd (
       | else-spare-ge2285-via-else-spare-ge2285 w ↦ omega arith
     ]
     )
+
+pub returns-in_err-share_draft-in-Minor-clause-term :
+    goal.returns-in_err-share_draft-in-Minor-clause-term
+returns-in_err-share_draft-in-Minor-clause-term g c =
+    rw c.in-Minor.is c.in_err-share_draft-in-Minor.ensures.same
+
+pub returns-in_err-share_draft-in-Minor-clause-sound :
+    goal.returns-in_err-share_draft-in-Minor-clause-sound
+returns-in_err-share_draft-in-Minor-clause-sound g c =
+    rw c.in-Minor.is c.in_err-share_draft-in-Minor.ensures.sound
