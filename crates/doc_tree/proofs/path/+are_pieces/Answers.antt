@@ -17,7 +17,9 @@ returns-then-is_empty t c = record {
       let name : c.in-Some.first.now ≡ bytes =
       sym c.bytes.ensures.bytes
       ∙ (bytes_decides c.bytes.result.now bytes).0 (sym c.eq.ensures ∙ same) in
-      let none : c.in-Some.others.now ≡ [] = none_left c.in-Some.others.now (grind (arith, nat_tests, c.is_empty.ensures, c.if-is_empty.true)) in
+      let none : c.in-Some.others.now ≡ [] =
+      none_left c.in-Some.others.now
+      (grind (arith, nat_tests, c.is_empty.ensures, c.if-is_empty.true)) in
       uncut bytes (sym c.in-None.ensures)
       ∙ ap (λ x. x ∷ []) (sym name)
       ∙ ap (λ xs. c.in-Some.first.now ∷ xs) (sym none)
