@@ -53,6 +53,32 @@ fn has_its_names(alloc: Global) -> Result<bool, Fail> {
     }
 }
 
+/// The first of these words that the path site/index takes for its bytes, or does not, otherwise than
+/// it should.
+fn first_mistaken<'a>(alloc: Global, rows: &[(&'a str, bool)]) -> Result<Option<&'a str>, Fail> {
+    let path = path(alloc, "site/index")?;
+    for (word, wanted) in rows {
+        if path.is_of(word.as_bytes()) != *wanted {
+            return Ok(Some(*word));
+        }
+    }
+    Ok(None)
+}
+
+#[test]
+fn a_path_knows_its_bytes(rt: HostRuntime) -> Result<(), Fail> {
+    let rows = [
+        ("site/index", true),
+        ("site/indey", false),
+        ("site", false),
+        ("site/index/", false),
+        ("site/index/a", false),
+        ("", false),
+    ];
+    assert_eq!(rt; first_mistaken(rt.alloc(), &rows)?, None);
+    Ok(())
+}
+
 /// How many names a copy of names has to which one was added.
 fn names_with_one(alloc: Global) -> Result<usize, Fail> {
     let mut names = Names::new(alloc);
