@@ -9,7 +9,9 @@ use Rattle.std.proofs.lemmas.Bool.Decides.{nat_tests}
 use Rattle.std.proofs.lemmas.List.{drop-drop, length-append}
 use Rattle.std.proofs.lemmas.List.Folds.{list_all-append}
 use Rattle.std.proofs.lemmas.List.Splits.{slice_split_first, length-slice_split}
-use Rattle.doc_tree.specs.Words.{is_name, name_of, are_names, is_path, path_with, pieces}
+use Rattle.std.proofs.Common.{IsTrue, nat_eq}
+use Rattle.std.specs.Cmp.Lexicographic.{bytes_decides, pointwise, pointwise_decides}
+use Rattle.doc_tree.specs.Words.{is_name, name_of, are_names, is_path, path_of, path_with, pieces}
 
 abbrev slash : ℕ → Bool
 slash b = eqb b 47
@@ -157,3 +159,26 @@ whole_path names rest name whole cut e some all short =
     ∙ ap (λ n. path_with (names ++ n ∷ [])) (sym (some_named rest name some).1)
     ∙ ap (λ ps. path_with (names ++ ps)) (sym (uncut rest cut))
     ∙ e
+
+-- there is a piece of whatever bytes
+pub some_pieces : (bytes : List ℕ) → 0 < length (pieces bytes)
+some_pieces bytes = omega (arith, length-slice_split slash bytes)
+
+-- names that are a path are that of the bytes whose pieces they are
+pub a_path_of : (names : List (List ℕ)) (bytes : List ℕ) → IsTrue (is_path names)
+    → pointwise (pointwise nat_eq) names (pieces bytes) ≡ true → path_of bytes ≡ Some names
+a_path_of names bytes is same =
+    let are : names ≡ pieces bytes =
+    (pointwise_decides bytes_decides names (pieces bytes)).0 same in
+    ap path_with (sym are) ∙ a_path names is
+
+-- and they are the pieces of the bytes of a path
+pieces_of : (all names : List (List ℕ)) → path_with all ≡ Some names → names ≡ all
+pieces_of all names is =
+    elim (is_path all) as (λ b. cond b (Some all) None ≡ Some names → names ≡ all)
+    [ true ↦ λ h. cc | false ↦ λ h. absurd cc ] is
+
+pub pieces_are_names : (names : List (List ℕ)) (bytes : List ℕ) → path_of bytes ≡ Some names
+    → pointwise (pointwise nat_eq) names (pieces bytes) ≡ true
+pieces_are_names names bytes is =
+    (pointwise_decides bytes_decides names (pieces bytes)).1 (pieces_of (pieces bytes) names is)

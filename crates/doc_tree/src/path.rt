@@ -1,5 +1,7 @@
 //! Paths from the root of a tree to a node, and lists of names.
-ghost use Rattle.std.specs.Prelude.{◌≡◌, [], ◌∷◌, ◌++◌, IfOk, IsTrue, OnOk, OnErr, Some, position, true, ◌==◌};
+ghost use Rattle.std.specs.Prelude.{◌≡◌, [], ◌∷◌, ◌++◌, IfOk, IsTrue, OnOk, OnErr, Some, position};
+ghost use Rattle.std.specs.Prelude.{◌==◌, nat_eq, true};
+ghost use Rattle.std.specs.Cmp.Lexicographic.{pointwise};
 ghost use Rattle.doc_tree.specs.Words.{path_of, is_path, pieces};
 
 use crate::NoMemory;
@@ -120,10 +122,11 @@ impl Path {
         &self.names
     }
 
-    /// Whether these bytes are known to be this path.
-    #[tactic(auto, using(crate::proofs::Pieces::a_path))]
+    /// Whether these bytes are this path.
+    #[tactic(auto, using(crate::proofs::Pieces::a_path_of, crate::proofs::Pieces::pieces_are_names))]
     pub fn is_of(&self, bytes: &[u8]) -> bool
         ensures path { result ≡ true → path_of bytes.now ≡ Some self.now }
+        ensures exact { path_of bytes.now ≡ Some self.now → result ≡ true }
     {
         are_pieces(self.names(), bytes)
     }
@@ -197,9 +200,9 @@ fn names_in(bytes: &[u8]) -> usize {
 }
 
 // Whether the pieces of the bytes between slashes are these names.
-#[tactic(auto, using(crate::proofs::Pieces::cut_at, crate::proofs::Pieces::uncut, crate::proofs::Pieces::cut_room))]
+#[tactic(auto, using(crate::proofs::Pieces::cut_room))]
 fn are_pieces(names: &[Name], bytes: &[u8]) -> bool
-    ensures pieces { result ≡ true → pieces bytes.now ≡ names.now }
+    ensures pieces { result ≡ pointwise (pointwise nat_eq) names.now (pieces bytes.now) }
 {
     let Some((first, others)) = names.split_first() else {
         return false;
