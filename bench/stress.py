@@ -3,8 +3,9 @@
 
 stress.py DOCHEAP [--runs N] [--seed S] [--jobs J] [--only NAME] [--limit SECONDS]
 
-N runs of each kind; a run is made again by its kind and its seed. Two kinds of long runs are made
-only where --only names them: 64 clients with 1,500 commands each on 64 cells, and 2 to 64 clients.
+N runs of each kind; a run is made again by its kind and its seed. Three kinds of long runs are
+made only where --only names them: 64 clients with 1,500 commands each on 64 cells, of all kinds or
+puts and gets alone, and 2 to 64 clients.
 
 The checker shares nothing with the program: it reads the scripts by the grammar, folds the merged
 history over whole trees, and compares each reply; it compares the history with the clients' own
@@ -325,10 +326,17 @@ KINDS = {
 }
 
 
-# Long runs, made where --only names them.
+def scripts_of_puts(r, commands):
+    return "".join(r.choice(("put a x\n", "put b y\n", "get a\n")) for _ in range(commands))
+
+
+# Long runs, made where --only names them. Drafts of 64 clients soon fill 64 cells for good, so one
+# kind has none.
 LONG = {
     "64 clients, 64 cells, 1500 commands": lambda r: (
         scripts_of(r, 64, 1500, "abc"), 64, 1, MILLION),
+    "64 clients, 64 cells, 1500 puts and gets": lambda r: (
+        [scripts_of_puts(r, 1500) for _ in range(64)], 64, 1, MILLION),
     "2 to 64 clients, keep 1": lambda r: (
         scripts_of(r, r.randint(2, 64), 60, "abc"), r.choice((64, 200, 2048)), 1, MILLION),
 }
