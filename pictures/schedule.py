@@ -1,0 +1,329 @@
+#!/usr/bin/env python3
+"""Draws a schedule of events as an SVG: time from left to right, threads and cells under it.
+
+    schedule.py SCHEDULE [--docheap PROGRAM] [--columns N] > PICTURE.svg
+
+Every colour and field in the picture is the proved program's: behind each event the script puts a
+`show` of every cell, and has `docheap replay` run that. A line `plain` is drawn as the events that
+it stands for. Each is found by asking the program which event can happen next, and the program's
+count of the `plain` itself has to agree. Stage and status follow from the events that were taken: a
+post is the stage, an answer takes its mutator to the next status. Where an event cannot happen the
+picture ends with it. PROGRAM is docheap at the top of the repository where none is given.
+"""
+import argparse
+import os
+import subprocess
+import sys
+import tempfile
+from html import escape
+
+TOP = os.path.dirname(os.path.dirname(os.path.abspath(__file__)))
+STAGES = ["idle", "sync1", "clear", "sync2", "trace", "sweep"]
+REQUESTED = {"idle": "async", "sync1": "sync1", "clear": "sync1", "sync2": "sync2",
+             "trace": "async", "sweep": "async"}
+NEXT = {"async": "sync1", "sync1": "sync2", "sync2": "async"}
+MUTATOR = ("begin look answer end over read mark claim write fill seal keep fetch store").split()
+
+
+class Replay:
+    """What the proved program says of a schedule with this first line."""
+
+    def __init__(self, program, head):
+        self.program, self.head = program, head
+        self.cells, self.mutators = (int(word) for word in head.split()[1:3])
+
+    def run(self, lines):
+        with tempfile.NamedTemporaryFile("w", suffix=".schedule") as it:
+            it.write("\n".join([self.head, *lines]) + "\n")
+            it.flush()
+            ran = subprocess.run([self.program, "replay", it.name], capture_output=True, text=True)
+        if ran.returncode:
+            sys.exit(f"schedule.py: {ran.stderr.strip()}")
+        return ran.stdout.splitlines()
+
+    def count(self, lines):
+        """How many events these lines are; none where one of them cannot happen."""
+        said = self.run(lines)
+        if any(line.startswith("not now") for line in said):
+            return None
+        return next(int(line.split()[1]) for line in said if line.startswith("done"))
+
+    def can(self, lines, event):
+        return self.count([*lines, event]) is not None
+
+    def states(self, lines):
+        """The rows of all cells, at first and behind each line."""
+        shows = [f"show {cell}" for cell in range(self.cells)]
+        asked = list(shows)
+        for line in lines:
+            asked += [line, *shows]
+        rows = [line.split()[2:] for line in self.run(asked) if line.startswith("cell ")]
+        return [rows[at:at + self.cells] for at in range(0, len(rows), self.cells)]
+
+
+def behind(replay, out, stage, cursor):
+    """The stage, and the cell that clearing or tracing has come to, behind the last event."""
+    line = out[-1]
+    words = line.split()
+    if words[0] == "post":
+        return words[1], 0
+    if words[0] == "see" and replay.can(out, "scan"):
+        return stage, 0 if line == "see 0" and cursor == replay.cells else cursor
+    if words[0] == "clear" or line == f"see {cursor}":
+        return stage, cursor + 1
+    return stage, 1 if line == "see 0" and cursor == replay.cells else cursor
+
+
+def plain_events(replay, out, stage, cursor):
+    """Adds the events of one `plain` to the lines; gives stage and cursor behind them."""
+    post = f"post {STAGES[(STAGES.index(stage) + 1) % 6]}"
+    turns = {"clear": ["clear"], "sync2": ["anchor"], "trace": ["shade", "scan", "blacken"],
+             "sweep": ["sweep", "wipe", "free", "whiten", "advance"]}.get(stage, [])
+    if stage in ("sync1", "sync2", "trace"):
+        for i in range(replay.mutators):
+            if replay.can(out, f"out {i}"):
+                out.append(f"poll {i}")
+            if out and out[-1] == f"poll {i}" and replay.can(out, f"out {i}"):
+                over = replay.can([*out, f"out {i}"], f"out {i}")
+                out.append(f"out {i} over" if over else f"out {i}")
+    while not replay.can(out, post):
+        look = f"see {cursor if cursor < replay.cells else 0}"
+        tries = [*turns, look] if stage == "trace" else turns
+        event = next((it for it in tries if replay.can(out, it)), None)
+        if event is None:
+            return None
+        out.append(event)
+        stage, cursor = behind(replay, out, stage, cursor)
+    out.append(post)
+    return behind(replay, out, stage, cursor)
+
+
+def events_of(replay, lines):
+    """The events, each `plain` as those that it stands for, and the one that cannot happen."""
+    out, stage, cursor = [], "idle", 0
+    for line in lines:
+        if line.startswith("show"):
+            continue
+        if not replay.can(out, line):
+            return out, line
+        if line == "plain":
+            wanted, found = replay.count([*out, line]), list(out)
+            stage, cursor = plain_events(replay, found, stage, cursor)
+            if replay.count(found) != wanted:
+                sys.exit("schedule.py: the events of a plain are not as many as the program counts")
+            out = found
+        else:
+            out.append(line)
+            stage, cursor = behind(replay, out, stage, cursor)
+    return out, None
+
+
+class Threads:
+    """Stage, and each mutator's status and whether it is in, as events go by."""
+
+    def __init__(self, mutators):
+        self.stage = "idle"
+        self.of = [("async", "out")] * mutators
+
+    def take(self, line):
+        words = line.split()
+        if words[0] == "post":
+            self.stage = words[1]
+        elif words[0] in MUTATOR or words[0] == "out":
+            i = int(words[1])
+            status, where = self.of[i]
+            if words[0] == "begin":
+                where = "in"
+            elif words[0] == "end":
+                where = "out"
+            elif words[0] == "over":
+                where = "over"
+            elif words[0] == "answer":
+                status = NEXT[status]
+            elif words[0] == "out" and where == ("over" if words[2:] else "out"):
+                status = REQUESTED[self.stage]
+            self.of[i] = (status, where)
+        return self.stage, tuple(self.of)
+
+
+LIGHT = {"page": "#ffffff", "ink": "#1f2328", "faint": "#59636e", "no": "#c62828",
+         "async": "#d3ecd6", "sync1": "#fdf0c0", "sync2": "#fbd3ae", "idle": "#eef0f2",
+         "clear": "#e6dcf5", "trace": "#cfe3fb", "sweep": "#cdeeea"}
+DARK = {"page": "#0d1117", "ink": "#e6edf3", "faint": "#a3abb4", "no": "#ff7b72",
+        "async": "#1d4228", "sync1": "#57490f", "sync2": "#66400f", "idle": "#262c34",
+        "clear": "#43305f", "trace": "#123f6e", "sweep": "#0f4a45"}
+COLOURS = {"blue": "#6ea8fe", "white": "#ffffff", "gray": "#9aa4af", "black": "#14171a"}
+LINE, DOT = "#848d97", "#e5534b"
+
+
+def style():
+    def rules(palette):
+        return "".join(f" .{name} {{ fill: {colour}; }}" for name, colour in palette.items())
+
+    return (f"text {{ font: 11px Menlo, Consolas, 'DejaVu Sans Mono', monospace; }}\n"
+            f".name {{ font-weight: bold; }} .dot {{ fill: {DOT}; }}\n"
+            f"{rules(LIGHT)}\n{rules(COLOURS)}\n"
+            f"@media (prefers-color-scheme: dark) {{{rules(DARK)} }}\n"
+            f".box {{ stroke: {LINE}; stroke-width: .6; }}\n"
+            f".out {{ fill: none; stroke: {LINE}; stroke-width: .6; stroke-dasharray: 2 3; }}")
+
+
+COLUMN, LEFT, BAND, STRIP, CELL, LETTER = 17, 96, 40, 15, 18, 6.7
+
+
+def rect(x, y, wide, high, kind, title=""):
+    inside = f"<title>{escape(title)}</title>" if title else ""
+    return (f'<rect x="{x:g}" y="{y:g}" width="{wide:g}" height="{high:g}" class="{kind}">'
+            f"{inside}</rect>")
+
+
+def text(x, y, words, kind="ink", upright=False):
+    turn = f' transform="rotate(-90 {x:g} {y:g})"' if upright else ""
+    return f'<text x="{x:g}" y="{y:g}" class="{kind}"{turn}>{escape(words)}</text>'
+
+
+def dot(x, y):
+    return f'<circle cx="{x:g}" cy="{y:g}" r="2.6" class="dot"/>'
+
+
+def runs(values):
+    """The stretches of equal values: from, to (not included), value."""
+    at = 0
+    for end in range(1, len(values) + 1):
+        if end == len(values) or values[end] != values[at]:
+            yield at, end, values[at]
+            at = end
+
+
+class Picture:
+    """One SVG: rows of columns, one under the other."""
+
+    def __init__(self, replay, events, refused):
+        self.shown = events + ([refused] if refused else [])
+        self.known, self.mutators = len(events), replay.mutators
+        self.states = replay.states(events)
+        threads = Threads(replay.mutators)
+        self.threads = [threads.take(line) for line in events]
+        seen = [{state[cell][0] for state in self.states} for cell in range(replay.cells)]
+        self.cells = [c for c in range(replay.cells) if replay.cells <= 12 or len(seen[c]) > 1]
+        self.parts, self.y = [], 12
+
+    def lane_of(self, line):
+        words = line.split()
+        return int(words[1]) if words[0] in MUTATOR and int(words[1]) < self.mutators else None
+
+    def label(self, line):
+        words = line.split()
+        return line if self.lane_of(line) is None else " ".join([words[0], *words[2:]])
+
+    def height(self, begin, end, lane):
+        labels = [self.label(it) for it in self.shown[begin:end] if self.lane_of(it) == lane]
+        return 14 + LETTER * max([5, *map(len, labels)])
+
+    def band(self, begin, end):
+        self.parts.append(text(4, self.y + BAND / 2 + 4, "stage", "ink name"))
+        for one, two, stage in runs([self.threads[at][0] for at in range(begin, end)]):
+            x, wide = LEFT + one * COLUMN, (two - one) * COLUMN
+            self.parts.append(rect(x, self.y, wide, BAND, f"box {stage}"))
+            if wide >= LETTER * len(stage) + 4:
+                self.parts.append(text(x + 4, self.y + BAND / 2 + 4, stage))
+            else:
+                self.parts.append(text(x + COLUMN / 2 + 4, self.y + BAND - 3, stage, "ink", True))
+        self.y += BAND + 4
+
+    def presence(self, begin, end, i, high):
+        """Behind a mutator's events whether it is in, and its status under them."""
+        for one, two, (status, where) in runs([self.threads[at][1][i] for at in range(begin, end)]):
+            x, wide, low = LEFT + one * COLUMN, (two - one) * COLUMN, self.y + high
+            kind = f"box {status}" if where == "in" else "out"
+            self.parts.append(rect(x, self.y, wide, high, kind))
+            self.parts.append(rect(x, low, wide, STRIP, f"box {status}"))
+            word = "over" if where == "over" else status
+            if wide >= LETTER * len(word) + 4:
+                self.parts.append(text(x + 3, low + 11, word, "faint"))
+
+    def lane(self, begin, end, lane, name):
+        """A thread's name and its events, upright."""
+        high = self.height(begin, end, lane)
+        self.parts.append(text(4, self.y + high / 2 + 4, name, "ink name"))
+        for at in range(begin, end):
+            if self.lane_of(self.shown[at]) == lane:
+                kind = "ink" if at < self.known else "no"
+                x = LEFT + (at - begin) * COLUMN + COLUMN / 2 + 4
+                words = self.label(self.shown[at])
+                self.parts.append(text(x, self.y + high - 6, words, kind, True))
+        self.y += high + 4
+
+    def cell(self, begin, end, cell):
+        self.parts.append(text(4, self.y + 13, f"cell {cell}" if cell else "anchor", "ink name"))
+        for at in range(begin, end):
+            row, before = self.states[at + 1][cell], self.states[at][cell]
+            x = LEFT + (at - begin) * COLUMN
+            words = f"cell {cell} {' '.join(row[:7])}, behind {self.shown[at]}"
+            self.parts.append(rect(x + 1, self.y, COLUMN - 2, CELL - 3, f"box {row[0]}", words))
+            if row[1:7] != before[1:7]:
+                self.parts.append(dot(x + COLUMN / 2, self.y + CELL / 2 - 1.5))
+        self.y += CELL
+
+    def columns(self, begin, end):
+        known = min(end, self.known)
+        self.band(begin, known)
+        self.lane(begin, end, None, "collector")
+        for i in range(self.mutators):
+            self.presence(begin, known, i, self.height(begin, end, i))
+            self.lane(begin, end, i, f"mutator {i}")
+            self.y += STRIP + 2
+        for cell in self.cells:
+            self.cell(begin, known, cell)
+        self.y += 18
+
+    def legend(self):
+        x, y = LEFT, self.y
+
+        def entry(mark, words, kind="faint"):
+            nonlocal x
+            self.parts += [*mark, text(x + 19, y + 11, words, kind)]
+            x += 19 + LETTER * len(words) + 18
+
+        for colour, words in [("blue", "free"), ("white", "not reached"),
+                              ("gray", "reached, not scanned"), ("black", "scanned")]:
+            entry([rect(x, y, 13, 13, f"box {colour}")], f"{colour}: {words}")
+        entry([dot(x + 7, y + 7)], "a field changed")
+        x, y = LEFT, y + 21
+        for status in ("async", "sync1", "sync2"):
+            entry([rect(x, y, 13, 13, f"box {status}")], status)
+        entry([rect(x, y, 13, 13, "out")], "the mutator is out")
+        if self.known < len(self.shown):
+            entry([], "red: cannot happen now", "no")
+        self.y = y + 24
+
+    def svg(self, columns, name):
+        many = max(len(self.shown), 1)
+        columns = -(-many // -(-many // columns))
+        for begin in range(0, len(self.shown), columns):
+            self.columns(begin, min(begin + columns, many))
+        self.legend()
+        wide = max(LEFT + min(many, columns) * COLUMN + 12, 860)
+        size = f'viewBox="0 0 {wide:g} {self.y:g}" width="{wide:g}" height="{self.y:g}"'
+        return "\n".join([f'<svg xmlns="http://www.w3.org/2000/svg" {size} role="img">',
+                          f"<title>{escape(name)}</title>", f"<style>{style()}</style>",
+                          rect(0, 0, wide, self.y, "page"), *self.parts, "</svg>", ""])
+
+
+def main():
+    p = argparse.ArgumentParser()
+    p.add_argument("schedule")
+    p.add_argument("--docheap", default=f"{TOP}/docheap")
+    p.add_argument("--columns", type=int, default=52, help="events in one row of the picture")
+    args = p.parse_args()
+    with open(args.schedule, encoding="ascii") as it:
+        lines = [line.rstrip("\r\n") for line in it]
+    lines = [line for line in lines if line and not line.startswith("#")]
+    replay = Replay(args.docheap, lines[0])
+    replay.run(lines[1:])
+    events, refused = events_of(replay, lines[1:])
+    name = os.path.basename(args.schedule).replace("_", " ")
+    sys.stdout.write(Picture(replay, events, refused).svg(args.columns, name))
+
+
+main()
