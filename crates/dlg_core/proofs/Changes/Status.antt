@@ -1,4 +1,5 @@
--- A mutator without a mode and a pending write gets another status: it answers, or the collector answers for it.
+-- A mutator that has neither a mode nor a pending write gets another status: it answers, or the
+-- collector answers for it.
 use Rattle.std.proofs.Common.{◌≡◌, ◌≢◌, ℕ, true, false, None, ◌<◌, sym, subst, slice_index_or}
 use Rattle.std.proofs.Common.{Option, Some, arith, ◌≤◌, ◌∙◌}
 use Rattle.std.specs.List.{All}

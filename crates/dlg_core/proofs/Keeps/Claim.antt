@@ -259,7 +259,8 @@ born_kept s i c y k inside settled blue lt fits =
         anchor_marked = (λ h white. k.tracing.anchor_marked h
             (was colour.White 0 (apart s c 0 dead k.cells.anchor_live) white));
         traced = (λ now set cut.
-            let before : IsCutOff s.owns s.colours s.rows s.collector.scan (without set c) = record {
+            let before : IsCutOff s.owns s.colours s.rows s.collector.scan (without set c)
+            = record {
               white = (λ d h. let r = in_without set c d h in was colour.White d r.1
                   (cut.white d r.0));
               child = (λ d h. out_before set c d (cut.child d h));

@@ -10,8 +10,8 @@
 --               are cut off. None of them is due: what is held and what black cells name is black.
 -- Idle          the sweep has come to the end, so no cell is unswept.
 use Rattle.std.proofs.Common.{◌≡◌, ◌≢◌, ◌==◌, ◌&&◌, ◌||◌, inl, inr, ℕ, zero, suc, Bool, true, false}
-use Rattle.std.proofs.Common.{not, nat_lt, List, [], ◌∷◌, Option, Some, None, length, get_or, ◌+◌, ◌<◌}
-use Rattle.std.proofs.Common.{◌≤◌, arith, refl, sym, subst, ◌∙◌, ap, eq-eqb}
+use Rattle.std.proofs.Common.{not, nat_lt, List, [], ◌∷◌, Option, Some, None, length, get_or, ◌+◌}
+use Rattle.std.proofs.Common.{◌<◌, ◌≤◌, arith, refl, sym, subst, ◌∙◌, ap, eq-eqb}
 use Rattle.std.specs.List.{All}
 use Rattle.std.proofs.lemmas.Bool.{and_from, ltb-true, lt-ltb, cases_lt}
 use Rattle.std.proofs.lemmas.List.{get_or_past}

@@ -116,7 +116,8 @@ sealed_kept s c x range k alive raw =
             let before : IsCutOff s.owns s.colours s.rows s.collector.scan set = record {
               white = cut.white;
               child = cut.child;
-              gray = (λ d e g gray unread n sure. cut.gray d e g gray unread (edge_is d e g n) sure);
+              gray = (λ d e g gray unread n sure. cut.gray d e g gray unread (edge_is d e g n)
+                  sure);
               outside = (λ d e g white out n sure. cut.outside d e g white out (edge_is d e g n)
                   sure);
             } in

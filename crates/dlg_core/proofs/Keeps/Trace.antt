@@ -176,8 +176,8 @@ pub record FurtherFits (s : State) (x y : Scanning) : Type 0 where
   pub same_cell : y.cell ≡ x.cell
   pub child_live : (d : ℕ) → y.child ≡ Some d → live s.colours s.control s.collector.sweep d ≡ true
   -- the child that was is in no set that is cut off from the further scan
-  pub child : (set : ℕ → Bool) → IsCutOff s.owns s.colours s.rows (Some y) set → (d : ℕ) → x.child ≡ Some d
-      → set d ≡ false
+  pub child : (set : ℕ → Bool) → IsCutOff s.owns s.colours s.rows (Some y) set → (d : ℕ)
+      → x.child ≡ Some d → set d ≡ false
   -- nor is what stands in a field that was open and is scanned now
   pub between : (set : ℕ → Bool) → IsCutOff s.owns s.colours s.rows (Some y) set → (f d : ℕ)
       → field_of s x.cell f ≡ field.Cell d
