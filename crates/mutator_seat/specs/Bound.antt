@@ -12,6 +12,9 @@ pub record Bound (P : Type 0) : Type 0 where
   pub seat : SeatView P
 
 module _ {P : Type 0} where
+  abbrev pub bound : HeapId → SeatView P → Bound P
+  bound heap seat = record { heap = heap; seat = seat }
+
   pub record IsBound (heap : HeapId) (seat : SeatView P) : Type 0 where
     pub seat_is : IsSeatOf heap seat
     -- only `finish` makes it over, and takes the mutator away
