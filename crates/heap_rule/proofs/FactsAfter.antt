@@ -13,9 +13,9 @@ use Rattle.heap_rule.specs.Lore.{Lore, cells_of, lore_after}
 use Rattle.heap_rule.proofs.Claiming.{facts_claim}
 use Rattle.heap_rule.proofs.Holding.{facts_begin, facts_end, facts_keep}
 use Rattle.heap_rule.proofs.Quiet.{cells_marked, cells_own, cells_unmarked, known_back, quiet_facts}
-use Rattle.heap_rule.proofs.Reading.{facts_read, facts_wipe}
+use Rattle.heap_rule.proofs.Reading.{facts_fetch, facts_read, facts_wipe}
 use Rattle.heap_rule.proofs.Sealing.{facts_seal}
-use Rattle.heap_rule.proofs.Writing.{facts_fill, facts_write}
+use Rattle.heap_rule.proofs.Writing.{facts_fill, facts_store, facts_write}
 
 module _ (fixed : ℕ
     → Bool) (s : State) (l : Lore) (shape : IsShaped s) (k : IsConsistent s)
@@ -47,6 +47,8 @@ module _ (fixed : ℕ
       (cells_marked (target_of s i place) (held_of s i))) refl (known_back l i)
   facts_after (event.Write i place f old new) h p = facts_write fixed s l i place f shape k facts
       old new h p
+  facts_after (event.Fetch i place f) h p = facts_fetch fixed s l i place f shape k h facts
+  facts_after (event.Store i new) h p = facts_store fixed s l i shape k facts new h p
   facts_after (event.Claim i c) h p = facts_claim fixed s l i c shape k h facts
   facts_after (event.Fill i place f value) h p = facts_fill fixed s l i place f shape k facts value
       h

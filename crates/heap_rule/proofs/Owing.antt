@@ -2,7 +2,7 @@
 -- operation leaves there.
 use Rattle.std.proofs.Common.{◌≡◌, ◌<◌, ◌≤◌, ◌+◌, ◌==◌, ◌&&◌, ◌||◌, ℕ, Bool, true, false, not}
 use Rattle.std.proofs.Common.{List, [], ◌∷◌, length}
-use Rattle.std.proofs.Common.{None, inl, inr, refl, sym, ◌∙◌, ap, subst, arith}
+use Rattle.std.proofs.Common.{Option, None, inl, inr, refl, sym, ◌∙◌, ap, subst, arith}
 use Rattle.std.proofs.Common.{nat_lt, nat_le, is_some}
 use Rattle.std.proofs.lemmas.Bool.{and_parts, and_from, or_cases, eqb-true, lt-ltb, le-leb}
 use Rattle.cell_words.specs.Presence.{pack_presence_of}
@@ -25,23 +25,25 @@ use Rattle.cell_words.specs.declared.fields.Field.TheVariants as field
 use Rattle.cell_words.specs.declared.fields.Kind.{Kind}
 use Rattle.cell_words.specs.declared.fields.Kind.TheVariants as kind
 use Rattle.cell_words.specs.declared.presences.Status.{Status}
+use Rattle.core_machine.specs.declared.pending.Pending.{Pending}
 use Rattle.core_machine.specs.declared.places.Held.{Held}
 use Rattle.core_machine.specs.Mutation.{names_own}
-use Rattle.core_machine.specs.Operations.{has_mode, has_room, is_in, is_place, may_begin}
+use Rattle.core_machine.specs.Operations.{has_mode, has_pending, has_room, is_in, is_place}
+use Rattle.core_machine.specs.Operations.{may_begin, own_lets_store}
 use Rattle.core_machine.specs.Operations.{next_own_status, own_barrier}
 use Rattle.cell_words.specs.Field.{pack_field_of}
 use Rattle.cell_words.specs.Modes.{next_status_of}
 use Rattle.cell_words.specs.declared.presences.Presence.{Presence}
 use Rattle.cell_words.specs.declared.presences.Status.TheVariants as status_kind
 use Rattle.cell_words.specs.declared.write_barrier.Barrier.{Barrier}
-use Rattle.core_machine.specs.Words.{born_colour, is_cell, kind_field, marks_some, requests}
-use Rattle.core_machine.specs.Words.{same_status}
+use Rattle.core_machine.specs.Words.{born_colour, is_cell, kind_field, lets_store, marks_some}
+use Rattle.core_machine.specs.Words.{requests, same_status}
 use Rattle.core_machine.specs.Table.{TheControl, StatusOf, ColourOf, FieldOf}
 use Rattle.core_machine.specs.WordOperations.{Load, Store, Exchange, SetBits, KeepBits}
 use Rattle.core_machine.specs.WordOperations.{all_but_inside, answered_presence, colour_exchange}
 use Rattle.core_machine.specs.WordOperations.{inside_bit, over_bit}
 use Rattle.core_machine.specs.Places.{all_marked, marks_stand}
-use Rattle.core_machine.specs.Own.{Own}
+use Rattle.core_machine.specs.Own.{Own, pending_or_none}
 use Rattle.core_machine.specs.Places.{cell_at, names_rightly}
 use Rattle.core_machine.specs.State.{field_of, held_of, is_box, is_raw, is_raw_value, own_of}
 use Rattle.core_machine.specs.State.{presence_of, room_of, target_of}
@@ -51,9 +53,9 @@ use Rattle.heap_rule.specs.declared.known.Known.{Known}
 use Rattle.heap_rule.specs.declared.known.Known.TheVariants as knows
 use Rattle.heap_rule.specs.declared.view.View.{View}
 use Rattle.heap_rule.specs.Asks.{CollectorAsks, IsBox, IsRaw, IsSealedValue, KnowsTerms}
-use Rattle.heap_rule.specs.Asks.{MayAnswer, MayClaim, MayComeIn}
-use Rattle.heap_rule.specs.Asks.{MayFill, MayKeep, MayMark, MayRead, MaySeal, MayWrite}
-use Rattle.heap_rule.specs.Asks.{collector_state, is_sealed, known_of}
+use Rattle.heap_rule.specs.Asks.{MayAnswer, MayClaim, MayComeIn, MayFetch, MayFill, MayKeep}
+use Rattle.heap_rule.specs.Asks.{MayLook, MayMark, MayRead, MaySeal, MayStore, MayWrite}
+use Rattle.heap_rule.specs.Asks.{begun_of, collector_state, is_sealed, known_of}
 use Rattle.heap_rule.specs.Asks.{known_state, knows_sealed, raw_fields, target, told_by}
 use Rattle.heap_rule.specs.Facts.{AllKnown, IsKnown, IsTermKnown, Proper, SealsTerms}
 use Rattle.heap_rule.specs.Knowledge.{ArePayload}
@@ -95,6 +97,8 @@ bare_can s (event.Look i) k made h = let no = made in absurd cc
 bare_can s (event.Read i place f) k made h = let no = made in absurd cc
 bare_can s (event.Mark i place) k made h = let no = made in absurd cc
 bare_can s (event.Write i place f old new) k made h = let no = made in absurd cc
+bare_can s (event.Fetch i place f) k made h = let no = made in absurd cc
+bare_can s (event.Store i new) k made h = let no = made in absurd cc
 bare_can s (event.Claim i c) k made h = let no = made in absurd cc
 bare_can s (event.Fill i place f value) k made h = let no = made in absurd cc
 bare_can s (event.Seal i place of) k made h = let no = made in absurd cc
@@ -117,6 +121,8 @@ bare_word s (event.Look i) made = let no = made in absurd cc
 bare_word s (event.Read i place f) made = let no = made in absurd cc
 bare_word s (event.Mark i place) made = let no = made in absurd cc
 bare_word s (event.Write i place f old new) made = let no = made in absurd cc
+bare_word s (event.Fetch i place f) made = let no = made in absurd cc
+bare_word s (event.Store i new) made = let no = made in absurd cc
 bare_word s (event.Claim i c) made = let no = made in absurd cc
 bare_word s (event.Fill i place f value) made = let no = made in absurd cc
 bare_word s (event.Seal i place of) made = let no = made in absurd cc
@@ -133,6 +139,8 @@ bare_operation s (event.Look i) made = let no = made in absurd cc
 bare_operation s (event.Read i place f) made = let no = made in absurd cc
 bare_operation s (event.Mark i place) made = let no = made in absurd cc
 bare_operation s (event.Write i place f old new) made = let no = made in absurd cc
+bare_operation s (event.Fetch i place f) made = let no = made in absurd cc
+bare_operation s (event.Store i new) made = let no = made in absurd cc
 bare_operation s (event.Claim i c) made = let no = made in absurd cc
 bare_operation s (event.Fill i place f value) made = let no = made in absurd cc
 bare_operation s (event.Seal i place of) made = let no = made in absurd cc
@@ -149,6 +157,8 @@ bare_tells s (event.Look i) made n h = let no = made in absurd cc
 bare_tells s (event.Read i place f) made n h = let no = made in absurd cc
 bare_tells s (event.Mark i place) made n h = let no = made in absurd cc
 bare_tells s (event.Write i place f old new) made n h = let no = made in absurd cc
+bare_tells s (event.Fetch i place f) made n h = let no = made in absurd cc
+bare_tells s (event.Store i new) made n h = let no = made in absurd cc
 bare_tells s (event.Claim i c) made n h = let no = made in absurd cc
 bare_tells s (event.Fill i place f value) made n h = let no = made in absurd cc
 bare_tells s (event.Seal i place of) made n h = let no = made in absurd cc
@@ -172,6 +182,8 @@ collectors_proper s fixed l (event.Look i) made = let no = made in absurd cc
 collectors_proper s fixed l (event.Read i place f) made = let no = made in absurd cc
 collectors_proper s fixed l (event.Mark i place) made = let no = made in absurd cc
 collectors_proper s fixed l (event.Write i place f old new) made = let no = made in absurd cc
+collectors_proper s fixed l (event.Fetch i place f) made = let no = made in absurd cc
+collectors_proper s fixed l (event.Store i new) made = let no = made in absurd cc
 collectors_proper s fixed l (event.Claim i c) made = let no = made in absurd cc
 collectors_proper s fixed l (event.Fill i place f value) made = let no = made in absurd cc
 collectors_proper s fixed l (event.Seal i place of) made = let no = made in absurd cc
@@ -230,6 +242,21 @@ module _ {P : Type 0} (fixed : ℕ
 
   mode_now : is_some v.own.mode ≡ true → has_mode s i ≡ true
   mode_now is = ap (λ (o : Own). is_some o.mode) mine.own ∙ is
+
+  -- nothing is pending, or something is
+  settled_now : v.own.pending ≡ None → not (has_pending s i) ≡ true
+  settled_now none =
+      ap (λ (o : Own). not (is_some o.pending)) mine.own
+      ∙ ap (λ (p : Option Pending). not (is_some p)) none
+
+  pending_now : is_some v.own.pending ≡ true → has_pending s i ≡ true
+  pending_now is = ap (λ (o : Own). is_some o.pending) mine.own ∙ is
+
+  lets_now : v.presence.inside ≡ true → lets_store v.presence.status v.own.mode ≡ true
+      → own_lets_store s i ≡ true
+  lets_now inside lets =
+      ap (λ (x : Status). lets_store x (own_of s i).mode) (status_now inside)
+      ∙ ap (λ (o : Own). lets_store v.presence.status o.mode) mine.own ∙ lets
 
   barrier_now : v.presence.inside ≡ true → own_barrier s i ≡ barrier_in v.presence.status v.own.mode
   barrier_now inside =
@@ -378,11 +405,11 @@ module _ {P : Type 0} (fixed : ℕ
     tells = λ n h. h;
   }
 
-  pub owes_look : v.presence.inside ≡ true
+  pub owes_look : MayLook v
       → Owed fixed s l (event.Look i) (index_of v.shape.mutators TheControl) (left_by Load)
       (told_by Load)
-  owes_look inside = record {
-    happens = inside_now inside;
+  owes_look may = record {
+    happens = and_from _ _ (inside_now may.inside) (settled_now may.settled);
     proper = tt;
     index = refl;
     left = λ n.
@@ -423,8 +450,9 @@ module _ {P : Type 0} (fixed : ℕ
       (told_by (Exchange (pack_field_of old) (pack_field_of new)))
   owes_write place f old new may = record {
     happens =
-        let front = and_from _ _ (and_from _ _ (inside_now may.inside) (mode_now may.mode))
-        (place_now place may.there) in
+        let begins = and_from _ _ (and_from _ _ (inside_now may.inside) (mode_now may.mode))
+        (settled_now may.settled) in
+        let front = and_from _ _ begins (place_now place may.there) in
         let box = and_from _ _ (and_from _ _ front (le-leb f 4 may.payload))
         (box_now place may.there may.box) in
         let names = and_from _ _ (and_from _ _ box (names_now old may.names_old))
@@ -439,14 +467,59 @@ module _ {P : Type 0} (fixed : ℕ
     tells = λ n h. h;
   }
 
+  pub owes_fetch : (place f : ℕ) → MayFetch v place f
+      → Owed fixed s l (event.Fetch i place f)
+      (index_of v.shape.mutators (FieldOf (target v place) f)) (left_by Load) (told_by Load)
+  owes_fetch place f may = record {
+    happens =
+        let begins = and_from _ _ (and_from _ _ (inside_now may.inside) (settled_now may.settled))
+        (lets_now may.inside may.lets) in
+        let there = and_from _ _ (and_from _ _ begins (place_now place may.there))
+        (le-leb f 4 may.payload) in
+        and_from _ _ (and_from _ _ there (box_now place may.there may.box)) (room_now may.room);
+    proper = tt;
+    index = at_target (λ c. FieldOf c f) place;
+    left = λ n. refl;
+    tells = λ n h. h;
+  }
+
+  -- the field that the pending write is of, as a function of the own part
+  abbrev field_begun : Own → Word
+  field_begun own = FieldOf (cell_at own.held (pending_or_none own.pending).place)
+      (pending_or_none own.pending).f
+
+  pub owes_store : (new : Field) → MayStore fixed v new
+      → Owed fixed s l (event.Store i new)
+      (index_of v.shape.mutators (FieldOf (target v (begun_of v).place) (begun_of v).f))
+      (left_by (Store (pack_field_of new))) (told_by (Store (pack_field_of new)))
+  owes_store new may = record {
+    happens =
+        let begins = and_from _ _ (inside_now may.inside) (pending_now may.begun) in
+        let names = and_from _ _ begins (names_now new may.names) in
+        and_from _ _ (and_from _ _ names (not_now (is_raw_value s new) (sealed_now new may.sealed)))
+        (ap (λ (b : Barrier). marks_stand b (held_of s i)
+        (pending_or_none (own_of s i).pending).found new) (barrier_now may.inside)
+        ∙ ap (λ (o : Own). marks_stand (barrier_in v.presence.status v.own.mode) o.held
+        (pending_or_none o.pending).found new) mine.own ∙ may.marks);
+    proper = λ is.
+        ap (λ (o : Own). cell_at o.held (pending_or_none o.pending).place) mine.own
+        ∙ may.spares (subst (λ (o : Own). fixed (pending_or_none o.pending).f ≡ true) mine.own is);
+    index =
+        ap (λ (o : Own). index_of s.mutators (field_begun o)) mine.own
+        ∙ ap (λ (n : ℕ). index_of n (field_begun v.own)) mine.mutators;
+    left = λ n. refl;
+    tells = λ n h. tt;
+  }
+
   pub owes_claim : (c : ℕ) → MayClaim v c
       → Owed fixed s l (event.Claim i c) (index_of v.shape.mutators (ColourOf c))
       (left_by (colour_exchange colour.Blue (born_colour v.presence.status v.own.mode c)))
       (told_by (colour_exchange colour.Blue (born_colour v.presence.status v.own.mode c)))
   owes_claim c may = record {
     happens =
-        and_from _ _ (and_from _ _ (and_from _ _ (inside_now may.inside) (mode_now may.mode))
-        (ap (λ (n : ℕ). nat_lt c n) mine.cells
+        let begins = and_from _ _ (and_from _ _ (inside_now may.inside) (mode_now may.mode))
+        (settled_now may.settled) in
+        and_from _ _ (and_from _ _ begins (ap (λ (n : ℕ). nat_lt c n) mine.cells
         ∙ lt-ltb c v.shape.cells may.cell)) (room_now may.room);
     proper = tt;
     index = ap (λ (n : ℕ). index_of n (ColourOf c)) mine.mutators;
@@ -522,7 +595,8 @@ module _ {P : Type 0} (fixed : ℕ
       }) in
       record {
         happens =
-            and_from _ _ (and_from _ _ (inside_now may.inside)
+            and_from _ _ (and_from _ _
+            (and_from _ _ (inside_now may.inside) (settled_now may.settled))
             (ap (λ (o : Own). requests o.mode (next_own_status s i)) mine.own
             ∙ ap (λ (x : Status). requests v.own.mode (next_status_of x)) status ∙ may.requested))
             (ap (λ (o : Own). not
@@ -545,7 +619,8 @@ module _ {P : Type 0} (fixed : ℕ
         = (λ m le. ap (λ (o : Own). nat_le m (length o.held)) mine.own
         ∙ le-leb m (length v.own.held) le) in
         and_from _ _ (and_from _ _
-        (and_from _ _ (and_from _ _ (inside_now may.inside) (le-leb 1 n may.some))
+        (and_from _ _ (and_from _ _
+        (and_from _ _ (inside_now may.inside) (settled_now may.settled)) (le-leb 1 n may.some))
         (long n may.kept)) (long (from + copies) may.copied))
         (ap (λ (r : ℕ). nat_le (n + copies) r) mine.room ∙ le-leb (n + copies) v.room may.room);
     proper = tt;

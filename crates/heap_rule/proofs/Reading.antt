@@ -1,5 +1,5 @@
--- The facts on lore after Read: what is told of a cell is so, and the maker holds a cell more, if
--- one was found. And after Wipe, whose cell is not reachable.
+-- The facts on lore after Read and Fetch: what is told of a cell is so, and the maker holds a cell
+-- more, if one was found. And after Wipe, whose cell is not reachable.
 use Rattle.std.proofs.Common.{◌⊎◌, ◌≡◌, ◌≢◌, ◌<◌, ◌==◌, ◌||◌, ℕ, zero, suc, Bool, true, false, List}
 use Rattle.std.proofs.Common.{[], ◌∷◌, ◌++◌}
 use Rattle.std.proofs.Common.{length, get_or, slice_index_or, Option, Some, None, inl, inr}
@@ -16,16 +16,18 @@ use Rattle.core_machine.specs.declared.places.Held.{Held}
 use Rattle.core_machine.specs.InRange.{IsShaped}
 use Rattle.core_machine.specs.Next.{can, after}
 use Rattle.core_machine.specs.Operations.{is_in}
-use Rattle.core_machine.specs.Own.{having_read}
+use Rattle.core_machine.specs.Own.{having_fetched, having_read}
 use Rattle.core_machine.specs.Places.{cell_at, found_at}
 use Rattle.core_machine.specs.State.{State, field_of, held_of, own_of, target_of}
 use Rattle.core_machine.specs.Sweep.{wiped_count}
 use Rattle.core_machine.specs.Words.{is_box_kind}
-use Rattle.core_machine.proofs.Conditions.{read_needs}
+use Rattle.core_machine.proofs.Conditions.{fetch_needs, read_needs}
 use Rattle.core_machine.proofs.Frames.{set_field_other}
 use Rattle.dlg_core.specs.Consistent.{IsConsistent}
 use Rattle.dlg_core.specs.Reachable.{Reachable, named}
 use Rattle.core_machine.proofs.OneOperation.{inside_there}
+use Rattle.dlg_core.proofs.Changes.Own.{own_kept}
+use Rattle.dlg_core.proofs.Keeps.Holding.{read_fits}
 use Rattle.dlg_core.proofs.Truths.{wipe_is}
 use Rattle.dlg_core.proofs.Step.{consistent_after}
 use Rattle.dlg_core.proofs.Truths.{or_here, or_later}
@@ -40,7 +42,9 @@ use Rattle.heap_rule.specs.Lore.{known_found, known_in, learned_from, learned_of
 use Rattle.heap_rule.specs.Lore.{told, told_of}
 use Rattle.heap_rule.proofs.Carried.{SameAt, back_from, knows_on, still_facts}
 use Rattle.heap_rule.proofs.Lists.{all_append, all_changed, all_known, has_at, reached_held}
-use Rattle.heap_rule.proofs.Makers.{Made, cells_mine, made_facts, maker_back}
+use Rattle.heap_rule.proofs.Makers.{Made, cells_each, cells_else, cells_mine, made_facts}
+use Rattle.heap_rule.proofs.Makers.{maker_back}
+use Rattle.heap_rule.proofs.Quiet.{quiet_back, quiet_facts}
 
 -- Wipe.
 
@@ -315,6 +319,43 @@ module _ (fixed : ℕ
       (known_found known_here (learned_from s l found) found)
       later (read_made_by found is later) facts
 
+  -- A Fetch is a Read, and then what is pending changes. No fact on lore speaks of that.
+  abbrev now : Field
+  now = field_of s (target_of s i place) f
+
+  abbrev fetches : State
+  fetches = record s { owns = set s.owns i (having_fetched (own_of s i) place f now) }
+
+  read_first : IsConsistent (reads now)
+  read_first = own_kept s i (having_read (own_of s i) now) k
+      (read_fits s i place f now k inside there refl)
+
+  cells_fetched : (j : ℕ) → cells_of fetches j ≡ cells_of (reads now) j
+  cells_fetched =
+      let below : i < length s.owns = let lt = inside_there s shape i
+      inside in let fit = shape.mutators_fit in omega (arith, lt, fit.owns_fit) in
+      cells_each s fetches i (having_fetched (own_of s i) place f now) refl
+      (λ j cells. cells ≡ cells_of (reads now) j) below
+      (sym (cells_mine s (reads now) i (having_read (own_of s i) now) refl below))
+      (λ j other. sym (cells_else s (reads now) i (having_read (own_of s i) now) refl j other))
+
+  pub fetched_same : (x : ℕ) → Reachable fetches x → SameAt s fetches l (tells now) x
+  fetched_same x r =
+      let was = (read_made_by now refl read_first).same x
+      (quiet_back (reads now) fetches read_first refl cells_fetched x r) in
+      record {
+        reached = was.reached;
+        rows = λ g. refl;
+        term = refl;
+        fresh = refl;
+        entries = λ g. refl;
+      }
+
+  pub fetched_facts : IsConsistent fetches → Facts fixed fetches (tells now)
+  fetched_facts later =
+      quiet_facts (reads now) fetches read_first refl cells_fetched fixed (tells now) later refl
+      (read_facts now refl read_first)
+
 pub read_same : (fixed : ℕ → Bool) (s : State) (l : Lore) (i place f : ℕ) → IsShaped s
     → IsConsistent s
     → can s (event.Read i place f) ≡ true → Facts fixed s l → (x : ℕ)
@@ -335,3 +376,21 @@ facts_read fixed s l i place f shape k h facts =
     read_facts fixed s l i place f shape k facts needs.inside needs.there
     (field_of s (target_of s i place) f) refl
     (consistent_after s (event.Read i place f) shape k h)
+
+pub fetch_same : (fixed : ℕ → Bool) (s : State) (l : Lore) (i place f : ℕ) → IsShaped s
+    → IsConsistent s
+    → can s (event.Fetch i place f) ≡ true → Facts fixed s l → (x : ℕ)
+    → Reachable (after s (event.Fetch i place f)) x
+    → SameAt s (after s (event.Fetch i place f)) l (lore_after s l (event.Fetch i place f)) x
+fetch_same fixed s l i place f shape k h facts =
+    let needs = fetch_needs s i place f h in
+    fetched_same fixed s l i place f shape k facts needs.inside needs.there
+
+pub facts_fetch : (fixed : ℕ → Bool) (s : State) (l : Lore) (i place f : ℕ) → IsShaped s
+    → IsConsistent s
+    → can s (event.Fetch i place f) ≡ true → Facts fixed s l
+    → Facts fixed (after s (event.Fetch i place f)) (lore_after s l (event.Fetch i place f))
+facts_fetch fixed s l i place f shape k h facts =
+    let needs = fetch_needs s i place f h in
+    fetched_facts fixed s l i place f shape k facts needs.inside needs.there
+    (consistent_after s (event.Fetch i place f) shape k h)

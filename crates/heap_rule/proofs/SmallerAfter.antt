@@ -15,7 +15,8 @@ use Rattle.core_machine.specs.declared.events.Event.TheVariants as event
 use Rattle.core_machine.specs.InRange.{IsShaped}
 use Rattle.core_machine.specs.Next.{can, after}
 use Rattle.core_machine.specs.Own.{Own, having_claimed, looked, marking, spent}
-use Rattle.core_machine.specs.State.{State, colour_of, field_of, held_of, own_in, own_of, row_in}
+use Rattle.core_machine.specs.State.{State, begun_of, colour_of, field_of, held_of, own_in}
+use Rattle.core_machine.specs.State.{own_of, row_in}
 use Rattle.core_machine.specs.State.{set_field, target_of}
 use Rattle.core_machine.specs.declared.events.Found.TheVariants as finds
 use Rattle.core_machine.proofs.Conditions.{claim_needs, fill_needs}
@@ -37,9 +38,9 @@ use Rattle.heap_rule.proofs.FactsAfter.{facts_after}
 use Rattle.heap_rule.proofs.Holding.{begin_made, end_made, keep_made}
 use Rattle.heap_rule.proofs.Maps.{In, anchor_in, in_map, of_map, same_but_smaller, smaller}
 use Rattle.heap_rule.proofs.Quiet.{cells_marked, cells_own, cells_unmarked, known_back, quiet_same}
-use Rattle.heap_rule.proofs.Reading.{read_same, wipe_same}
+use Rattle.heap_rule.proofs.Reading.{fetch_same, read_same, wipe_same}
 use Rattle.heap_rule.proofs.Storing.{Stores, stored_back, stored_fields, stored_kinds, stored_there}
-use Rattle.heap_rule.proofs.Writing.{fill_stores, write_stores, raw_no_box}
+use Rattle.heap_rule.proofs.Writing.{fill_stores, store_stores, write_stores, raw_no_box}
 
 module _ (fixed : ℕ
     → Bool) (s : State) (l : Lore) (shape : IsShaped s) (k : IsConsistent s)
@@ -301,6 +302,15 @@ module _ (fixed : ℕ
       (consistent_after s (event.Write i place f old new) shape k h) refl
       (cells_own s i (spent (own_of s i)) (cells_unmarked (held_of s i))) refl refl refl
       (root (event.Write i place f old new) h p)
+  smaller_after (event.Fetch i place f) h p = kept_by (event.Fetch i place f) h p
+      (fetch_same fixed s l i place f shape k h facts)
+  smaller_after (event.Store i new) h p =
+      let e = event.Store i new in
+      let write = begun_of s i in
+      made i (target_of s i write.place) write.f new (after s e) (consistent_after s e shape k h)
+      (store_stores fixed s l i shape k facts new (after s e) h p refl
+      (cells_own s i (spent (own_of s i)) (cells_unmarked (held_of s i))) refl)
+      (lore_after s l e) refl refl (root e h p)
   smaller_after (event.Claim i c) h p = claim_smaller i c h
   smaller_after (event.Fill i place f value) h p = fill_smaller i place f value h
   smaller_after (event.Seal i place of) h p = seal_smaller i place of h p

@@ -46,7 +46,7 @@ use Rattle.heap_rule.specs.declared.view.Share.{Share}
 use Rattle.heap_rule.specs.declared.view.View.{View}
 use Rattle.heap_rule.specs.Boxes.{Map, Smaller, boxes_by, boxes_of}
 use Rattle.heap_rule.specs.Facts.{Proper}
-use Rattle.heap_rule.specs.Lore.{Lore, cells_in, cells_of, known_by, known_in, learned, lore_after}
+use Rattle.heap_rule.specs.Lore.{Lore, known_by, known_in, learned, lore_after}
 use Rattle.heap_rule.specs.Lore as lore
 use Rattle.heap_rule.specs.Rule.{Ledger, Stands, ShareFits, PlaceFits, MutatorFits, CollectorFits}
 use Rattle.heap_rule.specs.Rule.{SeatFits, Kept}
@@ -170,12 +170,10 @@ module _ {P : Type 0} where
         known =
             ap (λ (who : Option ℕ). known_in (known_by l.core l.lore e who) i) made
             ∙ get_or-set_same l.lore.known i
-            (lore.knows_after (cells_of l.core i) (known_in l.lore.known i) e found tells) []
+            (lore.knows_after (own_of l.core i) (known_in l.lore.known i) e found tells) []
             below
-            ∙ ap (λ (o : Own). lore.knows_after (cells_in o.held)
-            (known_in l.lore.known i) e found tells) fits.own
-            ∙ ap (λ (ws : List Known). lore.knows_after (cells_in v.own.held) ws e found tells)
-            fits.known;
+            ∙ ap (λ (o : Own). lore.knows_after o (known_in l.lore.known i) e found tells) fits.own
+            ∙ ap (λ (ws : List Known). lore.knows_after v.own ws e found tells) fits.known;
         pass = there;
         trail = trail_mine (Some i) l.run (took e found) made
             ∙ ap (λ (ts : List Taken). ts ++ took e found ∷ []) fits.trail;
@@ -189,6 +187,8 @@ collectors_boxes s l (event.Look i) made = let no = made in absurd cc
 collectors_boxes s l (event.Read i place f) made = let no = made in absurd cc
 collectors_boxes s l (event.Mark i place) made = let no = made in absurd cc
 collectors_boxes s l (event.Write i place f old new) made = let no = made in absurd cc
+collectors_boxes s l (event.Fetch i place f) made = let no = made in absurd cc
+collectors_boxes s l (event.Store i new) made = let no = made in absurd cc
 collectors_boxes s l (event.Claim i c) made = let no = made in absurd cc
 collectors_boxes s l (event.Fill i place f value) made = let no = made in absurd cc
 collectors_boxes s l (event.Seal i place of) made = let no = made in absurd cc

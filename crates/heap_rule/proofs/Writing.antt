@@ -1,5 +1,6 @@
--- The facts on lore after Fill and Write.
+-- The facts on lore after Fill, Write and Store.
 use Rattle.std.proofs.Common.{◌≡◌, ℕ, Bool, true, false, List, []}
+use Rattle.std.proofs.Common.{Option, Some, None, is_some}
 use Rattle.std.proofs.Common.{refl, sym, ◌∙◌, ap, subst, arith, if◌then◌else◌}
 use Rattle.std.proofs.Math.ListN.{set}
 use Rattle.std.proofs.lemmas.Bool.{eqb-true}
@@ -10,12 +11,13 @@ use Rattle.core_machine.specs.declared.events.Event.TheVariants as event
 use Rattle.core_machine.specs.InRange.{IsShaped}
 use Rattle.core_machine.specs.Mutation.{names_own}
 use Rattle.core_machine.specs.Next.{can, after}
-use Rattle.core_machine.specs.Own.{spent}
-use Rattle.core_machine.specs.State.{State, field_of, held_of, is_raw_value, own_of}
-use Rattle.core_machine.specs.State.{row_in, set_field, target_of}
+use Rattle.core_machine.specs.Own.{pending_or_none, spent}
+use Rattle.core_machine.specs.State.{State, begun_of, field_of, held_of, is_raw_value, own_of}
+use Rattle.core_machine.specs.State.{presence_of, row_in, set_field, target_of}
 use Rattle.core_machine.specs.Words.{is_box_kind, is_raw_kind, same_field}
-use Rattle.core_machine.proofs.Conditions.{fill_needs, write_needs}
-use Rattle.dlg_core.specs.Consistent.{IsConsistent}
+use Rattle.core_machine.specs.declared.pending.Pending.{Pending}
+use Rattle.core_machine.proofs.Conditions.{fill_needs, store_needs, write_needs}
+use Rattle.dlg_core.specs.Consistent.{IsConsistent, IsPending}
 use Rattle.core_machine.proofs.OneOperation.{inside_there}
 use Rattle.dlg_core.proofs.Step.{consistent_after}
 use Rattle.heap_rule.specs.Facts.{Facts, Proper, is_record_kind}
@@ -43,6 +45,12 @@ raw_no_record : (x : Field) → is_raw_kind x ≡ true → is_record_kind x ≡ 
 raw_no_record field.Null h = refl
 raw_no_record (field.Num n) h = absurd cc
 raw_no_record (field.Cell c) h = refl
+
+-- a write that is pending is the one that was begun
+pending_begun : (pending : Option Pending) → is_some pending ≡ true
+    → pending ≡ Some (pending_or_none pending)
+pending_begun None h = absurd cc
+pending_begun (Some write) h = refl
 
 pub raw_no_box : (x : Field) → is_raw_kind x ≡ true → is_box_kind x ≡ false
 raw_no_box field.Null h = refl
@@ -135,3 +143,44 @@ module _ (fixed : ℕ
       (same_field (field_of s (target_of s i place) f) old) h proper refl
       (cells_own s i (spent (own_of s i)) (cells_unmarked (held_of s i))) refl
       (consistent_after s (event.Write i place f old new) shape k h)
+
+-- A Store, of the pending write.
+module _ (fixed : ℕ
+    → Bool) (s : State) (l : Lore) (i : ℕ) (shape : IsShaped s) (k : IsConsistent s)
+    (facts : Facts fixed s l) where
+  pub store_stores : (new : Field) (t : State) → can s (event.Store i new) ≡ true
+      → Proper fixed s l (event.Store i new)
+      → t.rows ≡ set_field s.rows (target_of s i (begun_of s i).place) (begun_of s i).f new
+      → ((j : ℕ) → cells_of t j ≡ cells_of s j) → t.mutators ≡ s.mutators
+      → Stores fixed s t l i (target_of s i (begun_of s i).place) (begun_of s i).f new
+  store_stores new t h proper rows cells mutators =
+      let needs = store_needs s i new h in
+      let write = begun_of s i in
+      let x = target_of s i write.place in
+      let pending : IsPending (presence_of s i).status (own_of s i) s.rows write =
+      k.cells.pendings i write (pending_begun (own_of s i).pending needs.begun) in
+      record {
+        rows = rows;
+        cells = cells;
+        mutators = mutators;
+        payload = pending.payload;
+        maker = inside_there s shape i needs.inside;
+        there = shape.names_fit.held_fit i write.place;
+        holds_it = has_place s i write.place pending.there;
+        no_record = box_no_record (field_of s x 5) pending.box;
+        proper = λ box is. proper is;
+        held = named_held s i new needs.names;
+        sealed = λ c is. subst (λ (v : Field). is_raw_value s v ≡ false) is needs.sealed;
+      }
+
+  pub facts_store : (new : Field) → can s (event.Store i new) ≡ true
+      → Proper fixed s l (event.Store i new)
+      → Facts fixed (after s (event.Store i new)) (lore_after s l (event.Store i new))
+  facts_store new h proper =
+      let e = event.Store i new in
+      let write = begun_of s i in
+      stored_facts fixed s (after s e) l i (target_of s i write.place) write.f new shape k facts
+      (consistent_after s e shape k h)
+      (store_stores new (after s e) h proper refl
+      (cells_own s i (spent (own_of s i)) (cells_unmarked (held_of s i))) refl)
+      write.place (cell_there (held_of s i) write.place)

@@ -3,7 +3,7 @@
 -- Source: this project's.
 use Rattle.std.specs.Prelude.{ℕ, ◌≡◌, ◌<◌, ◌≤◌, ◌+◌, ◌==◌, ◌&&◌, ◌||◌, Bool, true, false, not}
 use Rattle.std.specs.Prelude.{List, [], ◌∷◌, length}
-use Rattle.std.specs.Prelude.{slice_index_or, is_some}
+use Rattle.std.specs.Prelude.{slice_index_or, is_some, None}
 use Rattle.cell_words.specs.Modes.{next_status_of}
 use Rattle.cell_words.specs.declared.controls.Control.{Control}
 use Rattle.cell_words.specs.declared.fields.Field.{Field}
@@ -12,13 +12,16 @@ use Rattle.cell_words.specs.declared.fields.Kind.{Kind}
 use Rattle.cell_words.specs.declared.fields.Kind.TheVariants as kind
 use Rattle.cell_words.specs.declared.presences.Status.TheVariants as status
 use Rattle.core_machine.specs.Collector.{Collector}
+use Rattle.core_machine.specs.Own.{pending_or_none}
 use Rattle.core_machine.specs.Places.{all_marked, cell_at, marks_stand, names_rightly}
 use Rattle.core_machine.specs.State.{State}
 use Rattle.core_machine.specs.Table.{Word, index_of}
 use Rattle.core_machine.specs.WordOperations.{Operation, Load, Store, Exchange, SetBits, KeepBits}
 use Rattle.core_machine.specs.WordOperations.{left_by}
-use Rattle.core_machine.specs.Words.{barrier_in, is_cell, marks_some, requests, same_status}
+use Rattle.core_machine.specs.Words.{barrier_in, is_cell, lets_store, marks_some, requests}
+use Rattle.core_machine.specs.Words.{same_status}
 use Rattle.core_machine.specs.declared.events.Event.{Event}
+use Rattle.core_machine.specs.declared.pending.Pending.{Pending}
 use Rattle.heap_rule.specs.declared.known.Known.{Known}
 use Rattle.heap_rule.specs.declared.known.Known.TheVariants as knows
 use Rattle.heap_rule.specs.declared.view.View.{View}
@@ -108,13 +111,39 @@ module _ {P : Type 0} where
   abbrev pub known_of : View P → ℕ → Known
   known_of v place = known_at v.known place
 
+  -- the write that a Fetch began
+  abbrev pub begun_of : View P → Pending
+  begun_of v = pending_or_none v.own.pending
+
   -- What each kind needs.
+
+  pub record MayLook (v : View P) : Type 0 where
+    pub inside : v.presence.inside ≡ true
+    pub settled : v.own.pending ≡ None
 
   pub record MayRead (v : View P) (place f : ℕ) : Type 0 where
     pub inside : v.presence.inside ≡ true
     pub there : place < length v.own.held
     pub payload : f ≤ 4
     pub room : length v.own.held < v.room
+
+  pub record MayFetch (v : View P) (place f : ℕ) : Type 0 where
+    pub inside : v.presence.inside ≡ true
+    pub settled : v.own.pending ≡ None
+    pub lets : lets_store v.presence.status v.own.mode ≡ true
+    pub there : place < length v.own.held
+    pub payload : f ≤ 4
+    pub box : IsBox (target v place) (known_of v place)
+    pub room : length v.own.held < v.room
+
+  pub record MayStore (fixed : ℕ → Bool) (v : View P) (new : Field) : Type 0 where
+    pub inside : v.presence.inside ≡ true
+    pub begun : is_some v.own.pending ≡ true
+    pub names : names_rightly v.own.held new ≡ true
+    pub sealed : IsSealedValue (cells_in v.own.held) v.known new
+    pub marks : marks_stand (barrier_in v.presence.status v.own.mode) v.own.held (begun_of v).found
+        new ≡ true
+    pub spares : fixed (begun_of v).f ≡ true → target v (begun_of v).place ≡ 0
 
   pub record MayMark (v : View P) (place : ℕ) : Type 0 where
     pub inside : v.presence.inside ≡ true
@@ -123,6 +152,7 @@ module _ {P : Type 0} where
 
   pub record MayWrite (fixed : ℕ → Bool) (v : View P) (place f : ℕ) (old new : Field) : Type 0 where
     pub inside : v.presence.inside ≡ true
+    pub settled : v.own.pending ≡ None
     pub mode : is_some v.own.mode ≡ true
     pub there : place < length v.own.held
     pub payload : f ≤ 4
@@ -135,6 +165,7 @@ module _ {P : Type 0} where
 
   pub record MayClaim (v : View P) (c : ℕ) : Type 0 where
     pub inside : v.presence.inside ≡ true
+    pub settled : v.own.pending ≡ None
     pub mode : is_some v.own.mode ≡ true
     pub cell : c < v.shape.cells
     pub room : length v.own.held < v.room
@@ -156,6 +187,7 @@ module _ {P : Type 0} where
 
   pub record MayAnswer (v : View P) : Type 0 where
     pub inside : v.presence.inside ≡ true
+    pub settled : v.own.pending ≡ None
     pub requested : requests v.own.mode (next_status_of v.presence.status) ≡ true
     pub third : (not
         (same_status (next_status_of v.presence.status) status.Async) || all_marked v.own.held)
@@ -163,6 +195,7 @@ module _ {P : Type 0} where
 
   pub record MayKeep (v : View P) (n from copies : ℕ) : Type 0 where
     pub inside : v.presence.inside ≡ true
+    pub settled : v.own.pending ≡ None
     pub some : 1 ≤ n
     pub kept : n ≤ length v.own.held
     pub copied : from + copies ≤ length v.own.held

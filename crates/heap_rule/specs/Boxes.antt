@@ -5,7 +5,7 @@ use Rattle.std.specs.Prelude.{ℕ, ◌≡◌, ◌<◌, ◌&&◌, Bool, true, fal
 use Rattle.cell_words.specs.declared.fields.Field.{Field}
 use Rattle.core_machine.specs.declared.events.Event.{Event}
 use Rattle.core_machine.specs.declared.events.Event.TheVariants as event
-use Rattle.core_machine.specs.State.{State, field_of, target_of}
+use Rattle.core_machine.specs.State.{State, begun_of, field_of, target_of}
 use Rattle.core_machine.specs.Words.{is_box_kind, same_field}
 use Rattle.dlg_core.specs.Reachable.{reach}
 use Rattle.heap_rule.specs.Lore.{Entry, Named, Lore, entry_of, put, revealed}
@@ -57,9 +57,13 @@ written_if true s l x f new = written_map (boxes_of s (revealing l new)) x f (en
 written_if false s l x f new = boxes_of s l
 
 -- The boxes that an event would leave if no cell became unreachable by it: those that there were;
--- behind a Write that was made with the new entry, and behind this and a Fill with what they name.
+-- behind a Write that was made and behind a Store, whatever that field held, with the new entry;
+-- and behind these and a Fill with what they name.
 abbrev pub boxes_by : State → Lore → Event → Map
 boxes_by s l (event.Write i place f old new) =
     written_if (same_field (field_of s (target_of s i place) f) old) s l (target_of s i place) f new
+boxes_by s l (event.Store i new) =
+    written_map (boxes_of s (revealing l new)) (target_of s i (begun_of s i).place) (begun_of s i).f
+    (entry_of l.terms new)
 boxes_by s l (event.Fill i place f value) = boxes_of s (revealing l value)
 boxes_by s l _ = boxes_of s l

@@ -12,7 +12,7 @@ use Rattle.cell_words.specs.declared.fields.Kind.TheVariants as kind
 use Rattle.cell_words.specs.Term.{Term}
 use Rattle.core_machine.specs.declared.events.Event.{Event}
 use Rattle.core_machine.specs.declared.events.Event.TheVariants as event
-use Rattle.core_machine.specs.State.{State, field_of, target_of}
+use Rattle.core_machine.specs.State.{State, begun_of, field_of, target_of}
 use Rattle.core_machine.specs.Words.{is_raw_kind}
 use Rattle.dlg_core.specs.Reachable.{Reachable}
 use Rattle.heap_rule.specs.declared.known.Known.{Known}
@@ -97,6 +97,8 @@ SealsTerms kind.Boxed cells known row = Unit {0}
 
 abbrev pub Proper : (ℕ → Bool) → State → Lore → Event → Type 0
 Proper fixed s l (event.Write i place f old new) = fixed f ≡ true → target_of s i place ≡ 0
+Proper fixed s l (event.Store i new) =
+    fixed (begun_of s i).f ≡ true → target_of s i (begun_of s i).place ≡ 0
 Proper fixed s l (event.Seal i place of) =
     SealsTerms of (cells_of s i) (known_in l.known i) (field_of s (target_of s i place))
 Proper fixed s l _ = Unit {0}

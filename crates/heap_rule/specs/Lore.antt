@@ -18,8 +18,9 @@ use Rattle.core_machine.specs.declared.events.Found.{Found}
 use Rattle.core_machine.specs.declared.events.Found.TheVariants as finds
 use Rattle.core_machine.specs.declared.places.Held.{Held}
 use Rattle.core_machine.specs.Next.{found_by, maker}
+use Rattle.core_machine.specs.Own.{Own, pending_or_none}
 use Rattle.core_machine.specs.Places.{kept}
-use Rattle.core_machine.specs.State.{State, colour_of, field_of, held_of, target_of}
+use Rattle.core_machine.specs.State.{State, colour_of, field_of, held_of, own_of, target_of}
 use Rattle.core_machine.specs.Words.{is_box_kind, same_field}
 use Rattle.heap_rule.specs.declared.known.Known.{Known}
 use Rattle.heap_rule.specs.declared.known.Known.TheVariants as knows
@@ -139,6 +140,7 @@ fresh_after s fresh (event.Claim i c) = claimed_fresh fresh i c (colour_of s c)
 fresh_after s fresh (event.Fill i place f value) = revealed fresh value
 fresh_after s fresh (event.Write i place f old new) =
     revealed_if (same_field (field_of s (target_of s i place) f) old) fresh new
+fresh_after s fresh (event.Store i new) = revealed fresh new
 fresh_after s fresh (event.Keep i count from copies) =
     fresh_held fresh i (cells_in (kept (held_of s i) count from copies))
 fresh_after s fresh (event.End i) = fresh_held fresh i []
@@ -180,9 +182,13 @@ learned s l (event.Read i place f) = record {
   here = learned_of s l (target_of s i place);
   found = learned_from s l (field_of s (target_of s i place) f);
 }
+learned s l (event.Fetch i place f) = record {
+  here = learned_of s l (target_of s i place);
+  found = learned_from s l (field_of s (target_of s i place) f);
+}
 learned s l _ = nothing_learned
 
--- What a mutator knows after an event of its own: from its held list, what it knew, what the event
+-- What a mutator knows after an event of its own: from its own part, what it knew, what the event
 -- found and what was told there.
 
 -- a change of what is known of a cell, at all places that hold it
@@ -284,27 +290,33 @@ known_sealed cells known kind.Record (knows.Raw fields) = knows.Record
 known_sealed cells known kind.Boxed (knows.Raw fields) = knows.Fresh fields
 known_sealed cells known of k = knows.Nothing
 
-abbrev pub knows_after : List ℕ → List Known → Event → Found → Learned → List Known
-knows_after cells known (event.Begin i) found tells = knows.Nothing ∷ []
-knows_after cells known
-    (event.Read i place f) found tells = known_read cells known place tells found
-knows_after cells known (event.Claim i c) found tells = known_claimed known found
-knows_after cells known
-    (event.Fill i place f value) found tells = known_stored cells known place f value
-knows_after cells known (event.Seal i place of) found tells =
-    at_cell (known_sealed cells known of) (slice_index_or cells place 0) cells known
-knows_after cells known (event.Write i place f old new) found tells =
-    known_stored_if (was_made old found) cells known place f new
-knows_after cells known (event.Keep i count from copies) found tells =
+abbrev pub knows_after : Own → List Known → Event → Found → Learned → List Known
+knows_after own known (event.Begin i) found tells = knows.Nothing ∷ []
+knows_after own known
+    (event.Read i place f) found tells = known_read (cells_in own.held) known place tells found
+knows_after own known
+    (event.Fetch i place f) found tells = known_read (cells_in own.held) known place tells found
+knows_after own known (event.Claim i c) found tells = known_claimed known found
+knows_after own known
+    (event.Fill i place f value) found tells = known_stored (cells_in own.held) known place f value
+knows_after own known (event.Seal i place of) found tells =
+    at_cell (known_sealed (cells_in own.held) known of) (slice_index_or (cells_in own.held) place 0)
+    (cells_in own.held) known
+knows_after own known (event.Write i place f old new) found tells =
+    known_stored_if (was_made old found) (cells_in own.held) known place f new
+knows_after own known (event.Store i new) found tells =
+    known_stored (cells_in own.held) known (pending_or_none own.pending).place
+    (pending_or_none own.pending).f new
+knows_after own known (event.Keep i count from copies) found tells =
     take count known ++ take copies (drop from known)
-knows_after cells known (event.End i) found tells = []
-knows_after cells known _ found tells = known
+knows_after own known (event.End i) found tells = []
+knows_after own known _ found tells = known
 
 abbrev pub known_by : State → Lore → Event → Option ℕ → List (List Known)
 known_by s l e None = l.known
 known_by s l e (Some i) =
     slice_set l.known i
-    (knows_after (cells_of s i) (known_in l.known i) e (found_by s e) (learned s l e))
+    (knows_after (own_of s i) (known_in l.known i) e (found_by s e) (learned s l e))
 
 abbrev pub lore_after : State → Lore → Event → Lore
 lore_after s l e = record {

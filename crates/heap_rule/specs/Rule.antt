@@ -34,7 +34,7 @@ use Rattle.heap_rule.specs.declared.view.Share.{Share}
 use Rattle.heap_rule.specs.declared.view.View.{View}
 use Rattle.heap_rule.specs.Boxes.{Map, boxes_of}
 use Rattle.heap_rule.specs.Facts.{Facts}
-use Rattle.heap_rule.specs.Lore.{Lore, cells_in, known_in, knows_after, lore_after}
+use Rattle.heap_rule.specs.Lore.{Lore, known_in, knows_after, lore_after}
 use Rattle.heap_rule.specs.Shape.{Shape, IsSound, start}
 
 -- What the words and views of a table show together.
@@ -184,7 +184,7 @@ module _ {P : Type 0} where
   told v e found tells pass = record v {
     own = own_after v.own e found;
     presence = presence_after v.presence e found;
-    known = knows_after (cells_in v.own.held) v.known e found tells;
+    known = knows_after v.own v.known e found tells;
     pass = pass;
     trail = v.trail ++ took e found ∷ [];
   }
