@@ -9,14 +9,17 @@ use Rattle.cell_words.specs.declared.fields.Field.{Field}
 use Rattle.core_machine.specs.declared.progress.Scanning.{Scanning}
 use Rattle.core_machine.specs.declared.progress.Sweeping.{Sweeping}
 use Rattle.core_machine.specs.declared.progress.Sweeping.TheVariants as sweeping
-use Rattle.core_machine.specs.Conditions.{CanComeIn, CanRead, CanMark, CanWrite, CanClaim, CanFill}
-use Rattle.core_machine.specs.Conditions.{CanSeal, CanAnswer, CanKeep, CanPostIdle, CanPostSync1}
+use Rattle.core_machine.specs.Conditions.{CanComeIn, CanLook, CanRead, CanFetch, CanMark, CanWrite}
+use Rattle.core_machine.specs.Conditions.{CanStore, CanClaim, CanFill, CanSeal, CanAnswer, CanKeep}
+use Rattle.core_machine.specs.Conditions.{CanPostIdle, CanPostSync1}
 use Rattle.core_machine.specs.Conditions.{CanPostClear, CanPostSync2, CanPostTrace, CanPostSweep}
 use Rattle.core_machine.specs.Conditions.{CanPoll, CanAnswerOut, CanClear, CanMarkAnchor, CanSee}
 use Rattle.core_machine.specs.Conditions.{CanScan, CanShade, CanBlacken, CanSweepLook, CanAdvance}
 use Rattle.core_machine.specs.Handshakes.{post_can, poll_can, answer_out_can}
-use Rattle.core_machine.specs.Mutation.{mark_can, write_can, claim_can, fill_can, seal_can}
-use Rattle.core_machine.specs.Operations.{may_begin, read_can, answer_can, keep_can}
+use Rattle.core_machine.specs.Mutation.{mark_can, write_can, store_can, claim_can, fill_can}
+use Rattle.core_machine.specs.Mutation.{seal_can}
+use Rattle.core_machine.specs.Operations.{may_begin, look_can, read_can, fetch_can, answer_can}
+use Rattle.core_machine.specs.Operations.{keep_can}
 use Rattle.cell_words.specs.declared.fields.Kind.{Kind}
 use Rattle.core_machine.specs.declared.events.Event.TheVariants as event
 use Rattle.core_machine.specs.Next.{can}
@@ -32,6 +35,11 @@ pub come_in_needs : (s : State) (i : ℕ) → may_begin s i ≡ true → CanCome
 come_in_needs s i h = let p = and_parts _ _ h in
     record { out = not-true _ p.0; not_over = not-true _ p.1 }
 
+pub look_needs : (s : State) (i : ℕ) → look_can s i ≡ true → CanLook s i
+look_needs s i h =
+    let p = and_parts _ _ h in
+    record { inside = p.0; nothing_pending = not-true _ p.1 }
+
 pub read_needs : (s : State) (i place f : ℕ) → read_can s i place f ≡ true → CanRead s i place f
 read_needs s i place f h =
     let r = and_parts _ _ h in
@@ -43,6 +51,24 @@ read_needs s i place f h =
       payload = leb-true _ _ q.1;
       room = ltb-true _ _
           r.1;
+    }
+
+pub fetch_needs : (s : State) (i place f : ℕ) → fetch_can s i place f ≡ true → CanFetch s i place f
+fetch_needs s i place f h =
+    let room = and_parts _ _ h in
+    let box = and_parts _ _ room.0 in
+    let payload = and_parts _ _ box.0 in
+    let place = and_parts _ _ payload.0 in
+    let lets = and_parts _ _ place.0 in
+    let pending = and_parts _ _ lets.0 in
+    record {
+      inside = pending.0;
+      nothing_pending = not-true _ pending.1;
+      lets = lets.1;
+      there = ltb-true _ _ place.1;
+      payload = leb-true _ _ payload.1;
+      room = ltb-true _ _ room.1;
+      box = box.1;
     }
 
 pub mark_needs : (s : State) (i place : ℕ) → mark_can s i place ≡ true → CanMark s i place
@@ -62,10 +88,12 @@ write_needs s i place f old new h =
     let box = and_parts _ _ stale.0 in
     let payload = and_parts _ _ box.0 in
     let place = and_parts _ _ payload.0 in
-    let mode = and_parts _ _ place.0 in
+    let pending = and_parts _ _ place.0 in
+    let mode = and_parts _ _ pending.0 in
     record {
       inside = mode.0;
       mode = mode.1;
+      nothing_pending = not-true _ pending.1;
       there = ltb-true _ _ place.1;
       payload = leb-true _ _ payload.1;
       names_old = stale.1;
@@ -75,12 +103,33 @@ write_needs s i place f old new h =
       sealed = not-true _ sealed.1;
     }
 
+pub store_needs : (s : State) (i : ℕ) (new : Field) → store_can s i new ≡ true → CanStore s i new
+store_needs s i new h =
+    let marks = and_parts _ _ h in
+    let sealed = and_parts _ _ marks.0 in
+    let names = and_parts _ _ sealed.0 in
+    let begun = and_parts _ _ names.0 in
+    record {
+      inside = begun.0;
+      begun = begun.1;
+      names = names.1;
+      marks = marks.1;
+      sealed = not-true _ sealed.1;
+    }
+
 pub claim_needs : (s : State) (i c : ℕ) → claim_can s i c ≡ true → CanClaim s i c
 claim_needs s i c h =
-    let r = and_parts _ _ h in
-    let q = and_parts _ _ r.0 in
-    let p = and_parts _ _ q.0 in
-    record { inside = p.0; mode = p.1; cell = ltb-true _ _ q.1; room = ltb-true _ _ r.1 }
+    let room = and_parts _ _ h in
+    let cell = and_parts _ _ room.0 in
+    let pending = and_parts _ _ cell.0 in
+    let mode = and_parts _ _ pending.0 in
+    record {
+      inside = mode.0;
+      mode = mode.1;
+      nothing_pending = not-true _ pending.1;
+      cell = ltb-true _ _ cell.1;
+      room = ltb-true _ _ room.1;
+    }
 
 pub fill_needs : (s : State) (i place f : ℕ) (value : Field) → fill_can s i place f value ≡ true
     → CanFill s i place f value
@@ -109,9 +158,15 @@ seal_needs s i place h =
 
 pub answer_needs : (s : State) (i : ℕ) → answer_can s i ≡ true → CanAnswer s i
 answer_needs s i h =
-    let q = and_parts _ _ h in
-    let p = and_parts _ _ q.0 in
-    record { inside = p.0; requested = p.1; third = q.1 }
+    let third = and_parts _ _ h in
+    let requested = and_parts _ _ third.0 in
+    let pending = and_parts _ _ requested.0 in
+    record {
+      inside = pending.0;
+      nothing_pending = not-true _ pending.1;
+      requested = requested.1;
+      third = third.1;
+    }
 
 pub keep_needs : (s : State) (i count from copies : ℕ) → keep_can s i count from copies ≡ true
     → CanKeep s i count from copies
@@ -120,8 +175,10 @@ keep_needs s i count from copies h =
     let q = and_parts _ _ r.0 in
     let p = and_parts _ _ q.0 in
     let o = and_parts _ _ p.0 in
+    let pending = and_parts _ _ o.0 in
     record {
-      inside = o.0;
+      inside = pending.0;
+      nothing_pending = not-true _ pending.1;
       some = leb-true _ _ o.1;
       kept = leb-true _ _ p.1;
       copied = leb-true _ _ q.1;
@@ -272,12 +329,23 @@ advance_needs s h =
 pub can_begin : (s : State) (i : ℕ) → CanComeIn s i → can s (event.Begin i) ≡ true
 can_begin s i needs = and_from _ _ (not_from_false _ needs.out) (not_from_false _ needs.not_over)
 
+pub can_look : (s : State) (i : ℕ) → CanLook s i → can s (event.Look i) ≡ true
+can_look s i needs = and_from _ _ needs.inside (not_from_false _ needs.nothing_pending)
+
 pub can_read : (s : State) (i place f : ℕ) → CanRead s i place f
     → can s (event.Read i place f) ≡ true
 can_read s i place f needs =
     and_from _ _ (and_from _ _ (and_from _ _ needs.inside (lt-ltb _ _ needs.there))
     (le-leb _ _ needs.payload))
     (lt-ltb _ _ needs.room)
+
+pub can_fetch : (s : State) (i place f : ℕ) → CanFetch s i place f
+    → can s (event.Fetch i place f) ≡ true
+can_fetch s i place f needs =
+    let settled = and_from _ _ needs.inside (not_from_false _ needs.nothing_pending) in
+    let held = and_from _ _ (and_from _ _ settled needs.lets) (lt-ltb _ _ needs.there) in
+    let box = and_from _ _ (and_from _ _ held (le-leb _ _ needs.payload)) needs.box in
+    and_from _ _ box (lt-ltb _ _ needs.room)
 
 pub can_mark : (s : State) (i place : ℕ) → CanMark s i place → can s (event.Mark i place) ≡ true
 can_mark s i place needs =
@@ -286,15 +354,24 @@ can_mark s i place needs =
 pub can_write : (s : State) (i place f : ℕ) (old new : Field) → CanWrite s i place f old new
     → can s (event.Write i place f old new) ≡ true
 can_write s i place f old new needs =
-    let held = and_from _ _ (and_from _ _ needs.inside needs.mode) (lt-ltb _ _ needs.there) in
+    let settled = and_from _ _ (and_from _ _ needs.inside needs.mode)
+    (not_from_false _ needs.nothing_pending) in
+    let held = and_from _ _ settled (lt-ltb _ _ needs.there) in
     let box = and_from _ _ (and_from _ _ held (le-leb _ _ needs.payload)) needs.box in
     let names = and_from _ _ (and_from _ _ box needs.names_old) needs.names_new in
     and_from _ _ (and_from _ _ names (not_from_false _ needs.sealed)) needs.marks
 
+pub can_store : (s : State) (i : ℕ) (new : Field) → CanStore s i new
+    → can s (event.Store i new) ≡ true
+can_store s i new needs =
+    let names = and_from _ _ (and_from _ _ needs.inside needs.begun) needs.names in
+    and_from _ _ (and_from _ _ names (not_from_false _ needs.sealed)) needs.marks
+
 pub can_claim : (s : State) (i c : ℕ) → CanClaim s i c → can s (event.Claim i c) ≡ true
 can_claim s i c needs =
-    and_from _ _ (and_from _ _ (and_from _ _ needs.inside needs.mode) (lt-ltb _ _ needs.cell))
-    (lt-ltb _ _ needs.room)
+    let settled = and_from _ _ (and_from _ _ needs.inside needs.mode)
+    (not_from_false _ needs.nothing_pending) in
+    and_from _ _ (and_from _ _ settled (lt-ltb _ _ needs.cell)) (lt-ltb _ _ needs.room)
 
 pub can_fill : (s : State) (i place f : ℕ) (value : Field) → CanFill s i place f value
     → can s (event.Fill i place f value) ≡ true
@@ -309,12 +386,15 @@ can_seal s i place kind needs = and_from _ _
     (and_from _ _ needs.inside (lt-ltb _ _ needs.there)) needs.raw
 
 pub can_answer : (s : State) (i : ℕ) → CanAnswer s i → can s (event.Answer i) ≡ true
-can_answer s i needs = and_from _ _ (and_from _ _ needs.inside needs.requested) needs.third
+can_answer s i needs =
+    let settled = and_from _ _ needs.inside (not_from_false _ needs.nothing_pending) in
+    and_from _ _ (and_from _ _ settled needs.requested) needs.third
 
 pub can_keep : (s : State) (i count from copies : ℕ) → CanKeep s i count from copies
     → can s (event.Keep i count from copies) ≡ true
 can_keep s i count from copies needs =
-    let kept = and_from _ _ (and_from _ _ needs.inside (le-leb _ _ needs.some))
+    let settled = and_from _ _ needs.inside (not_from_false _ needs.nothing_pending) in
+    let kept = and_from _ _ (and_from _ _ settled (le-leb _ _ needs.some))
     (le-leb _ _ needs.kept) in
     and_from _ _ (and_from _ _ kept (le-leb _ _ needs.copied)) (le-leb _ _ needs.room)
 

@@ -21,13 +21,14 @@ use Rattle.core_machine.specs.Next.{can, maker, found_by, after}
 use Rattle.core_machine.specs.Own.{Own, no_own, own_after, presence_after}
 use Rattle.core_machine.specs.State.{State, colour_of, colour_in, row_in, field_in, field_of}
 use Rattle.core_machine.specs.State.{own_of, own_in, presence_in, presence_of, no_presence}
-use Rattle.core_machine.specs.State.{set_field, target_of}
+use Rattle.core_machine.specs.State.{set_field, target_of, begun_of}
 use Rattle.core_machine.specs.Table.{Word, TheControl, StatusOf, ColourOf, FieldOf}
 use Rattle.core_machine.specs.Tracing.{scan_of}
 use Rattle.core_machine.specs.WordOperations.{word_of}
 use Rattle.core_machine.specs.Words.{may_answer_out, answered_out}
-use Rattle.core_machine.proofs.Conditions.{answer_needs, keep_needs, read_needs, mark_needs}
-use Rattle.core_machine.proofs.Conditions.{write_needs, claim_needs, fill_needs, seal_needs}
+use Rattle.core_machine.proofs.Conditions.{look_needs, answer_needs, keep_needs, read_needs}
+use Rattle.core_machine.proofs.Conditions.{fetch_needs, mark_needs, write_needs, store_needs}
+use Rattle.core_machine.proofs.Conditions.{claim_needs, fill_needs, seal_needs}
 use Rattle.core_machine.proofs.OneOperation.{inside_there, beginner_there}
 use Rattle.core_machine.proofs.Ranges.Lists.{set_cases}
 
@@ -79,9 +80,13 @@ parts_framed s (event.Look i) = record
     { owns = refl; presences = same_presences s i; control = refl; collector = refl }
 parts_framed s (event.Read i place f) =
     record { owns = refl; presences = same_presences s i; control = refl; collector = refl }
+parts_framed s (event.Fetch i place f) =
+    record { owns = refl; presences = same_presences s i; control = refl; collector = refl }
 parts_framed s (event.Mark i place) =
     record { owns = refl; presences = same_presences s i; control = refl; collector = refl }
 parts_framed s (event.Write i place f old new) =
+    record { owns = refl; presences = same_presences s i; control = refl; collector = refl }
+parts_framed s (event.Store i new) =
     record { owns = refl; presences = same_presences s i; control = refl; collector = refl }
 parts_framed s (event.Claim i c) =
     record { owns = refl; presences = same_presences s i; control = refl; collector = refl }
@@ -125,7 +130,9 @@ parts_framed s _ = record {
 
 pub rows_framed : (s : State) (e : Event) → RowsFrame s (after s e) (word_of s e)
 rows_framed s (event.Read i place f) = (_, same_rows s (target_of s i place) f)
+rows_framed s (event.Fetch i place f) = (_, same_rows s (target_of s i place) f)
 rows_framed s (event.Write i place f old new) = (_, refl)
+rows_framed s (event.Store i new) = (_, refl)
 rows_framed s (event.Fill i place f value) = (_, refl)
 rows_framed s (event.Seal i place kind) = (_, refl)
 rows_framed s event.Scan = (_, same_rows s (scan_of s).cell (scan_of s).next)
@@ -168,11 +175,13 @@ IsMutator s (Some i) = i < s.mutators
 
 pub maker_there : (s : State) (e : Event) → IsShaped s → can s e ≡ true → IsMutator s (maker e)
 maker_there s (event.Begin i) r h = beginner_there s r i h
-maker_there s (event.Look i) r h = inside_there s r i h
+maker_there s (event.Look i) r h = inside_there s r i (look_needs s i h).inside
 maker_there s (event.Read i place f) r h = inside_there s r i (read_needs s i place f h).inside
+maker_there s (event.Fetch i place f) r h = inside_there s r i (fetch_needs s i place f h).inside
 maker_there s (event.Mark i place) r h = inside_there s r i (mark_needs s i place h).inside
 maker_there s (event.Write i place f old new) r h = inside_there s r i
     (write_needs s i place f old new h).inside
+maker_there s (event.Store i new) r h = inside_there s r i (store_needs s i new h).inside
 maker_there s (event.Claim i c) r h = inside_there s r i (claim_needs s i c h).inside
 maker_there s (event.Fill i place f value) r h = inside_there s r i
     (fill_needs s i place f value h).inside

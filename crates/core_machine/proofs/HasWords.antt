@@ -30,11 +30,12 @@ use Rattle.core_machine.specs.Run.{Runs, last}
 use Rattle.core_machine.specs.State.{State, greatest_cells, greatest_cycles, row_in, field_in}
 use Rattle.core_machine.specs.State.{field_of, held_of, presence_in, presence_of, no_presence}
 use Rattle.core_machine.specs.State.{null_row, opening_presence, opening, set_field, target_of}
+use Rattle.core_machine.specs.State.{begun_of}
 use Rattle.core_machine.specs.Sweep.{wiped_count}
 use Rattle.core_machine.specs.Tracing.{scan_of}
 use Rattle.core_machine.specs.WordOperations.{IsValidFound}
 use Rattle.core_machine.specs.Words.{written, same_field, kind_field, may_answer_out, answered_out}
-use Rattle.core_machine.proofs.Conditions.{come_in_needs, write_needs, fill_needs}
+use Rattle.core_machine.proofs.Conditions.{come_in_needs, write_needs, store_needs, fill_needs}
 use Rattle.core_machine.proofs.Ranges.Lists.{set_cases}
 use Rattle.core_machine.proofs.Ranges.Start.{default_in}
 
@@ -98,6 +99,13 @@ words_after s (event.Write i place f old new) h k =
           (written_number (field_of s c f) old new (k.numbers_fit c f)
           (rightly_number (held_of s i) new
           (write_needs s i place f old new h).names_new)) k.numbers_fit;
+      never_both = k.never_both;
+    }
+words_after s (event.Store i new) h k =
+    let begun = begun_of s i in
+    record {
+      numbers_fit = numbers_set s.rows (target_of s i begun.place) begun.f new
+          (rightly_number (held_of s i) new (store_needs s i new h).names) k.numbers_fit;
       never_both = k.never_both;
     }
 words_after s (event.Fill i place f value) h k = record {
@@ -221,6 +229,7 @@ found_valid s (event.Over i) r k = k.never_both i
 found_valid s (event.Poll i) r k = k.never_both i
 found_valid s (event.AnswerOut i over) r k = k.never_both i
 found_valid s (event.Read i place f) r k = field_valid s r k (target_of s i place) f
+found_valid s (event.Fetch i place f) r k = field_valid s r k (target_of s i place) f
 found_valid s (event.Write i place f old new) r k = field_valid s r k (target_of s i place) f
 found_valid s event.Scan r k = field_valid s r k (scan_of s).cell (scan_of s).next
 found_valid s _ r k = tt

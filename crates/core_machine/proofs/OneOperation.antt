@@ -17,7 +17,7 @@ use Rattle.core_machine.specs.InRange.{IsShaped, ScanFits, SweepFits}
 use Rattle.core_machine.specs.Next.{can, found_by, after}
 use Rattle.core_machine.specs.Operations.{may_begin}
 use Rattle.core_machine.specs.State.{State, colour_of, field_of, presence_in, presence_of, own_of}
-use Rattle.core_machine.specs.State.{target_of}
+use Rattle.core_machine.specs.State.{target_of, begun_of}
 use Rattle.core_machine.specs.Sweep.{is_fresh, wiped_count, may_wipe}
 use Rattle.core_machine.specs.Table.{Word, StatusOf, ColourOf, FieldOf, HasWord, number_in}
 use Rattle.core_machine.specs.Table.{index_of, words_of}
@@ -25,8 +25,9 @@ use Rattle.core_machine.specs.Tracing.{may_scan, scan_of, scan_or_none, child_of
 use Rattle.core_machine.specs.WordOperations.{word_of, left_by, operation_of, IsPackedAs}
 use Rattle.core_machine.specs.WordOperations.{IsOneOperation}
 use Rattle.core_machine.specs.Words.{shaded, cleared, claimed, born_colour}
-use Rattle.core_machine.proofs.Conditions.{come_in_needs, read_needs, claim_needs, fill_needs}
-use Rattle.core_machine.proofs.Conditions.{write_needs, answer_needs, keep_needs, poll_needs}
+use Rattle.core_machine.proofs.Conditions.{come_in_needs, read_needs, fetch_needs, claim_needs}
+use Rattle.core_machine.proofs.Conditions.{fill_needs, write_needs, answer_needs, keep_needs}
+use Rattle.core_machine.proofs.Conditions.{poll_needs}
 use Rattle.core_machine.proofs.Conditions.{answer_out_needs, clear_needs, see_needs}
 use Rattle.core_machine.proofs.Conditions.{sweep_look_needs}
 use Rattle.core_machine.proofs.Ranges.Collecting.{in_sweep, child_fits, scan_cell_below}
@@ -137,6 +138,12 @@ read_once s r i place f payload =
     let there = payload_there s r i place f payload in
     once s (event.Read i place f) r there refl (unread s r (FieldOf (target_of s i place) f) there)
 
+fetch_once : (s : State) → IsShaped s → (i place f : ℕ) → f ≤ 4
+    → IsOneOperation s (event.Fetch i place f)
+fetch_once s r i place f payload =
+    let there = payload_there s r i place f payload in
+    once s (event.Fetch i place f) r there refl (unread s r (FieldOf (target_of s i place) f) there)
+
 mark_once : (s : State) → IsShaped s → (i place : ℕ) → IsOneOperation s (event.Mark i place)
 mark_once s r i place =
     let c = target_of s i place in
@@ -153,6 +160,13 @@ write_once s r i place f old new payload =
     once s (event.Write i place f old new) r there refl
     (field_set s r c f _ there.0 there.1
     ∙ ap (set (words_of s) _) (sym (write_leaves (field_of s c f) old new)))
+
+store_once : (s : State) → IsShaped s → (i : ℕ) (new : Field) → IsOneOperation s (event.Store i new)
+store_once s r i new =
+    let begun = begun_of s i in
+    let there = payload_there s r i begun.place begun.f (r.names_fit.pendings_fit i) in
+    once s (event.Store i new) r there tt
+    (field_set s r (target_of s i begun.place) begun.f new there.0 there.1)
 
 claim_once : (s : State) → IsShaped s → (i c : ℕ) → c < s.cells → IsOneOperation s (event.Claim i c)
 claim_once s r i c there =
@@ -278,9 +292,12 @@ one_operation s (event.Begin i) r h = begin_once s r i h
 one_operation s (event.Look i) r h = look_once s r i
 one_operation s (event.Read i place f) r h = read_once s r i place f
     (read_needs s i place f h).payload
+one_operation s (event.Fetch i place f) r h = fetch_once s r i place f
+    (fetch_needs s i place f h).payload
 one_operation s (event.Mark i place) r h = mark_once s r i place
 one_operation s (event.Write i place f old new) r h =
     write_once s r i place f old new (write_needs s i place f old new h).payload
+one_operation s (event.Store i new) r h = store_once s r i new
 one_operation s (event.Claim i c) r h = claim_once s r i c (claim_needs s i c h).cell
 one_operation s (event.Fill i place f value) r h = fill_once s r i place f value
     (fill_needs s i place f value h).payload

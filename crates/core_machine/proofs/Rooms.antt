@@ -1,7 +1,7 @@
 -- A run stays a run where the room of a mutator without events is another one.
 use Rattle.std.proofs.Common.{◌≡◌, ◌≢◌, ℕ, ◌+◌, true, false, cond, ◌&&◌, List, [], ◌∷◌, length, set}
 use Rattle.std.proofs.Common.{replicate, nat_lt, nat_le, Option, Some, None, refl, sym, ◌∙◌, ap}
-use Rattle.std.proofs.Common.{subst}
+use Rattle.std.proofs.Common.{subst, not}
 use Rattle.std.proofs.lemmas.List.{get_or-set_other, length-set}
 use Rattle.cell_words.specs.declared.controls.Stage.TheVariants as stage
 use Rattle.cell_words.specs.declared.fields.Field.{Field}
@@ -9,16 +9,16 @@ use Rattle.core_machine.specs.declared.events.Event.{Event}
 use Rattle.core_machine.specs.declared.events.Event.TheVariants as event
 use Rattle.core_machine.specs.declared.events.Taken.{Taken}
 use Rattle.core_machine.specs.Next.{can, maker, found_by, after}
-use Rattle.core_machine.specs.Operations.{is_in, has_mode, is_place}
+use Rattle.core_machine.specs.Operations.{is_in, has_mode, has_pending, own_lets_store, is_place}
 use Rattle.core_machine.specs.Run.{Runs, last}
 use Rattle.core_machine.specs.State.{State, room_in, held_of, opening, opening_presence}
-use Rattle.core_machine.specs.State.{opening_collector}
+use Rattle.core_machine.specs.State.{opening_collector, target_of, is_box}
 use Rattle.core_machine.specs.Own.{no_own}
 use Rattle.core_machine.specs.Trail.{trail_of, same_maker, roomed}
 use Rattle.core_machine.proofs.Trails.{maker_differs}
 use Rattle.core_machine.proofs.Frames.{as_large}
 
--- Only a mutator's own events look at its room: Read, Claim and Keep.
+-- Only a mutator's own events look at its room: Read, Fetch, Claim and Keep.
 
 pub found_roomed : (s : State) (rooms : List ℕ) (e : Event)
     → found_by (roomed s rooms) e ≡ found_by s e
@@ -40,12 +40,16 @@ same_can : (s : State) (rooms : List ℕ) (e : Event) → SameRoom rooms s.rooms
 same_can s rooms (event.Read i place f) same =
     ap (λ (room : ℕ). is_in s i && is_place s i place && nat_le f 4 && nat_lt
     (length (held_of s i)) room) same
+same_can s rooms (event.Fetch i place f) same =
+    ap (λ (room : ℕ). is_in s i && not (has_pending s i) && own_lets_store s i && is_place s i place
+    && nat_le f 4 && is_box s (target_of s i place) && nat_lt (length (held_of s i)) room) same
 same_can s rooms (event.Claim i c) same =
-    ap (λ (room : ℕ). is_in s i && has_mode s i && nat_lt c s.cells && nat_lt
-    (length (held_of s i)) room) same
+    ap (λ (room : ℕ). is_in s i && has_mode s i && not (has_pending s i) && nat_lt c s.cells
+    && nat_lt (length (held_of s i)) room) same
 same_can s rooms (event.Keep i count from copies) same =
-    ap (λ (room : ℕ). is_in s i && nat_le 1 count && nat_le count (length (held_of s i))
-    && nat_le (from + copies) (length (held_of s i)) && nat_le (count + copies) room) same
+    ap (λ (room : ℕ). is_in s i && not (has_pending s i) && nat_le 1 count
+    && nat_le count (length (held_of s i)) && nat_le (from + copies) (length (held_of s i))
+    && nat_le (count + copies) room) same
 same_can s rooms (event.Post stage.Idle) same = refl
 same_can s rooms (event.Post stage.Sync1) same = refl
 same_can s rooms (event.Post stage.Clear) same = refl

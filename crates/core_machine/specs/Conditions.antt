@@ -11,12 +11,12 @@ use Rattle.cell_words.specs.declared.fields.Field.{Field}
 use Rattle.core_machine.specs.declared.progress.Scanning.{Scanning}
 use Rattle.core_machine.specs.declared.progress.Sweeping.TheVariants as sweeping
 use Rattle.core_machine.specs.Mutation.{names_own}
-use Rattle.core_machine.specs.Operations.{is_in, has_mode, own_barrier, next_own_status}
-use Rattle.core_machine.specs.Operations.{third_answer_can}
+use Rattle.core_machine.specs.Operations.{is_in, has_mode, has_pending, own_barrier}
+use Rattle.core_machine.specs.Operations.{own_lets_store, next_own_status, third_answer_can}
 use Rattle.core_machine.specs.Places.{marks_stand}
 use Rattle.core_machine.specs.State.{State, greatest_cycles, colour_of, field_of, held_of, own_of}
 use Rattle.core_machine.specs.State.{presence_of, room_of, target_of, is_box, is_raw, is_raw_value}
-use Rattle.core_machine.specs.State.{has_answered, all_answered}
+use Rattle.core_machine.specs.State.{begun_of, has_answered, all_answered}
 use Rattle.core_machine.specs.Words.{is_cell, is_gray, is_handshake, marks_some, requests}
 
 -- Of a mutator.
@@ -26,11 +26,25 @@ pub record CanComeIn (s : State) (i : ℕ) : Type 0 where
   pub out : (presence_of s i).inside ≡ false
   pub not_over : (presence_of s i).over ≡ false
 
+pub record CanLook (s : State) (i : ℕ) : Type 0 where
+  pub inside : is_in s i ≡ true
+  pub nothing_pending : has_pending s i ≡ false
+
 pub record CanRead (s : State) (i place f : ℕ) : Type 0 where
   pub inside : is_in s i ≡ true
   pub there : place < length (held_of s i)
   pub payload : f ≤ 4
   pub room : length (held_of s i) < room_of s i
+
+pub record CanFetch (s : State) (i place f : ℕ) : Type 0 where
+  pub inside : is_in s i ≡ true
+  pub nothing_pending : has_pending s i ≡ false
+  pub lets : own_lets_store s i ≡ true
+  pub there : place < length (held_of s i)
+  pub payload : f ≤ 4
+  pub room : length (held_of s i) < room_of s i
+  -- of a word that others may write
+  pub box : is_box s (target_of s i place) ≡ true
 
 pub record CanMark (s : State) (i place : ℕ) : Type 0 where
   pub inside : is_in s i ≡ true
@@ -40,6 +54,7 @@ pub record CanMark (s : State) (i place : ℕ) : Type 0 where
 pub record CanWrite (s : State) (i place f : ℕ) (old new : Field) : Type 0 where
   pub inside : is_in s i ≡ true
   pub mode : has_mode s i ≡ true
+  pub nothing_pending : has_pending s i ≡ false
   pub there : place < length (held_of s i)
   pub payload : f ≤ 4
   pub names_old : names_own s i old ≡ true
@@ -49,9 +64,18 @@ pub record CanWrite (s : State) (i place f : ℕ) (old new : Field) : Type 0 whe
   pub box : is_box s (target_of s i place) ≡ true
   pub sealed : is_raw_value s new ≡ false
 
+pub record CanStore (s : State) (i : ℕ) (new : Field) : Type 0 where
+  pub inside : is_in s i ≡ true
+  pub begun : has_pending s i ≡ true
+  pub names : names_own s i new ≡ true
+  pub marks : marks_stand (own_barrier s i) (held_of s i) (begun_of s i).found new ≡ true
+  -- of a word that others may write
+  pub sealed : is_raw_value s new ≡ false
+
 pub record CanClaim (s : State) (i c : ℕ) : Type 0 where
   pub inside : is_in s i ≡ true
   pub mode : has_mode s i ≡ true
+  pub nothing_pending : has_pending s i ≡ false
   pub cell : c < s.cells
   pub room : length (held_of s i) < room_of s i
 
@@ -73,11 +97,13 @@ pub record CanSeal (s : State) (i place : ℕ) : Type 0 where
 
 pub record CanAnswer (s : State) (i : ℕ) : Type 0 where
   pub inside : is_in s i ≡ true
+  pub nothing_pending : has_pending s i ≡ false
   pub requested : requests (own_of s i).mode (next_own_status s i) ≡ true
   pub third : third_answer_can s i ≡ true
 
 pub record CanKeep (s : State) (i count from copies : ℕ) : Type 0 where
   pub inside : is_in s i ≡ true
+  pub nothing_pending : has_pending s i ≡ false
   pub some : 1 ≤ count
   pub kept : count ≤ length (held_of s i)
   pub copied : from + copies ≤ length (held_of s i)

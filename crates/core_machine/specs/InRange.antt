@@ -18,7 +18,7 @@ use Rattle.cell_words.specs.declared.presences.Presence.{Presence}
 use Rattle.core_machine.specs.declared.progress.Scanning.{Scanning}
 use Rattle.core_machine.specs.declared.progress.Sweeping.{Sweeping}
 use Rattle.core_machine.specs.declared.progress.Sweeping.TheVariants as sweeping
-use Rattle.core_machine.specs.Own.{Own}
+use Rattle.core_machine.specs.Own.{Own, pending_or_none}
 use Rattle.core_machine.specs.Places.{cell_at}
 use Rattle.core_machine.specs.State.{State, greatest_cells, greatest_cycles, row_in, field_in}
 use Rattle.core_machine.specs.State.{own_in, presence_in}
@@ -70,11 +70,12 @@ ScanFits cells None = Unit {0}
 ScanFits cells (Some scan) = (scan.cell < cells) × (scan.next ≤ 5)
     × ChildFits cells scan.next scan.child
 
--- every cell that is named is one that there is
+-- every cell that is named is one that there is, and so is every field
 pub record NamesFit (cells : ℕ) (rows : List (List Field)) (owns : List Own)
     (scan : Option Scanning) : Type 0 where
   pub fields_fit : RowsFit cells rows
   pub held_fit : (i place : ℕ) → cell_at (own_in owns i).held place < cells
+  pub pendings_fit : (i : ℕ) → (pending_or_none (own_in owns i).pending).f ≤ 4
   pub scan_fits : ScanFits cells scan
 
 -- how many cells of this sweep are done: those below the position, and perhaps the one at it

@@ -10,12 +10,13 @@ use Rattle.core_machine.specs.declared.events.Event.{Event}
 use Rattle.core_machine.specs.declared.events.Event.TheVariants as event
 use Rattle.core_machine.specs.State.{State}
 use Rattle.core_machine.specs.Mutation.{mark_can, mark_found, mark_after, write_can, write_found}
-use Rattle.core_machine.specs.Mutation.{write_after, claim_can, claim_found, claim_after, fill_can}
-use Rattle.core_machine.specs.Mutation.{fill_after, seal_can, seal_after}
+use Rattle.core_machine.specs.Mutation.{write_after, store_can, store_after, claim_can, claim_found}
+use Rattle.core_machine.specs.Mutation.{claim_after, fill_can, fill_after, seal_can, seal_after}
 use Rattle.core_machine.specs.Operations.{begin_can, begin_found, begin_after, look_can, look_found}
-use Rattle.core_machine.specs.Operations.{look_after, read_can, read_found, read_after, answer_can}
-use Rattle.core_machine.specs.Operations.{answer_after, keep_can, keep_found, keep_after, end_can}
-use Rattle.core_machine.specs.Operations.{end_found, end_after, over_can, over_found, over_after}
+use Rattle.core_machine.specs.Operations.{look_after, read_can, read_found, read_after, fetch_can}
+use Rattle.core_machine.specs.Operations.{fetch_found, fetch_after, answer_can, answer_after}
+use Rattle.core_machine.specs.Operations.{keep_can, keep_found, keep_after, end_can, end_found}
+use Rattle.core_machine.specs.Operations.{end_after, over_can, over_found, over_after}
 use Rattle.core_machine.specs.Handshakes.{post_can, post_after, duty_can, duty_after, poll_can}
 use Rattle.core_machine.specs.Handshakes.{poll_found, poll_after, answer_out_can, answer_out_found}
 use Rattle.core_machine.specs.Handshakes.{answer_out_after}
@@ -32,8 +33,10 @@ abbrev pub maker : Event → Option ℕ
 maker (event.Begin i) = Some i
 maker (event.Look i) = Some i
 maker (event.Read i place f) = Some i
+maker (event.Fetch i place f) = Some i
 maker (event.Mark i place) = Some i
 maker (event.Write i place f old new) = Some i
+maker (event.Store i new) = Some i
 maker (event.Claim i c) = Some i
 maker (event.Fill i place f value) = Some i
 maker (event.Seal i place kind) = Some i
@@ -62,8 +65,10 @@ abbrev pub can : State → Event → Bool
 can s (event.Begin i) = begin_can s i
 can s (event.Look i) = look_can s i
 can s (event.Read i place f) = read_can s i place f
+can s (event.Fetch i place f) = fetch_can s i place f
 can s (event.Mark i place) = mark_can s i place
 can s (event.Write i place f old new) = write_can s i place f old new
+can s (event.Store i new) = store_can s i new
 can s (event.Claim i c) = claim_can s i c
 can s (event.Fill i place f value) = fill_can s i place f value
 can s (event.Seal i place kind) = seal_can s i place
@@ -92,8 +97,10 @@ abbrev pub found_by : State → Event → Found
 found_by s (event.Begin i) = begin_found s i
 found_by s (event.Look i) = look_found s i
 found_by s (event.Read i place f) = read_found s i place f
+found_by s (event.Fetch i place f) = fetch_found s i place f
 found_by s (event.Mark i place) = mark_found s i place
 found_by s (event.Write i place f old new) = write_found s i place f
+found_by s (event.Store i new) = finds.Stored
 found_by s (event.Claim i c) = claim_found s c
 found_by s (event.Fill i place f value) = finds.Stored
 found_by s (event.Seal i place kind) = finds.Stored
@@ -122,8 +129,10 @@ abbrev pub after : State → Event → State
 after s (event.Begin i) = begin_after s i
 after s (event.Look i) = look_after s i
 after s (event.Read i place f) = read_after s i place f
+after s (event.Fetch i place f) = fetch_after s i place f
 after s (event.Mark i place) = mark_after s i place
 after s (event.Write i place f old new) = write_after s i place f old new
+after s (event.Store i new) = store_after s i new
 after s (event.Claim i c) = claim_after s i c
 after s (event.Fill i place f value) = fill_after s i place f value
 after s (event.Seal i place kind) = seal_after s i place kind

@@ -1,6 +1,6 @@
--- The events of a mutator i that change no word of a cell: Begin, Look, Read, Found, Keep, End and
--- Over. When each can happen, what it finds and what it leaves, which is told of every state, also
--- where it cannot happen.
+-- The events of a mutator i that change no word of a cell: Begin, Look, Read, Fetch, Answer, Keep,
+-- End and Over. When each can happen, what it finds and what it leaves, which is told of every
+-- state, also where it cannot happen.
 --
 -- A mutator acts while it is in; Begin and Over alone need that it is out. `place` is an index into
 -- its held list.
@@ -19,8 +19,8 @@ use Rattle.core_machine.specs.declared.events.Event.TheVariants as event
 use Rattle.core_machine.specs.Own.{own_after, presence_after}
 use Rattle.core_machine.specs.Places.{all_marked}
 use Rattle.core_machine.specs.State.{State, field_of, room_of, presence_of, own_of, held_of}
-use Rattle.core_machine.specs.State.{target_of}
-use Rattle.core_machine.specs.Words.{same_status, barrier_in, requests}
+use Rattle.core_machine.specs.State.{target_of, is_box}
+use Rattle.core_machine.specs.Words.{same_status, barrier_in, lets_store, requests}
 
 -- Tests that many kinds make.
 
@@ -40,6 +40,14 @@ has_room s i = nat_lt (length (held_of s i)) (room_of s i)
 
 abbrev pub has_mode : State → ℕ → Bool
 has_mode s i = is_some (own_of s i).mode
+
+-- a write is begun and not ended
+abbrev pub has_pending : State → ℕ → Bool
+has_pending s i = is_some (own_of s i).pending
+
+-- an ordinary store may be begun
+abbrev pub own_lets_store : State → ℕ → Bool
+own_lets_store s i = lets_store (presence_of s i).status (own_of s i).mode
 
 -- what the mutator has to mark before a write
 abbrev pub own_barrier : State → ℕ → Barrier
@@ -68,7 +76,7 @@ begin_after s i = tell_presence (tell_own s i (event.Begin i) (begin_found s i))
 -- Look.
 
 abbrev pub look_can : State → ℕ → Bool
-look_can s i = is_in s i
+look_can s i = is_in s i && not (has_pending s i)
 
 abbrev pub look_found : State → ℕ → Found
 look_found s i = finds.Control s.control
@@ -87,6 +95,20 @@ read_found s i place f = finds.Field (field_of s (target_of s i place) f)
 abbrev pub read_after : State → ℕ → ℕ → ℕ → State
 read_after s i place f = tell_own s i (event.Read i place f) (read_found s i place f)
 
+-- Fetch: a read of the field that the mutator is to store. Both values have to be marked before the
+-- store, so it stands between the look and the marks.
+
+abbrev pub fetch_can : State → ℕ → ℕ → ℕ → Bool
+fetch_can s i place f =
+    is_in s i && not (has_pending s i) && own_lets_store s i && is_place s i place && nat_le f 4
+    && is_box s (target_of s i place) && has_room s i
+
+abbrev pub fetch_found : State → ℕ → ℕ → ℕ → Found
+fetch_found s i place f = finds.Field (field_of s (target_of s i place) f)
+
+abbrev pub fetch_after : State → ℕ → ℕ → ℕ → State
+fetch_after s i place f = tell_own s i (event.Fetch i place f) (fetch_found s i place f)
+
 -- Answer. Before the third answer of a cycle, which leads back to async, each place is marked.
 
 abbrev pub next_own_status : State → ℕ → Status
@@ -98,8 +120,9 @@ third_answer_can s i = not (same_status (next_own_status s i) status.Async) || a
     (held_of s i)
 
 abbrev pub answer_can : State → ℕ → Bool
-answer_can s i = is_in s i && requests (own_of s i).mode
-    (next_own_status s i) && third_answer_can s i
+answer_can s i =
+    is_in s i && not (has_pending s i) && requests (own_of s i).mode (next_own_status s i)
+    && third_answer_can s i
 
 abbrev pub answer_after : State → ℕ → State
 answer_after s i = tell_presence (tell_own s i (event.Answer i) finds.Stored) i
@@ -109,7 +132,7 @@ answer_after s i = tell_presence (tell_own s i (event.Answer i) finds.Stored) i
 
 abbrev pub keep_can : State → ℕ → ℕ → ℕ → ℕ → Bool
 keep_can s i count from copies =
-    is_in s i && nat_le 1 count && nat_le count (length (held_of s i))
+    is_in s i && not (has_pending s i) && nat_le 1 count && nat_le count (length (held_of s i))
     && nat_le (from + copies) (length (held_of s i)) && nat_le (count + copies) (room_of s i)
 
 abbrev pub keep_found : State → ℕ → Found

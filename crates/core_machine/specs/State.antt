@@ -17,10 +17,11 @@ use Rattle.cell_words.specs.declared.fields.Field.{Field}
 use Rattle.cell_words.specs.declared.fields.Field.TheVariants as field
 use Rattle.cell_words.specs.declared.presences.Presence.{Presence}
 use Rattle.cell_words.specs.declared.presences.Status.TheVariants as status
+use Rattle.core_machine.specs.declared.pending.Pending.{Pending}
 use Rattle.core_machine.specs.declared.places.Held.{Held}
 use Rattle.core_machine.specs.declared.progress.Sweeping.TheVariants as sweeping
 use Rattle.core_machine.specs.Collector.{Collector}
-use Rattle.core_machine.specs.Own.{Own, no_own}
+use Rattle.core_machine.specs.Own.{Own, no_own, pending_or_none}
 use Rattle.core_machine.specs.Places.{cell_at}
 use Rattle.core_machine.specs.Words.{is_blue, is_raw_kind, is_box_kind}
 
@@ -97,6 +98,10 @@ held_of s i = (own_of s i).held
 -- the cell at a place of mutator i
 abbrev pub target_of : State → ℕ → ℕ → ℕ
 target_of s i place = cell_at (held_of s i) place
+
+-- the write that mutator i has begun, and a harmless one where there is none
+abbrev pub begun_of : State → ℕ → Pending
+begun_of s i = pending_or_none (own_of s i).pending
 
 abbrev pub has_answered : State → ℕ → Bool
 has_answered s i = slice_index_or s.collector.answered i true

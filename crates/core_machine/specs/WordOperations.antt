@@ -23,7 +23,7 @@ use Rattle.core_machine.specs.declared.events.Found.TheVariants as finds
 use Rattle.core_machine.specs.Collector.{control_after}
 use Rattle.core_machine.specs.Handshakes.{wanted_of}
 use Rattle.core_machine.specs.Next.{found_by, after}
-use Rattle.core_machine.specs.State.{State, own_of, presence_of, target_of}
+use Rattle.core_machine.specs.State.{State, own_of, presence_of, target_of, begun_of}
 use Rattle.core_machine.specs.Sweep.{wiped_count}
 use Rattle.core_machine.specs.Table.{Word, TheControl, StatusOf, ColourOf, FieldOf, HasWord}
 use Rattle.core_machine.specs.Table.{index_of, words_of}
@@ -36,8 +36,10 @@ abbrev pub word_of : State → Event → Word
 word_of s (event.Begin i) = StatusOf i
 word_of s (event.Look i) = TheControl
 word_of s (event.Read i place f) = FieldOf (target_of s i place) f
+word_of s (event.Fetch i place f) = FieldOf (target_of s i place) f
 word_of s (event.Mark i place) = ColourOf (target_of s i place)
 word_of s (event.Write i place f old new) = FieldOf (target_of s i place) f
+word_of s (event.Store i new) = FieldOf (target_of s i (begun_of s i).place) (begun_of s i).f
 word_of s (event.Claim i c) = ColourOf c
 word_of s (event.Fill i place f value) = FieldOf (target_of s i place) f
 word_of s (event.Seal i place kind) = FieldOf (target_of s i place) 5
@@ -117,8 +119,10 @@ abbrev pub operation_of : State → Event → Operation
 operation_of s (event.Begin i) = SetBits inside_bit
 operation_of s (event.Look i) = Load
 operation_of s (event.Read i place f) = Load
+operation_of s (event.Fetch i place f) = Load
 operation_of s (event.Mark i place) = colour_exchange colour.White colour.Gray
 operation_of s (event.Write i place f old new) = Exchange (pack_field_of old) (pack_field_of new)
+operation_of s (event.Store i new) = Store (pack_field_of new)
 operation_of s (event.Claim i c) =
     colour_exchange colour.Blue (born_colour (presence_of s i).status (own_of s i).mode c)
 operation_of s (event.Fill i place f value) = Store (pack_field_of value)

@@ -142,6 +142,13 @@ marks_some barrier.Nothing = false
 marks_some barrier.Old = true
 marks_some barrier.Both = true
 
+-- an ordinary store may be begun: there is a mode, and status and mode are not sync2 with the stage
+-- Sync2
+abbrev pub lets_store : Status → Option Control → Bool
+lets_store own None = false
+lets_store own (Some mode) =
+    not (same_status own status.Sync2 && same_stage mode.stage stage.Sync2)
+
 -- the colour of a new cell; without a mode white
 abbrev pub born_colour : Status → Option Control → ℕ → Colour
 born_colour own None cell = colour.White

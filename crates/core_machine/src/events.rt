@@ -11,10 +11,15 @@ pub enum Event {
     Look(u32),
     /// Mutator `i` loads a field of the cell at a place, and holds the cell that it finds.
     Read(u32, usize, usize),
+    /// Mutator `i` loads a field of the box at a place, which it is to store, and holds the cell
+    /// that it finds.
+    Fetch(u32, usize, usize),
     /// Mutator `i` makes the cell at a place gray, if it is white.
     Mark(u32, usize),
     /// Mutator `i` exchanges a field of the box at a place: place, field, old value, new value.
     Write(u32, usize, usize, Field, Field),
+    /// Mutator `i` stores a value in the field that it has fetched.
+    Store(u32, Field),
     /// Mutator `i` takes a cell, if it is blue.
     Claim(u32, u32),
     /// Mutator `i` stores a field of the raw cell at a place: place, field, value.

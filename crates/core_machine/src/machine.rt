@@ -1,13 +1,14 @@
 //! The state in memory, and its readers. The events stand in `mutator_events`, `collector_events`.
 ghost use Rattle.core_machine.specs.InRange.{InRange};
-ghost use Rattle.core_machine.specs.State.{all_answered, colour_of, field_of, free_count_of};
-ghost use Rattle.core_machine.specs.State.{freed_of, has_answered, held_of, own_of, presence_of};
-ghost use Rattle.core_machine.specs.State.{room_of, set_field, target_of};
+ghost use Rattle.core_machine.specs.State.{all_answered, begun_of, colour_of, field_of};
+ghost use Rattle.core_machine.specs.State.{free_count_of, freed_of, has_answered, held_of, own_of};
+ghost use Rattle.core_machine.specs.State.{presence_of, room_of, set_field, target_of};
 ghost use Rattle.core_machine.specs.Words.{is_blue};
 ghost use Rattle.std.specs.Prelude.{count_by, length, ◌<◌, ◌≡◌};
 
 use crate::collector_part::CollectorPart;
 use crate::mutator_parts::MutatorParts;
+use crate::pending::{Pending, pending_or_none};
 use crate::places::{Held, cell_at};
 use crate::progress::{Scanning, Sweeping};
 use crate::words::is_blue;
@@ -162,6 +163,19 @@ impl Machine {
         ensures mode { result ≡ (own_of self.now m).mode }
     {
         self.parts.mode(m as usize)
+    }
+
+    /// The write that mutator `m` has begun and not ended.
+    pub fn pending(&self, m: u32) -> Option<Pending>
+        ensures pending { result ≡ (own_of self.now m).pending }
+    {
+        self.parts.pending(m as usize)
+    }
+
+    pub(crate) fn begun(&self, m: u32) -> Pending
+        ensures begun { result ≡ begun_of self.now m }
+    {
+        pending_or_none(self.pending(m))
     }
 
     /// How many cells mutator `m` has claimed.

@@ -1,17 +1,18 @@
 //! When the events of a mutator can happen. Each test is one of specs/Operations or specs/Mutation.
 ghost use Rattle.core_machine.specs.InRange.{InRange};
 ghost use Rattle.core_machine.specs.Mutation.{claim_can, fill_can, mark_can, names_own, seal_can};
-ghost use Rattle.core_machine.specs.Mutation.{write_can};
-ghost use Rattle.core_machine.specs.Operations.{answer_can, has_mode, has_room, is_in, is_place};
-ghost use Rattle.core_machine.specs.Operations.{keep_can, may_begin, next_own_status, own_barrier};
-ghost use Rattle.core_machine.specs.Operations.{read_can, third_answer_can};
+ghost use Rattle.core_machine.specs.Mutation.{store_can, write_can};
+ghost use Rattle.core_machine.specs.Operations.{answer_can, fetch_can, has_mode, has_pending};
+ghost use Rattle.core_machine.specs.Operations.{has_room, is_in, is_place, keep_can, look_can};
+ghost use Rattle.core_machine.specs.Operations.{may_begin, next_own_status, own_barrier};
+ghost use Rattle.core_machine.specs.Operations.{own_lets_store, read_can, third_answer_can};
 ghost use Rattle.core_machine.specs.State.{is_box, is_raw, is_raw_value};
 ghost use Rattle.std.specs.Prelude.{nat_le, ◌+◌, ◌<◌, ◌≡◌};
 
 use crate::machine::Machine;
 use crate::places::{all_marked, marks_stand, names_rightly};
 use crate::words::{
-    barrier_in, is_box_kind, is_cell, is_raw_kind, marks_some, requests, same_status,
+    barrier_in, is_box_kind, is_cell, is_raw_kind, lets_store, marks_some, requests, same_status,
 };
 use cell_words::modes::next_status;
 use cell_words::{Barrier, Field, Status};
@@ -46,6 +47,18 @@ impl Machine {
         ensures mode { result ≡ has_mode self.now i }
     {
         self.mode(i).is_some()
+    }
+
+    fn has_pending(&self, i: u32) -> bool
+        ensures pending { result ≡ has_pending self.now i }
+    {
+        self.pending(i).is_some()
+    }
+
+    fn own_lets_store(&self, i: u32) -> bool
+        ensures lets { result ≡ own_lets_store self.now i }
+    {
+        lets_store(self.presence(i).status, self.mode(i))
     }
 
     fn own_barrier(&self, i: u32) -> Barrier
@@ -93,10 +106,29 @@ impl Machine {
         }
     }
 
+    pub(crate) fn look_can(&self, i: u32) -> bool
+        ensures can { result ≡ look_can self.now i }
+    {
+        self.is_in(i) && !self.has_pending(i)
+    }
+
     pub(crate) fn read_can(&self, i: u32, place: usize, f: usize) -> bool
         ensures can { result ≡ read_can self.now i place f }
     {
         self.is_in(i) && self.is_place(i, place) && f <= 4 && self.has_room(i)
+    }
+
+    pub(crate) fn fetch_can(&self, i: u32, place: usize, f: usize) -> bool
+        requires { InRange self.now }
+        ensures can { result ≡ fetch_can self.now i place f }
+    {
+        self.is_in(i)
+            && !self.has_pending(i)
+            && self.own_lets_store(i)
+            && self.is_place(i, place)
+            && f <= 4
+            && self.is_box(self.held(i, place))
+            && self.has_room(i)
     }
 
     pub(crate) fn mark_can(&self, i: u32, place: usize) -> bool
@@ -111,6 +143,7 @@ impl Machine {
     {
         self.is_in(i)
             && self.has_mode(i)
+            && !self.has_pending(i)
             && self.is_place(i, place)
             && f <= 4
             && self.is_box(self.held(i, place))
@@ -120,10 +153,30 @@ impl Machine {
             && marks_stand(self.own_barrier(i), self.places(i), old, new)
     }
 
+    pub(crate) fn store_can(&self, i: u32, new: Field) -> bool
+        requires { InRange self.now }
+        ensures can { result ≡ store_can self.now i new }
+    {
+        self.is_in(i)
+            && self.has_pending(i)
+            && self.names_own(i, new)
+            && !self.is_raw_value(new)
+            && marks_stand(
+                self.own_barrier(i),
+                self.places(i),
+                self.begun(i).found,
+                new,
+            )
+    }
+
     pub(crate) fn claim_can(&self, i: u32, cell: u32) -> bool
         ensures can { result ≡ claim_can self.now i cell }
     {
-        self.is_in(i) && self.has_mode(i) && cell < self.cells() && self.has_room(i)
+        self.is_in(i)
+            && self.has_mode(i)
+            && !self.has_pending(i)
+            && cell < self.cells()
+            && self.has_room(i)
     }
 
     pub(crate) fn fill_can(&self, i: u32, place: usize, f: usize, value: Field) -> bool
@@ -149,7 +202,10 @@ impl Machine {
     pub(crate) fn answer_can(&self, i: u32) -> bool
         ensures can { result ≡ answer_can self.now i }
     {
-        self.is_in(i) && requests(self.mode(i), self.next_own_status(i)) && self.third_answer_can(i)
+        self.is_in(i)
+            && !self.has_pending(i)
+            && requests(self.mode(i), self.next_own_status(i))
+            && self.third_answer_can(i)
     }
 
     /// An answer that leads back to async wants each place marked.
@@ -165,6 +221,7 @@ impl Machine {
         let len = self.held_len(i);
         let room = self.room(i);
         self.is_in(i)
+            && !self.has_pending(i)
             && 1 <= count
             && count <= len
             && is_sum_within(from, copies, len)

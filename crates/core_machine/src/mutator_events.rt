@@ -1,4 +1,4 @@
-//! The twelve kinds of event of a mutator.
+//! The fourteen kinds of event of a mutator.
 ghost use Rattle.core_machine.specs.declared.events.Event.TheVariants as event;
 ghost use Rattle.core_machine.specs.Takes.{Takes};
 ghost use Rattle.core_machine.specs.InRange.{InRange};
@@ -30,7 +30,7 @@ impl Machine {
         requires { InRange self.old }
         ensures event { Takes result self.old (next self.old (event.Look i)) self.new }
     {
-        if !self.is_in(i) {
+        if !self.look_can(i) {
             return Err(NotNow);
         }
         self.parts.look(i as usize, self.control);
@@ -46,6 +46,18 @@ impl Machine {
         }
         let found = self.field(self.held(i, place), f);
         self.parts.read(i as usize, found);
+        Ok(())
+    }
+
+    pub(crate) fn fetch(&mut self, i: u32, place: usize, f: usize) -> Result<(), NotNow>
+        requires { InRange self.old }
+        ensures event { Takes result self.old (next self.old (event.Fetch i place f)) self.new }
+    {
+        if !self.fetch_can(i, place, f) {
+            return Err(NotNow);
+        }
+        let found = self.field(self.held(i, place), f);
+        self.parts.fetch(i as usize, place, f, found);
         Ok(())
     }
 
@@ -81,6 +93,19 @@ impl Machine {
         let cell = self.held(i, place);
         let found = self.field(cell, f);
         self.set_field(cell, f, written(found, old, new));
+        self.parts.spend(i as usize);
+        Ok(())
+    }
+
+    pub(crate) fn store(&mut self, i: u32, new: Field) -> Result<(), NotNow>
+        requires { InRange self.old }
+        ensures event { Takes result self.old (next self.old (event.Store i new)) self.new }
+    {
+        if !self.store_can(i, new) {
+            return Err(NotNow);
+        }
+        let begun = self.begun(i);
+        self.set_field(self.held(i, begun.place), begun.f, new);
         self.parts.spend(i as usize);
         Ok(())
     }

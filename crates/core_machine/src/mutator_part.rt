@@ -1,12 +1,14 @@
-//! The own part of one mutator: its held list with marks, its mode and its claims.
+//! The own part of one mutator: its held list with marks, its mode, its pending write, its claims.
 //!
 //! The held list gets all its memory at the opening, so that no event takes memory.
-ghost use Rattle.core_machine.specs.Own.{begun, ended, having_claimed, having_read, holding};
-ghost use Rattle.core_machine.specs.Own.{keeping, looked, marking, no_own, spent};
+ghost use Rattle.core_machine.specs.Own.{begun, ended, having_claimed, having_fetched};
+ghost use Rattle.core_machine.specs.Own.{having_read, holding, keeping, looked, marking, no_own};
+ghost use Rattle.core_machine.specs.Own.{spent};
 ghost use Rattle.cell_words.specs.declared.colours.Colour.TheVariants.{Blue};
 ghost use Rattle.std.specs.Prelude.{length, IfOk, ◌≡◌, ◌+◌, ◌<◌, ◌≤◌, ◌^◌};
 
 use crate::NoMemory;
+use crate::pending::Pending;
 use crate::places::{Held, keep_places, mark_all_of, unmark_all};
 use cell_words::{Colour, Control, Field};
 use std::alloc::Global;
@@ -17,6 +19,7 @@ pub(crate) struct MutatorPart {
     room: usize,
     held: Vec<Held>,
     mode: Option<Control>,
+    pending: Option<Pending>,
     claims: u64,
 }
 
@@ -28,7 +31,7 @@ impl Model for MutatorPart {
 
     ghost view = { λ p. record {
       room = p.room;
-      own = record { held = p.held.items; mode = p.mode; claims = p.claims };
+      own = record { held = p.held.items; mode = p.mode; pending = p.pending; claims = p.claims };
     } };
 
     ghost invariant = { λ p. (1 ≤ p.room) × (p.room ≤ vec_capacity p.held) };
@@ -44,6 +47,7 @@ impl MutatorPart {
             room,
             held,
             mode: None,
+            pending: None,
             claims: 0,
         })
     }
@@ -64,6 +68,12 @@ impl MutatorPart {
         ensures mode { result ≡ self.now.own.mode }
     {
         self.mode
+    }
+
+    pub(crate) fn pending(&self) -> Option<Pending>
+        ensures pending { result ≡ self.now.own.pending }
+    {
+        self.pending
     }
 
     pub(crate) fn claims(&self) -> u64
@@ -106,18 +116,30 @@ impl MutatorPart {
         }
     }
 
+    /// Holds the cell that a read found, if it found one, and is to store the field.
+    pub(crate) fn fetch(&mut self, place: usize, f: usize, found: Field)
+        requires { length self.old.own.held < self.old.room }
+        ensures part { self.new ≡ record self.old {
+          own = having_fetched self.old.own place f found;
+        } }
+    {
+        self.read(found);
+        self.pending = Some(Pending { place, f, found });
+    }
+
     pub(crate) fn mark(&mut self, cell: u32)
         ensures part { self.new ≡ record self.old { own = marking self.old.own cell } }
     {
         mark_all_of(&mut self.held, cell);
     }
 
-    /// Takes the mode and all marks away.
+    /// Takes the mode, the pending write and all marks away.
     pub(crate) fn spend(&mut self)
         ensures part { self.new ≡ record self.old { own = spent self.old.own } }
     {
         unmark_all(&mut self.held);
         self.mode = None;
+        self.pending = None;
     }
 
     /// Holds the cell of a claim, if the claim found it blue.
@@ -154,5 +176,6 @@ impl MutatorPart {
     {
         self.held.clear();
         self.mode = None;
+        self.pending = None;
     }
 }

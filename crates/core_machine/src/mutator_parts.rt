@@ -1,13 +1,14 @@
 //! The own parts of all mutators. A call changes the part of one mutator.
 ghost use Rattle.cell_words.specs.declared.colours.Colour.TheVariants.{Blue};
-ghost use Rattle.core_machine.specs.Own.{begun, ended, having_claimed, having_read, keeping};
-ghost use Rattle.core_machine.specs.Own.{looked, marking, no_own, spent};
+ghost use Rattle.core_machine.specs.Own.{begun, ended, having_claimed, having_fetched};
+ghost use Rattle.core_machine.specs.Own.{having_read, keeping, looked, marking, no_own, spent};
 ghost use Rattle.core_machine.specs.Parts.{with_own};
 ghost use Rattle.core_machine.specs.State.{own_in, room_in};
 ghost use Rattle.std.specs.Prelude.{IfOk, length, replicate, ◌+◌, ◌<◌, ◌≡◌, ◌≤◌, ◌^◌};
 
 use crate::NoMemory;
 use crate::mutator_part::MutatorPart;
+use crate::pending::Pending;
 use crate::places::Held;
 use cell_words::{Colour, Control, Field};
 use std::alloc::Global;
@@ -71,6 +72,16 @@ impl MutatorParts {
         }
     }
 
+    pub(crate) fn pending(&self, i: usize) -> Option<Pending>
+        ensures pending { result ≡ (own_in self.now.owns i).pending }
+    {
+        if i < self.parts.len() {
+            self.parts[i].pending()
+        } else {
+            None
+        }
+    }
+
     pub(crate) fn claims(&self, i: usize) -> u64
         ensures claims { result ≡ (own_in self.now.owns i).claims }
     {
@@ -105,6 +116,16 @@ impl MutatorParts {
     {
         let part = &mut self.parts[i];
         part.read(found);
+    }
+
+    pub(crate) fn fetch(&mut self, i: usize, place: usize, f: usize, found: Field)
+        requires mutator { i < length self.old.owns }
+        requires room { length (own_in self.old.owns i).held < room_in self.old.rooms i }
+        ensures parts { self.new
+            ≡ with_own self.old i (having_fetched (own_in self.old.owns i) place f found) }
+    {
+        let part = &mut self.parts[i];
+        part.fetch(place, f, found);
     }
 
     pub(crate) fn mark(&mut self, i: usize, cell: u32)

@@ -1,9 +1,9 @@
 //! What one operation on a word leaves there, and the tests that events make on words.
 ghost use Rattle.core_machine.specs.Words.{answered_out, barrier_in, born_colour, claimed, cleared};
 ghost use Rattle.core_machine.specs.Words.{is_blue, is_box_kind, is_cell, is_gray, is_handshake};
-ghost use Rattle.core_machine.specs.Words.{is_raw_kind, kind_field, marks_some, may_answer_out};
-ghost use Rattle.core_machine.specs.Words.{requests, same_field, same_flag, same_stage};
-ghost use Rattle.core_machine.specs.Words.{same_status, shaded, written};
+ghost use Rattle.core_machine.specs.Words.{is_raw_kind, kind_field, lets_store, marks_some};
+ghost use Rattle.core_machine.specs.Words.{may_answer_out, requests, same_field, same_flag};
+ghost use Rattle.core_machine.specs.Words.{same_stage, same_status, shaded, written};
 ghost use Rattle.std.specs.Prelude.{◌≡◌};
 
 use cell_words::modes::{barrier, claim_colour, next_status, requested};
@@ -164,6 +164,17 @@ pub(crate) fn marks_some(barrier: Barrier) -> bool
     match barrier {
         Barrier::Nothing => false,
         Barrier::Old | Barrier::Both => true,
+    }
+}
+
+pub(crate) fn lets_store(status: Status, mode: Option<Control>) -> bool
+    ensures lets { result ≡ lets_store status mode }
+{
+    match mode {
+        None => false,
+        Some(mode) => {
+            !(same_status(status, Status::Sync2) && same_stage(mode.stage, Stage::Sync2))
+        }
     }
 }
 

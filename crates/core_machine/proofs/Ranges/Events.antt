@@ -14,9 +14,11 @@ pub after_shaped : (s : State) (e : Event) → IsShaped s → can s e ≡ true �
 after_shaped s (event.Begin i) r can = mutators.begin_keeps s r i
 after_shaped s (event.Look i) r can = mutators.look_keeps s r i
 after_shaped s (event.Read i place f) r can = mutators.read_keeps s r i place f
+after_shaped s (event.Fetch i place f) r can = mutators.fetch_keeps s r i place f can
 after_shaped s (event.Mark i place) r can = mutators.mark_keeps s r i place
 after_shaped s
     (event.Write i place f old new) r can = mutators.write_keeps s r i place f old new can
+after_shaped s (event.Store i new) r can = mutators.store_keeps s r i new can
 after_shaped s (event.Claim i c) r can = mutators.claim_keeps s r i c can
 after_shaped s (event.Fill i place f value) r can = mutators.fill_keeps s r i place f value can
 after_shaped s (event.Seal i place kind) r can = mutators.seal_keeps s r i place kind

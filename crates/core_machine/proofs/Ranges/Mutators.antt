@@ -19,19 +19,21 @@ use Rattle.cell_words.specs.declared.presences.Status.{Status}
 use Rattle.cell_words.specs.declared.presences.Status.TheVariants as status
 use Rattle.cell_words.specs.Modes.{async_claim_colour_of}
 use Rattle.core_machine.specs.declared.places.Held.{Held}
-use Rattle.core_machine.specs.Own.{Own, no_own, begun, looked, having_read, marking, spent}
-use Rattle.core_machine.specs.Own.{having_claimed, keeping, ended}
+use Rattle.core_machine.specs.Own.{Own, no_own, pending_or_none, begun, looked, having_read}
+use Rattle.core_machine.specs.Own.{having_fetched, marking, spent, having_claimed, keeping, ended}
 use Rattle.core_machine.specs.InRange.{IsShaped, NamesBelow}
-use Rattle.core_machine.specs.Mutation.{mark_after, write_can, write_after, claim_can, claim_after}
-use Rattle.core_machine.specs.Mutation.{fill_can, fill_after, seal_after}
-use Rattle.core_machine.specs.Operations.{begin_after, look_after, read_after, answer_after}
-use Rattle.core_machine.specs.Operations.{keep_after, end_after, over_after}
+use Rattle.core_machine.specs.Mutation.{mark_after, write_can, write_after, store_can, store_after}
+use Rattle.core_machine.specs.Mutation.{claim_can, claim_after, fill_can, fill_after, seal_after}
+use Rattle.core_machine.specs.Operations.{begin_after, look_after, read_after, fetch_can}
+use Rattle.core_machine.specs.Operations.{fetch_after, answer_after, keep_after, end_after}
+use Rattle.core_machine.specs.Operations.{over_after}
 use Rattle.core_machine.specs.Places.{is_place_of, holds, names_rightly, unmark, mark_of, found_at}
 use Rattle.core_machine.specs.State.{State, colour_of, field_of, presence_of, own_of, held_of}
-use Rattle.core_machine.specs.State.{target_of}
+use Rattle.core_machine.specs.State.{target_of, begun_of}
 use Rattle.core_machine.specs.Words.{is_blue, shaded, claimed, written, same_field, kind_field}
 use Rattle.core_machine.specs.Words.{born_colour}
-use Rattle.core_machine.proofs.Conditions.{write_needs, claim_needs, fill_needs}
+use Rattle.core_machine.proofs.Conditions.{fetch_needs, write_needs, store_needs, claim_needs}
+use Rattle.core_machine.proofs.Conditions.{fill_needs}
 use Rattle.core_machine.proofs.Ranges.Lists.{set_cases, Below, below-none, below-cons, below-map}
 use Rattle.core_machine.proofs.Ranges.Lists.{below-append, below-take, below-drop}
 use Rattle.core_machine.proofs.Ranges.Lists.{count-set_claimed}
@@ -75,6 +77,11 @@ read_claims own field.Null = omega arith
 read_claims own (field.Num k) = omega arith
 read_claims own (field.Cell c) = omega arith
 
+read_pending : (own : Own) (found : Field) → (having_read own found).pending ≡ own.pending
+read_pending own field.Null = refl
+read_pending own (field.Num k) = refl
+read_pending own (field.Cell c) = refl
+
 mark_of-cell : (c : ℕ) (place : Held) → (mark_of c place).cell ≡ place.cell
 mark_of-cell c place =
     elim (place.cell == c)
@@ -114,12 +121,14 @@ pub begin_keeps : (s : State) → IsShaped s → (i : ℕ) → IsShaped (begin_a
 begin_keeps s r i =
     let some = r.cells_fit.some_cells in
     presence_kept _ (own_kept s r i (begun (own_of s i))
-    (below-cons s.cells (found_at 0) [] some (below-none s.cells some)) (omega arith)) i _
+    (below-cons s.cells (found_at 0) [] some (below-none s.cells some))
+    (r.names_fit.pendings_fit i) (omega arith)) i _
 
 pub look_keeps : (s : State) → IsShaped s → (i : ℕ) → IsShaped (look_after s i)
 look_keeps s r i =
     own_kept s r i (looked (own_of s i) s.control)
-    (below-map s.cells unmark (λ place. refl) _ (r.names_fit.held_fit i)) (omega arith)
+    (below-map s.cells unmark (λ place. refl) _ (r.names_fit.held_fit i))
+    (r.names_fit.pendings_fit i) (omega arith)
 
 pub read_keeps : (s : State) → IsShaped s → (i place f : ℕ) → IsShaped (read_after s i place f)
 read_keeps s r i place f =
@@ -127,6 +136,18 @@ read_keeps s r i place f =
     own_kept s r i (having_read (own_of s i) found)
     (read_below s.cells (own_of s i) found r.cells_fit.some_cells (r.names_fit.held_fit i)
     (r.names_fit.fields_fit (target_of s i place) f))
+    (subst (λ p. (pending_or_none p).f ≤ 4) (sym (read_pending (own_of s i) found))
+    (r.names_fit.pendings_fit i))
+    (read_claims (own_of s i) found)
+
+pub fetch_keeps : (s : State) → IsShaped s → (i place f : ℕ) → fetch_can s i place f ≡ true
+    → IsShaped (fetch_after s i place f)
+fetch_keeps s r i place f can =
+    let found = field_of s (target_of s i place) f in
+    own_kept s r i (having_fetched (own_of s i) place f found)
+    (read_below s.cells (own_of s i) found r.cells_fit.some_cells (r.names_fit.held_fit i)
+    (r.names_fit.fields_fit (target_of s i place) f))
+    (fetch_needs s i place f can).payload
     (read_claims (own_of s i) found)
 
 pub mark_keeps : (s : State) → IsShaped s → (i place : ℕ) → IsShaped (mark_after s i place)
@@ -135,7 +156,8 @@ mark_keeps s r i place =
     own_kept _ (colour_kept s r cell (shaded (colour_of s cell)) (r.names_fit.held_fit i place)
     (shaded-blue (colour_of s cell)))
     i (marking (own_of s i) cell)
-    (below-map s.cells (mark_of cell) (mark_of-cell cell) _ (r.names_fit.held_fit i)) (omega arith)
+    (below-map s.cells (mark_of cell) (mark_of-cell cell) _ (r.names_fit.held_fit i))
+    (r.names_fit.pendings_fit i) (omega arith)
 
 pub write_keeps : (s : State) → IsShaped s → (i place f : ℕ) (old new : Field)
     → write_can s i place f old new ≡ true → IsShaped (write_after s i place f old new)
@@ -147,7 +169,17 @@ write_keeps s r i place f old new can =
     (written_below s.cells found old new (r.names_fit.fields_fit cell f)
     (rightly_below s.cells (held_of s i) new (r.names_fit.held_fit i) needs.names_new)))
     i (spent (own_of s i)) (below-map s.cells unmark (λ p. refl) _ (r.names_fit.held_fit i))
-    (same_claims (own_of s i))
+    (omega arith) (same_claims (own_of s i))
+
+pub store_keeps : (s : State) → IsShaped s → (i : ℕ) (new : Field) → store_can s i new ≡ true
+    → IsShaped (store_after s i new)
+store_keeps s r i new can =
+    let begun = begun_of s i in
+    own_kept _ (field_kept s r (target_of s i begun.place) begun.f new
+    (rightly_below s.cells (held_of s i) new (r.names_fit.held_fit i)
+    (store_needs s i new can).names))
+    i (spent (own_of s i)) (below-map s.cells unmark (λ p. refl) _ (r.names_fit.held_fit i))
+    (omega arith) (same_claims (own_of s i))
 
 -- a claim of a blue cell: one claim more, and one blue cell less
 claimed_keeps : (s : State) → IsShaped s → (i c : ℕ) (born : Colour) → c < s.cells
@@ -177,6 +209,8 @@ claimed_keeps s r i c born within blue other =
             (r.names_fit.held_fit i)
             (below-cons s.cells (found_at c) [] within (below-none s.cells some)))
             (r.names_fit.held_fit j);
+        pendings_fit = λ j. set_cases (λ o. (pending_or_none o.pending).f ≤ 4) s.owns i j own no_own
+            (λ is there. r.names_fit.pendings_fit i) (r.names_fit.pendings_fit j);
         scan_fits = r.names_fit.scan_fits;
       };
       control_fits = r.control_fits;
@@ -199,7 +233,7 @@ missed_keeps : (s : State) → IsShaped s → (i c : ℕ) (found : Colour) → c
     → IsShaped (record s { colours = set s.colours c found; owns = set s.owns i (own_of s i) })
 missed_keeps s r i c found within is other =
     own_kept _ (colour_kept s r c found within (λ blue. ap is_blue is ∙ blue)) i (own_of s i)
-    (r.names_fit.held_fit i) (omega arith)
+    (r.names_fit.held_fit i) (r.names_fit.pendings_fit i) (omega arith)
 
 claim_found_keeps : (s : State) → IsShaped s → (i c : ℕ) (born found : Colour) → c < s.cells
     → colour_of s c ≡ found → is_blue born ≡ false
@@ -242,7 +276,8 @@ seal_keeps s r i place kind = field_kept s r (target_of s i place) 5 (kind_field
 pub answer_keeps : (s : State) → IsShaped s → (i : ℕ) → IsShaped (answer_after s i)
 answer_keeps s r i =
     presence_kept _ (own_kept s r i (spent (own_of s i))
-    (below-map s.cells unmark (λ place. refl) _ (r.names_fit.held_fit i)) (omega arith)) i _
+    (below-map s.cells unmark (λ place. refl) _ (r.names_fit.held_fit i))
+    (omega arith) (omega arith)) i _
 
 pub keep_keeps : (s : State) → IsShaped s → (i count from copies : ℕ)
     → IsShaped (keep_after s i count from copies)
@@ -254,13 +289,13 @@ keep_keeps s r i count from copies =
     (below-take s.cells count some (held_of s i) below)
     (below-take s.cells copies some (drop from (held_of s i))
     (below-drop s.cells from (held_of s i) below)))
-    (omega arith)
+    (r.names_fit.pendings_fit i) (omega arith)
 
 pub end_keeps : (s : State) → IsShaped s → (i : ℕ) → IsShaped (end_after s i)
 end_keeps s r i =
     presence_kept _
     (own_kept s r i (ended (own_of s i)) (below-none s.cells r.cells_fit.some_cells)
-    (omega arith)) i _
+    (omega arith) (omega arith)) i _
 
 pub over_keeps : (s : State) → IsShaped s → (i : ℕ) → IsShaped (over_after s i)
 over_keeps s r i = presence_kept s r i _

@@ -7,17 +7,18 @@ use Rattle.cell_words.specs.declared.colours.Colour.{Colour}
 use Rattle.cell_words.specs.declared.fields.Field.{Field}
 use Rattle.cell_words.specs.declared.fields.Field.TheVariants as field
 use Rattle.cell_words.specs.declared.presences.Presence.{Presence}
-use Rattle.core_machine.specs.Own.{Own, no_own}
+use Rattle.core_machine.specs.Own.{Own, no_own, pending_or_none}
 use Rattle.core_machine.specs.InRange.{IsShaped, CellsFit, NamesBelow}
 use Rattle.core_machine.specs.State.{State, colour_of, row_in, own_of, set_field}
 use Rattle.core_machine.specs.Words.{is_blue}
 use Rattle.core_machine.proofs.Ranges.Lists.{set_cases, Below, count-set}
 
--- mutator i has another own part, with cells that there are and no more claims
+-- mutator i has another own part, with cells and a field that there are and no more claims
 pub own_kept : (s : State) → IsShaped s → (i : ℕ) (own : Own)
-    → Below s.cells own.held → own.claims ≤ (own_of s i).claims
+    → Below s.cells own.held → (pending_or_none own.pending).f ≤ 4
+    → own.claims ≤ (own_of s i).claims
     → IsShaped (record s { owns = set s.owns i own })
-own_kept s r i own below claims = record {
+own_kept s r i own below payload claims = record {
   cells_fit = r.cells_fit;
   mutators_fit = record {
     rooms_fit = r.mutators_fit.rooms_fit;
@@ -29,6 +30,8 @@ own_kept s r i own below claims = record {
     fields_fit = r.names_fit.fields_fit;
     held_fit = λ j. set_cases (λ o. Below s.cells o.held) s.owns i j own no_own
         (λ is within. below) (r.names_fit.held_fit j);
+    pendings_fit = λ j. set_cases (λ o. (pending_or_none o.pending).f ≤ 4) s.owns i j own no_own
+        (λ is within. payload) (r.names_fit.pendings_fit j);
     scan_fits = r.names_fit.scan_fits;
   };
   control_fits = r.control_fits;
@@ -113,6 +116,7 @@ field_kept s r c f value names =
             (λ same within. names) (r.names_fit.fields_fit c g))
             (r.names_fit.fields_fit d g);
         held_fit = r.names_fit.held_fit;
+        pendings_fit = r.names_fit.pendings_fit;
         scan_fits = r.names_fit.scan_fits;
       };
       control_fits = r.control_fits;

@@ -11,7 +11,7 @@ use Rattle.cell_words.specs.declared.fields.Field.{Field}
 use Rattle.cell_words.specs.declared.fields.Field.TheVariants as field
 use Rattle.core_machine.specs.InRange.{IsShaped, InRange, NamesBelow, RowsFit, names_below}
 use Rattle.core_machine.specs.InRange.{rows_name_below}
-use Rattle.core_machine.specs.Own.{Own, no_own}
+use Rattle.core_machine.specs.Own.{Own, no_own, pending_or_none}
 use Rattle.core_machine.specs.Places.{cell_at}
 use Rattle.core_machine.specs.State.{State, greatest_cells, row_in, field_in, null_row, opening}
 use Rattle.core_machine.specs.Words.{is_blue}
@@ -99,6 +99,8 @@ opening_shaped cells rooms first some short six fits =
         fields_fit = rows_fit cells (cells - length first) first fits;
         held_fit = λ i place. subst (λ (own : Own). cell_at own.held place < cells)
             (sym (default_in (length rooms) i no_own)) some;
+        pendings_fit = λ i. subst (λ (own : Own). (pending_or_none own.pending).f ≤ 4)
+            (sym (default_in (length rooms) i no_own)) (omega arith);
         scan_fits = tt;
       };
       control_fits = record { stage_fits = (refl, refl); cycles_fit = omega arith };
