@@ -81,8 +81,10 @@ module _ (cells mutators : ℕ) (control : Control) (part : Collector) where
   there (event.Begin i) made within h = let no = made in absurd cc
   there (event.Look i) made within h = let no = made in absurd cc
   there (event.Read i place f) made within h = let no = made in absurd cc
+  there (event.Fetch i place f) made within h = let no = made in absurd cc
   there (event.Mark i place) made within h = let no = made in absurd cc
   there (event.Write i place f old new) made within h = let no = made in absurd cc
+  there (event.Store i new) made within h = let no = made in absurd cc
   there (event.Claim i c) made within h = let no = made in absurd cc
   there (event.Fill i place f value) made within h = let no = made in absurd cc
   there (event.Seal i place of) made within h = let no = made in absurd cc

@@ -757,9 +757,11 @@ module _ (s : State) (st : Stack) (k : ℕ) (shaped : IsShaped s) (consistent : 
   phase_on (event.Begin i) found made may is on next room = let no = made in absurd cc
   phase_on (event.Look i) found made may is on next room = let no = made in absurd cc
   phase_on (event.Read i place f) found made may is on next room = let no = made in absurd cc
+  phase_on (event.Fetch i place f) found made may is on next room = let no = made in absurd cc
   phase_on (event.Mark i place) found made may is on next room = let no = made in absurd cc
   phase_on (event.Write i place f old new) found made may is on next room =
       let no = made in absurd cc
+  phase_on (event.Store i new) found made may is on next room = let no = made in absurd cc
   phase_on (event.Claim i c) found made may is on next room = let no = made in absurd cc
   phase_on (event.Fill i place f value) found made may is on next room =
       let no = made in absurd cc

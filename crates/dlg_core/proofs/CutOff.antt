@@ -32,17 +32,23 @@ child_needs_gray s k none d h =
 
 -- with no gray cell the white cells are cut off
 pub white_cut_off : (s : State) → IsConsistent s → ((d : ℕ) → colour_of s d ≢ colour.Gray)
-    → IsCutOff s.colours s.rows s.collector.scan (λ d. is_white (colour_of s d))
+    → IsCutOff s.owns s.colours s.rows s.collector.scan (λ d. is_white (colour_of s d))
 white_cut_off s k none = record {
   white = (λ d h. is_white_is (colour_of s d) h);
   child = (λ d h. absurd (child_needs_gray s k none d h));
-  gray = (λ d e f gray unread n. absurd (none d gray));
-  outside = (λ d e f white out n. absurd (let h = white_is_white (colour_of s d) white in cc));
+  gray = (λ d e f gray unread n sure. absurd (none d gray));
+  outside = (λ d e f white out n sure. absurd (let h = white_is_white (colour_of s d) white in cc));
 }
+
+-- what is outside in either case is outside, whether or not the case can be told
+pub outside_either : (Case : Type 0) (in_set : Bool) → (Case → in_set ≡ false)
+    → (¬ Case → in_set ≡ false) → in_set ≡ false
+outside_either Case true here there = there (λ is. absurd (let out = here is in cc))
+outside_either Case false here there = refl
 
 -- a cell that is not white is in no set that is cut off
 pub not_white_outside : (s : State) (set : ℕ → Bool) (c : ℕ)
-    → IsCutOff s.colours s.rows s.collector.scan set
+    → IsCutOff s.owns s.colours s.rows s.collector.scan set
     → colour_of s c ≢ colour.White → set c ≡ false
 not_white_outside s set c cut nowhite = elim (set c) as (λ b. set c ≡ b → set c ≡ false) [
   | true ↦ λ in_set. absurd (nowhite (cut.white c in_set))

@@ -53,6 +53,36 @@ holds_place (p ∷ ps) zero lt = or_here (p.cell == p.cell) _ (eq-eqb p.cell p.c
 holds_place (p ∷ ps) (suc place) lt = or_later (p.cell == cell_at ps place) _
     (holds_place ps place (omega arith))
 
+-- Places stand where they stood.
+
+-- one cell more leaves each place
+pub cell_at_more : (held : List Held) (w place : ℕ) → place < length held
+    → cell_at (held ++ found_at w ∷ []) place ≡ cell_at held place
+cell_at_more [] w place lt = absurd (omega arith)
+cell_at_more (p ∷ ps) w zero lt = refl
+cell_at_more (p ∷ ps) w (suc place) lt = cell_at_more ps w place (omega arith)
+
+pub there_more : (held : List Held) (w place : ℕ) → place < length held
+    → place < length (held ++ found_at w ∷ [])
+there_more [] w place lt = absurd (omega arith)
+there_more (p ∷ ps) w zero lt = omega arith
+there_more (p ∷ ps) w (suc place) lt =
+    let more = there_more ps w place (omega arith) in omega arith
+
+-- and what was held
+pub holds_still : (held : List Held) (w c : ℕ) → holds held c ≡ true
+    → holds (held ++ found_at w ∷ []) c ≡ true
+holds_still [] w c h = absurd cc
+holds_still (p ∷ ps) w c h = elim (or_cases (p.cell == c) _ h) [
+  | inl here ↦ or_here (p.cell == c) _ here
+  | inr there ↦ or_later (p.cell == c) _ (holds_still ps w c there)
+]
+
+-- the new one is held
+pub holds_new : (held : List Held) (w : ℕ) → holds (held ++ found_at w ∷ []) w ≡ true
+holds_new [] w = or_here (w == w) false (eq-eqb w w refl)
+holds_new (p ∷ ps) w = or_later (p.cell == w) _ (holds_new ps w)
+
 -- what holds of each place holds of each that is kept
 pub all_kept : (P : Held → Type 0) (held : List Held) (count from copies : ℕ) → All P held
     → All P (kept held count from copies)
@@ -88,3 +118,16 @@ holds_marking [] c d = refl
 holds_marking (p ∷ ps) c d =
     ap (λ x. (x == d) || holds (map (mark_of c) ps) d) (cell_of_mark c p)
     ∙ ap (λ b. (p.cell == d) || b) (holds_marking ps c d)
+
+pub cell_at_marking : (held : List Held) (c place : ℕ)
+    → cell_at (map (mark_of c) held) place ≡ cell_at held place
+cell_at_marking [] c place = refl
+cell_at_marking (p ∷ ps) c zero = cell_of_mark c p
+cell_at_marking (p ∷ ps) c (suc place) = cell_at_marking ps c place
+
+pub there_marking : (held : List Held) (c place : ℕ) → place < length held
+    → place < length (map (mark_of c) held)
+there_marking [] c place lt = absurd (omega arith)
+there_marking (p ∷ ps) c zero lt = omega arith
+there_marking (p ∷ ps) c (suc place) lt =
+    let more = there_marking ps c place (omega arith) in omega arith

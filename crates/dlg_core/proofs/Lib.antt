@@ -4,6 +4,7 @@ pub mod Claimed
 pub mod Collects
 pub mod Computes
 pub mod CutOff
+pub mod Doubtful
 pub mod Each
 pub mod Finishing
 pub mod HeldLists

@@ -17,10 +17,11 @@ use Rattle.core_machine.specs.Places.{holds}
 use Rattle.core_machine.specs.State.{opening, null_row, no_presence, opening_presence, colour_of}
 use Rattle.core_machine.specs.State.{row_in, field_in, field_of, own_of, presence_of}
 use Rattle.core_machine.specs.Words.{is_raw_kind, is_box_kind}
-use Rattle.dlg_core.specs.Consistent.{IsConsistent, MarkStands, NoRawBlack}
+use Rattle.dlg_core.specs.Consistent.{IsConsistent, HoldsNothing, MarkStands, NoRawBlack}
 use Rattle.dlg_core.specs.Facts.{is_kind_field, is_live, live, status_fits, IsStaleMode}
 use Rattle.dlg_core.specs.FirstRows.{is_first_value, is_sealed_kind, is_first_row, are_first_rows}
 use Rattle.dlg_core.proofs.Changes.Live.{not_sweeping, live_outside}
+use Rattle.dlg_core.proofs.Doubtful.{no_pending}
 
 -- Lists.
 
@@ -129,7 +130,7 @@ opening_consistent cells rooms first few h =
         answered = (λ i lt e. absurd cc);
         modes = (λ i. subst (λ o. IsStaleMode (presence_of s i).status o.mode s.control)
             (sym (own i)) tt);
-        out = (λ i o. (ap (λ x. x.held) (own i), ap (λ x. x.mode) (own i)));
+        out = (λ i o. subst HoldsNothing (sym (own i)) (refl, refl, refl));
         marks = (λ i m. subst (λ o. All (MarkStands s.colours) o.held) (sym (own i))
             (All-nil (MarkStands s.colours)));
       };
@@ -161,6 +162,8 @@ opening_consistent cells rooms first few h =
             ≡ false = ap (λ o. holds o.held c) (own i) in cc));
         raw_not_black = (λ i e. subst (λ o. All (NoRawBlack s.colours s.rows) o.held) (sym (own i))
             (All-nil (NoRawBlack s.colours s.rows)));
+        pendings = (λ i. no_pending (presence_of s i).status (own_of s i) s.rows
+            (ap (λ x. x.pending) (own i)));
       };
       tracing = record {
         cleared = (λ c e. absurd cc);

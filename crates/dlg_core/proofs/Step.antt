@@ -10,7 +10,7 @@ use Rattle.dlg_core.proofs.Keeps.Answer.{answer_keeps}
 use Rattle.dlg_core.proofs.Keeps.Blacken.{blacken_keeps}
 use Rattle.dlg_core.proofs.Keeps.Claim.{claim_keeps}
 use Rattle.dlg_core.proofs.Keeps.Clear.{clear_keeps, anchor_keeps}
-use Rattle.dlg_core.proofs.Keeps.Holding.{look_keeps, read_keeps, keep_keeps}
+use Rattle.dlg_core.proofs.Keeps.Holding.{look_keeps, read_keeps, fetch_keeps, keep_keeps}
 use Rattle.dlg_core.proofs.Keeps.Mark.{mark_keeps}
 use Rattle.dlg_core.proofs.Keeps.Post.{post_keeps}
 use Rattle.dlg_core.proofs.Keeps.Presence.{begin_keeps, end_keeps, over_keeps}
@@ -19,16 +19,18 @@ use Rattle.dlg_core.proofs.Keeps.Sweep.{sweep_look_keeps, wipe_keeps, free_keeps
 use Rattle.dlg_core.proofs.Keeps.Sweep.{advance_keeps}
 use Rattle.dlg_core.proofs.Keeps.Trace.{see_keeps, scan_keeps, shade_keeps}
 use Rattle.dlg_core.proofs.Keeps.Waiting.{duty_keeps, poll_keeps, answer_out_keeps}
-use Rattle.dlg_core.proofs.Keeps.Write.{write_keeps, fill_keeps}
+use Rattle.dlg_core.proofs.Keeps.Write.{write_keeps, store_keeps, fill_keeps}
 
 pub consistent_after : (s : State) (e : Event) → IsShaped s → IsConsistent s → can s e ≡ true
     → IsConsistent (after s e)
 consistent_after s (event.Begin i) range k h = begin_keeps s i k h
 consistent_after s (event.Look i) range k h = look_keeps s i range k h
 consistent_after s (event.Read i place f) range k h = read_keeps s i place f k h
+consistent_after s (event.Fetch i place f) range k h = fetch_keeps s i place f k h
 consistent_after s (event.Mark i place) range k h = mark_keeps s i place range k h
 consistent_after s
     (event.Write i place f old new) range k h = write_keeps s i place f old new range k h
+consistent_after s (event.Store i new) range k h = store_keeps s i new range k h
 consistent_after s (event.Claim i c) range k h = claim_keeps s i c range k h
 consistent_after s (event.Fill i place f value) range k h = fill_keeps s i place f value range k h
 consistent_after s (event.Seal i place kind) range k h = seal_keeps s i place kind range k h

@@ -234,10 +234,13 @@ balanced_after first s e range consistent h k =
       | event.Look i ↦ λ h. own i _ refl
       | event.Read i place f ↦ λ h. own i _
           (read_claims (own_of s i) (field_of s (target_of s i place) f))
+      | event.Fetch i place f ↦ λ h. own i _
+          (read_claims (own_of s i) (field_of s (target_of s i place) f))
       | event.Mark i place ↦ λ h. own_balances first _ s.owns s.collector.times_freed
           s.collector.number_freed i _ refl
           (tinted (target_of s i place) _ (shaded_used (colour_of s (target_of s i place))))
       | event.Write i place f old new ↦ λ h. own i _ refl
+      | event.Store i new ↦ λ h. own i _ refl
       | event.Claim i c ↦ λ h. claim_balanced first s i c range h k
       | event.Fill i place f value ↦ λ h. k
       | event.Seal i place kind ↦ λ h. k

@@ -1,15 +1,17 @@
 -- What the tests of the definitions say.
 use Rattle.std.proofs.Common.{◌≡◌, ◌⊎◌, inl, inr, ◌||◌, Bool, true, false, cond, refl, ℕ, zero, suc}
-use Rattle.std.proofs.Common.{List, [], get_or, Option, Some, None, is_none, ◌∷◌, ap, ◌<◌}
+use Rattle.std.proofs.Common.{List, [], get_or, Option, Some, None, is_none, is_some, ◌∷◌, ap, ◌<◌}
 use Rattle.cell_words.specs.declared.controls.Stage.{Stage}
 use Rattle.cell_words.specs.declared.controls.Stage.TheVariants as stage
 use Rattle.cell_words.specs.declared.presences.Status.{Status}
 use Rattle.cell_words.specs.declared.presences.Status.TheVariants as status
+use Rattle.core_machine.specs.Own.{pending_or_none}
 use Rattle.core_machine.specs.Words.{same_status, is_raw_kind, is_box_kind}
 use Rattle.std.proofs.lemmas.Bool.{and_parts, ltb-true, eqb-true}
 use Rattle.dlg_core.specs.Facts.{all_in, async_fits}
 use Rattle.cell_words.specs.declared.fields.Field.{Field}
 use Rattle.cell_words.specs.declared.fields.Field.TheVariants as field
+use Rattle.core_machine.specs.declared.pending.Pending.{Pending}
 use Rattle.core_machine.specs.declared.progress.Scanning.{Scanning}
 use Rattle.core_machine.specs.declared.progress.Sweeping.{Sweeping}
 use Rattle.core_machine.specs.declared.progress.Sweeping.TheVariants as sweeping
@@ -67,6 +69,20 @@ pub box_not_raw : (x : Field) → is_box_kind x ≡ true → is_raw_kind x ≡ f
 box_not_raw field.Null h = absurd cc
 box_not_raw (field.Num n) h = refl
 box_not_raw (field.Cell c) h = refl
+
+-- Pending writes.
+
+pub settled_is : (pending : Option Pending) → is_some pending ≡ false → pending ≡ None
+settled_is None h = refl
+settled_is (Some write) h = absurd cc
+
+-- where one is pending it is this one
+pub begun_is : (pending : Option Pending) → is_some pending ≡ true
+    → pending ≡ Some (pending_or_none pending)
+begun_is None h = absurd cc
+begun_is (Some write) h = refl
+
+-- The collector's progress.
 
 pub no_scan_is : (scan : Option Scanning) → is_none scan ≡ true → scan ≡ None
 no_scan_is None h = refl

@@ -8,17 +8,18 @@ use Rattle.core_machine.specs.declared.events.Event.TheVariants as event
 use Rattle.core_machine.specs.declared.progress.Sweeping.TheVariants as sweeping
 use Rattle.core_machine.specs.InRange.{IsShaped}
 use Rattle.core_machine.specs.Next.{can, after}
-use Rattle.core_machine.specs.State.{State, field_in, field_of, target_of, set_field}
+use Rattle.core_machine.specs.State.{State, field_in, field_of, own_of, target_of, begun_of}
+use Rattle.core_machine.specs.State.{set_field}
 use Rattle.core_machine.specs.Sweep.{wiped_count}
 use Rattle.core_machine.specs.Words.{is_box_kind, is_raw_kind}
-use Rattle.core_machine.proofs.Conditions.{write_needs, fill_needs, seal_needs}
+use Rattle.core_machine.proofs.Conditions.{write_needs, store_needs, fill_needs, seal_needs}
 use Rattle.core_machine.proofs.Frames.{set_field_other}
 use Rattle.dlg_core.specs.Consistent.{IsConsistent}
 use Rattle.dlg_core.specs.Facts.{is_live, live, unswept}
 use Rattle.dlg_core.specs.Reachable.{Reachable}
 use Rattle.dlg_core.proofs.Changes.Shade.{here_unswept}
 use Rattle.dlg_core.proofs.Safety.{reachable_live}
-use Rattle.dlg_core.proofs.Truths.{wipe_is}
+use Rattle.dlg_core.proofs.Truths.{wipe_is, begun_is}
 use Rattle.dlg_core.proofs.Changes.Sweep.{busy_now}
 
 -- the cell that is being wiped is not live
@@ -62,6 +63,12 @@ record_kept s (event.Write i place g old new) c f range k h reachable is =
     let x = target_of s i place in
     beside s x g c f _ (apart s c x is_box_kind false true (ap is_box_kind is)
     (write_needs s i place g old new h).box (λ e. cc))
+record_kept s (event.Store i new) c f range k h reachable is =
+    let write = begun_of s i in
+    let begun = begun_is (own_of s i).pending (store_needs s i new h).begun in
+    let x = target_of s i write.place in
+    beside s x write.f c f _ (apart s c x is_box_kind false true (ap is_box_kind is)
+    (k.cells.pendings i write begun).box (λ e. cc))
 record_kept s (event.Fill i place g value) c f range k h reachable is =
     let x = target_of s i place in
     beside s x g c f _ (apart s c x is_raw_kind false true (ap is_raw_kind is)

@@ -25,6 +25,7 @@ use Rattle.core_machine.specs.State.{State, colour_in, field_in, presence_in, ow
 use Rattle.core_machine.specs.Words.{is_handshake, is_raw_kind, is_box_kind}
 use Rattle.core_machine.specs.Own.{Own}
 use Rattle.core_machine.specs.Places.{holds}
+use Rattle.dlg_core.specs.Doubt.{IsDoubtful, Pendings}
 use Rattle.dlg_core.specs.Facts.{status_fits, IsStaleMode, marks_count, is_kind_field, unswept}
 use Rattle.dlg_core.specs.Facts.{live, is_cleared, anchor_counts, all_in, child_in, scanned_count}
 use Rattle.dlg_core.specs.Facts.{is_open}
@@ -47,10 +48,14 @@ abbrev pub Modes : Control → List Presence → List Own → Type 0
 Modes now presences owns = (i : ℕ)
     → IsStaleMode (presence_in presences i).status (own_in owns i).mode now
 
--- who is out holds nothing and has no mode
+-- nothing is held, there is no mode, and no write is pending
+abbrev pub HoldsNothing : Own → Type 0
+HoldsNothing own = (own.held ≡ []) × (own.mode ≡ None) × (own.pending ≡ None)
+
+-- so it is with who is out
 abbrev pub OutHoldsNothing : List Presence → List Own → Type 0
 OutHoldsNothing presences owns = (i : ℕ) → (presence_in presences i).inside ≡ false
-    → ((own_in owns i).held ≡ []) × ((own_in owns i).mode ≡ None)
+    → HoldsNothing (own_in owns i)
 
 -- a marked place has no white cell
 abbrev pub MarkStands : List Colour → Held → Type 0
@@ -117,20 +122,22 @@ abbrev pub AnchorIsMarked : Stage → Bool → List Colour → Type 0
 AnchorIsMarked now marked colours = anchor_counts now marked ≡ true → colour_in colours 0 ≢ White
 
 -- A set of white cells that the collector cannot come to: neither the child nor an open field of a
--- gray cell is in it, and no white cell outside names a cell of it.
-pub record IsCutOff (colours : List Colour) (rows : List (List Field)) (scan : Option Scanning)
-    (set : ℕ → Bool) : Type 0 where
+-- gray cell is in it, and no white cell outside names a cell of it. No way leads over a doubtful
+-- field.
+pub record IsCutOff (owns : List Own) (colours : List Colour) (rows : List (List Field))
+    (scan : Option Scanning) (set : ℕ → Bool) : Type 0 where
   pub white : (c : ℕ) → set c ≡ true → colour_in colours c ≡ White
   pub child : (c : ℕ) → child_in scan ≡ Some c → set c ≡ false
   pub gray : (c d f : ℕ) → colour_in colours c ≡ Gray → is_open scan c f ≡ true → field_in rows c f
       ≡ Cell d
-      → set d ≡ false
+      → ¬ (IsDoubtful owns c f (Cell d)) → set d ≡ false
   pub outside : (c d f : ℕ) → colour_in colours c ≡ White → set c ≡ false → field_in rows c f
       ≡ Cell d
-      → set d ≡ false
+      → ¬ (IsDoubtful owns c f (Cell d)) → set d ≡ false
 
 -- No cell of the set is one that the collector has to come to: a black cell names none, no scanned
--- field of the cell under scan is one, and an async mutator holds none.
+-- field of the cell under scan is one, an async mutator holds none, and no doubtful field names
+-- one.
 pub record IsNotDue (presences : List Presence) (owns : List Own) (colours : List Colour)
     (rows : List (List Field)) (scan : Option Scanning) (set : ℕ → Bool) : Type 0 where
   pub black : (c d f : ℕ) → colour_in colours c ≡ Black → field_in rows c f ≡ Cell d → set d ≡ false
@@ -139,12 +146,14 @@ pub record IsNotDue (presences : List Presence) (owns : List Own) (colours : Lis
       → set d ≡ false
   pub held : (i : ℕ) → (presence_in presences i).status ≡ Async
       → All (λ place. set place.cell ≡ false) (own_in owns i).held
+  pub doubtful : (c d f : ℕ) → IsDoubtful owns c f (Cell d) → field_in rows c f ≡ Cell d
+      → set d ≡ false
 
 -- while the collector traces, nothing that it has to come to is cut off from it
 abbrev pub Traced : Stage → List Presence → List Own → List Colour → List (List Field)
     → Option Scanning → Type 0
 Traced now presences owns colours rows scan = now ≡ stage.Trace → (set : ℕ → Bool)
-    → IsCutOff colours rows scan set → IsNotDue presences owns colours rows scan set
+    → IsCutOff owns colours rows scan set → IsNotDue presences owns colours rows scan set
 
 -- in a clean pass, where a cell is gray, one is gray that the pass has still to come to
 abbrev pub CleanPass : Stage → Bool → ℕ → List Colour → Type 0
@@ -209,6 +218,7 @@ pub record CellsConsistent (control : Control) (presences : List Presence) (owns
   pub names_live : NamesAreLive colours control sweep rows
   pub raw_once : RawIsHeldOnce rows owns
   pub raw_not_black : RawIsNotBlack presences owns colours rows
+  pub pendings : Pendings presences owns rows
 
 pub record TracingConsistent (now : Stage) (presences : List Presence) (owns : List Own)
     (colours : List Colour) (rows : List (List Field)) (answers : List Bool) (marked : Bool)

@@ -1,5 +1,6 @@
 pub mod Collects
 pub mod Consistent
+pub mod Doubt
 pub mod Facts
 pub mod FirstRows
 pub mod Kept

@@ -21,6 +21,6 @@ mod reachability;
 mod search;
 pub mod theorems;
 
-pub use core_machine::{Event, Found, Held, NotNow, Scanning, Sweeping, Taken};
+pub use core_machine::{Event, Found, Held, NotNow, Pending, Scanning, Sweeping, Taken};
 pub use machine::{Core, NotNowAt};
 pub use std::alloc::AllocError as NoMemory;

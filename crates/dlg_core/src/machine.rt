@@ -3,8 +3,8 @@ ghost use Rattle.cell_words.specs.declared.fields.Field.{Field};
 ghost use Rattle.core_machine.specs.Takes.{Takes};
 ghost use Rattle.core_machine.specs.Next.{next};
 ghost use Rattle.core_machine.specs.State.{colour_of, field_of, free_count_of, freed_of};
-ghost use Rattle.core_machine.specs.State.{greatest_cells, held_of, opening, presence_of};
-ghost use Rattle.core_machine.specs.State.{target_of};
+ghost use Rattle.core_machine.specs.State.{greatest_cells, held_of, opening, own_of};
+ghost use Rattle.core_machine.specs.State.{presence_of, target_of};
 ghost use Rattle.dlg_core.specs.Collects.{Collects};
 ghost use Rattle.dlg_core.specs.FirstRows.{are_first_rows};
 ghost use Rattle.dlg_core.specs.Runs.{LeadsTo, StopsAt};
@@ -13,7 +13,7 @@ ghost use Rattle.std.specs.Prelude.{IfErr, IfOk, IsTrue, OnOk, length, replicate
 
 use crate::NoMemory;
 use cell_words::{Colour, Control, Field, Presence, Row};
-use core_machine::{Event, Machine, NotNow};
+use core_machine::{Event, Machine, NotNow, Pending};
 use std::alloc::Global;
 use std::marker::Model;
 
@@ -150,6 +150,14 @@ impl Core {
         ensures cell { result ≡ target_of self.now m place }
     {
         self.machine.held(m, place)
+    }
+
+    /// The write that mutator `m` has begun and not ended.
+    pub fn pending(&self, m: u32) -> Option<Pending>
+        requires { m < self.now.mutators }
+        ensures pending { result ≡ (own_of self.now m).pending }
+    {
+        self.machine.pending(m)
     }
 
     pub fn control(&self) -> Control

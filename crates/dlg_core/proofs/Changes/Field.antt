@@ -1,7 +1,8 @@
 -- A payload field of a live cell gets another value.
 --
 -- An edge that goes away and does not end in a white cell is none of which a set that is cut off
--- knows. An edge that comes makes it only harder to be cut off, but its end may have become due.
+-- knows, and neither is one over a doubtful field. An edge that comes makes it only harder to be
+-- cut off, but its end may have become due.
 use Rattle.std.proofs.Common.{◌≡◌, ◌≢◌, ◌⊎◌, inl, inr, ℕ, Bool, true, false, Some, ◌<◌, refl, sym}
 use Rattle.std.proofs.Common.{subst, ◌∙◌, ap, arith}
 use Rattle.std.proofs.lemmas.List.Elements.{All-weaker}
@@ -13,7 +14,9 @@ use Rattle.core_machine.specs.declared.progress.Scanning.{Scanning}
 use Rattle.core_machine.specs.State.{State, colour_of, field_of, own_in, set_field}
 use Rattle.core_machine.specs.Words.{is_raw_kind, is_box_kind}
 use Rattle.core_machine.specs.InRange.{IsShaped}
+use Rattle.core_machine.specs.Places.{cell_at}
 use Rattle.dlg_core.specs.Consistent.{IsConsistent, IsCutOff, IsNotDue, NoRawBlack}
+use Rattle.dlg_core.specs.Doubt.{IsDoubtful}
 use Rattle.dlg_core.specs.Facts.{live, is_kind_field, scanned_count}
 use Rattle.dlg_core.proofs.Changes.Shade.{wiped_not_live}
 use Rattle.dlg_core.proofs.Each.{field_each}
@@ -30,15 +33,16 @@ pub record FieldFits (s : State) (c f : ℕ) (x : Field) : Type 0 where
   pub names : (w : ℕ) → x ≡ Cell w
       → (live s.colours s.control s.collector.sweep w ≡ true)
       × (is_raw_kind (field_of s w 5) ≡ false)
-  -- what was named is named still, or is not white
+  -- what was named is named still, or is not white, unless the field is doubtful
   pub gone : s.control.stage ≡ stage.Trace → (w : ℕ) → field_of s c f ≡ Cell w
-      → (x ≡ Cell w) ⊎ (colour_of s w ≢ White)
+      → ¬ (IsDoubtful s.owns c f (Cell w)) → (x ≡ Cell w) ⊎ (colour_of s w ≢ White)
   -- what is named is in no set that was cut off, where that makes it due
   pub due : s.control.stage ≡ stage.Trace → (set : ℕ → Bool)
-      → IsCutOff s.colours s.rows s.collector.scan set
+      → IsCutOff s.owns s.colours s.rows s.collector.scan set
       → IsNotDue s.presences s.owns s.colours s.rows s.collector.scan set → (w : ℕ) → x ≡ Cell w
       → (colour_of s c ≡ Black)
-      ⊎ ((y : Scanning) × (s.collector.scan ≡ Some y) × (c ≡ y.cell) × (f < scanned_count y))
+      ⊎ (((y : Scanning) × (s.collector.scan ≡ Some y) × (c ≡ y.cell) × (f < scanned_count y))
+      ⊎ IsDoubtful s.owns c f (Cell w))
       → set w ≡ false
 
 -- the kind fields stay
@@ -78,32 +82,40 @@ field_kept s c f x range k fits =
             (NoRawBlack s.colours t.rows)
             (λ p h raw. h (sym (ap is_raw_kind (five p.cell)) ∙ raw)) (own_in s.owns i).held
             (k.cells.raw_not_black i sync2));
+        pendings = (λ i write e. let r = k.cells.pendings i write e in record {
+          lets = r.lets;
+          there = r.there;
+          payload = r.payload;
+          box = ap is_box_kind (five (cell_at (own_in s.owns i).held write.place)) ∙ r.box;
+          found_held = r.found_held;
+        });
       };
       tracing = record {
         cleared = k.tracing.cleared;
         anchor_marked = k.tracing.anchor_marked;
         traced = (λ now set cut.
             let stays : (d e g : ℕ) → field_of s d g ≡ Cell e
-            → (field_of t d g ≡ Cell e) ⊎ (set e ≡ false)
+            → ¬ (IsDoubtful s.owns d g (Cell e)) → (field_of t d g ≡ Cell e) ⊎ (set e ≡ false)
             = (λ d e g. field_each
-            (λ a h y. field_of s a h ≡ Cell e → (y ≡ Cell e) ⊎ (set e ≡ false)) s.rows c f x
-            (λ is. elim (fits.gone now e is) [
+            (λ a h y. field_of s a h ≡ Cell e → ¬ (IsDoubtful s.owns a h (Cell e))
+            → (y ≡ Cell e) ⊎ (set e ≡ false)) s.rows c f x
+            (λ is sure. elim (fits.gone now e is sure) [
               | inl named ↦ inl named
               | inr dark ↦ inr (elim (set e) as (λ b. set e ≡ b → set e ≡ false) [
                 | true ↦ λ h. absurd (dark (cut.white e h))
                 | false ↦ λ h. h
               ] refl)
             ])
-            (λ a h is. inl is) d g) in
-            let before : IsCutOff s.colours s.rows s.collector.scan set = record {
+            (λ a h is sure. inl is) d g) in
+            let before : IsCutOff s.owns s.colours s.rows s.collector.scan set = record {
               white = cut.white;
               child = cut.child;
-              gray = (λ d e g gray unread n. elim (stays d e g n) [
-                | inl named ↦ cut.gray d e g gray unread named
+              gray = (λ d e g gray unread n sure. elim (stays d e g n sure) [
+                | inl named ↦ cut.gray d e g gray unread named sure
                 | inr out ↦ out
               ]);
-              outside = (λ d e g white out n. elim (stays d e g n) [
-                | inl named ↦ cut.outside d e g white out named
+              outside = (λ d e g white out n sure. elim (stays d e g n sure) [
+                | inl named ↦ cut.outside d e g white out named sure
                 | inr other ↦ other
               ]);
             } in
@@ -116,11 +128,16 @@ field_kept s c f x range k fits =
                   (λ a h v. a ≡ y.cell → h < scanned_count y → v ≡ Cell e → set e ≡ false) s.rows c
                   f x
                   (λ same below named. fits.due now set before old e named
-                  (inr (y, is, same, below)))
+                  (inr (inl (y, is, same, below))))
                   (λ a h same below named. old.scanned y e h is below
                   (subst (λ b. field_of s b h ≡ Cell e) same named))
                   y.cell g refl lt n);
               held = old.held;
+              doubtful = (λ d e g is n. field_each
+                  (λ a h y. IsDoubtful s.owns a h (Cell e) → y ≡ Cell e → set e ≡ false) s.rows c f
+                  x
+                  (λ doubt named. fits.due now set before old e named (inr (inr doubt)))
+                  (λ a h doubt named. old.doubtful a e h doubt named) d g is n);
             });
         clean_pass = k.tracing.clean_pass;
         pass_waits = k.tracing.pass_waits;

@@ -44,6 +44,7 @@ pass_kept s answered marked cursor clean scan k fits = record {
     names_live = k.cells.names_live;
     raw_once = k.cells.raw_once;
     raw_not_black = k.cells.raw_not_black;
+    pendings = k.cells.pendings;
   };
   tracing = fits.tracing;
   sweep = k.sweep;

@@ -1,9 +1,10 @@
 -- A mutator comes in, goes out or is over: its presence changes, and its status does not.
-use Rattle.std.proofs.Common.{◌≡◌, ℕ, true, false, [], None, refl, sym, subst, ◌∙◌}
+use Rattle.std.proofs.Common.{◌≡◌, ℕ, true, false, refl, sym, subst, ◌∙◌}
 use Rattle.std.specs.Prelude.{slice_set}
 use Rattle.cell_words.specs.declared.presences.Presence.{Presence}
 use Rattle.core_machine.specs.State.{State, own_in, presence_of, own_of}
-use Rattle.dlg_core.specs.Consistent.{IsConsistent}
+use Rattle.dlg_core.specs.Consistent.{IsConsistent, HoldsNothing}
+use Rattle.dlg_core.specs.Doubt.{IsPending}
 use Rattle.dlg_core.specs.Facts.{status_fits, IsStaleMode, marks_count}
 use Rattle.dlg_core.proofs.Each.{presence_each}
 
@@ -20,7 +21,7 @@ same_statuses s i p same j =
 
 pub presence_kept : (s : State) (i : ℕ) (p : Presence) → IsConsistent s
     → p.status ≡ (presence_of s i).status
-    → (p.inside ≡ false → ((own_of s i).held ≡ []) × ((own_of s i).mode ≡ None))
+    → (p.inside ≡ false → HoldsNothing (own_of s i))
     → IsConsistent (with_presence s i p)
 presence_kept s i p k same out =
     let to = same_statuses s i p same in
@@ -32,8 +33,7 @@ presence_kept s i p k same out =
         modes = (λ j. subst (λ own. IsStaleMode own (own_in s.owns j).mode s.control) (sym (to j))
             (k.mutators.modes j));
         out = presence_each
-            (λ j q. q.inside ≡ false → ((own_in s.owns j).held ≡ [])
-            × ((own_in s.owns j).mode ≡ None))
+            (λ j q. q.inside ≡ false → HoldsNothing (own_in s.owns j))
             s.presences i p out k.mutators.out;
         marks = (λ j m. k.mutators.marks j
             (subst (λ own. marks_count s.control.stage own ≡ true) (to j) m));
@@ -48,6 +48,8 @@ presence_kept s i p k same out =
         names_live = k.cells.names_live;
         raw_once = k.cells.raw_once;
         raw_not_black = (λ j sync2. k.cells.raw_not_black j (sym (to j) ∙ sync2));
+        pendings = (λ j write e. subst (λ own. IsPending own (own_in s.owns j) s.rows write)
+            (sym (to j)) (k.cells.pendings j write e));
       };
       tracing = record {
         cleared = k.tracing.cleared;
@@ -56,6 +58,7 @@ presence_kept s i p k same out =
           black = old.black;
           scanned = old.scanned;
           held = (λ j async. old.held j (sym (to j) ∙ async));
+          doubtful = old.doubtful;
         });
         clean_pass = k.tracing.clean_pass;
         pass_waits = k.tracing.pass_waits;

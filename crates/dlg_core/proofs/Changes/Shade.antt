@@ -182,29 +182,31 @@ shade_kept s c range k alive clean =
             (NoRawBlack t.colours s.rows)
             (λ p h raw black. h raw (black_was p.cell black)) (own_in s.owns i).held
             (k.cells.raw_not_black i sync2));
+        pendings = k.cells.pendings;
       };
       tracing = record {
         cleared = (λ d h black. k.tracing.cleared d h (black_was d black));
         anchor_marked = (λ h. not_white 0 (k.tracing.anchor_marked h));
         traced = (λ now set cut.
-            let before : IsCutOff s.colours s.rows s.collector.scan set = record {
+            let before : IsCutOff s.owns s.colours s.rows s.collector.scan set = record {
               white = (λ d is. white_was d (cut.white d is));
               child = cut.child;
-              gray = (λ d e f is unread n. cut.gray d e f (gray_is d is) unread n);
-              outside = (λ d e f is out n. elim (white_is d is) [
-                | inl white ↦ cut.outside d e f white out n
+              gray = (λ d e f is unread n sure. cut.gray d e f (gray_is d is) unread n sure);
+              outside = (λ d e f is out n sure. elim (white_is d is) [
+                | inl white ↦ cut.outside d e f white out n sure
                 | inr gray ↦ cut.gray d e f gray
                     (open_elsewhere s.collector.scan d f (λ y scans same. absurd
                     (let g = (k.tracing.scans y scans).gray in
                     let w : colour_of s y.cell
                     ≡ colour.White = subst (λ m. colour_of s m ≡ colour.White) same is in cc)))
-                    n
+                    n sure
               ]);
             } in
             let old = k.tracing.traced now set before in record {
               black = (λ d e f is n. old.black d e f (black_was d is) n);
               scanned = old.scanned;
               held = old.held;
+              doubtful = old.doubtful;
             });
         clean_pass = clean;
         pass_waits = k.tracing.pass_waits;

@@ -1,5 +1,6 @@
--- A mutator without a mode gets another status: it answers, or the collector answers for it.
-use Rattle.std.proofs.Common.{◌≡◌, ◌≢◌, ℕ, true, false, [], None, ◌<◌, sym, subst, slice_index_or}
+-- A mutator that has neither a mode nor a pending write gets another status: it answers, or the
+-- collector answers for it.
+use Rattle.std.proofs.Common.{◌≡◌, ◌≢◌, ℕ, true, false, None, ◌<◌, sym, subst, slice_index_or}
 use Rattle.std.proofs.Common.{Option, Some, arith, ◌≤◌, ◌∙◌}
 use Rattle.std.specs.List.{All}
 use Rattle.std.proofs.lemmas.List.Elements.{All-weaker}
@@ -9,11 +10,14 @@ use Rattle.cell_words.specs.declared.presences.Presence.{Presence}
 use Rattle.cell_words.specs.declared.presences.Status.{Status}
 use Rattle.cell_words.specs.declared.presences.Status.TheVariants as status
 use Rattle.cell_words.specs.Modes.{requested_of}
+use Rattle.core_machine.specs.declared.pending.Pending.{Pending}
 use Rattle.core_machine.specs.State.{State, colour_of, own_in, presence_of, own_of, held_of}
 use Rattle.core_machine.specs.Words.{is_handshake}
-use Rattle.dlg_core.specs.Consistent.{IsConsistent, MarkStands, NoRawBlack}
+use Rattle.dlg_core.specs.Consistent.{IsConsistent, HoldsNothing, MarkStands, NoRawBlack}
+use Rattle.dlg_core.specs.Doubt.{IsPending}
 use Rattle.dlg_core.specs.Facts.{status_fits, IsStaleMode, marks_count, mode_fits}
 use Rattle.dlg_core.proofs.Changes.Presence.{with_presence}
+use Rattle.dlg_core.proofs.Doubtful.{no_pending}
 use Rattle.dlg_core.proofs.Each.{presence_each}
 use Rattle.dlg_core.proofs.CutOff.{not_white_outside}
 use Rattle.cell_words.specs.declared.controls.Control.{Control}
@@ -25,6 +29,7 @@ with_status s i new = with_presence s i (record (presence_of s i) { status = new
 -- what the new status owes
 pub record StatusFits (s : State) (i : ℕ) (new : Status) : Type 0 where
   pub no_mode : (own_of s i).mode ≡ None
+  pub nothing_pending : (own_of s i).pending ≡ None
   pub fits : status_fits s.control.stage new ≡ true
   pub requested : is_handshake s.control.stage ≡ true → new ≡ requested_of s.control.stage
   pub marks : marks_count s.control.stage new ≡ true → All (MarkStands s.colours) (held_of s i)
@@ -50,8 +55,7 @@ status_kept s i new k fits =
             (λ j q. IsStaleMode q.status (own_in s.owns j).mode s.control) s.presences i p
             (subst (λ m. IsStaleMode new m s.control) (sym fits.no_mode) tt) k.mutators.modes;
         out = presence_each
-            (λ j q. q.inside ≡ false → ((own_in s.owns j).held ≡ [])
-            × ((own_in s.owns j).mode ≡ None)) s.presences i p
+            (λ j q. q.inside ≡ false → HoldsNothing (own_in s.owns j)) s.presences i p
             (k.mutators.out i) k.mutators.out;
         marks = presence_each
             (λ j q. marks_count s.control.stage q.status ≡ true
@@ -71,6 +75,10 @@ status_kept s i new k fits =
             (λ j q. q.status ≡ status.Sync2
             → All (NoRawBlack s.colours s.rows) (own_in s.owns j).held)
             s.presences i p fits.raw_not_black k.cells.raw_not_black;
+        pendings = presence_each
+            (λ j q. (write : Pending) → (own_in s.owns j).pending ≡ Some write
+            → IsPending q.status (own_in s.owns j) s.rows write) s.presences i p
+            (no_pending new (own_of s i) s.rows fits.nothing_pending) k.cells.pendings;
       };
       tracing = record {
         cleared = k.tracing.cleared;
@@ -87,6 +95,7 @@ status_kept s i new k fits =
               (λ place dark. not_white_outside s set place.cell cut dark) (held_of s i)
               (fits.due now async))
               old.held;
+          doubtful = old.doubtful;
         });
         clean_pass = k.tracing.clean_pass;
         pass_waits = k.tracing.pass_waits;

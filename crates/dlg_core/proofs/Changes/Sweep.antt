@@ -18,6 +18,7 @@ use Rattle.core_machine.specs.Words.{is_raw_kind, same_stage}
 use Rattle.core_machine.specs.InRange.{IsShaped, StageFits, SweepFits}
 use Rattle.dlg_core.specs.Consistent.{IsConsistent, AnchorIsBox, KindsAreKinds, BlueIsNull}
 use Rattle.dlg_core.specs.Consistent.{RawIsHeldOnce, UnsweptIsNotGray, Wipes, FoundIsBlack}
+use Rattle.dlg_core.specs.Doubt.{Pendings}
 use Rattle.dlg_core.specs.Facts.{live, unswept, status_fits, marks_count, is_cleared, anchor_counts}
 use Rattle.dlg_core.proofs.Changes.Live.{live_moves, status_known}
 use Rattle.dlg_core.proofs.Changes.Status.{stale_on}
@@ -52,6 +53,7 @@ pub record SweepStep (s : State) (colours : List Colour) (rows : List (List Fiel
       → (live s.colours s.control s.collector.sweep d ≡ true)
       × (is_raw_kind (field_in rows d 5) ≡ false)
   pub raw_once : RawIsHeldOnce rows s.owns
+  pub pendings : Pendings s.presences s.owns rows
   pub unswept : UnsweptIsNotGray colours (at_position s.control p) sweep
   pub wipes : Wipes colours rows p sweep
   pub found_black : FoundIsBlack colours p sweep
@@ -111,6 +113,7 @@ sweep_kept s colours rows p sweep times number range k step =
         names_live = lives.names;
         raw_once = step.raw_once;
         raw_not_black = (λ i sync2. absurd (let a = async i in cc));
+        pendings = step.pendings;
       };
       tracing = record {
         cleared = (λ c h. absurd (let never : is_cleared stage.Sweep s.collector.cursor c ≡ true

@@ -6,12 +6,13 @@ use Rattle.core_machine.specs.Own.{looked, spent, ended}
 use Rattle.core_machine.specs.State.{State, own_of, held_of}
 use Rattle.core_machine.specs.InRange.{IsShaped}
 use Rattle.core_machine.specs.Next.{can, after}
-use Rattle.core_machine.proofs.Conditions.{read_needs, mark_needs}
+use Rattle.core_machine.proofs.Conditions.{read_needs, fetch_needs, mark_needs}
 use Rattle.dlg_core.specs.Consistent.{IsConsistent}
 use Rattle.dlg_core.proofs.Collects.Followed.{IsFollowed}
 use Rattle.dlg_core.proofs.Collects.Mutating.{own_followed, beside_followed, begin_followed}
-use Rattle.dlg_core.proofs.Collects.Mutating.{unmark_followed, read_followed, mark_followed}
-use Rattle.dlg_core.proofs.Collects.Mutating.{keep_followed, write_followed, fill_followed}
+use Rattle.dlg_core.proofs.Collects.Mutating.{unmark_followed, read_followed, fetch_followed}
+use Rattle.dlg_core.proofs.Collects.Mutating.{mark_followed, keep_followed, write_followed}
+use Rattle.dlg_core.proofs.Collects.Mutating.{store_followed, fill_followed}
 use Rattle.dlg_core.proofs.Collects.Mutating.{seal_followed, claim_followed}
 use Rattle.dlg_core.proofs.Collects.Posting.{post_followed, duty_followed, poll_followed}
 use Rattle.dlg_core.proofs.Collects.Posting.{answer_out_followed}
@@ -29,11 +30,14 @@ followed_after old s (event.Look i) range consistent h k =
     unmark_followed old s i (looked (own_of s i) s.control) (λ c. holds_unmark (held_of s i) c) k
 followed_after old s (event.Read i place f) range consistent h k =
     read_followed old s i place f (read_needs s i place f h).there k
+followed_after old s (event.Fetch i place f) range consistent h k =
+    fetch_followed old s i place f (fetch_needs s i place f h).there k
 followed_after old s (event.Mark i place) range consistent h k =
     mark_followed old s i place (mark_needs s i place h).there k
 followed_after old s
     (event.Write i place f expected value) range consistent h k = write_followed old s i place f
     expected value h k
+followed_after old s (event.Store i new) range consistent h k = store_followed old s i new h k
 followed_after old s (event.Claim i c) range consistent h k = claim_followed old s i c k
 followed_after old s
     (event.Fill i place f value) range consistent h k = fill_followed old s i place f value h k

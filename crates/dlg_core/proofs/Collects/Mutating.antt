@@ -1,10 +1,10 @@
 -- The events of mutators: whatever they come to hold or write is held or named by a held cell, so
 -- it is outside of the set that is followed, and it stays outside.
 --
--- Mark, Claim  change the colour of a cell that is held, or blue: it is not in the set.
--- Write, Fill  the new value names none of the set.
+-- Mark, Claim         change the colour of a cell that is held, or blue: it is not in the set.
+-- Write, Store, Fill  the new value names none of the set.
 use Rattle.std.proofs.Common.{◌≡◌, ◌≢◌, ◌==◌, inl, inr, ℕ, true, false, if◌then◌else◌, length, ◌<◌}
-use Rattle.std.proofs.Common.{refl, sym, subst, ◌∙◌}
+use Rattle.std.proofs.Common.{refl, sym, subst, ◌∙◌, ◌⊎◌, ap}
 use Rattle.std.specs.Prelude.{slice_set}
 use Rattle.std.proofs.Math.ListN.{set}
 use Rattle.std.proofs.lemmas.Bool.{or_cases, eqb-true}
@@ -16,13 +16,14 @@ use Rattle.cell_words.specs.declared.fields.Field.TheVariants as field
 use Rattle.cell_words.specs.declared.fields.Kind.{Kind}
 use Rattle.cell_words.specs.declared.fields.Kind.TheVariants as kind
 use Rattle.core_machine.specs.declared.events.Event.TheVariants as event
-use Rattle.core_machine.specs.Own.{Own, spent, begun, holding, having_read, having_claimed, marking}
+use Rattle.core_machine.specs.Own.{Own, spent, begun, holding, having_read, having_fetched}
+use Rattle.core_machine.specs.Own.{having_claimed, marking}
 use Rattle.core_machine.specs.Places.{holds, names_rightly}
 use Rattle.core_machine.specs.State.{State, colour_of, field_of, own_of, held_of, presence_of}
-use Rattle.core_machine.specs.State.{target_of}
+use Rattle.core_machine.specs.State.{target_of, begun_of}
 use Rattle.core_machine.specs.Words.{written, same_field, kind_field, shaded, claimed, born_colour}
 use Rattle.core_machine.specs.Next.{can, after}
-use Rattle.core_machine.proofs.Conditions.{write_needs, fill_needs}
+use Rattle.core_machine.proofs.Conditions.{write_needs, store_needs, fill_needs}
 use Rattle.dlg_core.proofs.Changes.Field.{with_field}
 use Rattle.dlg_core.proofs.Changes.Own.{with_own}
 use Rattle.dlg_core.proofs.Changes.Shade.{with_colour}
@@ -97,6 +98,16 @@ more_followed old s i w own is out k =
       | inr same ↦ out (subst (λ n. IsLeftIn old s n) (sym same) left)
     ]) k
 
+-- who has read holds what was held before, or what was found
+pub read_holds : (own : Own) (found : Field) (c : ℕ) → holds (having_read own found).held c ≡ true
+    → (holds own.held c ≡ true) ⊎ (found ≡ field.Cell c)
+read_holds own field.Null c h = inl h
+read_holds own (field.Num n) c h = inl h
+read_holds own (field.Cell w) c h = elim (holds_more own.held w c h) [
+  | inl held ↦ inl held
+  | inr same ↦ inr (ap (λ n. field.Cell n) same)
+]
+
 -- a held cell names none of the set
 pub read_followed_at : (old s : State) (i b f : ℕ) (found : Field) → holds (held_of s i) b ≡ true
     → field_of s b f ≡ found
@@ -115,6 +126,20 @@ pub read_followed : (old s : State) (i place f : ℕ) → place < length (held_o
 read_followed old s i place f lt k =
     read_followed_at old s i (target_of s i place) f (field_of s (target_of s i place) f)
     (holds_place (held_of s i) place lt) refl k
+
+-- a fetch holds what a read does
+pub fetch_followed : (old s : State) (i place f : ℕ) → place < length (held_of s i)
+    → IsFollowed old s
+    → IsFollowed old (after s (event.Fetch i place f))
+fetch_followed old s i place f lt k =
+    let b = target_of s i place in
+    let found = field_of s b f in
+    own_followed old s i (having_fetched (own_of s i) place f found)
+    (λ c h left. elim (read_holds (own_of s i) found c h) [
+      | inl held ↦ k.apart.held i c held left
+      | inr is ↦ k.apart.held i b (holds_place (held_of s i) place lt)
+          (k.apart.named b c f is left)
+    ]) k
 
 pub mark_followed : (old s : State) (i place : ℕ) → place < length (held_of s i) → IsFollowed old s
     → IsFollowed old (after s (event.Mark i place))
@@ -158,6 +183,17 @@ write_followed old s i place f expected value h k =
     unmark_followed old (with_field s b f (written found expected value)) i (spent (own_of s i))
     (λ c. holds_unmark (held_of s i) c)
     (field_followed old s b f (written found expected value) fits k)
+
+pub store_followed : (old s : State) (i : ℕ) (new : Field) → can s (event.Store i new) ≡ true
+    → IsFollowed old s → IsFollowed old (after s (event.Store i new))
+store_followed old s i new h k =
+    let write = begun_of s i in
+    let b = target_of s i write.place in
+    unmark_followed old (with_field s b write.f new) i (spent (own_of s i))
+    (λ c. holds_unmark (held_of s i) c)
+    (field_followed old s b write.f new
+    (λ d is left. absurd
+    (rightly_outside old s i d new (store_needs s i new h).names is k left)) k)
 
 pub fill_followed : (old s : State) (i place f : ℕ) (value : Field)
     → can s (event.Fill i place f value) ≡ true

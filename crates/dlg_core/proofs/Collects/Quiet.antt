@@ -271,9 +271,13 @@ over_idle s (event.Look j) i over h by = let a = over.0 in let same : j
     ≡ i = cc in let no = rw (same, a) at h in cc
 over_idle s (event.Read j place f) i over h by = let a = over.0 in let same : j
     ≡ i = cc in let no = rw (same, a) at h in cc
+over_idle s (event.Fetch j place f) i over h by = let a = over.0 in let same : j
+    ≡ i = cc in let no = rw (same, a) at h in cc
 over_idle s (event.Mark j place) i over h by = let a = over.0 in let same : j
     ≡ i = cc in let no = rw (same, a) at h in cc
 over_idle s (event.Write j place f x y) i over h by = let a = over.0 in let same : j
+    ≡ i = cc in let no = rw (same, a) at h in cc
+over_idle s (event.Store j x) i over h by = let a = over.0 in let same : j
     ≡ i = cc in let no = rw (same, a) at h in cc
 over_idle s (event.Claim j c) i over h by = let a = over.0 in let same : j
     ≡ i = cc in let no = rw (same, a) at h in cc

@@ -108,7 +108,7 @@ pub own_there : (owns : List Own) (i : ℕ) (own : Own) → i < length owns
 own_there owns i own lt = get_or-set_same owns i own no_own lt
 
 pub answer_of : (s : State) (i : ℕ) (held : List Held) (new : Status) → IsConsistent s
-    → (own_of s i).mode ≡ None
+    → (own_of s i).mode ≡ None → (own_of s i).pending ≡ None
     → held_of s i ≡ map unmark held → next_own_status s i ≡ new
     → status_fits s.control.stage new ≡ true
     → (is_handshake s.control.stage ≡ true → new ≡ requested_of s.control.stage)
@@ -116,9 +116,10 @@ pub answer_of : (s : State) (i : ℕ) (held : List Held) (new : Status) → IsCo
     → (s.control.stage ≡ stage.Trace → new ≡ status.Async
     → All (λ p. colour_of s p.cell ≢ colour.White) (map unmark held))
     → StatusFits s i (next_own_status s i)
-answer_of s i held new k none is e fits requested dark due = subst (λ x. StatusFits s i x)
+answer_of s i held new k none settled is e fits requested dark due = subst (λ x. StatusFits s i x)
     (sym e) record {
       no_mode = none;
+      nothing_pending = settled;
       fits = fits;
       requested = requested;
       marks = (λ m. subst (λ ps. All (MarkStands s.colours) ps) (sym is)
@@ -130,27 +131,27 @@ answer_of s i held new k none is e fits requested dark due = subst (λ x. Status
 
 -- what each of the three answers owes
 pub answer_fits : (s : State) (i : ℕ) (held : List Held) → IsConsistent s → (own_of s i).mode ≡ None
-    → held_of s i ≡ map unmark held
+    → (own_of s i).pending ≡ None → held_of s i ≡ map unmark held
     → IsAnswer (presence_of s i).status s.control.stage
     → (s.control.stage ≡ stage.Trace
     → All (λ p. colour_of s p.cell ≢ colour.White) (map unmark held))
     → StatusFits s i (next_own_status s i)
-answer_fits s i held k none is (first own now) dark =
+answer_fits s i held k none settled is (first own now) dark =
     let new : next_own_status s i ≡ status.Sync1 = ap next_status_of own in
-    answer_of s i held status.Sync1 k none is new
+    answer_of s i held status.Sync1 k none settled is new
     (subst (λ x. status_fits x status.Sync1 ≡ true) (sym now) refl)
     (λ h. sym (ap requested_of now)) (λ e. absurd cc) (λ trace e. absurd cc)
-answer_fits s i held k none is (second own now) dark =
+answer_fits s i held k none settled is (second own now) dark =
     let new : next_own_status s i ≡ status.Sync2 = ap next_status_of own in
-    answer_of s i held status.Sync2 k none is new
+    answer_of s i held status.Sync2 k none settled is new
     (subst (λ x. status_fits x status.Sync2 ≡ true) (sym now) refl)
     (λ h. sym (ap requested_of now))
     (λ e c. k.tracing.cleared c
     (subst (λ x. is_cleared x s.collector.cursor c ≡ true) (sym now) refl))
     (λ trace e. absurd cc)
-answer_fits s i held k none is (third own now) dark =
+answer_fits s i held k none settled is (third own now) dark =
     let new : next_own_status s i ≡ status.Async = ap next_status_of own in
-    answer_of s i held status.Async k none is new
+    answer_of s i held status.Async k none settled is new
     (subst (λ x. status_fits x status.Async ≡ true) (sym now) refl)
     (λ h. sym (ap requested_of now)) (λ e. absurd cc) (λ trace e. dark trace)
 
@@ -178,7 +179,7 @@ answer_keeps s i range k h =
     (k.mutators.modes i) in
     status_kept u i (next_own_status s i) (own_kept s i own k (spent_fits s i k needs.inside))
     (answer_fits u i (held_of s i) (own_kept s i own k (spent_fits s i k needs.inside))
-    (ap (λ o. o.mode) there) (ap (λ o. o.held) there) answers
+    (ap (λ o. o.mode) there) (ap (λ o. o.pending) there) (ap (λ o. o.held) there) answers
     (λ trace. all_dark s.colours (held_of s i) (third_marked s i answers trace needs.third)
     (k.mutators.marks i
     (subst (λ x. marks_count x (presence_of s i).status ≡ true) (sym trace) refl))))

@@ -122,34 +122,37 @@ blacken_at s x range k is five =
         names_live = lives.names;
         raw_once = k.cells.raw_once;
         raw_not_black = (λ i sync2. absurd (let a = async i in cc));
+        pendings = k.cells.pendings;
       };
       tracing = record {
         cleared = (λ d h. absurd (let never : is_cleared stage.Trace s.collector.cursor d ≡ true
             = subst (λ y. is_cleared y s.collector.cursor d ≡ true) facts.traces h in cc));
         anchor_marked = (λ h white. k.tracing.anchor_marked h (was colour.White (λ e. cc) 0 white));
         traced = (λ trace set cut.
-            let before : IsCutOff s.colours s.rows s.collector.scan set = record {
+            let before : IsCutOff s.owns s.colours s.rows s.collector.scan set = record {
               white = (λ d h. was colour.White (λ e. cc) d (cut.white d h));
               child = (λ d e. absurd
                   (let none : child_in s.collector.scan ≡ None = ap child_in is ∙ no_child in cc));
-              gray = (λ d e f gray unread n. elim (d == c) as (λ b. (d == c) ≡ b → set e ≡ false) [
-                | true ↦ λ h.
-                    let here : d ≡ c = eqb-true d c h in
-                    let payload = payload_names s d e f range k n in
-                    let le = open_not_scanned x f
-                    (subst (λ m. is_open (Some x) m f ≡ true) here
-                    (subst (λ z. is_open z d f ≡ true) is unread)) in
-                    let count : scanned_count x ≡ x.next = ap (scanned_count_at x.next) no_child in
-                    absurd (omega arith)
-                | false ↦ λ h. cut.gray d e f
-                    (colour_each
-                    (λ a z. (a == c) ≡ false → colour_of s a ≡ colour.Gray → z ≡ colour.Gray)
-                    s.colours c colour.Black
-                    (λ other g. absurd (let same : (c == c) ≡ true = eq-eqb c c refl in cc))
-                    (λ a other g. g) d h gray) refl n
-              ] refl);
-              outside = (λ d e f white out n. cut.outside d e f
-                  (stays colour.White (λ e. cc) d white) out n);
+              gray = (λ d e f gray unread n sure. elim (d == c)
+                  as (λ b. (d == c) ≡ b → set e ≡ false) [
+                    | true ↦ λ h.
+                        let here : d ≡ c = eqb-true d c h in
+                        let payload = payload_names s d e f range k n in
+                        let le = open_not_scanned x f
+                        (subst (λ m. is_open (Some x) m f ≡ true) here
+                        (subst (λ z. is_open z d f ≡ true) is unread)) in
+                        let count : scanned_count x ≡ x.next
+                        = ap (scanned_count_at x.next) no_child in
+                        absurd (omega arith)
+                    | false ↦ λ h. cut.gray d e f
+                        (colour_each
+                        (λ a z. (a == c) ≡ false → colour_of s a ≡ colour.Gray → z ≡ colour.Gray)
+                        s.colours c colour.Black
+                        (λ other g. absurd (let same : (c == c) ≡ true = eq-eqb c c refl in cc))
+                        (λ a other g. g) d h gray) refl n sure
+                  ] refl);
+              outside = (λ d e f white out n sure. cut.outside d e f
+                  (stays colour.White (λ e. cc) d white) out n sure);
             } in
             let old = k.tracing.traced trace set before in record {
               black = (λ d e f black n. elim (d == c) as (λ b. (d == c) ≡ b → set e ≡ false) [
@@ -168,6 +171,7 @@ blacken_at s x range k is five =
               ] refl);
               scanned = (λ y e f scan lt n. absurd cc);
               held = old.held;
+              doubtful = old.doubtful;
             });
         clean_pass = (λ trace clean. absurd (let u = facts.unclean in cc));
         pass_waits = k.tracing.pass_waits;

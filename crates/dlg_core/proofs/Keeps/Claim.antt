@@ -7,7 +7,8 @@
 -- cleared        in Clear and Sync2 nobody is async, so it is born white.
 -- raw_not_black  so it is in sync2.
 -- traced         a set that is cut off after was cut off before without the cell, and the cell is
---                not due: to an async mutator it is born black, and nobody else is told of it.
+--                not due: to an async mutator it is born black, and nobody else is told of it. No
+--                write is pending, so no doubt is new.
 use Rattle.std.proofs.Common.{◌≡◌, ◌≢◌, ◌==◌, ◌&&◌, ◌⊎◌, if◌then◌else◌, inl, inr, ℕ, Bool, true}
 use Rattle.std.proofs.Common.{false, not, nat_lt, [], ◌∷◌, ◌++◌, length, Some, None, is_some, ◌+◌}
 use Rattle.std.proofs.Common.{◌<◌, ◌≤◌, refl, sym, subst, ◌∙◌, ap, arith, eq-eqb}
@@ -27,6 +28,7 @@ use Rattle.cell_words.specs.declared.presences.Status.{Status}
 use Rattle.cell_words.specs.declared.presences.Status.TheVariants as status
 use Rattle.cell_words.specs.Modes.{claim_colour_of, async_claim_colour_of}
 use Rattle.core_machine.specs.declared.events.Event.TheVariants as event
+use Rattle.core_machine.specs.declared.pending.Pending.{Pending}
 use Rattle.core_machine.specs.declared.progress.Sweeping.{Sweeping}
 use Rattle.core_machine.specs.Operations.{is_in}
 use Rattle.core_machine.specs.State.{State, colour_of, field_of, presence_in, presence_of, own_in}
@@ -37,19 +39,22 @@ use Rattle.core_machine.specs.Next.{can, after}
 use Rattle.core_machine.specs.Own.{Own, no_own, having_claimed}
 use Rattle.core_machine.specs.Places.{holds, found_at}
 use Rattle.core_machine.proofs.Conditions.{claim_needs}
-use Rattle.dlg_core.specs.Consistent.{IsConsistent, IsCutOff, IsNotDue, MarkStands, NoRawBlack}
+use Rattle.dlg_core.specs.Consistent.{IsConsistent, HoldsNothing, IsCutOff, IsNotDue, MarkStands}
+use Rattle.dlg_core.specs.Consistent.{NoRawBlack}
+use Rattle.dlg_core.specs.Doubt.{IsPending, IsInDoubt, IsDoubtful}
 use Rattle.dlg_core.specs.Facts.{is_live, live, unswept, status_fits, async_fits, IsStaleMode}
 use Rattle.dlg_core.specs.Facts.{IsStale, is_cleared, marks_count}
 use Rattle.dlg_core.proofs.Each.{colour_each, own_each, all_held, all_from_held, all_both}
-use Rattle.dlg_core.proofs.Truths.{async_mode}
+use Rattle.dlg_core.proofs.Doubtful.{no_pending, no_doubt, doubtful_live}
+use Rattle.dlg_core.proofs.Truths.{async_mode, settled_is}
 use Rattle.core_machine.proofs.OneOperation.{inside_there}
 use Rattle.dlg_core.proofs.HeldLists.{holds_more}
 use Rattle.dlg_core.proofs.Changes.Live.{unswept_where}
 
 -- the part with a new cell more
 abbrev pub with_claim : Own → ℕ → Own
-with_claim own
-    c = record { held = own.held ++ found_at c ∷ []; mode = None; claims = own.claims + 1 }
+with_claim own c =
+    record own { held = own.held ++ found_at c ∷ []; mode = None; claims = own.claims + 1 }
 
 abbrev pub with_born : State → ℕ → ℕ → Colour → State
 with_born s i c y = record s {
@@ -98,9 +103,9 @@ pub out_before : (set : ℕ → Bool) (c d : ℕ) → set d ≡ false → withou
 out_before set c d h = ap (λ b. b && not (d == c)) h
 
 pub born_kept : (s : State) (i c : ℕ) (y : Colour) → IsConsistent s → is_in s i ≡ true
-    → colour_of s c ≡ colour.Blue → c < length s.colours
+    → (own_of s i).pending ≡ None → colour_of s c ≡ colour.Blue → c < length s.colours
     → BornFits s i c y → IsConsistent (with_born s i c y)
-born_kept s i c y k inside blue lt fits =
+born_kept s i c y k inside settled blue lt fits =
     let t = with_born s i c y in
     let dead : live s.colours s.control s.collector.sweep c ≡ false
     = ap (λ x. is_live x (unswept s.control s.collector.sweep c)) blue in
@@ -165,6 +170,17 @@ born_kept s i c y k inside blue lt fits =
       | inr new ↦ inr (refl, sym new)
     ])
     (λ n h. inl h) j) in
+    let doubt_was : (d e f : ℕ) → IsDoubtful t.owns d f (field.Cell e)
+    → IsDoubtful s.owns d f (field.Cell e)
+    = (λ d e f is. record {
+      mutator = is.mutator;
+      doubt = own_each
+          (λ j o. IsInDoubt o d f (field.Cell e) → IsInDoubt (own_in s.owns j) d f (field.Cell e))
+          s.owns i (with_claim (own_of s i) c)
+          (λ doubt. absurd
+          (no_doubt (with_claim (own_of s i) c) d f (field.Cell e) settled doubt))
+          (λ j doubt. doubt) is.mutator is.doubt;
+    }) in
     let all_new : (P : ℕ → Type 0) → P c → ((j d : ℕ) → holds (own_in s.owns j).held d ≡ true → P d)
     → (j : ℕ)
     → All (λ p. P p.cell) (own_in t.owns j).held
@@ -180,7 +196,7 @@ born_kept s i c y k inside blue lt fits =
             (λ j o. IsStaleMode (presence_in s.presences j).status o.mode s.control) s.owns i
             (with_claim (own_of s i) c) tt k.mutators.modes;
         out = own_each
-            (λ j o. (presence_in s.presences j).inside ≡ false → (o.held ≡ []) × (o.mode ≡ None))
+            (λ j o. (presence_in s.presences j).inside ≡ false → HoldsNothing o)
             s.owns i (with_claim (own_of s i) c)
             (λ o. absurd cc) k.mutators.out;
         marks = own_each
@@ -228,6 +244,12 @@ born_kept s i c y k inside blue lt fits =
             (raw_still i sync2)
             (λ raw black. fits.sync2 sync2 (sym here ∙ black)))
             (λ j sync2. raw_still j sync2);
+        pendings = own_each
+            (λ j o. (write : Pending) → o.pending ≡ Some write
+            → IsPending (presence_in s.presences j).status o s.rows write) s.owns i
+            (with_claim (own_of s i) c)
+            (no_pending (presence_of s i).status (with_claim (own_of s i) c) s.rows settled)
+            k.cells.pendings;
       };
       tracing = record {
         cleared = (λ d h. colour_each
@@ -237,19 +259,21 @@ born_kept s i c y k inside blue lt fits =
         anchor_marked = (λ h white. k.tracing.anchor_marked h
             (was colour.White 0 (apart s c 0 dead k.cells.anchor_live) white));
         traced = (λ now set cut.
-            let before : IsCutOff s.colours s.rows s.collector.scan (without set c) = record {
+            let before : IsCutOff s.owns s.colours s.rows s.collector.scan (without set c)
+            = record {
               white = (λ d h. let r = in_without set c d h in was colour.White d r.1
                   (cut.white d r.0));
               child = (λ d h. out_before set c d (cut.child d h));
-              gray = (λ d e f gray unread n. out_before set c e
-                  (cut.gray d e f (is colour.Gray (λ g. cc) d gray) unread n));
-              outside = (λ d e f white out n. out_before set c e
+              gray = (λ d e f gray unread n sure. out_before set c e
+                  (cut.gray d e f (is colour.Gray (λ g. cc) d gray) unread n
+                  (λ doubt. sure (doubt_was d e f doubt))));
+              outside = (λ d e f white out n sure. out_before set c e
                   (cut.outside d e f (is colour.White (λ g. cc) d white)
                   (out_of_without set c d out
                   (λ same. absurd
                   (let b : colour_of s d
                   ≡ colour.Blue = subst (λ m. colour_of s m ≡ colour.Blue)
-                  (sym same) blue in cc))) n));
+                  (sym same) blue in cc))) n (λ doubt. sure (doubt_was d e f doubt))));
             } in
             let old = k.tracing.traced now (without set c) before in
             let named_apart : (d e f : ℕ) → live s.colours s.control s.collector.sweep d ≡ true
@@ -282,6 +306,10 @@ born_kept s i c y k inside blue lt fits =
                     | false ↦ λ h. h
                   ] refl))
                   (λ j async. held_still set old j async);
+              doubtful = (λ d e f doubt n.
+                  let before_doubt = doubt_was d e f doubt in
+                  out_of_without set c e (old.doubtful d e f before_doubt n)
+                  (named_apart d e f (doubtful_live s d f (field.Cell e) k before_doubt) n));
             });
         clean_pass = (λ now clean d gray.
             let r = k.tracing.clean_pass now clean d
@@ -437,18 +465,18 @@ claimed_same s i c x k e =
     (subst (λ cs. IsConsistent (record s { colours = cs })) (sym colours_same) k)
 
 pub claim_at : (s : State) (i c : ℕ) (m : Control) (x : Colour) → IsShaped s → IsConsistent s
-    → is_in s i ≡ true
+    → is_in s i ≡ true → (own_of s i).pending ≡ None
     → c < length s.colours → (own_of s i).mode ≡ Some m → colour_of s c ≡ x
     → IsConsistent (record s {
       colours = slice_set s.colours c (claimed x (claim_colour_of (presence_of s i).status m c));
       owns = slice_set s.owns i (having_claimed (own_of s i) c x);
     })
-claim_at s i c m colour.Blue range k inside lt has e = born_kept s i c
-    (claim_colour_of (presence_of s i).status m c) k inside e lt
+claim_at s i c m colour.Blue range k inside settled lt has e = born_kept s i c
+    (claim_colour_of (presence_of s i).status m c) k inside settled e lt
     (born_fits s i c m range k inside has)
-claim_at s i c m colour.White range k inside lt has e = claimed_same s i c colour.White k e
-claim_at s i c m colour.Gray range k inside lt has e = claimed_same s i c colour.Gray k e
-claim_at s i c m colour.Black range k inside lt has e = claimed_same s i c colour.Black k e
+claim_at s i c m colour.White range k inside settled lt has e = claimed_same s i c colour.White k e
+claim_at s i c m colour.Gray range k inside settled lt has e = claimed_same s i c colour.Gray k e
+claim_at s i c m colour.Black range k inside settled lt has e = claimed_same s i c colour.Black k e
 
 pub claim_keeps : (s : State) (i c : ℕ) → IsShaped s → IsConsistent s
     → can s (event.Claim i c) ≡ true
@@ -464,5 +492,6 @@ claim_keeps s i c range k h =
       owns = slice_set s.owns i (having_claimed (own_of s i) c (colour_of s c));
     })) [
       | None ↦ λ e none. absurd cc
-      | Some m ↦ λ e some. claim_at s i c m (colour_of s c) range k needs.inside lt e refl
+      | Some m ↦ λ e some. claim_at s i c m (colour_of s c) range k needs.inside
+          (settled_is (own_of s i).pending needs.nothing_pending) lt e refl
     ] refl needs.mode

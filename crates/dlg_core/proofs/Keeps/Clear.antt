@@ -113,6 +113,7 @@ clear_keeps s range k h =
             (NoRawBlack t.colours s.rows)
             (λ p g raw black. g raw (black_was p.cell black)) (own_in s.owns i).held
             (k.cells.raw_not_black i sync2));
+        pendings = k.cells.pendings;
       };
       tracing = record {
         cleared = (λ d g. colour_else

@@ -17,8 +17,8 @@ use Rattle.core_machine.specs.declared.events.Event.TheVariants as event
 use Rattle.core_machine.specs.declared.places.Held.{Held}
 use Rattle.core_machine.specs.Operations.{is_in}
 use Rattle.core_machine.specs.State.{State, colour_in, colour_of, presence_of, own_of, held_of}
-use Rattle.core_machine.specs.State.{target_of}
-use Rattle.core_machine.specs.Words.{shaded, is_gray, is_handshake}
+use Rattle.core_machine.specs.State.{target_of, field_of}
+use Rattle.core_machine.specs.Words.{shaded, is_gray, is_handshake, is_box_kind}
 use Rattle.core_machine.specs.InRange.{IsShaped}
 use Rattle.core_machine.specs.Next.{can, after}
 use Rattle.core_machine.specs.Own.{marking}
@@ -32,6 +32,7 @@ use Rattle.dlg_core.proofs.Each.{colour_each, all_held}
 use Rattle.dlg_core.proofs.Truths.{one_of_all}
 use Rattle.core_machine.proofs.OneOperation.{inside_there}
 use Rattle.dlg_core.proofs.HeldLists.{at_place, holds_place, holds_marking, cell_of_mark}
+use Rattle.dlg_core.proofs.HeldLists.{cell_at_marking, there_marking}
 use Rattle.dlg_core.proofs.CutOff.{is_white, white_is_white, white_cut_off}
 
 -- Marks of places.
@@ -160,4 +161,18 @@ mark_keeps s i place range k h =
           (λ d. NoRawBlack t.colours s.rows record { cell = d; marked = false }) held c
           (shady.cells.raw_not_black i sync2));
       due = (λ now async set cut old. all_marking (λ d. set d ≡ false) held c (old.held i async));
+      pendings = (λ write e. let r = shady.cells.pendings i write e in record {
+        lets = r.lets;
+        there = there_marking held c write.place r.there;
+        payload = r.payload;
+        box = ap (λ d. is_box_kind (field_of s d 5)) (cell_at_marking held c write.place) ∙ r.box;
+        found_held = (λ d is. holds_marking held c d ∙ r.found_held d is);
+      });
+      doubts = (λ d g x n doubt. record {
+        write = doubt.write;
+        begun = doubt.begun;
+        cell = sym (cell_at_marking held c doubt.write.place) ∙ doubt.cell;
+        same = doubt.same;
+        changed = doubt.changed;
+      });
     }

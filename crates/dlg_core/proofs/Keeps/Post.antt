@@ -4,13 +4,14 @@
 -- there was nothing to answer. So each mode that can be held then can be held after.
 --
 -- Clear, Sync2  nothing is cleared yet; all is cleared, since the cursor is at the end.
--- Trace         no cell is black, nobody is async and there is no scan, so nothing is due.
+-- Trace         no cell is black, nobody is async, there is no scan and no write is pending, since
+--               a mode of sync2 lets none: so nothing is due.
 -- Sweep         the pass was clean and has come to the end, so no cell is gray, and the white cells
 --               are cut off. None of them is due: what is held and what black cells name is black.
 -- Idle          the sweep has come to the end, so no cell is unswept.
 use Rattle.std.proofs.Common.{◌≡◌, ◌≢◌, ◌==◌, ◌&&◌, ◌||◌, inl, inr, ℕ, zero, suc, Bool, true, false}
-use Rattle.std.proofs.Common.{nat_lt, List, [], ◌∷◌, Option, Some, None, length, get_or, ◌+◌, ◌<◌}
-use Rattle.std.proofs.Common.{◌≤◌, arith, refl, sym, subst, ◌∙◌, ap, eq-eqb}
+use Rattle.std.proofs.Common.{not, nat_lt, List, [], ◌∷◌, Option, Some, None, length, get_or, ◌+◌}
+use Rattle.std.proofs.Common.{◌<◌, ◌≤◌, arith, refl, sym, subst, ◌∙◌, ap, eq-eqb}
 use Rattle.std.specs.List.{All}
 use Rattle.std.proofs.lemmas.Bool.{and_from, ltb-true, lt-ltb, cases_lt}
 use Rattle.std.proofs.lemmas.List.{get_or_past}
@@ -20,6 +21,7 @@ use Rattle.cell_words.specs.declared.colours.Colour.TheVariants as colour
 use Rattle.cell_words.specs.declared.controls.Control.{Control}
 use Rattle.cell_words.specs.declared.controls.Stage.{Stage}
 use Rattle.cell_words.specs.declared.controls.Stage.TheVariants as stage
+use Rattle.cell_words.specs.declared.fields.Field.TheVariants as field
 use Rattle.cell_words.specs.declared.presences.Status.{Status}
 use Rattle.cell_words.specs.declared.presences.Status.TheVariants as status
 use Rattle.cell_words.specs.Modes.{requested_of}
@@ -29,7 +31,7 @@ use Rattle.core_machine.specs.declared.progress.Sweeping.{Sweeping}
 use Rattle.core_machine.specs.declared.progress.Sweeping.TheVariants as sweeping
 use Rattle.core_machine.specs.Collector.{Collector, nobody_answered, posted}
 use Rattle.core_machine.specs.State.{State, colour_of, presence_of, own_of, held_of}
-use Rattle.core_machine.specs.Words.{is_handshake, same_stage}
+use Rattle.core_machine.specs.Words.{is_handshake, same_stage, same_status, lets_store}
 use Rattle.core_machine.specs.InRange.{IsShaped, StageFits, SweepFits}
 use Rattle.core_machine.specs.Next.{can, after}
 use Rattle.core_machine.specs.Own.{no_own}
@@ -46,6 +48,7 @@ use Rattle.core_machine.specs.Places.{holds}
 use Rattle.core_machine.proofs.Conditions.{post_idle_needs, post_sync1_needs, post_clear_needs}
 use Rattle.core_machine.proofs.Conditions.{post_sync2_needs, post_trace_needs, post_sweep_needs}
 use Rattle.dlg_core.proofs.CutOff.{is_white, white_is_white, white_cut_off}
+use Rattle.dlg_core.proofs.Doubtful.{no_doubt}
 
 -- Modes that fit one stage fit the next.
 
@@ -145,6 +148,7 @@ post_kept s control collector k fits = record {
     names_live = fits.lives.names;
     raw_once = k.cells.raw_once;
     raw_not_black = k.cells.raw_not_black;
+    pendings = k.cells.pendings;
   };
   tracing = fits.tracing;
   sweep = fits.sweep;
@@ -377,6 +381,23 @@ post_sync2 s range k h =
 
 -- Post(Trace).
 
+pub sync2_looked : (looked : Stage) → sync2_fits looked stage.Sync2 ≡ true → looked ≡ stage.Sync2
+sync2_looked stage.Sync2 h = refl
+sync2_looked _ h = absurd cc
+
+-- in Sync2 a mutator in sync2 has a mode of this stage, which lets no store
+pub no_late_store : (own : Status) (mode : Option Control) (now : Control) → own ≡ status.Sync2
+    → now.stage ≡ stage.Sync2 → IsStaleMode own mode now → lets_store own mode ≡ true → ⊥
+no_late_store own None now sync2 is stale h = cc
+no_late_store status.Async (Some m) now sync2 is stale h = cc
+no_late_store status.Sync1 (Some m) now sync2 is stale h = cc
+no_late_store status.Sync2 (Some m) now sync2 is stale h =
+    let same : m.stage ≡ stage.Sync2
+    = sync2_looked m.stage (subst (λ x. sync2_fits m.stage x ≡ true) is stale.fits) in
+    let never : false ≡ true
+    = subst (λ x. not (same_status status.Sync2 status.Sync2 && same_stage x stage.Sync2) ≡ true)
+    same h in cc
+
 pub post_trace : (s : State) → IsShaped s → IsConsistent s → can s (event.Post stage.Trace) ≡ true
     → IsConsistent (after s (event.Post stage.Trace))
 post_trace s range k h =
@@ -421,6 +442,13 @@ post_trace s range k h =
             | inr past ↦ subst (λ o. All (λ p. set p.cell ≡ false) o.held)
                 (sym (nobody s i range past)) (All-nil (λ p. set p.cell ≡ false))
           ]);
+          doubtful = (λ c d f is n. absurd (elim (cases_lt is.mutator s.mutators) [
+            | inl lt ↦ no_late_store (presence_of s is.mutator).status (own_of s is.mutator).mode
+                s.control (settled is.mutator lt ∙ asks) now (k.mutators.modes is.mutator)
+                (k.cells.pendings is.mutator is.doubt.write is.doubt.begun).lets
+            | inr past ↦ no_doubt (own_of s is.mutator) c f (field.Cell d)
+                (ap (λ o. o.pending) (nobody s is.mutator range past)) is.doubt
+          ]));
         });
         clean_pass = (λ _ _ c gray. (c, omega arith, gray));
         pass_waits = (λ _ _. refl);

@@ -5,7 +5,7 @@
 -- End    nothing is held, so nothing is owed.
 -- Over   only who is out ends for good.
 use Rattle.std.proofs.Common.{◌≡◌, ◌==◌, inl, inr, ℕ, Bool, true, false, not, List, [], ◌<◌, length}
-use Rattle.std.proofs.Common.{None, refl, sym, subst, ◌∙◌, ap}
+use Rattle.std.proofs.Common.{refl, sym, subst, ◌∙◌, ap}
 use Rattle.std.specs.Prelude.{slice_set}
 use Rattle.std.proofs.lemmas.Bool.{and_parts, or_cases, eqb-true, cases_lt}
 use Rattle.std.proofs.lemmas.List.{get_or-set_same, get_or_past, set_past}
@@ -22,11 +22,12 @@ use Rattle.core_machine.specs.Next.{can, after}
 use Rattle.core_machine.specs.Own.{Own, no_own, begun, ended}
 use Rattle.core_machine.specs.Places.{found_at}
 use Rattle.core_machine.proofs.Conditions.{come_in_needs}
-use Rattle.dlg_core.specs.Consistent.{IsConsistent, MarkStands, NoRawBlack}
+use Rattle.dlg_core.specs.Consistent.{IsConsistent, HoldsNothing, MarkStands, NoRawBlack}
 use Rattle.dlg_core.specs.Facts.{live, anchor_counts}
 use Rattle.dlg_core.proofs.Changes.Own.{own_kept, with_own}
 use Rattle.dlg_core.proofs.Changes.Presence.{presence_kept, with_presence, same_statuses}
 use Rattle.dlg_core.proofs.CutOff.{not_white_outside}
+use Rattle.dlg_core.proofs.Doubtful.{no_pending, no_doubt}
 use Rattle.dlg_core.proofs.Truths.{box_not_raw}
 
 -- who may begin is one that there is
@@ -53,6 +54,7 @@ begin_keeps s i k h =
     let here : presence_of t i
     ≡ p = get_or-set_same s.presences i p no_presence (begins_below s i h) in
     let same = same_statuses s i p refl i in
+    let nothing = k.mutators.out i (come_in_needs s i h).out in
     let sealed : is_raw_kind (field_of s 0 5)
     ≡ false = box_not_raw (field_of s 0 5) k.cells.anchor_box in
     own_kept t i (begun (own_of s i)) (presence_kept s i p k refl (λ o. absurd cc)) record {
@@ -77,20 +79,21 @@ begin_keeps s i k h =
           (k.tracing.anchor_marked
           (marked_in_trace s.control.stage s.collector.anchor_marked now)))
           (All-nil (λ place. set place.cell ≡ false)));
+      pendings = no_pending (presence_of t i).status (begun (own_of s i)) s.rows nothing.2;
+      doubts = (λ c f x n doubt. absurd (no_doubt (begun (own_of s i)) c f x nothing.2 doubt));
     }
 
 -- a part that holds nothing stands where it was put, or nothing stands there
-pub nothing_at : (owns : List Own) (i : ℕ) (own : Own) → own.held ≡ [] → own.mode ≡ None
-    → ((own_in (slice_set owns i own) i).held ≡ [])
-    × ((own_in (slice_set owns i own) i).mode ≡ None)
-nothing_at owns i own held mode = elim (cases_lt i (length owns)) [
+pub nothing_at : (owns : List Own) (i : ℕ) (own : Own) → HoldsNothing own
+    → HoldsNothing (own_in (slice_set owns i own) i)
+nothing_at owns i own none = elim (cases_lt i (length owns)) [
   | inl lt ↦ let e : own_in (slice_set owns i own) i ≡ own = get_or-set_same owns i own no_own lt in
-      (ap (λ o. o.held) e ∙ held, ap (λ o. o.mode) e ∙ mode)
+      subst HoldsNothing (sym e) none
   | inr past ↦
       let same : slice_set owns i own ≡ owns = set_past owns i own past in
       let e : own_in (slice_set owns i own) i ≡ no_own
       = ap (λ xs. own_in xs i) same ∙ get_or_past owns i no_own past in
-      (ap (λ o. o.held) e, ap (λ o. o.mode) e)
+      subst HoldsNothing (sym e) (refl, refl, refl)
 ]
 
 -- no mutator that is out owes anything for what it does not hold
@@ -102,15 +105,17 @@ end_keeps s i k inside =
     presence_kept t i (record (presence_of s i) { inside = false })
     (own_kept s i own k record {
       mode = tt;
-      out = (λ o. (refl, refl));
+      out = (λ o. (refl, refl, refl));
       marks = (λ m. All-nil (MarkStands s.colours));
       held_live = All-nil (λ place. live s.colours s.control s.collector.sweep place.cell ≡ true);
       raw = (λ c raw held. absurd cc);
       raw_not_black = (λ sync2. All-nil (NoRawBlack s.colours s.rows));
       due = (λ now async set cut old. All-nil (λ place. set place.cell ≡ false));
+      pendings = (λ write e. absurd cc);
+      doubts = (λ c f x n doubt. absurd (let e = doubt.begun in cc));
     })
     refl
-    (λ o. nothing_at s.owns i own refl refl)
+    (λ o. nothing_at s.owns i own (refl, refl, refl))
 
 pub over_keeps : (s : State) (i : ℕ) → IsConsistent s → can s (event.Over i) ≡ true
     → IsConsistent (after s (event.Over i))

@@ -1,7 +1,7 @@
 -- Seal: the kind field of a held raw cell becomes a record's or a box's.
 --
 -- The cell is live, so neither blue nor being wiped. No edge comes or goes, since null is no cell
--- and neither is a kind. A raw cell less is no harm to anybody.
+-- and neither is a kind. A raw cell less is no harm to anybody, and a box stays one.
 use Rattle.std.proofs.Common.{◌≡◌, ◌≢◌, ℕ, true, false, ◌<◌, refl, sym, subst}
 use Rattle.std.proofs.lemmas.List.Elements.{All-weaker}
 use Rattle.cell_words.specs.declared.colours.Colour.TheVariants.{Blue}
@@ -10,6 +10,7 @@ use Rattle.cell_words.specs.declared.fields.Field.TheVariants as field
 use Rattle.cell_words.specs.declared.fields.Kind.{Kind}
 use Rattle.cell_words.specs.declared.fields.Kind.TheVariants as kind
 use Rattle.core_machine.specs.declared.events.Event.TheVariants as event
+use Rattle.core_machine.specs.Places.{cell_at}
 use Rattle.core_machine.specs.State.{State, colour_of, field_of, own_in, held_of, target_of, is_raw}
 use Rattle.core_machine.specs.Words.{is_raw_kind, is_box_kind, kind_field}
 use Rattle.core_machine.specs.InRange.{IsShaped}
@@ -60,6 +61,11 @@ sealed_kept s c x range k alive raw =
     (λ e g z. g ≡ 5 → is_raw_kind z ≡ true → is_raw_kind (field_of s e 5) ≡ true) s.rows c 5 y
     (λ e h. raw) (λ e g same h. subst (λ n. is_raw_kind (field_of s e n) ≡ true) same h) d 5 refl)
     in
+    let box_is : (d : ℕ) → is_box_kind (field_of s d 5) ≡ true → is_box_kind (field_of t d 5) ≡ true
+    = (λ d. field_each
+    (λ e g z. g ≡ 5 → is_box_kind (field_of s e 5) ≡ true → is_box_kind z ≡ true) s.rows c 5 y
+    (λ e box. absurd (let whole = box_not_raw (field_of s c 5) box in cc))
+    (λ e g same h. subst (λ n. is_box_kind (field_of s e n) ≡ true) (sym same) h) d 5 refl) in
     let edge_was : (d e g : ℕ) → field_of t d g ≡ field.Cell e → field_of s d g ≡ field.Cell e
     = (λ d e. field_each (λ a h z. z ≡ field.Cell e → field_of s a h ≡ field.Cell e) s.rows c 5 y
     (λ is. absurd (kind_not_cell x e is)) (λ a h is. is) d) in
@@ -95,21 +101,31 @@ sealed_kept s c x range k alive raw =
         raw_not_black = (λ i sync2. All-weaker (NoRawBlack s.colours s.rows)
             (NoRawBlack s.colours t.rows)
             (λ p h r. h (raw_was p.cell r)) (own_in s.owns i).held (k.cells.raw_not_black i sync2));
+        pendings = (λ i write e. let r = k.cells.pendings i write e in record {
+          lets = r.lets;
+          there = r.there;
+          payload = r.payload;
+          box = box_is (cell_at (own_in s.owns i).held write.place) r.box;
+          found_held = r.found_held;
+        });
       };
       tracing = record {
         cleared = k.tracing.cleared;
         anchor_marked = k.tracing.anchor_marked;
         traced = (λ now set cut.
-            let before : IsCutOff s.colours s.rows s.collector.scan set = record {
+            let before : IsCutOff s.owns s.colours s.rows s.collector.scan set = record {
               white = cut.white;
               child = cut.child;
-              gray = (λ d e g gray unread n. cut.gray d e g gray unread (edge_is d e g n));
-              outside = (λ d e g white out n. cut.outside d e g white out (edge_is d e g n));
+              gray = (λ d e g gray unread n sure. cut.gray d e g gray unread (edge_is d e g n)
+                  sure);
+              outside = (λ d e g white out n sure. cut.outside d e g white out (edge_is d e g n)
+                  sure);
             } in
             let old = k.tracing.traced now set before in record {
               black = (λ d e g black n. old.black d e g black (edge_was d e g n));
               scanned = (λ z e g is lt n. old.scanned z e g is lt (edge_was z.cell e g n));
               held = old.held;
+              doubtful = (λ d e g doubt n. old.doubtful d e g doubt (edge_was d e g n));
             });
         clean_pass = k.tracing.clean_pass;
         pass_waits = k.tracing.pass_waits;

@@ -24,6 +24,7 @@ use Rattle.core_machine.specs.declared.progress.Sweeping.TheVariants as sweeping
 use Rattle.core_machine.specs.Collector.{sweep_of, wiped}
 use Rattle.core_machine.specs.State.{State, colour_in, colour_of, field_in, field_of, row_in}
 use Rattle.core_machine.specs.State.{own_in, set_field}
+use Rattle.core_machine.specs.Places.{cell_at}
 use Rattle.core_machine.specs.Sweep.{is_done, wiped_count}
 use Rattle.core_machine.specs.Words.{is_gray, is_raw_kind, is_box_kind, same_stage}
 use Rattle.core_machine.specs.InRange.{IsShaped}
@@ -37,6 +38,7 @@ use Rattle.dlg_core.proofs.Changes.Sweep.{same_unswept, unswept_elsewhere, done_
 use Rattle.dlg_core.proofs.Changes.Sweep.{position_below}
 use Rattle.dlg_core.proofs.Each.{colour_each, colour_else, field_each, all_held, null_beyond}
 use Rattle.dlg_core.proofs.Each.{field_elsewhere}
+use Rattle.dlg_core.proofs.HeldLists.{at_place}
 use Rattle.dlg_core.proofs.Truths.{or_here, or_later, free_is, black_found_is, wipe_is}
 
 -- Nothing but the word on the cell changes, and the cell stays unswept or is blue.
@@ -56,6 +58,7 @@ word_step s sweep k now same less wipes found = record {
   same_live = same;
   names = k.cells.names_live;
   raw_once = k.cells.raw_once;
+  pendings = k.cells.pendings;
   unswept = (λ c h. k.sweep.unswept c (less c h));
   wipes = wipes;
   found_black = found;
@@ -187,6 +190,7 @@ free_keeps s range k h =
           (ap (λ x. is_live x true) (sym wipes.white));
       names = k.cells.names_live;
       raw_once = k.cells.raw_once;
+      pendings = k.cells.pendings;
       unswept = done_not_gray s colour.Blue k lt;
       wipes = (λ n e. absurd cc);
       found_black = (λ e. absurd cc);
@@ -218,6 +222,7 @@ whiten_keeps s range k h =
           (ap (λ x. is_live x true) (sym black));
       names = k.cells.names_live;
       raw_once = k.cells.raw_once;
+      pendings = k.cells.pendings;
       unswept = done_not_gray s colour.White k lt;
       wipes = (λ n e. absurd cc);
       found_black = (λ e. absurd cc);
@@ -274,6 +279,7 @@ advance_keeps s range k h =
       same_live = (λ c. ap (is_live (colour_of s c)) (advance_unswept s c is));
       names = k.cells.names_live;
       raw_once = k.cells.raw_once;
+      pendings = k.cells.pendings;
       unswept = (λ c far. k.sweep.unswept c (sym (advance_unswept s c is) ∙ far));
       wipes = (λ n e. absurd cc);
       found_black = (λ e. absurd cc);
@@ -340,6 +346,21 @@ wipe_at s n range k is six =
           (own_in s.owns i).held c (k.cells.held_live i) hi) in
           k.cells.raw_once i j c
           (sym (ap is_raw_kind (field_elsewhere s.rows p n field.Null c other 5)) ∙ raw) hi hj);
+      pendings = (λ i write e.
+          let r = k.cells.pendings i write e in
+          let held = (own_in s.owns i).held in
+          let other : cell_at held write.place ≢ p = apart (cell_at held write.place)
+          (at_place (λ d. live s.colours s.control s.collector.sweep d ≡ true) held write.place
+          r.there (k.cells.held_live i)) in
+          record {
+            lets = r.lets;
+            there = r.there;
+            payload = r.payload;
+            box = ap is_box_kind
+                (field_elsewhere s.rows p n field.Null (cell_at held write.place) other 5)
+                ∙ r.box;
+            found_held = r.found_held;
+          });
       unswept = (λ c far. k.sweep.unswept c (sym (same c) ∙ far));
       wipes = (λ m e.
           let next : n + 1 ≡ m = cc in

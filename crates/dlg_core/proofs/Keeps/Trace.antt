@@ -79,11 +79,11 @@ scan_begins s c k now all rests gray =
         cleared = k.tracing.cleared;
         anchor_marked = k.tracing.anchor_marked;
         traced = (λ trace set cut.
-            let before : IsCutOff s.colours s.rows s.collector.scan set = record {
+            let before : IsCutOff s.owns s.colours s.rows s.collector.scan set = record {
               white = cut.white;
               child = (λ d e. absurd
                   (let none : child_in s.collector.scan ≡ None = ap child_in rests in cc));
-              gray = (λ d e f g unread n. cut.gray d e f g (open_at_start c d f) n);
+              gray = (λ d e f g unread n sure. cut.gray d e f g (open_at_start c d f) n sure);
               outside = cut.outside;
             } in
             let old = k.tracing.traced trace set before in record {
@@ -93,6 +93,7 @@ scan_begins s c k now all rests gray =
                   let none : f < 0 = subst (λ y. f < scanned_count y)
                   (sym same) lt in omega arith));
               held = old.held;
+              doubtful = old.doubtful;
             });
         clean_pass = (λ _ clean. absurd cc);
         pass_waits = k.tracing.pass_waits;
@@ -175,10 +176,10 @@ pub record FurtherFits (s : State) (x y : Scanning) : Type 0 where
   pub same_cell : y.cell ≡ x.cell
   pub child_live : (d : ℕ) → y.child ≡ Some d → live s.colours s.control s.collector.sweep d ≡ true
   -- the child that was is in no set that is cut off from the further scan
-  pub child : (set : ℕ → Bool) → IsCutOff s.colours s.rows (Some y) set → (d : ℕ) → x.child ≡ Some d
-      → set d ≡ false
+  pub child : (set : ℕ → Bool) → IsCutOff s.owns s.colours s.rows (Some y) set → (d : ℕ)
+      → x.child ≡ Some d → set d ≡ false
   -- nor is what stands in a field that was open and is scanned now
-  pub between : (set : ℕ → Bool) → IsCutOff s.colours s.rows (Some y) set → (f d : ℕ)
+  pub between : (set : ℕ → Bool) → IsCutOff s.owns s.colours s.rows (Some y) set → (f d : ℕ)
       → field_of s x.cell f ≡ field.Cell d
       → ((f < scanned_count x) ⊎ (scanned_count y ≤ f)) ⊎ (set d ≡ false)
   pub count : scanned_count x ≤ scanned_count y
@@ -211,11 +212,11 @@ further_kept s x y k is fits =
         cleared = k.tracing.cleared;
         anchor_marked = k.tracing.anchor_marked;
         traced = (λ trace set cut.
-            let before : IsCutOff s.colours s.rows s.collector.scan set = subst
-            (λ z. IsCutOff s.colours s.rows z set) (sym is) record {
+            let before : IsCutOff s.owns s.colours s.rows s.collector.scan set = subst
+            (λ z. IsCutOff s.owns s.colours s.rows z set) (sym is) record {
               white = cut.white;
               child = fits.child set cut;
-              gray = (λ c d f gray unread n. elim (c == x.cell)
+              gray = (λ c d f gray unread n sure. elim (c == x.cell)
                   as (λ b. (c == x.cell) ≡ b → set d ≡ false) [
                     | true ↦ λ e.
                         let here : c ≡ x.cell = eqb-true c x.cell e in
@@ -226,11 +227,12 @@ further_kept s x y k is fits =
                         elim (fits.between set cut f d n2) [
                           | inl known ↦ elim known [
                             | inl lt ↦ absurd (omega arith)
-                            | inr on ↦ cut.gray c d f gray (open_from y c f on) n
+                            | inr on ↦ cut.gray c d f gray (open_from y c f on) n sure
                           ]
                           | inr out ↦ out
                         ]
-                    | false ↦ λ e. cut.gray c d f gray (open_away x y c f fits.same_cell e) n
+                    | false ↦ λ e.
+                        cut.gray c d f gray (open_away x y c f fits.same_cell e) n sure
                   ] refl);
               outside = cut.outside;
             } in
@@ -250,6 +252,7 @@ further_kept s x y k is fits =
                     | inr out ↦ out
                   ]);
               held = old.held;
+              doubtful = old.doubtful;
             });
         clean_pass = k.tracing.clean_pass;
         pass_waits = k.tracing.pass_waits;

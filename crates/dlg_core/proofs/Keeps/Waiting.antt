@@ -2,8 +2,8 @@
 --
 -- Duty       only the duty bit changes, and no fact reads it.
 -- Poll       who has the requested status is noted as having answered.
--- AnswerOut  a mutator that is out takes the requested status. It holds nothing and has no mode, so
---            nothing is owed for it.
+-- AnswerOut  a mutator that is out takes the requested status. It holds nothing, has no mode and
+--            no pending write, so nothing is owed for it.
 use Rattle.std.proofs.Common.{◌≡◌, ◌≢◌, ℕ, zero, suc, Bool, true, false, List, [], ◌∷◌, ◌<◌, arith}
 use Rattle.std.proofs.Common.{refl, sym, subst, ap, if◌then◌else◌}
 use Rattle.std.specs.Prelude.{slice_set}
@@ -54,6 +54,7 @@ duty_keeps s on k = record {
     names_live = k.cells.names_live;
     raw_once = k.cells.raw_once;
     raw_not_black = k.cells.raw_not_black;
+    pendings = k.cells.pendings;
   };
   tracing = k.tracing;
   sweep = record {
@@ -133,6 +134,7 @@ out_fits s i k outside =
     let nothing = (k.mutators.out i outside).0 in
     record {
       no_mode = (k.mutators.out i outside).1;
+      nothing_pending = (k.mutators.out i outside).2;
       fits = requested_fits s.control.stage;
       requested = (λ h. refl);
       marks = (λ m. subst (λ ps. All (MarkStands s.colours) ps) (sym nothing)

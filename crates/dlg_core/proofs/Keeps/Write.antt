@@ -1,8 +1,12 @@
--- Write and Fill: a payload field of a held cell gets another value.
+-- Write, Store and Fill: a payload field of a held cell gets another value.
 --
 -- Write  while the collector traces, an async mutator has marked the old value and holds the new
 --        one; one in sync2 has marked both. So the edge that goes ends in no white cell, and the
 --        new value was due before or is not white.
+-- Store  where the field has another value than the one that was read, it was doubtful before, so
+--        the edge that goes is none that counted. Else the old value is marked, as for a write, and
+--        so is the new one. The pending write goes once the new value stands, so what that names
+--        was due, if only by this doubt.
 -- Fill   no edge goes, since the field held no cell. To an async mutator the value was due before,
 --        as it holds it. One in sync2 fills a cell that is neither black nor under scan, so nothing
 --        is due.
@@ -25,15 +29,15 @@ use Rattle.core_machine.specs.declared.events.Event.TheVariants as event
 use Rattle.core_machine.specs.declared.places.Held.{Held}
 use Rattle.core_machine.specs.Operations.{is_in}
 use Rattle.core_machine.specs.State.{State, colour_in, colour_of, field_of, presence_of, own_of}
-use Rattle.core_machine.specs.State.{held_of, target_of, is_raw, is_raw_value}
+use Rattle.core_machine.specs.State.{held_of, target_of, begun_of, is_raw, is_raw_value}
 use Rattle.core_machine.specs.Words.{written, same_field, barrier_in, is_raw_kind, is_handshake}
-use Rattle.core_machine.specs.Words.{is_cell}
+use Rattle.core_machine.specs.Words.{is_cell, lets_store}
 use Rattle.core_machine.specs.InRange.{IsShaped}
 use Rattle.core_machine.specs.Next.{can, after}
 use Rattle.core_machine.specs.Own.{spent}
 use Rattle.core_machine.specs.Places.{holds_marked, is_marked_value, marks_stand, names_rightly}
-use Rattle.core_machine.specs.Conditions.{CanWrite}
-use Rattle.core_machine.proofs.Conditions.{write_needs, fill_needs}
+use Rattle.core_machine.specs.Conditions.{CanWrite, CanStore}
+use Rattle.core_machine.proofs.Conditions.{write_needs, store_needs, fill_needs}
 use Rattle.dlg_core.specs.Consistent.{IsConsistent, IsNotDue, MarkStands}
 use Rattle.dlg_core.specs.Facts.{live, status_fits, async_fits, marks_count, IsStaleMode}
 use Rattle.dlg_core.proofs.Changes.Field.{FieldFits, field_kept, with_field}
@@ -41,7 +45,8 @@ use Rattle.dlg_core.proofs.Changes.Own.{own_kept, spent_fits}
 use Rattle.dlg_core.proofs.Each.{all_held}
 use Rattle.core_machine.proofs.OneOperation.{inside_there}
 use Rattle.dlg_core.proofs.HeldLists.{at_place}
-use Rattle.dlg_core.proofs.Truths.{one_of_all, async_mode}
+use Rattle.dlg_core.proofs.Doubtful.{doubtful_box}
+use Rattle.dlg_core.proofs.Truths.{one_of_all, async_mode, begun_is, box_not_raw}
 use Rattle.dlg_core.proofs.CutOff.{not_white_outside}
 
 -- Statuses while the collector traces.
@@ -145,15 +150,17 @@ same_field_fits s b f k payload alive = record {
   payload = payload;
   alive = alive;
   names = (λ w e. k.cells.names_live b w f alive e);
-  gone = (λ now w e. inl e);
+  gone = (λ now w e sure. inl e);
   due = (λ now set cut old w e why. elim why [
     | inl black ↦ old.black b w f black e
-    | inr scan ↦ old.scanned scan.0 w f scan.1 scan.3
-        (subst (λ c. field_of s c f ≡ field.Cell w) scan.2 e)
+    | inr other ↦ elim other [
+      | inl scan ↦ old.scanned scan.0 w f scan.1 scan.3
+          (subst (λ c. field_of s c f ≡ field.Cell w) scan.2 e)
+      | inr doubt ↦ old.doubtful b w f doubt e
+    ]
   ]);
 }
 
--- what the test of a write found
 -- the value that a write leaves
 pub written_fits : (s : State) (i place f : ℕ) (old new : Field) → IsShaped s → IsConsistent s
     → CanWrite s i place f old new
@@ -178,7 +185,7 @@ written_fits s i place f old new range k needs =
             payload = omega (arith, needs.payload);
             alive = alive;
             names = (λ w is. named_live s i w new k needs.names_new needs.sealed is);
-            gone = (λ now w is. inr (value_not_white s i w k now
+            gone = (λ now w is sure. inr (value_not_white s i w k now
                 (subst (λ y. is_marked_value (held_of s i) y ≡ true) (sym was ∙ is)
                 (marks now).old_marked)));
             due = (λ now set cut old_due w is why.
@@ -202,6 +209,64 @@ write_keeps s i place f old new range k h =
     own_kept (with_field s b f x) i (spent (own_of s i)) wrote
     (spent_fits (with_field s b f x) i wrote needs.inside)
 
+-- Store.
+
+-- a mode that lets a store is there
+pub store_mode : (own : Status) (mode : Option Control) → lets_store own mode ≡ true
+    → is_some mode ≡ true
+store_mode own None h = absurd cc
+store_mode own (Some m) h = refl
+
+-- the value that a store leaves, while its write is still pending
+pub stored_fits : (s : State) (i : ℕ) (new : Field) → IsShaped s → IsConsistent s
+    → CanStore s i new
+    → FieldFits s (target_of s i (begun_of s i).place) (begun_of s i).f new
+stored_fits s i new range k needs =
+    let write = begun_of s i in
+    let begun = begun_is (own_of s i).pending needs.begun in
+    let pends = k.cells.pendings i write begun in
+    let marks : s.control.stage ≡ stage.Trace
+    → WriteMarks (presence_of s i).status (held_of s i) write.found new
+    = (λ now. marks_found (presence_of s i).status (own_of s i).mode s.control
+    (held_of s i) write.found new now
+    (status_in_trace s i range k needs.inside now)
+    (store_mode (presence_of s i).status (own_of s i).mode pends.lets) (k.mutators.modes i)
+    needs.marks) in
+    record {
+      payload = pends.payload;
+      alive = at_place (λ d. live s.colours s.control s.collector.sweep d ≡ true)
+          (held_of s i) write.place pends.there (k.cells.held_live i);
+      names = (λ w is. named_live s i w new k needs.names needs.sealed is);
+      gone = (λ now w is sure. inr (λ white. sure record {
+        mutator = i;
+        doubt = record {
+          write = write;
+          begun = begun;
+          cell = refl;
+          same = refl;
+          changed = (λ found. value_not_white s i w k now
+              (subst (λ y. is_marked_value (held_of s i) y ≡ true) found (marks now).old_marked)
+              white);
+        };
+      }));
+      due = (λ now set cut old_due w is why. elim (status_in_trace s i range k needs.inside now) [
+        | inl async ↦ held_outside s i w set new old_due async needs.names is
+        | inr sync2 ↦ not_white_outside s set w cut (value_not_white s i w k now
+            (subst (λ y. is_marked_value (held_of s i) y ≡ true) is
+            ((marks now).new_marked sync2)))
+      ]);
+    }
+
+pub store_keeps : (s : State) (i : ℕ) (new : Field) → IsShaped s → IsConsistent s
+    → can s (event.Store i new) ≡ true → IsConsistent (after s (event.Store i new))
+store_keeps s i new range k h =
+    let needs = store_needs s i new h in
+    let write = begun_of s i in
+    let t = with_field s (target_of s i write.place) write.f new in
+    let stored = field_kept s (target_of s i write.place) write.f new range k
+    (stored_fits s i new range k needs) in
+    own_kept t i (spent (own_of s i)) stored (spent_fits t i stored needs.inside)
+
 -- Fill.
 
 -- what is no cell names none
@@ -223,20 +288,26 @@ fill_keeps s i place f value range k h =
       payload = omega (arith, needs.payload);
       alive = alive;
       names = (λ w is. named_live s i w value k needs.names needs.sealed is);
-      gone = (λ now w is. absurd (no_cell_named (field_of s b f) w needs.clear is));
+      gone = (λ now w is sure. absurd (no_cell_named (field_of s b f) w needs.clear is));
       due = (λ now set cut old w is why. elim (status_in_trace s i range k needs.inside now) [
         | inl async ↦ held_outside s i w set value old async needs.names is
         | inr sync2 ↦ absurd (elim why [
           | inl black ↦ at_place (λ d. is_raw s d ≡ true → colour_of s d ≢ colour.Black)
               (held_of s i) place needs.there
               (k.cells.raw_not_black i sync2) needs.raw black
-          | inr scan ↦
-              let answers = (k.tracing.scans scan.0 scan.1).answers in
-              let async : (presence_of s i).status ≡ status.Async
-              = k.mutators.answered i (inside_there s range i needs.inside)
-              (subst (λ x. is_handshake x ≡ true) (sym now) refl)
-              (one_of_all s.collector.answered i answers)
-              ∙ ap requested_of now in cc
+          | inr other ↦ elim other [
+            | inl scan ↦
+                let answers = (k.tracing.scans scan.0 scan.1).answers in
+                let async : (presence_of s i).status ≡ status.Async
+                = k.mutators.answered i (inside_there s range i needs.inside)
+                (subst (λ x. is_handshake x ≡ true) (sym now) refl)
+                (one_of_all s.collector.answered i answers)
+                ∙ ap requested_of now in cc
+            | inr doubt ↦
+                let whole = box_not_raw (field_of s b 5)
+                (doubtful_box s b f (field.Cell w) k doubt) in
+                let raw = needs.raw in cc
+          ]
         ])
       ]);
     }
