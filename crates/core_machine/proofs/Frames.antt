@@ -21,7 +21,7 @@ use Rattle.core_machine.specs.Next.{can, maker, found_by, after}
 use Rattle.core_machine.specs.Own.{Own, no_own, own_after, presence_after}
 use Rattle.core_machine.specs.State.{State, colour_of, colour_in, row_in, field_in, field_of}
 use Rattle.core_machine.specs.State.{own_of, own_in, presence_in, presence_of, no_presence}
-use Rattle.core_machine.specs.State.{set_field, target_of, begun_of}
+use Rattle.core_machine.specs.State.{set_field, target_of}
 use Rattle.core_machine.specs.Table.{Word, TheControl, StatusOf, ColourOf, FieldOf}
 use Rattle.core_machine.specs.Tracing.{scan_of}
 use Rattle.core_machine.specs.WordOperations.{word_of}

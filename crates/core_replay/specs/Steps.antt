@@ -57,8 +57,10 @@ single_of word =
 abbrev pub verb_of : List ℕ → Option Verb
 verb_of word =
     if bytes_eq word (codes "read") then Some verbs.Read
+    else if bytes_eq word (codes "fetch") then Some verbs.Fetch
     else if bytes_eq word (codes "mark") then Some verbs.Mark
     else if bytes_eq word (codes "write") then Some verbs.Write
+    else if bytes_eq word (codes "store") then Some verbs.Store
     else if bytes_eq word (codes "claim") then Some verbs.Claim
     else if bytes_eq word (codes "fill") then Some verbs.Fill
     else if bytes_eq word (codes "seal") then Some verbs.Seal
@@ -119,6 +121,16 @@ read_in rest =
     and_then (index_in third) (λ f.
     at_end (next_rest_of third) (event.Read i place f))))
 
+-- `fetch I PLACE F`
+abbrev pub fetch_in : List ℕ → Result Event ScheduleKind
+fetch_in rest =
+    let second = next_rest_of rest in
+    let third = next_rest_of second in
+    and_then (index_in rest) (λ i.
+    and_then (index_in second) (λ place.
+    and_then (index_in third) (λ f.
+    at_end (next_rest_of third) (event.Fetch i place f))))
+
 -- `mark I PLACE`
 abbrev pub mark_in : List ℕ → Result Event ScheduleKind
 mark_in rest =
@@ -148,6 +160,14 @@ write_in rest =
     and_then (value_in fourth) (λ old.
     and_then (value_in fifth) (λ new.
     at_end (next_rest_of fifth) (event.Write i place f old new))))))
+
+-- `store I NEW`
+abbrev pub store_in : List ℕ → Result Event ScheduleKind
+store_in rest =
+    let second = next_rest_of rest in
+    and_then (index_in rest) (λ i.
+    and_then (value_in second) (λ new.
+    at_end (next_rest_of second) (event.Store i new)))
 
 -- `fill I PLACE F VALUE`
 abbrev pub fill_in : List ℕ → Result Event ScheduleKind
@@ -219,8 +239,10 @@ out_in rest = and_then (index_in rest) (λ i. over_in i (next_rest_of rest))
 
 abbrev pub event_in : Verb → List ℕ → Result Event ScheduleKind
 event_in verbs.Read rest = read_in rest
+event_in verbs.Fetch rest = fetch_in rest
 event_in verbs.Mark rest = mark_in rest
 event_in verbs.Write rest = write_in rest
+event_in verbs.Store rest = store_in rest
 event_in verbs.Claim rest = claim_in rest
 event_in verbs.Fill rest = fill_in rest
 event_in verbs.Seal rest = seal_in rest

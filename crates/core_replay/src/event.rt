@@ -3,9 +3,10 @@
 //! Each reader below takes what is left of a line after its first word. A fault of an earlier word
 //! counts before one of a later word, so each word is read where it stands in the line.
 ghost use Rattle.core_replay.specs.Start.{at_end};
-ghost use Rattle.core_replay.specs.Steps.{claim_in, copies_in, duty_in, event_in, fill_in, keep_in};
-ghost use Rattle.core_replay.specs.Steps.{mark_in, out_in, over_in, place_in, post_in, read_in};
-ghost use Rattle.core_replay.specs.Steps.{seal_in, single_in, single_step_of, step_of, write_in};
+ghost use Rattle.core_replay.specs.Steps.{claim_in, copies_in, duty_in, event_in, fetch_in};
+ghost use Rattle.core_replay.specs.Steps.{fill_in, keep_in, mark_in, out_in, over_in, place_in};
+ghost use Rattle.core_replay.specs.Steps.{post_in, read_in, seal_in, single_in, single_step_of};
+ghost use Rattle.core_replay.specs.Steps.{step_of, store_in, write_in};
 ghost use Rattle.std.specs.Prelude.{ok_or, ◌<◌, ◌^◌, ◌≡◌};
 
 use crate::fault::ScheduleKind;
@@ -69,8 +70,10 @@ fn read_event(verb: Verb, rest: &[u8]) -> Result<Event, ScheduleKind>
 {
     match verb {
         Verb::Read => read_read(rest),
+        Verb::Fetch => read_fetch(rest),
         Verb::Mark => read_mark(rest),
         Verb::Write => read_write(rest),
+        Verb::Store => read_store(rest),
         Verb::Claim => read_claim(rest),
         Verb::Fill => read_fill(rest),
         Verb::Seal => read_seal(rest),
@@ -92,6 +95,20 @@ fn read_read(rest: &[u8]) -> Result<Event, ScheduleKind>
     at_end(
         next_rest(third),
         Event::Read(i, place as usize, field as usize),
+    )
+}
+
+fn read_fetch(rest: &[u8]) -> Result<Event, ScheduleKind>
+    ensures { result ≡ fetch_in rest.now }
+{
+    let i = read_index(rest)?;
+    let second = next_rest(rest);
+    let place = read_index(second)?;
+    let third = next_rest(second);
+    let field = read_index(third)?;
+    at_end(
+        next_rest(third),
+        Event::Fetch(i, place as usize, field as usize),
     )
 }
 
@@ -129,6 +146,15 @@ fn read_write(rest: &[u8]) -> Result<Event, ScheduleKind>
         next_rest(fifth),
         Event::Write(i, place as usize, field as usize, old, new),
     )
+}
+
+fn read_store(rest: &[u8]) -> Result<Event, ScheduleKind>
+    ensures { result ≡ store_in rest.now }
+{
+    let i = read_index(rest)?;
+    let second = next_rest(rest);
+    let new = read_value(second)?;
+    at_end(next_rest(second), Event::Store(i, new))
 }
 
 fn read_fill(rest: &[u8]) -> Result<Event, ScheduleKind>

@@ -24,8 +24,10 @@ pub(crate) enum Single {
 #[derive(Clone, Copy)]
 pub(crate) enum Verb {
     Read,
+    Fetch,
     Mark,
     Write,
+    Store,
     Claim,
     Fill,
     Seal,
@@ -104,10 +106,14 @@ impl Verb {
     {
         if is(word, "read") {
             Some(Verb::Read)
+        } else if is(word, "fetch") {
+            Some(Verb::Fetch)
         } else if is(word, "mark") {
             Some(Verb::Mark)
         } else if is(word, "write") {
             Some(Verb::Write)
+        } else if is(word, "store") {
+            Some(Verb::Store)
         } else if is(word, "claim") {
             Some(Verb::Claim)
         } else if is(word, "fill") {

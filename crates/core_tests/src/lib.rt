@@ -3,7 +3,7 @@
 //!
 //! A crate that has tests is proved twice, so the tests of several crates stand here.
 //!
-//! Reading order: `words`, `machine`, `runs`, `schedules`, `worked`.
+//! Reading order: `words`, `machine`, `runs`, `schedules`, `worked`, `stores`.
 #![tactic(auto)]
 
 #[cfg(test)]
@@ -12,6 +12,8 @@ mod machine;
 mod runs;
 #[cfg(test)]
 mod schedules;
+#[cfg(test)]
+mod stores;
 #[cfg(test)]
 mod words;
 #[cfg(test)]

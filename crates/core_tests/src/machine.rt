@@ -3,7 +3,7 @@ ghost use Rattle.core_machine.specs.InRange.{InRange};
 ghost use Rattle.std.specs.Prelude.{IfOk, ◌<◌, ◌≡◌, ◌≤◌};
 
 use cell_words::{Colour, Field, Kind, Row, Stage, Status};
-use core_machine::{Event, Machine, NoMemory};
+use core_machine::{Event, Machine, NoMemory, Pending};
 use std::alloc::Global;
 use std::test::Fail;
 
@@ -242,6 +242,53 @@ fn a_linked_cell_is_marked_through_the_anchor(rt: HostRuntime) -> Result<(), Fai
     let linked = (8, Field::Cell(1), 1);
     let marked = (23, Status::Async, Colour::Gray);
     assert_eq!(rt; linked_and_marked(rt.alloc())?, (linked, marked));
+    Ok(())
+}
+
+const FETCHING: [Event; 6] = [
+    Event::Begin(0),
+    Event::Look(0),
+    Event::Claim(0, 1),
+    Event::Seal(0, 1, Kind::Record),
+    Event::Look(0),
+    Event::Fetch(0, 0, 3),
+];
+
+/// How many of the events happen, the write that the mutator has then begun, and the field of the
+/// anchor that it is to store.
+fn pending_after(machine: &mut Machine, events: &[Event]) -> (usize, Option<Pending>, Field)
+    requires range { InRange machine.old }
+    requires cells { 1 < machine.old.cells }
+    ensures range { InRange machine.new }
+    ensures cells { machine.new.cells ≡ machine.old.cells }
+{
+    let count = happening(machine, events);
+    (count, machine.pending(0), machine.field(0, 3))
+}
+
+/// What is begun and stored behind a fetch, behind a look, and behind the store.
+fn stored(alloc: Global) -> Result<[(usize, Option<Pending>, Field); 3], NoMemory> {
+    let mut machine = opened(alloc, 2, 1, 4)?;
+    Ok([
+        pending_after(&mut machine, &FETCHING),
+        pending_after(&mut machine, &[Event::Look(0)]),
+        pending_after(&mut machine, &[Event::Store(0, Field::Cell(1))]),
+    ])
+}
+
+#[test]
+fn a_store_ends_what_its_fetch_began(rt: HostRuntime) -> Result<(), Fail> {
+    let pending = Pending {
+        place: 0,
+        f: 3,
+        found: Field::Null,
+    };
+    let wanted = [
+        (6, Some(pending), Field::Null),
+        (0, Some(pending), Field::Null),
+        (1, None, Field::Cell(1)),
+    ];
+    assert_eq!(rt; stored(rt.alloc())?, wanted);
     Ok(())
 }
 

@@ -47,19 +47,21 @@ fn fault_at_third(alloc: Global, line: &str) -> Result<Option<(u32, ScheduleKind
 }
 
 /// Lines with their events.
-const EVENTS: [(&str, Event); 33] = [
+const EVENTS: [(&str, Event); 35] = [
     ("begin 0", Event::Begin(0)),
     ("look 1", Event::Look(1)),
     ("answer 63", Event::Answer(63)),
     ("end 4294967295", Event::End(4_294_967_295)),
     ("over 0000000000000000007", Event::Over(7)),
     ("read 0 1 4", Event::Read(0, 1, 4)),
+    ("fetch 0 1 4", Event::Fetch(0, 1, 4)),
     ("mark 0 2", Event::Mark(0, 2)),
     ("claim 0 255", Event::Claim(0, 255)),
     (
         "write 0 0 0 - @1",
         Event::Write(0, 0, 0, Field::Null, Field::Cell(1)),
     ),
+    ("store 1 @2", Event::Store(1, Field::Cell(2))),
     (
         "fill 2 1 3 =4611686018427387903",
         Event::Fill(2, 1, 3, Field::Num(4_611_686_018_427_387_903)),
@@ -148,7 +150,7 @@ fn the_first_line_gives_the_sizes(rt: HostRuntime) {
 }
 
 /// Lines with their faults.
-const FAULTS: [(&str, ScheduleKind); 30] = [
+const FAULTS: [(&str, ScheduleKind); 33] = [
     ("look 0\x7f", ScheduleKind::BadByte),
     (" look 0", ScheduleKind::NoEvent),
     ("Look 0", ScheduleKind::NoEvent),
@@ -169,6 +171,9 @@ const FAULTS: [(&str, ScheduleKind); 30] = [
     ),
     ("write 0 0 0 @4294967296 -", ScheduleKind::BadNumber),
     ("write 0 0 0 - 5", ScheduleKind::BadNumber),
+    ("fetch 0 1", ScheduleKind::BadNumber),
+    ("store 0 1", ScheduleKind::BadNumber),
+    ("store 0 - ", ScheduleKind::Extra),
     ("seal 0 1", ScheduleKind::NoEvent),
     ("seal 0 1 boxed", ScheduleKind::NoEvent),
     ("seal x 1 boxed", ScheduleKind::BadNumber),

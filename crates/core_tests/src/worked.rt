@@ -4,7 +4,7 @@ use std::alloc::Global;
 use std::test::Fail;
 
 /// Whether the schedule can be read and has the text.
-fn has_text(alloc: Global, schedule: &str, text: &str) -> Result<bool, ScheduleError> {
+pub(crate) fn has_text(alloc: Global, schedule: &str, text: &str) -> Result<bool, ScheduleError> {
     let bytes = schedule.as_bytes();
     if bytes.len() > 10_000 {
         return Ok(false);

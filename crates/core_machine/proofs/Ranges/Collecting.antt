@@ -69,6 +69,7 @@ collecting_kept s r control answered marked cursor clean scan sweep answered_fit
       names_fit = record {
         fields_fit = r.names_fit.fields_fit;
         held_fit = r.names_fit.held_fit;
+        pendings_fit = r.names_fit.pendings_fit;
         scan_fits = scan_fits;
       };
       control_fits = control_fits;
