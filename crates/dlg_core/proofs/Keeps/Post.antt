@@ -398,6 +398,24 @@ no_late_store status.Sync2 (Some m) now sync2 is stale h =
     = subst (λ x. not (same_status status.Sync2 status.Sync2 && same_stage x stage.Sync2) ≡ true)
     same h in cc
 
+-- so no write is pending when tracing begins
+pub none_pending : (s : State) → IsShaped s → IsConsistent s
+    → can s (event.Post stage.Trace) ≡ true → (i : ℕ) → (own_of s i).pending ≡ None
+none_pending s range k h i =
+    let needs = post_trace_needs s h in
+    let now = needs.now in
+    let settled = settled_by_answers s k (ap is_handshake now) needs.answered in
+    elim (own_of s i).pending
+    as (λ o. (own_of s i).pending ≡ o → (own_of s i).pending ≡ None) [
+      | None ↦ λ e. e
+      | Some write ↦ λ e. elim (cases_lt i s.mutators) [
+        | inl lt ↦ absurd (no_late_store (presence_of s i).status (own_of s i).mode s.control
+            (settled i lt ∙ ap requested_of now) now (k.mutators.modes i)
+            (k.cells.pendings i write e).lets)
+        | inr past ↦ ap (λ o. o.pending) (nobody s i range past)
+      ]
+    ] refl
+
 pub post_trace : (s : State) → IsShaped s → IsConsistent s → can s (event.Post stage.Trace) ≡ true
     → IsConsistent (after s (event.Post stage.Trace))
 post_trace s range k h =
@@ -442,13 +460,8 @@ post_trace s range k h =
             | inr past ↦ subst (λ o. All (λ p. set p.cell ≡ false) o.held)
                 (sym (nobody s i range past)) (All-nil (λ p. set p.cell ≡ false))
           ]);
-          doubtful = (λ c d f is n. absurd (elim (cases_lt is.mutator s.mutators) [
-            | inl lt ↦ no_late_store (presence_of s is.mutator).status (own_of s is.mutator).mode
-                s.control (settled is.mutator lt ∙ asks) now (k.mutators.modes is.mutator)
-                (k.cells.pendings is.mutator is.doubt.write is.doubt.begun).lets
-            | inr past ↦ no_doubt (own_of s is.mutator) c f (field.Cell d)
-                (ap (λ o. o.pending) (nobody s is.mutator range past)) is.doubt
-          ]));
+          doubtful = (λ c d f is n. absurd (no_doubt (own_of s is.mutator) c f (field.Cell d)
+              (none_pending s range k h is.mutator) is.doubt));
         });
         clean_pass = (λ _ _ c gray. (c, omega arith, gray));
         pass_waits = (λ _ _. refl);
