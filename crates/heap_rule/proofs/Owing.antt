@@ -610,17 +610,17 @@ module _ {P : Type 0} (fixed : ℕ
         tells = λ n h. tt;
       }
 
-  pub owes_keep : (n from copies : ℕ) → MayKeep v n from copies
+  pub owes_keep : (n from copies : ℕ) → v.own.pending ≡ None → MayKeep v n from copies
       → Owed fixed s l (event.Keep i n from copies) (index_of v.shape.mutators (StatusOf i))
       (left_by Load) (told_by Load)
-  owes_keep n from copies may = record {
+  owes_keep n from copies settled may = record {
     happens =
         let long : (m : ℕ) → m ≤ length v.own.held → nat_le m (length (held_of s i)) ≡ true
         = (λ m le. ap (λ (o : Own). nat_le m (length o.held)) mine.own
         ∙ le-leb m (length v.own.held) le) in
         and_from _ _ (and_from _ _
         (and_from _ _ (and_from _ _
-        (and_from _ _ (inside_now may.inside) (settled_now may.settled)) (le-leb 1 n may.some))
+        (and_from _ _ (inside_now may.inside) (settled_now settled)) (le-leb 1 n may.some))
         (long n may.kept)) (long (from + copies) may.copied))
         (ap (λ (r : ℕ). nat_le (n + copies) r) mine.room ∙ le-leb (n + copies) v.room may.room);
     proper = tt;

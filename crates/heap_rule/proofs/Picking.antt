@@ -27,6 +27,9 @@ module _ {P : Type 0} (holds : Map → List P → Type 0) (fixed : ℕ → Bool)
   pub read_picks : (i place f : ℕ) → Picks holds fixed same_pass v (event.Read i place f)
   read_picks i place f = still_picks (event.Read i place f) (λ s l. refl)
 
+  pub fetch_picks : (i place f : ℕ) → Picks holds fixed same_pass v (event.Fetch i place f)
+  fetch_picks i place f = still_picks (event.Fetch i place f) (λ s l. refl)
+
 module _ {P : Type 0} (holds : Map → List P → Type 0) (fixed : ℕ → Bool)
     (shrinks : (old new : Map) (passes : List P) → Smaller old new → holds old passes
     → holds new passes) where

@@ -17,7 +17,8 @@ use Rattle.core_machine.specs.State.{presence_of, row_in, set_field, target_of}
 use Rattle.core_machine.specs.Words.{is_box_kind, is_raw_kind, same_field}
 use Rattle.core_machine.specs.declared.pending.Pending.{Pending}
 use Rattle.core_machine.proofs.Conditions.{fill_needs, store_needs, write_needs}
-use Rattle.dlg_core.specs.Consistent.{IsConsistent, IsPending}
+use Rattle.dlg_core.specs.Consistent.{IsConsistent}
+use Rattle.dlg_core.specs.Doubt.{IsPending}
 use Rattle.core_machine.proofs.OneOperation.{inside_there}
 use Rattle.dlg_core.proofs.Step.{consistent_after}
 use Rattle.heap_rule.specs.Facts.{Facts, Proper, is_record_kind}

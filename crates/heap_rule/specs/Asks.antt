@@ -193,9 +193,9 @@ module _ {P : Type 0} where
         (same_status (next_status_of v.presence.status) status.Async) || all_marked v.own.held)
         ≡ true
 
+  -- and nothing is pending, which the layer above has of its seat without more
   pub record MayKeep (v : View P) (n from copies : ℕ) : Type 0 where
     pub inside : v.presence.inside ≡ true
-    pub settled : v.own.pending ≡ None
     pub some : 1 ≤ n
     pub kept : n ≤ length v.own.held
     pub copied : from + copies ≤ length v.own.held

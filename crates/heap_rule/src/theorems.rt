@@ -38,17 +38,20 @@ pub fn facts_on_lore_stay()
 {}
 
 /// The boxes behind such an event are a smaller map than those before it; behind a write that was
-/// made than those with the new entry, and there and behind a fill with what the value names.
+/// made and behind a store than those with the new entry, and there and behind a fill with what the
+/// value names.
 pub fn boxes_grow_smaller()
     ensures { (fixed : ℕ → Bool) (s : State) (l : Lore) (e : Event) → IsShaped s → IsConsistent s
         → Facts fixed s l → can s e ≡ true → Proper fixed s l e
         → Smaller (boxes_by s l e) (boxes_of (after s e) (lore_after s l e)) }
 {}
 
-/// A read that leaves its pass keeps any client's rule.
+/// A read that leaves its pass keeps any client's rule, and so does a fetch.
 pub fn a_read_keeps_any_rule<P: Keeping>()
-    ensures { (v : View P) (i place f : ℕ) → Picks P.holds P.fixed same_pass v
+    ensures read { (v : View P) (i place f : ℕ) → Picks P.holds P.fixed same_pass v
         (event.Read i place f) }
+    ensures fetch { (v : View P) (i place f : ℕ) → Picks P.holds P.fixed same_pass v
+        (event.Fetch i place f) }
 {}
 
 /// A fill of a raw cell with null, with a number or with a cell that is known as a record or as a
