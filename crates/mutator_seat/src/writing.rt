@@ -63,7 +63,7 @@ impl<'a, P: Keeping> Mutator<'a, P> {
 }
 
 /// Marks what the barrier wants.
-fn mark_wanted<P: Keeping>(
+pub(crate) fn mark_wanted<P: Keeping>(
     heap: &CellHeap<P>,
     seat: &mut MutSeat<P>,
     wanted: Barrier,
