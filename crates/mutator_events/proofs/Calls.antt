@@ -23,7 +23,7 @@ use Rattle.core_machine.specs.Words.{is_blue}
 use Rattle.heap_rule.specs.declared.known.Learned.{Learned}
 use Rattle.heap_rule.specs.declared.view.View.{View}
 use Rattle.heap_rule.specs.Apart.{IsNewTo}
-use Rattle.heap_rule.specs.Asks.{MayClaim, MayComeIn, MayKeep, MayRead}
+use Rattle.heap_rule.specs.Asks.{MayClaim, MayComeIn, MayFetch, MayKeep, MayRead}
 use Rattle.heap_rule.specs.Boxes.{Map}
 use Rattle.heap_rule.specs.Lore.{cells_in, nothing_learned}
 use Rattle.heap_rule.specs.Rule.{told}
@@ -33,15 +33,16 @@ use Rattle.heap_table.specs.Seats.{SeatView}
 use Rattle.mutator_events.specs.Events.{AtEvent, tells, tells_with}
 use Rattle.mutator_events.specs.Seats.{IsMutator}
 use Rattle.mutator_events.specs.Values.{cells_kept, cells_read}
-use Rattle.mutator_events.proofs.Founds.{at_event, begin_found, claim_found}
-use Rattle.mutator_events.proofs.Founds.{claims_fit, end_found, keep_found, look_found, over_found}
+use Rattle.mutator_events.proofs.Founds.{at_event, begin_found, claim_found, claims_fit, end_found}
+use Rattle.mutator_events.proofs.Founds.{fetch_found, fetch_named, keep_found, look_found}
+use Rattle.mutator_events.proofs.Founds.{over_found}
 use Rattle.mutator_events.proofs.Founds.{read_found, read_named, renumbered}
 use Rattle.mutator_events.proofs.Founds.{write_found}
 use Rattle.mutator_events.proofs.HeldCells.{held_many}
 use Rattle.mutator_events.proofs.Keeping.{answer_keeps, begin_keeps, claim_keeps, end_keeps}
-use Rattle.mutator_events.proofs.Keeping.{fill_keeps, keep_keeps, look_keeps, mark_keeps}
-use Rattle.mutator_events.proofs.Keeping.{missed_keeps, over_keeps, read_keeps, seal_keeps}
-use Rattle.mutator_events.proofs.Keeping.{write_keeps}
+use Rattle.mutator_events.proofs.Keeping.{fetch_keeps, fill_keeps, keep_keeps, look_keeps}
+use Rattle.mutator_events.proofs.Keeping.{mark_keeps, missed_keeps, over_keeps, read_keeps}
+use Rattle.mutator_events.proofs.Keeping.{seal_keeps, store_keeps, write_keeps}
 
 -- What a clause says of the seat as its caller has it is so of the seat within, and back.
 
@@ -258,6 +259,30 @@ module _ {P : Type 0} {holds : Map → List P → Type 0} {fixed : ℕ → Bool}
         (read_found place f field is here))
         (λ k p. read_keeps m v.number k p place f field (read_named place f field here is)
         (omega (arith, many, may.room, m.room_is)))
+
+    pub after_fetch : (place f : ℕ) (field : Field)
+        → ((other : Field) → IsValidField other → pack_field_of other ≡ number → field ≡ other)
+        → MayFetch v place f → AtStep holds fixed v (event.Fetch i place f) next number w
+        → Seen holds fixed next v w (event.Fetch v.number place f) (finds.Field field) i room
+        (cells_read held field) mode inside status claims
+    after_fetch place f field is may at =
+        let here = renumbered i (λ n. event.Fetch n place f) m.number_is at in
+        let many = held_many v.own.held held m.own.held_is in
+        seen (at_event (event.Fetch v.number place f) (finds.Field field) here
+        (fetch_found place f field is here))
+        (λ k p. fetch_keeps m v.number k p place f field (fetch_named place f field here is)
+        (omega (arith, many, may.room, m.room_is)))
+
+    pub after_store : {new new_run : Field} → new_run ≡ new
+        → AtStep holds fixed v (event.Store i new_run) next number w
+        → Seen holds fixed next v w (event.Store v.number new) finds.Stored i room held None inside
+        status claims
+    after_store {new} new_is at =
+        let there = subst (λ (x : Field). AtStep holds fixed v (event.Store i x) next number w)
+        new_is at in
+        let here = renumbered i (λ n. event.Store n new) m.number_is there in
+        seen (at_event (event.Store v.number new) finds.Stored here refl)
+        (λ k p. store_keeps m v.number k p new finds.Stored)
 
     pub after_write : {old new old_run new_run : Field} (place f : ℕ) (field : Field)
         → old_run ≡ old → new_run ≡ new

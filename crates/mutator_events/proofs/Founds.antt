@@ -232,6 +232,34 @@ module _ {P : Type 0} {holds : Map → List P → Type 0} {fixed : ℕ → Bool}
       (subst (λ (n : ℕ). NamesBelow n there) at.mine.cells
       (at.mine.shown.shaped.names_fit.fields_fit (target_of at.core i place) f))
 
+  pub fetch_word : {i place f : ℕ} → AtStep holds fixed v (event.Fetch i place f) next number w
+      → IsFieldWord number
+  fetch_word {i} {place} {f} at = (
+    field_of at.core (target_of at.core i place) f,
+    there_valid (event.Fetch i place f) at,
+    at.says,
+  )
+
+  pub fetch_found : {i : ℕ} (place f : ℕ) (field : Field)
+      → ((other : Field) → IsValidField other → pack_field_of other ≡ number → field ≡ other)
+      → (at : AtStep holds fixed v (event.Fetch i place f) next number w)
+      → found_by at.core (event.Fetch i place f) ≡ finds.Field field
+  fetch_found {i} place f field is at =
+      ap (λ (x : Field). finds.Field x)
+      (sym (is (field_of at.core (target_of at.core i place) f)
+      (there_valid (event.Fetch i place f) at) at.says))
+
+  pub fetch_named : {i : ℕ} (place f : ℕ) (field : Field)
+      → (at : AtStep holds fixed v (event.Fetch i place f) next number w)
+      → ((other : Field) → IsValidField other → pack_field_of other ≡ number → field ≡ other)
+      → NamesBelow v.shape.cells field
+  fetch_named {i} place f field at is =
+      let there = field_of at.core (target_of at.core i place) f in
+      subst (λ (x : Field). NamesBelow v.shape.cells x)
+      (sym (is there (there_valid (event.Fetch i place f) at) at.says))
+      (subst (λ (n : ℕ). NamesBelow n there) at.mine.cells
+      (at.mine.shown.shaped.names_fit.fields_fit (target_of at.core i place) f))
+
   pub write_word : {i place f : ℕ} {old new : Field}
       → AtStep holds fixed v (event.Write i place f old new) next number w → IsFieldWord number
   write_word {i} {place} {f} {old} {new} at = (

@@ -20,6 +20,7 @@ use Rattle.core_machine.specs.declared.events.Found.TheVariants as finds
 use Rattle.core_machine.specs.declared.events.Taken.{Taken}
 use Rattle.core_machine.specs.InRange.{NamesBelow}
 use Rattle.core_machine.specs.Own.{Own, having_claimed, having_read, no_own, own_after}
+use Rattle.core_machine.specs.Own.{pending_or_none}
 use Rattle.core_machine.specs.Trail.{own_along}
 use Rattle.core_machine.specs.declared.places.Held.{Held}
 use Rattle.core_machine.specs.Places.{cell_at, kept, mark_of, unmark}
@@ -48,7 +49,7 @@ read_own own (field.Num n) = (refl, refl, refl)
 read_own own (field.Cell c) = (cells_more own.held c, refl, refl)
 
 -- a claim of a cell that was not blue leaves the own part
-missed_own : (own : Own) (c : ℕ) (found : Colour) → is_blue found ≡ false
+pub missed_own : (own : Own) (c : ℕ) (found : Colour) → is_blue found ≡ false
     → having_claimed own c found ≡ own
 missed_own own c colour.Blue other = let no = other in absurd cc
 missed_own own c colour.White other = refl
@@ -200,6 +201,33 @@ module _ {P : Type 0} {v : View P} {number room : ℕ} {held : List ℕ} {mode :
         told_keeps (own_moved None (cells_unmarked v.own.held) refl refl) m.presence
         (written_roots m.roots unmark (cells_unmarked v.own.held) (was_made old found) place f new)
         (left_on (event.Write i place f old new) found)
+
+    -- a fetch holds what it finds, as a read does
+    pub fetch_keeps : (place f : ℕ) (found : Field) → NamesBelow v.shape.cells found
+        → length held < room
+        → IsMutator (told v (event.Fetch i place f) (finds.Field found) k p) number room
+        (cells_read held found) mode inside status claims
+    fetch_keeps place f found named free =
+        let parts = read_own v.own found in
+        told_keeps
+        record {
+          held_is = parts.0 ∙ ap (λ (cells : List ℕ). cells_read cells found) m.own.held_is;
+          held_below = read_below v.shape.cells held found named m.own.held_below;
+          held_fits = read_many held found room free;
+          mode_is = parts.1 ∙ m.own.mode_is;
+          claims_is = parts.2 ∙ m.own.claims_is;
+        }
+        m.presence (read_roots v.own place k found m.roots)
+        (left_on (event.Fetch i place f) (finds.Field found))
+
+    pub store_keeps : (new : Field) (found : Found)
+        → IsMutator (told v (event.Store i new) found k p) number room held None inside status
+        claims
+    store_keeps new found =
+        let begun = pending_or_none v.own.pending in
+        told_keeps (own_moved None (cells_unmarked v.own.held) refl refl) m.presence
+        (written_roots m.roots unmark (cells_unmarked v.own.held) true begun.place begun.f new)
+        (left_on (event.Store i new) found)
 
     pub claim_keeps : (c : ℕ) → c < v.shape.cells → length held < room
         → IsMutator (told v (event.Claim i c) (finds.Colour colour.Blue) k p) number room

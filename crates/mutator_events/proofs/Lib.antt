@@ -1,3 +1,4 @@
+pub mod Begun
 pub mod Calls
 pub mod HeldCells
 pub mod Founds

@@ -13,6 +13,7 @@ use Rattle.cell_words.specs.declared.presences.Status.{Status}
 use Rattle.core_machine.specs.declared.events.Event.{Event}
 use Rattle.core_machine.specs.declared.events.Event.TheVariants as event
 use Rattle.core_machine.specs.declared.events.Found.{Found}
+use Rattle.core_machine.specs.declared.pending.Pending.{Pending}
 use Rattle.core_machine.specs.State.{State}
 use Rattle.core_machine.specs.Table.{Word, ColourOf, FieldOf, StatusOf, index_of}
 use Rattle.core_machine.specs.WordOperations.{Operation, Exchange, Store, answered_presence}
@@ -20,13 +21,13 @@ use Rattle.core_machine.specs.WordOperations.{colour_exchange, left_by}
 use Rattle.core_machine.specs.Words.{born_colour, kind_field}
 use Rattle.heap_rule.specs.declared.known.Learned.{Learned}
 use Rattle.heap_rule.specs.declared.view.View.{View}
-use Rattle.heap_rule.specs.Asks.{Asks, MayAnswer, MayClaim, MayFill, MayMark, MaySeal, MayWrite}
-use Rattle.heap_rule.specs.Asks.{target, told_by}
+use Rattle.heap_rule.specs.Asks.{Asks, MayAnswer, MayClaim, MayFill, MayMark, MaySeal, MayStore}
+use Rattle.heap_rule.specs.Asks.{MayWrite, begun_of, target, told_by}
 use Rattle.heap_rule.specs.Boxes.{Map, Smaller, boxes_by, boxes_of}
 use Rattle.heap_rule.specs.Lore.{Lore}
 use Rattle.heap_rule.specs.Steps.{Owes, Picks, StandsBy, same_pass}
 use Rattle.heap_rule.proofs.Owing.{owes_answer, owes_claim, owes_fill, owes_mark, owes_seal}
-use Rattle.heap_rule.proofs.Owing.{owes_write}
+use Rattle.heap_rule.proofs.Owing.{owes_store, owes_write}
 use Rattle.heap_rule.proofs.Picking.{stands_by, stands_still}
 use Rattle.mutator_events.specs.Seats.{IsMutator}
 
@@ -82,6 +83,20 @@ module _ {P : Type 0} (fixed : ℕ → Bool) {v : View P} {i room : ℕ} {held :
       (λ s l mine. owes_write fixed v s l mine place f old_run new_run
       (subst (λ (x : Field). MayWrite fixed v place f x new_run) (sym old_is)
       (subst (λ (x : Field). MayWrite fixed v place f old x) (sym new_is) may)))
+
+  pub store_owed : {new new_run : Field} {at word : ℕ} (begun : Pending) → new_run ≡ new
+      → begun_of v ≡ begun
+      → index_of v.shape.mutators (FieldOf (target v begun.place) begun.f) ≡ at
+      → word ≡ pack_field_of new_run → MayStore fixed v new
+      → Owes fixed v (event.Store i new_run) at (left_by (Store word)) (told_by (Store word))
+  store_owed {new} {new_run} {at} {word} begun is begun_is there packed may =
+      owed_as (λ n. event.Store n new_run) (FieldOf (target v (begun_of v).place) (begun_of v).f)
+      (Store (pack_field_of new_run)) (Store word)
+      (ap (λ (p : Pending). index_of v.shape.mutators (FieldOf (target v p.place) p.f)) begun_is
+      ∙ there)
+      (ap (λ (n : ℕ). Store n) (sym packed))
+      (λ s l mine. owes_store fixed v s l mine new_run
+      (subst (λ (x : Field). MayStore fixed v x) (sym is) may))
 
   pub seal_owed : {at word : ℕ} (place : ℕ) (of : Kind)
       → index_of v.shape.mutators (FieldOf (target v place) 5) ≡ at
@@ -158,6 +173,13 @@ module _ {P : Type 0} (fixed : ℕ → Bool) {v : View P} {i room : ℕ} {held :
         picked_as next (λ n. event.Fill n place f at_run)
         (subst (λ (x : Field). Picks holds fixed next v (event.Fill v.number place f x)) (sym is)
         picks)
+
+    pub store_picked : {new new_run : Field} (next : Learned → Found → P → P) → new_run ≡ new
+        → Picks holds fixed next v (event.Store v.number new)
+        → StandsBy holds fixed next v (event.Store i new_run)
+    store_picked {new} {new_run} next is picks =
+        picked_as next (λ n. event.Store n new_run)
+        (subst (λ (x : Field). Picks holds fixed next v (event.Store v.number x)) (sym is) picks)
 
     pub write_picked : {old new old_run new_run : Field} (next : Learned → Found → P → P)
         (place f : ℕ) → old_run ≡ old → new_run ≡ new

@@ -46,6 +46,9 @@ module _ {P : Type 0} where
   abbrev pub fill_of : View P → ℕ → ℕ → Value → Event
   fill_of v place f value = event.Fill v.number place f (field_at v.own.held value)
 
+  abbrev pub store_of : View P → Value → Event
+  store_of v new = event.Store v.number (field_at v.own.held new)
+
   abbrev pub write_of : View P → ℕ → ℕ → Value → Value → Event
   write_of v place f old new =
       event.Write v.number place f (field_at v.own.held old) (field_at v.own.held new)

@@ -1,12 +1,14 @@
 -- What the parts of a mutator's seat at run time say of its view.
 -- Source: this project's.
-use Rattle.std.specs.Prelude.{ℕ, ◌≡◌, ◌<◌, ◌≤◌, Bool, true, false, List, length, All, Option}
+use Rattle.std.specs.Prelude.{ℕ, ◌≡◌, ◌<◌, ◌≤◌, Bool, true, false, List, length, All}
+use Rattle.std.specs.Prelude.{Option, Some, None}
 use Rattle.cell_words.specs.declared.controls.Control.{Control}
 use Rattle.cell_words.specs.declared.presences.Presence.{Presence}
 use Rattle.cell_words.specs.declared.presences.Status.{Status}
 use Rattle.core_machine.specs.Own.{Own, no_own}
 use Rattle.core_machine.specs.Places.{cell_at}
 use Rattle.core_machine.specs.Trail.{own_along}
+use Rattle.core_machine.specs.declared.pending.Pending.{Pending}
 use Rattle.core_machine.specs.declared.places.Held.{Held}
 use Rattle.heap_rule.specs.declared.known.Known.{Known}
 use Rattle.heap_rule.specs.declared.view.Role.TheVariants as role
@@ -35,6 +37,14 @@ pub record HasRoots (known : List Known) (held : List Held) (inside : Bool) : Ty
   pub fit : length known ≡ length held
   pub some : inside ≡ true → 1 ≤ length held
   pub anchor : inside ≡ true → cell_at held 0 ≡ 0
+
+-- the pending write: its place is held and its field is one of the payload, as the seat goes by
+-- them before its step; and who is out has none
+pub record HasBegun (own : Own) (pending : Option Pending) (inside : Bool) : Type 0 where
+  pub pending_is : own.pending ≡ pending
+  pub there : (write : Pending) → pending ≡ Some write → write.place < length own.held
+  pub payload : (write : Pending) → pending ≡ Some write → write.f ≤ 4
+  pub idle : inside ≡ false → pending ≡ None
 
 module _ {P : Type 0} where
   pub record IsMutator (me : View P) (number room : ℕ) (held : List ℕ) (mode : Option Control)

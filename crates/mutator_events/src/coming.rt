@@ -50,7 +50,7 @@ impl<P: Keeping> MutSeat<P> {
         self.status = presence.status;
     }
 
-    /// Goes out, and holds nothing. One `fetch_and` on its status word.
+    /// Goes out, holds nothing, and ends the write that it has begun. One `fetch_and` on its status word.
     pub fn end(&mut self, heap: &CellHeap<P>)
         requires seat { IsSeatOf heap.now self.old }
         requires inside { self.old.me.presence.inside ≡ true }
@@ -66,6 +66,7 @@ impl<P: Keeping> MutSeat<P> {
         );
         self.held.clear();
         self.mode = None;
+        self.pending = None;
         self.inside = false;
     }
 

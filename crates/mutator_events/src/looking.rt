@@ -1,9 +1,9 @@
 //! One look at the control, and the answer to the handshake that it saw.
-ghost use Rattle.std.specs.Prelude.{◌≡◌, true};
+ghost use Rattle.std.specs.Prelude.{◌≡◌};
 ghost use Rattle.cell_words.specs.Control.{IsValidControl};
 ghost use Rattle.core_machine.specs.declared.events.Event.TheVariants as event;
 ghost use Rattle.core_machine.specs.declared.events.Found.TheVariants as finds;
-ghost use Rattle.heap_rule.specs.Asks.{MayAnswer};
+ghost use Rattle.heap_rule.specs.Asks.{MayAnswer, MayLook};
 ghost use Rattle.heap_table.specs.Seats.{IsSeatOf};
 ghost use Rattle.mutator_events.specs.Events.{tells};
 
@@ -22,7 +22,7 @@ impl<P: Keeping> MutSeat<P> {
     /// behind it.
     pub fn look(&mut self, heap: &CellHeap<P>) -> Control
         requires seat { IsSeatOf heap.now self.old }
-        requires inside { self.old.me.presence.inside ≡ true }
+        requires may { MayLook self.old.me }
         ensures told { self.new
             ≡ tells self.old (event.Look self.old.me.number) (finds.Control result) }
         ensures valid { IsValidControl result }
@@ -49,6 +49,7 @@ impl<P: Keeping> MutSeat<P> {
         });
         heap.mutator_store::<Brand>(&mut self.seat, Event::Answer(self.number), word, new);
         self.mode = None;
+        self.pending = None;
         self.status = status;
     }
 }

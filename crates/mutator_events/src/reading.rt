@@ -1,5 +1,5 @@
 //! Reading a field of a held cell, and choosing what stays held.
-ghost use Rattle.std.specs.Prelude.{◌≡◌, length};
+ghost use Rattle.std.specs.Prelude.{◌≡◌, None, length};
 ghost use Rattle.cell_words.specs.declared.fields.Field.{Field};
 ghost use Rattle.core_machine.specs.declared.events.Event.TheVariants as event;
 ghost use Rattle.core_machine.specs.declared.events.Found.TheVariants as finds;
@@ -47,6 +47,7 @@ impl<P: Keeping> MutSeat<P> {
     pub fn keep(&mut self, heap: &CellHeap<P>, n: usize, place: usize, count: usize)
         requires seat { IsSeatOf heap.now self.old }
         requires may { MayKeep self.old.me n place count }
+        requires settled { self.old.me.own.pending ≡ None }
         ensures told { self.new ≡ tells self.old (event.Keep self.old.me.number n place count)
             (finds.Presence self.old.me.presence) }
     {

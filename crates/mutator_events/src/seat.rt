@@ -1,5 +1,5 @@
 //! The seat of a mutator, and its readers.
-ghost use Rattle.std.specs.Prelude.{◌≡◌, ◌<◌, ◌≤◌, ◌+◌, IfOk, length, true};
+ghost use Rattle.std.specs.Prelude.{◌≡◌, ◌<◌, ◌≤◌, ◌+◌, IfOk, length, None, true, false};
 ghost use Rattle.heap_rule.specs.declared.view.Role.TheVariants as role;
 ghost use Rattle.core_machine.specs.Own.{no_own};
 ghost use Rattle.core_machine.specs.Trail.{own_along};
@@ -8,6 +8,7 @@ ghost use Rattle.mutator_events.specs.Seats.{IsGiven};
 
 use crate::NoMemory;
 use cell_words::{Control, Status};
+use core_machine::Pending;
 use heap_rule::Keeping;
 use heap_table::HeapSeat;
 use std::alloc::Global;
@@ -53,6 +54,8 @@ pub struct MutSeat<P: Keeping> {
     pub(crate) held: Vec<u32>,
     /// the control, as the last look found it
     pub(crate) mode: Option<Control>,
+    /// the write that was begun by a fetch
+    pub(crate) pending: Option<Pending>,
     pub(crate) inside: bool,
     /// while it is in
     pub(crate) status: Status,
@@ -67,6 +70,7 @@ impl<P: Keeping> Drop for MutSeat<P> {
             room: _,
             held: _held,
             mode: _,
+            pending: _,
             inside: _,
             status: _,
             claims: _,
@@ -79,7 +83,7 @@ impl<P: Keeping> Model for MutSeat<P> {
     ghost use Rattle.std.specs.Coded.{codes};
     ghost use Rattle.cell_words.specs.contracts.terms.Term as term;
     ghost use Rattle.heap_table.specs.Seats.{SeatView};
-    ghost use Rattle.mutator_events.specs.Seats.{IsMutator};
+    ghost use Rattle.mutator_events.specs.Seats.{HasBegun, IsMutator};
 
     ghost Value = { SeatView P };
 
@@ -89,7 +93,8 @@ impl<P: Keeping> Model for MutSeat<P> {
 
     ghost invariant = { λ s.
         IsMutator s.seat.me s.number s.room s.held.items s.mode s.inside s.status s.claims
-        × (s.room ≤ vec_capacity s.held) };
+        × (s.room ≤ vec_capacity s.held)
+        × HasBegun s.seat.me.own s.pending s.inside };
 }
 
 impl<P: Keeping> MutSeat<P> {
@@ -106,6 +111,7 @@ impl<P: Keeping> MutSeat<P> {
             room: places,
             held: cells,
             mode: None,
+            pending: None,
             inside: false,
             status: Status::Async,
             claims: 0,
@@ -123,6 +129,7 @@ impl<P: Keeping> MutSeat<P> {
             room: _,
             held: _held,
             mode: _,
+            pending: _,
             inside: _,
             status: _,
             claims: _,
@@ -156,8 +163,10 @@ impl<P: Keeping> MutSeat<P> {
         self.status
     }
 
+    /// Whether it is in. Who is out has begun no write.
     pub fn is_in(&self) -> bool
         ensures inside { result ≡ self.now.me.presence.inside }
+        ensures idle { self.now.me.presence.inside ≡ false → self.now.me.own.pending ≡ None }
     {
         self.inside
     }

@@ -80,6 +80,7 @@ impl<P: Keeping> MutSeat<P> {
         );
         let found = field_of(number);
         self.mode = None;
+        self.pending = None;
         if number == expected {
             Ok(())
         } else {

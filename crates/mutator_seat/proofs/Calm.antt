@@ -1,5 +1,5 @@
 -- Stretches follow one another: what was added and what was kept goes together.
-use Rattle.std.proofs.Common.{◌≡◌, ℕ, List, [], ◌∷◌, ◌++◌, refl, sym, ◌∙◌, ap, subst}
+use Rattle.std.proofs.Common.{◌≡◌, ℕ, List, [], ◌∷◌, ◌++◌, None, refl, sym, ◌∙◌, ap, subst}
 use Rattle.std.proofs.lemmas.List.{append-nil, append_assoc, append_cancel_left}
 use Rattle.core_machine.specs.declared.events.Event.{Event}
 use Rattle.core_machine.specs.declared.events.Event.TheVariants as event
@@ -30,6 +30,7 @@ module _ {P : Type 0} where
     held = refl;
     known = refl;
     pass = refl;
+    pending = refl;
     claims = refl;
     inside = refl;
     over = refl;
@@ -46,6 +47,7 @@ module _ {P : Type 0} where
     held = second.held ∙ first.held;
     known = second.known ∙ first.known;
     pass = second.pass ∙ first.pass;
+    pending = second.pending ∙ first.pending;
     claims = second.claims ∙ first.claims;
     inside = second.inside ∙ first.inside;
     over = second.over ∙ first.over;
@@ -65,6 +67,7 @@ module _ {P : Type 0} where
     held = cells_unmarked m.seat.me.own.held;
     known = refl;
     pass = refl;
+    pending = refl;
     claims = refl;
     inside = refl;
     over = refl;
@@ -82,13 +85,15 @@ module _ {P : Type 0} where
     held = cells_marked (cell_at m.seat.me.own.held place) m.seat.me.own.held;
     known = refl;
     pass = refl;
+    pending = refl;
     claims = refl;
     inside = refl;
     over = refl;
   }
 
-  pub kept_answer : (m : Bound P) (i : ℕ) → Kept m (takes m (event.Answer i) finds.Stored)
-  kept_answer m i = record {
+  pub kept_answer : (m : Bound P) (i : ℕ) → m.seat.me.own.pending ≡ None
+      → Kept m (takes m (event.Answer i) finds.Stored)
+  kept_answer m i settled = record {
     heap = refl;
     table = refl;
     shape = refl;
@@ -98,6 +103,7 @@ module _ {P : Type 0} where
     held = cells_unmarked m.seat.me.own.held;
     known = refl;
     pass = refl;
+    pending = sym settled;
     claims = refl;
     inside = refl;
     over = refl;

@@ -1,5 +1,5 @@
 -- A handshake as one stretch: the look, the marks, and the answer.
-use Rattle.std.proofs.Common.{◌≡◌, ℕ, true, false, [], ◌∷◌, ◌++◌, refl, ◌∙◌, ap, subst}
+use Rattle.std.proofs.Common.{◌≡◌, ℕ, true, false, [], ◌∷◌, ◌++◌, None, refl, ◌∙◌, ap, subst}
 use Rattle.cell_words.specs.Modes.{next_status_of}
 use Rattle.cell_words.specs.declared.controls.Control.{Control}
 use Rattle.cell_words.specs.declared.presences.Status.{Status}
@@ -62,11 +62,11 @@ module _ {P : Type 0} (a b : Bound P) where
       })
 
   -- marks, and then the answer
-  pub answered_behind : (c : Bound P)
+  pub answered_behind : (c : Bound P) → b.seat.me.own.pending ≡ None
       → Calm (AreBefore (next_status_of a.seat.me.presence.status)) a b
       → c ≡ takes b (event.Answer b.seat.me.number) finds.Stored
       → Calm (Answering a.seat.me.number a.seat.me.presence.status) a c
-  answered_behind c marks told =
+  answered_behind c settled marks told =
       calm_then (AreBefore (next_status_of a.seat.me.presence.status))
       (λ es. es ≡ answer_of a.seat.me.number ∷ [])
       (Answering a.seat.me.number a.seat.me.presence.status) a b c
@@ -77,5 +77,5 @@ module _ {P : Type 0} (a b : Bound P) where
       }) marks
       (calm_one (λ es. es ≡ answer_of a.seat.me.number ∷ []) b c
       (event.Answer b.seat.me.number) finds.Stored told
-      (kept_answer b b.seat.me.number)
+      (kept_answer b b.seat.me.number settled)
       (ap (λ n. answer_of n ∷ []) marks.kept.number))

@@ -3,6 +3,9 @@ pub mod Calm
 pub mod Pacing
 pub mod Seeking
 pub mod Tries
+pub mod Loads
 pub mod Marks
+pub mod Staying
+pub mod Stores
 pub mod Updates
 pub mod Writes

@@ -131,6 +131,7 @@ module _ {P : Type 0} where
     held = refl;
     known = refl;
     pass = refl;
+    pending = refl;
     claims = refl;
     inside = refl;
     over = refl;
@@ -145,6 +146,7 @@ module _ {P : Type 0} where
     held = refl;
     known = refl;
     pass = refl;
+    pending = refl;
     claims = refl;
     inside = refl;
     over = refl;
@@ -159,6 +161,7 @@ module _ {P : Type 0} where
     held = refl;
     known = refl;
     pass = refl;
+    pending = refl;
     claims = refl;
     inside = refl;
     over = refl;

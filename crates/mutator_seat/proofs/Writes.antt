@@ -1,20 +1,22 @@
 -- What a write needs stands behind its look and its marks: no cell moved, and the marks are there.
 use Rattle.std.proofs.Common.{◌≡◌, ◌<◌, ◌==◌, ◌&&◌, ℕ, Bool, true, false, List, []}
 use Rattle.std.proofs.Common.{◌∷◌, length, map, get_or, refl, sym, ◌∙◌, ap, subst}
-use Rattle.std.proofs.Common.{⊎_elim, if◌then◌else◌, is_some}
+use Rattle.std.proofs.Common.{⊎_elim, if◌then◌else◌, is_some, Option, None, Some}
 use Rattle.std.proofs.lemmas.Bool.{and_parts, eq-eqb, or_cases}
 use Rattle.std.proofs.lemmas.List.{length-map, get_or-map}
 use Rattle.std.proofs.lemmas.List.Folds.{list_any_at}
 use Rattle.cell_words.specs.declared.fields.Field.{Field}
 use Rattle.cell_words.specs.declared.fields.Field.TheVariants as field
+use Rattle.core_machine.specs.declared.pending.Pending.{Pending}
 use Rattle.core_machine.specs.declared.places.Held.{Held}
+use Rattle.core_machine.specs.Own.{pending_or_none}
 use Rattle.core_machine.specs.Places.{cell_at, holds_marked, is_marked_place_of}
 use Rattle.core_machine.specs.Places.{is_marked_value, is_place_of, mark_of, marks_stand}
 use Rattle.core_machine.specs.Places.{names_rightly, no_place}
 use Rattle.core_machine.specs.Words.{barrier_in}
 use Rattle.dlg_core.proofs.Truths.{or_here, or_later}
 use Rattle.heap_rule.specs.declared.known.Known.{Known}
-use Rattle.heap_rule.specs.Asks.{IsBox, IsSealedValue, MayWrite, known_of}
+use Rattle.heap_rule.specs.Asks.{IsBox, IsSealedValue, MayStore, MayWrite, begun_of, known_of}
 use Rattle.heap_rule.specs.Lore.{cells_in, known_at}
 use Rattle.heap_rule.proofs.Reading.{cell_there}
 use Rattle.mutator_events.specs.declared.values.Value.{Value}
@@ -105,40 +107,69 @@ value_marked held place there =
 
 module _ {P : Type 0} (fixed : ℕ → Bool) (m at : Bound P) (place f : ℕ) (old new : Value)
     (may : MayUpdate fixed m.seat.me place f old new) (kept : Kept m at) where
-  pub may_write : is_some at.seat.me.own.mode ≡ true
+  was : List Held
+  was = m.seat.me.own.held
+
+  now : List Held
+  now = at.seat.me.own.held
+
+  cell : (p : ℕ) → cell_at now p ≡ cell_at was p
+  cell p = cell_same now was kept.held p
+
+  pub sealed_still : IsSealedValue (cells_in now) at.seat.me.known (field_at now new)
+  sealed_still = subst (λ (x : Field). IsSealedValue (cells_in now) at.seat.me.known x)
+      (sym (field_same now was kept.held new))
+      (subst (λ (ks : List Known). IsSealedValue (cells_in now) ks (field_at was new))
+      (sym kept.known)
+      (subst (λ (cs : List ℕ). IsSealedValue cs m.seat.me.known (field_at was new))
+      (sym kept.held) may.sealed))
+
+  pub spares_still : fixed f ≡ true → cell_at now place ≡ 0
+  spares_still is = cell place ∙ may.spares is
+
+  pub may_write : at.seat.me.own.pending ≡ None → is_some at.seat.me.own.mode ≡ true
       → marks_stand (barrier_in at.seat.me.presence.status at.seat.me.own.mode)
       at.seat.me.own.held (field_at at.seat.me.own.held old) (field_at at.seat.me.own.held new)
       ≡ true
       → MayWrite fixed at.seat.me place f (field_at at.seat.me.own.held old)
       (field_at at.seat.me.own.held new)
-  may_write mode marks = record {
+  may_write settled mode marks = record {
     inside = kept.inside ∙ may.inside;
+    settled = settled;
     mode = mode;
-    there = subst (λ (n : ℕ). place < n) (sym many) may.there;
+    there = subst (λ (n : ℕ). place < n) (sym (many_same now was kept.held)) may.there;
     payload = may.payload;
     box = subst (λ (k : Known). IsBox (cell_at now place) k)
         (ap (λ (ks : List Known). known_at ks place) (sym kept.known))
         (subst (λ (c : ℕ). IsBox c (known_of m.seat.me place)) (sym (cell place)) may.box);
     names_old = rightly now old (named_same was now (sym kept.held) old may.old_named);
     names_new = rightly now new (named_same was now (sym kept.held) new may.new_named);
-    sealed = subst (λ (x : Field). IsSealedValue (cells_in now) at.seat.me.known x)
-        (sym (field_same now was kept.held new))
-        (subst (λ (ks : List Known). IsSealedValue (cells_in now) ks (field_at was new))
-        (sym kept.known)
-        (subst (λ (cs : List ℕ). IsSealedValue cs m.seat.me.known (field_at was new))
-        (sym kept.held) may.sealed));
+    sealed = sealed_still;
     marks = marks;
-    spares = λ is. cell place ∙ may.spares is;
+    spares = spares_still;
   }
-    where
-      was : List Held
-      was = m.seat.me.own.held
 
-      now : List Held
-      now = at.seat.me.own.held
-
-      many : length now ≡ length was
-      many = many_same now was kept.held
-
-      cell : (p : ℕ) → cell_at now p ≡ cell_at was p
-      cell p = cell_same now was kept.held p
+  -- the same of a store whose fetch found what the old value stands for
+  pub may_store : (seen : Field)
+      → m.seat.me.own.pending ≡ Some (record { place = place; f = f; found = seen })
+      → field_at now old ≡ seen
+      → marks_stand (barrier_in at.seat.me.presence.status at.seat.me.own.mode)
+      at.seat.me.own.held (field_at at.seat.me.own.held old) (field_at at.seat.me.own.held new)
+      ≡ true
+      → MayStore fixed at.seat.me (field_at at.seat.me.own.held new)
+  may_store seen begun is marks =
+      let pending : at.seat.me.own.pending
+      ≡ Some (record { place = place; f = f; found = seen }) = kept.pending ∙ begun in
+      let write : begun_of at.seat.me ≡ record { place = place; f = f; found = seen } =
+      ap (λ (p : Option Pending). pending_or_none p) pending in
+      record {
+        inside = kept.inside ∙ may.inside;
+        begun = ap (λ (p : Option Pending). is_some p) pending;
+        names = rightly now new (named_same was now (sym kept.held) new may.new_named);
+        sealed = sealed_still;
+        marks = subst (λ (x : Field). marks_stand
+            (barrier_in at.seat.me.presence.status at.seat.me.own.mode) now x (field_at now new)
+            ≡ true) (is ∙ sym (ap (λ (p : Pending). p.found) write)) marks;
+        spares = subst (λ (p : Pending). fixed p.f ≡ true → cell_at now p.place ≡ 0) (sym write)
+            spares_still;
+      }

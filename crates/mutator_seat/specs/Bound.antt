@@ -1,6 +1,6 @@
 -- A mutator as contracts see it: the heap, and the seat on it.
 -- Source: this project's.
-use Rattle.std.specs.Prelude.{ℕ, ◌≡◌, false, List}
+use Rattle.std.specs.Prelude.{ℕ, ◌≡◌, false, List, None}
 use Rattle.core_machine.specs.declared.events.Event.{Event}
 use Rattle.core_machine.specs.declared.events.Found.{Found}
 use Rattle.heap_rule.specs.Lore.{cells_in}
@@ -12,8 +12,13 @@ pub record Bound (P : Type 0) : Type 0 where
   pub seat : SeatView P
 
 module _ {P : Type 0} where
+  abbrev pub bound : HeapId → SeatView P → Bound P
+  bound heap seat = record { heap = heap; seat = seat }
+
   pub record IsBound (heap : HeapId) (seat : SeatView P) : Type 0 where
     pub seat_is : IsSeatOf heap seat
+    -- no write is begun: a call that begins one ends it
+    pub settled : seat.me.own.pending ≡ None
     -- only `finish` makes it over, and takes the mutator away
     pub not_over : seat.me.presence.over ≡ false
 

@@ -32,6 +32,7 @@ module _ {P : Type 0} where
     pub held : held_cells new ≡ held_cells old
     pub known : new.seat.me.known ≡ old.seat.me.known
     pub pass : new.seat.me.pass ≡ old.seat.me.pass
+    pub pending : new.seat.me.own.pending ≡ old.seat.me.own.pending
     pub claims : new.seat.me.own.claims ≡ old.seat.me.own.claims
     pub inside : new.seat.me.presence.inside ≡ old.seat.me.presence.inside
     pub over : new.seat.me.presence.over ≡ old.seat.me.presence.over

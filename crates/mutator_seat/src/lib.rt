@@ -7,8 +7,8 @@
 //!
 //! Only `claim` waits. No call takes memory.
 //!
-//! Reading order: specs/Bound, Stretches, Writes, Claims, Pacing; then `mutator`, `steps`, `coming`,
-//! `making`, `looking`, `writing`, `trying`, `claiming`.
+//! Reading order: specs/Bound, Stretches, Writes, Stores, Claims, Pacing; then `mutator`, `steps`,
+//! `coming`, `making`, `looking`, `writing`, `storing`, `trying`, `claiming`.
 #![tactic(auto)]
 
 mod claiming;
@@ -18,6 +18,7 @@ mod looking;
 mod making;
 mod mutator;
 mod steps;
+mod storing;
 mod trying;
 mod writing;
 

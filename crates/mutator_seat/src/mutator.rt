@@ -38,6 +38,8 @@ impl<'a, P: Keeping> Mutator<'a, P> {
         requires out { MayComeIn seat.me }
         ensures mutator { result ≡ record { heap = heap.now; seat = seat } }
     {
+        // Who is out has begun no write.
+        let _inside = seat.is_in();
         Mutator { heap, seat }
     }
 

@@ -1,9 +1,13 @@
 //! The seat's calls as this crate uses them: an event each.
-ghost use Rattle.std.specs.Prelude.{◌≡◌, ◌≤◌, true};
+ghost use Rattle.std.specs.Prelude.{◌≡◌, ◌≤◌, ◌||◌, not, true, None};
+ghost use Rattle.cell_words.specs.Modes.{next_status_of};
 ghost use Rattle.cell_words.specs.declared.colours.Colour.{Colour};
+ghost use Rattle.cell_words.specs.declared.presences.Status.TheVariants as status;
 ghost use Rattle.core_machine.specs.declared.events.Event.TheVariants as event;
 ghost use Rattle.core_machine.specs.declared.events.Found.TheVariants as finds;
-ghost use Rattle.heap_rule.specs.Asks.{MayAnswer, MayMark};
+ghost use Rattle.core_machine.specs.Places.{all_marked};
+ghost use Rattle.core_machine.specs.Words.{requests, same_status};
+ghost use Rattle.heap_rule.specs.Asks.{MayMark};
 ghost use Rattle.mutator_seat.specs.Bound.{takes};
 
 use crate::mutator::Mutator;
@@ -40,9 +44,14 @@ impl<'a, P: Keeping> Mutator<'a, P> {
 
     /// Answers the handshake that the last look saw.
     pub(crate) fn answer_once(&mut self)
-        requires may { MayAnswer self.old.seat.me }
+        requires inside { self.old.seat.me.presence.inside ≡ true }
+        requires requested { requests self.old.seat.me.own.mode
+            (next_status_of self.old.seat.me.presence.status) ≡ true }
+        requires third { (not (same_status (next_status_of self.old.seat.me.presence.status) status.Async)
+            || all_marked self.old.seat.me.own.held) ≡ true }
         ensures told { self.new ≡ takes self.old (event.Answer self.old.seat.me.number)
             finds.Stored }
+        ensures settled { self.old.seat.me.own.pending ≡ None }
     {
         self.seat.answer(self.heap);
     }

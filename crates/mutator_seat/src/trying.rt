@@ -8,7 +8,6 @@ ghost use Rattle.core_machine.specs.Words.{is_blue};
 ghost use Rattle.core_machine.specs.declared.events.Event.TheVariants as event;
 ghost use Rattle.core_machine.specs.declared.events.Found.TheVariants as finds;
 ghost use Rattle.heap_rule.specs.Apart.{IsNewTo};
-ghost use Rattle.heap_rule.specs.Asks.{MayClaim};
 ghost use Rattle.mutator_seat.specs.Bound.{held_cells, takes};
 ghost use Rattle.mutator_seat.specs.Claims.{Claimed, HasMode, Seeking, Tried};
 ghost use Rattle.mutator_seat.specs.Pacing.{Paces};
@@ -100,7 +99,10 @@ impl<'a, P: Keeping> Mutator<'a, P> {
 
     /// Claims the cell, if it is blue, and gives its place.
     fn try_cell(&mut self, cell: u32) -> Option<usize>
-        requires may { MayClaim self.old.seat.me cell }
+        requires inside { self.old.seat.me.presence.inside ≡ true }
+        requires mode { HasMode self.old }
+        requires cell { cell < self.old.seat.me.shape.cells }
+        requires room { length self.old.seat.me.own.held < self.old.seat.me.room }
         ensures got { IfSome result (λ place. Claimed self.old place self.new) }
         ensures cell { IfSome result (λ place. held_cells self.new
             ≡ held_cells self.old ++ cell ∷ []) }
@@ -119,7 +121,10 @@ impl<'a, P: Keeping> Mutator<'a, P> {
 
     /// One claim of the seat.
     fn claim_once(&mut self, cell: u32) -> bool
-        requires may { MayClaim self.old.seat.me cell }
+        requires inside { self.old.seat.me.presence.inside ≡ true }
+        requires mode { HasMode self.old }
+        requires cell { cell < self.old.seat.me.shape.cells }
+        requires room { length self.old.seat.me.own.held < self.old.seat.me.room }
         ensures told { (found : Colour) × (result ≡ is_blue found)
             × (self.new ≡ takes self.old (event.Claim self.old.seat.me.number cell)
             (finds.Colour found)) }

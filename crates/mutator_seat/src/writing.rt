@@ -7,7 +7,9 @@ ghost use Rattle.cell_words.specs.declared.write_barrier.Barrier.TheVariants as 
 ghost use Rattle.cell_words.specs.declared.fields.Field.{Field};
 ghost use Rattle.core_machine.specs.Places.{is_marked_value, marks_stand};
 ghost use Rattle.core_machine.specs.Words.{barrier_in, marks_some, same_field};
+ghost use Rattle.heap_table.specs.Seats.{IsSeatOf};
 ghost use Rattle.mutator_events.specs.Values.{field_at};
+ghost use Rattle.mutator_seat.specs.Bound.{bound};
 ghost use Rattle.mutator_seat.specs.Stretches.{Calm, MarksOf};
 ghost use Rattle.mutator_seat.specs.Writes.{IsNamed, LookAndMarks, MayUpdate, PicksUpdate, Updated};
 ghost use Rattle.mutator_seat.specs.Writes.{places_in, wanted_by};
@@ -16,7 +18,8 @@ use crate::mutator::Mutator;
 use cell_words::Barrier;
 use cell_words::modes::barrier;
 use heap_rule::Keeping;
-use mutator_events::{Choice, Moved, Value};
+use heap_table::CellHeap;
+use mutator_events::{Choice, Moved, MutSeat, Value};
 
 impl<'a, P: Keeping> Mutator<'a, P> {
     /// Exchanges a field of the box at a place for `new`, where it holds `old`; `Moved` says what it
@@ -55,69 +58,75 @@ impl<'a, P: Keeping> Mutator<'a, P> {
     {
         let control = self.look_once();
         let wanted = barrier(self.status(), control);
-        self.mark_wanted(wanted, old, new);
+        mark_wanted(self.heap, &mut self.seat, wanted, old, new);
     }
+}
 
-    /// Marks what the barrier wants.
-    fn mark_wanted(&mut self, wanted: Barrier, old: Value, new: Value)
-        requires inside { self.old.seat.me.presence.inside ≡ true }
-        requires wanted { barrier_in self.old.seat.me.presence.status self.old.seat.me.own.mode
-            ≡ wanted }
-        requires old_named { IsNamed self.old.seat.me.own.held old }
-        requires new_named { IsNamed self.old.seat.me.own.held new }
-        ensures calm { Calm (MarksOf self.old.seat.me.number (wanted_by wanted old new))
-            self.old self.new }
-        ensures mode { self.new.seat.me.own.mode ≡ self.old.seat.me.own.mode }
-        ensures presence { self.new.seat.me.presence ≡ self.old.seat.me.presence }
-        ensures marks { marks_stand wanted self.new.seat.me.own.held
-            (field_at self.new.seat.me.own.held old) (field_at self.new.seat.me.own.held new)
-            ≡ true }
-    {
-        match wanted {
-            Barrier::Nothing => (),
-            Barrier::Old => self.mark_value(old),
-            Barrier::Both => self.mark_both(old, new),
-        }
+/// Marks what the barrier wants.
+pub(crate) fn mark_wanted<P: Keeping>(
+    heap: &CellHeap<P>,
+    seat: &mut MutSeat<P>,
+    wanted: Barrier,
+    old: Value,
+    new: Value,
+)
+    requires seat { IsSeatOf heap.now seat.old }
+    requires inside { seat.old.me.presence.inside ≡ true }
+    requires wanted { barrier_in seat.old.me.presence.status seat.old.me.own.mode ≡ wanted }
+    requires old_named { IsNamed seat.old.me.own.held old }
+    requires new_named { IsNamed seat.old.me.own.held new }
+    ensures calm { Calm (MarksOf seat.old.me.number (wanted_by wanted old new))
+        (bound heap.now seat.old) (bound heap.now seat.new) }
+    ensures mode { seat.new.me.own.mode ≡ seat.old.me.own.mode }
+    ensures presence { seat.new.me.presence ≡ seat.old.me.presence }
+    ensures marks { marks_stand wanted seat.new.me.own.held (field_at seat.new.me.own.held old)
+        (field_at seat.new.me.own.held new) ≡ true }
+{
+    match wanted {
+        Barrier::Nothing => (),
+        Barrier::Old => mark_value(heap, seat, old),
+        Barrier::Both => mark_both(heap, seat, old, new),
     }
+}
 
-    /// Marks the cells that the two values name.
-    fn mark_both(&mut self, old: Value, new: Value)
-        requires inside { self.old.seat.me.presence.inside ≡ true }
-        requires barrier { marks_some (barrier_in self.old.seat.me.presence.status
-            self.old.seat.me.own.mode) ≡ true }
-        requires old_named { IsNamed self.old.seat.me.own.held old }
-        requires new_named { IsNamed self.old.seat.me.own.held new }
-        ensures calm { Calm (MarksOf self.old.seat.me.number (wanted_by barrier.Both old new))
-            self.old self.new }
-        ensures mode { self.new.seat.me.own.mode ≡ self.old.seat.me.own.mode }
-        ensures presence { self.new.seat.me.presence ≡ self.old.seat.me.presence }
-        ensures marks { marks_stand barrier.Both self.new.seat.me.own.held
-            (field_at self.new.seat.me.own.held old) (field_at self.new.seat.me.own.held new)
-            ≡ true }
-    {
-        self.mark_value(old);
-        self.mark_value(new);
-    }
+/// Marks the cells that the two values name.
+fn mark_both<P: Keeping>(heap: &CellHeap<P>, seat: &mut MutSeat<P>, old: Value, new: Value)
+    requires seat { IsSeatOf heap.now seat.old }
+    requires inside { seat.old.me.presence.inside ≡ true }
+    requires barrier { marks_some (barrier_in seat.old.me.presence.status seat.old.me.own.mode)
+        ≡ true }
+    requires old_named { IsNamed seat.old.me.own.held old }
+    requires new_named { IsNamed seat.old.me.own.held new }
+    ensures calm { Calm (MarksOf seat.old.me.number (wanted_by barrier.Both old new))
+        (bound heap.now seat.old) (bound heap.now seat.new) }
+    ensures mode { seat.new.me.own.mode ≡ seat.old.me.own.mode }
+    ensures presence { seat.new.me.presence ≡ seat.old.me.presence }
+    ensures marks { marks_stand barrier.Both seat.new.me.own.held
+        (field_at seat.new.me.own.held old) (field_at seat.new.me.own.held new) ≡ true }
+{
+    mark_value(heap, seat, old);
+    mark_value(heap, seat, new);
+}
 
-    /// Marks the cell that a value names, if it names one.
-    fn mark_value(&mut self, value: Value)
-        requires inside { self.old.seat.me.presence.inside ≡ true }
-        requires barrier { marks_some (barrier_in self.old.seat.me.presence.status
-            self.old.seat.me.own.mode) ≡ true }
-        requires named { IsNamed self.old.seat.me.own.held value }
-        ensures calm { Calm (MarksOf self.old.seat.me.number (places_in value))
-            self.old self.new }
-        ensures mode { self.new.seat.me.own.mode ≡ self.old.seat.me.own.mode }
-        ensures presence { self.new.seat.me.presence ≡ self.old.seat.me.presence }
-        ensures marked { is_marked_value self.new.seat.me.own.held
-            (field_at self.new.seat.me.own.held value) ≡ true }
-        ensures still { (other : Field) → is_marked_value self.old.seat.me.own.held other ≡ true
-            → is_marked_value self.new.seat.me.own.held other ≡ true }
-    {
-        match value {
-            Value::Null => (),
-            Value::Num(_) => (),
-            Value::Held(place) => self.mark_once(place),
-        }
+/// Marks the cell that a value names, if it names one.
+fn mark_value<P: Keeping>(heap: &CellHeap<P>, seat: &mut MutSeat<P>, value: Value)
+    requires seat { IsSeatOf heap.now seat.old }
+    requires inside { seat.old.me.presence.inside ≡ true }
+    requires barrier { marks_some (barrier_in seat.old.me.presence.status seat.old.me.own.mode)
+        ≡ true }
+    requires named { IsNamed seat.old.me.own.held value }
+    ensures calm { Calm (MarksOf seat.old.me.number (places_in value))
+        (bound heap.now seat.old) (bound heap.now seat.new) }
+    ensures mode { seat.new.me.own.mode ≡ seat.old.me.own.mode }
+    ensures presence { seat.new.me.presence ≡ seat.old.me.presence }
+    ensures marked { is_marked_value seat.new.me.own.held (field_at seat.new.me.own.held value)
+        ≡ true }
+    ensures still { (other : Field) → is_marked_value seat.old.me.own.held other ≡ true
+        → is_marked_value seat.new.me.own.held other ≡ true }
+{
+    match value {
+        Value::Null => (),
+        Value::Num(_) => (),
+        Value::Held(place) => seat.mark(heap, place),
     }
 }

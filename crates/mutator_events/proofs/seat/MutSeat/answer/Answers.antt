@@ -5,6 +5,7 @@ use Rattle.core_machine.specs.declared.events.Event.TheVariants as event
 use Rattle.core_machine.specs.declared.events.Found.TheVariants as finds
 use Rattle.heap_rule.specs.Asks.{MayAnswer}
 use Rattle.mutator_events.specs.Seats.{IsMutator}
+use Rattle.mutator_events.proofs.Begun.{begun_in, none_begun}
 use Rattle.mutator_events.proofs.Calls.{after_answer}
 use Rattle.mutator_events.proofs.Calls.{seat_told}
 use Rattle.mutator_events.proofs.Calls.{within}
@@ -34,6 +35,8 @@ invariant_of-self g c =
           seat.held.items None seat.inside status seat.claims) (sym c.next_status-status.ensures.status)
           (after_answer c.self.invariant.0 c.mutator_store.ensures.step).keeps,
       c.self.invariant.1,
+      begun_in (after_answer c.self.invariant.0 c.mutator_store.ensures.step).view
+          (none_begun refl),
     )
 
 pub returns : goal.returns

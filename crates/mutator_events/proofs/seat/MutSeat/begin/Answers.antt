@@ -6,6 +6,7 @@ use Rattle.core_machine.specs.WordOperations.{SetBits, inside_bit}
 use Rattle.heap_rule.specs.Asks.{MayComeIn}
 use Rattle.heap_rule.proofs.Owing.{owes_begin}
 use Rattle.mutator_events.specs.Seats.{IsMutator}
+use Rattle.mutator_events.proofs.Begun.{begun_in, free_begun, idle_pending}
 use Rattle.mutator_events.proofs.Calls.{after_begin}
 use Rattle.mutator_events.proofs.Calls.{seat_told}
 use Rattle.mutator_events.proofs.Calls.{within}
@@ -37,15 +38,17 @@ pub invariant_of-self : goal.invariant_of-self
 invariant_of-self g c =
     let may = within (λ v. MayComeIn v) c.self.view_is c.requires.may in
     let seat = c.self.inside in
+    let after = after_begin c.self.invariant.0 c.presence_of-presence.result
+    c.presence_of-presence.ensures.presence may c.mutator_set_bits-found.ensures.step in
     let items : c.push_reserved.new.self.items ≡ 0 ∷ [] = c.push_reserved.ensures.items
     ∙ ap (λ (cells : List ℕ). cells ++ 0 ∷ []) c.clear.ensures.items in (
       subst (λ (cells : List ℕ). IsMutator c.mutator_set_bits-found.new.seat.me seat.number
           seat.room cells None true
-          c.presence_of-presence.result.status seat.claims) (sym items)
-          (after_begin c.self.invariant.0 c.presence_of-presence.result
-          c.presence_of-presence.ensures.presence may
-          c.mutator_set_bits-found.ensures.step).keeps,
+          c.presence_of-presence.result.status seat.claims) (sym items) after.keeps,
       omega (arith, c.self.invariant.1, c.clear.ensures.capacity, c.push_reserved.ensures.capacity),
+      begun_in after.view (free_begun c.self.invariant.2
+          (idle_pending c.self.invariant.2 (sym c.self.invariant.0.presence.inside_is ∙ may.out))
+          refl),
     )
 
 pub returns : goal.returns

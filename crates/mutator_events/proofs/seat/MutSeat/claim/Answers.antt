@@ -5,6 +5,7 @@ use Rattle.cell_words.specs.declared.colours.Colour.{Colour}
 use Rattle.cell_words.specs.declared.colours.Colour.TheVariants as colour
 use Rattle.core_machine.specs.declared.events.Event.TheVariants as event
 use Rattle.core_machine.specs.declared.events.Found.TheVariants as finds
+use Rattle.core_machine.specs.Own.{Own}
 use Rattle.core_machine.specs.Table.{ColourOf, index_of}
 use Rattle.heap_rule.specs.Apart.{IsNewTo}
 use Rattle.heap_rule.specs.Asks.{MayClaim}
@@ -12,11 +13,13 @@ use Rattle.heap_rule.specs.Lore.{cells_in}
 use Rattle.heap_rule.specs.Shape.{Shape}
 use Rattle.heap_table.specs.Seats.{SeatView}
 use Rattle.mutator_events.specs.Seats.{IsMutator}
+use Rattle.mutator_events.proofs.Begun.{begun_in, free_begun}
 use Rattle.mutator_events.proofs.Calls.{after_claim}
 use Rattle.mutator_events.proofs.Calls.{after_miss}
 use Rattle.mutator_events.proofs.Calls.{claims_more, got_new, seat_told}
 use Rattle.mutator_events.proofs.Calls.{within, without}
 use Rattle.mutator_events.proofs.Founds.{claim_word, not_blue}
+use Rattle.mutator_events.proofs.Keeping.{missed_own}
 use Rattle.mutator_events.proofs.Owed.{claim_owed}
 use Rattle.mutator_events.proofs.Owed.{still_as}
 use Rattle.mutator_events.proofs.seat.MutSeat.claim.Goals as goal
@@ -54,21 +57,28 @@ overflow_add-self g c =
 pub invariant_of-self : goal.invariant_of-self
 invariant_of-self g c =
     let may = within (λ v. MayClaim v c.args.cell) c.self.view_is c.requires.may in
-    let seat = c.self.inside in (
+    let seat = c.self.inside in
+    let after = after_claim c.self.invariant.0 c.args.cell c.colour_of-found.result
+    c.colour_of-found.ensures.colour may c.mutator_exchange-number.ensures.step c.in-Blue.is in (
       subst (λ (cells : List ℕ). IsMutator c.mutator_exchange-number.new.seat.me seat.number
           seat.room cells None
-          seat.inside seat.status (seat.claims + 1)) (sym c.push_reserved.ensures.items)
-          (after_claim c.self.invariant.0 c.args.cell c.colour_of-found.result
-          c.colour_of-found.ensures.colour may c.mutator_exchange-number.ensures.step c.in-Blue.is).keeps,
+          seat.inside seat.status (seat.claims + 1)) (sym c.push_reserved.ensures.items) after.keeps,
       omega (arith, c.self.invariant.1, c.push_reserved.ensures.capacity),
+      begun_in after.view (free_begun c.self.invariant.2 may.settled refl),
     )
 
 pub invariant_of-self-in-White : goal.invariant_of-self-in-White
 invariant_of-self-in-White g c =
-    let other = not_blue c.colour_of-found.result c.in-White.is in (
-      (after_miss c.self.invariant.0 c.args.cell c.colour_of-found.result
-          c.colour_of-found.ensures.colour c.mutator_exchange-number.ensures.step other).keeps,
+    let may = within (λ v. MayClaim v c.args.cell) c.self.view_is c.requires.may in
+    let other = not_blue c.colour_of-found.result c.in-White.is in
+    let own = c.self.inside.seat.me.own in
+    let after = after_miss c.self.invariant.0 c.args.cell c.colour_of-found.result
+    c.colour_of-found.ensures.colour c.mutator_exchange-number.ensures.step other in (
+      after.keeps,
       c.self.invariant.1,
+      begun_in after.view (free_begun c.self.invariant.2 may.settled
+          (ap (λ (o : Own). o.pending)
+          (missed_own own c.args.cell c.colour_of-found.result other))),
     )
 
 pub returns-in-Blue : goal.returns-in-Blue

@@ -5,6 +5,7 @@ use Rattle.core_machine.specs.declared.events.Found.TheVariants as finds
 use Rattle.core_machine.specs.WordOperations.{KeepBits, all_but_inside}
 use Rattle.heap_rule.proofs.Owing.{owes_end}
 use Rattle.mutator_events.specs.Seats.{IsMutator}
+use Rattle.mutator_events.proofs.Begun.{begun_in, none_begun}
 use Rattle.mutator_events.proofs.Calls.{after_end}
 use Rattle.mutator_events.proofs.Calls.{seat_told}
 use Rattle.mutator_events.proofs.Calls.{within}
@@ -36,6 +37,8 @@ invariant_of-self g c =
           seat.status seat.claims) (sym c.clear.ensures.items)
           (after_end c.self.invariant.0 may c.mutator_keep_bits.ensures.step).keeps,
       omega (arith, c.self.invariant.1, c.clear.ensures.capacity),
+      begun_in (after_end c.self.invariant.0 may c.mutator_keep_bits.ensures.step).view
+          (none_begun refl),
     )
 
 pub returns : goal.returns

@@ -8,6 +8,7 @@ use Rattle.heap_rule.specs.Lore.{nothing_learned}
 use Rattle.heap_rule.specs.Steps.{Picks}
 use Rattle.mutator_events.specs.Events.{fill_of}
 use Rattle.mutator_events.specs.Values.{field_at}
+use Rattle.mutator_events.proofs.Begun.{begun_in}
 use Rattle.mutator_events.proofs.Calls.{after_fill}
 use Rattle.mutator_events.proofs.Calls.{same_within, seat_told_with}
 use Rattle.mutator_events.proofs.Calls.{within}
@@ -40,13 +41,14 @@ mutator_store-requires-clause-rule g c =
     (fill_of v c.args.place c.args.field c.args.value)) c.self.view_is c.requires.rule)
 
 pub invariant_of-self : goal.invariant_of-self
-invariant_of-self g c = (
-  (after_fill c.self.invariant.0 c.args.place c.args.field
-      (same_within (λ v. field_at v.own.held c.args.value) c.self.view_is
-      c.stands_for-value.ensures.field)
-      c.mutator_store.ensures.step).keeps,
-  c.self.invariant.1,
-)
+invariant_of-self g c =
+    let after = after_fill c.self.invariant.0 c.args.place c.args.field
+    (same_within (λ v. field_at v.own.held c.args.value) c.self.view_is
+    c.stands_for-value.ensures.field) c.mutator_store.ensures.step in (
+      after.keeps,
+      c.self.invariant.1,
+      begun_in after.event.new c.self.invariant.2,
+    )
 
 pub returns : goal.returns
 returns g c =

@@ -1,4 +1,4 @@
-use Rattle.std.proofs.Common.{ℕ, List}
+use Rattle.std.proofs.Common.{◌≡◌, ℕ, List, None}
 use Rattle.std.proofs.Common.{Some, refl, sym, ap, subst, arith}
 use Rattle.core_machine.specs.declared.events.Event.TheVariants as event
 use Rattle.core_machine.specs.declared.events.Found.TheVariants as finds
@@ -6,6 +6,7 @@ use Rattle.core_machine.specs.WordOperations.{Load}
 use Rattle.heap_rule.specs.Asks.{MayKeep}
 use Rattle.heap_rule.proofs.Owing.{owes_keep}
 use Rattle.mutator_events.specs.Seats.{IsMutator}
+use Rattle.mutator_events.proofs.Begun.{begun_in, free_begun}
 use Rattle.mutator_events.proofs.Calls.{after_keep}
 use Rattle.mutator_events.proofs.Calls.{seat_told}
 use Rattle.mutator_events.proofs.Calls.{within}
@@ -20,11 +21,13 @@ pub mutator_load-requires-clause-kind : goal.mutator_load-requires-clause-kind
 mutator_load-requires-clause-kind g c =
     let may = within (λ v. MayKeep v c.args.n c.args.place c.args.count) c.self.view_is
     c.requires.may in
+    let settled = within (λ v. v.own.pending ≡ None) c.self.view_is c.requires.settled in
     let me = c.self.inside.seat.me in
     status_owed g.P.Keeping.fixed c.self.invariant.0
     (λ n. event.Keep n c.args.n c.args.place c.args.count) Load
     c.status_word-word.ensures.word
-    (λ s l mine. owes_keep g.P.Keeping.fixed me s l mine c.args.n c.args.place c.args.count may)
+    (λ s l mine. owes_keep g.P.Keeping.fixed me s l mine c.args.n c.args.place c.args.count settled
+    may)
 
 pub mutator_load-requires-clause-rule : goal.mutator_load-requires-clause-rule
 mutator_load-requires-clause-rule g c =
@@ -35,6 +38,7 @@ pub invariant_of-self : goal.invariant_of-self
 invariant_of-self g c =
     let may = within (λ v. MayKeep v c.args.n c.args.place c.args.count) c.self.view_is
     c.requires.may in
+    let settled = within (λ v. v.own.pending ≡ None) c.self.view_is c.requires.settled in
     let seat = c.self.inside in (
       subst (λ (cells : List ℕ). IsMutator c.mutator_load.new.seat.me seat.number seat.room cells
           seat.mode
@@ -42,6 +46,8 @@ invariant_of-self g c =
           (after_keep c.self.invariant.0 c.args.n c.args.place c.args.count may
           c.mutator_load.ensures.step).keeps,
       omega (arith, c.self.invariant.1, c.keep_cells.ensures.capacity),
+      begun_in (after_keep c.self.invariant.0 c.args.n c.args.place c.args.count may
+          c.mutator_load.ensures.step).view (free_begun c.self.invariant.2 settled refl),
     )
 
 pub returns : goal.returns

@@ -1,10 +1,11 @@
-use Rattle.std.proofs.Common.{◌≡◌, ℕ, true}
-use Rattle.std.proofs.Common.{Some, refl, sym, ap}
+use Rattle.std.proofs.Common.{ℕ, Some, refl, sym, ap}
 use Rattle.core_machine.specs.declared.events.Event.TheVariants as event
 use Rattle.core_machine.specs.declared.events.Found.TheVariants as finds
 use Rattle.core_machine.specs.Table.{TheControl}
 use Rattle.core_machine.specs.WordOperations.{Load}
+use Rattle.heap_rule.specs.Asks.{MayLook}
 use Rattle.heap_rule.proofs.Owing.{owes_look}
+use Rattle.mutator_events.proofs.Begun.{begun_in, free_begun}
 use Rattle.mutator_events.proofs.Calls.{after_look}
 use Rattle.mutator_events.proofs.Calls.{seat_told}
 use Rattle.mutator_events.proofs.Calls.{within}
@@ -18,7 +19,7 @@ mutator_load-found-requires-clause-made g c =
 
 pub mutator_load-found-requires-clause-kind : goal.mutator_load-found-requires-clause-kind
 mutator_load-found-requires-clause-kind g c =
-    let may = within (λ v. v.presence.inside ≡ true) c.self.view_is c.requires.inside in
+    let may = within (λ v. MayLook v) c.self.view_is c.requires.may in
     owed_as g.P.Keeping.fixed c.self.invariant.0 (λ n. event.Look n) TheControl Load Load refl refl
     (λ s l mine. owes_look g.P.Keeping.fixed c.self.inside.seat.me s l mine may)
 
@@ -32,11 +33,14 @@ control_of-control-requires g c =
     look_word c.mutator_load-found.ensures.step
 
 pub invariant_of-self : goal.invariant_of-self
-invariant_of-self g c = (
-  (after_look c.self.invariant.0 c.control_of-control.result
-      c.control_of-control.ensures.control c.mutator_load-found.ensures.step).keeps,
-  c.self.invariant.1,
-)
+invariant_of-self g c =
+    let may = within (λ v. MayLook v) c.self.view_is c.requires.may in
+    let after = after_look c.self.invariant.0 c.control_of-control.result
+    c.control_of-control.ensures.control c.mutator_load-found.ensures.step in (
+      after.keeps,
+      c.self.invariant.1,
+      begun_in after.view (free_begun c.self.invariant.2 may.settled refl),
+    )
 
 pub returns : goal.returns
 returns g c =

@@ -3,8 +3,8 @@ use Rattle.std.proofs.Common.{Some, refl, sym, ap}
 use Rattle.core_machine.specs.declared.events.Event.TheVariants as event
 use Rattle.core_machine.specs.declared.events.Found.TheVariants as finds
 use Rattle.core_machine.specs.Table.{ColourOf, index_of}
-use Rattle.heap_rule.specs.Asks.{MayMark}
-use Rattle.heap_rule.specs.Asks.{target}
+use Rattle.heap_rule.specs.Asks.{MayMark, target}
+use Rattle.mutator_events.proofs.Begun.{begun_in, marked_begun}
 use Rattle.mutator_events.proofs.Calls.{after_mark}
 use Rattle.mutator_events.proofs.Calls.{same_within, seat_told}
 use Rattle.mutator_events.proofs.Calls.{within}
@@ -33,6 +33,8 @@ pub invariant_of-self : goal.invariant_of-self
 invariant_of-self g c = (
   (after_mark c.self.invariant.0 c.args.place c.mutator_exchange.ensures.step).1.keeps,
   c.self.invariant.1,
+  begun_in (after_mark c.self.invariant.0 c.args.place c.mutator_exchange.ensures.step).1.view
+      (marked_begun c.self.invariant.2 (target c.self.inside.seat.me c.args.place)),
 )
 
 pub returns : goal.returns

@@ -6,6 +6,7 @@ use Rattle.core_machine.specs.WordOperations.{SetBits}
 use Rattle.core_machine.specs.WordOperations.{over_bit}
 use Rattle.heap_rule.specs.Asks.{MayComeIn}
 use Rattle.heap_rule.proofs.Owing.{owes_over}
+use Rattle.mutator_events.proofs.Begun.{begun_in}
 use Rattle.mutator_events.proofs.Calls.{after_over}
 use Rattle.mutator_events.proofs.Calls.{seat_told}
 use Rattle.mutator_events.proofs.Calls.{within}
@@ -33,6 +34,8 @@ invariant_of-self g c =
     let may = within (λ v. MayComeIn v) c.self.view_is c.requires.may in (
       (after_over c.self.invariant.0 may c.mutator_set_bits.ensures.step).1.keeps,
       c.self.invariant.1,
+      begun_in (after_over c.self.invariant.0 may c.mutator_set_bits.ensures.step).1.view
+          c.self.invariant.2,
     )
 
 pub returns : goal.returns

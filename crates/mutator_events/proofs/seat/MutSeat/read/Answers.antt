@@ -11,6 +11,7 @@ use Rattle.heap_table.specs.Seats.{SeatView}
 use Rattle.mutator_events.specs.Events.{AtEvent}
 use Rattle.mutator_events.specs.Seats.{IsMutator}
 use Rattle.mutator_events.specs.Values.{value_found}
+use Rattle.mutator_events.proofs.Begun.{begun_in, read_begun}
 use Rattle.mutator_events.proofs.Calls.{after_read}
 use Rattle.mutator_events.proofs.Calls.{same_within}
 use Rattle.mutator_events.proofs.Calls.{within, without}
@@ -55,6 +56,9 @@ invariant_of-self g c =
           (after_read c.self.invariant.0 c.args.place c.args.field c.field_of-found.result
           c.field_of-found.ensures.field may c.mutator_load-number.ensures.step).keeps,
       omega (arith, c.self.invariant.1, c.hold_found.ensures.capacity),
+      begun_in (after_read c.self.invariant.0 c.args.place c.args.field c.field_of-found.result
+          c.field_of-found.ensures.field may c.mutator_load-number.ensures.step).event.new
+          (read_begun c.self.invariant.2 c.field_of-found.result),
     )
 
 pub returns-clause-told : goal.returns-clause-told

@@ -6,6 +6,7 @@ use Rattle.core_machine.specs.declared.events.Event.TheVariants as event
 use Rattle.core_machine.specs.declared.events.Found.TheVariants as finds
 use Rattle.core_machine.specs.Table.{FieldOf, index_of}
 use Rattle.heap_rule.specs.Asks.{MaySeal, target}
+use Rattle.mutator_events.proofs.Begun.{begun_in}
 use Rattle.mutator_events.proofs.Calls.{after_seal}
 use Rattle.mutator_events.proofs.Calls.{same_within, seat_told}
 use Rattle.mutator_events.proofs.Calls.{within}
@@ -35,6 +36,8 @@ pub invariant_of-self : goal.invariant_of-self
 invariant_of-self g c = (
   (after_seal c.self.invariant.0 c.args.place c.args.kind c.mutator_store.ensures.step).keeps,
   c.self.invariant.1,
+  begun_in (after_seal c.self.invariant.0 c.args.place c.args.kind
+      c.mutator_store.ensures.step).view c.self.invariant.2,
 )
 
 pub returns : goal.returns

@@ -1,5 +1,5 @@
 use Rattle.std.proofs.Common.{◌∙◌, ℕ}
-use Rattle.std.proofs.Common.{Some, sym, ap, subst}
+use Rattle.std.proofs.Common.{Some, refl, sym, ap, subst}
 use Rattle.cell_words.specs.declared.fields.Field.{Field}
 use Rattle.core_machine.specs.declared.events.Found.TheVariants as finds
 use Rattle.core_machine.specs.Table.{FieldOf, index_of}
@@ -8,6 +8,7 @@ use Rattle.heap_rule.specs.Asks.{MayWrite, target}
 use Rattle.heap_rule.specs.Steps.{Picks}
 use Rattle.mutator_events.specs.Events.{AtEvent, write_of}
 use Rattle.mutator_events.specs.Values.{field_at}
+use Rattle.mutator_events.proofs.Begun.{begun_in, none_begun}
 use Rattle.mutator_events.proofs.Calls.{after_write}
 use Rattle.mutator_events.proofs.Calls.{same_within}
 use Rattle.mutator_events.proofs.Calls.{within, without}
@@ -53,15 +54,17 @@ field_of-found-requires g c =
     write_word c.mutator_exchange-number.ensures.step
 
 pub invariant_of-self : goal.invariant_of-self
-invariant_of-self g c = (
-  (after_write c.self.invariant.0 c.args.place c.args.field c.field_of-found.result
-      (same_within (λ v. field_at v.own.held c.args.old) c.self.view_is
-      c.stands_for-old.ensures.field)
-      (same_within (λ v. field_at v.own.held c.args.new) c.self.view_is
-      c.stands_for-new.ensures.field)
-      c.field_of-found.ensures.field c.mutator_exchange-number.ensures.step).keeps,
-  c.self.invariant.1,
-)
+invariant_of-self g c =
+    let after = after_write c.self.invariant.0 c.args.place c.args.field c.field_of-found.result
+    (same_within (λ v. field_at v.own.held c.args.old) c.self.view_is
+    c.stands_for-old.ensures.field)
+    (same_within (λ v. field_at v.own.held c.args.new) c.self.view_is
+    c.stands_for-new.ensures.field)
+    c.field_of-found.ensures.field c.mutator_exchange-number.ensures.step in (
+      after.keeps,
+      c.self.invariant.1,
+      begun_in after.event.new (none_begun refl),
+    )
 
 pub returns-clause-made : goal.returns-clause-made
 returns-clause-made g c =

@@ -1,4 +1,4 @@
-use Rattle.std.proofs.Common.{sym, subst}
+use Rattle.std.proofs.Common.{sym, ◌∙◌, ap, subst}
 use Rattle.heap_rule.specs.Asks.{MayWrite}
 use Rattle.heap_rule.specs.Steps.{Picks}
 use Rattle.mutator_events.specs.Values.{field_at}
@@ -15,8 +15,9 @@ write-requires-clause-may g c =
     subst (λ (m : Bound _). MayWrite g.P.Keeping.fixed m.seat.me c.args.place c.args.field (field_at m.seat.me.own.held c.args.old) (field_at m.seat.me.own.held c.args.new))
     (sym c.self.view_is)
     (may_write g.P.Keeping.fixed c.args.self.now marked.new.self c.args.place c.args.field
-    c.args.old c.args.new c.requires.may marked.ensures.calm.kept marked.ensures.mode
-    marked.ensures.marks)
+    c.args.old c.args.new c.requires.may marked.ensures.calm.kept
+    (ap (λ (m : Bound _). m.seat.me.own.pending) (sym c.self.view_is) ∙ c.self.invariant.settled)
+    marked.ensures.mode marked.ensures.marks)
 
 pub write-requires-clause-rule : goal.write-requires-clause-rule
 write-requires-clause-rule g c =
