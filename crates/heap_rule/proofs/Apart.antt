@@ -1,6 +1,6 @@
 -- A cell that is blue stands at no place of a mutator, since no reachable cell is; and what is known
 -- of two places of one cell agrees, since both is so.
-use Rattle.std.proofs.Common.{◌≡◌, ◌<◌, ℕ, suc, Bool, true, false, List, [], ◌∷◌, length}
+use Rattle.std.proofs.Common.{◌≡◌, ℕ, suc, Bool, true, false, List, [], ◌∷◌, length}
 use Rattle.std.proofs.Common.{slice_index_or, Some, refl, sym, ◌∙◌, ap, subst}
 use Rattle.cell_words.specs.declared.colours.Colour.TheVariants as colour
 use Rattle.cell_words.specs.declared.fields.Field.{Field}
@@ -12,7 +12,7 @@ use Rattle.core_machine.specs.Words.{is_box_kind}
 use Rattle.dlg_core.proofs.Safety.{consistent_safe}
 use Rattle.heap_rule.specs.Apart.{IsNewTo, KnowsNoOther}
 use Rattle.heap_rule.specs.Facts.{AllKnown, IsKnown}
-use Rattle.heap_rule.specs.Lore.{Lore, cells_in, cells_of, has, known_at}
+use Rattle.heap_rule.specs.Lore.{Lore, cells_in, has, known_at}
 use Rattle.heap_rule.specs.Steps.{Mine}
 use Rattle.heap_rule.specs.declared.known.Known.{Known}
 use Rattle.heap_rule.specs.declared.known.Known.TheVariants as knows
