@@ -1,12 +1,11 @@
 -- Pending writes, and the fields that they put in doubt.
 --
 -- A doubtful field is one of a cell that is held, so the cell is live and a box.
-use Rattle.std.proofs.Common.{◌≡◌, ◌∙◌, ℕ, true, List, Some, None, ap, subst, sym}
+use Rattle.std.proofs.Common.{◌≡◌, ℕ, true, List, Some, None, subst}
 use Rattle.cell_words.specs.declared.fields.Field.{Field}
 use Rattle.cell_words.specs.declared.presences.Status.{Status}
 use Rattle.core_machine.specs.declared.pending.Pending.{Pending}
 use Rattle.core_machine.specs.Own.{Own}
-use Rattle.core_machine.specs.Places.{cell_at}
 use Rattle.core_machine.specs.State.{State, field_of, held_of}
 use Rattle.core_machine.specs.Words.{is_box_kind}
 use Rattle.dlg_core.specs.Consistent.{IsConsistent}

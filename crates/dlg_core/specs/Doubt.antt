@@ -3,7 +3,7 @@
 -- A field is doubtful where a mutator has read it to store over it, and it has another value since:
 -- that store will end an edge for which no mark was made.
 -- Source: this project's.
-use Rattle.std.specs.Prelude.{ℕ, ◌≡◌, ◌≢◌, ◌<◌, true, List, length, Option, Some}
+use Rattle.std.specs.Prelude.{ℕ, ◌≡◌, ◌≢◌, ◌<◌, true, List, length, Some}
 use Rattle.cell_words.specs.declared.fields.Field.{Field}
 use Rattle.cell_words.specs.declared.fields.Field.TheVariants.{Cell}
 use Rattle.cell_words.specs.declared.presences.Presence.{Presence}
