@@ -296,13 +296,20 @@ module _ (is_tree : Term → Type 0) (tree_of : Term → DocTree)
         (tree_of made)
     shows_commit = by_made (same_field value over) refl
 
--- and of a version's link
+-- an exchange of a version's link
 pub shows_taken : (holding : Map → List Pass → Type 0) (v w : View Pass)
     (word place number : ℕ) (old new : Field)
     → AtStep holding is_fixed v (event.Write v.number place 2 old new) (link_taken number) word w
     → w.pass ≡ cutting number v.pass
 shows_taken holding v w word place number old new step =
     ap (λ (u : View Pass). u.pass) step.new
+
+-- and a store over it
+pub shows_cut : (holding : Map → List Pass → Type 0) (v w : View Pass) (word number : ℕ)
+    (new : Field)
+    → AtStep holding is_fixed v (event.Store v.number new) (link_taken number) word w
+    → w.pass ≡ cutting number v.pass
+shows_cut holding v w word number new step = ap (λ (u : View Pass). u.pass) step.new
 
 -- a read of the anchor, and one of the number of the version that it found
 pub reads_latest : (is_tree : Term → Type 0) (v w x : View Pass) (place word other : ℕ)

@@ -1,22 +1,24 @@
--- Writes: of the anchor's field by a commit, and of a version's link by a trim. The rule stands
--- with the pass that is picked, whether the write was made or not.
+-- Writes: of the anchor's field by a commit, and of a version's link by a trim, which is a store or
+-- an exchange. The rule stands with the pass that is picked, whether an exchange was made or not.
 use Rattle.std.proofs.Common.{◌≡◌, ◌≢◌, ◌<◌, ◌≤◌, ◌+◌, ◌-◌, ◌&&◌, ℕ, Bool, true, false, List}
 use Rattle.std.proofs.Common.{[], ◌∷◌, length, Option, Some, None, is_none, slice_set, inl, inr}
-use Rattle.std.proofs.Common.{refl, sym, ◌∙◌, ap, subst, arith}
+use Rattle.std.proofs.Common.{max, refl, sym, ◌∙◌, ap, subst, arith}
 use Rattle.std.proofs.lemmas.Bool.{cases_eq, eq-eqb}
 use mathlib.Core.Option.{some}
 use lib.ListN.{get_elem?}
+use Rattle.atomic_table.proofs.Lists.{set_again}
 use Rattle.cell_words.specs.declared.fields.Field.{Field}
 use Rattle.cell_words.specs.declared.fields.Field.TheVariants as field
 use Rattle.cell_words.specs.Term.{IsFive, Term, null}
 use Rattle.core_machine.specs.declared.events.Event.TheVariants as event
+use Rattle.core_machine.specs.Own.{Own, pending_or_none}
 use Rattle.core_machine.specs.State.{State, field_of, target_of}
 use Rattle.core_machine.specs.Words.{is_box_kind, same_field}
 use Rattle.dlg_core.specs.Reachable.{Reachable, reach}
 use Rattle.dlg_core.proofs.Keeps.Write.{same_field_is}
 use Rattle.doc_model.specs.Store.{tree_at}
 use Rattle.doc_tree.specs.Tree.{DocTree}
-use Rattle.heap_rule.specs.Asks.{target}
+use Rattle.heap_rule.specs.Asks.{begun_of, target}
 use Rattle.heap_rule.specs.Boxes.{Map, Payload, boxes_of, payload_of, revealing}
 use Rattle.heap_rule.specs.Boxes.{where_shown, written_if, written_map}
 use Rattle.heap_rule.specs.Facts.{Facts, IsKnown}
@@ -27,8 +29,8 @@ use Rattle.heap_rule.specs.declared.known.Known.TheVariants as knows
 use Rattle.heap_rule.specs.declared.view.View.{View}
 use Rattle.heap_rule.proofs.Claiming.{put_here, put_other}
 use Rattle.heap_rule.proofs.Maps.{entry_names, in_map, of_map}
-use Rattle.version_rule.specs.Knowing.{MayCommit, MayCut, link_taken, made_or_seen}
-use Rattle.version_rule.specs.Knowing.{next_made}
+use Rattle.version_rule.specs.Knowing.{HasReadLink, HoldsBefore, MayCommit, MayCut, link_taken}
+use Rattle.version_rule.specs.Knowing.{made_or_seen, next_made}
 use Rattle.version_rule.specs.Pass.{Pass, committed, cutting, seeing}
 use Rattle.version_rule.specs.Shrinks.{named_inj, num_inj, one_number, same_entry}
 use Rattle.version_rule.specs.Versions.{HasNumber, HoldsVersions, IsNext}
@@ -41,9 +43,17 @@ use Rattle.heap_rule.proofs.Seats.{knows_place, reached_place, target_now}
 use Rattle.version_rule.proofs.States.{Seen, no_term, not_some, number_seen}
 use Rattle.version_rule.proofs.States.{version_seen}
 
+same_self : (value : Field) → same_field value value ≡ true
+same_self field.Null = refl
+same_self (field.Num n) = eq-eqb n n refl
+same_self (field.Cell c) = eq-eqb c c refl
+
+same_value : (value other : Field) → value ≡ other → same_field value other ≡ true
+same_value value other is = ap (λ (x : Field). same_field x other) is ∙ same_self other
+
 pub same_cell : (value : Field) (c : ℕ) → value ≡ field.Cell c
     → same_field value (field.Cell c) ≡ true
-same_cell value c is = ap (λ (x : Field). same_field x (field.Cell c)) is ∙ eq-eqb c c refl
+same_cell value c is = same_value value (field.Cell c) is
 
 -- A fresh box is in no map, and is in the map once a value names it.
 
@@ -237,18 +247,14 @@ module _ (is_tree : Term → Type 0) (tree_of : Term → DocTree)
 
   -- The cut of a link.
 
-  module _ (place older newer number newest : ℕ) (root before top : Term)
-      (may : MayCut v place older newer number newest root before top) where
+  module _ (place newer number newest : ℕ) (root top : Term)
+      (may : MayCut v place newer number newest root top) where
     abbrev x : ℕ
     x = target_of s v.number place
 
     version : Version is_tree tree_of h.trees s l x number
     version = version_held is_tree tree_of is_record v s l passes mine h at place number root
         may.held
-
-    older_number : HasNumber (boxes_of s l) (target v older) (number - 1)
-    older_number = number_seen s l (target v older) (number - 1) before
-        (version_seen v s l mine older (number - 1) before may.linked)
 
     there : boxes_of s l x ≡ Some (payload_of s l x)
     there = in_map s l x version.seen.in_is
@@ -263,8 +269,8 @@ module _ (is_tree : Term → Type 0) (tree_of : Term → DocTree)
         let keep = step.keeps in let due = may.due in
         omega (arith, keep, made, due)
 
-    -- the write was made
-    cut_stands_here : HoldsVersions is_tree tree_of
+    -- the link becomes null, whatever it was
+    pub cut_stands_here : HoldsVersions is_tree tree_of
         (written_map (boxes_of s l) x 2 (Plain null))
         (slice_set passes v.number (cutting number v.pass))
     cut_stands_here =
@@ -274,11 +280,11 @@ module _ (is_tree : Term → Type 0) (tree_of : Term → DocTree)
         number (written_here (boxes_of s l) x 2 (Plain null) (payload_of s l x) there)
         version.seen.number_is refl
 
-    -- it was not: the link was cut before
-    cut_stands_still : (field_of s x 2 ≡ field.Cell (target v older) → ⊥)
+    -- The exchange was not made. Either the version before was there, so the link was cut since.
+    cut_since : (c : ℕ) (before : HoldsBefore v number c) → (field_of s x 2 ≡ field.Cell c → ⊥)
         → HoldsVersions is_tree tree_of (boxes_of s l)
         (slice_set passes v.number (cutting number v.pass))
-    cut_stands_still other =
+    cut_since c before other =
         let all = whole is_tree tree_of is_record v s l passes mine h at place number root
         may.held in
         let same : all.number ≡ number =
@@ -287,28 +293,57 @@ module _ (is_tree : Term → Type 0) (tree_of : Term → DocTree)
           | inl cut ↦ cut_stands is_tree tree_of (boxes_of s l) passes h v.number v.pass at x
               (payload_of s l x) number there version.seen.number_is cut.none
           | inr link ↦ absurd (
-              let before_is = link.before in let later = may.later in
+              let before_is = link.before in let later = before.later in
               let number_is : link.older ≡ number - 1 = omega (arith, before_is, same, later) in
-              let one : link.cell ≡ target v older =
-              h.apart link.cell (target v older) (number - 1)
+              let older = target v before.place in
+              let older_number : HasNumber (boxes_of s l) older (number - 1) =
+              number_seen s l older (number - 1) before.root
+              (version_seen v s l mine before.place (number - 1) before.root before.held) in
+              let one : link.cell ≡ older =
+              h.apart link.cell older (number - 1)
               (subst (λ (n : ℕ). HasNumber (boxes_of s l) link.cell n) number_is link.version)
               older_number in
-              other (entry_names l.terms (field_of s x 2) (target v older)
-              (link.names ∙ ap Named one)))
+              other (entry_names l.terms (field_of s x 2) c
+              (link.names ∙ ap Named (one ∙ before.cell_is))))
         ]
+
+    -- or it was null, which the pass has noted
+    cut_noted : number ≤ v.pass.cut
+        → HoldsVersions is_tree tree_of (boxes_of s l)
+        (slice_set passes v.number (cutting number v.pass))
+    cut_noted noted =
+        let seen = (in_step_at is_tree tree_of (boxes_of s l) passes h v.number v.pass at).cut_seen
+        in
+        let same_seen : max v.pass.seen number ≡ v.pass.seen = omega (arith, noted, seen) in
+        let same_cut : max v.pass.cut number ≡ v.pass.cut = omega (arith, noted) in
+        let same : cutting number v.pass ≡ v.pass =
+        (λ t. record v.pass { seen = same_seen t; cut = same_cut t }) in
+        subst (λ (ps : List Pass). HoldsVersions is_tree tree_of (boxes_of s l) ps)
+        (sym (ap (λ (p : Pass). slice_set passes v.number p) same
+        ∙ set_again passes v.number v.pass at)) h
+
+    not_exchanged : (found : Field) → HasReadLink v number found
+        → (field_of s x 2 ≡ found → ⊥)
+        → HoldsVersions is_tree tree_of (boxes_of s l)
+        (slice_set passes v.number (cutting number v.pass))
+    not_exchanged field.Null read other = cut_noted read
+    not_exchanged (field.Num n) read other = absurd read
+    not_exchanged (field.Cell c) read other = cut_since c read other
 
     abbrev cut_goal : Bool → Type 0
     cut_goal b = HoldsVersions is_tree tree_of (written_if b s l x 2 field.Null)
         (slice_set passes v.number (cutting number v.pass))
 
-    cut_by : (b : Bool) → same_field (field_of s x 2) (field.Cell (target v older)) ≡ b
+    cut_by : (found : Field) → HasReadLink v number found → (b : Bool)
+        → same_field (field_of s x 2) found ≡ b
         → cut_goal b
-    cut_by true is = cut_stands_here
-    cut_by false is = cut_stands_still (λ e.
-        let clash : true ≡ false = sym (same_cell (field_of s x 2) (target v older) e) ∙ is in cc)
+    cut_by found read true is = cut_stands_here
+    cut_by found read false is = not_exchanged found read (λ e.
+        let clash : true ≡ false = sym (same_value (field_of s x 2) found e) ∙ is in cc)
 
-    pub taken_stands : cut_goal (same_field (field_of s x 2) (field.Cell (target v older)))
-    taken_stands = cut_by (same_field (field_of s x 2) (field.Cell (target v older))) refl
+    pub exchange_stands : (found : Field) → HasReadLink v number found
+        → cut_goal (same_field (field_of s x 2) found)
+    exchange_stands found read = cut_by found read (same_field (field_of s x 2) found) refl
 
 -- In the shape that a call of a seat asks for.
 
@@ -323,10 +358,27 @@ module _ (is_tree : Term → Type 0) (tree_of : Term → DocTree)
       commit_stands is_tree tree_of is_record v s l passes mine h at place latest box root number
       before made may (target_of s v.number place) (target_now v s l mine place ∙ may.anchor)
 
-  pub cut_picks : (place older newer number newest : ℕ) (root before top : Term)
-      → MayCut v place older newer number newest root before top
+  -- an ordinary store, of the write that is pending
+  pub cut_picks : (newer number newest : ℕ) (root top : Term)
+      → MayCut v (begun_of v).place newer number newest root top → (begun_of v).f ≡ 2
       → Picks (HoldsVersions is_tree tree_of) is_fixed (link_taken number) v
-      (event.Write v.number place 2 (field.Cell (target v older)) field.Null)
-  cut_picks place older newer number newest root before top may s l passes mine happens proper at
-      h = taken_stands is_tree tree_of is_record v s l passes mine h at place older newer number
-      newest root before top may
+      (event.Store v.number field.Null)
+  cut_picks newer number newest root top may link s l passes mine happens proper at h =
+      let begun = begun_of v in
+      let stored : (f : ℕ) → Map = (λ f. written_map (boxes_of s l)
+      (target_of s v.number begun.place) f (Plain null)) in
+      subst (λ (o : Own). HoldsVersions is_tree tree_of (written_map (boxes_of s l)
+      (target_of s v.number (pending_or_none o.pending).place) (pending_or_none o.pending).f
+      (Plain null)) (slice_set passes v.number (cutting number v.pass))) (sym mine.own)
+      (subst (λ (f : ℕ). HoldsVersions is_tree tree_of (stored f)
+      (slice_set passes v.number (cutting number v.pass))) (sym link)
+      (cut_stands_here is_tree tree_of is_record v s l passes mine h at begun.place newer number
+      newest root top may))
+
+  pub exchange_picks : (place newer number newest : ℕ) (root top : Term) (found : Field)
+      → MayCut v place newer number newest root top → HasReadLink v number found
+      → Picks (HoldsVersions is_tree tree_of) is_fixed (link_taken number) v
+      (event.Write v.number place 2 found field.Null)
+  exchange_picks place newer number newest root top found may read s l passes mine happens proper
+      at h = exchange_stands is_tree tree_of is_record v s l passes mine h at place newer number
+      newest root top may found read

@@ -63,7 +63,7 @@ abbrev pub link_cut : Learned → Found → Pass → Pass
 link_cut tells (finds.Field field.Null) pass = cutting (number_told tells.here) pass
 link_cut tells _ pass = pass
 
--- a write of a version's link: it is null now, whoever made it so
+-- a store over a version's link, or an exchange of it: it is null now, whoever made it so
 abbrev pub link_taken : ℕ → Learned → Found → Pass → Pass
 link_taken number tells found pass = cutting number pass
 
@@ -91,12 +91,25 @@ pub record MayCommit (is_tree : Term → Type 0) (v : View Pass) (place latest b
   pub spells : is_tree made
   pub few : length v.pass.commits < 100_000
 
--- And to cut the link of a version: that one, the one before it, and one that shows that as many as
--- stay were made from it on.
-pub record MayCut (v : View Pass) (place older newer : ℕ) (number last : ℕ)
-    (root before top : Term) : Type 0 where
+-- And to cut the link of a version: that one, and one that shows that as many as stay were made
+-- from it on.
+pub record MayCut (v : View Pass) (place newer : ℕ) (number last : ℕ) (root top : Term)
+    : Type 0 where
   pub held : KnowsVersion v place number root
-  pub linked : KnowsVersion v older (number - 1) before
   pub made : KnowsVersion v newer last top
-  pub later : 1 ≤ number
   pub due : number + v.pass.keep ≤ last + 1
+
+-- A link can also be exchanged for null, by who has read what it was: the version before, which is
+-- held, or null, which the pass has noted. A link is no number.
+
+pub record HoldsBefore (v : View Pass) (number cell : ℕ) : Type 0 where
+  pub place : ℕ
+  pub root : Term
+  pub held : KnowsVersion v place (number - 1) root
+  pub cell_is : target v place ≡ cell
+  pub later : 1 ≤ number
+
+abbrev pub HasReadLink : View Pass → ℕ → Field → Type 0
+HasReadLink v number field.Null = number ≤ v.pass.cut
+HasReadLink v number (field.Num n) = ⊥
+HasReadLink v number (field.Cell c) = HoldsBefore v number c

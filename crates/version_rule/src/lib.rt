@@ -3,7 +3,7 @@
 //!
 //! The anchor names the box of the latest version. A version's box has its number, the root of its
 //! tree and a link to the version before it. A commit is one write of the anchor's field, a trim
-//! one write of a link, and all else that a client does with versions is reads.
+//! one store or exchange of a link, and all else that a client does with versions is reads.
 //!
 //! Here stand the rule, a fact of plain data (the boxes, and a pass for each mutator), and lemmas:
 //! that the opening has it, that each kind of step keeps it with the pass that the client picks

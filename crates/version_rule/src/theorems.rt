@@ -6,6 +6,7 @@ ghost use Rattle.std.specs.List.{AllZip};
 ghost use mathlib.Core.Option.{some};
 ghost use lib.ListN.{get_elem?};
 ghost use Rattle.cell_words.specs.Term.{Term};
+ghost use Rattle.cell_words.specs.declared.fields.Field.{Field};
 ghost use Rattle.cell_words.specs.declared.fields.Field.TheVariants as field;
 ghost use Rattle.core_machine.specs.InRange.{IsShaped};
 ghost use Rattle.core_machine.specs.State.{State, presence_of};
@@ -14,7 +15,7 @@ ghost use Rattle.doc_model.specs.Agreement.{Agree, rising};
 ghost use Rattle.doc_model.specs.Answers.{Limits};
 ghost use Rattle.doc_model.specs.ClientLog.{ClientLog};
 ghost use Rattle.doc_tree.specs.Tree.{DocTree};
-ghost use Rattle.heap_rule.specs.Asks.{target};
+ghost use Rattle.heap_rule.specs.Asks.{begun_of, target};
 ghost use Rattle.heap_rule.specs.Boxes.{Map, Payload, boxes_of};
 ghost use Rattle.heap_rule.specs.Facts.{Facts};
 ghost use Rattle.heap_rule.specs.Lore.{Lore};
@@ -24,8 +25,9 @@ ghost use Rattle.heap_rule.specs.Steps.{AtStep, Picks, same_pass};
 ghost use Rattle.heap_rule.specs.declared.view.View.{View};
 ghost use Rattle.version_rule.specs.Chains.{Among, Stays};
 ghost use Rattle.version_rule.specs.Fits.{Grows};
-ghost use Rattle.version_rule.specs.Knowing.{KnowsVersion, MayCommit, MayCut, latest_seen};
-ghost use Rattle.version_rule.specs.Knowing.{link_cut, link_seen, link_taken, next_made, tree_read};
+ghost use Rattle.version_rule.specs.Knowing.{HasReadLink, KnowsVersion, MayCommit, MayCut};
+ghost use Rattle.version_rule.specs.Knowing.{latest_seen, link_cut, link_seen, link_taken};
+ghost use Rattle.version_rule.specs.Knowing.{next_made, tree_read};
 ghost use Rattle.version_rule.specs.Opening.{OpensVersions, first_rows, first_terms};
 ghost use Rattle.version_rule.specs.Pass.{Pass, committed, cutting, opening_pass, reading};
 ghost use Rattle.version_rule.specs.Pass.{seeing};
@@ -123,17 +125,29 @@ pub fn a_commit_keeps_versions<S: Spelling>()
         → ShowsCommit v w word (target v latest) number (S.tree_of before) (S.tree_of made) }
 {}
 
-/// A trim is one write of a version's link, from the version before it to null, once as many
-/// versions as stay are made from it on. The rule stands whether the write was made or not, and
-/// the pass knows that the link is cut.
+/// A trim is one store of null over a version's link, once as many versions as stay are made from
+/// it on. The rule stands whatever the link was, and the pass knows that it is cut.
 pub fn a_trim_keeps_versions<S: Spelling>()
-    ensures keeps { (v : View Pass) (place older newer number newest : ℕ)
-        (root before top : Term) → MayCut v place older newer number newest root before top
+    ensures keeps { (v : View Pass) (newer number newest : ℕ) (root top : Term)
+        → MayCut v (begun_of v).place newer number newest root top → (begun_of v).f ≡ 2
         → Picks (HoldsVersions S.is_tree S.tree_of) is_fixed (link_taken number) v
-        (event.Write v.number place 2 (field.Cell (target v older)) field.Null) }
-    ensures shows { (v w : View Pass) (place older number word : ℕ)
+        (event.Store v.number field.Null) }
+    ensures shows { (v w : View Pass) (number word : ℕ)
+        → AtStep (HoldsVersions S.is_tree S.tree_of) is_fixed v (event.Store v.number field.Null)
+        (link_taken number) word w
+        → w.pass ≡ cutting number v.pass }
+{}
+
+/// Where no store may be begun, a trim is one exchange of the link for null, from what it was read
+/// to be. The rule stands whether the exchange was made or not: if not, another has cut the link.
+pub fn an_exchanged_link_keeps_versions<S: Spelling>()
+    ensures keeps { (v : View Pass) (place newer number newest : ℕ) (root top : Term)
+        (found : Field) → MayCut v place newer number newest root top → HasReadLink v number found
+        → Picks (HoldsVersions S.is_tree S.tree_of) is_fixed (link_taken number) v
+        (event.Write v.number place 2 found field.Null) }
+    ensures shows { (v w : View Pass) (place number word : ℕ) (found : Field)
         → AtStep (HoldsVersions S.is_tree S.tree_of) is_fixed v
-        (event.Write v.number place 2 (field.Cell (target v older)) field.Null)
+        (event.Write v.number place 2 found field.Null)
         (link_taken number) word w
         → w.pass ≡ cutting number v.pass }
 {}

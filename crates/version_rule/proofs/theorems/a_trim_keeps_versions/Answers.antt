@@ -1,7 +1,6 @@
 use Rattle.cell_words.specs.declared.fields.Field.TheVariants as field
-use Rattle.heap_rule.specs.Asks.{target}
 use Rattle.version_rule.specs.Versions.{HoldsVersions}
-use Rattle.version_rule.proofs.AfterSteps.{shows_taken}
+use Rattle.version_rule.proofs.AfterSteps.{shows_cut}
 use Rattle.version_rule.proofs.Writing.{cut_picks}
 use Rattle.version_rule.proofs.theorems.a_trim_keeps_versions.Goals as goal
 
@@ -11,6 +10,6 @@ returns g c =
     let of = g.S.Spelling.tree_of in
     record {
       keeps = cut_picks tree of g.S.Spelling.is_record;
-      shows = λ v w place older number word step. shows_taken (HoldsVersions tree of) v w word place
-          number (field.Cell (target v older)) field.Null step;
+      shows = λ v w number word step. shows_cut (HoldsVersions tree of) v w word number field.Null
+          step;
     }
