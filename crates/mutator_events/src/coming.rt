@@ -50,7 +50,8 @@ impl<P: Keeping> MutSeat<P> {
         self.status = presence.status;
     }
 
-    /// Goes out, holds nothing, and ends the write that it has begun. One `fetch_and` on its status word.
+    /// Goes out, and holds nothing; a write that was begun is dropped. One `fetch_and` on its
+    /// status word.
     pub fn end(&mut self, heap: &CellHeap<P>)
         requires seat { IsSeatOf heap.now self.old }
         requires inside { self.old.me.presence.inside ≡ true }

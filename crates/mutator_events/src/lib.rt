@@ -2,9 +2,9 @@
 //! one event of the event table.
 //!
 //! The clause `told` of a call is one equation: the seat after it is the seat before, told the
-//! event and what this found. A read, a write, a fetch and a store show the state and the client's
-//! rule as they stood at their step too (`AtEvent`). What a call needs is said of the seat's view alone (`heap_rule`,
-//! specs/Asks).
+//! event and what this found. A read, a fetch, a write and a store show the state and the client's
+//! rule as they stood at their step too (`AtEvent`). What a call needs is said of the seat's view
+//! alone (`heap_rule`, specs/Asks).
 //!
 //! When to mark, to answer or to try again is the choice of the layer above. No call takes memory:
 //! the room for held cells is reserved before the seat is made.

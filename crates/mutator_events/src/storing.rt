@@ -1,8 +1,7 @@
 //! A write of a field by a store: the fetch that begins it, and the store that ends it.
 //!
-//! Between the two stand the marks of the barrier, and nothing else that writes or answers. What was
-//! fetched is what the store counts on: another may have written the field meanwhile, and what that
-//! wrote is lost.
+//! Between the two stand the marks of the barrier, and nothing that looks, writes or answers. The
+//! store sets the field whatever it holds by then: what another wrote there meanwhile is lost.
 ghost use Rattle.std.specs.Prelude.{◌≡◌, length};
 ghost use Rattle.cell_words.specs.declared.fields.Field.{Field};
 ghost use Rattle.core_machine.specs.Own.{pending_or_none};

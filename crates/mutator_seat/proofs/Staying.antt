@@ -1,5 +1,5 @@
--- What a store leaves of a mutator, whichever way it went: all but marks, mode, pass, trail and what
--- is known.
+-- What a store leaves of a mutator, whichever way it went: all but marks, mode, pass, trail and
+-- what is known.
 use Rattle.std.proofs.Common.{◌≡◌, ◌⊎◌, ℕ, Bool, false, List, length, ◌∙◌, ap, inl, inr}
 use Rattle.std.proofs.Common.{Result, Ok, Err, OnOk, IfErr}
 use Rattle.cell_words.specs.declared.fields.Field.{Field}
@@ -44,7 +44,8 @@ module _ {P : Type 0} {holds : Map → List P → Type 0} {fixed : ℕ → Bool}
       → Exchanged holds fixed reads next m place f new seen found after → Stays m after
   exchanged_stays seen found x =
       let one = x.rewritten in
-      let left = exchange_leaves place f seen new x.looked one.written found one.replaced in record {
+      let left = exchange_leaves place f seen new x.looked one.written found one.replaced in
+      record {
         heap = x.heap;
         table = x.table;
         shape = ap (λ (b : Bound P). b.seat.me.shape) one.told ∙ left.shape ∙ x.look.kept.shape;

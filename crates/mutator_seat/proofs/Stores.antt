@@ -64,10 +64,10 @@ seen_valid e seen at =
 
 module _ {P : Type 0} (fixed : ℕ → Bool) (v : View P) (place f : ℕ) (new : Value) (seen : Field)
     (valid : IsValidField seen) (may : MayOverwrite fixed v place f new) (k : Learned) (p : P) where
-  loaded : List Held
+  abbrev loaded : List Held
   loaded = (having_read v.own seen).held
 
-  known_now : List Known
+  abbrev known_now : List Known
   known_now = known_read (cells_in v.own.held) v.known place k (finds.Field seen)
 
   there_now : place < length loaded
@@ -158,10 +158,10 @@ module _ {P : Type 0} {holds : Map → List P → Type 0} {fixed : ℕ → Bool}
       }
 
 -- the same barrier, by the same presence and mode
-pub barrier_still : {P : Type 0} {v w : View P} {wanted : Barrier} → w.presence ≡ v.presence
+pub barrier_still : {P : Type 0} (v w : View P) {wanted : Barrier} → w.presence ≡ v.presence
     → w.own.mode ≡ v.own.mode → barrier_in v.presence.status v.own.mode ≡ wanted
     → barrier_in w.presence.status w.own.mode ≡ wanted
-barrier_still {v = v} {w = w} presence mode is =
+barrier_still v w presence mode is =
     ap (λ (p : Presence). barrier_in p.status w.own.mode) presence
     ∙ ap (λ (m : Option Control). barrier_in v.presence.status m) mode ∙ is
 

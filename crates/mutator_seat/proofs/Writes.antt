@@ -107,10 +107,10 @@ value_marked held place there =
 
 module _ {P : Type 0} (fixed : ℕ → Bool) (m at : Bound P) (place f : ℕ) (old new : Value)
     (may : MayUpdate fixed m.seat.me place f old new) (kept : Kept m at) where
-  was : List Held
+  abbrev was : List Held
   was = m.seat.me.own.held
 
-  now : List Held
+  abbrev now : List Held
   now = at.seat.me.own.held
 
   cell : (p : ℕ) → cell_at now p ≡ cell_at was p

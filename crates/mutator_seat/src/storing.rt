@@ -1,9 +1,9 @@
-//! Storing a field of a box, whatever it holds: a look, the fetch, the marks of the barrier, and the
-//! store.
+//! Storing a field of a box, whatever it holds: a look, the fetch, the marks of the barrier, and
+//! the store.
 //!
 //! The fetch shows the value that goes, so that this is marked where the barrier asks for it. In
-//! sync2, where the look found the stage Sync2, no store may be begun (docs/ALGORITHM.md): a read and
-//! an exchange of what it found stand in its place.
+//! sync2, where the look found the stage Sync2, no store may be begun (docs/ALGORITHM.md): a read
+//! and an exchange of what it found stand in its place.
 ghost use Rattle.std.specs.Prelude.{◌≡◌, ◌⊎◌, IfErr, OnOk, None, Some, true, false, is_some};
 ghost use Rattle.cell_words.specs.declared.fields.Field.{Field};
 ghost use Rattle.core_machine.specs.declared.events.Found.TheVariants as finds;
@@ -37,9 +37,9 @@ fn lets_store(own: Status, control: Control) -> bool
 
 impl<'a, P: Keeping> Mutator<'a, P> {
     /// Stores `new` in a field of the box at a place. What another thread wrote there between the
-    /// fetch and the store is lost: who must not lose it takes `update`. `Moved` comes where no store
-    /// may be begun and another wrote the field since it was read; nothing is written then. The
-    /// caller picks its pass at the store, or at the read and the exchange.
+    /// fetch and the store is lost: who must not lose it takes `update`. `Moved` comes where no
+    /// store may be begun and another wrote the field since it was read; nothing is written then.
+    /// The caller picks its pass at the store, or at the read and the exchange.
     pub fn store<R: Choice<P>, C: Choice<P>>(
         &mut self,
         place: usize,

@@ -46,7 +46,8 @@ mark_wanted-requires-clause-wanted g c =
     let told = c.read-found.ensures.told in
     let loads = read_loads c.args.place c.args.field c.read-found.result c.args.new told.0
     c.requires.may told.1 told.2 in
-    barrier_still loads.presence loads.mode c.requires.wanted
+    barrier_still c.args.seat.now.me c.read-found.new.self.me loads.presence loads.mode
+    c.requires.wanted
 
 pub mark_wanted-requires-clause-old_named : goal.mark_wanted-requires-clause-old_named
 mark_wanted-requires-clause-old_named g c =
@@ -86,8 +87,10 @@ write-requires-clause-may g c =
     (subst (λ (b : Barrier). marks_stand b at.seat.me.own.held
     (field_at at.seat.me.own.held c.read-found.result) (field_at at.seat.me.own.held c.args.new)
     ≡ true)
-    (sym (barrier_still c.mark_wanted.ensures.presence c.mark_wanted.ensures.mode
-    (barrier_still loads.presence loads.mode c.requires.wanted)))
+    (sym (barrier_still loaded.seat.me at.seat.me c.mark_wanted.ensures.presence
+    c.mark_wanted.ensures.mode
+    (barrier_still c.args.seat.now.me loaded.seat.me loads.presence loads.mode
+    c.requires.wanted)))
     c.mark_wanted.ensures.marks)
 
 pub write-requires-clause-rule : goal.write-requires-clause-rule

@@ -42,7 +42,8 @@ mark_wanted-requires-clause-wanted g c =
     let told = c.fetch-seen.ensures.told in
     let loads = fetch_loads c.args.place c.args.field c.fetch-seen.result c.args.new told.0
     c.requires.may told.1 told.2 in
-    barrier_still loads.presence loads.mode c.requires.wanted
+    barrier_still c.args.seat.now.me c.fetch-seen.new.self.me loads.presence loads.mode
+    c.requires.wanted
 
 pub mark_wanted-requires-clause-old_named : goal.mark_wanted-requires-clause-old_named
 mark_wanted-requires-clause-old_named g c =
@@ -80,8 +81,10 @@ store-requires-clause-may g c =
     (subst (λ (b : Barrier). marks_stand b at.seat.me.own.held
     (field_at at.seat.me.own.held c.fetch-seen.result) (field_at at.seat.me.own.held c.args.new)
     ≡ true)
-    (sym (barrier_still c.mark_wanted.ensures.presence c.mark_wanted.ensures.mode
-    (barrier_still loads.presence loads.mode c.requires.wanted)))
+    (sym (barrier_still loaded.seat.me at.seat.me c.mark_wanted.ensures.presence
+    c.mark_wanted.ensures.mode
+    (barrier_still c.args.seat.now.me loaded.seat.me loads.presence loads.mode
+    c.requires.wanted)))
     c.mark_wanted.ensures.marks)
 
 pub store-requires-clause-rule : goal.store-requires-clause-rule
@@ -92,29 +95,31 @@ store-requires-clause-rule g c =
     (record { event = told.2; heap = refl; table = c.fetch-seen.ensures.table })
     c.mark_wanted.ensures.calm.kept c.mark_wanted.ensures.presence
 
-pub returns-clause-replaced : goal.returns-clause-replaced
-returns-clause-replaced g c =
+pub returns : goal.returns
+returns g c =
     let told = c.fetch-seen.ensures.told in
     let heap = c.args.heap.now in
     let was = c.args.seat.now in
     let loaded = bound heap c.fetch-seen.new.self in
-    let at = bound heap c.mark_wanted.new.seat in (
-      told.0,
-      record {
-        loaded = loaded;
-        load = record { event = told.2; heap = refl; table = c.fetch-seen.ensures.table };
-        at = at;
-        marks = subst (λ (n : ℕ). Calm (MarksOf n (wanted_by c.args.wanted
-            (value_found (length was.me.own.held) told.0) c.args.new)) loaded at)
-            (ap (λ (u : View _). u.number) told.2.new)
-            (subst (λ (x : Value). Calm (MarksOf loaded.seat.me.number
-            (wanted_by c.args.wanted x c.args.new)) loaded at) told.1
-            c.mark_wanted.ensures.calm);
-        presence = c.mark_wanted.ensures.presence;
-        write = record {
-          event = c.store.ensures.made;
-          heap = refl;
-          table = c.store.ensures.table;
-        };
-      },
-    )
+    let at = bound heap c.mark_wanted.new.seat in record {
+      replaced = (
+        told.0,
+        record {
+          loaded = loaded;
+          load = record { event = told.2; heap = refl; table = c.fetch-seen.ensures.table };
+          at = at;
+          marks = subst (λ (n : ℕ). Calm (MarksOf n (wanted_by c.args.wanted
+              (value_found (length was.me.own.held) told.0) c.args.new)) loaded at)
+              (ap (λ (u : View _). u.number) told.2.new)
+              (subst (λ (x : Value). Calm (MarksOf loaded.seat.me.number
+              (wanted_by c.args.wanted x c.args.new)) loaded at) told.1
+              c.mark_wanted.ensures.calm);
+          presence = c.mark_wanted.ensures.presence;
+          write = record {
+            event = c.store.ensures.made;
+            heap = refl;
+            table = c.store.ensures.table;
+          };
+        },
+      );
+    }

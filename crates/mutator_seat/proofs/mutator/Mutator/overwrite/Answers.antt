@@ -69,8 +69,8 @@ cut-requires-clause-kept g c =
     ap (λ (m : Bound _). length m.seat.me.own.held) c.self.view_is in
     omega (arith, more, same, c.held_len-many.ensures.len)
 
-pub returns-clause-rewritten : goal.returns-clause-rewritten
-returns-clause-rewritten g c =
+pub returns : goal.returns
+returns g c =
     let heap = c.self.inside.heap.now in
     let after = bound heap c.store_fetched.new.seat in
     let one = c.store_fetched.ensures.replaced in
@@ -82,14 +82,16 @@ returns-clause-rewritten g c =
     (event.Keep after.seat.me.number n 0 0) (finds.Presence after.seat.me.presence))
     c.held_len-many.ensures.len c.cut.ensures.told in
     let left = store_leaves c.args.place c.args.field one.0 c.args.new was after replaced in
-    let many = length was.seat.me.own.held in (
-      one.0,
-      record {
-        written = after;
-        replaced = replaced;
-        told = told;
-        heap = heap_left was after one.0 left c.cut.new.self many told;
-        table = table_left was after one.0 left c.cut.new.self many told;
-        held = held_left was after one.0 left c.cut.new.self told;
-      },
-    )
+    let many = length was.seat.me.own.held in record {
+      rewritten = (
+        one.0,
+        record {
+          written = after;
+          replaced = replaced;
+          told = told;
+          heap = heap_left was after one.0 left c.cut.new.self many told;
+          table = table_left was after one.0 left c.cut.new.self many told;
+          held = held_left was after one.0 left c.cut.new.self told;
+        },
+      );
+    }
