@@ -1,4 +1,4 @@
-//! Names and texts: short runs of plain characters.
+//! Names and texts: short runs of ASCII characters.
 ghost use Rattle.std.specs.Prelude.{◌≡◌, [], IfOk, IsTrue};
 ghost use Rattle.std.specs.List.{list_all};
 ghost use Rattle.std.specs.Str.{IsAscii};
