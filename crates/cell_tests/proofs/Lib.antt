@@ -1,3 +1,4 @@
+mod Anchored
 mod Ending
 mod Opens
 mod Rounds

@@ -1,3 +1,5 @@
 pub mod Collecting
 pub mod Counting
+pub mod Fetching
+pub mod Storing
 pub mod Working

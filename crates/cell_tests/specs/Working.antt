@@ -1,6 +1,6 @@
 -- What a mutator of these tests knows between two rounds.
 -- Source: this project's.
-use Rattle.std.specs.Prelude.{ℕ, ◌≡◌, ◌≤◌, true, false, List, [], ◌∷◌, length, Option}
+use Rattle.std.specs.Prelude.{ℕ, ◌≡◌, ◌≤◌, true, false, List, [], ◌∷◌, length, Option, None}
 use Rattle.cell_tests.specs.declared.counter.Added.{Added}
 use Rattle.cell_words.specs.declared.controls.Control.{Control}
 use Rattle.cell_words.specs.declared.presences.Presence.{Presence}
@@ -24,8 +24,10 @@ seat_with heap base own presence known sum = record {
   };
 }
 
+-- it has begun no write
 abbrev pub own_with : List Held → Option Control → ℕ → Own
-own_with held mode claims = record { held = held; mode = mode; claims = claims }
+own_with held mode claims =
+    record { held = held; mode = mode; pending = None; claims = claims }
 
 abbrev pub out_with : Status → Presence
 out_with status = record { status = status; inside = false; over = false }

@@ -2,14 +2,18 @@
 //! stand to the close, and the outcomes that stand on every schedule.
 //!
 //! Reading order: `counter`, `working`, `closing`, `threads`;
-//! `collecting`, `unlinked`, `schedule`.
+//! `collecting`, `unlinked`, `schedule`; `storing`, `fetching`, `stores`.
 #![tactic(auto)]
 
 mod closing;
 mod collecting;
 mod counter;
+mod fetching;
 #[cfg(test)]
 mod schedule;
+#[cfg(test)]
+mod stores;
+mod storing;
 #[cfg(test)]
 mod threads;
 mod unlinked;

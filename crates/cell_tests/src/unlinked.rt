@@ -1,5 +1,5 @@
 //! A cell that nothing names: one mutator makes it, and the collector frees it in its first cycle.
-ghost use Rattle.std.specs.Prelude.{◌≡◌, ◌<◌, ◌≤◌, IfOk, false};
+ghost use Rattle.std.specs.Prelude.{◌≡◌, ◌<◌, ◌≤◌, IfOk, false, true};
 ghost use Rattle.cell_tests.specs.Collecting.{Drives};
 ghost use Rattle.heap_rule.specs.Asks.{MayComeIn};
 ghost use Rattle.heap_table.specs.Seats.{IsSeatOf};
@@ -43,6 +43,8 @@ pub(crate) fn make_and_leave(heap: &CellHeap<NoRule>, seat: &mut MutSeat<NoRule>
     ensures seat { IsSeatOf heap.now seat.new }
     ensures may { MayComeIn seat.new.me }
 {
+    // Who is out has begun no write.
+    let _inside = seat.is_in();
     seat.begin(heap);
     seat.look(heap);
     if seat.claim(heap, 1) {
@@ -78,9 +80,23 @@ pub(crate) fn close_one(
     requires may { MayComeIn mutator.me }
     ensures cells { result.cells ≡ heap.shape.cells }
 {
-    let mut collector = collector;
     let mut mutator = mutator;
     mutator.over(&heap);
+    close_over(heap, collector, mutator)
+}
+
+/// The same of a mutator that is over.
+pub(crate) fn close_over(
+    heap: CellHeap<NoRule>,
+    collector: ColSeat<NoRule>,
+    mutator: MutSeat<NoRule>,
+) -> Image
+    requires collector { IsSeatOf heap collector }
+    requires mutator { IsSeatOf heap mutator }
+    requires over { mutator.me.presence.over ≡ true }
+    ensures cells { result.cells ≡ heap.shape.cells }
+{
+    let mut collector = collector;
     collector.join(&heap, mutator);
     let (image, _) = collector.close(heap);
     image

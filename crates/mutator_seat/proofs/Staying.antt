@@ -56,14 +56,18 @@ module _ {P : Type 0} {holds : Map → List P → Type 0} {fixed : ℕ → Bool}
         held = x.held;
       }
 
-  pub store_stays : {T : Type 0} {reads : Learned → Found → P → P} (r : Result T Moved)
-      → OnOk r (Overwritten holds fixed next m place f new after
-      ⊎ ((seen : Field) × Exchanged holds fixed reads next m place f new seen seen after))
-      → IfErr r (λ moved. (seen : Field) × (same_field moved.found seen ≡ false)
-      × Exchanged holds fixed reads next m place f new seen moved.found after)
-      → Stays m after
-  store_stays (Ok done) made moved = elim made [
-    | inl o ↦ overwritten_stays o
-    | inr x ↦ exchanged_stays x.0 x.0 x.1
-  ]
-  store_stays (Err e) made moved = exchanged_stays moved.0 e.found moved.2
+-- whatever it answered
+pub store_stays : {P T : Type 0} (holds : Map → List P → Type 0) (fixed : ℕ → Bool)
+    (reads next : Learned → Found → P → P) (m after : Bound P) (place f : ℕ) (new : Value)
+    (r : Result T Moved)
+    → OnOk r (Overwritten holds fixed next m place f new after
+    ⊎ ((seen : Field) × Exchanged holds fixed reads next m place f new seen seen after))
+    → IfErr r (λ moved. (seen : Field) × (same_field moved.found seen ≡ false)
+    × Exchanged holds fixed reads next m place f new seen moved.found after)
+    → Stays m after
+store_stays holds fixed reads next m after place f new (Ok done) made moved = elim made [
+  | inl o ↦ overwritten_stays m after place f new o
+  | inr x ↦ exchanged_stays m after place f new x.0 x.0 x.1
+]
+store_stays holds fixed reads next m after place f new (Err e) made moved =
+    exchanged_stays m after place f new moved.0 e.found moved.2
