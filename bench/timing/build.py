@@ -1,5 +1,6 @@
 #!/usr/bin/env python3
-"""Builds heap_timing, docheap or another program of the repository, and plain_heap, for measuring.
+"""Builds heap_timing, gate_wait, docheap or another program of the repository, for measuring, and
+plain_heap beside heap_timing.
 
 build.py [--into FOLDER] [--program docheap_cli] [--hints N] [--count] [--repository FOLDER]
 
@@ -14,8 +15,12 @@ import argparse, os, re, shutil, stat, subprocess, sys, tempfile
 
 HERE = os.path.dirname(os.path.abspath(__file__))
 RUST = "--edition 2021 -C opt-level=3 -C codegen-units=1 -C panic=abort -C lto=fat".split()
-LINE = ("heap_timing: mutator_seat collector cell_heap free_cells mutator_events heap_table "
-        "heap_rule trails dlg_core core_machine cell_words atomic_table crossbeam_queue")
+# The measuring programs, with the crates that each stands on.
+MEASURING = {
+    "heap_timing": "mutator_seat collector cell_heap free_cells mutator_events heap_table "
+                   "heap_rule trails dlg_core core_machine cell_words atomic_table crossbeam_queue",
+    "gate_wait": "store_run cmd_text doc_model outside",
+}
 FLAGS = """--target=x86_64-unknown-linux-gnu -march=x86-64 -mllvm -no-trap-after-noreturn
 -ffunction-sections -fdata-sections -mllvm -trap-unreachable -mllvm -no-x86-call-frame-opt -mllvm
 -disable-machine-licm -mllvm -disable-postra-machine-licm -mllvm -sink-common-insts=false
@@ -76,10 +81,10 @@ def lay_out(repository, folder, program, hints):
     shutil.copy(f"{repository}/HANDLES", folder)
     with open(f"{repository}/crates.txt") as it:
         lines = it.read().rstrip("\n")
-    if program == "heap_timing":
-        os.makedirs(f"{folder}/crates/heap_timing/src")
-        shutil.copy(f"{HERE}/heap_timing.rt.txt", f"{folder}/crates/heap_timing/src/main.rt")
-        lines += "\n" + LINE
+    if program in MEASURING:
+        os.makedirs(f"{folder}/crates/{program}/src")
+        shutil.copy(f"{HERE}/{program}.rt.txt", f"{folder}/crates/{program}/src/main.rt")
+        lines += f"\n{program}: {MEASURING[program]}"
     with open(f"{folder}/crates.txt", "w") as it:
         it.write(lines + "\n")
     if hints is not None:

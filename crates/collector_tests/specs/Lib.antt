@@ -1,3 +1,4 @@
+pub mod Away
 pub mod Holding
 pub mod Rows
 pub mod Seats

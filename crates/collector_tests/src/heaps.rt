@@ -71,7 +71,7 @@ pub(crate) fn chain(alloc: Global) -> Result<Vec<Row>, NoMemory>
 }
 
 /// A heap with these first rows for so many mutators, and its collector's seat.
-fn open(
+pub(crate) fn open(
     alloc: Global,
     cells: u32,
     mutators: u32,

@@ -1,11 +1,14 @@
 //! Whole cycles on a heap of words: what the reports of cycles count, worked out by hand; cycles
 //! beside a mutator that is out; and mutators that claim on threads of their own beside a collector
-//! that serves.
+//! that serves, or come in and go out again beside it.
 //!
-//! Reading order: `heaps`, `collecting`, `mutating`; `cycles`, `who_is_out`, `threads`.
+//! Reading order: `heaps`, `collecting`, `mutating`; `cycles`, `who_is_out`, `threads`,
+//! `coming_and_going`.
 #![tactic(auto)]
 
 mod collecting;
+#[cfg(test)]
+mod coming_and_going;
 #[cfg(test)]
 mod cycles;
 mod heaps;

@@ -62,7 +62,7 @@ pub(crate) fn make_hinted<R: Wait>(
 }
 
 /// Makes a record and drops it, so many times.
-fn make_all<R: Wait>(
+pub(crate) fn make_all<R: Wait>(
     rt: &R,
     heap: &CellHeap<NoRule>,
     mutator: &mut Mutator<'_, NoRule>,
