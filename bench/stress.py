@@ -5,7 +5,8 @@ stress.py DOCHEAP [--runs N] [--seed S] [--jobs J] [--only NAME] [--limit SECOND
 
 N runs of each kind; a run is made again by its kind and its seed. Three kinds of long runs are
 made only where --only names them: 64 clients with 1,500 commands each on 64 cells, of all kinds or
-puts and gets alone, and 2 to 64 clients.
+puts and gets alone, and 2 to 64 clients. Kinds with batches have scripts of version 2, some beside
+scripts of version 1; long batches outgrow the private heap, so the session collects between edits.
 
 The checker shares nothing with the program: it reads the scripts by the grammar, folds the merged
 history over whole trees, and compares each reply; it compares the history with the clients' own
@@ -78,26 +79,74 @@ def delete(tree, path):
     return node(tree[0], {**tree[1], path[0]: delete(tree[1][path[0]], path[1:])})
 
 
-# Commands of a script.
+# Texts on one line: those of version 2 in quotes, and those of the history with two bytes escaped.
+
+ESCAPES = {'"': '\\"', "\\": "\\\\", "\t": "\\t", "\n": "\\n"}
+PLAIN = {"\t": "\\t", "\n": "\\n"}
+MEANT = {'"': '"', "\\": "\\", "t": "\t", "n": "\n"}
+
+
+def quoted(text):
+    return '"' + "".join(ESCAPES.get(x, x) for x in text) + '"'
+
+
+def plain(text):
+    return "".join(PLAIN.get(x, x) for x in text)
+
+
+def unquoted(word):
+    assert len(word) > 1 and word[0] == word[-1] == '"', word
+    text, inside = "", iter(word[1:-1])
+    for x in inside:
+        assert x != '"', word
+        text += MEANT[next(inside)] if x == "\\" else x
+    return text
+
+
+def line_of(reply, text_of):
+    """A reply as a line, whose text is written so."""
+    if not reply.startswith("val "):
+        return reply
+    word, number, text = reply.split(" ", 2)
+    return f"{word} {number} {text_of(text)}"
+
+
+# Commands of a script. A batch is one, with its edits in the place of a path.
+
+def is_second(script):
+    return script.split("\n")[0].removesuffix("\r") == "docs 2"
+
+
+def read_line(line, text_of):
+    word, _, rest = line.partition(" ")
+    if word in ("put", "dput"):
+        path, _, text = rest.partition(" ")
+        return (word, path.split("/"), text_of(text))
+    if word == "copy":
+        one, other = rest.split(" ")
+        return (word, one.split("/"), other.split("/"))
+    if word == "old":
+        back, path = rest.split(" ")
+        return (word, path.split("/"), int(back))
+    return (word, rest.split("/"), None)
+
 
 def read(script):
-    commands = []
-    for line in script.split("\n"):
+    second = is_second(script)
+    commands, batch = [], None
+    for line in script.split("\n")[second:]:
         line = line.removesuffix("\r")
         if not line or line.startswith("#"):
             continue
-        word, _, rest = line.partition(" ")
-        if word in ("put", "dput"):
-            path, _, text = rest.partition(" ")
-            commands.append((word, path.split("/"), text))
-        elif word in ("copy",):
-            one, other = rest.split(" ")
-            commands.append((word, one.split("/"), other.split("/")))
-        elif word == "old":
-            back, path = rest.split(" ")
-            commands.append((word, path.split("/"), int(back)))
+        if second and line == "begin":
+            batch = []
+        elif second and line == "commit":
+            commands.append(("batch", batch, None))
+            batch = None
         else:
-            commands.append((word, rest.split("/"), None))
+            whole = commands if batch is None else batch
+            whole.append(read_line(line, unquoted if second else str))
+    assert batch is None
     return commands
 
 
@@ -105,6 +154,21 @@ class Store:
     def __init__(self, clients, keep, versions):
         self.trees, self.keep, self.versions = [EMPTY], keep, versions
         self.drafts, self.lasts = [EMPTY] * clients, [0] * clients
+
+    def edited(self, client, edit, tree):
+        """The tree that one edit makes of a tree."""
+        word, path, more = edit
+        if word == "put":
+            return set_text(tree, path, more)
+        if word == "del":
+            return delete(tree, path)
+        if word == "publish":
+            return attach(tree, path, self.drafts[client - 1])
+        assert word == "copy", word
+        sub = find(tree, path)
+        if sub is None:
+            raise Refused("none")
+        return attach(tree, more, sub)
 
     def answer(self, client, command, place):
         """The reply of a client's next command, which read the version at its place, or made it."""
@@ -121,19 +185,11 @@ class Store:
             return f"none {self.lasts[c]}" if at is None else f"val {self.lasts[c]} {at[0]}"
         v = len(self.trees) - 1
         tree = self.trees[v]
-        if word in ("put", "del", "copy", "publish"):
+        if word in ("put", "del", "copy", "publish", "batch"):
+            made = tree
             try:
-                if word == "put":
-                    made = set_text(tree, path, more)
-                elif word == "del":
-                    made = delete(tree, path)
-                elif word == "copy":
-                    sub = find(tree, path)
-                    if sub is None:
-                        raise Refused("none")
-                    made = attach(tree, more, sub)
-                else:
-                    made = attach(tree, path, self.drafts[c])
+                for edit in path if word == "batch" else [command]:
+                    made = self.edited(client, edit, made)
             except Refused as why:
                 return f"{why} {v}"
             if v == self.versions:
@@ -162,7 +218,7 @@ class Store:
         raise AssertionError(word)
 
 
-MAY_BE_FULL = ("put", "del", "copy", "publish", "dput", "take")
+MAY_BE_FULL = ("put", "del", "copy", "publish", "dput", "take", "batch")
 
 
 def wrong_in_chain(replies):
@@ -194,6 +250,7 @@ def wrong_in_chain(replies):
 def check(scripts, output, cells, keep, versions, cycles, seen):
     """What is wrong with the output, or None. It adds to what was seen in all runs."""
     commands = [read(s) for s in scripts]
+    texts_of = [quoted if is_second(s) else plain for s in scripts]
     lines = output.split("\n")
     if lines[-1]:
         return "no line feed at the end"
@@ -219,8 +276,7 @@ def check(scripts, output, cells, keep, versions, cycles, seen):
         if not 1 <= client <= len(scripts) or own != done[client - 1] + 1:
             return f"history {number}: out of the client's order"
         command = commands[client - 1][own - 1]
-        if replies[client - 1][own - 1] != reply:
-            return f"history {number}: not what the client was answered"
+        told = replies[client - 1][own - 1]
         done[client - 1] = own
         key = (place, not reply.startswith("ok "), client, own)
         if key_before is not None and key_before >= key:
@@ -228,13 +284,17 @@ def check(scripts, output, cells, keep, versions, cycles, seen):
         key_before = key
         if reply == f"full {place}":
             full += 1
+            if told != reply:
+                return f"history {number}: {told!r} was the client answered"
             shown = store.lasts[client - 1] if command[0] == "dput" else len(store.trees) - 1
             if command[0] not in MAY_BE_FULL or place != shown:
                 return f"history {number}: full where it may not be"
         else:
             wanted = store.answer(client, command, place)
-            if wanted != reply:
+            if reply != line_of(wanted, plain):
                 return f"history {number}: {reply!r} and not {wanted!r}"
+            if told != line_of(wanted, texts_of[client - 1]):
+                return f"history {number}: {told!r} was the client answered and not {wanted!r}"
             is_draft = command[0] in ("dput", "dget")
             shown = store.lasts[client - 1] if is_draft else len(store.trees) - 1
             if place != shown:
@@ -261,7 +321,8 @@ def check(scripts, output, cells, keep, versions, cycles, seen):
         ("claims", found["claimed"] >= made),
         ("cycles", found["cycles"] <= cycles),
         ("a full heap", not full or found["claimed"] >= cells - 3)) if not holds]
-    for what, more in (("commands", many), ("commits", made), ("full", full),
+    batches = sum(c[0] == "batch" for own in commands for c in own)
+    for what, more in (("commands", many), ("batches", batches), ("commits", made), ("full", full),
                        ("with a full heap", full > 0), ("freed", found.get("freed", 0))):
         seen[what] = seen.get(what, 0) + more
     return "stats: " + ", ".join(wrong) if wrong else None
@@ -303,6 +364,46 @@ def scripts_of(r, clients, commands, names):
     return ["".join(command(r, names) + "\n" for _ in range(commands)) for _ in range(clients)]
 
 
+def text(r):
+    """A text of version 2: any bytes that a text may have, and mostly few."""
+    many = r.choice((0, 1, 5, 20, 21, 22, 60, 60)) if r.random() < 0.99 else 4096
+    return "".join(r.choice('abc "\\\t\n~') for _ in range(many))
+
+
+def edit(r, names):
+    x = r.random()
+    if x < 0.60:
+        return f"put {words(r, names)} {quoted(text(r))}"
+    if x < 0.70:
+        return f"del {words(r, names)}"
+    if x < 0.90:
+        return f"copy {words(r, names)} {words(r, names)}"
+    return f"publish {words(r, names)}"
+
+
+def second_command(r, names, most):
+    """A command of version 2, or a batch of so many edits at most, by its lines."""
+    x = r.random()
+    if x < 0.30:
+        edits = [edit(r, names) for _ in range(r.randint(0, most))]
+        return "\n".join(["begin", *edits, "commit"])
+    if x < 0.50:
+        return edit(r, names)
+    if x < 0.60:
+        return f"dput {words(r, names)} {quoted(text(r))}"
+    while True:
+        line = command(r, names)
+        if line.split(" ")[0] not in ("put", "dput"):
+            return line
+
+
+def second_scripts_of(r, clients, commands, names, most):
+    """Scripts of version 2, and every fourth of version 1."""
+    first = scripts_of(r, clients, commands, names)
+    return [one if r.random() < 0.25 else "docs 2\n" + "".join(
+        second_command(r, names, most) + "\n" for _ in range(commands)) for one in first]
+
+
 # Each kind gives its scripts, the cells, how many versions stay, and the number of the last one.
 MILLION = 1_000_000
 KINDS = {
@@ -323,6 +424,14 @@ KINDS = {
         scripts_of(r, 2, 60, "abc"), 4096, r.randint(1, 100), r.randint(1, 30)),
     "16 clients, large heap": lambda r: (
         scripts_of(r, 16, 60, "abcdefgh"), 65_536, 8, MILLION),
+    "2 to 8 clients, batches": lambda r: (
+        second_scripts_of(r, r.randint(2, 8), 60, "abcd", 8), 16_384, r.randint(1, 8), MILLION),
+    "2 to 8 clients, batches, little heap": lambda r: (
+        second_scripts_of(r, r.randint(2, 8), 30, "ab", 5), r.choice((64, 100, 200)), 1, MILLION),
+    "2 clients, batches, few versions": lambda r: (
+        second_scripts_of(r, 2, 40, "abc", 4), 16_384, r.randint(1, 100), r.randint(1, 20)),
+    "4 clients, long batches": lambda r: (
+        second_scripts_of(r, 4, 8, "abcdefgh", 400), 65_536, 2, MILLION),
 }
 
 

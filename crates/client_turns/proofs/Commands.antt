@@ -1,22 +1,24 @@
 -- Each command by its name: what it is answered, and so which way its turn ends.
 --
 -- get, list, size, old   read_turned, by what was found at the path
--- put, del, copy, publish   begun_new, and then one of begun_refused, worn, full, ok
+-- put, del, copy, publish, batch   begun_new, and then one of begun_refused, worn, full, ok
+-- batch                  full_turned, where the heap is full before the last edit is made
 -- take                   taken_turned, or read_turned where nothing is there, or full_turned
 -- dget                   draft_turned
 -- dput                   drafted_turned, or draft_turned at a refusal, or draft_full_turned
 use Rattle.std.proofs.Common.{◌≡◌, ℕ, ◌+◌, ◌-◌, ◌≤◌, ◌<◌, List, [], ◌∷◌}
-use Rattle.std.proofs.Common.{refl, sym, ◌∙◌, ap, arith, nat_le, nat_lt, Option, Some, None, Ok}
-use Rattle.std.proofs.Common.{Err}
+use Rattle.std.proofs.Common.{refl, sym, ◌∙◌, ap, subst, arith, nat_le, nat_lt, Option, Some, None}
+use Rattle.std.proofs.Common.{Ok, Err}
 use Rattle.std.proofs.lemmas.Bool.{le-leb, le-ltb, lt-leb, lt-ltb}
 use Rattle.cell_words.specs.declared.fields.Field.TheVariants as field
-use Rattle.doc_model.specs.Answers.{Limits, attached, committed, count_shown}
+use Rattle.doc_model.specs.Answers.{Limits, all_made, attached, committed, count_shown}
 use Rattle.doc_model.specs.Answers.{drafted, names_shown, refusal, taken, text_shown}
 use Rattle.doc_model.specs.Answers.{told}
 use Rattle.doc_model.specs.Store.{answer, tree_at}
 use Rattle.doc_model.specs.declared.answer.Account.{Account}
 use Rattle.doc_model.specs.declared.command.Command.TheVariants as command
 use Rattle.doc_model.specs.declared.command.Reply.TheVariants as reply
+use Rattle.doc_model.specs.declared.edits.Edit.{Edit}
 use Rattle.doc_records.specs.Texts.{name_asks, text_asks}
 use Rattle.doc_tree.specs.Edits.{attach, delete, set_text}
 use Rattle.doc_tree.specs.Tree.{DocTree, count, names_of, node}
@@ -30,10 +32,10 @@ use Rattle.client_turns.specs.Progress.{Drafts, HasRead, IsAccount, KnowsTree, M
 use Rattle.client_turns.specs.State.{ClientState, IsReady}
 use Rattle.client_turns.specs.Turns.{Begun, Turned}
 use Rattle.client_turns.proofs.Answering.{chosen_first, chosen_second, refusal_full, refusal_not_ok}
-use Rattle.client_turns.proofs.Spared.{attach_spared, attached_spared, delete_spared}
+use Rattle.client_turns.proofs.Spared.{all_spared, attach_spared, attached_spared, delete_spared}
 use Rattle.client_turns.proofs.Spared.{set_text_spared}
-use Rattle.client_turns.proofs.Turning.{begun_new, draft_full_turned, draft_turned, drafted_turned}
-use Rattle.client_turns.proofs.Turning.{full_turned, read_turned, taken_turned}
+use Rattle.client_turns.proofs.Turning.{begun_new, begun_refused, draft_full_turned, draft_turned}
+use Rattle.client_turns.proofs.Turning.{drafted_turned, full_turned, read_turned, taken_turned}
 
 -- The answer by what was found at the path in a version.
 
@@ -82,6 +84,15 @@ module _ (l : Limits) (m : Account) (p : Pass) (v : ℕ) (now : DocTree) (knows 
       → answer l trees v m (command.Publish path) ≡ committed l v (attach path m.draft now)
   publish_is trees fits =
       ap (λ (t : DocTree). committed l v (attach path m.draft t)) (knows trees fits)
+
+-- A batch is answered from the tree of the version that was read, as one edit is.
+
+module _ (l : Limits) (m : Account) (p : Pass) (v : ℕ) (now : DocTree) (knows : KnowsTree p v now)
+    (edits : List Edit) where
+  pub batch_is : (trees : List DocTree) → Fits trees p
+      → answer l trees v m (command.Batch edits) ≡ committed l v (all_made m.draft edits now)
+  batch_is trees fits =
+      ap (λ (t : DocTree). committed l v (all_made m.draft edits t)) (knows trees fits)
 
 -- An older version is answered from its own tree alone.
 
@@ -257,3 +268,26 @@ module _ (l : Limits) (client : ℕ) (m : Account) {s t : ClientState} (account 
         → Turned l client m (command.DraftPut path text) s t (reply.Full m.last) m.last
     dput_full none had =
         draft_full_turned l client m (command.DraftPut path text) refl refl account none ready had
+
+-- The turn of a batch: all edits are made of the version that was read, and then it ends as that of
+-- one edit does; or one of them is refused; or the heap is full before them, between two or behind
+-- them, and the reply is of the version that was read.
+
+module _ (l : Limits) (client : ℕ) (m : Account) {s t : ClientState} (account : IsAccount m s)
+    (v : ℕ) (edits : List Edit) (read : HasRead v [] s t) where
+  module _ (now : DocTree) (knows : KnowsTree t.pass v now) where
+    pub batch_begun : Begun l m (command.Batch edits) v s t (all_made m.draft edits now)
+    batch_begun =
+        begun_new l client m (command.Batch edits) v (all_made m.draft edits now) account read
+        (all_spared m.draft edits now) (batch_is l m t.pass v now knows edits)
+
+    pub batch_refused : (e : EditFault) → all_made m.draft edits now ≡ Err e → IsReady t
+        → Turned l client m (command.Batch edits) s t (refusal e v) v
+    batch_refused e is ready =
+        begun_refused l client m (command.Batch edits) v e
+        (subst (Begun l m (command.Batch edits) v s t) is batch_begun) ready
+
+  pub batch_full : IsReady t → Had (IsFull s.cells) s.marks t.marks
+      → Turned l client m (command.Batch edits) s t (reply.Full v) v
+  batch_full ready had =
+      full_turned l client m (command.Batch edits) v refl account read ready had

@@ -1,10 +1,12 @@
 -- No definition of an edit runs out of memory.
 use Rattle.std.proofs.Common.{◌≡◌, Bool, true, false, cond, ℕ, List, [], ◌∷◌, Option, Some, None}
 use Rattle.std.proofs.Common.{Result, Ok, Err, nat_lt, refl}
-use Rattle.doc_model.specs.Answers.{attached}
+use Rattle.doc_model.specs.Answers.{all_made, attached, edit_made}
+use Rattle.doc_model.specs.declared.edits.Edit.{Edit}
+use Rattle.doc_model.specs.declared.edits.Edit.TheVariants as edit
 use Rattle.doc_tree.specs.Edits.{attach, begun, delete, deleted, edit_along, edited, found, placed}
 use Rattle.doc_tree.specs.Edits.{set_text, start, with_text, within_limits}
-use Rattle.doc_tree.specs.Tree.{DocTree, Kids, child, count, empty, height, kid_count}
+use Rattle.doc_tree.specs.Tree.{DocTree, Kids, child, count, empty, height, kid_count, node}
 use Rattle.doc_tree.specs.declared.edit.EditFault.{EditFault}
 use Rattle.doc_tree.specs.declared.edit.EditFault.TheVariants as fault
 use Rattle.client_turns.specs.Progress.{runs_out}
@@ -19,11 +21,11 @@ placed_spared : (n : List ℕ) (t : DocTree) (r : Result DocTree EditFault) → 
 placed_spared n t (Ok d) none = refl
 placed_spared n t (Err e) none = none
 
-edited_spared : (edit : DocTree → Result DocTree EditFault)
-    → ((d : DocTree) → runs_out (edit d) ≡ false) → (r : Result DocTree EditFault)
-    → runs_out r ≡ false → runs_out (edited edit r) ≡ false
-edited_spared edit each (Ok d) none = each d
-edited_spared edit each (Err e) none = none
+edited_spared : (next : DocTree → Result DocTree EditFault)
+    → ((d : DocTree) → runs_out (next d) ≡ false) → (r : Result DocTree EditFault)
+    → runs_out r ≡ false → runs_out (edited next r) ≡ false
+edited_spared next each (Ok d) none = each d
+edited_spared next each (Err e) none = none
 
 begun_spared : (kids : Kids) (o : Option DocTree) → runs_out (begun kids o) ≡ false
 begun_spared kids (Some d) = refl
@@ -77,3 +79,17 @@ delete_spared (n ∷ m ∷ path) t =
     placed_spared n t (edited (delete (m ∷ path)) (found (child n t.kids)))
     (edited_spared (delete (m ∷ path)) (delete_spared (m ∷ path)) (found (child n t.kids))
     (found_spared (child n t.kids)))
+
+-- the edits of a batch
+made_spared : (draft : DocTree) (e : Edit) (t : DocTree) → runs_out (edit_made draft e t) ≡ false
+made_spared draft (edit.Put path text) t = set_text_spared path text t
+made_spared draft (edit.Del path) t = delete_spared path t
+made_spared draft (edit.Copy «from» to) t = attached_spared to t (node «from» t)
+made_spared draft (edit.Publish path) t = attach_spared path draft t
+
+pub all_spared : (draft : DocTree) (es : List Edit) (t : DocTree)
+    → runs_out (all_made draft es t) ≡ false
+all_spared draft [] t = refl
+all_spared draft (e ∷ es) t =
+    edited_spared (all_made draft es) (all_spared draft es) (edit_made draft e t)
+    (made_spared draft e t)

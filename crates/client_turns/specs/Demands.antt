@@ -48,6 +48,7 @@ is_drafting (command.DraftPut path text) = true
 is_drafting (command.DraftGet path) = true
 is_drafting (command.Take path) = false
 is_drafting (command.Publish path) = false
+is_drafting (command.Batch edits) = false
 
 -- the command may leave a draft that holds more places than before it
 abbrev pub is_keeping : Command → Bool
@@ -62,6 +63,7 @@ is_keeping (command.DraftPut path text) = true
 is_keeping (command.DraftGet path) = false
 is_keeping (command.Take path) = true
 is_keeping (command.Publish path) = false
+is_keeping (command.Batch edits) = false
 
 -- the command reads, and needs no cells
 abbrev pub is_reading : Command → Bool
@@ -76,6 +78,7 @@ is_reading (command.DraftPut path text) = false
 is_reading (command.DraftGet path) = true
 is_reading (command.Take path) = false
 is_reading (command.Publish path) = false
+is_reading (command.Batch edits) = false
 
 -- reads of the version that a command saw, and then of what its reply shows
 abbrev pub ReadsShown : Entry → List Mark → Type 0

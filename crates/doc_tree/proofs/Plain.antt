@@ -1,4 +1,4 @@
--- Names and texts are plain bytes, so Rust takes them as text.
+-- Names and texts are ASCII, so Rust takes them as text.
 use Rattle.std.proofs.Common.{◌≡◌, ℕ, ◌<◌, Bool, true, List, [], ◌∷◌, arith}
 use Rattle.std.specs.List.{list_all}
 use Rattle.std.specs.Str.{IsAscii, IsUtf8}
