@@ -56,8 +56,9 @@ pub(crate) fn script_around(
 ) -> Result<Vec<Command>, Fail> {
     let mut script = script_of(alloc, before)?;
     script.push(batch_of(alloc, batch)?)?;
-    for command in script_of(alloc, behind)? {
-        script.push(command)?;
+    let more = script_of(alloc, behind)?;
+    for command in &more {
+        script.push(command.copy()?)?;
     }
     Ok(script)
 }
