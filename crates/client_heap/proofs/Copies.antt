@@ -341,7 +341,7 @@ module _ (known : List Known) (records : List (List MinorField)) (places : ℕ) 
   only_root r q zero lt is = is
   only_root r q (suc k) lt is = absurd (omega (arith, lt))
 
-  reached_shares : (from : List MinorRef)
+  pub reached_shares : (from : List MinorRef)
       → ((r : MinorRef) → Contains from r → Rests records (IsAmong known places) r)
       → ShareRecords known records from
   reached_shares from each r i reaches lt =

@@ -1,13 +1,15 @@
 -- Choosing what stays held.
-use Rattle.std.proofs.Common.{◌≡◌, ◌<◌, ◌≤◌, ℕ, [], length, take}
+use Rattle.std.proofs.Common.{◌≡◌, ◌<◌, ◌≤◌, ◌+◌, ℕ, zero, suc, List, [], ◌∷◌, ◌++◌, length, take}
 use Rattle.std.proofs.Common.{drop, refl, sym}
 use Rattle.std.proofs.Common.{◌∙◌, ap, subst, arith}
+use Rattle.std.specs.Prelude.{slice_index_or}
 use Rattle.client_records.proofs.Places.{at_copy, at_kept, copied_many, cut_many}
 use Rattle.core_machine.specs.Places.{no_place}
 use Rattle.core_machine.specs.declared.events.Event.TheVariants as event
 use Rattle.core_machine.specs.declared.events.Found.{Found}
 use Rattle.heap_rule.specs.Asks.{known_of}
-use Rattle.heap_rule.specs.Lore.{nothing_learned}
+use Rattle.heap_rule.specs.Lore.{known_at, nothing_learned}
+use Rattle.heap_rule.specs.declared.known.Known.{Known}
 use Rattle.heap_rule.specs.declared.known.Known.TheVariants as knows
 use Rattle.minor_heap.specs.Nursery.{IsOrdered, Nursery}
 use Rattle.mutator_seat.specs.Bound.{Bound, takes}
@@ -92,3 +94,102 @@ module _ (m n : Bound Pass) (place : ℕ) (p : Found)
   alone_carries minor ordered =
       keep_carries m n 1 place 1 p told fit some minor ordered
       (let is = alone_held in omega (arith, is))
+
+-- Two elements from a place on, behind the first one.
+
+module _ {A : Type 0} (d : A) where
+  two_after : (xs : List A) (from : ℕ) → suc from < length xs
+      → take 2 (drop from xs) ≡ slice_index_or xs from d ∷ slice_index_or xs (suc from) d ∷ []
+  two_after [] from lt = absurd (omega (arith, lt))
+  two_after (x ∷ []) zero lt = absurd (omega (arith, lt))
+  two_after (x ∷ y ∷ xs) zero lt = refl
+  two_after (x ∷ xs) (suc from) lt = two_after xs from (omega (arith, lt))
+
+  two_from : (xs : List A) (from : ℕ) → from + 1 < length xs
+      → take 2 (drop from xs) ≡ slice_index_or xs from d ∷ slice_index_or xs (from + 1) d ∷ []
+  two_from xs from lt =
+      let next : suc from ≡ from + 1 = omega arith in
+      two_after xs from (omega (arith, lt))
+      ∙ ap (λ (k : ℕ). slice_index_or xs from d ∷ slice_index_or xs k d ∷ []) next
+
+  first_behind : (xs : List A) (a b : A) → 1 ≤ length xs
+      → slice_index_or (take 1 xs ++ a ∷ b ∷ []) 1 d ≡ a
+  first_behind [] a b some = absurd (omega (arith, some))
+  first_behind (x ∷ xs) a b some = refl
+
+  second_behind : (xs : List A) (a b : A) → 1 ≤ length xs
+      → slice_index_or (take 1 xs ++ a ∷ b ∷ []) 2 d ≡ b
+  second_behind [] a b some = absurd (omega (arith, some))
+  second_behind (x ∷ xs) a b some = refl
+
+  three_many : (xs : List A) (a b : A) → 1 ≤ length xs
+      → length (take 1 xs ++ a ∷ b ∷ []) ≡ 3
+  three_many [] a b some = absurd (omega (arith, some))
+  three_many (x ∷ xs) a b some = refl
+
+-- all places and one cell once more, behind them
+module _ (m n : Bound Pass) (many place : ℕ) (p : Found)
+    (told : n ≡ takes m (event.Keep m.seat.me.number many place 1) p)
+    (fit : length m.seat.me.known ≡ length m.seat.me.own.held)
+    (is : many ≡ length m.seat.me.own.held) (there : place < length m.seat.me.own.held) where
+  pub again_held : length n.seat.me.own.held ≡ length m.seat.me.own.held + 1
+  again_held =
+      let more : length n.seat.me.own.held ≡ many + 1 =
+      ap (λ (b : Bound Pass). length b.seat.me.own.held) told
+      ∙ copied_many no_place m.seat.me.own.held many place (omega (arith, is)) there in
+      omega (arith, more, is)
+
+  pub again_known : known_of n.seat.me (length m.seat.me.own.held) ≡ known_of m.seat.me place
+  again_known = ap (λ (k : ℕ). known_of n.seat.me k) (sym is)
+      ∙ ap (λ (b : Bound Pass). known_of b.seat.me many) told
+      ∙ at_copy knows.Nothing m.seat.me.known many place (omega (arith, is, fit))
+      (omega (arith, there, fit))
+
+  pub again_still : (k : ℕ) → k < length m.seat.me.own.held
+      → known_of n.seat.me k ≡ known_of m.seat.me k
+  again_still k lt = ap (λ (b : Bound Pass). known_of b.seat.me k) told
+      ∙ at_kept knows.Nothing m.seat.me.known (take 1 (drop place m.seat.me.known)) many k
+      (omega (arith, lt, is)) (omega (arith, is, fit))
+
+  pub again_carries : (minor : Nursery) → IsOrdered 0 minor.records
+      → Carries (length m.seat.me.own.held) m n minor minor
+  again_carries minor ordered =
+      subst (λ (k : ℕ). Carries k m n minor minor) is
+      (keep_carries m n many place 1 p told fit (omega (arith, is)) minor ordered
+      (let more = again_held in omega (arith, more, is)))
+
+-- the first place and two more
+module _ (m n : Bound Pass) (place : ℕ) (p : Found)
+    (told : n ≡ takes m (event.Keep m.seat.me.number 1 place 2) p)
+    (fit : length m.seat.me.known ≡ length m.seat.me.own.held)
+    (there : place + 1 < length m.seat.me.own.held) where
+  pub two_held : length n.seat.me.own.held ≡ 3
+  two_held =
+      let xs = m.seat.me.own.held in
+      ap (λ (b : Bound Pass). length b.seat.me.own.held) told
+      ∙ ap (λ (ys : List _). length (take 1 xs ++ ys)) (two_from no_place xs place there)
+      ∙ three_many no_place xs (slice_index_or xs place no_place)
+      (slice_index_or xs (place + 1) no_place) (omega (arith, there))
+
+  two_known : n.seat.me.known ≡ take 1 m.seat.me.known
+      ++ known_of m.seat.me place ∷ known_of m.seat.me (place + 1) ∷ []
+  two_known =
+      let xs = m.seat.me.known in
+      ap (λ (b : Bound Pass). b.seat.me.known) told
+      ∙ ap (λ (ys : List Known). take 1 xs ++ ys)
+      (two_from knows.Nothing xs place (omega (arith, there, fit)))
+
+  pub two_first : known_of n.seat.me 1 ≡ known_of m.seat.me place
+  two_first = ap (λ (ks : List Known). known_at ks 1) two_known
+      ∙ first_behind knows.Nothing m.seat.me.known (known_of m.seat.me place)
+      (known_of m.seat.me (place + 1)) (omega (arith, there, fit))
+
+  pub two_second : known_of n.seat.me 2 ≡ known_of m.seat.me (place + 1)
+  two_second = ap (λ (ks : List Known). known_at ks 2) two_known
+      ∙ second_behind knows.Nothing m.seat.me.known (known_of m.seat.me place)
+      (known_of m.seat.me (place + 1)) (omega (arith, there, fit))
+
+  pub two_carries : (minor : Nursery) → IsOrdered 0 minor.records → Carries 1 m n minor minor
+  two_carries minor ordered =
+      keep_carries m n 1 place 2 p told fit (omega (arith, there)) minor ordered
+      (let is = two_held in omega (arith, is))

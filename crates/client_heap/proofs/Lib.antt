@@ -5,5 +5,6 @@ pub mod Copies
 pub mod Drafts
 pub mod Keeping
 pub mod Lending
+pub mod Pairs
 pub mod Resting
 pub mod Ways

@@ -25,3 +25,8 @@ pub record IsSound (m : Bound Pass) (minor : Nursery) (draft : NodeAt) (base : �
 pub record IsCleared (m : Bound Pass) (minor : Nursery) : Type 0 where
   pub room : length m.seat.me.own.held + length minor.records + 20_480 ≤ m.seat.me.room
   pub spare : length minor.records + 2_285 ≤ minor.room
+
+-- there is room to read the latest version again, and then for an edit of a tree in the making
+pub record HasRoom (m : Bound Pass) (minor : Nursery) : Type 0 where
+  pub room : length m.seat.me.own.held + length minor.records + 20_011 ≤ m.seat.me.room
+  pub spare : length minor.records + 2_285 ≤ minor.room

@@ -201,6 +201,18 @@ impl<'a, M: StoreSeat<Q>, Q> ClientHeap for OwnHeap<'a, M, Q> {
         )
     }
 
+    fn make_room_for<R: Wait>(&mut self, rt: &R, at: NodeAt) -> Result<Option<NodeAt>, HeapFull> {
+        self.m.make_room_for(
+            rt,
+            self.hints,
+            self.minor,
+            self.promoter,
+            &mut self.draft,
+            &mut self.base,
+            at,
+        )
+    }
+
     fn settle(&mut self) {
         self.m.cut_back(self.minor, self.base);
     }

@@ -6,13 +6,14 @@
 //! much room there is. Between commands the first places of the held list stay, which are the
 //! anchor's and those that the draft needs. A draft that a minor collection moved stands on two.
 //!
-//! Reading order: specs/Shows, Carries, Sound, Lent; then `places`, `walking`, `collecting`,
-//! `drafting`, `publishing`, `seat`, `mutator`, `heap`.
+//! Reading order: specs/Shows, Carries, Sound, Shared, Lent; then `places`, `walking`,
+//! `collecting`, `drafting`, `making`, `publishing`, `seat`, `mutator`, `heap`.
 #![tactic(auto)]
 
 mod collecting;
 mod drafting;
 mod heap;
+mod making;
 mod mutator;
 mod places;
 mod publishing;

@@ -1,12 +1,13 @@
 //! A mutator of documents is such a seat, with hints of any queue.
 ghost use Rattle.std.specs.Prelude.{◌≡◌, ◌<◌, ◌≤◌, ◌+◌, IfErr, IfOk, OnErr};
-ghost use Rattle.std.specs.Prelude.{OnOk, Err, [], ◌∷◌, length, max, true};
+ghost use Rattle.std.specs.Prelude.{OnOk, Err, [], ◌∷◌, IfSome, IsNone, None, Ok, length, max};
+ghost use Rattle.std.specs.Prelude.{true};
 ghost use Rattle.std.specs.Option.{ForSome, option_map};
 ghost use Rattle.std.specs.Result.{ForOk};
 ghost use Rattle.cell_words.specs.declared.fields.Field.TheVariants as field;
 ghost use Rattle.client_heap.specs.Carries.{Carries, Follows};
 ghost use Rattle.client_heap.specs.Shows.{node_term, stored};
-ghost use Rattle.client_heap.specs.Sound.{IsCleared, IsSound};
+ghost use Rattle.client_heap.specs.Sound.{HasRoom, IsCleared, IsSound};
 ghost use Rattle.client_records.specs.Records.{is_shared};
 ghost use Rattle.client_trees.specs.Leaves.{Leaves, LeavesAll};
 ghost use Rattle.client_trees.specs.Nodes.{IsTreeAt, tree_at};
@@ -29,7 +30,7 @@ ghost use Rattle.version_store.specs.Lasts.{IsSameMutator, LastsAcross, marks};
 ghost use Rattle.version_store.specs.Older.{GivesOlder, Trims};
 
 use crate::seat::StoreSeat;
-use crate::{drafting, places, publishing, walking};
+use crate::{drafting, making, places, publishing, walking};
 use client_session::{CommitRefusal, HeapFull, HeldVersion};
 use client_trees::NodeAt;
 use doc_tree::{EditFault, Name, Names, NoMemory, Path, Text};
@@ -343,6 +344,45 @@ impl<'h, 'q> StoreSeat<Hints<'q>> for Mutator<'h, Documents> {
         ensures queue { queue_of hints.new ≡ queue_of hints.old }
     {
         drafting::make_room(rt, hints, self, minor, promoter, draft, base)
+    }
+
+    fn make_room_for<R: Wait>(
+        &mut self,
+        rt: &R,
+        hints: &mut Hints<'q>,
+        minor: &mut MinorHeap,
+        promoter: &mut Promoter,
+        draft: &mut NodeAt,
+        base: &mut usize,
+        tree: NodeAt,
+    ) -> Result<Option<NodeAt>, HeapFull>
+        requires sound { IsSound self.old minor.old draft.old base.old }
+        requires node { IsTreeAt self.old minor.old tree }
+        requires copies { minor.old.room ≤ promoter.old }
+        requires ready { length self.old.seat.me.own.held + length minor.old.records + 9000
+            ≤ self.old.seat.me.room }
+        ensures sound { IsSound self.new minor.new draft.new base.new }
+        ensures room { OnOk result (HasRoom self.new minor.new) }
+        ensures unmoved { HasRoom self.old minor.old → result ≡ Ok None }
+        ensures idle { IfOk result (λ moved. IsNone moved → (self.new ≡ self.old)
+            × (minor.new ≡ minor.old) × (draft.new ≡ draft.old) × (base.new ≡ base.old)) }
+        ensures node { IfOk result (λ moved.
+            IfSome moved (IsTreeAt self.new minor.new)) }
+        ensures tree { IfOk result (λ moved. IfSome moved (λ next.
+            tree_at self.new minor.new next ≡ tree_at self.old minor.old tree)) }
+        ensures full { OnErr result (Had (IsFull self.old.seat.me.shape.cells)
+            (marks self.old) (marks self.new)) }
+        ensures kept { length self.new.seat.me.own.held + length minor.new.records
+            ≤ length self.old.seat.me.own.held + length minor.old.records }
+        ensures term { node_term self.new minor.new draft.new
+            ≡ node_term self.old minor.old draft.old }
+        ensures small { base.new ≤ max base.old 2 }
+        ensures follows { Follows self.old self.new minor.old minor.new }
+        ensures pass { self.new.seat.me.pass ≡ self.old.seat.me.pass }
+        ensures promoter { promoter.new ≡ promoter.old }
+        ensures queue { queue_of hints.new ≡ queue_of hints.old }
+    {
+        making::make_room_for(rt, hints, self, minor, promoter, draft, base, tree)
     }
 
     fn cut_back(&mut self, minor: &MinorHeap, places: usize)

@@ -1,5 +1,5 @@
 //! Giving places of the held list back.
-ghost use Rattle.std.specs.Prelude.{◌≡◌, ◌<◌, ◌≤◌, length, true};
+ghost use Rattle.std.specs.Prelude.{ℕ, ◌≡◌, ◌<◌, ◌≤◌, ◌+◌, length, true};
 ghost use Rattle.client_heap.specs.Carries.{Carries};
 ghost use Rattle.heap_rule.specs.Asks.{known_of};
 
@@ -36,4 +36,56 @@ pub(crate) fn keep_alone(m: &mut Mutator<'_, Documents>, minor: &MinorHeap, plac
     let _held = m.held_len();
     let _records = minor.len();
     m.keep(1, place, 1);
+}
+
+/// Holds the cell of a place once more, behind all others.
+fn hold_again(m: &mut Mutator<'_, Documents>, minor: &MinorHeap, place: usize)
+    requires inside { m.old.seat.me.presence.inside ≡ true }
+    requires there { place < length m.old.seat.me.own.held }
+    requires room { length m.old.seat.me.own.held + 1 ≤ m.old.seat.me.room }
+    ensures carries { Carries (length m.old.seat.me.own.held) m.old m.new minor.now minor.now }
+    ensures held { length m.new.seat.me.own.held ≡ length m.old.seat.me.own.held + 1 }
+    ensures known { known_of m.new.seat.me (length m.old.seat.me.own.held)
+        ≡ known_of m.old.seat.me place }
+    ensures still { (p : ℕ) → p < length m.old.seat.me.own.held
+        → known_of m.new.seat.me p ≡ known_of m.old.seat.me p }
+    ensures pass { m.new.seat.me.pass ≡ m.old.seat.me.pass }
+{
+    let held = m.held_len();
+    let _records = minor.len();
+    m.keep(held, place, 1);
+}
+
+/// Holds the cells of two places that follow each other behind the anchor, and nothing else.
+fn keep_two(m: &mut Mutator<'_, Documents>, minor: &MinorHeap, place: usize)
+    requires inside { m.old.seat.me.presence.inside ≡ true }
+    requires there { place + 1 < length m.old.seat.me.own.held }
+    requires room { 3 ≤ m.old.seat.me.room }
+    ensures carries { Carries 1 m.old m.new minor.now minor.now }
+    ensures held { length m.new.seat.me.own.held ≡ 3 }
+    ensures first { known_of m.new.seat.me 1 ≡ known_of m.old.seat.me place }
+    ensures second { known_of m.new.seat.me 2 ≡ known_of m.old.seat.me (place + 1) }
+    ensures pass { m.new.seat.me.pass ≡ m.old.seat.me.pass }
+{
+    let _held = m.held_len();
+    let _records = minor.len();
+    m.keep(1, place, 2);
+}
+
+/// Holds the cells of two places behind the anchor, and nothing else.
+pub(crate) fn keep_pair(m: &mut Mutator<'_, Documents>, minor: &MinorHeap, x: usize, y: usize)
+    requires inside { m.old.seat.me.presence.inside ≡ true }
+    requires first { x < length m.old.seat.me.own.held }
+    requires second { y < length m.old.seat.me.own.held }
+    requires room { length m.old.seat.me.own.held + 2 ≤ m.old.seat.me.room }
+    ensures carries { Carries 1 m.old m.new minor.now minor.now }
+    ensures held { length m.new.seat.me.own.held ≡ 3 }
+    ensures first { known_of m.new.seat.me 1 ≡ known_of m.old.seat.me x }
+    ensures second { known_of m.new.seat.me 2 ≡ known_of m.old.seat.me y }
+    ensures pass { m.new.seat.me.pass ≡ m.old.seat.me.pass }
+{
+    let held = m.held_len();
+    hold_again(m, minor, x);
+    hold_again(m, minor, y);
+    keep_two(m, minor, held);
 }

@@ -1,12 +1,13 @@
 //! A mutator of documents, with hints: what a client's heap needs of both.
 ghost use Rattle.std.specs.Prelude.{◌≡◌, ◌<◌, ◌≤◌, ◌+◌, IfErr, IfOk, OnErr};
-ghost use Rattle.std.specs.Prelude.{OnOk, Err, [], ◌∷◌, length, max, true};
+ghost use Rattle.std.specs.Prelude.{OnOk, Err, [], ◌∷◌, IfSome, IsNone, None, Ok, length, max};
+ghost use Rattle.std.specs.Prelude.{true};
 ghost use Rattle.std.specs.Option.{ForSome, option_map};
 ghost use Rattle.std.specs.Result.{ForOk};
 ghost use Rattle.cell_words.specs.declared.fields.Field.TheVariants as field;
 ghost use Rattle.client_heap.specs.Carries.{Carries, Follows};
 ghost use Rattle.client_heap.specs.Shows.{node_term, stored};
-ghost use Rattle.client_heap.specs.Sound.{IsCleared, IsSound};
+ghost use Rattle.client_heap.specs.Sound.{HasRoom, IsCleared, IsSound};
 ghost use Rattle.client_records.specs.Records.{is_shared};
 ghost use Rattle.client_trees.specs.Leaves.{Leaves, LeavesAll};
 ghost use Rattle.client_trees.specs.Nodes.{IsTreeAt, tree_at};
@@ -306,6 +307,44 @@ pub trait StoreSeat<Q> {
         ensures idle { IsCleared (bound self.old) minor.old
             → (bound self.new ≡ bound self.old) × (minor.new ≡ minor.old)
             × (draft.new ≡ draft.old) × (base.new ≡ base.old) }
+        ensures full { OnErr result (Had (IsFull (bound self.old).seat.me.shape.cells)
+            (marks (bound self.old)) (marks (bound self.new))) }
+        ensures kept { length (bound self.new).seat.me.own.held + length minor.new.records
+            ≤ length (bound self.old).seat.me.own.held + length minor.old.records }
+        ensures term { node_term (bound self.new) minor.new draft.new
+            ≡ node_term (bound self.old) minor.old draft.old }
+        ensures small { base.new ≤ max base.old 2 }
+        ensures follows { Follows (bound self.old) (bound self.new) minor.old minor.new }
+        ensures pass { (bound self.new).seat.me.pass ≡ (bound self.old).seat.me.pass }
+        ensures promoter { promoter.new ≡ promoter.old }
+        ensures queue { queue hints.new ≡ queue hints.old };
+
+    /// Makes room for one more edit of a tree in the making, by a minor collection where there is
+    /// too little.
+    fn make_room_for<R: Wait>(
+        &mut self,
+        rt: &R,
+        hints: &mut Q,
+        minor: &mut MinorHeap,
+        promoter: &mut Promoter,
+        draft: &mut NodeAt,
+        base: &mut usize,
+        tree: NodeAt,
+    ) -> Result<Option<NodeAt>, HeapFull>
+        requires sound { IsSound (bound self.old) minor.old draft.old base.old }
+        requires node { IsTreeAt (bound self.old) minor.old tree }
+        requires copies { minor.old.room ≤ promoter.old }
+        requires ready { length (bound self.old).seat.me.own.held + length minor.old.records + 9000
+            ≤ (bound self.old).seat.me.room }
+        ensures sound { IsSound (bound self.new) minor.new draft.new base.new }
+        ensures room { OnOk result (HasRoom (bound self.new) minor.new) }
+        ensures unmoved { HasRoom (bound self.old) minor.old → result ≡ Ok None }
+        ensures idle { IfOk result (λ moved. IsNone moved → (bound self.new ≡ bound self.old)
+            × (minor.new ≡ minor.old) × (draft.new ≡ draft.old) × (base.new ≡ base.old)) }
+        ensures node { IfOk result (λ moved.
+            IfSome moved (IsTreeAt (bound self.new) minor.new)) }
+        ensures tree { IfOk result (λ moved. IfSome moved (λ next.
+            tree_at (bound self.new) minor.new next ≡ tree_at (bound self.old) minor.old tree)) }
         ensures full { OnErr result (Had (IsFull (bound self.old).seat.me.shape.cells)
             (marks (bound self.old)) (marks (bound self.new))) }
         ensures kept { length (bound self.new).seat.me.own.held + length minor.new.records

@@ -77,7 +77,7 @@ fn answers_by<R: Wait>(
 }
 
 /// Whether the one client of a store with so many cells is answered so.
-fn answers_in<R: Wait>(
+pub(crate) fn answers_in<R: Wait>(
     alloc: Global,
     rt: &R,
     cells: u32,

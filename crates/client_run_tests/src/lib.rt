@@ -1,11 +1,13 @@
 //! What no clause says of a session: rows of commands with their replies, worked out by hand, on a
 //! heap whose collector is off duty.
 //!
-//! Reading order: `scripts`; specs/Begun, `opening`, `answering`; `rows`, `long_rows`.
+//! Reading order: `scripts`; specs/Begun, `opening`, `answering`; `rows`, `long_rows`, `batches`.
 #![tactic(auto)]
 
 #[cfg(test)]
 mod answering;
+#[cfg(test)]
+mod batches;
 #[cfg(test)]
 mod long_rows;
 #[cfg(test)]

@@ -1,5 +1,5 @@
 -- An edit of the latest version, and what is begun by it.
-use Rattle.std.proofs.Common.{◌≡◌, ℕ, ◌+◌, false, List, sym, ◌∙◌, ap, arith}
+use Rattle.std.proofs.Common.{◌≡◌, ℕ, ◌+◌, ◌≤◌, false, List, sym, ◌∙◌, ap, arith}
 use Rattle.std.proofs.Common.{Result}
 use Rattle.client_session.specs.Handles.{Edits, Handles, Still}
 use Rattle.client_session.specs.Turns.{Begins, MayTurn, account_of, bounds}
@@ -23,8 +23,28 @@ pub edits_none : {places : ℕ} {s t : ClientState} → Edits places s t → Mak
 edits_none edits =
     same_none edits.pass edits.draft (let is = edits.base in omega (arith, is)) edits.lasts
 
--- The edit is a function of the latest tree that never runs out of memory, and the command's answer
--- is that of this function.
+-- What was made of the latest tree is a function of it that never runs out of memory, and the
+-- command's answer is that of this function.
+pub worked_begun : (j : Journal) (c : Command) {At : Type 0} {s t u : ClientState} {h : Handles At}
+    (o : Opened At) (f : DocTree → Result DocTree EditFault)
+    (edited : Result DocTree EditFault)
+    → MayTurn j s → Begins s t h o → MakesNone t u → edited ≡ f (h.tree o.root)
+    → ((d : DocTree) → runs_out (f d) ≡ false)
+    → ((trees : List DocTree)
+    → answer (bounds j.limits) trees o.version.number (account_of j s) c
+    ≡ committed (bounds j.limits) o.version.number (f (tree_at trees o.version.number)))
+    → Begun (bounds j.limits) (account_of j s) c o.version.number s u edited
+worked_begun j c {s = s} {t = t} {u = u} {h = h} o f edited may begins none made spared is =
+    let v = o.version.number in
+    let l = bounds j.limits in
+    begun_new l j.log.client (account_of j s) c v edited (account_is j s may.last)
+    (read_on begins.read none) (ap runs_out made ∙ spared (h.tree o.root))
+    (λ trees fits. is trees
+    ∙ ap (λ (d : DocTree). committed l v (f d))
+    (known_on t.pass u.pass v (h.tree o.root) none.lasts.passes begins.holds.knows trees fits)
+    ∙ ap (committed l v) (sym made))
+
+-- and so of one edit
 pub edited_begun : (j : Journal) (c : Command) {At : Type 0} {s t u : ClientState} {h : Handles At}
     (o : Opened At) (places : ℕ) (f : DocTree → Result DocTree EditFault)
     (edited : Result DocTree EditFault)
@@ -34,15 +54,20 @@ pub edited_begun : (j : Journal) (c : Command) {At : Type 0} {s t u : ClientStat
     → answer (bounds j.limits) trees o.version.number (account_of j s) c
     ≡ committed (bounds j.limits) o.version.number (f (tree_at trees o.version.number)))
     → Begun (bounds j.limits) (account_of j s) c o.version.number s u edited
-edited_begun j c {s = s} {t = t} {u = u} {h = h} o places f edited may begins edits made spared is =
-    let v = o.version.number in
-    let l = bounds j.limits in
-    begun_new l j.log.client (account_of j s) c v edited (account_is j s may.last)
-    (read_on begins.read (edits_none edits)) (ap runs_out made ∙ spared (h.tree o.root))
-    (λ trees fits. is trees
-    ∙ ap (λ (d : DocTree). committed l v (f d))
-    (known_on t.pass u.pass v (h.tree o.root) edits.lasts.passes begins.holds.knows trees fits)
-    ∙ ap (committed l v) (sym made))
+edited_begun j c o places f edited may begins edits made spared is =
+    worked_begun j c o f edited may begins (edits_none edits) made spared is
+
+-- for more places
+pub edits_within : {few : ℕ} (places : ℕ) → few ≤ places → {s t : ClientState}
+    → Edits few s t → Edits places s t
+edits_within places le edits = record {
+  lasts = edits.lasts;
+  pass = edits.pass;
+  draft = edits.draft;
+  base = edits.base;
+  room = let x = edits.room in omega (arith, x, le);
+  spare = edits.spare;
+}
 
 -- calls before an edit
 pub edits_late : (a : ℕ) {b : ℕ} {s t u : ClientState} → t.pass ≡ s.pass → Rests a s t

@@ -6,3 +6,4 @@ pub mod Commits
 pub mod Drafts
 pub mod Turning
 pub mod Entering
+pub mod Batches

@@ -1,2 +1,3 @@
+pub mod Batches
 pub mod Handles
 pub mod Turns

@@ -38,7 +38,7 @@ pub(crate) fn begin<H: ClientHeap, R: Wait>(rt: &R, heap: &mut H) -> Result<Open
 }
 
 /// The tree with the node at one path also at another.
-fn attached<H: ClientHeap>(
+pub(crate) fn attached<H: ClientHeap>(
     heap: &mut H,
     root: H::At,
     from: &Path,
@@ -104,7 +104,7 @@ impl Journal {
     /// Makes a node's tree the next version, over one that was the latest. The turn is lost where
     /// another client was faster; a look at the latest version comes first, since what the edit made
     /// would be promoted in vain.
-    fn commit<H: ClientHeap, R: Wait>(
+    pub(crate) fn commit<H: ClientHeap, R: Wait>(
         &self,
         rt: &R,
         heap: &mut H,

@@ -1,6 +1,6 @@
 //! What a session needs of its client's heap.
 ghost use Rattle.std.specs.Prelude.{◌≡◌, ◌+◌, ◌≤◌, ◌<◌, ℕ, Bool, true, IfOk};
-ghost use Rattle.std.specs.Prelude.{IfSome, OnErr, OnOk, [], ◌∷◌, Err, None, length};
+ghost use Rattle.std.specs.Prelude.{IfSome, OnErr, OnOk, [], ◌∷◌, Err, IsNone, None, Ok, length};
 ghost use Rattle.std.specs.Option.{option_map};
 ghost use Rattle.cell_words.specs.declared.fields.Field.TheVariants as field;
 ghost use Rattle.client_session.specs.Handles.{Edits, Handles, Still};
@@ -233,6 +233,32 @@ pub trait ClientHeap {
         ensures spare { OnOk result (2285 ≤ (state self.new).spare) }
         ensures idle { 20480 ≤ (state self.old).room → 2285 ≤ (state self.old).spare
             → state self.new ≡ state self.old }
+        ensures full { OnErr result (Had (IsFull (state self.old).cells)
+            (state self.old).marks (state self.new).marks) }
+        ensures kept { (state self.old).room ≤ (state self.new).room }
+        ensures pass { (state self.new).pass ≡ (state self.old).pass }
+        ensures draft { (state self.new).draft ≡ (state self.old).draft }
+        ensures small { StaysSmall (state self.old) (state self.new) }
+        ensures lasts { Lasts (state self.old) (state self.new) }
+        ensures lent { lent self.new ≡ lent self.old };
+
+    /// Makes room for one more edit of a tree that is in the making, by a minor collection where
+    /// there is too little: of the draft and of that tree. The tree is then at the node that is the
+    /// answer, and what else was held is given back, versions too. Without a collection nothing
+    /// happens.
+    fn make_room_for<R: Wait>(&mut self, rt: &R, at: Self::At) -> Result<Option<Self::At>, HeapFull>
+        requires ready { IsReady (state self.old) }
+        requires node { (shown self.old).is_node at }
+        ensures room { OnOk result (20011 ≤ (state self.new).room) }
+        ensures spare { OnOk result (2285 ≤ (state self.new).spare) }
+        ensures unmoved { 20011 ≤ (state self.old).room → 2285 ≤ (state self.old).spare
+            → result ≡ Ok None }
+        ensures idle { IfOk result (λ moved. IsNone moved → state self.new ≡ state self.old) }
+        ensures still { IfOk result (λ moved. IsNone moved
+            → Still (shown self.old) (shown self.new)) }
+        ensures node { IfOk result (λ moved. IfSome moved (λ next. (shown self.new).is_node next)) }
+        ensures tree { IfOk result (λ moved. IfSome moved (λ next.
+            (shown self.new).tree next ≡ (shown self.old).tree at)) }
         ensures full { OnErr result (Had (IsFull (state self.old).cells)
             (state self.old).marks (state self.new).marks) }
         ensures kept { (state self.old).room ≤ (state self.new).room }

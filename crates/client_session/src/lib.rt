@@ -8,10 +8,11 @@
 //! pass allows; the log stays in step with the pass and with the trail; and after want of memory
 //! nothing was made.
 //!
-//! Reading order: specs/Handles, Turns; then `held`, `heap`, `journal`, `given`, `reading`,
-//! `drafting`, `committing`, `turns`.
+//! Reading order: specs/Handles, Turns, Batches; then `held`, `heap`, `journal`, `given`,
+//! `reading`, `drafting`, `committing`, `batching`, `turns`.
 #![tactic(auto)]
 
+mod batching;
 mod committing;
 mod drafting;
 mod given;

@@ -54,6 +54,7 @@ impl Journal {
             Command::DraftGet { path } => self.draft_get(alloc, heap, path),
             Command::Take { path } => self.take(rt, heap, path),
             Command::Publish { path } => self.publish(rt, heap, path),
+            Command::Batch { edits } => self.batch(rt, heap, edits),
         }
     }
 
