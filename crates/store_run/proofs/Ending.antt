@@ -30,7 +30,7 @@ use Rattle.run_history.specs.Left.{AreLeft}
 use Rattle.store_run.specs.Finished.{AreFronts, commands_of, duty_on}
 use Rattle.store_run.specs.Opened.{IsWithin, client_limits, limits_of, lists_of, shape_of}
 use Rattle.store_run.specs.Parts.{AllHadRoom, AreTaken, IsOpened, IsStill}
-use Rattle.store_run.specs.declared.opening.Opened.{Opened}
+use Rattle.store_run.specs.declared.opened.Opened.{Opened}
 use Rattle.store_run.specs.declared.options.Options.{Options}
 use Rattle.version_rule.specs.Pass.{Pass}
 use Rattle.store_run.proofs.Closed.{AtClose}

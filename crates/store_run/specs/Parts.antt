@@ -27,7 +27,7 @@ use Rattle.heap_table.specs.Seats.{IsSeatOf, SeatView}
 use Rattle.run_history.specs.Left.{AreLeft}
 use Rattle.store_run.specs.Finished.{duty_on}
 use Rattle.store_run.specs.Opened.{client_limits, shape_of}
-use Rattle.store_run.specs.declared.opening.Opened.{Opened}
+use Rattle.store_run.specs.declared.opened.Opened.{Opened}
 use Rattle.store_run.specs.declared.options.Options.{Options}
 use Rattle.version_rule.specs.Pass.{Pass}
 

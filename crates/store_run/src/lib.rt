@@ -7,10 +7,11 @@
 //! of the image and the logs. How a script is read and a log written is left to that layer.
 //!
 //! Reading order: specs/Opened, Finished; then `options`, `finished`; specs/Parts; then `opening`,
-//! `taking_back`, `totals`, `running`.
+//! `taking_back`, `totals`, `opened`, `running`.
 #![tactic(auto)]
 
 mod finished;
+mod opened;
 mod opening;
 mod options;
 mod running;

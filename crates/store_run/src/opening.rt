@@ -1,6 +1,5 @@
-//! The opening of a run: a store's heap, with a seat, a session and a pass of the hints for each
-//! client, and what the collector works with. All memory of a run but that of its answers is taken
-//! here, so nothing that is begun has to be given up for want of it.
+//! What the opening of a run makes for its clients and its collector: for each client a seat, a
+//! session and a pass of the hints; and the collector on duty.
 ghost use Rattle.std.specs.Prelude.{◌≡◌, ◌<◌, ◌≤◌, All, IfOk, List, OnOk, length};
 ghost use Rattle.std.specs.Prelude.{replicate};
 ghost use mathlib.Core.Option.{some};
@@ -12,36 +11,19 @@ ghost use Rattle.free_cells.specs.Passes.{IsHintPass};
 ghost use Rattle.heap_rule.specs.Moves.{split_view};
 ghost use Rattle.heap_rule.specs.declared.view.Place.TheVariants as places;
 ghost use Rattle.heap_table.specs.Seats.{IsSeatOf};
-ghost use Rattle.store_run.specs.Opened.{IsWithin, client_limits};
-ghost use Rattle.store_run.specs.Parts.{HasSplit, IsOnDuty, IsOpened};
+ghost use Rattle.store_run.specs.Opened.{client_limits};
+ghost use Rattle.store_run.specs.Parts.{HasSplit, IsOnDuty};
 
 use crate::options::Options;
 use cell_heap::ColSeat;
 use client_run::{Limits, Session};
-use client_threads::{Client, Keeper};
-use collector::{MarkStack, NoMemory};
+use client_threads::Client;
+use collector::NoMemory;
 use doc_model::Command;
 use document_versions::Documents;
 use free_cells::{FreeQueue, HintPass};
 use heap_table::CellHeap;
 use std::alloc::Global;
-use std::sync::Wait;
-use version_store::opening_rows;
-
-/// How many cells can wait for a look of the collector.
-const MARKS: u32 = 65_536;
-
-/// How many of the first cells the opening of a store takes.
-const FIRST: u32 = 3;
-
-/// A store's heap with all that its clients and its collector need.
-#[derive(Drop)]
-pub(crate) struct Opened {
-    pub(crate) heap: CellHeap<Documents>,
-    pub(crate) queue: FreeQueue,
-    pub(crate) keeper: Keeper,
-    pub(crate) clients: Vec<Client>,
-}
 
 impl Options {
     /// What a client's session is told.
@@ -56,39 +38,8 @@ impl Options {
     }
 }
 
-/// Opens the heap of a run, with a client for each script. The collector is on duty where it may
-/// make cycles.
-pub(crate) fn open_store<R: Wait>(
-    alloc: Global,
-    rt: &R,
-    scripts: &[Vec<Command>],
-    options: &Options,
-) -> Result<Opened, NoMemory>
-    requires some { 1 ≤ length scripts.now }
-    requires few { length scripts.now ≤ 64 }
-    requires short { All (λ script. length script.items ≤ 100_000) scripts.now }
-    requires options { IsWithin options.now }
-    ensures opened { IfOk result (λ made. IsOpened options.now scripts.now made) }
-{
-    let mutators = scripts.len() as u32;
-    let (queue, mut pass) = FreeQueue::open(alloc, rt, options.cells, FIRST)?;
-    let stack = MarkStack::with_room(alloc, MARKS)?;
-    let keep = u64::from(options.keep);
-    let rows = opening_rows();
-    let (heap, mut seat) = ColSeat::<Documents>::open(alloc, options.cells, mutators, keep, &rows)?;
-    let limits = options.client_limits();
-    let clients = split_clients(alloc, &heap, &queue, limits, scripts, &mut seat, &mut pass)?;
-    begin_duty(&heap, options.cycles, &mut seat);
-    Ok(Opened {
-        heap,
-        queue,
-        keeper: Keeper { seat, stack, pass },
-        clients,
-    })
-}
-
 /// The collector goes on duty, where it may make cycles.
-fn begin_duty(heap: &CellHeap<Documents>, cycles: u32, seat: &mut ColSeat<Documents>)
+pub(crate) fn begin_duty(heap: &CellHeap<Documents>, cycles: u32, seat: &mut ColSeat<Documents>)
     requires seat { IsSeatOf heap.now seat.old }
     requires idle { seat.old.me.control.stage ≡ stage.Idle }
     ensures duty { IsOnDuty cycles seat.old seat.new }
@@ -99,7 +50,7 @@ fn begin_duty(heap: &CellHeap<Documents>, cycles: u32, seat: &mut ColSeat<Docume
 }
 
 /// A client for each script: the first has the mutator with number 0.
-fn split_clients(
+pub(crate) fn split_clients(
     alloc: Global,
     heap: &CellHeap<Documents>,
     queue: &FreeQueue,

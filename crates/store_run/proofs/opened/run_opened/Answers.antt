@@ -14,7 +14,7 @@ use Rattle.store_run.proofs.Closed.{comes, counted}
 use Rattle.store_run.proofs.Ending.{by_number, closing, late_seat, may_serve, shape_there}
 use Rattle.store_run.proofs.Ending.{short_logs}
 use Rattle.store_run.proofs.Ending.{stands_places, stands_seat, still_seat}
-use Rattle.store_run.proofs.running.run_opened.Goals as goal
+use Rattle.store_run.proofs.opened.run_opened.Goals as goal
 
 pub totals_of-totals-requires-clause-short : goal.totals_of-totals-requires-clause-short
 totals_of-totals-requires-clause-short g c =

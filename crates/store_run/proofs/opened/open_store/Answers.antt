@@ -8,7 +8,7 @@ use Rattle.heap_table.specs.Seats.{SeatView}
 use Rattle.version_rule.specs.Pass.{Pass}
 use Rattle.store_run.specs.Finished.{duty_on}
 use Rattle.store_run.proofs.Splitting.{opened_shape, opens}
-use Rattle.store_run.proofs.opening.open_store.Goals as goal
+use Rattle.store_run.proofs.opened.open_store.Goals as goal
 
 pub open-requires-2-clause-rule : goal.open-requires-2-clause-rule
 open-requires-2-clause-rule g c =

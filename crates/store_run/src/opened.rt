@@ -1,0 +1,141 @@
+//! The heap of a run, from its opening to its close. All memory of a run but that of its answers is
+//! taken at the opening, so nothing that is begun has to be given up for want of it.
+//!
+//! An opened heap can't be let go, and no other module can take it apart: `run_opened` alone does,
+//! and that closes it. So whoever opened one closes it, also where memory is wanting.
+ghost use Rattle.std.specs.Prelude.{◌≡◌, ◌≤◌, All, IfOk, [], false, length, map, vec_capacity};
+ghost use Rattle.store_run.specs.Finished.{AreFronts, Comes, commands_of};
+ghost use Rattle.store_run.specs.Opened.{IsWithin, lists_of};
+ghost use Rattle.store_run.specs.Parts.{IsOpened};
+
+use crate::finished::Finished;
+use crate::opening::{begin_duty, split_clients};
+use crate::options::Options;
+use crate::taking_back::take_back;
+use crate::totals::totals_of;
+use cell_heap::ColSeat;
+use client_threads::{Client, Keeper, run_beside, serve_after};
+use collector::{MarkStack, NoMemory};
+use doc_model::{Command, Log};
+use document_versions::Documents;
+use free_cells::FreeQueue;
+use heap_table::CellHeap;
+use outside::Gate;
+use std::alloc::Global;
+use std::sync::Wait;
+use std::thread::Threads;
+use version_store::opening_rows;
+
+/// How many cells can wait for a look of the collector.
+const MARKS: u32 = 65_536;
+
+/// How many of the first cells the opening of a store takes.
+const FIRST: u32 = 3;
+
+/// A store's heap with all that its clients and its collector need.
+pub(crate) struct Opened {
+    heap: CellHeap<Documents>,
+    queue: FreeQueue,
+    keeper: Keeper,
+    clients: Vec<Client>,
+}
+
+/// What a run comes to behind its opening, and whether memory was wanting for some client.
+#[derive(Drop)]
+pub(crate) struct Closed {
+    pub(crate) finished: Finished,
+    pub(crate) failed: bool,
+}
+
+/// Opens the heap of a run, with a client for each script. The collector is on duty where it may
+/// make cycles.
+pub(crate) fn open_store<R: Wait>(
+    alloc: Global,
+    rt: &R,
+    scripts: &[Vec<Command>],
+    options: &Options,
+) -> Result<Opened, NoMemory>
+    requires some { 1 ≤ length scripts.now }
+    requires few { length scripts.now ≤ 64 }
+    requires short { All (λ script. length script.items ≤ 100_000) scripts.now }
+    requires options { IsWithin options.now }
+    ensures opened { IfOk result (λ made. IsOpened options.now scripts.now made) }
+{
+    let mutators = scripts.len() as u32;
+    let (queue, mut pass) = FreeQueue::open(alloc, rt, options.cells, FIRST)?;
+    let stack = MarkStack::with_room(alloc, MARKS)?;
+    let keep = u64::from(options.keep);
+    let rows = opening_rows();
+    let (heap, mut seat) = ColSeat::<Documents>::open(alloc, options.cells, mutators, keep, &rows)?;
+    let limits = options.client_limits();
+    let clients = split_clients(alloc, &heap, &queue, limits, scripts, &mut seat, &mut pass)?;
+    begin_duty(&heap, options.cycles, &mut seat);
+    Ok(Opened {
+        heap,
+        queue,
+        keeper: Keeper { seat, stack, pass },
+        clients,
+    })
+}
+
+/// Runs the scripts' commands on the opened heap and closes it, whatever became of the clients. What
+/// is finished is a run of the commands that were answered: the first of each script, or all of them
+/// where nobody wanted memory. The list has room for the logs.
+pub(crate) fn run_opened<R: Threads + Wait + Sync, G: Gate + Sync>(
+    alloc: Global,
+    rt: &R,
+    scripts: &[Vec<Command>],
+    options: &Options,
+    gate: &G,
+    opened: Opened,
+    logs: Vec<Log>,
+) -> Closed
+    requires some { 1 ≤ length scripts.now }
+    requires short { All (λ script. length script.items ≤ 100_000) scripts.now }
+    requires options { IsWithin options.now }
+    requires opened { IsOpened options.now scripts.now opened }
+    requires empty { logs.items ≡ [] }
+    requires room { length scripts.now ≤ vec_capacity logs }
+    ensures comes { Comes options.now (map commands_of result.finished.logs.items)
+        result.finished.logs.items result.finished.image result.finished.passes
+        result.finished.totals }
+    ensures fronts { AreFronts (map commands_of result.finished.logs.items) (lists_of scripts.now) }
+    ensures whole { result.failed ≡ false
+        → map commands_of result.finished.logs.items ≡ lists_of scripts.now }
+{
+    let limits = options.client_limits();
+    let Opened {
+        heap,
+        queue,
+        keeper,
+        clients,
+    } = opened;
+    let (clients, seat, standby) = run_beside(
+        alloc,
+        rt,
+        gate,
+        &heap,
+        &queue,
+        scripts,
+        limits,
+        keeper,
+        options.cycles,
+        clients,
+    );
+    let mut seat = seat;
+    let mut logs = logs;
+    let failed = take_back(&heap, limits, scripts, clients, &mut seat, &mut logs);
+    let seat = serve_after(rt, &heap, &queue, options.cycles, seat, standby);
+    let freed = seat.freed();
+    let (image, passes) = seat.close(heap);
+    let totals = totals_of(&image, freed, &logs);
+    Closed {
+        finished: Finished {
+            logs,
+            image,
+            passes,
+            totals,
+        },
+        failed,
+    }
+}
