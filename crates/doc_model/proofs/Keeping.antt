@@ -11,7 +11,7 @@ use Rattle.std.proofs.lemmas.List.Elements.{All-append, All-cons, All-head, All-
 use Rattle.std.proofs.lemmas.List.Elements.{All-replicate, All-set, All-tail}
 use Rattle.doc_tree.specs.declared.edit.EditFault.{EditFault}
 use Rattle.doc_tree.specs.declared.edit.EditFault.TheVariants as fault
-use Rattle.doc_tree.specs.Edits.{attach, delete, set_text}
+use Rattle.doc_tree.specs.Edits.{attach, delete, edited, set_text}
 use Rattle.doc_tree.specs.Lawful.{IsLawful}
 use Rattle.doc_tree.specs.Tree.{DocTree, empty, node}
 use Rattle.doc_tree.proofs.Orderly.{attach_lawful, delete_lawful, lawful_empty, node_lawful}
@@ -21,11 +21,13 @@ use Rattle.doc_model.specs.declared.answer.Answer.{Answer}
 use Rattle.doc_model.specs.declared.command.Command.{Command}
 use Rattle.doc_model.specs.declared.command.Command.TheVariants as command
 use Rattle.doc_model.specs.declared.command.Entry.{Entry}
+use Rattle.doc_model.specs.declared.edits.Edit.{Edit}
+use Rattle.doc_model.specs.declared.edits.Edit.TheVariants as edit
 use Rattle.doc_model.specs.declared.command.Reply.{Reply}
 use Rattle.doc_model.specs.declared.command.Reply.TheVariants as reply
-use Rattle.doc_model.specs.Answers.{Limits, answer_at, attached, committed, count_shown, drafted}
-use Rattle.doc_model.specs.Answers.{full_or, left, names_shown, old_shown, opening_account}
-use Rattle.doc_model.specs.Answers.{refusal, taken, text_shown, told}
+use Rattle.doc_model.specs.Answers.{Limits, all_made, answer_at, attached, committed, count_shown}
+use Rattle.doc_model.specs.Answers.{drafted, edit_made, full_or, left, names_shown, old_shown}
+use Rattle.doc_model.specs.Answers.{opening_account, refusal, taken, text_shown, told}
 use Rattle.doc_model.specs.History.{after_all}
 use Rattle.doc_model.specs.LawfulStore.{CommandKeepsLawful, EntryKeepsLawful, HistoryIsLawful}
 use Rattle.doc_model.specs.LawfulStore.{IsLawfulStore, IsShallow, MakesLawful, NotDeep}
@@ -108,6 +110,29 @@ attached_lawful : (to : List (List ℕ)) (t : DocTree) (o : Option DocTree) → 
 attached_lawful to t None is inside u h = cc
 attached_lawful to t (Some sub) is inside u h = attach_lawful to sub t u (inside sub refl) is h
 
+made_lawful : (draft : DocTree) (e : Edit) (t u : DocTree) → IsLawful draft → IsLawful t
+    → edit_made draft e t ≡ Ok u → IsLawful u
+made_lawful draft (edit.Put path text) t u mine is h = set_text_lawful path text t u is h
+made_lawful draft (edit.Del path) t u mine is h = delete_lawful path t u is h
+made_lawful draft (edit.Copy «from» to) t u mine is h =
+    attached_lawful to t (node «from» t) is (λ d g. node_lawful «from» t d is g) u h
+made_lawful draft (edit.Publish path) t u mine is h = attach_lawful path draft t u mine is h
+
+edited_lawful : (next : DocTree → Result DocTree EditFault) (r : Result DocTree EditFault)
+    → ((t : DocTree) → r ≡ Ok t → IsLawful t)
+    → ((t u : DocTree) → IsLawful t → next t ≡ Ok u → IsLawful u) → (u : DocTree)
+    → edited next r ≡ Ok u → IsLawful u
+edited_lawful next (Ok t) first then u h = then t u (first t refl) h
+edited_lawful next (Err e) first then u h = cc
+
+all_lawful : (draft : DocTree) (es : List Edit) (t u : DocTree) → IsLawful draft → IsLawful t
+    → all_made draft es t ≡ Ok u → IsLawful u
+all_lawful draft [] t u mine is h = let same : t ≡ u = cc in subst IsLawful same is
+all_lawful draft (e ∷ es) t u mine is h =
+    edited_lawful (all_made draft es) (edit_made draft e t)
+    (λ d g. made_lawful draft e t d mine is g)
+    (λ d v lawful g. all_lawful draft es d v mine lawful g) u h
+
 pub answer_lawful : (l : Limits) (v : ℕ) (now older : DocTree) (m : Account) (c : Command)
     → IsLawful now → IsLawful m.draft → MakesLawful (answer_at l v now older m c)
 answer_lawful l v now older m (command.Put path text) is mine =
@@ -131,6 +156,9 @@ answer_lawful l v now older m (command.Take path) is mine =
 answer_lawful l v now older m (command.Publish path) is mine =
     makes_committed l v (attach path m.draft now)
     (λ u h. attach_lawful path m.draft now u mine is h)
+answer_lawful l v now older m (command.Batch edits) is mine =
+    makes_committed l v (all_made m.draft edits now)
+    (λ u h. all_lawful m.draft edits now u mine is h)
 
 -- the trees that a store answers from
 latest_lawful : (s : Store) → IsLawfulStore s → IsLawful (tree_at s.trees (shown s))
@@ -233,6 +261,7 @@ answer_shallow l v now older m (command.DraftPut path text) low is mine =
 answer_shallow l v now older m (command.DraftGet path) low is mine = tt
 answer_shallow l v now older m (command.Take path) low is mine = tt
 answer_shallow l v now older m (command.Publish path) low is mine = tt
+answer_shallow l v now older m (command.Batch edits) low is mine = tt
 
 pub puts_shallow : PutsAreShallow
 puts_shallow s client c low is =

@@ -3,11 +3,13 @@
 -- client has in the store. A command is a case here, in `back_of` and in `full_place`, and nowhere
 -- else.
 -- Source: this project's.
-use Rattle.std.specs.Prelude.{ℕ, List, ◌+◌, ◌-◌, nat_lt, nat_le, Bool, true, false, Option, Some}
-use Rattle.std.specs.Prelude.{None, Result, Ok, Err, unwrap_or, if◌then◌else◌}
+use Rattle.std.specs.Prelude.{ℕ, List, [], ◌∷◌, ◌+◌, ◌-◌, nat_lt, nat_le, Bool, true, false}
+use Rattle.std.specs.Prelude.{Option, Some, None, Result, Ok, Err, unwrap_or, if◌then◌else◌}
 use Rattle.doc_model.specs.declared.command.Command.{Command}
 use Rattle.doc_model.specs.declared.command.Command.TheVariants as command
 use Rattle.doc_model.specs.declared.command.Entry.{Entry}
+use Rattle.doc_model.specs.declared.edits.Edit.{Edit}
+use Rattle.doc_model.specs.declared.edits.Edit.TheVariants as edit
 use Rattle.doc_model.specs.declared.command.Reply.{Reply}
 use Rattle.doc_model.specs.declared.command.Reply.TheVariants as reply
 use Rattle.doc_tree.specs.declared.edit.EditFault.{EditFault}
@@ -15,7 +17,7 @@ use Rattle.doc_tree.specs.declared.edit.EditFault.TheVariants as fault
 use Rattle.doc_model.specs.declared.answer.Answer.{Answer}
 use Rattle.doc_model.specs.declared.answer.Account.{Account}
 use Rattle.doc_tree.specs.Tree.{DocTree, empty, node, names_of, count}
-use Rattle.doc_tree.specs.Edits.{set_text, delete, attach}
+use Rattle.doc_tree.specs.Edits.{set_text, delete, attach, edited}
 
 -- how many of the latest versions can be asked for, and the number of the last that can be made
 pub record Limits : Type 0 where
@@ -66,6 +68,18 @@ abbrev pub attached : List (List ℕ) → DocTree → Option DocTree → Result 
 attached to t None = Err fault.Absent
 attached to t (Some sub) = attach to sub t
 
+-- one edit of a batch, by a client with this draft
+abbrev pub edit_made : DocTree → Edit → DocTree → Result DocTree EditFault
+edit_made draft (edit.Put path text) t = set_text path text t
+edit_made draft (edit.Del path) t = delete path t
+edit_made draft (edit.Copy «from» to) t = attached to t (node «from» t)
+edit_made draft (edit.Publish path) t = attach path draft t
+
+-- the edits one after another, each of the tree that the one before made, or the first refusal
+abbrev pub all_made : DocTree → List Edit → DocTree → Result DocTree EditFault
+all_made draft [] t = Ok t
+all_made draft (e ∷ es) t = edited (all_made draft es) (edit_made draft e t)
+
 -- the text of a node, if it is there
 abbrev pub text_shown : ℕ → ℕ → Option DocTree → Answer
 text_shown shown place None = told (reply.Absent shown) place
@@ -101,6 +115,7 @@ answer_at l v now older m (command.DraftPut path text) = drafted m.last (set_tex
 answer_at l v now older m (command.DraftGet path) = text_shown m.last m.last (node path m.draft)
 answer_at l v now older m (command.Take path) = taken v (node path now)
 answer_at l v now older m (command.Publish path) = committed l v (attach path m.draft now)
+answer_at l v now older m (command.Batch edits) = committed l v (all_made m.draft edits now)
 
 -- how many versions back a command asks
 abbrev pub back_of : Command → ℕ
@@ -115,6 +130,7 @@ back_of (command.DraftPut path text) = 0
 back_of (command.DraftGet path) = 0
 back_of (command.Take path) = 0
 back_of (command.Publish path) = 0
+back_of (command.Batch edits) = 0
 
 -- the place of a command that found the heap full, if it is one that needs cells
 abbrev pub full_place : ℕ → Account → Command → Option ℕ
@@ -129,6 +145,7 @@ full_place v m (command.DraftPut path text) = Some m.last
 full_place v m (command.DraftGet path) = None
 full_place v m (command.Take path) = Some v
 full_place v m (command.Publish path) = Some v
+full_place v m (command.Batch edits) = Some v
 
 -- whether the reply is that of a command that made a version
 abbrev pub is_ok : Reply → Bool

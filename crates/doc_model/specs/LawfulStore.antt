@@ -37,11 +37,13 @@ PutsLow (command.DraftPut path text) = length path ≤ 8
 PutsLow (command.DraftGet path) = Unit {0}
 PutsLow (command.Take path) = Unit {0}
 PutsLow (command.Publish path) = Unit {0}
+PutsLow (command.Batch edits) = Unit {0}
 
 abbrev pub NotDeep : Reply → Type 0
 NotDeep said = (v : ℕ) → said ≢ reply.Deep v
 
--- a command that puts a text, and a reply that does not say that the tree would be too high
+-- a command that puts a text, and a reply that does not say that the tree would be too high; a
+-- batch may have copies in it, and says nothing here
 abbrev pub IsShallow : Command → Reply → Type 0
 IsShallow (command.Put path text) said = NotDeep said
 IsShallow (command.Del path) said = Unit {0}
@@ -54,6 +56,7 @@ IsShallow (command.DraftPut path text) said = NotDeep said
 IsShallow (command.DraftGet path) said = Unit {0}
 IsShallow (command.Take path) said = Unit {0}
 IsShallow (command.Publish path) said = Unit {0}
+IsShallow (command.Batch edits) said = Unit {0}
 
 -- The laws.
 abbrev pub OpensLawful : Type 0

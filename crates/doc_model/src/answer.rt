@@ -1,9 +1,10 @@
 //! What a command is answered, before a store takes it in.
 ghost use Rattle.std.specs.Prelude.{◌≡◌, ◌≢◌, ◌≤◌, ◌↔◌, Err, IsTrue, IfOk, OnOk, None, replicate};
 ghost use Rattle.std.specs.Option.{ForSome, option_copied};
-ghost use Rattle.doc_model.specs.Answers.{attached, count_shown, draft_made, drafted, full_place};
-ghost use Rattle.doc_model.specs.Answers.{names_shown, opening_account, refusal, taken};
-ghost use Rattle.doc_model.specs.Answers.{text_shown, told};
+ghost use Rattle.std.specs.Result.{ForOk};
+ghost use Rattle.doc_model.specs.Answers.{all_made, attached, count_shown, draft_made, drafted};
+ghost use Rattle.doc_model.specs.Answers.{edit_made, full_place, names_shown, opening_account};
+ghost use Rattle.doc_model.specs.Answers.{refusal, taken, text_shown, told};
 ghost use Rattle.doc_model.specs.History.{Says};
 ghost use Rattle.doc_model.specs.LawfulStore.{NotDeep};
 ghost use Rattle.doc_tree.specs.Tree.{count};
@@ -11,6 +12,7 @@ ghost use Rattle.doc_tree.specs.Edits.{Gives};
 
 use crate::NoMemory;
 use crate::command::{Command, Entry, Reply};
+use crate::edits::Edit;
 use doc_tree::{EditFault, Path, Tree};
 use std::alloc::Global;
 
@@ -131,6 +133,38 @@ pub(crate) fn attached(
     }
 }
 
+// The tree with one edit of a batch made. Where it publishes, this is the draft.
+fn edit_made(alloc: Global, draft: &Tree, edit: &Edit, tree: &Tree) -> Result<Tree, EditFault>
+    requires counted { count tree.now ≤ 1_000_000_000 }
+    ensures gives { Gives result (edit_made draft.now edit.now tree.now) }
+    ensures counted { ForOk result (λ t. count t ≤ 1_000_000_000) }
+{
+    match edit {
+        Edit::Put { path, text } => tree.set_text(alloc, path, text),
+        Edit::Del { path } => tree.delete(alloc, path),
+        Edit::Copy { from, to } => attached(alloc, to, tree, tree.node(from)),
+        Edit::Publish { path } => tree.attach(alloc, path, draft),
+    }
+}
+
+// The tree with all edits of a batch made, one after another.
+pub(crate) fn all_made(
+    alloc: Global,
+    draft: &Tree,
+    edits: &[Edit],
+    tree: &Tree,
+) -> Result<Tree, EditFault>
+    requires counted { count tree.now ≤ 1_000_000_000 }
+    ensures gives { Gives result (all_made draft.now edits.now tree.now) }
+    ensures counted { ForOk result (λ t. count t ≤ 1_000_000_000) }
+{
+    let mut made = tree.copy()?;
+    for edit in edits {
+        made = edit_made(alloc, draft, edit, &made)?;
+    }
+    Ok(made)
+}
+
 // The text of a node of the version that is shown.
 pub(crate) fn text_shown(shown: u64, place: u64, node: Option<&Tree>) -> Result<Answer, NoMemory>
     ensures answer { IfOk result (λ a. a ≡ text_shown shown place (option_copied node.entry)) }
@@ -196,7 +230,8 @@ pub(crate) fn full_place(shown: u64, account: &Account, command: &Command) -> Op
         | Command::Del { .. }
         | Command::Copy { .. }
         | Command::Take { .. }
-        | Command::Publish { .. } => Some(shown),
+        | Command::Publish { .. }
+        | Command::Batch { .. } => Some(shown),
         Command::DraftPut { .. } => Some(account.last),
         Command::Get { .. }
         | Command::List { .. }

@@ -3,10 +3,11 @@ ghost use Rattle.std.specs.Prelude.{◌≡◌, IfOk};
 ghost use Rattle.doc_model.specs.Answers.{is_full, is_ok};
 
 use crate::NoMemory;
+use crate::edits::Edits;
 use doc_tree::{Names, Path, Text};
 
 /// One command of a client. A store with drafts answers each by the definition `answer_at`.
-#[derive(Debug, PartialEq, Eq)]
+#[derive(Debug)]
 pub enum Command {
     /// Gives the node the text, in a new version.
     Put { path: Path, text: Text },
@@ -30,6 +31,8 @@ pub enum Command {
     Take { path: Path },
     /// A new version with the client's draft at the path.
     Publish { path: Path },
+    /// One new version by all of these edits, or none where one of them is refused.
+    Batch { edits: Edits },
 }
 
 /// The answer to a command. `shown` is the number of the version that it speaks of.
@@ -51,7 +54,7 @@ pub enum Reply {
 }
 
 /// A command with its answer. A client's commands are numbered from 1.
-#[derive(Debug, PartialEq, Eq)]
+#[derive(Debug)]
 pub struct Entry {
     pub client: u32,
     pub number: u32,
@@ -88,6 +91,7 @@ impl Drop for Command {
             Command::DraftGet { path: _path } => {}
             Command::Take { path: _path } => {}
             Command::Publish { path: _path } => {}
+            Command::Batch { edits: _edits } => {}
         }
     }
 }
@@ -162,6 +166,9 @@ impl Command {
             Command::DraftGet { path } => Ok(Command::DraftGet { path: path.copy()? }),
             Command::Take { path } => Ok(Command::Take { path: path.copy()? }),
             Command::Publish { path } => Ok(Command::Publish { path: path.copy()? }),
+            Command::Batch { edits } => Ok(Command::Batch {
+                edits: edits.copy()?,
+            }),
         }
     }
 }

@@ -8,11 +8,12 @@
 //! tree. Names, texts, paths and trees are those of doc_tree. How commands and replies are written
 //! as text is left to others, and so is how clients come to agree.
 //!
-//! Reading order: `command`, `log`, `answer`, `store`, `history`, `theorems`, `totals`.
+//! Reading order: `edits`, `command`, `log`, `answer`, `store`, `history`, `theorems`, `totals`.
 #![tactic(auto)]
 
 mod answer;
 mod command;
+mod edits;
 mod history;
 mod log;
 mod store;
@@ -20,6 +21,7 @@ mod theorems;
 mod totals;
 
 pub use crate::command::{Command, Entry, Reply};
+pub use crate::edits::{Edit, Edits};
 pub use crate::history::{is_legal, merge};
 pub use crate::log::Log;
 pub use crate::store::PlainStore;

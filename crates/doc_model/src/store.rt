@@ -16,8 +16,8 @@ ghost use Rattle.doc_model.specs.StoreView.{IsNext};
 
 use crate::NoMemory;
 use crate::answer::{
-    Account, Answer, attached, count_shown, drafted, full_place, names_shown, opening_accounts,
-    refused, taken, text_shown, told,
+    Account, Answer, all_made, attached, count_shown, drafted, full_place, names_shown,
+    opening_accounts, refused, taken, text_shown, told,
 };
 use crate::command::{Command, Entry, Reply};
 use doc_tree::{EditFault, Path, Tree};
@@ -215,6 +215,9 @@ impl PlainStore {
             ),
             Command::Take { path } => taken(shown, now.node(path)),
             Command::Publish { path } => self.committed(now.attach(alloc, path, &account.draft)),
+            Command::Batch { edits } => {
+                self.committed(all_made(alloc, &account.draft, edits.edits(), now))
+            }
         }
     }
 

@@ -1,6 +1,6 @@
 -- Names, texts and paths as bytes: which bytes are one, and which one they are.
--- A name has 1 to 64 letters, digits, `-` and `_`. A text has at most 4,096 characters from the
--- space to the tilde. A path is 1 to 8 names joined by `/`.
+-- A name has 1 to 64 letters, digits, `-` and `_`. A text has at most 4,096 bytes, each a character
+-- from the space to the tilde, a tab or a line feed. A path is 1 to 8 names joined by `/`.
 -- Source: this project's.
 use Rattle.std.specs.Prelude.{ℕ, Bool, List, length, Option, Some, None, ◌&&◌, ◌||◌, ◌==◌, nat_le}
 use Rattle.std.specs.Prelude.{if◌then◌else◌}
@@ -18,9 +18,9 @@ is_name bytes = nat_le 1 (length bytes) && nat_le (length bytes) 64 && list_all 
 abbrev pub name_of : List ℕ → Option (List ℕ)
 name_of bytes = if is_name bytes then Some bytes else None
 
--- the space to the tilde
+-- the space to the tilde, the tab and the line feed
 abbrev pub is_text_byte : ℕ → Bool
-is_text_byte b = nat_le 32 b && nat_le b 126
+is_text_byte b = (nat_le 32 b && nat_le b 126) || (b == 9) || (b == 10)
 
 abbrev pub is_text : List ℕ → Bool
 is_text bytes = nat_le (length bytes) 4096 && list_all is_text_byte bytes

@@ -33,7 +33,8 @@ impl Model for Name {
     ghost invariant = { λ n. (n.len ≤ 64) × IsTrue (is_name (take n.len n.letters)) };
 }
 
-/// What a node of a tree says: 0 to 4,096 characters from the space to the tilde.
+/// What a node of a tree says: 0 to 4,096 bytes, each a character from the space to the tilde, a
+/// tab or a line feed.
 pub struct Text {
     letters: Letters,
 }
@@ -245,7 +246,7 @@ fn has_text_bytes(bytes: &[u8]) -> bool
 fn is_text_byte(byte: u8) -> bool
     ensures { result ≡ is_text_byte byte }
 {
-    matches!(byte, b' '..=b'~')
+    matches!(byte, b'\t' | b'\n' | b' '..=b'~')
 }
 
 // Plain bytes as Rust's text.

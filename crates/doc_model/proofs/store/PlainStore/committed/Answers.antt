@@ -5,7 +5,7 @@ use Rattle.doc_tree.specs.Tree.{DocTree}
 use Rattle.doc_model.specs.declared.answer.Answer.{Answer}
 use Rattle.doc_model.specs.declared.command.Reply.TheVariants as reply
 use Rattle.doc_model.specs.Answers.{Limits, committed}
-use Rattle.doc_model.specs.Store.{Store, shown}
+use Rattle.doc_model.specs.Store.{Store}
 use Rattle.std.proofs.lemmas.Bool.{cond_below}
 use Rattle.doc_model.proofs.store.PlainStore.committed.Goals as goal
 
