@@ -72,7 +72,8 @@ as_written (b ∷ c ∷ rest) text is =
             | true ↦ λ raw g.
                 with_both (b ∷ []) (c ∷ rest) text (Some b) (inside_of (c ∷ rest))
                 (λ x same. let one : b ≡ x = cc in
-                subst (λ (y : ℕ). (escaped y ≡ b ∷ []) × (is_text_byte y ≡ true)) one (raw_back b raw))
+                subst (λ (y : ℕ). (escaped y ≡ b ∷ []) × (is_text_byte y ≡ true)) one
+                (raw_back b raw))
                 (as_written (c ∷ rest)) g
             | false ↦ λ raw g. cc
           ] refl h
@@ -87,7 +88,8 @@ from_quote (b ∷ rest) text is =
     → ((b ∷ rest) ≡ quoted_of text) × (list_all is_text_byte text ≡ true)) [
       | true ↦ λ e h. (
           let is_written = as_written rest text h in
-          (ap (λ (x : ℕ). x ∷ rest) (eqb-true b 34 e) ∙ ap (λ (bs : List ℕ). 34 ∷ bs) is_written.0, is_written.1)
+          let quote = ap (λ (x : ℕ). x ∷ rest) (eqb-true b 34 e) in
+          (quote ∙ ap (λ (bs : List ℕ). 34 ∷ bs) is_written.0, is_written.1)
           )
       | false ↦ λ e h. cc
     ] refl is
