@@ -1,5 +1,5 @@
 //! Scripts and batches from their text, and replies as text.
-use cmd_text::{read_script, reply_line};
+use cmd_text::{Form, read_script, reply_line};
 use doc_model::{Command, Edit, Edits, Log, NoMemory};
 use std::alloc::Global;
 use std::test::Fail;
@@ -67,7 +67,7 @@ pub(crate) fn script_around(
 pub(crate) fn replies(alloc: Global, log: &Log) -> Result<Vec<u8>, NoMemory> {
     let mut text = Vec::new(alloc);
     for entry in log.entries() {
-        let line = reply_line(alloc, &entry.reply)?;
+        let line = reply_line(alloc, &entry.reply, Form::Plain)?;
         text.extend_from_slice(&line)?;
     }
     Ok(text)

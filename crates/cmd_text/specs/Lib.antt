@@ -1,6 +1,11 @@
 pub mod Answers
+pub mod Form
+pub mod Held
 pub mod Line
 pub mod ReplyText
 pub mod Script
+pub mod Second
 pub mod SummaryText
+pub mod Texts
 pub mod Verb
+pub mod Whole

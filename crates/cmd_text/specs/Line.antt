@@ -10,13 +10,17 @@ use Rattle.std.specs.Str.Lines.{strip_carriage_return}
 use Rattle.line_words.specs.Cut.{word_of, rest_of, next_word_of, next_rest_of}
 use Rattle.line_words.specs.Line.{counts, is_plain_byte}
 use Rattle.line_words.specs.Numbers.{digits_of}
+use Rattle.quoted_text.specs.Quoted.{unquoted_of}
 use Rattle.doc_tree.specs.Words.{path_of}
 use Rattle.doc_model.specs.declared.command.Command.{Command}
 use Rattle.doc_model.specs.declared.command.Command.TheVariants as commands
 use Rattle.cmd_text.specs.Verb.{verb_of}
 use Rattle.cmd_text.specs.declared.fault.ScriptKind.{ScriptKind}
 use Rattle.cmd_text.specs.declared.fault.ScriptKind.TheVariants.{BadByte, NoCommand, BadNumber}
-use Rattle.cmd_text.specs.declared.fault.ScriptKind.TheVariants.{BadPath, LongText, Extra}
+use Rattle.cmd_text.specs.declared.fault.ScriptKind.TheVariants.{BadPath, NoQuote, LongText}
+use Rattle.cmd_text.specs.declared.fault.ScriptKind.TheVariants.{Extra}
+use Rattle.cmd_text.specs.declared.form.Form.{Form}
+use Rattle.cmd_text.specs.declared.form.Form.TheVariants.{Plain, Quoted}
 use Rattle.cmd_text.specs.declared.verb.Verb.{Verb}
 use Rattle.cmd_text.specs.declared.verb.Verb.TheVariants as verbs
 
@@ -39,19 +43,24 @@ path_in rest = ok_or (path_of (next_word_of rest)) BadPath
 abbrev pub last_path_in : List ℕ → Result (List (List ℕ)) ScriptKind
 last_path_in rest = and_then (path_in rest) (λ path. at_end (next_rest_of rest) path)
 
--- all that follows the space, which has at most 4,096 bytes
-abbrev pub text_in : List ℕ → Result (List ℕ) ScriptKind
-text_in rest = if nat_le (length (drop 1 rest)) 4096 then Ok (drop 1 rest) else Err LongText
+-- a text of at most 4,096 bytes
+abbrev pub short_text : List ℕ → Result (List ℕ) ScriptKind
+short_text text = if nat_le (length text) 4096 then Ok text else Err LongText
+
+-- the text that is all that follows the space, or whose quoted text that is
+abbrev pub text_in : Form → List ℕ → Result (List ℕ) ScriptKind
+text_in Plain rest = short_text (drop 1 rest)
+text_in Quoted rest = and_then (ok_or (unquoted_of (drop 1 rest)) NoQuote) short_text
 
 -- the number that is the next word, of 1 to 7 digits
 abbrev pub number_in : List ℕ → Result ℕ ScriptKind
 number_in rest = ok_or (digits_of 7 (next_word_of rest)) BadNumber
 
 -- a path, and a text up to the end
-abbrev pub path_and_text_in : List ℕ → Result (List (List ℕ) × List ℕ) ScriptKind
-path_and_text_in rest =
+abbrev pub path_and_text_in : Form → List ℕ → Result (List (List ℕ) × List ℕ) ScriptKind
+path_and_text_in form rest =
     and_then (path_in rest) (λ path.
-    and_then (text_in (next_rest_of rest)) (λ text.
+    and_then (text_in form (next_rest_of rest)) (λ text.
     Ok (path, text)))
 
 -- two paths, and nothing after them
@@ -68,27 +77,30 @@ number_and_path_in rest =
     and_then (last_path_in (next_rest_of rest)) (λ path.
     Ok (number, path)))
 
--- what each command has behind its first word
-abbrev pub arguments_in : Verb → List ℕ → Result Command ScriptKind
-arguments_in verbs.Put rest = and_then (path_and_text_in rest) (λ p. Ok (commands.Put p.0 p.1))
-arguments_in verbs.Del rest = and_then (last_path_in rest) (λ path. Ok (commands.Del path))
-arguments_in verbs.Copy rest = and_then (two_paths_in rest) (λ p. Ok (commands.Copy p.0 p.1))
-arguments_in verbs.Get rest = and_then (last_path_in rest) (λ path. Ok (commands.Get path))
-arguments_in verbs.List rest = and_then (last_path_in rest) (λ path. Ok (commands.List path))
-arguments_in verbs.Size rest = and_then (last_path_in rest) (λ path. Ok (commands.Size path))
-arguments_in verbs.Old rest = and_then (number_and_path_in rest) (λ p. Ok (commands.Old p.0 p.1))
-arguments_in verbs.DraftPut rest =
-    and_then (path_and_text_in rest) (λ p. Ok (commands.DraftPut p.0 p.1))
-arguments_in verbs.DraftGet rest =
+-- what each command has behind its first word, with its text in this form
+abbrev pub arguments_in : Form → Verb → List ℕ → Result Command ScriptKind
+arguments_in form verbs.Put rest =
+    and_then (path_and_text_in form rest) (λ p. Ok (commands.Put p.0 p.1))
+arguments_in form verbs.Del rest = and_then (last_path_in rest) (λ path. Ok (commands.Del path))
+arguments_in form verbs.Copy rest = and_then (two_paths_in rest) (λ p. Ok (commands.Copy p.0 p.1))
+arguments_in form verbs.Get rest = and_then (last_path_in rest) (λ path. Ok (commands.Get path))
+arguments_in form verbs.List rest = and_then (last_path_in rest) (λ path. Ok (commands.List path))
+arguments_in form verbs.Size rest = and_then (last_path_in rest) (λ path. Ok (commands.Size path))
+arguments_in form verbs.Old rest =
+    and_then (number_and_path_in rest) (λ p. Ok (commands.Old p.0 p.1))
+arguments_in form verbs.DraftPut rest =
+    and_then (path_and_text_in form rest) (λ p. Ok (commands.DraftPut p.0 p.1))
+arguments_in form verbs.DraftGet rest =
     and_then (last_path_in rest) (λ path. Ok (commands.DraftGet path))
-arguments_in verbs.Take rest = and_then (last_path_in rest) (λ path. Ok (commands.Take path))
-arguments_in verbs.Publish rest = and_then (last_path_in rest) (λ path. Ok (commands.Publish path))
+arguments_in form verbs.Take rest = and_then (last_path_in rest) (λ path. Ok (commands.Take path))
+arguments_in form verbs.Publish rest =
+    and_then (last_path_in rest) (λ path. Ok (commands.Publish path))
 
 -- the command of a line that holds one
 abbrev pub command_of : List ℕ → Result Command ScriptKind
 command_of line =
     and_then (ok_or (verb_of (word_of line)) NoCommand) (λ verb.
-    arguments_in verb (rest_of line))
+    arguments_in Plain verb (rest_of line))
 
 -- the reading of a line without its end
 abbrev pub bare_reading_of : List ℕ → Result (Option Command) ScriptKind

@@ -1,10 +1,10 @@
--- A script: the list of commands that a file's bytes are, or its first faulty line.
+-- A script of version 1: the list of commands that a file's bytes are, or its first faulty line.
 --
 -- Each line ends with a line feed, which the last may lack. Lines are numbered from 1, those
 -- without a command too.
 -- Source: this project's own.
-use Rattle.std.specs.Prelude.{ℕ, ◌+◌, List, [], ◌∷◌, ◌==◌, Option, Some, None, Result, Ok, Err}
-use Rattle.std.specs.List.{slice_split}
+use Rattle.std.specs.Prelude.{ℕ, ◌+◌, List, [], ◌∷◌, Option, Some, None, Result, Ok, Err}
+use Rattle.line_words.specs.Lines.{lines_of}
 use Rattle.doc_model.specs.declared.command.Command.{Command}
 use Rattle.cmd_text.specs.Line.{reading_of}
 use Rattle.cmd_text.specs.declared.fault.ScriptFault.{ScriptFault}
@@ -29,10 +29,6 @@ commands_from number [] = Ok []
 commands_from number (line ∷ lines) =
     with_line number (reading_of line) (commands_from (number + 1) lines)
 
--- the parts between the line feeds
-abbrev pub lines_of : List ℕ → List (List ℕ)
-lines_of bytes = slice_split (λ byte. byte == 10) bytes
-
 -- the script
-abbrev pub script_of : List ℕ → Result (List Command) ScriptFault
-script_of bytes = commands_from 1 (lines_of bytes)
+abbrev pub first_script_of : List ℕ → Result (List Command) ScriptFault
+first_script_of bytes = commands_from 1 (lines_of bytes)

@@ -4,6 +4,7 @@ use Rattle.std.specs.Prelude.{ℕ, List, ◌++◌, codes, decimal}
 use Rattle.doc_model.specs.declared.command.Entry.{Entry}
 use Rattle.doc_model.specs.declared.totals.Totals.{Totals}
 use Rattle.cmd_text.specs.ReplyText.{reply_text_of}
+use Rattle.cmd_text.specs.declared.form.Form.TheVariants.{Plain}
 
 -- the line of an entry: its place, its client, its number, and the line of its reply
 abbrev pub history_text_of : Entry → List ℕ
@@ -11,7 +12,7 @@ history_text_of entry =
     decimal entry.place ++ codes " "
     ++ decimal entry.client ++ codes " "
     ++ decimal entry.number ++ codes " "
-    ++ reply_text_of entry.reply
+    ++ reply_text_of Plain entry.reply
 
 -- the line of a total: what it counts, and how many
 abbrev pub total_text_of : List ℕ → ℕ → List ℕ

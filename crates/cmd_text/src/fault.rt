@@ -7,21 +7,28 @@ use doc_model::NoMemory;
 use std::alloc::AllocFailed;
 
 /// What is at fault in a line of a script. Where several faults stand in one line, the first of
-/// this list counts.
+/// this list counts. Those of quotes and batches stand in scripts of version 2 alone.
 #[derive(Clone, Copy, Debug, PartialEq, Eq)]
 pub enum ScriptKind {
     /// a byte that is no plain character
     BadByte,
     /// the first word is no command
     NoCommand,
+    /// `commit` outside a batch, or inside one what is neither an edit nor `commit`; or a `begin`
+    /// whose batch does not end
+    NoBatch,
     /// a number is missing, or is not 1 to 7 digits
     BadNumber,
     /// a path is missing, or is no path
     BadPath,
+    /// what follows the path is no quoted text that ends the line
+    NoQuote,
     /// a text above 4,096 bytes
     LongText,
     /// something follows the last word
     Extra,
+    /// an edit behind the thousandth of its batch
+    LongBatch,
 }
 
 /// The first faulty line of a script. Lines are numbered from 1.

@@ -1,18 +1,23 @@
 //! One line of a script.
 ghost use Rattle.cmd_text.specs.Answers.{Gives};
-ghost use Rattle.cmd_text.specs.Line.{arguments_in, command_of, last_path_in, number_in};
-ghost use Rattle.cmd_text.specs.Line.{path_and_text_in, path_in, reading_of, text_in};
+ghost use Rattle.cmd_text.specs.Line.{and_then, arguments_in, command_of, last_path_in, number_in};
+ghost use Rattle.cmd_text.specs.Line.{path_and_text_in, path_in, reading_of, short_text, text_in};
+ghost use Rattle.cmd_text.specs.declared.fault.ScriptKind.TheVariants.{NoQuote};
+ghost use Rattle.doc_tree.specs.Words.{is_text_byte};
 ghost use Rattle.line_words.specs.Line.{is_plain_byte};
+ghost use Rattle.quoted_text.specs.Quoted.{unquoted_of};
 ghost use Rattle.std.specs.List.{list_all};
-ghost use Rattle.std.specs.Prelude.{IsTrue};
+ghost use Rattle.std.specs.Prelude.{IsTrue, ok_or};
 
 use crate::fault::{LineError, ScriptKind};
+use crate::form::Form;
 use crate::recent_paths::RecentPaths;
 use crate::verb::Verb;
 use doc_model::{Command, Path, Text};
 use line_words::{
     after_space, counts, first_word, is_plain, next_rest, next_word, read_digits, without_return,
 };
+use quoted_text::read_quoted;
 use std::alloc::Global;
 
 /// The command that a line holds, if it holds one. The line comes without its line feed.
@@ -40,26 +45,28 @@ fn read_command(alloc: Global, paths: &mut RecentPaths, line: &[u8]) -> Result<C
     let (word, rest) = first_word(line);
     match Verb::read(word) {
         None => Err(LineError::Fault(ScriptKind::NoCommand)),
-        Some(verb) => read_arguments(alloc, paths, verb, rest),
+        Some(verb) => read_arguments(alloc, paths, Form::Plain, verb, rest),
     }
 }
 
-fn read_arguments(
+/// What a command has behind its first word.
+pub(crate) fn read_arguments(
     alloc: Global,
     paths: &mut RecentPaths,
+    form: Form,
     verb: Verb,
     rest: &[u8],
 ) -> Result<Command, LineError>
     requires { IsTrue (list_all is_plain_byte rest.now) }
-    ensures { Gives result (arguments_in verb rest.now) }
+    ensures { Gives result (arguments_in form verb rest.now) }
 {
     match verb {
         Verb::Put => {
-            let (path, text) = read_path_and_text(alloc, paths, rest)?;
+            let (path, text) = read_path_and_text(alloc, paths, form, rest)?;
             Ok(Command::Put { path, text })
         }
         Verb::DraftPut => {
-            let (path, text) = read_path_and_text(alloc, paths, rest)?;
+            let (path, text) = read_path_and_text(alloc, paths, form, rest)?;
             Ok(Command::DraftPut { path, text })
         }
         Verb::Copy => {
@@ -99,13 +106,14 @@ fn read_arguments(
 fn read_path_and_text(
     alloc: Global,
     paths: &mut RecentPaths,
+    form: Form,
     rest: &[u8],
 ) -> Result<(Path, Text), LineError>
     requires { IsTrue (list_all is_plain_byte rest.now) }
-    ensures { Gives result (path_and_text_in rest.now) }
+    ensures { Gives result (path_and_text_in form rest.now) }
 {
     let path = read_path(alloc, paths, rest)?;
-    let text = read_text(alloc, next_rest(rest))?;
+    let text = read_text(alloc, form, next_rest(rest))?;
     Ok((path, text))
 }
 
@@ -129,11 +137,31 @@ fn read_last_path(alloc: Global, paths: &mut RecentPaths, rest: &[u8]) -> Result
     Ok(path)
 }
 
-fn read_text(alloc: Global, rest: &[u8]) -> Result<Text, LineError>
+fn read_text(alloc: Global, form: Form, rest: &[u8]) -> Result<Text, LineError>
     requires { IsTrue (list_all is_plain_byte rest.now) }
-    ensures { Gives result (text_in rest.now) }
+    ensures { Gives result (text_in form rest.now) }
 {
-    match Text::read(alloc, after_space(rest))? {
+    match form {
+        Form::Plain => read_short(alloc, after_space(rest)),
+        Form::Quoted => read_quotes(alloc, after_space(rest)),
+    }
+}
+
+// The text between the quotes, however long: what is longer than may be is told apart behind that.
+fn read_quotes(alloc: Global, bytes: &[u8]) -> Result<Text, LineError>
+    ensures { Gives result (and_then (ok_or (unquoted_of bytes.now) NoQuote) short_text) }
+{
+    match read_quoted(alloc, bytes)? {
+        Some(text) => read_short(alloc, &text),
+        None => Err(LineError::Fault(ScriptKind::NoQuote)),
+    }
+}
+
+fn read_short(alloc: Global, bytes: &[u8]) -> Result<Text, LineError>
+    requires { IsTrue (list_all is_text_byte bytes.now) }
+    ensures { Gives result (short_text bytes.now) }
+{
+    match Text::read(alloc, bytes)? {
         Some(text) => Ok(text),
         None => Err(LineError::Fault(ScriptKind::LongText)),
     }

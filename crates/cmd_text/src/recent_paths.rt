@@ -8,6 +8,14 @@ ghost use Rattle.std.specs.Prelude.{◌≡◌, IfOk};
 use doc_model::{NoMemory, Path};
 use std::alloc::Global;
 
+// So many paths are at hand at most while a script is read.
+const MOST_PATHS: usize = 16_384;
+
+/// As many as a script of this length may well have.
+pub(crate) fn paths_for(bytes: &[u8]) -> usize {
+    (bytes.len() / 8).min(MOST_PATHS)
+}
+
 /// The paths that are at hand, each at the place that its bytes have.
 #[derive(Drop)]
 pub(crate) struct RecentPaths {

@@ -1,8 +1,10 @@
 //! The lines that are written of replies.
-ghost use Rattle.cmd_text.specs.ReplyText.{heading_of, reply_text_of, spaced};
+ghost use Rattle.cmd_text.specs.ReplyText.{heading_of, reply_text_of, spaced, value_text_of};
 ghost use Rattle.std.specs.Prelude.{IfOk, string_bytes, ◌≡◌};
 
-use doc_model::{Names, NoMemory, Reply};
+use crate::form::Form;
+use crate::texts::shown_text;
+use doc_model::{Names, NoMemory, Reply, Text};
 use std::alloc::Global;
 
 /// The line above a client's replies.
@@ -12,17 +14,14 @@ pub fn heading_line(alloc: Global, client: u32) -> Result<Vec<u8>, NoMemory>
     Ok(format!(in alloc; "client {client}\n")?.into_bytes())
 }
 
-/// The line of a reply.
-pub fn reply_line(alloc: Global, reply: &Reply) -> Result<Vec<u8>, NoMemory>
-    ensures line { IfOk result (λ line. line.items ≡ reply_text_of reply.now) }
+/// The line of a reply, with its text in this form.
+pub fn reply_line(alloc: Global, reply: &Reply, form: Form) -> Result<Vec<u8>, NoMemory>
+    ensures line { IfOk result (λ line. line.items ≡ reply_text_of form reply.now) }
 {
     let line = match reply {
         Reply::Committed { shown } => format!(in alloc; "ok {shown}\n"),
         Reply::Drafted { shown } => format!(in alloc; "drafted {shown}\n"),
-        Reply::Val { shown, text } => {
-            let text = text.as_str();
-            format!(in alloc; "val {shown} {text}\n")
-        }
+        Reply::Val { shown, text } => return value_line(alloc, *shown, text, form),
         Reply::Names { shown, names } => {
             let names = spaced(alloc, names)?;
             format!(in alloc; "names {shown}{names}\n")
@@ -38,6 +37,15 @@ pub fn reply_line(alloc: Global, reply: &Reply) -> Result<Vec<u8>, NoMemory>
         Reply::Full { shown } => format!(in alloc; "full {shown}\n"),
     };
     Ok(line?.into_bytes())
+}
+
+fn value_line(alloc: Global, shown: u64, text: &Text, form: Form) -> Result<Vec<u8>, NoMemory>
+    ensures { IfOk result (λ line. line.items ≡ value_text_of form shown text.now) }
+{
+    let mut line = format!(in alloc; "val {shown} ")?.into_bytes();
+    line.extend_from_slice(&shown_text(alloc, text, form)?)?;
+    line.push(b'\n')?;
+    Ok(line)
 }
 
 fn spaced(alloc: Global, names: &Names) -> Result<String, NoMemory>

@@ -1,28 +1,36 @@
 //! A whole script.
 ghost use Rattle.cmd_text.specs.Answers.{GivesAt, Reads};
+ghost use Rattle.cmd_text.specs.Form.{is_second};
 ghost use Rattle.cmd_text.specs.Line.{reading_of};
-ghost use Rattle.cmd_text.specs.Script.{script_of};
-ghost use Rattle.std.specs.Prelude.{length, ◌-◌, ◌<◌, ◌^◌};
+ghost use Rattle.cmd_text.specs.Script.{first_script_of};
+ghost use Rattle.cmd_text.specs.Whole.{script_of};
+ghost use Rattle.std.specs.Prelude.{false, length, ◌-◌, ◌<◌, ◌≡◌, ◌^◌};
 
 use crate::fault::{LineError, ScriptError, ScriptFault};
+use crate::form::is_second;
 use crate::line::read_line;
-use crate::recent_paths::RecentPaths;
+use crate::recent_paths::{RecentPaths, paths_for};
+use crate::second::read_second_script;
 use doc_model::Command;
 use std::alloc::Global;
-
-// So many paths are at hand at most while a script is read.
-const MOST_PATHS: usize = 16_384;
-
-// As many as a script of this length may well have.
-fn paths_for(bytes: &[u8]) -> usize {
-    (bytes.len() / 8).min(MOST_PATHS)
-}
 
 /// The commands of a script, or its first faulty line. The length has its bound so that the number
 /// of every line fits.
 pub fn read_script(alloc: Global, bytes: &[u8]) -> Result<Vec<Command>, ScriptError>
     requires { length bytes.now < 2 ^ 32 - 1 }
     ensures script { Reads result (script_of bytes.now) }
+    ensures first { is_second bytes.now ≡ false → Reads result (first_script_of bytes.now) }
+{
+    if is_second(bytes) {
+        read_second_script(alloc, bytes)
+    } else {
+        read_first_script(alloc, bytes)
+    }
+}
+
+fn read_first_script(alloc: Global, bytes: &[u8]) -> Result<Vec<Command>, ScriptError>
+    requires { length bytes.now < 2 ^ 32 - 1 }
+    ensures script { Reads result (first_script_of bytes.now) }
 {
     let mut commands = Vec::new(alloc);
     let mut paths = RecentPaths::with_room(alloc, paths_for(bytes))?;

@@ -2,6 +2,7 @@
 ghost use Rattle.cmd_text.specs.SummaryText.{history_text_of, stats_text_of, total_text_of};
 ghost use Rattle.std.specs.Prelude.{IfOk, OnOk, ◌++◌, ◌≡◌};
 
+use crate::form::Form;
 use crate::reply::reply_line;
 use doc_model::{Entry, NoMemory, Totals};
 use std::alloc::Global;
@@ -18,7 +19,7 @@ pub fn history_line(alloc: Global, entry: &Entry) -> Result<Vec<u8>, NoMemory>
         ..
     } = entry;
     let mut line = format!(in alloc; "{place} {client} {number} ")?.into_bytes();
-    line.extend_from_slice(&reply_line(alloc, reply)?)?;
+    line.extend_from_slice(&reply_line(alloc, reply, Form::Plain)?)?;
     Ok(line)
 }
 

@@ -1,5 +1,5 @@
 //! Decimal numbers.
-ghost use Rattle.line_words.specs.Numbers.{digits_of};
+ghost use Rattle.line_words.specs.Numbers.{decimal_of, digits_of, is_shortest};
 ghost use Rattle.std.specs.Char.{is_ascii_digit};
 ghost use Rattle.std.specs.List.{list_all};
 ghost use Rattle.std.specs.Prelude.{IfSome, IsTrue, length, ◌≡◌, ◌≤◌, ◌<◌, ◌^◌};
@@ -16,6 +16,25 @@ pub fn read_digits(word: &[u8], most: usize) -> Option<u64>
         return None;
     }
     Some(value_of_digits(word))
+}
+
+/// The number that a word of at most `most` digits is, in the one way in which the program writes
+/// it: with no zeros before it.
+pub fn read_decimal(word: &[u8], most: usize) -> Option<u64>
+    requires { most ≤ 19 }
+    ensures number { result ≡ decimal_of most word.now }
+    ensures small { IfSome result (λ number. number < 10 ^ most) }
+{
+    if !is_shortest(word) {
+        return None;
+    }
+    read_digits(word, most)
+}
+
+fn is_shortest(word: &[u8]) -> bool
+    ensures { result ≡ is_shortest word.now }
+{
+    !matches!(word, [b'0', _, ..])
 }
 
 fn are_digits(word: &[u8]) -> bool

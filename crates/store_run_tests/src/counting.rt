@@ -2,7 +2,7 @@
 ghost use Rattle.std.specs.Prelude.{◌≤◌};
 
 use crate::scripts::{alike, repeated};
-use cmd_text::reply_line;
+use cmd_text::{Form, reply_line};
 use doc_model::{Log, NoMemory, Totals};
 use outside::{Gate, OpenGate};
 use std::alloc::Global;
@@ -78,7 +78,7 @@ fn replies(alloc: Global, logs: &[Log]) -> Result<Vec<u8>, NoMemory> {
 fn add_replies(replies: &mut Vec<u8>, log: &Log) -> Result<(), NoMemory> {
     let alloc = *replies.allocator();
     for entry in log.entries() {
-        let line = reply_line(alloc, &entry.reply)?;
+        let line = reply_line(alloc, &entry.reply, Form::Plain)?;
         replies.extend_from_slice(&line)?;
     }
     Ok(())

@@ -1,7 +1,7 @@
-//! What no clause says of line_words, cmd_text and script_generator: scripts, replies and lines whose
-//! readings and texts were worked out by hand.
+//! What no clause says of line_words, quoted_text, cmd_text and script_generator: scripts, replies
+//! and lines whose readings and texts were worked out by hand.
 //!
-//! Reading order: `made`, `lines`, `scripts`, `summaries`, `generated`.
+//! Reading order: `made`, `lines`, `quotes`, `scripts`, `second_scripts`, `summaries`, `generated`.
 #![tactic(auto)]
 
 #[cfg(test)]
@@ -11,6 +11,10 @@ mod lines;
 #[cfg(test)]
 mod made;
 #[cfg(test)]
+mod quotes;
+#[cfg(test)]
 mod scripts;
+#[cfg(test)]
+mod second_scripts;
 #[cfg(test)]
 mod summaries;

@@ -20,3 +20,22 @@ fn a_number_has_its_digits_and_no_more(rt: HostRuntime) {
     assert_eq!(rt; read_digits(b"", 7), None);
     assert_eq!(rt; read_digits(b"+1", 7), None);
 }
+
+#[test]
+fn a_text_falls_into_its_lines(rt: HostRuntime) {
+    assert_eq!(rt; cut_line(b"a\n\nb"), (b"a".as_slice(), Some(b"\nb".as_slice())));
+    assert_eq!(rt; cut_line(b"\nb"), (b"".as_slice(), Some(b"b".as_slice())));
+    assert_eq!(rt; cut_line(b"b\r"), (b"b\r".as_slice(), None));
+    assert_eq!(rt; cut_line(b"b\n"), (b"b".as_slice(), Some(b"".as_slice())));
+    assert_eq!(rt; cut_line(b""), (b"".as_slice(), None));
+}
+
+#[test]
+fn a_decimal_has_no_zeros_before_it(rt: HostRuntime) {
+    assert_eq!(rt; read_decimal(b"0", 7), Some(0));
+    assert_eq!(rt; read_decimal(b"9999", 7), Some(9999));
+    assert_eq!(rt; read_decimal(b"09", 7), None);
+    assert_eq!(rt; read_decimal(b"00", 7), None);
+    assert_eq!(rt; read_decimal(b"12345678", 7), None);
+    assert_eq!(rt; read_decimal(b"", 7), None);
+}

@@ -17,34 +17,25 @@ fn fault_of(alloc: Global, bytes: &[u8]) -> Option<(u32, ScriptKind)> {
 }
 
 fn is_put(command: &Command, alloc: Global, to: &str, word: &str) -> Result<bool, Unmade> {
-    let put = Command::Put {
-        path: path(alloc, to)?,
-        text: text(alloc, word)?,
-    };
-    Ok(*command == put)
+    let to = path(alloc, to)?;
+    let word = text(alloc, word)?;
+    Ok(matches!(command, Command::Put { path, text } if *path == to && *text == word))
 }
 
 fn is_get(command: &Command, alloc: Global, from: &str) -> Result<bool, Unmade> {
-    let get = Command::Get {
-        path: path(alloc, from)?,
-    };
-    Ok(*command == get)
+    let from = path(alloc, from)?;
+    Ok(matches!(command, Command::Get { path } if *path == from))
 }
 
 fn is_copy(command: &Command, alloc: Global, from: &str, to: &str) -> Result<bool, Unmade> {
-    let copy = Command::Copy {
-        from: path(alloc, from)?,
-        to: path(alloc, to)?,
-    };
-    Ok(*command == copy)
+    let source = path(alloc, from)?;
+    let target = path(alloc, to)?;
+    Ok(matches!(command, Command::Copy { from, to } if *from == source && *to == target))
 }
 
 fn is_old(command: &Command, alloc: Global, back: u32, at: &str) -> Result<bool, Unmade> {
-    let old = Command::Old {
-        back,
-        path: path(alloc, at)?,
-    };
-    Ok(*command == old)
+    let at = path(alloc, at)?;
+    Ok(matches!(command, Command::Old { back: of, path } if *of == back && *path == at))
 }
 
 /// Whether the first of three commands is the put of a text, and the last is a get.
@@ -108,7 +99,7 @@ fn lines_without_a_command_are_counted(rt: HostRuntime) {
 }
 
 /// Lines with their faults.
-const FAULTS: [(&str, ScriptKind); 37] = [
+const FAULTS: [(&str, ScriptKind); 39] = [
     ("get a\x7f", ScriptKind::BadByte),
     ("gut a\t", ScriptKind::BadByte),
     ("put a\t", ScriptKind::BadByte),
@@ -146,6 +137,8 @@ const FAULTS: [(&str, ScriptKind); 37] = [
     ("dput", ScriptKind::BadPath),
     ("dput a. b", ScriptKind::BadPath),
     ("get a/b/c/d/e/f/g/h/i", ScriptKind::BadPath),
+    ("begin", ScriptKind::NoCommand),
+    ("commit", ScriptKind::NoCommand),
 ];
 
 /// The first of the lines that has not its fault.
@@ -231,7 +224,7 @@ fn a_text_has_at_most_4096_bytes(rt: HostRuntime) -> Result<(), Fail> {
 }
 
 fn has_line(alloc: Global, reply: &Reply, line: &str) -> Result<bool, NoMemory> {
-    let written = reply_line(alloc, reply)?;
+    let written = reply_line(alloc, reply, Form::Plain)?;
     Ok(written.as_slice() == line.as_bytes())
 }
 
@@ -317,7 +310,12 @@ fn a_plain_reply_has_its_line(rt: HostRuntime) -> Result<(), Fail> {
 }
 
 /// Texts with the lines of the replies that show them.
-const VALUES: [(&str, &str); 2] = [("hello you", "val 5 hello you\n"), ("", "val 5 \n")];
+const VALUES: [(&str, &str); 4] = [
+    ("hello you", "val 5 hello you\n"),
+    ("", "val 5 \n"),
+    ("\t\"\\\n", "val 5 \\t\"\\\\n\n"),
+    ("\\t", "val 5 \\t\n"),
+];
 
 /// The first wrong line of replies with a text.
 fn first_wrong_of_values(alloc: Global) -> Result<Option<&'static str>, Unmade> {

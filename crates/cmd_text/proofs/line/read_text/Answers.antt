@@ -1,38 +1,14 @@
-use Rattle.std.proofs.Common.{◌≡◌, ℕ, Bool, true, false, List, Some, None, Ok, Err, ap, ◌∙◌, sym, Option, Result}
-use Rattle.std.proofs.lemmas.Bool.{false≢true}
-use Rattle.std.specs.Prelude.{if◌then◌else◌, ◌&&◌, drop}
+-- Plain bytes are those of a text.
+use Rattle.std.proofs.Common.{◌≡◌, ℕ, true, List, drop, sym, subst}
+use Rattle.std.specs.List.{list_all}
+use Rattle.doc_tree.specs.Words.{is_text_byte}
 use Rattle.line_words.specs.Line.{is_plain_byte}
-use Rattle.doc_tree.specs.Words.{text_of}
-use Rattle.cmd_text.specs.declared.fault.ScriptKind.{ScriptKind}
-use Rattle.cmd_text.specs.declared.fault.ScriptKind.TheVariants.{LongText}
 use Rattle.cmd_text.proofs.Plain.{list_all-drop}
+use Rattle.cmd_text.proofs.Quoting.{plain_text}
 use Rattle.cmd_text.proofs.line.read_text.Goals as goal
 
-abbrev read_as : Bool → List ℕ → Result (List ℕ) ScriptKind
-read_as short bytes = if short then Ok bytes else Err LongText
-
-abbrev text_as : Bool → Bool → List ℕ → Option (List ℕ)
-text_as short plain bytes = if short && plain then Some bytes else None
-
-short_text : (short plain : Bool) (bytes text : List ℕ) → plain ≡ true
-    → text_as short plain bytes ≡ Some text → read_as short bytes ≡ Ok text
-short_text true true bytes text is from = cc
-short_text true false bytes text is from = absurd (false≢true is)
-short_text false true bytes text is from = cc
-short_text false false bytes text is from = cc
-
-long_text : (short plain : Bool) (bytes : List ℕ) → plain ≡ true
-    → text_as short plain bytes ≡ None → read_as short bytes ≡ Err LongText
-long_text true true bytes is from = cc
-long_text true false bytes is from = absurd (false≢true is)
-long_text false plain bytes is from = cc
-
-pub returns-in-Some : goal.returns-in-Some
-returns-in-Some c =
-    short_text _ _ (drop 1 c.args.rest.now) c.in-Some.text (list_all-drop is_plain_byte 1 c.args.rest.now c.requires)
-    (ap text_of (sym c.after_space.ensures) ∙ sym c.in_ok-text.ensures ∙ c.in-Some.is)
-
-pub returns-in-None : goal.returns-in-None
-returns-in-None c =
-    long_text _ _ (drop 1 c.args.rest.now) (list_all-drop is_plain_byte 1 c.args.rest.now c.requires)
-    (ap text_of (sym c.after_space.ensures) ∙ sym c.in_ok-text.ensures ∙ c.in-None.is)
+pub read_short-requires : goal.read_short-requires
+read_short-requires c =
+    let rest = c.args.rest.now in
+    subst (λ (bytes : List ℕ). list_all is_text_byte bytes ≡ true) (sym c.after_space.ensures)
+    (plain_text (drop 1 rest) (list_all-drop is_plain_byte 1 rest c.requires))

@@ -4,7 +4,7 @@ use Rattle.std.specs.Result.{IfOk}
 use Rattle.std.proofs.lemmas.Result.{IfOk-at_ok}
 use Rattle.cmd_text.specs.ReplyText.{reply_text_of, spaced}
 use Rattle.cmd_text.proofs.reply.reply_line.Goals as goal
-use Rattle.cmd_text.proofs.reply.reply_line.Goals.{in-Committed, in-Drafted, in-Val}
+use Rattle.cmd_text.proofs.reply.reply_line.Goals.{in-Committed, in-Drafted}
 use Rattle.cmd_text.proofs.reply.reply_line.Goals.{in-Names+in_ok-names-in-Names, in-Count}
 use Rattle.cmd_text.proofs.reply.reply_line.Goals.{in-Absent, in-Gone, in-Before, in-Many, in-Deep}
 use Rattle.cmd_text.proofs.reply.reply_line.Goals.{in-Big, in-Worn, in-Full}
@@ -33,50 +33,44 @@ returns c =
       line = elim c.match-reply.branch [
         | in-Committed w ↦
             made _ _ _ _ _ _ are c.in_ok-line.was w.line-is w.format-line.ensures.ok
-            (ap reply_text_of (sym w.in-Committed.is))
+            (ap (reply_text_of c.args.form) (sym w.in-Committed.is))
         | in-Drafted w ↦
             made _ _ _ _ _ _ are c.in_ok-line.was w.line-is w.format-line-in-Drafted.ensures.ok
-            (ap reply_text_of (sym w.in-Drafted.is))
-        | in-Val w ↦
-            made _ _ _ _ _ _ are c.in_ok-line.was w.line-is w.format.ensures.ok
-            (ap (λ t. codes "val " ++ (decimal w.in-Val.shown ++ (32 ∷ (t ++ (10 ∷ [])))))
-            w.as_str-text.ensures.bytes
-            ∙ spaced_out (codes "val ") (decimal w.in-Val.shown) w.in-Val.text
-            ∙ ap reply_text_of (sym w.in-Val.is))
+            (ap (reply_text_of c.args.form) (sym w.in-Drafted.is))
         | in-Names+in_ok-names-in-Names w ↦
-            made _ _ _ _ _ _ are c.in_ok-line.was w.line-is w.format-in-Names.ensures.ok
+            made _ _ _ _ _ _ are c.in_ok-line.was w.line-is w.format.ensures.ok
             (ap (λ n. codes "names " ++ (decimal w.in-Names.shown ++ (n ++ (10 ∷ []))))
             w.in_ok-names-in-Names.ensures
             ∙ joined (codes "names ") (decimal w.in-Names.shown) (spaced w.in-Names.names)
-            ∙ ap reply_text_of (sym w.in-Names.is))
+            ∙ ap (reply_text_of c.args.form) (sym w.in-Names.is))
         | in-Count w ↦
             made _ _ _ _ _ _ are c.in_ok-line.was w.line-is w.format-line-in-Count.ensures.ok
             (spaced_out (codes "num ") (decimal w.in-Count.shown) (decimal w.in-Count.count)
-            ∙ ap reply_text_of (sym w.in-Count.is))
+            ∙ ap (reply_text_of c.args.form) (sym w.in-Count.is))
         | in-Absent w ↦
             made _ _ _ _ _ _ are c.in_ok-line.was w.line-is w.format-line-in-Absent.ensures.ok
-            (ap reply_text_of (sym w.in-Absent.is))
+            (ap (reply_text_of c.args.form) (sym w.in-Absent.is))
         | in-Gone w ↦
             made _ _ _ _ _ _ are c.in_ok-line.was w.line-is w.format-line-in-Gone.ensures.ok
             (spaced_out (codes "gone ") (decimal w.in-Gone.shown) (decimal w.in-Gone.wanted)
-            ∙ ap reply_text_of (sym w.in-Gone.is))
+            ∙ ap (reply_text_of c.args.form) (sym w.in-Gone.is))
         | in-Before w ↦
             made _ _ _ _ _ _ are c.in_ok-line.was w.line-is w.format-line-in-Before.ensures.ok
-            (ap reply_text_of (sym w.in-Before.is))
+            (ap (reply_text_of c.args.form) (sym w.in-Before.is))
         | in-Many w ↦
             made _ _ _ _ _ _ are c.in_ok-line.was w.line-is w.format-line-in-Many.ensures.ok
-            (ap reply_text_of (sym w.in-Many.is))
+            (ap (reply_text_of c.args.form) (sym w.in-Many.is))
         | in-Deep w ↦
             made _ _ _ _ _ _ are c.in_ok-line.was w.line-is w.format-line-in-Deep.ensures.ok
-            (ap reply_text_of (sym w.in-Deep.is))
+            (ap (reply_text_of c.args.form) (sym w.in-Deep.is))
         | in-Big w ↦
             made _ _ _ _ _ _ are c.in_ok-line.was w.line-is w.format-line-in-Big.ensures.ok
-            (ap reply_text_of (sym w.in-Big.is))
+            (ap (reply_text_of c.args.form) (sym w.in-Big.is))
         | in-Worn w ↦
             made _ _ _ _ _ _ are c.in_ok-line.was w.line-is w.format-line-in-Worn.ensures.ok
-            (ap reply_text_of (sym w.in-Worn.is))
+            (ap (reply_text_of c.args.form) (sym w.in-Worn.is))
         | in-Full w ↦
             made _ _ _ _ _ _ are c.in_ok-line.was w.line-is w.format-line-in-Full.ensures.ok
-            (ap reply_text_of (sym w.in-Full.is))
+            (ap (reply_text_of c.args.form) (sym w.in-Full.is))
       ];
     }

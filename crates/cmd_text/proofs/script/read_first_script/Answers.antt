@@ -6,7 +6,7 @@ use Rattle.std.proofs.lemmas.List.{length_push}
 use Rattle.cmd_text.specs.Answers.{GivesAt}
 use Rattle.cmd_text.specs.Line.{reading_of}
 use Rattle.cmd_text.proofs.Lines.{goes_past, goes_on, stops, ends}
-use Rattle.cmd_text.proofs.script.read_script.Goals as goal
+use Rattle.cmd_text.proofs.script.read_first_script.Goals as goal
 
 pub loop-line-preserved-in-Ok-None : goal.loop-line-preserved-in-Ok-None
 loop-line-preserved-in-Ok-None c =

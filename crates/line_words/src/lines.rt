@@ -1,0 +1,23 @@
+//! A text line by line.
+ghost use Rattle.line_words.specs.Lines.{lines_of};
+ghost use Rattle.std.specs.Prelude.{IfSome, MatchOption, Some, [], length, position, ◌++◌};
+ghost use Rattle.std.specs.Prelude.{◌==◌, ◌≡◌, ◌<◌, ◌∷◌};
+
+/// The bytes up to the first line feed and, where there is one, those behind it.
+pub fn cut_line(bytes: &[u8]) -> (&[u8], Option<&[u8]>)
+    ensures lines { MatchOption result.1 (lines_of bytes.now ≡ result.0.now ∷ []) (λ more. lines_of bytes.now ≡ result.0.now ∷ lines_of more.now) }
+    ensures whole { MatchOption result.1 (bytes.now ≡ result.0.now) (λ more. bytes.now ≡ result.0.now ++ 10 ∷ more.now) }
+    ensures less { IfSome result.1 (λ more. length more.now < length bytes.now) }
+{
+    let Some(at) = first_feed(bytes) else {
+        return (bytes, None);
+    };
+    let (line, feed) = bytes.split_at(at);
+    (line, Some(feed.split_at(1).1))
+}
+
+fn first_feed(bytes: &[u8]) -> Option<usize>
+    ensures { result ≡ position (λ byte. byte == 10) bytes.now }
+{
+    bytes.iter().position(|byte| *byte == b'\n')
+}
