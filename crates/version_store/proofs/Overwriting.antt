@@ -1,16 +1,14 @@
 -- What a store of null over a link leaves, or the read and the exchange in its place: of the trail,
 -- the held list, what is known of it, the pass and the claims. And what it puts into the trail.
-use Rattle.std.proofs.Common.{◌≡◌, ◌≢◌, ◌<◌, ℕ, Bool, true, false, List, [], ◌∷◌, ◌++◌, get_or}
+use Rattle.std.proofs.Common.{◌≡◌, ◌≢◌, ◌<◌, ℕ, Bool, true, false, List, [], ◌++◌, get_or}
 use Rattle.std.proofs.Common.{length, refl, sym, ◌∙◌, ap, subst, arith}
 use Rattle.std.proofs.lemmas.List.{append-nil}
 use Rattle.cell_words.specs.declared.fields.Field.{Field}
 use Rattle.cell_words.specs.declared.fields.Field.TheVariants as field
 use Rattle.cell_words.specs.declared.write_barrier.Barrier.{Barrier}
 use Rattle.core_machine.specs.declared.events.Event.{Event}
-use Rattle.core_machine.specs.declared.events.Event.TheVariants as event
 use Rattle.core_machine.specs.declared.events.Found.{Found}
 use Rattle.core_machine.specs.declared.events.Found.TheVariants as finds
-use Rattle.core_machine.specs.declared.events.Taken.{Taken}
 use Rattle.core_machine.specs.declared.pending.Pending.{Pending}
 use Rattle.core_machine.specs.Own.{pending_or_none, presence_after}
 use Rattle.heap_rule.specs.declared.known.Known.{Known}
@@ -21,10 +19,9 @@ use Rattle.heap_rule.specs.Boxes.{Map}
 use Rattle.heap_rule.specs.Lore.{cells_in, known_at, known_stored_if, learned, was_made}
 use Rattle.heap_rule.proofs.Reading.{cell_there}
 use Rattle.mutator_events.specs.declared.values.Value.TheVariants as values
-use Rattle.mutator_events.specs.Events.{AtEvent}
 use Rattle.mutator_events.specs.Values.{value_found}
 use Rattle.mutator_seat.specs.Bound.{Bound, held_cells}
-use Rattle.mutator_seat.specs.Stores.{Replaced, Rewritten, Stepped, exchange_of, fetch_of, read_of}
+use Rattle.mutator_seat.specs.Stores.{Rewritten, Stepped, exchange_of, fetch_of, read_of}
 use Rattle.mutator_seat.specs.Stores.{store_of}
 use Rattle.mutator_seat.specs.Stretches.{Kept, MarksOf}
 use Rattle.mutator_seat.specs.Writes.{wanted_by}
