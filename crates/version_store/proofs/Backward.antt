@@ -272,7 +272,7 @@ walked_room a b v at steps back walked lt kept room =
 
 pub walked_some_room : (a b : Bound Pass) (v at : HeldVersion) (steps : ℕ) → Walked a b v at steps
     → steps ≤ a.seat.me.pass.keep → length a.seat.me.own.held + 128 ≤ a.seat.me.room
-    → length b.seat.me.own.held < b.seat.me.room
+    → length b.seat.me.own.held + 1 < b.seat.me.room
 walked_some_room a b v at steps walked kept room =
     let more = many_held a b walked.cells walked.held in
     let same = walked.goes.room in

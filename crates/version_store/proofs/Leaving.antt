@@ -1,11 +1,13 @@
 -- The writes of calls that follow one another.
-use Rattle.std.proofs.Common.{◌≡◌, ◌⊎◌, true, false, List, [], ◌∷◌, ◌++◌, inl, inr, refl, sym}
-use Rattle.std.proofs.Common.{◌∙◌, ap, subst, ℕ}
+use Rattle.std.proofs.Common.{◌≡◌, ◌⊎◌, Bool, true, false, List, [], ◌∷◌, ◌++◌, inl, inr}
+use Rattle.std.proofs.Common.{length, refl, sym, ◌∙◌, ap, subst, ℕ}
 use Rattle.std.specs.List.{list_all}
 use Rattle.std.proofs.lemmas.Bool.{and_parts}
 use Rattle.std.proofs.lemmas.List.{append-nil, append_assoc}
 use Rattle.cell_words.specs.Modes.{barrier_of}
+use Rattle.cell_words.specs.declared.controls.Control.{Control}
 use Rattle.cell_words.specs.declared.presences.Status.{Status}
+use Rattle.cell_words.specs.declared.write_barrier.Barrier.{Barrier}
 use Rattle.cell_words.specs.declared.colours.Colour.TheVariants as colour
 use Rattle.cell_words.specs.declared.fields.Field.{Field}
 use Rattle.core_machine.specs.declared.events.Event.{Event}
@@ -20,16 +22,18 @@ use Rattle.heap_rule.specs.Boxes.{Map}
 use Rattle.heap_rule.specs.Rule.{took}
 use Rattle.mutator_events.specs.declared.values.Value.{Value}
 use Rattle.mutator_events.specs.Events.{AtEvent}
-use Rattle.mutator_events.specs.Values.{field_at}
+use Rattle.mutator_events.specs.Values.{field_at, value_found}
 use Rattle.mutator_seat.specs.Bound.{Bound, takes, takes_with}
 use Rattle.mutator_seat.specs.Claims.{Claimed, Seeking, seeks}
+use Rattle.mutator_seat.specs.Stores.{Looks, Rewritten}
 use Rattle.mutator_seat.specs.Stretches.{Calm, MarksOf}
 use Rattle.mutator_seat.specs.Writes.{LookAndMarks, Updated, wanted_by, write_of}
 use Rattle.mutator_seat.proofs.Writes.{field_same}
+use Rattle.trails.specs.Claims.{look_of}
 use Rattle.version_rule.specs.Pass.{Pass}
 use Rattle.version_rule.specs.Versions.{is_fixed}
-use Rattle.version_store.specs.Writes.{LosesOnce, Writes, WritesNothing, WritesOnce, exchange}
-use Rattle.version_store.specs.Writes.{is_write, kept_if, writes_in}
+use Rattle.version_store.specs.Writes.{EndsLink, LosesOnce, Writes, WritesLink, WritesNothing}
+use Rattle.version_store.specs.Writes.{WritesOnce, exchange, is_write, kept_if, writes_in}
 use Rattle.version_store.proofs.Going.{calm_trail}
 
 writes_append : (xs ys : List Taken) → writes_in (xs ++ ys) ≡ writes_in xs ++ writes_in ys
@@ -145,6 +149,39 @@ claimed_writes a b place got =
     (writes_told got.at b (event.Claim got.at.seat.me.number got.cell) (finds.Colour colour.Blue)
     got.told)
 
+-- A field that is loaded, marks, the write, and the places that are kept.
+pub rewrites : (holds : Map → List Pass → Type 0) (wanted : Barrier) (loads : Event)
+    (reads : Learned → Found → Pass → Pass) (seen : Field) (writes : Bound Pass → Event)
+    (next : Learned → Found → Pass → Pass) (found : Found) (new : Value) (a b : Bound Pass)
+    (is : Rewritten holds is_fixed wanted loads reads seen writes next found new a b)
+    → is_write loads ≡ false → is_write (writes is.replaced.at) ≡ true
+    → Writes (took (writes is.replaced.at) found ∷ []) a b
+rewrites holds wanted loads reads seen writes next found new a b is quiet loud =
+    let loaded = is.replaced.loaded in
+    let at = is.replaced.at in
+    let t = took (writes at) found in
+    let load : WritesNothing a loaded =
+    subst (λ (k : Bool). Writes (kept_if k (took loads (finds.Field seen))) a loaded) quiet
+    (writes_event a loaded loads (finds.Field seen)
+    (ap (λ (v : View Pass). v.trail) is.replaced.load.event.new)) in
+    let marks : WritesNothing loaded at =
+    calm_writes _ loaded at (marks_none a.seat.me.number
+    (wanted_by wanted (value_found (length a.seat.me.own.held) seen) new)) is.replaced.marks in
+    let write : Writes (t ∷ []) at is.written =
+    subst (λ (k : Bool). Writes (kept_if k t) at is.written) loud
+    (writes_event at is.written (writes at) found
+    (ap (λ (v : View Pass). v.trail) is.replaced.write.event.new)) in
+    then_nothing (t ∷ []) a is.written b
+    (nothing_then (t ∷ []) a at is.written (nothing_then [] a loaded at load marks) write)
+    (writes_told is.written b
+    (event.Keep is.written.seat.me.number (length a.seat.me.own.held) 0 0)
+    (finds.Presence is.written.seat.me.presence) is.told)
+
+pub looks_writes : (control : Control) (a b : Bound Pass) → Looks control a b → WritesNothing a b
+looks_writes control a b calm =
+    calm_writes (λ es. es ≡ look_of a.seat.me.number control ∷ []) a b (λ es is. ap writes_in is)
+    calm
+
 -- A write, with its look and its marks.
 module _ (holds : Map → List Pass → Type 0) (next : Learned → Found → Pass → Pass)
     (a b : Bound Pass) (old new : Value) (found : Field)
@@ -219,3 +256,30 @@ module _ (a b c d : Bound Pass) (number : b.seat.me.number ≡ a.seat.me.number)
   pub left_around : WritesNothing b c ⊎ LosesOnce b c → WritesNothing a d ⊎ LosesOnce a d
   left_around (inl none) = inl (around [] none)
   left_around (inr lost) = inr (lost_around lost)
+
+-- A link that is ended.
+
+pub link_behind : (a b c : Bound Pass) → b.seat.me.number ≡ a.seat.me.number → WritesNothing a b
+    → WritesLink b c → WritesLink a c
+link_behind a b c number first link = record {
+  taken = link.taken;
+  ends = subst (λ (n : ℕ). EndsLink n link.taken.event) number link.ends;
+  writes = nothing_then (link.taken ∷ []) a b c first link.writes;
+}
+
+pub link_before : (a b c : Bound Pass) → WritesLink a b → WritesNothing b c → WritesLink a c
+link_before a b c link last = record {
+  taken = link.taken;
+  ends = link.ends;
+  writes = then_nothing (link.taken ∷ []) a b c link.writes last;
+}
+
+pub at_most_behind : (a b c : Bound Pass) → b.seat.me.number ≡ a.seat.me.number
+    → WritesNothing a b → WritesNothing b c ⊎ WritesLink b c → WritesNothing a c ⊎ WritesLink a c
+at_most_behind a b c number first (inl none) = inl (nothing_then [] a b c first none)
+at_most_behind a b c number first (inr link) = inr (link_behind a b c number first link)
+
+pub at_most_before : (a b c : Bound Pass) → WritesNothing a b ⊎ WritesLink a b
+    → WritesNothing b c → WritesNothing a c ⊎ WritesLink a c
+at_most_before a b c (inl none) last = inl (nothing_then [] a b c none last)
+at_most_before a b c (inr link) last = inr (link_before a b c link last)

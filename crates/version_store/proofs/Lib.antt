@@ -6,8 +6,10 @@ pub mod Lasting
 pub mod Latest
 pub mod Leaving
 pub mod Links
+pub mod Overwriting
 pub mod Putting
 pub mod Steps
+pub mod Taking
 pub mod Trimming
 pub mod Widening
 pub mod Writing

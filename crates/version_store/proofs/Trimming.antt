@@ -1,28 +1,23 @@
--- The cut of a link, and the trim that walks to it.
-use Rattle.std.proofs.Common.{◌≡◌, ◌<◌, ◌≤◌, ◌+◌, ◌-◌, ℕ, List, [], ◌∷◌, ◌++◌, length}
+-- The trim, which walks to a link and cuts it.
+use Rattle.std.proofs.Common.{◌≡◌, ◌<◌, ◌-◌, ℕ, List, [], ◌∷◌, ◌++◌, length}
 use Rattle.std.proofs.Common.{refl, sym, ◌∙◌, ap, subst, arith}
 use Rattle.std.proofs.lemmas.List.{append_assoc}
-use Rattle.cell_words.specs.declared.fields.Field.{Field}
 use Rattle.cell_words.specs.Term.{IsFive, Term}
 use Rattle.core_machine.specs.declared.events.Event.TheVariants as event
 use Rattle.core_machine.specs.declared.events.Found.{Found}
 use Rattle.doc_tree.specs.Tree.{DocTree}
 use Rattle.heap_rule.specs.declared.known.Known.{Known}
-use Rattle.heap_rule.specs.Asks.{IsBox, known_of, target}
+use Rattle.heap_rule.specs.Asks.{known_of}
 use Rattle.heap_rule.specs.Lore.{known_at}
-use Rattle.mutator_events.specs.declared.values.Value.TheVariants as values
 use Rattle.mutator_seat.specs.Bound.{Bound, held_cells, takes}
 use Rattle.mutator_seat.specs.Stretches.{Kept}
-use Rattle.mutator_seat.specs.Writes.{MayUpdate, PicksUpdate, Updated}
 use Rattle.mutator_seat.proofs.Writes.{many_same}
 use Rattle.version_rule.specs.Knowing.{IsVersionKnown, KnowsVersion, link_cut, link_seen}
-use Rattle.version_rule.specs.Knowing.{link_taken, number_told}
 use Rattle.version_rule.specs.Pass.{Pass, cutting}
-use Rattle.version_rule.specs.Versions.{HoldsVersions, is_fixed}
-use Rattle.version_rule.proofs.Reading.{link_cut_picks, link_seen_picks, number_known}
-use Rattle.version_rule.proofs.Writing.{cut_picks}
+use Rattle.version_rule.specs.Versions.{HoldsVersions}
+use Rattle.version_rule.proofs.Reading.{link_cut_picks, link_seen_picks}
 use Rattle.version_store.specs.declared.held.HeldVersion.{HeldVersion}
-use Rattle.version_store.specs.Calls.{IsIn, StaysKnown, settled}
+use Rattle.version_store.specs.Calls.{StaysKnown, settled}
 use Rattle.version_store.specs.Held.{IsHeld}
 use Rattle.version_store.specs.Older.{Trims}
 use Rattle.version_store.specs.Walks.{CutsOff, EndsThere, FollowsLink, LinkIsNull, LinkTaken}
@@ -31,8 +26,6 @@ use Rattle.version_store.proofs.Going.{cut_claims, cut_goes, cut_held, cut_known
 use Rattle.version_store.proofs.Going.{goes_then, known_below, known_then, many_held, still_on}
 use Rattle.version_store.proofs.Going.{target_still}
 use Rattle.version_store.proofs.Knowns.{fresh_apart}
-use Rattle.version_store.proofs.Writing.{wrote_claims, wrote_goes, wrote_held, wrote_known}
-use Rattle.version_store.proofs.Writing.{wrote_pass}
 
 -- the passes that are picked at reads of links
 
@@ -62,69 +55,6 @@ version_kept a at kept place number root knows = record {
   known = subst (λ (k : Known). IsVersionKnown k number root)
       (sym (ap (λ (ks : List Known). known_at ks place) kept.known)) knows.known;
 }
-
-module _ (a : Bound Pass) (newest oldest before : HeldVersion) (is : IsIn a)
-    (first : IsHeld a newest) (last : IsHeld a oldest) (next : IsHeld a before)
-    (later : before.number + 1 ≡ oldest.number)
-    (due : oldest.number + a.seat.me.pass.keep ≤ newest.number + 1) where
-  abbrev number : ℕ
-  number = number_told (known_of a.seat.me oldest.place)
-
-  number_is : number ≡ oldest.number
-  number_is = number_known (known_of a.seat.me oldest.place) oldest.number last.root
-      last.knows.known
-
-  pub may_take : MayUpdate is_fixed a.seat.me oldest.place 2 (values.Held before.place) values.Null
-  may_take = record {
-    inside = is.inside;
-    there = last.knows.there;
-    payload = omega arith;
-    box = subst (λ (k : Known). IsBox (target a.seat.me oldest.place) k)
-        (sym last.knows.known.is) tt;
-    old_named = next.knows.there;
-    new_named = tt;
-    sealed = tt;
-    spares = λ fixed. absurd cc;
-  }
-
-  module _ (is_tree : Term → Type 0) (tree_of : Term → DocTree)
-      (is_record : (t : Term) → is_tree t → IsFive t) where
-    pub pick_taken : PicksUpdate (HoldsVersions is_tree tree_of) is_fixed (link_taken number) a
-        oldest.place 2 (values.Held before.place) values.Null
-    pick_taken at kept same =
-        cut_picks is_tree tree_of is_record at.seat.me oldest.place before.place newest.place
-        number newest.number last.root next.root first.root record {
-          held = subst (λ (n : ℕ). KnowsVersion at.seat.me oldest.place n last.root)
-              (sym number_is)
-              (version_kept a at kept oldest.place oldest.number last.root last.knows);
-          linked = subst (λ (n : ℕ). KnowsVersion at.seat.me before.place n next.root)
-              (let e : before.number ≡ number - 1 = omega (arith, later, number_is) in e)
-              (version_kept a at kept before.place before.number next.root next.knows);
-          made = version_kept a at kept newest.place newest.number first.root first.knows;
-          later = omega (arith, later, number_is);
-          due =
-              let keep = ap (λ (p : Pass). p.keep) kept.pass in
-              omega (arith, due, number_is, keep);
-        }
-
-    pub was_taken : (b : Bound Pass) → length a.seat.me.known ≡ length a.seat.me.own.held
-        → (found : Field) × Updated (HoldsVersions is_tree tree_of) is_fixed (link_taken number) a
-        oldest.place 2 (values.Held before.place) values.Null found b
-        → LinkTaken a b oldest
-    was_taken b many (found, wrote) = record {
-      goes = wrote_goes (HoldsVersions is_tree tree_of) (link_taken number) a b oldest.place 2
-          (values.Held before.place) values.Null found wrote;
-      held = wrote_held (HoldsVersions is_tree tree_of) (link_taken number) a b oldest.place 2
-          (values.Held before.place) values.Null found wrote;
-      known = λ place lt apart. wrote_known (HoldsVersions is_tree tree_of) (link_taken number) a b
-          oldest.place 2 (values.Held before.place) values.Null found wrote many place lt apart
-          (λ is c named. absurd cc);
-      pass = wrote_pass (HoldsVersions is_tree tree_of) (link_taken number) a b oldest.place 2
-          (values.Held before.place) values.Null found wrote
-          ∙ ap (λ (n : ℕ). cutting n a.seat.me.pass) number_is;
-      claims = wrote_claims (HoldsVersions is_tree tree_of) (link_taken number) a b oldest.place 2
-          (values.Held before.place) values.Null found wrote;
-    }
 
 -- The link, read and cut.
 

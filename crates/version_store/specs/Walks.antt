@@ -84,8 +84,8 @@ pub record Stopped (next : Learned → Found → Pass → Pass) (old new : Bound
   pub claims : new.seat.me.own.claims ≡ old.seat.me.own.claims
   pub keeps_few : old.seat.me.pass.keep ≤ 100
 
--- The link of the version was exchanged for null, by whoever was first. Of what is known of fresh
--- cells this leaves what other cells are.
+-- The link of the version is null now, stored or exchanged, or by who was first. Of what is known of
+-- fresh cells this leaves what other cells are.
 pub record LinkTaken (old new : Bound Pass) (v : HeldVersion) : Type 0 where
   pub goes : Goes [] old new
   pub held : held_cells new ≡ held_cells old ++ []

@@ -1,8 +1,9 @@
 -- The writes of a call: none of a call that reads, one of a commit that is made, and of one that is
--- refused none but the one that was lost.
+-- refused none but the one that was lost; and of a trim at most one, that of a link.
 -- Source: this project's.
 use Rattle.std.specs.Prelude.{ℕ, ◌≡◌, ◌⊎◌, Bool, true, false, List, [], ◌∷◌, ◌++◌}
 use Rattle.cell_words.specs.declared.fields.Field.{Field}
+use Rattle.cell_words.specs.declared.fields.Field.TheVariants as field
 use Rattle.core_machine.specs.declared.events.Event.{Event}
 use Rattle.core_machine.specs.declared.events.Event.TheVariants as event
 use Rattle.core_machine.specs.declared.events.Found.TheVariants as finds
@@ -18,6 +19,7 @@ use Rattle.version_store.specs.declared.fault.CommitFault.TheVariants as faults
 
 abbrev pub is_write : Event → Bool
 is_write (event.Write i place f old new) = true
+is_write (event.Store i new) = true
 is_write _ = false
 
 abbrev pub kept_if : Bool → Taken → List Taken
@@ -55,6 +57,18 @@ pub record LosesOnce (old new : Bound Pass) : Type 0 where
   pub found : Field
   pub other : same_field found from ≡ false
   pub writes : Writes (exchange old.seat.me.number from box found ∷ []) old new
+
+-- a store of null, or an exchange of a version's link for null
+abbrev pub EndsLink : ℕ → Event → Type 0
+EndsLink number (event.Store i new) = (i ≡ number) × (new ≡ field.Null)
+EndsLink number (event.Write i place f old new) = (i ≡ number) × (f ≡ 2) × (new ≡ field.Null)
+EndsLink number _ = ⊥
+
+-- one write alone, which ends a link
+pub record WritesLink (old new : Bound Pass) : Type 0 where
+  pub taken : Taken
+  pub ends : EndsLink old.seat.me.number taken.event
+  pub writes : Writes (taken ∷ []) old new
 
 -- What a refused commit did. It read a newer version: before a write or behind a lost one. It found
 -- no free cell: then it looked, marked, answered and tried to claim. Or it did nothing at all.

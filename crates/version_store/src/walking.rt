@@ -1,7 +1,7 @@
 //! Walking back along the links of versions: to an older version, and to the link that is due to be
 //! cut.
-ghost use Rattle.std.specs.Prelude.{◌≡◌, ◌<◌, ◌≤◌, ◌+◌, IfErr, IfNone, IfOk, IfSome, OnErr, length};
-ghost use Rattle.std.specs.Prelude.{[], true};
+ghost use Rattle.std.specs.Prelude.{◌≡◌, ◌<◌, ◌≤◌, ◌+◌, ◌⊎◌, IfErr, IfNone, IfOk, IfSome, OnErr};
+ghost use Rattle.std.specs.Prelude.{[], length, true};
 ghost use Rattle.version_rule.specs.Versions.{HoldsVersions};
 ghost use Rattle.version_store.specs.Calls.{Holds, IsIn};
 ghost use Rattle.version_store.specs.Commits.{FindsNewer, ShowsNewer};
@@ -10,7 +10,7 @@ ghost use Rattle.version_store.specs.Lasts.{IsSameMutator, LastsAcross};
 ghost use Rattle.version_store.specs.Older.{GivesOlder, Trims};
 ghost use Rattle.version_store.specs.Walks.{CutsOff, EndsThere, FollowsLink, LinkIsNull, LinkTaken};
 ghost use Rattle.version_store.specs.Walks.{PicksLink, Stopped, Walked};
-ghost use Rattle.version_store.specs.Writes.{WritesNothing};
+ghost use Rattle.version_store.specs.Writes.{WritesLink, WritesNothing};
 
 use crate::fault::Cut;
 use crate::held::HeldVersion;
@@ -69,6 +69,7 @@ pub fn trim<S: Spelling>(m: &mut Mutator<'_, Versions<S>>, v: HeldVersion, keep:
     ensures trims { keep ≤ v.number → Trims m.old m.new v keep }
     ensures nothing { v.number < keep → m.new ≡ m.old }
     ensures held { Holds [] m.old m.new }
+    ensures writes { WritesNothing m.old m.new ⊎ WritesLink m.old m.new }
     ensures lasts { LastsAcross m.old m.new }
     ensures same { IsSameMutator m.old m.new }
 {
@@ -87,6 +88,7 @@ fn cut_off<S: Spelling>(m: &mut Mutator<'_, Versions<S>>, v: HeldVersion, keep: 
     requires setting { keep ≡ m.old.seat.me.pass.keep }
     requires enough { keep ≤ v.number }
     ensures cuts { CutsOff m.old m.new v keep }
+    ensures writes { WritesNothing m.old m.new ⊎ WritesLink m.old m.new }
 {
     match walk_back::<S, Brand>(m, v, keep.saturating_sub(1)) {
         Some(oldest) => cut_link(m, v, oldest),
@@ -150,35 +152,35 @@ fn follow<S: Spelling, C: Choice<Versions<S>>>(
 /// another has done so first, nothing is left to do.
 fn cut_link<S: Spelling>(m: &mut Mutator<'_, Versions<S>>, newest: HeldVersion, oldest: HeldVersion)
     requires inside { IsIn m.old }
-    requires room { length m.old.seat.me.own.held < m.old.seat.me.room }
+    requires room { length m.old.seat.me.own.held + 1 < m.old.seat.me.room }
     requires newest { IsHeld m.old newest }
     requires oldest { IsHeld m.old oldest }
     requires later { 1 ≤ oldest.number }
     requires due { oldest.number + m.old.seat.me.pass.keep ≤ newest.number + 1 }
     ensures cut { LinkIsNull m.old m.new oldest }
+    ensures writes { WritesNothing m.old m.new ⊎ WritesLink m.old m.new }
 {
     match follow::<S, Brand>(m, oldest) {
-        Some(before) => take_link(m, newest, oldest, before),
+        Some(_) => take_link(m, newest, oldest),
         None => (),
     }
 }
 
-/// Exchanges the link of a version for null.
+/// Stores null over the link of a version. Where no store may be begun, the link is exchanged for
+/// null instead, and where this comes too late another has cut it: then too nothing is left to do.
 fn take_link<S: Spelling>(
     m: &mut Mutator<'_, Versions<S>>,
     newest: HeldVersion,
     oldest: HeldVersion,
-    before: HeldVersion,
 )
     requires inside { IsIn m.old }
+    requires room { length m.old.seat.me.own.held < m.old.seat.me.room }
     requires newest { IsHeld m.old newest }
     requires oldest { IsHeld m.old oldest }
-    requires before { IsHeld m.old before }
-    requires later { before.number + 1 ≡ oldest.number }
     requires due { oldest.number + m.old.seat.me.pass.keep ≤ newest.number + 1 }
-    requires many { length m.old.seat.me.known ≡ length m.old.seat.me.own.held }
     ensures taken { LinkTaken m.old m.new oldest }
+    ensures writes { WritesLink m.old m.new }
 {
     let _ = newest;
-    let _ = m.update::<Brand>(oldest.place, 2, Value::Held(before.place), Value::Null);
+    let _ = m.store::<Brand, Brand>(oldest.place, 2, Value::Null);
 }

@@ -1,8 +1,9 @@
-use Rattle.std.proofs.Common.{ℕ, ap, subst, arith}
+use Rattle.std.proofs.Common.{ℕ, ap, subst, arith, inl}
 use Rattle.version_rule.specs.Knowing.{link_cut}
 use Rattle.version_rule.specs.Pass.{Pass}
 use Rattle.version_store.specs.Walks.{Stopped, Walked}
 use Rattle.version_store.proofs.Backward.{walked_held, walked_some_room}
+use Rattle.version_store.proofs.Leaving.{at_most_behind}
 use Rattle.version_store.proofs.Trimming.{cuts_stopped, cuts_walked, picks_cut}
 use Rattle.version_store.proofs.walking.cut_off.Goals as goal
 
@@ -35,6 +36,8 @@ returns-in-Some g c = record {
       c.args.keep c.requires.setting
       (subst (λ (n : ℕ). Walked c.args.m.now c.walk_back.new.m c.args.v c.in-Some.oldest n)
       c.saturating_sub.ensures c.in-Some.ensures.walked) c.cut_link.ensures.cut;
+  writes = at_most_behind c.args.m.now c.walk_back.new.m c.cut_link.new.m
+      c.in-Some.ensures.walked.goes.number c.walk_back.ensures.writes c.cut_link.ensures.writes;
 }
 
 pub returns-in-None : goal.returns-in-None
@@ -42,4 +45,5 @@ returns-in-None g c = record {
   cuts = cuts_stopped c.args.m.now c.walk_back.new.m c.args.v c.args.keep
       (subst (λ (n : ℕ). Stopped link_cut c.args.m.now c.walk_back.new.m c.args.v n)
       c.saturating_sub.ensures c.in-None.ensures.stopped);
+  writes = inl c.walk_back.ensures.writes;
 }

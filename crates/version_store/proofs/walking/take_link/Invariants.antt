@@ -1,7 +1,12 @@
--- behind the write the link is cut, whoever cut it
+-- behind the store, or the read and the exchange, the link is cut, whoever cut it
 use Rattle.heap_rule.specs.Asks.{known_of}
-use Rattle.version_rule.specs.Knowing.{link_taken, number_told}
+use Rattle.version_rule.specs.Knowing.{link_cut, link_taken, number_told}
 use Rattle.version_store.proofs.walking.take_link.Given as goal
 
-abbrev pub ghosts-update : goal.ghosts-update
-ghosts-update g a = record { next = link_taken (number_told (known_of a.self.now.seat.me a.place)) }
+abbrev pub ghosts-store-R-Choice : goal.ghosts-store-R-Choice
+ghosts-store-R-Choice g a = record { next = link_cut }
+
+abbrev pub ghosts-store-C-Choice : goal.ghosts-store-C-Choice
+ghosts-store-C-Choice g a = record {
+  next = link_taken (number_told (known_of a.self.now.seat.me a.place));
+}

@@ -1,5 +1,7 @@
+use Rattle.std.proofs.Common.{inl}
 use Rattle.version_store.proofs.Going.{comes_in}
 use Rattle.version_store.proofs.Lasting.{goes_same, trim_lasts}
+use Rattle.version_store.proofs.Leaving.{at_most_before, writes_none, writes_told}
 use Rattle.version_store.proofs.Trimming.{trims}
 use Rattle.version_store.proofs.walking.trim.Goals as goal
 
@@ -34,3 +36,11 @@ returns-then-keep-v-clause-same g c =
     c.held_len-held.result _ c.held_len-held.ensures.len c.cut_off.ensures.cuts
     c.cut.ensures.told in
     goes_same c.args.m.now c.cut.new.self is.goes
+
+pub returns-then-keep-v-clause-writes : goal.returns-then-keep-v-clause-writes
+returns-then-keep-v-clause-writes g c =
+    at_most_before c.args.m.now c.cut_off.new.m c.cut.new.self c.cut_off.ensures.writes
+    (writes_told c.cut_off.new.m c.cut.new.self _ _ c.cut.ensures.told)
+
+pub returns-else-keep-v-clause-writes : goal.returns-else-keep-v-clause-writes
+returns-else-keep-v-clause-writes g c = inl (writes_none c.args.m.now)
