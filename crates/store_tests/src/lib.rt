@@ -1,9 +1,11 @@
 //! What no clause says of doc_model: each public call on its happy path, and histories that are
 //! wrong in one place.
 //!
-//! Reading order: `made`, `stores`.
+//! Reading order: `made`, `stores`, `batches`.
 #![tactic(auto)]
 
+#[cfg(test)]
+mod batches;
 #[cfg(test)]
 mod made;
 #[cfg(test)]

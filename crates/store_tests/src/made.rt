@@ -1,5 +1,5 @@
 //! Texts, paths, commands and replies from words.
-use doc_model::{Command, NoMemory, Path, Reply, Text};
+use doc_model::{Command, Edit, Edits, NoMemory, Path, Reply, Text};
 use std::alloc::{AllocFailed, Global};
 
 /// Why a value of a test could not be made.
@@ -8,6 +8,16 @@ pub(crate) enum Unmade {
     NoMemory,
     NoText,
     NoPath,
+    LongBatch,
+}
+
+/// An edit of a batch, in words.
+#[derive(Clone, Copy)]
+pub(crate) enum Change<'a> {
+    Put(&'a str, &'a str),
+    Del(&'a str),
+    Copy(&'a str, &'a str),
+    Publish(&'a str),
 }
 
 impl From<NoMemory> for Unmade {
@@ -26,7 +36,7 @@ fn text(alloc: Global, word: &str) -> Result<Text, Unmade> {
     Text::read(alloc, word.as_bytes())?.ok_or(Unmade::NoText)
 }
 
-fn path(alloc: Global, word: &str) -> Result<Path, Unmade> {
+pub(crate) fn path(alloc: Global, word: &str) -> Result<Path, Unmade> {
     Path::read(alloc, word.as_bytes())?.ok_or(Unmade::NoPath)
 }
 
@@ -35,6 +45,43 @@ pub(crate) fn put(alloc: Global, to: &str, word: &str) -> Result<Command, Unmade
         path: path(alloc, to)?,
         text: text(alloc, word)?,
     })
+}
+
+pub(crate) fn draft_put(alloc: Global, to: &str, word: &str) -> Result<Command, Unmade> {
+    Ok(Command::DraftPut {
+        path: path(alloc, to)?,
+        text: text(alloc, word)?,
+    })
+}
+
+fn edit(alloc: Global, change: Change<'_>) -> Result<Edit, Unmade> {
+    Ok(match change {
+        Change::Put(to, word) => Edit::Put {
+            path: path(alloc, to)?,
+            text: text(alloc, word)?,
+        },
+        Change::Del(at) => Edit::Del {
+            path: path(alloc, at)?,
+        },
+        Change::Copy(at, to) => Edit::Copy {
+            from: path(alloc, at)?,
+            to: path(alloc, to)?,
+        },
+        Change::Publish(to) => Edit::Publish {
+            path: path(alloc, to)?,
+        },
+    })
+}
+
+pub(crate) fn batch(alloc: Global, changes: &[Change<'_>]) -> Result<Command, Unmade> {
+    let mut edits = Edits::new(alloc);
+    for change in changes {
+        if edits.edits().len() == Edits::MOST {
+            return Err(Unmade::LongBatch);
+        }
+        edits.push(edit(alloc, *change)?)?;
+    }
+    Ok(Command::Batch { edits })
 }
 
 pub(crate) fn get(alloc: Global, from: &str) -> Result<Command, Unmade> {
