@@ -1,8 +1,8 @@
 //! Scripts of commands as text, and replies, entries of a history and totals as lines of text.
 //!
-//! `read_script` reads a whole script by a fixed grammar, of which there are two versions: the layer
-//! above may rely on its commands being those of the definition, and on a fault naming the first
-//! faulty line and what is wrong there. The line calls give the exact bytes that the program
+//! `read_script` reads a whole script by a fixed grammar, of which there are two versions: the
+//! layer above may rely on its commands being those of the definition, and on a fault naming the
+//! first faulty line and what is wrong there. The line calls give the exact bytes that the program
 //! writes, line feed included. What a command does, and where bytes come from and go to, is left to
 //! others.
 //!

@@ -1,21 +1,33 @@
 -- A run of scripts that are given comes to what they come to, or memory is wanting.
-use Rattle.std.proofs.Common.{◌≡◌, List, OnOk, sym, subst}
+use Rattle.std.proofs.Common.{◌≡◌, ℕ, List, Option, OnOk, sym, subst}
 use Rattle.std.specs.Prelude.{Result, Ok, Err}
+use Rattle.cmd_text.specs.declared.form.Form.{Form}
 use Rattle.doc_model.specs.declared.command.Command.{Command}
+use Rattle.script_files.specs.Formed.{AreRead}
+use Rattle.script_files.specs.Scripts.{AreScripts}
 use Rattle.script_files.specs.declared.fault.Fault.{Fault}
 use Rattle.store_run.specs.declared.finished.Finished.{Finished}
 use Rattle.store_run.specs.declared.options.Options.{Options}
-use Rattle.doc_run.specs.Clients.{ComesOf, DecidesRun, Finishes}
+use Rattle.doc_run.specs.Clients.{ComesBy, ComesFrom, ComesOf, DecidesRun, FinishesWith}
+use Rattle.doc_run.specs.declared.clients.Ran.{Ran}
 
-pub decided : (Given : Result (List (List Command)) Fault → Type 0) (o p : Options)
-    (scripts : List (List Command)) (r : Result Finished Fault) → Given (Ok scripts) → p ≡ o
-    → Finishes p scripts r → DecidesRun Given o r
-decided Given o p scripts (Ok f) given same comes =
-    (scripts, given, subst (λ (x : Options). ComesOf x scripts f) same comes)
-decided Given o p scripts (Err fault) given same wants =
-    subst (λ (x : Fault). DecidesRun Given o (Err x)) (sym wants) tt
+pub decided : (told : List (Option (List ℕ))) (o p : Options) (scripts : List (List Command))
+    (forms : List Form) (r : Result Ran Fault) → AreRead told scripts forms → p ≡ o
+    → FinishesWith p scripts forms r → DecidesRun told o r
+decided told o p scripts forms (Ok ran) given same comes = (
+  scripts,
+  subst (AreRead told scripts) (sym comes.1) given,
+  subst (λ (x : Options). ComesOf x scripts ran.finished) same comes.0,
+)
+decided told o p scripts forms (Err fault) given same wants =
+    subst (λ (x : Fault). DecidesRun told o (Err x)) (sym wants) tt
+
+-- and it comes to that by the scripts alone
+pub comes_by : (told : List (Option (List ℕ))) (o : Options) (f : Finished) (forms : List Form)
+    → ComesFrom told o f forms → ComesBy (AreScripts told) o f
+comes_by told o f forms is = (is.0, (is.1.0, is.1.1, is.1.2), is.2)
 
 -- what stands behind the reading of all scripts stands wherever the run comes to an end
-pub on_ok : {X : Type 0} (r : Result Finished Fault) → X → OnOk r X
-on_ok (Ok f) fact = fact
+pub on_ok : {X : Type 0} (r : Result Ran Fault) → X → OnOk r X
+on_ok (Ok ran) fact = fact
 on_ok (Err fault) fact = tt

@@ -3,11 +3,14 @@
 -- Scripts are given by files or by a generator. A statement of this file takes what is given as a
 -- fact of the scripts, or of the fault in their place.
 -- Source: this project's own.
-use Rattle.std.specs.Prelude.{◌≡◌, List, Result, Ok, Err}
+use Rattle.std.specs.Prelude.{◌≡◌, ℕ, List, Option, Result, Ok, Err}
+use Rattle.cmd_text.specs.declared.form.Form.{Form}
 use Rattle.doc_model.specs.declared.command.Command.{Command}
 use Rattle.run_words.specs.Requests.{RunAsked}
 use Rattle.run_words.specs.declared.request.GenWords.{GenWords}
+use Rattle.script_files.specs.Formed.{AreRead}
 use Rattle.script_files.specs.Made.{AreMade}
+use Rattle.script_files.specs.Scripts.{AreScripts}
 use Rattle.script_files.specs.declared.fault.Fault.{Fault}
 use Rattle.script_files.specs.declared.fault.Fault.TheVariants.{Usage, Script, Schedule}
 use Rattle.script_files.specs.declared.fault.Fault.TheVariants.{ReadFault, WriteFault}
@@ -15,6 +18,7 @@ use Rattle.script_files.specs.declared.fault.Fault.TheVariants.{Memory, TooLarge
 use Rattle.store_run.specs.Finished.{Comes}
 use Rattle.store_run.specs.declared.finished.Finished.{Finished}
 use Rattle.store_run.specs.declared.options.Options.{Options}
+use Rattle.doc_run.specs.declared.clients.Ran.{Ran}
 
 -- the options that the words of a run ask for
 abbrev pub options_of : RunAsked → Options
@@ -56,18 +60,29 @@ abbrev pub Finishes : Options → List (List Command) → Result Finished Fault 
 Finishes options scripts (Ok f) = ComesOf options scripts f
 Finishes options scripts (Err fault) = fault ≡ Memory
 
--- the answer is what a run of the given scripts came to, or the fault in their place, or a file
+-- the same, with the forms of the scripts
+abbrev pub FinishesWith : Options → List (List Command) → List Form → Result Ran Fault → Type 0
+FinishesWith options scripts forms (Ok ran) =
+    ComesOf options scripts ran.finished × (ran.forms.items ≡ forms)
+FinishesWith options scripts forms (Err fault) = fault ≡ Memory
+
+-- this is what a run of the files' scripts came to, and these are the forms of the same scripts
+abbrev pub ComesFrom : List (Option (List ℕ)) → Options → Finished → List Form → Type 0
+ComesFrom told options f forms =
+    (scripts : List (List Command)) × AreRead told scripts forms × ComesOf options scripts f
+
+-- the answer is what a run of the files' scripts came to, or the fault that decides, or a file
 -- could not be read, or memory was wanting
-abbrev pub DecidesRun : (Result (List (List Command)) Fault → Type 0) → Options
-    → Result Finished Fault → Type 0
-DecidesRun Given options (Ok f) = ComesBy Given options f
-DecidesRun Given options (Err Usage) = ⊥
-DecidesRun Given options (Err (Script file line kind)) = Given (Err (Script file line kind))
-DecidesRun Given options (Err (Schedule line kind)) = ⊥
-DecidesRun Given options (Err (ReadFault file)) = Unit {0}
-DecidesRun Given options (Err WriteFault) = ⊥
-DecidesRun Given options (Err Memory) = Unit {0}
-DecidesRun Given options (Err (TooLarge file)) = Given (Err (TooLarge file))
+abbrev pub DecidesRun : List (Option (List ℕ)) → Options → Result Ran Fault → Type 0
+DecidesRun told options (Ok ran) = ComesFrom told options ran.finished ran.forms.items
+DecidesRun told options (Err Usage) = ⊥
+DecidesRun told options (Err (Script file line kind)) =
+    AreScripts told (Err (Script file line kind))
+DecidesRun told options (Err (Schedule line kind)) = ⊥
+DecidesRun told options (Err (ReadFault file)) = Unit {0}
+DecidesRun told options (Err WriteFault) = ⊥
+DecidesRun told options (Err Memory) = Unit {0}
+DecidesRun told options (Err (TooLarge file)) = AreScripts told (Err (TooLarge file))
 
 -- the answer is what a run of generated scripts came to, or memory was wanting
 abbrev pub MakesRun : GenWords → Result Finished Fault → Type 0

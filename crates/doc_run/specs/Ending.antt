@@ -5,6 +5,7 @@
 use Rattle.std.specs.Prelude.{◌≡◌, ◌≢◌, ℕ, ◌*◌, ◌<◌, ◌≤◌, List, Option}
 use Rattle.std.specs.Prelude.{None, Some, IsNone, IsSomeAnd, Result, Err, ◌⊎◌, map, true}
 use Rattle.std.specs.Io.KnownBytes.{Appends}
+use Rattle.cmd_text.specs.declared.form.Form.{Form}
 use Rattle.doc_model.specs.Merge.{IsMerge}
 use Rattle.doc_model.specs.declared.command.Command.{Command}
 use Rattle.doc_model.specs.declared.command.Entry.{Entry}
@@ -25,7 +26,7 @@ use Rattle.script_files.specs.declared.fault.Fault.TheVariants.{Memory, TooLarge
 use Rattle.script_generator.specs.Generated.{generated_of}
 use Rattle.store_run.specs.declared.finished.Finished.{Finished}
 use Rattle.store_run.specs.declared.options.Options.{Options}
-use Rattle.doc_run.specs.Clients.{ComesBy, IsMade, default_options, options_of}
+use Rattle.doc_run.specs.Clients.{ComesBy, ComesFrom, IsMade, default_options, options_of}
 use Rattle.doc_run.specs.Request.{ByPrint}
 
 -- of so many files each was opened once at most, and unless memory was wanting the first one was
@@ -51,9 +52,11 @@ WritesFront IsText old new = (text : List ℕ) × IsText text × AppendsPart old
 abbrev pub shown_of : RunAsked → Shown
 shown_of run = record { history = run.history; stats = run.stats }
 
--- the output of a run with these words
-abbrev pub IsOutputOf : RunAsked → Finished → List ℕ → Type 0
-IsOutputOf run f text = IsOutput (shown_of run) f.logs.items f.totals text
+-- the output of a run with these words, with the forms of the scripts that it was a run of
+abbrev pub IsOutputOf : List (Option (List ℕ)) → RunAsked → Finished → List ℕ → Type 0
+IsOutputOf told run f text =
+    (forms : List Form) × ComesFrom told (options_of run) f forms
+    × IsOutput (shown_of run) f.logs.items forms f.totals text
 
 -- by which numbers scripts are generated
 abbrev pub numbers_of : GenWords → Made
@@ -96,7 +99,8 @@ abbrev pub WritesPartOf : (List ℕ → Option (List ℕ)) → Option Asked → 
     → Option (List ℕ) → Type 0
 WritesPartOf holds None old new = new ≡ old
 WritesPartOf holds (Some (Run run)) old new =
-    WritesPart (AreScripts (map holds run.files)) (options_of run) (IsOutputOf run) old new
+    WritesPart (AreScripts (map holds run.files)) (options_of run)
+    (IsOutputOf (map holds run.files) run) old new
 WritesPartOf holds (Some (Replay name)) old new = WritesTextPart (IsTextOf (holds name)) old new
 WritesPartOf holds (Some (Gen made)) old new = WritesMadePart made old new
 

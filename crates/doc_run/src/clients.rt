@@ -3,18 +3,19 @@ ghost use Rattle.std.specs.Prelude.{◌≡◌, ℕ, ◌+◌, ◌*◌, ◌≤◌,
 ghost use Rattle.std.specs.Prelude.{map, sum_by};
 ghost use Rattle.outside.specs.Calls.{IsUnbroken, IsOrderly};
 ghost use Rattle.outside.specs.Causes.{Rose};
-ghost use Rattle.doc_run.specs.Clients.{DecidesRun, Finishes, MakesRun, options_of};
+ghost use Rattle.doc_run.specs.Clients.{DecidesRun, Finishes, FinishesWith, MakesRun, options_of};
 ghost use Rattle.run_words.specs.Limits.{IsGenWithin, IsRunWithin};
 ghost use Rattle.run_words.specs.Requests.{run_asked_by};
 ghost use Rattle.script_files.specs.Files.{OpensInTurn, files_read, opened};
 ghost use Rattle.script_files.specs.Reading.{lists_of};
-ghost use Rattle.script_files.specs.Scripts.{AreScripts, StopsBehind};
+ghost use Rattle.script_files.specs.Scripts.{StopsBehind};
 ghost use Rattle.store_run.specs.Opened.{IsWithin};
 
+use cmd_text::Form;
 use doc_model::Command;
 use outside::{Gate, READ_LIMIT, Shelf};
 use run_words::{GenWords, RunWords};
-use script_files::{Fault, scripts_in_files, scripts_made};
+use script_files::{Fault, Scripts, scripts_in_files, scripts_made};
 use std::alloc::Global;
 use std::sync::Wait;
 use std::thread::Threads;
@@ -29,6 +30,13 @@ const DEFAULTS: Options = Options {
     cycles: 4_000_000_000,
 };
 
+/// What a run of the clients of files came to, and the form of each client's texts.
+#[derive(Drop)]
+pub struct Ran {
+    pub finished: Finished,
+    pub forms: Vec<Form>,
+}
+
 /// What a run of the clients comes to whose scripts the files of the words hold.
 #[tactic(auto, using(crate::proofs::Ranges::ranges))]
 pub fn run_files<R: Threads + Wait + Sync, H: Shelf, G: Gate + Sync>(
@@ -37,10 +45,10 @@ pub fn run_files<R: Threads + Wait + Sync, H: Shelf, G: Gate + Sync>(
     run: &RunWords<'_>,
     shelf: &mut H,
     gate: &G,
-) -> Result<Finished, Fault>
+) -> Result<Ran, Fault>
     requires within { IsRunWithin run.now }
     ensures finished { DecidesRun
-        (AreScripts (map (H.holds shelf.old) (run_asked_by run.now).files))
+        (map (H.holds shelf.old) (run_asked_by run.now).files)
         (options_of (run_asked_by run.now)) result }
     ensures read { (file : ℕ) → IsErrOf result (Fault.ReadFault file) →
         Rose (H.faults shelf.old) (H.faults shelf.new) }
@@ -59,7 +67,7 @@ pub fn run_files<R: Threads + Wait + Sync, H: Shelf, G: Gate + Sync>(
     ensures orderly { IsUnbroken (H.course shelf.old) → IsOrderly (H.course shelf.new) }
 {
     match scripts_in_files(alloc, &run.files, shelf) {
-        Ok(scripts) => run_all(alloc, rt, &scripts, options(run), gate),
+        Ok(scripts) => run_formed(alloc, rt, scripts, options(run), gate),
         Err(fault) => Err(fault),
     }
 }
@@ -92,6 +100,27 @@ fn options(run: &RunWords<'_>) -> Options
         keep: run.keep,
         versions: run.versions,
         cycles: run.cycles,
+    }
+}
+
+// What a run of these scripts comes to, and their forms.
+fn run_formed<R: Threads + Wait + Sync, G: Gate + Sync>(
+    alloc: Global,
+    rt: &R,
+    scripts: Scripts,
+    options: Options,
+    gate: &G,
+) -> Result<Ran, Fault>
+    requires some { 1 ≤ length scripts.commands.items }
+    requires few { length scripts.commands.items ≤ 64 }
+    requires total { sum_by (λ script. length script.items) scripts.commands.items ≤ 100_000 }
+    requires options { IsWithin options }
+    ensures { FinishesWith options (lists_of scripts.commands.items) scripts.forms.items result }
+{
+    let Scripts { commands, forms } = scripts;
+    match run_all(alloc, rt, &commands, options, gate) {
+        Ok(finished) => Ok(Ran { finished, forms }),
+        Err(fault) => Err(fault),
     }
 }
 

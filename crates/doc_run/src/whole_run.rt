@@ -26,7 +26,7 @@ ghost use Rattle.script_files.specs.Replayed.{IsFaultySchedule, IsReading, IsSch
 ghost use Rattle.script_files.specs.Scripts.{AreScripts, IsDueFor, IsUnhindered, StopsBehind};
 ghost use Rattle.script_files.specs.Scripts.{largest_file, most_commands};
 
-use crate::clients::run_files;
+use crate::clients::{Ran, run_files};
 use crate::generated::run_generated;
 use crate::outcome::Outcome;
 use crate::words::Words;
@@ -60,7 +60,8 @@ pub fn run<R: Threads + Wait + Sync, H: Shelf, S: Sink, G: Gate + Sync>(
     ensures done { result.status ≡ 0 → IfRun (request_of words.now) (λ run.
         IsSomeAnd result.finished (λ f.
         ComesBy (AreScripts (map (H.holds shelf.old) run.files)) (options_of run) f
-        × WritesAll (IsOutputOf run f) (S.written sink.old) (S.written sink.new))) }
+        × WritesAll (IsOutputOf (map (H.holds shelf.old) run.files) run f)
+        (S.written sink.old) (S.written sink.new))) }
     ensures made { result.status ≡ 0 → IfGen (request_of words.now) (λ made.
         ByPrint made.print (IsSomeAnd result.finished (λ f.
         ComesBy (IsMade made) default_options f
@@ -116,7 +117,8 @@ pub fn run<R: Threads + Wait + Sync, H: Shelf, S: Sink, G: Gate + Sync>(
     ensures write_part { result.status ≡ 4 → IfRun (request_of words.now) (λ run.
         IsSomeAnd result.finished (λ f.
         ComesBy (AreScripts (map (H.holds shelf.old) run.files)) (options_of run) f
-        × WritesFront (IsOutputOf run f) (S.written sink.old) (S.written sink.new))) }
+        × WritesFront (IsOutputOf (map (H.holds shelf.old) run.files) run f)
+        (S.written sink.old) (S.written sink.new))) }
     ensures write_made { result.status ≡ 4 → IfGen (request_of words.now) (λ made.
         ByPrint made.print (IsSomeAnd result.finished (λ f.
         ComesBy (IsMade made) default_options f
@@ -179,7 +181,8 @@ fn run_scripts<R: Threads + Wait + Sync, H: Shelf, S: Sink, G: Gate + Sync>(
         (options_of (run_asked_by run.now)) result.fault result.finished }
     ensures written { Writes
         (AreScripts (map (H.holds shelf.old) (run_asked_by run.now).files))
-        (options_of (run_asked_by run.now)) (IsOutputOf (run_asked_by run.now))
+        (options_of (run_asked_by run.now))
+        (IsOutputOf (map (H.holds shelf.old) (run_asked_by run.now).files) (run_asked_by run.now))
         (S.written sink.old) (S.written sink.new) result.fault result.finished }
     ensures read { result.status ≡ 3 → Rose (H.faults shelf.old) (H.faults shelf.new) }
     ensures read_file { (file : ℕ) → result.fault ≡ Some (Fault.ReadFault file) →
@@ -202,12 +205,13 @@ fn run_scripts<R: Threads + Wait + Sync, H: Shelf, S: Sink, G: Gate + Sync>(
     ensures calls { H.calls shelf.new
         ≤ H.calls shelf.old + files_read (length run.now.files.items) * (READ_LIMIT + 1) }
 {
-    let finished = match run_files(alloc, rt, run, shelf, gate) {
-        Ok(finished) => finished,
+    let ran = match run_files(alloc, rt, run, shelf, gate) {
+        Ok(ran) => ran,
         Err(fault) => return Outcome::refused(fault),
     };
+    let Ran { finished, forms } = ran;
     let shown = shown(run);
-    let Ok(text) = output_text(alloc, shown, &finished.logs, &finished.totals) else {
+    let Ok(text) = output_text(alloc, shown, &finished.logs, &forms, &finished.totals) else {
         return Outcome::refused(Fault::Memory);
     };
     Outcome::by_writing(write_lines(sink, &text), Some(finished))

@@ -1,7 +1,7 @@
--- The text that a run writes: of the clients' logs, and behind them of the merged history and of
--- the totals, where they are asked for.
+-- The text that a run writes: of the clients' logs, each in the form of its script, and behind them
+-- of the merged history and of the totals, where they are asked for.
 -- Source: this project's own.
-use Rattle.std.specs.Prelude.{◌≡◌, ℕ, Bool, true, false, List, [], ◌++◌, codes}
+use Rattle.std.specs.Prelude.{◌≡◌, ℕ, Bool, true, false, List, [], ◌∷◌, ◌++◌, codes, drop}
 use Rattle.std.specs.Prelude.{flat_map}
 use Rattle.doc_model.specs.ClientLog.{ClientLog}
 use Rattle.doc_model.specs.Merge.{IsMerge}
@@ -9,19 +9,28 @@ use Rattle.doc_model.specs.declared.command.Entry.{Entry}
 use Rattle.doc_model.specs.declared.totals.Totals.{Totals}
 use Rattle.cmd_text.specs.ReplyText.{heading_of, reply_text_of}
 use Rattle.cmd_text.specs.SummaryText.{history_text_of, stats_text_of}
+use Rattle.cmd_text.specs.declared.form.Form.{Form}
+use Rattle.cmd_text.specs.declared.form.Form.TheVariants.{Plain}
 use Rattle.run_output.specs.declared.output.Shown.{Shown}
 
 -- the line of each reply, in order
-abbrev pub replies_of : List Entry → List ℕ
-replies_of entries = flat_map (λ entry. reply_text_of entry.reply) entries
+abbrev pub replies_of : Form → List Entry → List ℕ
+replies_of form entries = flat_map (λ entry. reply_text_of form entry.reply) entries
 
--- a client's heading, and its replies below it
-abbrev pub log_text_of : ClientLog → List ℕ
-log_text_of log = heading_of log.client ++ replies_of log.entries
+-- a client's heading, and its replies below it, with their texts in this form
+abbrev pub log_text_of : Form → ClientLog → List ℕ
+log_text_of form log = heading_of log.client ++ replies_of form log.entries
 
--- the text of each client's log, in order
-abbrev pub logs_text_of : List ClientLog → List ℕ
-logs_text_of logs = flat_map log_text_of logs
+-- the first of the forms, which is plain where there is none
+abbrev pub first_form_of : List Form → Form
+first_form_of [] = Plain
+first_form_of (form ∷ forms) = form
+
+-- the text of each client's log, in order, each in the form at its place
+abbrev pub logs_text_of : List Form → List ClientLog → List ℕ
+logs_text_of forms [] = []
+logs_text_of forms (log ∷ logs) =
+    log_text_of (first_form_of forms) log ++ logs_text_of (drop 1 forms) logs
 
 -- the line of each entry, in order
 abbrev pub entries_text_of : List Entry → List ℕ
@@ -43,7 +52,7 @@ stats_of true totals = stats_text_of totals
 stats_of false totals = []
 
 -- the whole text of a run
-abbrev pub IsOutput : Shown → List ClientLog → Totals → List ℕ → Type 0
-IsOutput shown logs totals text =
-    (front : List ℕ) × AddsHistory shown.history logs (logs_text_of logs) front
+abbrev pub IsOutput : Shown → List ClientLog → List Form → Totals → List ℕ → Type 0
+IsOutput shown logs forms totals text =
+    (front : List ℕ) × AddsHistory shown.history logs (logs_text_of forms logs) front
     × (text ≡ front ++ stats_of shown.stats totals)

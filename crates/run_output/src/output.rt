@@ -1,10 +1,10 @@
 //! The text of a run of clients.
-ghost use Rattle.std.specs.Prelude.{◌≡◌, ◌++◌, IfOk, OnOk};
+ghost use Rattle.std.specs.Prelude.{◌≡◌, ◌++◌, IfOk, OnOk, drop};
 ghost use Rattle.cmd_text.specs.SummaryText.{history_text_of};
 ghost use Rattle.run_output.specs.Output.{AddsHistory, IsOutput, log_text_of, logs_text_of};
-ghost use Rattle.run_output.specs.Output.{history_of, stats_of};
+ghost use Rattle.run_output.specs.Output.{first_form_of, history_of, stats_of};
 
-use cmd_text::{heading_line, history_line, reply_line, stats_lines};
+use cmd_text::{Form, heading_line, history_line, reply_line, stats_lines};
 use doc_model::{Entry, Log, NoMemory, Totals, merge};
 use std::alloc::Global;
 
@@ -17,42 +17,57 @@ pub struct Shown {
     pub stats: bool,
 }
 
-/// The lines that are written of a run: for each client its replies, and behind them what is asked
-/// for.
+/// The lines that are written of a run: for each client its replies, with their texts in the form
+/// of its script, and behind them what is asked for.
 #[tactic(auto, using(crate::proofs::Parts::parts))]
 pub fn output_text(
     alloc: Global,
     shown: Shown,
     logs: &[Log],
+    forms: &[Form],
     totals: &Totals,
 ) -> Result<Vec<u8>, NoMemory>
-    ensures text { IfOk result (λ text. IsOutput shown logs.now totals.now text.items) }
+    ensures text { IfOk result (λ text. IsOutput shown logs.now forms.now totals.now text.items) }
 {
-    let mut text = logs_text(alloc, logs)?;
+    let mut text = logs_text(alloc, logs, forms)?;
     add_history(alloc, shown.history, logs, &mut text)?;
     add_stats(alloc, shown.stats, totals, &mut text)?;
     Ok(text)
 }
 
 // The lines of the clients' logs, one after another.
-fn logs_text(alloc: Global, logs: &[Log]) -> Result<Vec<u8>, NoMemory>
-    ensures text { IfOk result (λ text. text.items ≡ logs_text_of logs.now) }
+fn logs_text(alloc: Global, logs: &[Log], forms: &[Form]) -> Result<Vec<u8>, NoMemory>
+    ensures text { IfOk result (λ text. text.items ≡ logs_text_of forms.now logs.now) }
 {
     let mut text = Vec::new(alloc);
+    let mut forms = forms;
     for log in logs {
-        add_log(alloc, log, &mut text)?;
+        let (form, others) = first_form(forms);
+        add_log(alloc, form, log, &mut text)?;
+        forms = others;
     }
     Ok(text)
 }
 
+// The first of the forms, and those behind it.
+fn first_form(forms: &[Form]) -> (Form, &[Form])
+    ensures first { result.0 ≡ first_form_of forms.now }
+    ensures others { result.1.now ≡ drop 1 forms.now }
+{
+    match forms {
+        [form, others @ ..] => (*form, others),
+        [] => (Form::Plain, forms),
+    }
+}
+
 // Adds the lines of one client's log.
 #[tactic(auto, using(std::proofs::lemmas::List::append_assoc))]
-fn add_log(alloc: Global, log: &Log, text: &mut Vec<u8>) -> Result<(), NoMemory>
-    ensures text { OnOk result (text.new.items ≡ text.old.items ++ log_text_of log.now) }
+fn add_log(alloc: Global, form: Form, log: &Log, text: &mut Vec<u8>) -> Result<(), NoMemory>
+    ensures text { OnOk result (text.new.items ≡ text.old.items ++ log_text_of form log.now) }
 {
     text.extend_from_slice(&heading_line(alloc, log.client())?)?;
     for entry in log.entries() {
-        text.extend_from_slice(&reply_line(alloc, &entry.reply)?)?;
+        text.extend_from_slice(&reply_line(alloc, &entry.reply, form)?)?;
     }
     Ok(())
 }

@@ -2,9 +2,12 @@
 //! which pieces these are offered, the merged history of two clients, which gate they ask, and the
 //! text of each fault.
 //!
-//! Reading order: `outcomes`; `runs`, `pieces`, `failing`, `options`, `totals`, `clients`.
+//! Reading order: `outcomes`; `runs`, `batches`, `pieces`, `failing`, `options`, `totals`,
+//! `clients`.
 #![tactic(auto)]
 
+#[cfg(test)]
+mod batches;
 #[cfg(test)]
 mod clients;
 #[cfg(test)]

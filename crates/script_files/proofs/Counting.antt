@@ -6,7 +6,7 @@ use Rattle.std.specs.Prelude.{nat_lt, if◌then◌else◌, sum_by}
 use Rattle.std.proofs.lemmas.Bool.{ltb-false}
 use Rattle.std.proofs.lemmas.List.Sums.{sum_by-cons}
 use Rattle.doc_model.specs.declared.command.Command.{Command}
-use Rattle.cmd_text.specs.Script.{script_of}
+use Rattle.cmd_text.specs.Whole.{script_of}
 use Rattle.cmd_text.specs.declared.fault.ScriptFault.{ScriptFault}
 use Rattle.script_files.specs.Made.{texts_from}
 use Rattle.script_files.specs.Scripts.{after_reading, counted, in_front, script_in, scripts_from}

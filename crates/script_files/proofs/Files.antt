@@ -2,14 +2,13 @@
 use Rattle.std.proofs.Common.{◌≡◌, ℕ, suc, ◌+◌, ◌<◌, ◌≤◌, arith, List, []}
 use Rattle.std.proofs.Common.{◌∷◌, ◌++◌, Option, None, Some}
 use Rattle.std.proofs.Common.{length, map}
-use Rattle.std.proofs.Common.{Result, Ok, Err, refl, sym, ap, subst, ◌∙◌}
-use Rattle.std.specs.Prelude.{Vec}
-use Rattle.std.specs.declared.alloc.Global.{Global}
+use Rattle.std.proofs.Common.{Result, Ok, Err, refl, sym, ap, ◌∙◌}
 use Rattle.std.proofs.lemmas.List.{append_assoc, append-nil, length-map}
 use Rattle.std.proofs.lemmas.Bool.{lt-ltb, le-ltb}
 use Rattle.doc_model.specs.declared.command.Command.{Command}
 use Rattle.script_files.specs.Files.{AreTold}
-use Rattle.script_files.specs.Reading.{DecidesFile, DecidesFiles, DecidesFrom, lists_of}
+use Rattle.script_files.specs.Formed.{DecidesFiles}
+use Rattle.script_files.specs.Reading.{DecidesFile, DecidesFrom}
 use Rattle.script_files.specs.Scripts.{in_front, with_first, scripts_from}
 use Rattle.script_files.specs.Scripts.{IsScriptIn, AreScripts, AreScriptsFrom}
 use Rattle.script_files.specs.declared.fault.Fault.{Fault}
@@ -99,7 +98,7 @@ next_decided place before one told commands (Err (TooLarge file)) old new is oth
 pub ruleset in_turn = (none_decided, first_decided, next_decided)
 
 -- there is a content for each file
-told_length : (told : List (Option (List ℕ))) (contents : List (List ℕ))
+pub told_length : (told : List (Option (List ℕ))) (contents : List (List ℕ))
     → AreTold told contents
     → length contents ≡ length told
 told_length [] [] are = refl
@@ -126,15 +125,6 @@ too_many_files told many =
     let some = some_told told in
     let more : 64 < length some.0 = omega (arith, told_length told some.0 some.1) in
     (some.0, some.1, rw (lt-ltb 64 (length some.0) more))
-
--- all files were read, and are not too many
-pub all_read : (told : List (Option (List ℕ))) (scripts : Vec (Vec Command Global) Global)
-    (old : List (List Command)) → length told ≤ 64 → old ≡ []
-    → DecidesFrom 1 0 told (Ok tt) old (lists_of scripts.items) → DecidesFiles told (Ok scripts)
-all_read told scripts old few none is =
-    let same : lists_of scripts.items ≡ is.0 = is.1 ∙ ap (λ front. front ++ is.0) none in
-    within_count told (Ok (lists_of scripts.items)) few
-    (subst (λ s. AreScriptsFrom 1 0 told (Ok s)) (sym same) is.2)
 
 -- one of them was refused, or could not be read, or memory was wanting
 pub one_refused : (told : List (Option (List ℕ))) (fault : Fault)

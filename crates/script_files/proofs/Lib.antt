@@ -1,5 +1,6 @@
 mod Sessions
 pub mod Files
+pub mod Forms
 pub mod Opens
 mod Turns
 pub mod Counting

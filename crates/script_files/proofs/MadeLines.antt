@@ -33,7 +33,11 @@ use Rattle.cmd_text.specs.Line.{and_then, arguments_in, bare_reading_of, command
 use Rattle.cmd_text.specs.Line.{last_path_in, path_and_text_in, reading_of, two_paths_in}
 use Rattle.cmd_text.specs.Verb.{verb_of}
 use Rattle.cmd_text.specs.declared.fault.ScriptKind.TheVariants.{NoCommand}
-use Rattle.cmd_text.specs.Script.{commands_from, lines_of, script_of, with_line}
+use Rattle.cmd_text.specs.Script.{commands_from, with_line}
+use Rattle.cmd_text.specs.Whole.{script_of}
+use Rattle.cmd_text.specs.declared.form.Form.TheVariants.{Plain}
+use Rattle.cmd_text.proofs.Versions.{first_is_whole}
+use Rattle.line_words.specs.Lines.{lines_of}
 use Rattle.script_generator.specs.Draws.{drawn_at, opening_of, state_after}
 use Rattle.script_generator.specs.Generated.{copy_text_of, generated_of}
 use Rattle.script_generator.specs.Generated.{line_text_of, lines_from, path_text_of}
@@ -187,7 +191,7 @@ path_two first second one two =
 
 path_and_text : (path text : List ℕ) (names : List (List ℕ)) → IsSpaceless path
     → path_of path ≡ Some names → length text ≤ 4096
-    → path_and_text_in (32 ∷ (path ++ 32 ∷ text)) ≡ Ok (names, text)
+    → path_and_text_in Plain (32 ∷ (path ++ 32 ∷ text)) ≡ Ok (names, text)
 path_and_text path text names is read few =
     let word = word_before path text is in
     let rest = rest_before path text is in
@@ -213,9 +217,9 @@ two_paths path other names others is is_other read read_other =
 -- the command's word, and what stands behind it
 command_words : (word rest : List ℕ) → IsSpaceless word
     → command_of (word ++ 32 ∷ rest)
-    ≡ and_then (ok_or (verb_of word) NoCommand) (λ verb. arguments_in verb (32 ∷ rest))
+    ≡ and_then (ok_or (verb_of word) NoCommand) (λ verb. arguments_in Plain verb (32 ∷ rest))
 command_words word rest is =
-    ap₂ (λ w r. and_then (ok_or (verb_of w) NoCommand) (λ verb. arguments_in verb r))
+    ap₂ (λ w r. and_then (ok_or (verb_of w) NoCommand) (λ verb. arguments_in Plain verb r))
     (word_before word rest is) (rest_before word rest is)
 
 -- Whole lines.
@@ -574,7 +578,7 @@ script_whole start client commands before few short all =
       lines.2,
       ap (λ b. if b then Err (TooLarge client) else after_reading client before (script_of text))
           (le-ltb 1048576 (length text) size)
-          ∙ ap (after_reading client before) lines.1
+          ∙ ap (after_reading client before) (first_is_whole text lines.0 lines.1)
           ∙ ap (λ b. if b then Err (TooLarge 0) else Ok lines.0)
           (le-ltb 100000 (before + length lines.0) count),
     )

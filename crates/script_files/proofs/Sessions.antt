@@ -4,8 +4,8 @@
 -- longer one so much was read that it is too large as well.
 use Rattle.std.proofs.Common.{◌≡◌, ℕ, ◌<◌, ◌≤◌, List, Option, None, Some, Result, Ok, Err, true}
 use Rattle.std.proofs.Common.{false}
-use Rattle.std.proofs.Common.{length, take, min, refl, sym, ap, ◌∙◌, arith}
-use Rattle.std.specs.Prelude.{nat_lt, IfSome, Vec}
+use Rattle.std.proofs.Common.{◌+◌, length, take, min, refl, sym, ap, subst, ◌∙◌, arith}
+use Rattle.std.specs.Prelude.{nat_lt, if◌then◌else◌, IfSome, Vec}
 use Rattle.std.proofs.lemmas.List.{length-take, take_all}
 use Rattle.std.proofs.lemmas.Bool.{lt-ltb, ltb-true, ltb-false}
 use Rattle.outside.specs.Pieces.{IsFrontOf}
@@ -16,11 +16,14 @@ use Rattle.script_files.specs.declared.fault.Fault.TheVariants.{ReadFault, Write
 use Rattle.script_files.specs.declared.fault.Fault.TheVariants.{Memory, TooLarge}
 use Rattle.script_files.specs.Scripts.{after_reading, script_in, within_size, IsScriptIn}
 use Rattle.script_files.specs.Replayed.{after_schedule, steps_of, IsReading, Replays, ReplaysFile}
-use Rattle.cmd_text.specs.Script.{script_of}
+use Rattle.cmd_text.specs.Form.{form_of}
+use Rattle.cmd_text.specs.Whole.{script_of}
 use Rattle.core_replay.specs.Schedule.{schedule_of}
 use Rattle.core_replay.specs.ScheduleValue.{ScheduleValue}
 use Rattle.std.specs.declared.alloc.Global.{Global}
+use Rattle.script_files.specs.Formed.{Forms, ReadsFile}
 use Rattle.script_files.specs.Reading.{Decides, DecidesFile}
+use Rattle.script_files.specs.declared.scripts.Script as one
 
 longer : (n : ℕ) → 1048576 < n → 1048576 < min 1048577 n
 longer n long = omega arith
@@ -79,6 +82,37 @@ decided_file place before told front (Err WriteFault) read is = absurd is
 decided_file place before told front (Err Memory) read is = tt
 decided_file place before told front (Err (TooLarge file)) read is =
     script_of_file place before told front (Err (TooLarge file)) read is
+
+-- a file whose script was read is no longer than what was read of it
+sized : (file : ℕ) (reading : List ℕ → Result (List Command) Fault) (bytes : List ℕ)
+    (commands : List Command) → within_size file reading bytes ≡ Ok commands
+    → length bytes ≤ 1048576
+sized file reading bytes commands =
+    elim (nat_lt 1048576 (length bytes)) as (λ b. nat_lt 1048576 (length bytes) ≡ b
+    → (if b then Err (TooLarge file) else reading bytes) ≡ Ok commands
+    → length bytes ≤ 1048576) [
+      | true ↦ λ e is. absurd (cc)
+      | false ↦ λ e is. ltb-false 1048576 (length bytes) e
+    ] refl
+
+all_read : (n : ℕ) (all : List ℕ) → length (take (n + 1) all) ≤ n → take (n + 1) all ≡ all
+all_read n all short =
+    let few : length all ≤ n + 1 = omega (arith, length-take (n + 1) all) in
+    take_all (n + 1) all few
+
+pub formed_file : (file before : ℕ) (told : Option (List ℕ)) (front : List ℕ)
+    (answer : Result one.Script Fault) → IsFrontOf told 1048577 front
+    → Forms answer (script_in file before front) (form_of front)
+    → ReadsFile file before answer told
+formed_file file before None front (Ok script) read is = (front, tt, is.0, is.1)
+formed_file file before (Some all) front (Ok script) read is =
+    let short = sized file (λ bytes. after_reading file before (script_of bytes)) front
+    script.commands.items is.0 in
+    let whole : take 1048577 all ≡ all =
+    all_read 1048576 all (subst (λ (f : List ℕ). length f ≤ 1048576) read short) in
+    (front, read ∙ whole, is.0, is.1)
+formed_file file before told front (Err fault) read is =
+    decided_file file before told front (Err fault) read is
 
 pub replayed_file : (told : Option (List ℕ)) (front : List ℕ)
     (answer : Result (Vec ℕ Global) Fault) → IsFrontOf told 1048577 front

@@ -3,8 +3,9 @@
 use Rattle.std.specs.Prelude.{ℕ, List, ◌++◌, Option, None, Some, codes, decimal, Bool, true, false}
 use Rattle.std.specs.Prelude.{◌==◌, if◌then◌else◌}
 use Rattle.cmd_text.specs.declared.fault.ScriptKind.{ScriptKind}
-use Rattle.cmd_text.specs.declared.fault.ScriptKind.TheVariants.{BadByte, NoCommand, BadNumber}
-use Rattle.cmd_text.specs.declared.fault.ScriptKind.TheVariants.{BadPath, LongText, Extra}
+use Rattle.cmd_text.specs.declared.fault.ScriptKind.TheVariants.{BadByte, NoCommand, NoBatch}
+use Rattle.cmd_text.specs.declared.fault.ScriptKind.TheVariants.{BadNumber, BadPath, NoQuote}
+use Rattle.cmd_text.specs.declared.fault.ScriptKind.TheVariants.{LongText, Extra, LongBatch}
 use Rattle.core_replay.specs.declared.fault.ScheduleKind.{ScheduleKind}
 use Rattle.core_replay.specs.declared.fault.ScheduleKind.TheVariants as schedule
 use Rattle.script_files.specs.declared.fault.Fault.{Fault}
@@ -26,10 +27,13 @@ status_of (Some (TooLarge file)) = 6
 abbrev pub kind_text_of : ScriptKind → List ℕ
 kind_text_of BadByte = codes "BadByte"
 kind_text_of NoCommand = codes "NoCommand"
+kind_text_of NoBatch = codes "NoBatch"
 kind_text_of BadNumber = codes "BadNumber"
 kind_text_of BadPath = codes "BadPath"
+kind_text_of NoQuote = codes "NoQuote"
 kind_text_of LongText = codes "LongText"
 kind_text_of Extra = codes "Extra"
+kind_text_of LongBatch = codes "LongBatch"
 
 -- the same for a line of a schedule
 abbrev pub schedule_kind_text_of : ScheduleKind → List ℕ

@@ -1,7 +1,7 @@
 -- What several files hold, one after another, as far as the shelf tells it.
 -- Source: this project's own.
 use Rattle.std.specs.Prelude.{◌≡◌, ℕ, zero, suc, ◌≤◌, List, [], ◌∷◌, Option}
-use Rattle.std.specs.Prelude.{None, Some, IfSome}
+use Rattle.std.specs.Prelude.{IfSome}
 use Rattle.std.specs.Prelude.{if◌then◌else◌, nat_lt}
 use Rattle.outside.specs.Causes.{next_count}
 

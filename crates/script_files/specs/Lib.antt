@@ -1,5 +1,6 @@
 pub mod Fault
 pub mod Files
+pub mod Formed
 pub mod Scripts
 pub mod Reading
 pub mod Made

@@ -3,7 +3,7 @@
 use Rattle.std.specs.Prelude.{◌≡◌, ℕ, List, ◌++◌, Option, Result, Ok, Err, Vec, map}
 use Rattle.std.specs.declared.alloc.Global.{Global}
 use Rattle.doc_model.specs.declared.command.Command.{Command}
-use Rattle.script_files.specs.Scripts.{IsScriptIn, AreScripts, AreScriptsFrom}
+use Rattle.script_files.specs.Scripts.{IsScriptIn, AreScriptsFrom}
 use Rattle.script_files.specs.declared.fault.Fault.{Fault}
 use Rattle.script_files.specs.declared.fault.Fault.TheVariants.{Usage, Script, Schedule}
 use Rattle.script_files.specs.declared.fault.Fault.TheVariants.{ReadFault, WriteFault}
@@ -54,16 +54,3 @@ DecidesFrom place before told (Err WriteFault) old new = ⊥
 DecidesFrom place before told (Err Memory) old new = Unit {0}
 DecidesFrom place before told (Err (TooLarge file)) old new =
     AreScriptsFrom place before told (Err (TooLarge file))
-
--- the answer is the scripts of the files, or the fault that decides, or a file could not be read,
--- or memory was wanting
-abbrev pub DecidesFiles : List (Option (List ℕ)) → Result (Vec (Vec Command Global) Global) Fault
-    → Type 0
-DecidesFiles told (Ok scripts) = AreScripts told (Ok (lists_of scripts.items))
-DecidesFiles told (Err Usage) = ⊥
-DecidesFiles told (Err (Script file line kind)) = AreScripts told (Err (Script file line kind))
-DecidesFiles told (Err (Schedule line kind)) = ⊥
-DecidesFiles told (Err (ReadFault file)) = Unit {0}
-DecidesFiles told (Err WriteFault) = ⊥
-DecidesFiles told (Err Memory) = Unit {0}
-DecidesFiles told (Err (TooLarge file)) = AreScripts told (Err (TooLarge file))

@@ -8,7 +8,7 @@ use Rattle.std.specs.Prelude.{◌≡◌, ℕ, ◌+◌, ◌-◌, ◌≤◌, List,
 use Rattle.std.specs.Prelude.{nat_lt, Option, IfSome}
 use Rattle.std.specs.Prelude.{Result, Ok, Err, IsOk, IsErrAnd, ◌⊎◌, ◌↔◌, ◌≢◌, if◌then◌else◌}
 use Rattle.doc_model.specs.declared.command.Command.{Command}
-use Rattle.cmd_text.specs.Script.{script_of}
+use Rattle.cmd_text.specs.Whole.{script_of}
 use Rattle.cmd_text.specs.declared.fault.ScriptFault.{ScriptFault}
 use Rattle.script_files.specs.Files.{AreTold, most_files, opened}
 use Rattle.script_files.specs.declared.fault.Fault.{Fault}

@@ -107,10 +107,13 @@ fn kind_text(kind: ScriptKind) -> &'static str
     match kind {
         ScriptKind::BadByte => "BadByte",
         ScriptKind::NoCommand => "NoCommand",
+        ScriptKind::NoBatch => "NoBatch",
         ScriptKind::BadNumber => "BadNumber",
         ScriptKind::BadPath => "BadPath",
+        ScriptKind::NoQuote => "NoQuote",
         ScriptKind::LongText => "LongText",
         ScriptKind::Extra => "Extra",
+        ScriptKind::LongBatch => "LongBatch",
     }
 }
 

@@ -18,4 +18,4 @@ mod scripts;
 pub use fault::{Fault, fault_text, final_fault, status};
 pub use made::{is_too_large, scripts_made};
 pub use replayed::replay_in_file;
-pub use scripts::scripts_in_files;
+pub use scripts::{Scripts, scripts_in_files};

@@ -3,19 +3,20 @@
 //! Too many files are refused unread. The refusals of a file are looked for in the order of its
 //! reading: it could not be read, it is too long, it is no script, the files up to it have too many
 //! commands. The first file that is refused decides, and no further one is opened.
-ghost use Rattle.std.specs.Prelude.{◌≡◌, ℕ, ◌+◌, ◌*◌, ◌≤◌, length, map, IfOk};
+ghost use Rattle.std.specs.Prelude.{◌≡◌, ℕ, ◌+◌, ◌*◌, ◌≤◌, [], ◌∷◌, ◌++◌, length, map, IfOk};
 ghost use Rattle.std.specs.Prelude.{OnOk, IsErrOf};
 ghost use Rattle.std.specs.Prelude.{sum_by};
 ghost use Rattle.outside.specs.Calls.{IsUnbroken, IsOrderly};
 ghost use Rattle.outside.specs.Causes.{Rose, next_count};
 ghost use Rattle.script_files.specs.Files.{OpensInTurn, files_read, opened};
-ghost use Rattle.script_files.specs.Reading.{Decides, DecidesFile, DecidesFiles, DecidesFrom};
-ghost use Rattle.script_files.specs.Reading.{lists_of};
+ghost use Rattle.cmd_text.specs.Form.{form_of};
+ghost use Rattle.script_files.specs.Formed.{DecidesFiles, Forms, ReadsFile, ReadsFrom};
+ghost use Rattle.script_files.specs.Reading.{Decides};
 ghost use Rattle.script_files.specs.Scripts.{StopsBehind, counted, script_in};
 
 use crate::fault::Fault;
-use cmd_text::{ScriptError, ScriptFault, read_script};
-use doc_model::Command;
+use cmd_text::{Form, ScriptError, ScriptFault, read_script, script_form};
+use doc_model::{Command, NoMemory};
 use outside::{OutFault, READ_LIMIT, Shelf, read_file};
 use std::alloc::Global;
 
@@ -28,19 +29,53 @@ const MOST_FILES: usize = 64;
 // How many commands all scripts have at most.
 const MOST_COMMANDS: usize = 100_000;
 
+/// The scripts of several files, one of each.
+#[derive(Drop)]
+pub struct Scripts {
+    pub commands: Vec<Vec<Command>>,
+    /// the form of each script's texts
+    pub forms: Vec<Form>,
+}
+
+// The script of one file.
+#[derive(Drop)]
+struct Script {
+    commands: Vec<Command>,
+    form: Form,
+}
+
+impl Scripts {
+    fn push(&mut self, script: Script) -> Result<(), NoMemory>
+        ensures commands { OnOk result (self.new.commands.items
+            ≡ self.old.commands.items ++ script.commands ∷ []) }
+        ensures forms { OnOk result (self.new.forms.items
+            ≡ self.old.forms.items ++ script.form ∷ []) }
+        ensures count { OnOk result (length self.new.commands.items
+            ≡ length self.old.commands.items + 1) }
+        ensures sum { OnOk result (sum_by (λ each. length each.items) self.new.commands.items
+            ≡ sum_by (λ each. length each.items) self.old.commands.items
+            + length script.commands.items) }
+    {
+        let Script { commands, form } = script;
+        self.commands.push(commands)?;
+        self.forms.push(form)?;
+        Ok(())
+    }
+}
+
 /// The scripts in the files of these names.
 #[tactic(auto, using(crate::proofs::Opens::stops_none))]
 pub fn scripts_in_files<H: Shelf>(
     alloc: Global,
     names: &[&str],
     shelf: &mut H,
-) -> Result<Vec<Vec<Command>>, Fault>
+) -> Result<Scripts, Fault>
     ensures scripts { DecidesFiles
         (map (H.holds shelf.old) (map (λ name. name.now) names.now)) result }
-    ensures count { IfOk result (λ scripts. length scripts.items ≡ length names.now) }
-    ensures few { IfOk result (λ scripts. length scripts.items ≤ 64) }
+    ensures count { IfOk result (λ scripts. length scripts.commands.items ≡ length names.now) }
+    ensures few { IfOk result (λ scripts. length scripts.commands.items ≤ 64) }
     ensures total { IfOk result (λ scripts.
-        sum_by (λ script. length script.items) scripts.items ≤ 100_000) }
+        sum_by (λ script. length script.items) scripts.commands.items ≤ 100_000) }
     ensures read { (file : ℕ) → IsErrOf result (Fault.ReadFault file) →
         Rose (H.faults shelf.old) (H.faults shelf.new) }
     ensures read_file { (file : ℕ) → IsErrOf result (Fault.ReadFault file) →
@@ -66,17 +101,13 @@ pub fn scripts_in_files<H: Shelf>(
 }
 
 // The scripts in the files of these names, which are not too many.
-fn scripts_in_turn<H: Shelf>(
-    alloc: Global,
-    names: &[&str],
-    shelf: &mut H,
-) -> Result<Vec<Vec<Command>>, Fault>
+fn scripts_in_turn<H: Shelf>(alloc: Global, names: &[&str], shelf: &mut H) -> Result<Scripts, Fault>
     requires few { length names.now ≤ 64 }
     ensures scripts { DecidesFiles
         (map (H.holds shelf.old) (map (λ name. name.now) names.now)) result }
-    ensures count { IfOk result (λ scripts. length scripts.items ≡ length names.now) }
+    ensures count { IfOk result (λ scripts. length scripts.commands.items ≡ length names.now) }
     ensures total { IfOk result (λ scripts.
-        sum_by (λ script. length script.items) scripts.items ≤ 100_000) }
+        sum_by (λ script. length script.items) scripts.commands.items ≤ 100_000) }
     ensures read { (file : ℕ) → IsErrOf result (Fault.ReadFault file) →
         Rose (H.faults shelf.old) (H.faults shelf.new) }
     ensures read_file { (file : ℕ) → IsErrOf result (Fault.ReadFault file) →
@@ -94,7 +125,9 @@ fn scripts_in_turn<H: Shelf>(
     ensures orderly { IsUnbroken (H.course shelf.old) → IsOrderly (H.course shelf.new) }
     ensures faults { H.faults shelf.old ≤ H.faults shelf.new }
 {
-    let mut scripts = Vec::new(alloc);
+    let commands = Vec::new(alloc);
+    let forms = Vec::new(alloc);
+    let mut scripts = Scripts { commands, forms };
     match add_scripts(alloc, names, 1, 0, shelf, &mut scripts) {
         Ok(()) => Ok(scripts),
         Err(fault) => Err(fault),
@@ -110,18 +143,18 @@ fn add_scripts<H: Shelf>(
     file: u32,
     before: usize,
     shelf: &mut H,
-    scripts: &mut Vec<Vec<Command>>,
+    scripts: &mut Scripts,
 ) -> Result<(), Fault>
     requires few { file + length names.now ≤ 65 }
     requires before { before ≤ 100_000 }
-    requires all { sum_by (λ script. length script.items) scripts.old.items ≡ before }
-    ensures scripts { DecidesFrom file before
+    requires all { sum_by (λ script. length script.items) scripts.old.commands.items ≡ before }
+    ensures scripts { ReadsFrom file before
         (map (H.holds shelf.old) (map (λ name. name.now) names.now))
-        result (lists_of scripts.old.items) (lists_of scripts.new.items) }
-    ensures count { OnOk result (length scripts.new.items
-        ≡ length scripts.old.items + length names.now) }
+        result scripts.old scripts.new }
+    ensures count { OnOk result (length scripts.new.commands.items
+        ≡ length scripts.old.commands.items + length names.now) }
     ensures total { OnOk result (
-        sum_by (λ script. length script.items) scripts.new.items ≤ 100_000) }
+        sum_by (λ script. length script.items) scripts.new.commands.items ≤ 100_000) }
     ensures read { (place : ℕ) → IsErrOf result (Fault.ReadFault place) →
         Rose (H.faults shelf.old) (H.faults shelf.new) }
     ensures read_file { (place : ℕ) → IsErrOf result (Fault.ReadFault place) → (more : ℕ)
@@ -146,25 +179,26 @@ fn add_scripts<H: Shelf>(
         Ok(script) => script,
         Err(fault) => return Err(fault),
     };
-    let before = before + script.len();
-    if scripts.push(script).is_err() {
-        return Err(Fault::Memory);
+    let before = before + script.commands.len();
+    match scripts.push(script) {
+        Ok(()) => {}
+        Err(_) => return Err(Fault::Memory),
     }
     add_scripts(alloc, others, file + 1, before, shelf, scripts)
 }
 
 // The script in the file of this name.
-#[tactic(auto, using(crate::proofs::Sessions::decided_file))]
+#[tactic(auto, using(crate::proofs::Sessions::formed_file))]
 fn script_in_file<H: Shelf>(
     alloc: Global,
     name: &str,
     file: u32,
     before: usize,
     shelf: &mut H,
-) -> Result<Vec<Command>, Fault>
+) -> Result<Script, Fault>
     requires before { before ≤ 100_000 }
-    ensures script { DecidesFile file before result (H.holds shelf.old name.now) }
-    ensures few { IfOk result (λ script. before + length script.items ≤ 100_000) }
+    ensures script { ReadsFile file before result (H.holds shelf.old name.now) }
+    ensures few { IfOk result (λ script. before + length script.commands.items ≤ 100_000) }
     ensures held { H.holds shelf.new ≡ H.holds shelf.old }
     ensures read { (place : ℕ) → IsErrOf result (Fault.ReadFault place) →
         Rose (H.faults shelf.old) (H.faults shelf.new) }
@@ -176,9 +210,21 @@ fn script_in_file<H: Shelf>(
     ensures faults { H.faults shelf.old ≤ H.faults shelf.new }
 {
     match read_file(alloc, shelf, name) {
-        Ok(bytes) => script_in_bytes(alloc, &bytes, file, before),
+        Ok(bytes) => formed_script(alloc, &bytes, file, before),
         Err(OutFault::Failed) => Err(Fault::ReadFault { file }),
         Err(OutFault::NoMemory) => Err(Fault::Memory),
+    }
+}
+
+fn formed_script(alloc: Global, bytes: &[u8], file: u32, before: usize) -> Result<Script, Fault>
+    requires before { before ≤ 100_000 }
+    ensures script { Forms result (script_in file before bytes.now) (form_of bytes.now) }
+    ensures few { IfOk result (λ script. before + length script.commands.items ≤ 100_000) }
+{
+    let form = script_form(bytes);
+    match script_in_bytes(alloc, bytes, file, before) {
+        Ok(commands) => Ok(Script { commands, form }),
+        Err(fault) => Err(fault),
     }
 }
 

@@ -23,7 +23,10 @@ fn a_number_has_its_digits_and_no_more(rt: HostRuntime) {
 
 #[test]
 fn a_text_falls_into_its_lines(rt: HostRuntime) {
-    assert_eq!(rt; cut_line(b"a\n\nb"), (b"a".as_slice(), Some(b"\nb".as_slice())));
+    assert_eq!(rt;
+        cut_line(b"a\n\nb"),
+        (b"a".as_slice(), Some(b"\nb".as_slice()))
+    );
     assert_eq!(rt; cut_line(b"\nb"), (b"".as_slice(), Some(b"b".as_slice())));
     assert_eq!(rt; cut_line(b"b\r"), (b"b\r".as_slice(), None));
     assert_eq!(rt; cut_line(b"b\n"), (b"b".as_slice(), Some(b"".as_slice())));

@@ -54,11 +54,20 @@ const FAULTS: [(&str, Option<(u32, ScriptKind)>); 41] = [
     ("begin\nput /x", Some((3, ScriptKind::BadPath))),
     ("begin\nput x", Some((3, ScriptKind::NoQuote))),
     ("begin\ncopy a b c", Some((3, ScriptKind::Extra))),
-    ("begin\ndel a\ncommit\ncommit", Some((5, ScriptKind::NoBatch))),
-    ("begin\ndel a\ncommit\nbegin\n\npublish a", Some((5, ScriptKind::NoBatch))),
+    (
+        "begin\ndel a\ncommit\ncommit",
+        Some((5, ScriptKind::NoBatch)),
+    ),
+    (
+        "begin\ndel a\ncommit\nbegin\n\npublish a",
+        Some((5, ScriptKind::NoBatch)),
+    ),
     ("get a\nbegin", Some((3, ScriptKind::NoBatch))),
     ("begin\nget a\n", Some((3, ScriptKind::NoBatch))),
-    ("begin\ndel a\ncommit\r\nsize", Some((5, ScriptKind::BadPath))),
+    (
+        "begin\ndel a\ncommit\r\nsize",
+        Some((5, ScriptKind::BadPath)),
+    ),
 ];
 
 /// The first of these lines that have not their fault behind this first line.
@@ -123,11 +132,21 @@ fn is_batch_between(alloc: Global, script: &[u8]) -> Result<bool, Unmade> {
         return Err(Unmade::NoScript);
     }
     let commands = read_script(alloc, script)?;
-    let [Command::Put { .. }, Command::Batch { edits }, Command::Get { .. }] = commands.as_slice()
+    let [
+        Command::Put { .. },
+        Command::Batch { edits },
+        Command::Get { .. },
+    ] = commands.as_slice()
     else {
         return Ok(false);
     };
-    let [put, Edit::Copy { .. }, Edit::Del { .. }, Edit::Publish { .. }] = edits.edits() else {
+    let [
+        put,
+        Edit::Copy { .. },
+        Edit::Del { .. },
+        Edit::Publish { .. },
+    ] = edits.edits()
+    else {
         return Ok(false);
     };
     is_put(put, alloc, "b", "\"2\"\n")
@@ -179,7 +198,10 @@ fn fault_of_long_text(alloc: Global) -> Result<Option<(u32, ScriptKind)>, NoMemo
 
 #[test]
 fn a_text_as_long_as_a_file_is_too_long(rt: HostRuntime) -> Result<(), Fail> {
-    assert_eq!(rt; fault_of_long_text(rt.alloc())?, Some((2, ScriptKind::LongText)));
+    assert_eq!(rt;
+        fault_of_long_text(rt.alloc())?,
+        Some((2, ScriptKind::LongText))
+    );
     Ok(())
 }
 

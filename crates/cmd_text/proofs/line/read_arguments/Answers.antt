@@ -62,8 +62,9 @@ second_faulty e first part second later is bad =
     (first_faulty e second (later part) bad)
 
 -- which is that of the command
-faulty : {A : Type 0} (form : Form) (verb : Verb) (rest : List ℕ) (e : LineError) (r : Result Command LineError)
-    (parts : Result A ScriptKind) (made : A → Result Command ScriptKind)
+faulty : {A : Type 0} (form : Form) (verb : Verb) (rest : List ℕ) (e : LineError)
+    (r : Result Command LineError) (parts : Result A ScriptKind)
+    (made : A → Result Command ScriptKind)
     → arguments_in form verb rest ≡ and_then parts made → IsErrAnd r (λ x. x ≡ e)
     → Gives {A = A} (Err e) parts → Gives r (arguments_in form verb rest)
 faulty form verb rest e r parts made is gives bad =
@@ -87,7 +88,8 @@ returns-in_err-to-in-Copy c =
     let rest = c.args.rest.now in
     let error = c.in_err-to-in-Copy.field-0.0 in
     faulty c.args.form c.args.verb rest error _ (two_paths_in rest) copy
-    (ap (λ v. arguments_in c.args.form v rest) c.in-Copy.is) c.from_residual-in_err-to-in-Copy.ensures.1
+    (ap (λ v. arguments_in c.args.form v rest) c.in-Copy.is)
+    c.from_residual-in_err-to-in-Copy.ensures.1
     (second_faulty error _ c.in_ok-from-in-Copy.from _ both c.in_ok-from-in-Copy.ensures
     (subst (λ (after : List ℕ). Gives {A = List (List ℕ)} (Err error) (last_path_in after))
     c.next_rest.ensures c.in_err-to-in-Copy.ensures))
@@ -97,7 +99,8 @@ returns-in_err-from-in-Copy c =
     let rest = c.args.rest.now in
     let error = c.in_err-from-in-Copy.field-0.0 in
     faulty c.args.form c.args.verb rest error _ (two_paths_in rest) copy
-    (ap (λ v. arguments_in c.args.form v rest) c.in-Copy.is) c.from_residual-in_err-from-in-Copy.ensures.1
+    (ap (λ v. arguments_in c.args.form v rest) c.in-Copy.is)
+    c.from_residual-in_err-from-in-Copy.ensures.1
     (first_faulty error (path_in rest) (with_second rest) c.in_err-from-in-Copy.ensures)
 
 pub returns-in_ok-path-in-Old : goal.returns-in_ok-path-in-Old
@@ -115,7 +118,8 @@ returns-in_err-path-in-Old c =
     let rest = c.args.rest.now in
     let error = c.in_err-path-in-Old.field-0.0 in
     faulty c.args.form c.args.verb rest error _ (number_and_path_in rest) old
-    (ap (λ v. arguments_in c.args.form v rest) c.in-Old.is) c.from_residual-in_err-path-in-Old.ensures.1
+    (ap (λ v. arguments_in c.args.form v rest) c.in-Old.is)
+    c.from_residual-in_err-path-in-Old.ensures.1
     (second_faulty error _ c.in_ok-back-in-Old.back _ number_with c.in_ok-back-in-Old.ensures
     (subst (λ (after : List ℕ). Gives {A = List (List ℕ)} (Err error) (last_path_in after))
     c.next_rest-in-Old.ensures c.in_err-path-in-Old.ensures))
@@ -125,7 +129,8 @@ returns-in_err-back-in-Old c =
     let rest = c.args.rest.now in
     let error = c.in_err-back-in-Old.field-0.0 in
     faulty c.args.form c.args.verb rest error _ (number_and_path_in rest) old
-    (ap (λ v. arguments_in c.args.form v rest) c.in-Old.is) c.from_residual-in_err-back-in-Old.ensures.1
+    (ap (λ v. arguments_in c.args.form v rest) c.in-Old.is)
+    c.from_residual-in_err-back-in-Old.ensures.1
     (first_faulty error (number_in rest) (with_path rest) c.in_err-back-in-Old.ensures)
 
 pub returns-in_ok-read_last_path-in-Del : goal.returns-in_ok-read_last_path-in-Del
@@ -173,7 +178,8 @@ returns-in_ok-path-in-Put c =
 pub returns-in_err-path-in-Put : goal.returns-in_err-path-in-Put
 returns-in_err-path-in-Put c =
     let rest = c.args.rest.now in
-    faulty c.args.form c.args.verb rest c.in_err-path-in-Put.field-0.0 _ (path_and_text_in c.args.form rest)
+    faulty c.args.form c.args.verb rest c.in_err-path-in-Put.field-0.0 _ (path_and_text_in
+    c.args.form rest)
     (λ p. Ok (commands.Put p.0 p.1)) (ap (λ v. arguments_in c.args.form v rest) c.in-Put.is)
     c.from_residual.ensures.1 c.in_err-path-in-Put.ensures
 
@@ -185,14 +191,17 @@ returns-in_ok-path-in-DraftPut c =
 pub returns-in_err-path-in-DraftPut : goal.returns-in_err-path-in-DraftPut
 returns-in_err-path-in-DraftPut c =
     let rest = c.args.rest.now in
-    faulty c.args.form c.args.verb rest c.in_err-path-in-DraftPut.field-0.0 _ (path_and_text_in c.args.form rest)
-    (λ p. Ok (commands.DraftPut p.0 p.1)) (ap (λ v. arguments_in c.args.form v rest) c.in-DraftPut.is)
+    faulty c.args.form c.args.verb rest c.in_err-path-in-DraftPut.field-0.0 _ (path_and_text_in
+    c.args.form rest)
+    (λ p. Ok (commands.DraftPut p.0 p.1)) (ap (λ v. arguments_in c.args.form v rest)
+    c.in-DraftPut.is)
     c.from_residual-in_err-path-in-DraftPut.ensures.1 c.in_err-path-in-DraftPut.ensures
 
 pub returns-in_err-read_last_path-in-Del : goal.returns-in_err-read_last_path-in-Del
 returns-in_err-read_last_path-in-Del c =
     let rest = c.args.rest.now in
-    faulty c.args.form c.args.verb rest c.in_err-read_last_path-in-Del.field-0.0 _ (last_path_in rest)
+    faulty c.args.form c.args.verb rest c.in_err-read_last_path-in-Del.field-0.0 _ (last_path_in
+    rest)
     (λ path. Ok (commands.Del path)) (ap (λ v. arguments_in c.args.form v rest) c.in-Del.is)
     c.from_residual-in_err-read_last_path-in-Del.ensures.1
     c.in_err-read_last_path-in-Del.ensures
@@ -200,7 +209,8 @@ returns-in_err-read_last_path-in-Del c =
 pub returns-in_err-read_last_path-in-Get : goal.returns-in_err-read_last_path-in-Get
 returns-in_err-read_last_path-in-Get c =
     let rest = c.args.rest.now in
-    faulty c.args.form c.args.verb rest c.in_err-read_last_path-in-Get.field-0.0 _ (last_path_in rest)
+    faulty c.args.form c.args.verb rest c.in_err-read_last_path-in-Get.field-0.0 _ (last_path_in
+    rest)
     (λ path. Ok (commands.Get path)) (ap (λ v. arguments_in c.args.form v rest) c.in-Get.is)
     c.from_residual-in_err-read_last_path-in-Get.ensures.1
     c.in_err-read_last_path-in-Get.ensures
@@ -208,7 +218,8 @@ returns-in_err-read_last_path-in-Get c =
 pub returns-in_err-read_last_path-in-List : goal.returns-in_err-read_last_path-in-List
 returns-in_err-read_last_path-in-List c =
     let rest = c.args.rest.now in
-    faulty c.args.form c.args.verb rest c.in_err-read_last_path-in-List.field-0.0 _ (last_path_in rest)
+    faulty c.args.form c.args.verb rest c.in_err-read_last_path-in-List.field-0.0 _ (last_path_in
+    rest)
     (λ path. Ok (commands.List path)) (ap (λ v. arguments_in c.args.form v rest) c.in-List.is)
     c.from_residual-in_err-read_last_path-in-List.ensures.1
     c.in_err-read_last_path-in-List.ensures
@@ -216,7 +227,8 @@ returns-in_err-read_last_path-in-List c =
 pub returns-in_err-read_last_path-in-Size : goal.returns-in_err-read_last_path-in-Size
 returns-in_err-read_last_path-in-Size c =
     let rest = c.args.rest.now in
-    faulty c.args.form c.args.verb rest c.in_err-read_last_path-in-Size.field-0.0 _ (last_path_in rest)
+    faulty c.args.form c.args.verb rest c.in_err-read_last_path-in-Size.field-0.0 _ (last_path_in
+    rest)
     (λ path. Ok (commands.Size path)) (ap (λ v. arguments_in c.args.form v rest) c.in-Size.is)
     c.from_residual-in_err-read_last_path-in-Size.ensures.1
     c.in_err-read_last_path-in-Size.ensures
@@ -224,15 +236,18 @@ returns-in_err-read_last_path-in-Size c =
 pub returns-in_err-read_last_path-in-DraftGet : goal.returns-in_err-read_last_path-in-DraftGet
 returns-in_err-read_last_path-in-DraftGet c =
     let rest = c.args.rest.now in
-    faulty c.args.form c.args.verb rest c.in_err-read_last_path-in-DraftGet.field-0.0 _ (last_path_in rest)
-    (λ path. Ok (commands.DraftGet path)) (ap (λ v. arguments_in c.args.form v rest) c.in-DraftGet.is)
+    faulty c.args.form c.args.verb rest c.in_err-read_last_path-in-DraftGet.field-0.0 _
+    (last_path_in rest)
+    (λ path. Ok (commands.DraftGet path)) (ap (λ v. arguments_in c.args.form v rest)
+    c.in-DraftGet.is)
     c.from_residual-in_err-read_last_path-in-DraftGet.ensures.1
     c.in_err-read_last_path-in-DraftGet.ensures
 
 pub returns-in_err-read_last_path-in-Take : goal.returns-in_err-read_last_path-in-Take
 returns-in_err-read_last_path-in-Take c =
     let rest = c.args.rest.now in
-    faulty c.args.form c.args.verb rest c.in_err-read_last_path-in-Take.field-0.0 _ (last_path_in rest)
+    faulty c.args.form c.args.verb rest c.in_err-read_last_path-in-Take.field-0.0 _ (last_path_in
+    rest)
     (λ path. Ok (commands.Take path)) (ap (λ v. arguments_in c.args.form v rest) c.in-Take.is)
     c.from_residual-in_err-read_last_path-in-Take.ensures.1
     c.in_err-read_last_path-in-Take.ensures
@@ -240,7 +255,8 @@ returns-in_err-read_last_path-in-Take c =
 pub returns-in_err-read_last_path-in-Publish : goal.returns-in_err-read_last_path-in-Publish
 returns-in_err-read_last_path-in-Publish c =
     let rest = c.args.rest.now in
-    faulty c.args.form c.args.verb rest c.in_err-read_last_path-in-Publish.field-0.0 _ (last_path_in rest)
+    faulty c.args.form c.args.verb rest c.in_err-read_last_path-in-Publish.field-0.0 _
+    (last_path_in rest)
     (λ path. Ok (commands.Publish path)) (ap (λ v. arguments_in c.args.form v rest) c.in-Publish.is)
     c.from_residual-in_err-read_last_path-in-Publish.ensures.1
     c.in_err-read_last_path-in-Publish.ensures

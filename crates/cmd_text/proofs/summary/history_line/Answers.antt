@@ -1,4 +1,5 @@
-use Rattle.std.proofs.Common.{◌≡◌, ℕ, List, [], ◌∷◌, ◌++◌, ◌∙◌, ap, codes, refl, append_assoc, decimal}
+use Rattle.std.proofs.Common.{◌≡◌, ℕ, List, [], ◌∷◌, ◌++◌, ◌∙◌, ap, codes, refl, append_assoc}
+use Rattle.std.proofs.Common.{decimal}
 use Rattle.cmd_text.proofs.summary.history_line.Goals as goal
 
 three_then : (a b c last : List ℕ)

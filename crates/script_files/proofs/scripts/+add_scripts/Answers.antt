@@ -2,8 +2,14 @@ use Rattle.std.proofs.Common.{◌≡◌, suc, [], ◌∷◌, ◌++◌, ◌-◌, 
 use Rattle.std.proofs.Common.{refl, rules, arith}
 use Rattle.std.proofs.Common.{length-drop}
 use Rattle.std.proofs.lemmas.List.{length-take}
-use Rattle.script_files.proofs.Turns.{turn_decided, turn_later, turn_opens, turn_stops, turn_unread}
+use Rattle.script_files.proofs.Forms.{none_left, turn_added}
+use Rattle.script_files.proofs.Turns.{turn_later, turn_opens, turn_stops, turn_unread}
 use Rattle.script_files.proofs.scripts.+add_scripts.Goals as goal
+
+pub returns-in_default-clause-scripts : goal.returns-in_default-clause-scripts
+returns-in_default-clause-scripts g t c =
+    none_left (λ name. name.now) c.args.names.now (g.H.Shelf.holds c.args.shelf.now) c.args.file
+    c.args.before c.args.scripts.now c.in_default.len_below
 
 pub returns-in-Err-clause-read_file : goal.returns-in-Err-clause-read_file
 returns-in-Err-clause-read_file g t c place is =
@@ -11,12 +17,17 @@ returns-in-Err-clause-read_file g t c place is =
 
 pub returns-clause-scripts : goal.returns-clause-scripts
 returns-clause-scripts g t c =
-    let pushed : c.push.new.self.items ≡ c.args.scripts.now.items ++ c.in-Ok.script ∷ [] =
+    let old = c.args.scripts.now in
+    let script = c.in-Ok.script in
+    let pushed : c.push.new.self.commands.items ≡ old.commands.items ++ script.commands ∷ [] =
     search rules in
-    let counted : c.len.result ≡ length c.in-Ok.script.items = search rules in
-    turn_decided (λ name. name.now) _ _ _ _ _ _ _ _ _ _ _ _ _ counted c.in-len1-up.len_at_least
-    refl c.in-Ok.ensures.held pushed c.in-Ok.ensures.script
-    c.add_scripts.ensures.scripts
+    let formed : c.push.new.self.forms.items ≡ old.forms.items ++ script.form ∷ [] =
+    search rules in
+    let counted : c.len.result ≡ length script.commands.items = search rules in
+    turn_added (λ name. name.now) c.args.names.now _ _ _ _ c.args.file c.args.before
+    script.commands script.form c.add_scripts.result old c.push.new.self
+    c.add_scripts.new.scripts _ counted c.in-len1-up.len_at_least refl c.in-Ok.ensures.held pushed
+    formed c.in-Ok.ensures.script c.add_scripts.ensures.scripts
 
 pub returns-clause-read_file : goal.returns-clause-read_file
 returns-clause-read_file g t c place is =
@@ -24,10 +35,12 @@ returns-clause-read_file g t c place is =
 
 pub returns-clause-stops : goal.returns-clause-stops
 returns-clause-stops g t c =
-    let counted : c.len.result ≡ length c.in-Ok.script.items = search rules in
-    turn_stops (λ name. name.now) _ _ _ _ _ _ _ c.in-Ok.script _ _ _ _ counted
-    c.in-len1-up.len_at_least refl c.in-Ok.ensures.held c.in-Ok.ensures.script c.in-Ok.ensures.opens
-    c.add_scripts.ensures.stops
+    let commands = c.in-Ok.script.commands in
+    let read = c.in-Ok.ensures.script in
+    let counted : c.len.result ≡ length commands.items = search rules in
+    turn_stops (λ name. name.now) _ _ _ _ _ _ _ commands _ _ _ _ counted
+    c.in-len1-up.len_at_least refl c.in-Ok.ensures.held (read.0, read.1, read.2)
+    c.in-Ok.ensures.opens c.add_scripts.ensures.stops
 
 pub returns-clause-opens : goal.returns-clause-opens
 returns-clause-opens g t c =
