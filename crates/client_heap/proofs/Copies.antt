@@ -20,7 +20,7 @@ use Rattle.core_machine.specs.declared.events.Found.{Found}
 use Rattle.core_machine.specs.declared.events.Found.TheVariants as finds
 use Rattle.core_machine.specs.declared.events.Taken.{Taken}
 use Rattle.core_machine.specs.Own.{Own, having_claimed, having_claimed_by, having_read}
-use Rattle.core_machine.specs.Own.{having_read_by, looked_by, no_own, own_after}
+use Rattle.core_machine.specs.Own.{having_fetched_by, having_read_by, looked_by, no_own, own_after}
 use Rattle.core_machine.specs.Trail.{own_along}
 use Rattle.doc_records.specs.Trees.{IsTreeNode, tree_of}
 use Rattle.document_versions.specs.Spelled.{node_is_record}
@@ -76,6 +76,11 @@ read_by_more : (own : Own) (found : Found) → own.claims ≤ (having_read_by ow
 read_by_more own (finds.Field f) = read_more own f
 read_by_more own found = omega arith
 
+fetched_by_more : (own : Own) (place f : ℕ) (found : Found)
+    → own.claims ≤ (having_fetched_by own place f found).claims
+fetched_by_more own place f (finds.Field x) = read_more own x
+fetched_by_more own place f found = omega arith
+
 claimed_by_more : (own : Own) (cell : ℕ) (found : Found)
     → own.claims ≤ (having_claimed_by own cell found).claims
 claimed_by_more own cell (finds.Colour c) = claimed_more own cell c
@@ -85,6 +90,7 @@ event_more : (own : Own) (e : Event) (found : Found)
     → own.claims ≤ (own_after own e found).claims
 event_more own (event.Look i) found = looked_by_more own found
 event_more own (event.Read i place f) found = read_by_more own found
+event_more own (event.Fetch i place f) found = fetched_by_more own place f found
 event_more own (event.Claim i cell) found = claimed_by_more own cell found
 event_more own e found = omega arith
 

@@ -112,8 +112,10 @@ paired_after : (s : State) (e : Event) → IsPaired s → IsPaired (after s e)
 paired_after s (event.Begin i) is = both_paired s i _ _ is
 paired_after s (event.Look i) is = own_paired s i _ is
 paired_after s (event.Read i place f) is = own_paired s i _ is
+paired_after s (event.Fetch i place f) is = own_paired s i _ is
 paired_after s (event.Mark i place) is = own_paired s i _ is
 paired_after s (event.Write i place f old new) is = own_paired s i _ is
+paired_after s (event.Store i new) is = own_paired s i _ is
 paired_after s (event.Claim i c) is = own_paired s i _ is
 paired_after s (event.Answer i) is = both_paired s i _ _ is
 paired_after s (event.Keep i count from copies) is = own_paired s i _ is
@@ -153,8 +155,11 @@ claims_after s (event.Begin i) paired h = same_claims s i _ refl
 claims_after s (event.Look i) paired h = same_claims s i _ refl
 claims_after s (event.Read i place f) paired h =
     same_claims s i _ (read_claims (own_of s i) (field_of s (target_of s i place) f))
+claims_after s (event.Fetch i place f) paired h =
+    same_claims s i _ (read_claims (own_of s i) (field_of s (target_of s i place) f))
 claims_after s (event.Mark i place) paired h = same_claims s i _ refl
 claims_after s (event.Write i place f old new) paired h = same_claims s i _ refl
+claims_after s (event.Store i new) paired h = same_claims s i _ refl
 claims_after s (event.Claim i c) paired h =
     claims_told s i c (colour_of s c)
     (let there = inside_listed s.presences i (claim_needs s i c h).inside in
