@@ -14,7 +14,7 @@ import java.util.concurrent.CyclicBarrier;
  * System.gc is called again and again meanwhile, with flags by which that is a concurrent cycle.
  * WRITES are made as often as it takes to last for LEAST ms. A line for each kind and thread: the
  * kind, nanoseconds by the clock and of the thread's own processor time, the writes that were made
- * and those that were tried, and from when to when, in ms since the start.
+ * and those that were tried, and from when to when, in ms since 1970.
  */
 public final class Writes {
     static final class Node {
@@ -97,9 +97,8 @@ public final class Writes {
         try {
             for (int k = 0; k < 20; k++) write(kind, thread, Math.min(turns, 2_000));
             var times = ManagementFactory.getThreadMXBean();
-            long born = ManagementFactory.getRuntimeMXBean().getStartTime();
             start.await();
-            double at = System.currentTimeMillis() - born;
+            double at = System.currentTimeMillis();
             long from = System.nanoTime(), cpu = times.getCurrentThreadCpuTime();
             long made = 0, tried = 0;
             while (tried == 0 || System.nanoTime() - from < 1_000_000 * least) {

@@ -1,10 +1,10 @@
 """What a write of a field of a box costs, beside bare words, Go and Java (operations.py --writes)."""
 import os, re, statistics, subprocess
 
-JAVA = ["-XX:+UseG1GC", "-Xms1g", "-Xmx1g", "-XX:+ExplicitGCInvokesConcurrent",
-        "-XX:MaxTenuringThreshold=0", "-Xlog:gc+marking=info:stderr:uptime"]
+JAVA = ["-XX:+UseG1GC", "-Xbatch", "-Xms1g", "-Xmx1g", "-XX:+ExplicitGCInvokesConcurrent",
+        "-XX:MaxTenuringThreshold=0", "-Xlog:gc+marking=info:stderr:timemillis"]
 GO_MARKS = re.compile(r"gc \d+ @([\d.]+)s \d+%: ([\d.]+)\+([\d.]+)\+")
-JAVA_MARKS = re.compile(r"\[([\d.]+)s\].*Concurrent (?:Mark|Scan Root Regions) ([\d.]+)ms")
+JAVA_MARKS = re.compile(r"\[(\d+)ms\].*Concurrent (?:Mark|Scan Root Regions) ([\d.]+)ms")
 
 # How long each kind lasts in Go and in Java, in ms: while they collect, for several cycles.
 LEAST = (100, 600)
@@ -70,8 +70,9 @@ def go_spans(log):
 
 
 def java_spans(log):
+    """The same, in ms since 1970."""
     found = [tuple(map(float, one)) for one in JAVA_MARKS.findall(log)]
-    return [(1000 * at - took, 1000 * at) for at, took in found]
+    return [(at - took, at) for at, took in found]
 
 
 def theirs(program, language, nodes, spans):
