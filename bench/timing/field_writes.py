@@ -1,4 +1,4 @@
-"""What a write of a field of a box costs, beside bare words, Go and Java (operations.py --writes)."""
+"""What a write of a field costs, beside bare words, Go and Java: operations.py --writes."""
 import os, re, statistics, subprocess
 
 JAVA = ["-XX:+UseG1GC", "-Xbatch", "-Xms1g", "-Xmx1g", "-XX:+ExplicitGCInvokesConcurrent",

@@ -153,7 +153,14 @@ fn make_at(heap: &Heap, status: u64, cell: usize) -> bool {
     got
 }
 
-fn write(heap: &Heap, queue: &Queue, meeting: &Meeting, number: usize, turns: u64, kind: &str) -> [u64; 6] {
+fn write(
+    heap: &Heap,
+    queue: &Queue,
+    meeting: &Meeting,
+    number: usize,
+    turns: u64,
+    kind: &str,
+) -> [u64; 6] {
     let held = Vec::with_capacity(8);
     let mut m = Mutator { heap, queue, number, held, mode: 0, status: 0, claims: 0, tries: 1 };
     m.begin();
@@ -212,13 +219,17 @@ fn trace(heap: &Heap, queue: &Queue, meeting: &Meeting) -> [u64; 6] {
 pub fn run(threads: usize, writes: u64, kind: &str, tracing: bool) {
     let (wall, cpu) = (Instant::now(), all());
     let (heap, queue) = (Heap::open(APART * (1 + 3 * threads), threads), Queue::new(1));
-    let meeting =
-        Meeting { ready: AtomicU64::new(0), open: AtomicBool::new(!tracing), done: AtomicU64::new(0) };
+    let meeting = Meeting {
+        ready: AtomicU64::new(0),
+        open: AtomicBool::new(!tracing),
+        done: AtomicU64::new(0),
+    };
     let (heap, queue, meeting) = (&heap, &queue, &meeting);
     let figures = std::thread::scope(|scope| {
         let mut running = Vec::new();
+        let turns = writes / 64;
         for number in 0..threads {
-            running.push(scope.spawn(move || write(heap, queue, meeting, number, writes / 64, kind)));
+            running.push(scope.spawn(move || write(heap, queue, meeting, number, turns, kind)));
         }
         if tracing {
             running.push(scope.spawn(move || trace(heap, queue, meeting)));
