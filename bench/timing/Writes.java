@@ -95,7 +95,7 @@ public final class Writes {
 
     static String timed(String kind, int thread, long turns, long least, CyclicBarrier start) {
         try {
-            for (int k = 0; k < 20; k++) write(kind, thread, Math.min(turns, 2_000));
+            for (int k = 0; k < 20; k++) write(kind, thread, 2_000);
             var times = ManagementFactory.getThreadMXBean();
             start.await();
             double at = System.currentTimeMillis();
