@@ -2,6 +2,7 @@
 """What a thread's operations on the collected heap cost, beside the same work in other languages.
 
 operations.py [--shared BUILD] [--rounds N] [--claims N] [--programs FOLDER] [--hints N]
+operations.py --writes [--rounds N] [--each WRITES] [--nodes N] [--programs FOLDER]
 
 One command: it builds the two programs of bench/timing, unless a folder is given that has them, and
 runs them in turns with the programs of the shared bench's micro/ (BUILD is its folder build/, as its
@@ -19,13 +20,21 @@ runs it is on a thread of its own.
 plain Rust is bench/timing/plain_heap.rs: the same words, operations, collector and queue, with
 nothing proved. By `64 hints` it tries so many hints before it goes over all cells, and by `waits`
 it goes over them only where it would else be refused.
+
+--writes: a field of a box is written instead, so many times by each thread, while nobody collects
+(async) and while the collector marks (tracing), with a safe point behind each 64 writes. Beside
+`update` and `store` of a mutator stand the same atomic operations on bare words, `store` with a
+held list in plain Rust too, and the writes of Go and of Java (G1) by programs of timing/, with
+their barriers. Ours stays in the stage Trace all the time. For the others, that begin one
+collection behind another over a live tree of N nodes, the last column has the part of the time in
+which they marked. Their plain writes are no sequentially consistent stores, as all of ours are.
 """
 import argparse, os, statistics, subprocess, sys
 
 HERE = os.path.dirname(os.path.abspath(__file__))
 sys.path.insert(0, f"{HERE}/timing")
 sys.dont_write_bytecode = True
-import build
+import build, field_writes
 
 
 def run(words, limit):
@@ -78,12 +87,21 @@ def main():
     p.add_argument("--threads", default="1,4")
     p.add_argument("--limit", type=int, default=60)
     p.add_argument("--programs")
+    p.add_argument("--writes", action="store_true", help="writes of a field, and nothing else")
+    p.add_argument("--each", type=int, default=8_000_000, help="so many writes a thread")
+    p.add_argument("--nodes", type=int, default=4_000_000, help="of the live tree in Go and Java")
     p.add_argument("--also", action="append", default=[], help="NAME=PROGRAM: one more of ours")
     args = p.parse_args()
     if not args.programs:
         args.programs = "/tmp/docheap_timing"
         build.build(os.path.dirname(HERE), args.programs, "heap_timing")
         build.build_plain(args.programs)
+        if args.writes:
+            build.build_others(args.programs)
+    if args.writes:
+        threads = list(map(int, args.threads.split(",")))
+        field_writes.measure(args.programs, args.each, args.rounds, threads, args.nodes, args.limit)
+        return
     plain = f"{args.programs}/plain_heap"
     made = {"docheap": ours(f"{args.programs}/heap_timing"), "plain Rust": ours(plain),
             "plain Rust, 64 hints": ours(plain, ("64",)), "plain Rust, waits": ours(plain, ("0",))}

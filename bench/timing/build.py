@@ -1,6 +1,6 @@
 #!/usr/bin/env python3
 """Builds heap_timing, gate_wait, docheap or another program of the repository, for measuring, and
-plain_heap beside heap_timing.
+plain_heap and the programs in Go and Java beside heap_timing.
 
 build.py [--into FOLDER] [--program docheap_cli] [--hints N] [--count] [--repository FOLDER]
 
@@ -21,6 +21,8 @@ MEASURING = {
                    "heap_rule trails dlg_core core_machine cell_words atomic_table crossbeam_queue",
     "gate_wait": "store_run cmd_text doc_model outside",
 }
+# Their further modules.
+PARTS = {"heap_timing": ["field_writes"]}
 FLAGS = """--target=x86_64-unknown-linux-gnu -march=x86-64 -mllvm -no-trap-after-noreturn
 -ffunction-sections -fdata-sections -mllvm -trap-unreachable -mllvm -no-x86-call-frame-opt -mllvm
 -disable-machine-licm -mllvm -disable-postra-machine-licm -mllvm -sink-common-insts=false
@@ -84,6 +86,8 @@ def lay_out(repository, folder, program, hints):
     if program in MEASURING:
         os.makedirs(f"{folder}/crates/{program}/src")
         shutil.copy(f"{HERE}/{program}.rt.txt", f"{folder}/crates/{program}/src/main.rt")
+        for part in PARTS.get(program, ()):
+            shutil.copy(f"{HERE}/{part}.rt.txt", f"{folder}/crates/{program}/src/{part}.rt")
         lines += f"\n{program}: {MEASURING[program]}"
     with open(f"{folder}/crates.txt", "w") as it:
         it.write(lines + "\n")
@@ -178,6 +182,15 @@ def build_plain(into):
     return to
 
 
+def build_others(into):
+    """Builds the programs that write fields in Go and in Java, where these are installed."""
+    os.makedirs(into, exist_ok=True)
+    if shutil.which("go"):
+        subprocess.run(["go", "build", "-o", f"{into}/writes_go", f"{HERE}/writes.go"], check=True)
+    if shutil.which("javac"):
+        subprocess.run(["javac", "-d", f"{into}/java", f"{HERE}/Writes.java"], check=True)
+
+
 def main():
     p = argparse.ArgumentParser()
     p.add_argument("--into", default="/tmp/docheap_timing")
@@ -190,6 +203,7 @@ def main():
     print(build(args.repository, args.into, args.program, args.hints, args.name, args.count))
     if args.program == "heap_timing":
         print(build_plain(args.into))
+        build_others(args.into)
 
 
 if __name__ == "__main__":

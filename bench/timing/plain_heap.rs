@@ -3,12 +3,15 @@
 //!
 //! plain_heap seats THREADS CELLS BATCHES
 //! plain_heap work THREADS CELLS KEEP CLAIMS TIMED [HINTS]
+//! plain_heap writes THREADS WRITES KIND TRACING
 //!
 //! The words and lines are those of heap_timing. In `seats` the words are used bare: no list of
 //! held cells, and no state of the sweep, is kept beside them. HINTS is how many hints a claim
 //! tries before it goes over all cells (1 is what mutator_seat does); with 0 it waits for hints, and
-//! goes over all cells only where it would else be refused.
+//! goes over all cells only where it would else be refused. `writes`: plain_writes.rs.
 #![allow(clippy::missing_safety_doc)]
+mod plain_writes;
+
 use std::cell::UnsafeCell;
 use std::mem::MaybeUninit;
 use std::sync::atomic::{AtomicU64, AtomicUsize, Ordering::*};
@@ -639,6 +642,8 @@ fn main() {
         for one in times.into_iter().flatten() {
             println!("{} {}", one[0], one[1]);
         }
+    } else if args[1] == "writes" {
+        plain_writes::run(n(2) as usize, n(3), &args[4], n(5) == 1);
     } else {
         work(n(2) as usize, n(3) as usize, n(4), n(5), n(6) == 1, if args.len() > 7 { n(7) as u32 } else { 1 });
     }
