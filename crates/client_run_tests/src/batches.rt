@@ -1,4 +1,6 @@
 //! Rows with a batch among their commands, worked out by hand.
+ghost use Rattle.std.specs.Prelude.{◌≤◌};
+
 use crate::answering::answers_in;
 use crate::scripts::script_around;
 use doc_model::NoMemory;
