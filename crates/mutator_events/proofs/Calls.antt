@@ -35,6 +35,7 @@ use Rattle.mutator_events.specs.Seats.{IsMutator}
 use Rattle.mutator_events.specs.Values.{cells_kept, cells_read}
 use Rattle.mutator_events.proofs.Founds.{at_event, begin_found, claim_found, claims_fit, end_found}
 use Rattle.mutator_events.proofs.Founds.{fetch_found, fetch_named, keep_found, look_found}
+use Rattle.mutator_events.proofs.Founds.{look_looked}
 use Rattle.mutator_events.proofs.Founds.{over_found}
 use Rattle.mutator_events.proofs.Founds.{read_found, read_named, renumbered}
 use Rattle.mutator_events.proofs.Founds.{write_found}
@@ -78,64 +79,64 @@ seat_told_with new make found pass is table me =
 
 -- The view w behind an event, and what the seat has at run time.
 pub record Behind {P : Type 0} (v w : View P) (e : Event) (found : Found) (i room : ℕ)
-    (held : List ℕ) (mode : Option Control) (inside : Bool) (status : Status)
+    (held : List ℕ) (looked : ℕ) (inside : Bool) (status : Status)
     (claims : ℕ) : Type 0 where
   pub view : w ≡ told v e found nothing_learned v.pass
-  pub keeps : IsMutator w i room held mode inside status claims
+  pub keeps : IsMutator w i room held looked inside status claims
 
 -- The same where the client picks its pass, and the state at the step is shown.
 pub record Seen {P : Type 0} (holds : Map → List P → Type 0) (fixed : ℕ → Bool)
     (next : Learned → Found → P → P) (v w : View P) (e : Event) (found : Found) (i room : ℕ)
-    (held : List ℕ) (mode : Option Control) (inside : Bool) (status : Status)
+    (held : List ℕ) (looked : ℕ) (inside : Bool) (status : Status)
     (claims : ℕ) : Type 0 where
   pub event : AtEvent holds fixed v e next found w
-  pub keeps : IsMutator w i room held mode inside status claims
+  pub keeps : IsMutator w i room held looked inside status claims
 
 module _ {P : Type 0} {v w : View P} {e : Event} {found : Found} {i room : ℕ} {held : List ℕ}
-    {mode : Option Control} {inside : Bool} {status : Status} {claims : ℕ} where
+    {looked : ℕ} {inside : Bool} {status : Status} {claims : ℕ} where
   behind : w ≡ told v e found nothing_learned v.pass
-      → IsMutator (told v e found nothing_learned v.pass) i room held mode inside status claims
-      → Behind v w e found i room held mode inside status claims
+      → IsMutator (told v e found nothing_learned v.pass) i room held looked inside status claims
+      → Behind v w e found i room held looked inside status claims
   behind view keeps = record {
     view = view;
-    keeps = subst (λ (u : View P). IsMutator u i room held mode inside status claims) (sym view)
+    keeps = subst (λ (u : View P). IsMutator u i room held looked inside status claims) (sym view)
         keeps;
   }
 
 module _ {P : Type 0} {holds : Map → List P → Type 0} {fixed : ℕ → Bool}
     {next : Learned → Found → P → P} {v w : View P} {e : Event} {found : Found} {i room : ℕ}
-    {held : List ℕ} {mode : Option Control} {inside : Bool} {status : Status} {claims : ℕ} where
+    {held : List ℕ} {looked : ℕ} {inside : Bool} {status : Status} {claims : ℕ} where
   seen : AtEvent holds fixed v e next found w
-      → ((k : Learned) (p : P) → IsMutator (told v e found k p) i room held mode inside status
+      → ((k : Learned) (p : P) → IsMutator (told v e found k p) i room held looked inside status
       claims)
-      → Seen holds fixed next v w e found i room held mode inside status claims
+      → Seen holds fixed next v w e found i room held looked inside status claims
   seen at keeps = record {
     event = at;
-    keeps = subst (λ (u : View P). IsMutator u i room held mode inside status claims) (sym at.new)
+    keeps = subst (λ (u : View P). IsMutator u i room held looked inside status claims) (sym at.new)
         (keeps _ _);
   }
 
 module _ {P : Type 0} {holds : Map → List P → Type 0} {fixed : ℕ → Bool} {v w : View P}
-    {i number room : ℕ} {held : List ℕ} {mode : Option Control} {inside : Bool} {status : Status}
-    {claims : ℕ} (m : IsMutator v i room held mode inside status claims) where
+    {i number room : ℕ} {held : List ℕ} {looked : ℕ} {inside : Bool} {status : Status}
+    {claims : ℕ} (m : IsMutator v i room held looked inside status claims) where
   pub after_look : (control : Control)
       → ((other : Control) → IsValidControl other → pack_control_of other ≡ number
       → control ≡ other)
       → AtStep holds fixed v (event.Look i) same_pass number w
-      → Behind v w (event.Look v.number) (finds.Control control) i room held (Some control) inside
-      status claims
+      → Behind v w (event.Look v.number) (finds.Control control) i room held number inside status
+      claims
   after_look control is at =
       let here = renumbered i (λ n. event.Look n) m.number_is at in
       behind (at_event (event.Look v.number) (finds.Control control) here
       (look_found control is here)).new
-      (look_keeps m v.number nothing_learned v.pass control)
+      (look_keeps m v.number nothing_learned v.pass control (look_looked control is here))
 
   pub after_begin : (presence : Presence)
       → ((other : Presence) → is_valid_presence other ≡ true → pack_presence_of other ≡ number
       → presence ≡ other)
       → MayComeIn v → AtStep holds fixed v (event.Begin i) same_pass number w
       → Behind v w (event.Begin v.number)
-      (finds.Presence (record v.presence { status = presence.status })) i room (0 ∷ []) None true
+      (finds.Presence (record v.presence { status = presence.status })) i room (0 ∷ []) looked true
       presence.status claims
   after_begin presence is may at =
       let here = renumbered i (λ n. event.Begin n) m.number_is at in
@@ -147,7 +148,7 @@ module _ {P : Type 0} {holds : Map → List P → Type 0} {fixed : ℕ → Bool}
 
   pub after_over : MayComeIn v → (at : AtStep holds fixed v (event.Over i) same_pass number w)
       → (own : Status) × Behind v w (event.Over v.number)
-      (finds.Presence (record v.presence { status = own })) i room held mode inside status claims
+      (finds.Presence (record v.presence { status = own })) i room held looked inside status claims
   after_over may at =
       let here = renumbered i (λ n. event.Over n) m.number_is at in
       let own = (presence_of here.core v.number).status in
@@ -160,7 +161,7 @@ module _ {P : Type 0} {holds : Map → List P → Type 0} {fixed : ℕ → Bool}
 
   pub after_end : v.presence.inside ≡ true
       → AtStep holds fixed v (event.End i) same_pass number w
-      → Behind v w (event.End v.number) (finds.Presence v.presence) i room [] None false status
+      → Behind v w (event.End v.number) (finds.Presence v.presence) i room [] looked false status
       claims
   after_end is_in at =
       let here = renumbered i (λ n. event.End n) m.number_is at in
@@ -171,7 +172,7 @@ module _ {P : Type 0} {holds : Map → List P → Type 0} {fixed : ℕ → Bool}
   pub after_keep : (n from copies : ℕ) → MayKeep v n from copies
       → AtStep holds fixed v (event.Keep i n from copies) same_pass number w
       → Behind v w (event.Keep v.number n from copies) (finds.Presence v.presence) i room
-      (cells_kept held n from copies) mode inside status claims
+      (cells_kept held n from copies) looked inside status claims
   after_keep n from copies may at =
       let here = renumbered i (λ k. event.Keep k n from copies) m.number_is at in
       let many = held_many v.own.held held m.own.held_is in
@@ -183,7 +184,7 @@ module _ {P : Type 0} {holds : Map → List P → Type 0} {fixed : ℕ → Bool}
 
   pub after_seal : (place : ℕ) (of : Kind)
       → AtStep holds fixed v (event.Seal i place of) same_pass number w
-      → Behind v w (event.Seal v.number place of) finds.Stored i room held mode inside status claims
+      → Behind v w (event.Seal v.number place of) finds.Stored i room held looked inside status claims
   after_seal place of at =
       let here = renumbered i (λ n. event.Seal n place of) m.number_is at in
       behind (at_event (event.Seal v.number place of) finds.Stored here refl).new
@@ -191,7 +192,7 @@ module _ {P : Type 0} {holds : Map → List P → Type 0} {fixed : ℕ → Bool}
 
   pub after_mark : (place : ℕ) → AtStep holds fixed v (event.Mark i place) same_pass number w
       → (found : Colour) × Behind v w (event.Mark v.number place) (finds.Colour found) i room held
-      mode inside status claims
+      looked inside status claims
   after_mark place at =
       let here = renumbered i (λ n. event.Mark n place) m.number_is at in
       let found = colour_of here.core (target_of here.core v.number place) in (
@@ -201,7 +202,7 @@ module _ {P : Type 0} {holds : Map → List P → Type 0} {fixed : ℕ → Bool}
       )
 
   pub after_answer : AtStep holds fixed v (event.Answer i) same_pass number w
-      → Behind v w (event.Answer v.number) finds.Stored i room held None inside
+      → Behind v w (event.Answer v.number) finds.Stored i room held looked inside
       (next_status_of status) claims
   after_answer at =
       let here = renumbered i (λ n. event.Answer n) m.number_is at in
@@ -213,7 +214,7 @@ module _ {P : Type 0} {holds : Map → List P → Type 0} {fixed : ℕ → Bool}
   pub after_claim : (c : ℕ) (found : Colour)
       → ((other : Colour) → pack_colour_of other ≡ number → found ≡ other) → MayClaim v c
       → AtStep holds fixed v (event.Claim i c) same_pass number w → found ≡ colour.Blue
-      → Behind v w (event.Claim v.number c) (finds.Colour colour.Blue) i room (held ++ c ∷ []) None
+      → Behind v w (event.Claim v.number c) (finds.Colour colour.Blue) i room (held ++ c ∷ []) looked
       inside status (claims + 1)
   after_claim c found is may at blue =
       let here = renumbered i (λ n. event.Claim n c) m.number_is at in
@@ -234,7 +235,7 @@ module _ {P : Type 0} {holds : Map → List P → Type 0} {fixed : ℕ → Bool}
   pub after_miss : (c : ℕ) (found : Colour)
       → ((other : Colour) → pack_colour_of other ≡ number → found ≡ other)
       → AtStep holds fixed v (event.Claim i c) same_pass number w → is_blue found ≡ false
-      → Behind v w (event.Claim v.number c) (finds.Colour found) i room held mode inside status
+      → Behind v w (event.Claim v.number c) (finds.Colour found) i room held looked inside status
       claims
   after_miss c found is at other =
       let here = renumbered i (λ n. event.Claim n c) m.number_is at in
@@ -251,7 +252,7 @@ module _ {P : Type 0} {holds : Map → List P → Type 0} {fixed : ℕ → Bool}
         → ((other : Field) → IsValidField other → pack_field_of other ≡ number → field ≡ other)
         → MayRead v place f → AtStep holds fixed v (event.Read i place f) next number w
         → Seen holds fixed next v w (event.Read v.number place f) (finds.Field field) i room
-        (cells_read held field) mode inside status claims
+        (cells_read held field) looked inside status claims
     after_read place f field is may at =
         let here = renumbered i (λ n. event.Read n place f) m.number_is at in
         let many = held_many v.own.held held m.own.held_is in
@@ -264,7 +265,7 @@ module _ {P : Type 0} {holds : Map → List P → Type 0} {fixed : ℕ → Bool}
         → ((other : Field) → IsValidField other → pack_field_of other ≡ number → field ≡ other)
         → MayFetch v place f → AtStep holds fixed v (event.Fetch i place f) next number w
         → Seen holds fixed next v w (event.Fetch v.number place f) (finds.Field field) i room
-        (cells_read held field) mode inside status claims
+        (cells_read held field) looked inside status claims
     after_fetch place f field is may at =
         let here = renumbered i (λ n. event.Fetch n place f) m.number_is at in
         let many = held_many v.own.held held m.own.held_is in
@@ -275,7 +276,7 @@ module _ {P : Type 0} {holds : Map → List P → Type 0} {fixed : ℕ → Bool}
 
     pub after_store : {new new_run : Field} → new_run ≡ new
         → AtStep holds fixed v (event.Store i new_run) next number w
-        → Seen holds fixed next v w (event.Store v.number new) finds.Stored i room held None inside
+        → Seen holds fixed next v w (event.Store v.number new) finds.Stored i room held looked inside
         status claims
     after_store {new} new_is at =
         let there = subst (λ (x : Field). AtStep holds fixed v (event.Store i x) next number w)
@@ -289,7 +290,7 @@ module _ {P : Type 0} {holds : Map → List P → Type 0} {fixed : ℕ → Bool}
         → ((other : Field) → IsValidField other → pack_field_of other ≡ number → field ≡ other)
         → AtStep holds fixed v (event.Write i place f old_run new_run) next number w
         → Seen holds fixed next v w (event.Write v.number place f old new) (finds.Field field) i
-        room held None inside status claims
+        room held looked inside status claims
     after_write {old} {new} {old_run} {new_run} place f field old_is new_is is at =
         let there = subst (λ (x : Field). AtStep holds fixed v (event.Write i place f old x) next
         number w) new_is
@@ -303,7 +304,7 @@ module _ {P : Type 0} {holds : Map → List P → Type 0} {fixed : ℕ → Bool}
     pub after_fill : {value at_run : Field} (place f : ℕ) → at_run ≡ value
         → AtStep holds fixed v (event.Fill i place f at_run) next number w
         → Seen holds fixed next v w (event.Fill v.number place f value) finds.Stored i room held
-        mode inside status claims
+        looked inside status claims
     after_fill {value} place f is at =
         let there = subst (λ (x : Field). AtStep holds fixed v (event.Fill i place f x) next number
         w) is at in

@@ -1,7 +1,7 @@
 -- What a step of a mutator's seat found, from the number that its operation told; and that the step
 -- is the event with this found.
 use Rattle.std.proofs.Common.{◌≡◌, ◌≢◌, ◌<◌, ◌≤◌, ◌+◌, ◌^◌, ℕ, Bool, true, false}
-use Rattle.std.proofs.Common.{◌⊎◌, inl, inr, List, sym, ◌∙◌, ap, subst, arith}
+use Rattle.std.proofs.Common.{◌⊎◌, inl, inr, List, Option, None, Some, sym, ◌∙◌, ap, subst, arith}
 use Rattle.std.proofs.lemmas.Bool.{ne_eqb}
 use Rattle.cell_words.specs.Colour.{IsColourWord, pack_colour_of}
 use Rattle.std.proofs.lemmas.Nat.{mul-le}
@@ -38,6 +38,7 @@ use Rattle.heap_rule.specs.Lore.{Lore, learned}
 use Rattle.heap_rule.specs.Rule.{told}
 use Rattle.heap_rule.specs.Steps.{AtStep, Mine}
 use Rattle.mutator_events.specs.Events.{AtEvent}
+use Rattle.mutator_events.specs.Seats.{HasLooked}
 
 -- the state at a step is one with words
 in_range : {P : Type 0} (fixed : ℕ → Bool) (v : View P) (s : State) (l : Lore) → Mine fixed v s l
@@ -60,6 +61,10 @@ stage_low stage.Clear = omega arith
 stage_low stage.Sync2 = omega arith
 stage_low stage.Trace = omega arith
 stage_low stage.Sweep = omega arith
+
+abbrev control_or : Control → Option Control → Control
+control_or control None = control
+control_or control (Some other) = other
 
 -- what a mutator knows of its presence: all but the status
 known_presence : {P : Type 0} (fixed : ℕ → Bool) (v : View P) (s : State) (l : Lore)
@@ -125,6 +130,18 @@ module _ {P : Type 0} {holds : Map → List P → Type 0} {fixed : ℕ → Bool}
   look_found {i} control is at =
       ap (λ (c : Control). finds.Control c)
       (sym (is at.core.control (there_valid (event.Look i) at) at.says))
+
+  pub look_looked : {i : ℕ} (control : Control)
+      → ((other : Control) → IsValidControl other → pack_control_of other ≡ number
+      → control ≡ other)
+      → AtStep holds fixed v (event.Look i) next number w → HasLooked (Some control) number
+  look_looked {i} control is at other same =
+      let valid = there_valid (event.Look i) at in
+      let it : at.core.control ≡ other =
+      sym (is at.core.control valid at.says) ∙ ap (control_or control) same in (
+        subst IsValidControl it valid,
+        subst (λ (c : Control). pack_control_of c ≡ number) it at.says,
+      )
 
   -- Presences.
 

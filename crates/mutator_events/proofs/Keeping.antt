@@ -33,7 +33,7 @@ use Rattle.heap_rule.specs.Lore.{cells_in, five_nulls, known_claimed, was_made}
 use Rattle.heap_rule.specs.Rule.{told, took}
 use Rattle.heap_rule.proofs.Quiet.{cells_marked, cells_unmarked}
 use Rattle.heap_rule.proofs.Reading.{cells_more}
-use Rattle.mutator_events.specs.Seats.{HasOwn, HasPresence, HasRoots, IsMutator}
+use Rattle.mutator_events.specs.Seats.{HasLooked, HasOwn, HasPresence, HasRoots, IsMutator}
 use Rattle.mutator_events.specs.Values.{cells_kept, cells_read}
 use Rattle.mutator_events.proofs.HeldCells.{cells_kept_are, kept_below, kept_many, read_below}
 use Rattle.mutator_events.proofs.HeldCells.{read_many}
@@ -47,6 +47,14 @@ read_own : (own : Own) (found : Field) → (cells_in (having_read own found).hel
 read_own own field.Null = (refl, refl, refl)
 read_own own (field.Num n) = (refl, refl, refl)
 read_own own (field.Cell c) = (cells_more own.held c, refl, refl)
+
+-- no mode, behind what uses the look up
+no_look : {mode : Option Control} {looked : ℕ} → mode ≡ None → HasLooked mode looked
+no_look none control is = let no = sym none ∙ is in absurd cc
+
+still_looked : {mode other : Option Control} {looked : ℕ} → other ≡ mode → HasLooked mode looked
+    → HasLooked other looked
+still_looked {looked = looked} same = subst (λ (o : Option Control). HasLooked o looked) (sym same)
 
 -- a claim of a cell that was not blue leaves the own part
 pub missed_own : (own : Own) (c : ℕ) (found : Colour) → is_blue found ≡ false
@@ -62,13 +70,13 @@ along_push : (own : Own) (ts : List Taken) (e : Event) (found : Found)
 along_push own [] e found = refl
 along_push own (t ∷ ts) e found = along_push (own_after own t.event t.found) ts e found
 
-module _ {P : Type 0} {v : View P} {number room : ℕ} {held : List ℕ} {mode : Option Control}
+module _ {P : Type 0} {v : View P} {number room : ℕ} {held : List ℕ} {looked : ℕ}
     {inside : Bool} {status : Status} {claims : ℕ}
-    (m : IsMutator v number room held mode inside status claims) where
+    (m : IsMutator v number room held looked inside status claims) where
   -- whatever an event tells, shape, role, number and room stay
   told_keeps : {own : Own} {presence : Presence} {known : List Known} {pass : P}
-      {trail : List Taken} {cells : List ℕ} {looked : Option Control} {is_in : Bool}
-      {answered : Status} {many : ℕ} → HasOwn v.shape.cells room own cells looked many
+      {trail : List Taken} {cells : List ℕ} {word : ℕ} {is_in : Bool}
+      {answered : Status} {many : ℕ} → HasOwn v.shape.cells room own cells word many
       → HasPresence presence is_in answered → HasRoots known own.held is_in
       → own ≡ own_along no_own trail
       → IsMutator (record v {
@@ -77,7 +85,7 @@ module _ {P : Type 0} {v : View P} {number room : ℕ} {held : List ℕ} {mode :
         known = known;
         pass = pass;
         trail = trail;
-      }) number room cells looked is_in answered many
+      }) number room cells word is_in answered many
   told_keeps own presence roots left = record {
     role_is = m.role_is;
     number_is = m.number_is;
@@ -97,21 +105,21 @@ module _ {P : Type 0} {v : View P} {number room : ℕ} {held : List ℕ} {mode :
       ∙ sym (along_push no_own v.trail e found)
 
   -- the same cells, with other marks and another mode
-  own_moved : {own : Own} (looked : Option Control) → cells_in own.held ≡ cells_in v.own.held
-      → own.mode ≡ looked → own.claims ≡ v.own.claims
-      → HasOwn v.shape.cells room own held looked claims
-  own_moved looked cells mode_is claims_is = record {
+  own_moved : {own : Own} (word : ℕ) → cells_in own.held ≡ cells_in v.own.held
+      → HasLooked own.mode word → own.claims ≡ v.own.claims
+      → HasOwn v.shape.cells room own held word claims
+  own_moved word cells has_looked claims_is = record {
     held_is = cells ∙ m.own.held_is;
     held_below = m.own.held_below;
     held_fits = m.own.held_fits;
-    mode_is = mode_is;
+    mode_is = has_looked;
     claims_is = claims_is ∙ m.own.claims_is;
   }
 
   module _ (i : ℕ) (k : Learned) (p : P) where
     -- who has come in holds the anchor alone
     pub begin_keeps : (found : Presence) → v.presence.over ≡ false → 0 < v.shape.cells
-        → IsMutator (told v (event.Begin i) (finds.Presence found) k p) number room (0 ∷ []) None
+        → IsMutator (told v (event.Begin i) (finds.Presence found) k p) number room (0 ∷ []) looked
         true found.status claims
     begin_keeps found over some = told_keeps
         record {
@@ -119,7 +127,7 @@ module _ {P : Type 0} {v : View P} {number room : ℕ} {held : List ℕ} {mode :
           held_below = All-cons (λ c. c < v.shape.cells) 0 [] some
               (All-nil (λ c. c < v.shape.cells));
           held_fits = m.some_room;
-          mode_is = refl;
+          mode_is = no_look refl;
           claims_is = m.own.claims_is;
         }
         record { inside_is = refl; status_is = λ is. refl; not_over = λ is. over }
@@ -127,13 +135,13 @@ module _ {P : Type 0} {v : View P} {number room : ℕ} {held : List ℕ} {mode :
         (left_on (event.Begin i) (finds.Presence found))
 
     pub end_keeps : (found : Found)
-        → IsMutator (told v (event.End i) found k p) number room [] None false status claims
+        → IsMutator (told v (event.End i) found k p) number room [] looked false status claims
     end_keeps found = told_keeps
         record {
           held_is = refl;
           held_below = All-nil (λ c. c < v.shape.cells);
           held_fits = omega arith;
-          mode_is = refl;
+          mode_is = no_look refl;
           claims_is = m.own.claims_is;
         }
         record {
@@ -149,7 +157,7 @@ module _ {P : Type 0} {v : View P} {number room : ℕ} {held : List ℕ} {mode :
         (left_on (event.End i) found)
 
     pub over_keeps : (found : Found) → inside ≡ false
-        → IsMutator (told v (event.Over i) found k p) number room held mode inside status claims
+        → IsMutator (told v (event.Over i) found k p) number room held looked inside status claims
     over_keeps found out = told_keeps m.own
         record {
           inside_is = m.presence.inside_is;
@@ -159,18 +167,18 @@ module _ {P : Type 0} {v : View P} {number room : ℕ} {held : List ℕ} {mode :
         m.roots
         (left_on (event.Over i) found)
 
-    pub look_keeps : (control : Control)
-        → IsMutator (told v (event.Look i) (finds.Control control) k p) number room held
-        (Some control) inside status claims
-    look_keeps control =
-        told_keeps (own_moved (Some control) (cells_unmarked v.own.held) refl refl) m.presence
+    pub look_keeps : (control : Control) {word : ℕ} → HasLooked (Some control) word
+        → IsMutator (told v (event.Look i) (finds.Control control) k p) number room held word inside
+        status claims
+    look_keeps control {word} has_looked =
+        told_keeps (own_moved word (cells_unmarked v.own.held) has_looked refl) m.presence
         (moved_roots m.roots unmark (cells_unmarked v.own.held))
         (left_on (event.Look i) (finds.Control control))
 
     pub read_keeps : (place f : ℕ) (found : Field) → NamesBelow v.shape.cells found
         → length held < room
         → IsMutator (told v (event.Read i place f) (finds.Field found) k p) number room
-        (cells_read held found) mode inside status claims
+        (cells_read held found) looked inside status claims
     read_keeps place f found named free =
         let parts = read_own v.own found in
         told_keeps
@@ -178,27 +186,27 @@ module _ {P : Type 0} {v : View P} {number room : ℕ} {held : List ℕ} {mode :
           held_is = parts.0 ∙ ap (λ (cells : List ℕ). cells_read cells found) m.own.held_is;
           held_below = read_below v.shape.cells held found named m.own.held_below;
           held_fits = read_many held found room free;
-          mode_is = parts.1 ∙ m.own.mode_is;
+          mode_is = still_looked parts.1 m.own.mode_is;
           claims_is = parts.2 ∙ m.own.claims_is;
         }
         m.presence (read_roots v.own place k found m.roots)
         (left_on (event.Read i place f) (finds.Field found))
 
     pub mark_keeps : (place : ℕ) (found : Found)
-        → IsMutator (told v (event.Mark i place) found k p) number room held mode inside status
+        → IsMutator (told v (event.Mark i place) found k p) number room held looked inside status
         claims
     mark_keeps place found =
         told_keeps
-        (own_moved mode (cells_marked (cell_at v.own.held place) v.own.held) m.own.mode_is refl)
+        (own_moved looked (cells_marked (cell_at v.own.held place) v.own.held) m.own.mode_is refl)
         m.presence (moved_roots m.roots (mark_of (cell_at v.own.held place))
         (cells_marked (cell_at v.own.held place) v.own.held))
         (left_on (event.Mark i place) found)
 
     pub write_keeps : (place f : ℕ) (old new : Field) (found : Found)
-        → IsMutator (told v (event.Write i place f old new) found k p) number room held None inside
+        → IsMutator (told v (event.Write i place f old new) found k p) number room held looked inside
         status claims
     write_keeps place f old new found =
-        told_keeps (own_moved None (cells_unmarked v.own.held) refl refl) m.presence
+        told_keeps (own_moved looked (cells_unmarked v.own.held) (no_look refl) refl) m.presence
         (written_roots m.roots unmark (cells_unmarked v.own.held) (was_made old found) place f new)
         (left_on (event.Write i place f old new) found)
 
@@ -206,7 +214,7 @@ module _ {P : Type 0} {v : View P} {number room : ℕ} {held : List ℕ} {mode :
     pub fetch_keeps : (place f : ℕ) (found : Field) → NamesBelow v.shape.cells found
         → length held < room
         → IsMutator (told v (event.Fetch i place f) (finds.Field found) k p) number room
-        (cells_read held found) mode inside status claims
+        (cells_read held found) looked inside status claims
     fetch_keeps place f found named free =
         let parts = read_own v.own found in
         told_keeps
@@ -214,42 +222,42 @@ module _ {P : Type 0} {v : View P} {number room : ℕ} {held : List ℕ} {mode :
           held_is = parts.0 ∙ ap (λ (cells : List ℕ). cells_read cells found) m.own.held_is;
           held_below = read_below v.shape.cells held found named m.own.held_below;
           held_fits = read_many held found room free;
-          mode_is = parts.1 ∙ m.own.mode_is;
+          mode_is = still_looked parts.1 m.own.mode_is;
           claims_is = parts.2 ∙ m.own.claims_is;
         }
         m.presence (read_roots v.own place k found m.roots)
         (left_on (event.Fetch i place f) (finds.Field found))
 
     pub store_keeps : (new : Field) (found : Found)
-        → IsMutator (told v (event.Store i new) found k p) number room held None inside status
+        → IsMutator (told v (event.Store i new) found k p) number room held looked inside status
         claims
     store_keeps new found =
         let begun = pending_or_none v.own.pending in
-        told_keeps (own_moved None (cells_unmarked v.own.held) refl refl) m.presence
+        told_keeps (own_moved looked (cells_unmarked v.own.held) (no_look refl) refl) m.presence
         (written_roots m.roots unmark (cells_unmarked v.own.held) true begun.place begun.f new)
         (left_on (event.Store i new) found)
 
     pub claim_keeps : (c : ℕ) → c < v.shape.cells → length held < room
         → IsMutator (told v (event.Claim i c) (finds.Colour colour.Blue) k p) number room
-        (held ++ c ∷ []) None inside status (claims + 1)
+        (held ++ c ∷ []) looked inside status (claims + 1)
     claim_keeps c below free = told_keeps
         record {
           held_is = cells_more v.own.held c
               ∙ ap (λ (cells : List ℕ). cells ++ c ∷ []) m.own.held_is;
           held_below = All-push (λ c. c < v.shape.cells) held c m.own.held_below below;
           held_fits = omega (arith, free, length-append held (c ∷ []));
-          mode_is = refl;
+          mode_is = no_look refl;
           claims_is = ap (λ (n : ℕ). n + 1) m.own.claims_is;
         }
         m.presence (more_roots m.roots (knows.Raw five_nulls) c)
         (left_on (event.Claim i c) (finds.Colour colour.Blue))
 
     pub missed_keeps : (c : ℕ) (found : Colour) → is_blue found ≡ false
-        → IsMutator (told v (event.Claim i c) (finds.Colour found) k p) number room held mode
+        → IsMutator (told v (event.Claim i c) (finds.Colour found) k p) number room held looked
         inside status claims
     missed_keeps c found other =
         told_keeps
-        (subst (λ (own : Own). HasOwn v.shape.cells room own held mode claims)
+        (subst (λ (own : Own). HasOwn v.shape.cells room own held looked claims)
         (sym (missed_own v.own c found other)) m.own)
         m.presence
         (subst (λ (own : Own). HasRoots (known_claimed v.known (finds.Colour found)) own.held inside)
@@ -257,23 +265,23 @@ module _ {P : Type 0} {v : View P} {number room : ℕ} {held : List ℕ} {mode :
         (left_on (event.Claim i c) (finds.Colour found))
 
     pub fill_keeps : (place f : ℕ) (value : Field) (found : Found)
-        → IsMutator (told v (event.Fill i place f value) found k p) number room held mode inside
+        → IsMutator (told v (event.Fill i place f value) found k p) number room held looked inside
         status claims
     fill_keeps place f value found =
         told_keeps m.own m.presence (stored_roots m.roots place f value)
         (left_on (event.Fill i place f value) found)
 
     pub seal_keeps : (place : ℕ) (of : Kind) (found : Found)
-        → IsMutator (told v (event.Seal i place of) found k p) number room held mode inside status
+        → IsMutator (told v (event.Seal i place of) found k p) number room held looked inside status
         claims
     seal_keeps place of found = told_keeps m.own m.presence (sealed_roots m.roots _ _)
         (left_on (event.Seal i place of) found)
 
     pub answer_keeps : (found : Found)
-        → IsMutator (told v (event.Answer i) found k p) number room held None inside
+        → IsMutator (told v (event.Answer i) found k p) number room held looked inside
         (next_status_of status) claims
     answer_keeps found = told_keeps
-        (own_moved None (cells_unmarked v.own.held) refl refl)
+        (own_moved looked (cells_unmarked v.own.held) (no_look refl) refl)
         record {
           inside_is = m.presence.inside_is;
           status_is = λ is. ap (λ (x : Status). next_status_of x) (m.presence.status_is is);
@@ -285,7 +293,7 @@ module _ {P : Type 0} {v : View P} {number room : ℕ} {held : List ℕ} {mode :
     pub keep_keeps : (n from copies : ℕ) (found : Found) → 1 ≤ n → n ≤ length held
         → from + copies ≤ length held → n + copies ≤ room
         → IsMutator (told v (event.Keep i n from copies) found k p) number room
-        (cells_kept held n from copies) mode inside status claims
+        (cells_kept held n from copies) looked inside status claims
     keep_keeps n from copies found some first second fits =
         let cells = cells_kept_are v.own.held n from copies
         ∙ ap (λ (cells : List ℕ). cells_kept cells n from copies) m.own.held_is in

@@ -1,9 +1,9 @@
 -- What each call of a mutator's seat owes at its step, from the condition of the call: said with
 -- the numbers that the seat has at run time.
-use Rattle.std.proofs.Common.{◌≡◌, ◌+◌, ℕ, Bool, true, false, List, Option, refl, sym, ◌∙◌, ap, subst}
+use Rattle.std.proofs.Common.{◌≡◌, ◌+◌, ℕ, Bool, true, false, List, Option, Some, refl, sym, ◌∙◌, ap, subst}
 use Rattle.cell_words.specs.Colour.{pack_colour_of}
 use Rattle.cell_words.specs.Field.{pack_field_of}
-use Rattle.cell_words.specs.Modes.{next_status_of}
+use Rattle.cell_words.specs.Modes.{claim_colour_of, next_status_of}
 use Rattle.cell_words.specs.Presence.{pack_presence_of}
 use Rattle.cell_words.specs.declared.colours.Colour.TheVariants as colour
 use Rattle.cell_words.specs.declared.controls.Control.{Control}
@@ -13,7 +13,6 @@ use Rattle.cell_words.specs.declared.presences.Status.{Status}
 use Rattle.core_machine.specs.declared.events.Event.{Event}
 use Rattle.core_machine.specs.declared.events.Event.TheVariants as event
 use Rattle.core_machine.specs.declared.events.Found.{Found}
-use Rattle.core_machine.specs.declared.pending.Pending.{Pending}
 use Rattle.core_machine.specs.State.{State}
 use Rattle.core_machine.specs.Table.{Word, ColourOf, FieldOf, StatusOf, index_of}
 use Rattle.core_machine.specs.WordOperations.{Operation, Exchange, Store, answered_presence}
@@ -32,8 +31,8 @@ use Rattle.heap_rule.proofs.Picking.{stands_by, stands_still}
 use Rattle.mutator_events.specs.Seats.{IsMutator}
 
 module _ {P : Type 0} (fixed : ℕ → Bool) {v : View P} {i room : ℕ} {held : List ℕ}
-    {mode : Option Control} {inside : Bool} {status : Status} {claims : ℕ}
-    (m : IsMutator v i room held mode inside status claims) where
+    {looked : ℕ} {inside : Bool} {status : Status} {claims : ℕ}
+    (m : IsMutator v i room held looked inside status claims) where
   -- the maker's number, the word's index and the operation, as they are at run time
   pub owed_as : {at : ℕ} (make : ℕ → Event) (word : Word) (asked made : Operation)
       → index_of v.shape.mutators word ≡ at → asked ≡ made
@@ -84,16 +83,16 @@ module _ {P : Type 0} (fixed : ℕ → Bool) {v : View P} {i room : ℕ} {held :
       (subst (λ (x : Field). MayWrite fixed v place f x new_run) (sym old_is)
       (subst (λ (x : Field). MayWrite fixed v place f old x) (sym new_is) may)))
 
-  pub store_owed : {new new_run : Field} {at word : ℕ} (begun : Pending) → new_run ≡ new
-      → begun_of v ≡ begun
-      → index_of v.shape.mutators (FieldOf (target v begun.place) begun.f) ≡ at
+  pub store_owed : {new new_run : Field} {at word : ℕ} (place f : ℕ) → new_run ≡ new
+      → (begun_of v).place ≡ place → (begun_of v).f ≡ f
+      → index_of v.shape.mutators (FieldOf (target v place) f) ≡ at
       → word ≡ pack_field_of new_run → MayStore fixed v new
       → Owes fixed v (event.Store i new_run) at (left_by (Store word)) (told_by (Store word))
-  store_owed {new} {new_run} {at} {word} begun is begun_is there packed may =
+  store_owed {new} {new_run} {at} {word} place f is place_is f_is there packed may =
       owed_as (λ n. event.Store n new_run) (FieldOf (target v (begun_of v).place) (begun_of v).f)
       (Store (pack_field_of new_run)) (Store word)
-      (ap (λ (p : Pending). index_of v.shape.mutators (FieldOf (target v p.place) p.f)) begun_is
-      ∙ there)
+      (ap (λ (p : ℕ). index_of v.shape.mutators (FieldOf (target v p) (begun_of v).f)) place_is
+      ∙ ap (λ (g : ℕ). index_of v.shape.mutators (FieldOf (target v place) g)) f_is ∙ there)
       (ap (λ (n : ℕ). Store n) (sym packed))
       (λ s l mine. owes_store fixed v s l mine new_run
       (subst (λ (x : Field). MayStore fixed v x) (sym is) may))
@@ -137,18 +136,19 @@ module _ {P : Type 0} (fixed : ℕ → Bool) {v : View P} {i room : ℕ} {held :
       (λ t. Exchange (sym first t) (sym second t))
       (λ s l mine. owes_mark fixed v s l mine place may)
 
-  pub claim_owed : {at from to : ℕ} (c : ℕ) → index_of v.shape.mutators (ColourOf c) ≡ at
-      → from ≡ pack_colour_of colour.Blue → to ≡ pack_colour_of (born_colour status mode c)
-      → MayClaim v c
+  pub claim_owed : {at from to : ℕ} {control : Control} (c : ℕ)
+      → index_of v.shape.mutators (ColourOf c) ≡ at
+      → from ≡ pack_colour_of colour.Blue → to ≡ pack_colour_of (claim_colour_of status control c)
+      → v.own.mode ≡ Some control → MayClaim v c
       → Owes fixed v (event.Claim i c) at (left_by (Exchange from to)) (told_by (Exchange from to))
-  claim_owed {at} {from} {to} c there first second may =
+  claim_owed {at} {from} {to} c there first second mode_is may =
       let status_is = m.presence.status_is (in_now may.inside) in
       owed_as (λ n. event.Claim n c) (ColourOf c)
       (colour_exchange colour.Blue (born_colour v.presence.status v.own.mode c)) (Exchange from to)
       there
       (λ t. Exchange (sym first t)
       ((ap (λ (s : Status). pack_colour_of (born_colour s v.own.mode c)) status_is
-      ∙ ap (λ (o : Option Control). pack_colour_of (born_colour status o c)) m.own.mode_is
+      ∙ ap (λ (o : Option Control). pack_colour_of (born_colour status o c)) mode_is
       ∙ sym second) t))
       (λ s l mine. owes_claim fixed v s l mine c may)
 

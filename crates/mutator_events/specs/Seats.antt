@@ -1,7 +1,8 @@
 -- What the parts of a mutator's seat at run time say of its view.
 -- Source: this project's.
 use Rattle.std.specs.Prelude.{ℕ, ◌≡◌, ◌<◌, ◌≤◌, Bool, true, false, List, length, All}
-use Rattle.std.specs.Prelude.{Option, Some, None}
+use Rattle.std.specs.Prelude.{Option, Some, None, is_some}
+use Rattle.cell_words.specs.Control.{IsValidControl, pack_control_of}
 use Rattle.cell_words.specs.declared.controls.Control.{Control}
 use Rattle.cell_words.specs.declared.presences.Presence.{Presence}
 use Rattle.cell_words.specs.declared.presences.Status.{Status}
@@ -16,13 +17,17 @@ use Rattle.heap_rule.specs.declared.view.View.{View}
 use Rattle.heap_rule.specs.Lore.{cells_in}
 use Rattle.heap_rule.specs.Moves.{given_view}
 
+-- the mode is the control whose word the last look found
+abbrev pub HasLooked : Option Control → ℕ → Type 0
+HasLooked mode looked = (control : Control) → mode ≡ Some control
+    → IsValidControl control × (pack_control_of control ≡ looked)
+
 -- the part that no word shows: its cells are cells of the heap, and no more than it has room for
-pub record HasOwn (cells room : ℕ) (own : Own) (held : List ℕ) (mode : Option Control)
-    (claims : ℕ) : Type 0 where
+pub record HasOwn (cells room : ℕ) (own : Own) (held : List ℕ) (looked claims : ℕ) : Type 0 where
   pub held_is : cells_in own.held ≡ held
   pub held_below : All (λ c. c < cells) held
   pub held_fits : length held ≤ room
-  pub mode_is : own.mode ≡ mode
+  pub mode_is : HasLooked own.mode looked
   pub claims_is : own.claims ≡ claims
 
 -- the presence: the status while it is in, since the collector may answer for it while it is out
@@ -38,23 +43,24 @@ pub record HasRoots (known : List Known) (held : List Held) (inside : Bool) : Ty
   pub some : inside ≡ true → 1 ≤ length held
   pub anchor : inside ≡ true → cell_at held 0 ≡ 0
 
--- the pending write: its place is held and its field is one of the payload, as the seat goes by
--- them before its step; and who is out has none
-pub record HasBegun (own : Own) (pending : Option Pending) (inside : Bool) : Type 0 where
-  pub pending_is : own.pending ≡ pending
-  pub there : (write : Pending) → pending ≡ Some write → write.place < length own.held
-  pub payload : (write : Pending) → pending ≡ Some write → write.f ≤ 4
-  pub idle : inside ≡ false → pending ≡ None
+-- the pending write: it goes to the place and the field of the payload that the seat keeps; and who
+-- is out has none
+pub record HasBegun (own : Own) (place f : ℕ) (inside : Bool) : Type 0 where
+  pub pending_is : (write : Pending) → own.pending ≡ Some write
+      → (write.place ≡ place) × (write.f ≡ f)
+  pub there : is_some own.pending ≡ true → place < length own.held
+  pub payload : is_some own.pending ≡ true → f ≤ 4
+  pub idle : inside ≡ false → own.pending ≡ None
 
 module _ {P : Type 0} where
-  pub record IsMutator (me : View P) (number room : ℕ) (held : List ℕ) (mode : Option Control)
+  pub record IsMutator (me : View P) (number room : ℕ) (held : List ℕ) (looked : ℕ)
       (inside : Bool) (status : Status) (claims : ℕ) : Type 0 where
     pub role_is : me.role ≡ role.Mutator
     pub number_is : me.number ≡ number
     pub number_below : number < me.shape.mutators
     pub room_is : me.room ≡ room
     pub some_room : 1 ≤ room
-    pub own : HasOwn me.shape.cells room me.own held mode claims
+    pub own : HasOwn me.shape.cells room me.own held looked claims
     pub presence : HasPresence me.presence inside status
     pub roots : HasRoots me.known me.own.held inside
     -- its own part is what its trail leaves

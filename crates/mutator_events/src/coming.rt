@@ -45,7 +45,6 @@ impl<P: Keeping> MutSeat<P> {
         let presence = presence_of(found);
         self.held.clear();
         self.held.push_reserved(0);
-        self.mode = None;
         self.inside = true;
         self.status = presence.status;
     }
@@ -66,8 +65,6 @@ impl<P: Keeping> MutSeat<P> {
             ALL_BUT_INSIDE,
         );
         self.held.clear();
-        self.mode = None;
-        self.pending = None;
         self.inside = false;
     }
 

@@ -28,9 +28,8 @@ impl<P: Keeping> MutSeat<P> {
         ensures valid { IsValidControl result }
     {
         let found = heap.mutator_load::<Brand>(&mut self.seat, Event::Look(self.number), CONTROL);
-        let control = control_of(found);
-        self.mode = Some(control);
-        control
+        self.looked = found;
+        control_of(found)
     }
 
     /// Answers the handshake that its last look saw, by the next status. Before the third answer of
@@ -48,8 +47,6 @@ impl<P: Keeping> MutSeat<P> {
             over: false,
         });
         heap.mutator_store::<Brand>(&mut self.seat, Event::Answer(self.number), word, new);
-        self.mode = None;
-        self.pending = None;
         self.status = status;
     }
 }

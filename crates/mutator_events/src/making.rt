@@ -15,12 +15,13 @@ ghost use Rattle.mutator_events.specs.Values.{field_at};
 use crate::choice::Choice;
 use crate::seat::MutSeat;
 use crate::values::Value;
-use crate::words::{born_colour, colour_word, kind_field};
+use crate::words::{colour_word, kind_field};
+use cell_words::modes::claim_colour;
 use cell_words::{Colour, Kind, pack_colour, pack_field};
 use core_machine::Event;
 use heap_rule::Keeping;
 use heap_table::CellHeap;
-use heap_table::words::colour_of;
+use heap_table::words::{colour_of, control_of};
 use std::marker::Brand;
 
 impl<P: Keeping> MutSeat<P> {
@@ -36,7 +37,7 @@ impl<P: Keeping> MutSeat<P> {
             → IsNewTo (cells_in self.old.me.own.held) self.old.me.known cell }
     {
         let word = colour_word(heap, cell);
-        let born = born_colour(self.status, self.mode, cell);
+        let born = claim_colour(self.status, control_of(self.looked), cell);
         let blue = pack_colour(Colour::Blue);
         let new = pack_colour(born);
         let number = heap.mutator_exchange::<Brand>(
@@ -50,7 +51,6 @@ impl<P: Keeping> MutSeat<P> {
         match found {
             Colour::Blue => {
                 self.held.push_reserved(cell);
-                self.mode = None;
                 self.claims += 1;
                 true
             }

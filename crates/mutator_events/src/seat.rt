@@ -7,8 +7,7 @@ ghost use Rattle.heap_rule.specs.Asks.{target};
 ghost use Rattle.mutator_events.specs.Seats.{IsGiven};
 
 use crate::NoMemory;
-use cell_words::{Control, Status};
-use core_machine::Pending;
+use cell_words::Status;
 use heap_rule::Keeping;
 use heap_table::HeapSeat;
 use std::alloc::Global;
@@ -52,10 +51,11 @@ pub struct MutSeat<P: Keeping> {
     pub(crate) room: usize,
     /// the cells that are held, place by place
     pub(crate) held: Vec<u32>,
-    /// the control, as the last look found it
-    pub(crate) mode: Option<Control>,
-    /// the write that was begun by a fetch
-    pub(crate) pending: Option<Pending>,
+    /// the word of the control, as the last look found it
+    pub(crate) looked: u64,
+    /// where the last fetch read: the box's place, and the field
+    pub(crate) begun_place: usize,
+    pub(crate) begun_field: usize,
     pub(crate) inside: bool,
     /// while it is in
     pub(crate) status: Status,
@@ -69,8 +69,9 @@ impl<P: Keeping> Drop for MutSeat<P> {
             number: _,
             room: _,
             held: _held,
-            mode: _,
-            pending: _,
+            looked: _,
+            begun_place: _,
+            begun_field: _,
             inside: _,
             status: _,
             claims: _,
@@ -92,9 +93,9 @@ impl<P: Keeping> Model for MutSeat<P> {
     ghost view = { λ s. s.seat };
 
     ghost invariant = { λ s.
-        IsMutator s.seat.me s.number s.room s.held.items s.mode s.inside s.status s.claims
+        IsMutator s.seat.me s.number s.room s.held.items s.looked s.inside s.status s.claims
         × (s.room ≤ vec_capacity s.held)
-        × HasBegun s.seat.me.own s.pending s.inside };
+        × HasBegun s.seat.me.own s.begun_place s.begun_field s.inside };
 }
 
 impl<P: Keeping> MutSeat<P> {
@@ -110,8 +111,9 @@ impl<P: Keeping> MutSeat<P> {
             number,
             room: places,
             held: cells,
-            mode: None,
-            pending: None,
+            looked: 0,
+            begun_place: 0,
+            begun_field: 0,
             inside: false,
             status: Status::Async,
             claims: 0,
@@ -128,8 +130,9 @@ impl<P: Keeping> MutSeat<P> {
             number: _,
             room: _,
             held: _held,
-            mode: _,
-            pending: _,
+            looked: _,
+            begun_place: _,
+            begun_field: _,
             inside: _,
             status: _,
             claims: _,

@@ -4,7 +4,6 @@
 //! store sets the field whatever it holds by then: what another wrote there meanwhile is lost.
 ghost use Rattle.std.specs.Prelude.{◌≡◌, length};
 ghost use Rattle.cell_words.specs.declared.fields.Field.{Field};
-ghost use Rattle.core_machine.specs.Own.{pending_or_none};
 ghost use Rattle.core_machine.specs.declared.events.Event.TheVariants as event;
 ghost use Rattle.core_machine.specs.declared.events.Found.TheVariants as finds;
 ghost use Rattle.heap_rule.specs.Asks.{MayFetch, MayStore};
@@ -17,26 +16,12 @@ use crate::cells::hold_found;
 use crate::choice::Choice;
 use crate::seat::MutSeat;
 use crate::values::Value;
-use cell_words::{Field, pack_field};
-use core_machine::{Event, Pending};
+use cell_words::pack_field;
+use core_machine::Event;
 use heap_rule::Keeping;
 use heap_table::CellHeap;
 use heap_table::words::field_of;
 use std::marker::Brand;
-
-/// The write that was begun, and a harmless one where there is none.
-fn begun_by(pending: Option<Pending>) -> Pending
-    ensures begun { result ≡ pending_or_none pending }
-{
-    match pending {
-        None => Pending {
-            place: 0,
-            f: 0,
-            found: Field::Null,
-        },
-        Some(begun) => begun,
-    }
-}
 
 impl<P: Keeping> MutSeat<P> {
     /// Loads a field of the box at a place, to store it next, and holds the cell that it finds at
@@ -56,11 +41,8 @@ impl<P: Keeping> MutSeat<P> {
             word,
         );
         let found = field_of(number);
-        self.pending = Some(Pending {
-            place,
-            f: field,
-            found,
-        });
+        self.begun_place = place;
+        self.begun_field = field;
         hold_found(&mut self.held, found)
     }
 
@@ -74,8 +56,7 @@ impl<P: Keeping> MutSeat<P> {
         ensures made { AtEvent P.holds P.fixed self.old.me (store_of self.old.me new) C.next
             finds.Stored self.new.me }
     {
-        let begun = begun_by(self.pending);
-        let word = self.field_at(heap, begun.place, begun.f);
+        let word = self.field_at(heap, self.begun_place, self.begun_field);
         let new = self.stands_for(new);
         let written = pack_field(new);
         heap.mutator_store::<Brand>(
@@ -84,7 +65,5 @@ impl<P: Keeping> MutSeat<P> {
             word,
             written,
         );
-        self.mode = None;
-        self.pending = None;
     }
 }

@@ -2,11 +2,10 @@
 ghost use Rattle.std.specs.Prelude.{◌≡◌, ◌<◌};
 ghost use Rattle.cell_words.specs.Field.{IsValidField};
 ghost use Rattle.core_machine.specs.Table.{ColourOf, FieldOf, StatusOf, index_of};
-ghost use Rattle.core_machine.specs.Words.{born_colour, kind_field};
+ghost use Rattle.core_machine.specs.Words.{kind_field};
 ghost use Rattle.heap_table.specs.Seats.{words_many};
 
-use cell_words::modes::claim_colour;
-use cell_words::{Colour, Control, Field, Kind, Status};
+use cell_words::{Field, Kind};
 use heap_rule::Keeping;
 use heap_table::CellHeap;
 
@@ -40,16 +39,6 @@ pub(crate) fn field_word<P: Keeping>(heap: &CellHeap<P>, cell: u32, field: usize
     ensures below { result < words_many heap.now.shape }
 {
     1 + heap.mutators() as usize + 7 * cell as usize + 1 + field
-}
-
-/// The colour that a new cell gets, by what the last look found.
-pub(crate) fn born_colour(status: Status, mode: Option<Control>, cell: u32) -> Colour
-    ensures colour { result ≡ born_colour status mode cell }
-{
-    match mode {
-        None => Colour::White,
-        Some(mode) => claim_colour(status, mode, cell),
-    }
 }
 
 /// What field 5 of a sealed cell is.

@@ -79,8 +79,6 @@ impl<P: Keeping> MutSeat<P> {
             written,
         );
         let found = field_of(number);
-        self.mode = None;
-        self.pending = None;
         if number == expected {
             Ok(())
         } else {

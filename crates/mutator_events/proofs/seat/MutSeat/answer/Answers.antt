@@ -32,7 +32,7 @@ pub invariant_of-self : goal.invariant_of-self
 invariant_of-self g c =
     let seat = c.self.inside in (
       subst (λ (status : Status). IsMutator c.mutator_store.new.seat.me seat.number seat.room
-          seat.held.items None seat.inside status seat.claims) (sym c.next_status-status.ensures.status)
+          seat.held.items seat.looked seat.inside status seat.claims) (sym c.next_status-status.ensures.status)
           (after_answer c.self.invariant.0 c.mutator_store.ensures.step).keeps,
       c.self.invariant.1,
       begun_in (after_answer c.self.invariant.0 c.mutator_store.ensures.step).view

@@ -6,7 +6,7 @@ use Rattle.core_machine.specs.WordOperations.{SetBits, inside_bit}
 use Rattle.heap_rule.specs.Asks.{MayComeIn}
 use Rattle.heap_rule.proofs.Owing.{owes_begin}
 use Rattle.mutator_events.specs.Seats.{IsMutator}
-use Rattle.mutator_events.proofs.Begun.{begun_in, free_begun, idle_pending}
+use Rattle.mutator_events.proofs.Begun.{begun_in, none_begun}
 use Rattle.mutator_events.proofs.Calls.{after_begin}
 use Rattle.mutator_events.proofs.Calls.{seat_told}
 use Rattle.mutator_events.proofs.Calls.{within}
@@ -43,12 +43,11 @@ invariant_of-self g c =
     let items : c.push_reserved.new.self.items ≡ 0 ∷ [] = c.push_reserved.ensures.items
     ∙ ap (λ (cells : List ℕ). cells ++ 0 ∷ []) c.clear.ensures.items in (
       subst (λ (cells : List ℕ). IsMutator c.mutator_set_bits-found.new.seat.me seat.number
-          seat.room cells None true
+          seat.room cells seat.looked true
           c.presence_of-presence.result.status seat.claims) (sym items) after.keeps,
       omega (arith, c.self.invariant.1, c.clear.ensures.capacity, c.push_reserved.ensures.capacity),
-      begun_in after.view (free_begun c.self.invariant.2
-          (idle_pending c.self.invariant.2 (sym c.self.invariant.0.presence.inside_is ∙ may.out))
-          refl),
+      begun_in after.view (none_begun
+          (c.self.invariant.2.idle (sym c.self.invariant.0.presence.inside_is ∙ may.out))),
     )
 
 pub returns : goal.returns

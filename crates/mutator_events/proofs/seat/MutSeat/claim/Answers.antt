@@ -13,16 +13,22 @@ use Rattle.heap_rule.specs.Lore.{cells_in}
 use Rattle.heap_rule.specs.Shape.{Shape}
 use Rattle.heap_table.specs.Seats.{SeatView}
 use Rattle.mutator_events.specs.Seats.{IsMutator}
-use Rattle.mutator_events.proofs.Begun.{begun_in, free_begun}
+use Rattle.mutator_events.proofs.Begun.{begun_in, none_begun}
 use Rattle.mutator_events.proofs.Calls.{after_claim}
 use Rattle.mutator_events.proofs.Calls.{after_miss}
 use Rattle.mutator_events.proofs.Calls.{claims_more, got_new, seat_told}
 use Rattle.mutator_events.proofs.Calls.{within, without}
+use Rattle.mutator_events.proofs.Looked.{looked_word, mode_kept}
 use Rattle.mutator_events.proofs.Founds.{claim_word, not_blue}
 use Rattle.mutator_events.proofs.Keeping.{missed_own}
 use Rattle.mutator_events.proofs.Owed.{claim_owed}
 use Rattle.mutator_events.proofs.Owed.{still_as}
 use Rattle.mutator_events.proofs.seat.MutSeat.claim.Goals as goal
+
+pub control_of-requires : goal.control_of-requires
+control_of-requires g c =
+    let may = within (λ v. MayClaim v c.args.cell) c.self.view_is c.requires.may in
+    looked_word c.self.inside.seat.me.own.mode c.self.invariant.0.own.mode_is may.mode
 
 pub mutator_exchange-number-requires-clause-made : goal.mutator_exchange-number-requires-clause-made
 mutator_exchange-number-requires-clause-made g c =
@@ -37,7 +43,9 @@ mutator_exchange-number-requires-clause-kind g c =
     ∙ sym c.colour_word-word.ensures.word)
     c.pack_colour-blue.ensures.word
     (c.pack_colour-new.ensures.word
-    ∙ ap (λ (x : Colour). pack_colour_of x) c.born_colour-born.ensures.colour) may
+    ∙ ap (λ (x : Colour). pack_colour_of x) c.claim_colour-born.ensures.colour)
+    (mode_kept c.self.inside.seat.me.own.mode c.self.invariant.0.own.mode_is may.mode
+    c.control_of.ensures.control) may
 
 pub mutator_exchange-number-requires-clause-rule : goal.mutator_exchange-number-requires-clause-rule
 mutator_exchange-number-requires-clause-rule g c =
@@ -61,10 +69,10 @@ invariant_of-self g c =
     let after = after_claim c.self.invariant.0 c.args.cell c.colour_of-found.result
     c.colour_of-found.ensures.colour may c.mutator_exchange-number.ensures.step c.in-Blue.is in (
       subst (λ (cells : List ℕ). IsMutator c.mutator_exchange-number.new.seat.me seat.number
-          seat.room cells None
+          seat.room cells seat.looked
           seat.inside seat.status (seat.claims + 1)) (sym c.push_reserved.ensures.items) after.keeps,
       omega (arith, c.self.invariant.1, c.push_reserved.ensures.capacity),
-      begun_in after.view (free_begun c.self.invariant.2 may.settled refl),
+      begun_in after.view (none_begun may.settled),
     )
 
 pub invariant_of-self-in-White : goal.invariant_of-self-in-White
@@ -76,9 +84,9 @@ invariant_of-self-in-White g c =
     c.colour_of-found.ensures.colour c.mutator_exchange-number.ensures.step other in (
       after.keeps,
       c.self.invariant.1,
-      begun_in after.view (free_begun c.self.invariant.2 may.settled
+      begun_in after.view (none_begun
           (ap (λ (o : Own). o.pending)
-          (missed_own own c.args.cell c.colour_of-found.result other))),
+          (missed_own own c.args.cell c.colour_of-found.result other) ∙ may.settled)),
     )
 
 pub returns-in-Blue : goal.returns-in-Blue

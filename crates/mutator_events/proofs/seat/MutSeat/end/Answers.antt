@@ -33,7 +33,7 @@ invariant_of-self g c =
     let may = within (λ v. v.presence.inside ≡ true) c.self.view_is c.requires.inside in
     let seat = c.self.inside in (
       subst (λ (cells : List ℕ). IsMutator c.mutator_keep_bits.new.seat.me seat.number seat.room
-          cells None false
+          cells seat.looked false
           seat.status seat.claims) (sym c.clear.ensures.items)
           (after_end c.self.invariant.0 may c.mutator_keep_bits.ensures.step).keeps,
       omega (arith, c.self.invariant.1, c.clear.ensures.capacity),

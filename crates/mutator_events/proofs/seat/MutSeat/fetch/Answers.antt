@@ -51,7 +51,7 @@ invariant_of-self g c =
     let after = after_fetch c.self.invariant.0 c.args.place c.args.field c.field_of-found.result
     c.field_of-found.ensures.field may c.mutator_load-number.ensures.step in (
       subst (λ (cells : List ℕ). IsMutator c.mutator_load-number.new.seat.me seat.number seat.room
-          cells seat.mode seat.inside seat.status seat.claims) (sym c.hold_found.ensures.cells)
+          cells seat.looked seat.inside seat.status seat.claims) (sym c.hold_found.ensures.cells)
           after.keeps,
       omega (arith, c.self.invariant.1, c.hold_found.ensures.capacity),
       begun_in after.event.new (fetched_begun seat.seat.me.own c.args.place c.args.field

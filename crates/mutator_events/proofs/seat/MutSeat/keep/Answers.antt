@@ -6,7 +6,7 @@ use Rattle.core_machine.specs.WordOperations.{Load}
 use Rattle.heap_rule.specs.Asks.{MayKeep}
 use Rattle.heap_rule.proofs.Owing.{owes_keep}
 use Rattle.mutator_events.specs.Seats.{IsMutator}
-use Rattle.mutator_events.proofs.Begun.{begun_in, free_begun}
+use Rattle.mutator_events.proofs.Begun.{begun_in, none_begun}
 use Rattle.mutator_events.proofs.Calls.{after_keep}
 use Rattle.mutator_events.proofs.Calls.{seat_told}
 use Rattle.mutator_events.proofs.Calls.{within}
@@ -41,13 +41,13 @@ invariant_of-self g c =
     let settled = within (λ v. v.own.pending ≡ None) c.self.view_is c.requires.settled in
     let seat = c.self.inside in (
       subst (λ (cells : List ℕ). IsMutator c.mutator_load.new.seat.me seat.number seat.room cells
-          seat.mode
+          seat.looked
           seat.inside seat.status seat.claims) (sym c.keep_cells.ensures.cells)
           (after_keep c.self.invariant.0 c.args.n c.args.place c.args.count may
           c.mutator_load.ensures.step).keeps,
       omega (arith, c.self.invariant.1, c.keep_cells.ensures.capacity),
       begun_in (after_keep c.self.invariant.0 c.args.n c.args.place c.args.count may
-          c.mutator_load.ensures.step).view (free_begun c.self.invariant.2 settled refl),
+          c.mutator_load.ensures.step).view (none_begun settled),
     )
 
 pub returns : goal.returns

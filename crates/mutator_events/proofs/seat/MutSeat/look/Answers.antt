@@ -5,7 +5,7 @@ use Rattle.core_machine.specs.Table.{TheControl}
 use Rattle.core_machine.specs.WordOperations.{Load}
 use Rattle.heap_rule.specs.Asks.{MayLook}
 use Rattle.heap_rule.proofs.Owing.{owes_look}
-use Rattle.mutator_events.proofs.Begun.{begun_in, free_begun}
+use Rattle.mutator_events.proofs.Begun.{begun_in, none_begun}
 use Rattle.mutator_events.proofs.Calls.{after_look}
 use Rattle.mutator_events.proofs.Calls.{seat_told}
 use Rattle.mutator_events.proofs.Calls.{within}
@@ -28,27 +28,27 @@ mutator_load-found-requires-clause-rule g c =
     still_as g.P.Keeping.fixed c.self.invariant.0 g.P.Keeping.holds g.P.Keeping.shrinks
     (event.Look c.self.inside.number) (λ s l. refl)
 
-pub control_of-control-requires : goal.control_of-control-requires
-control_of-control-requires g c =
+pub control_of-requires : goal.control_of-requires
+control_of-requires g c =
     look_word c.mutator_load-found.ensures.step
 
 pub invariant_of-self : goal.invariant_of-self
 invariant_of-self g c =
     let may = within (λ v. MayLook v) c.self.view_is c.requires.may in
-    let after = after_look c.self.invariant.0 c.control_of-control.result
-    c.control_of-control.ensures.control c.mutator_load-found.ensures.step in (
+    let after = after_look c.self.invariant.0 c.control_of.result
+    c.control_of.ensures.control c.mutator_load-found.ensures.step in (
       after.keeps,
       c.self.invariant.1,
-      begun_in after.view (free_begun c.self.invariant.2 may.settled refl),
+      begun_in after.view (none_begun may.settled),
     )
 
 pub returns : goal.returns
 returns g c =
     record {
       told = seat_told c.mutator_load-found.new.seat (λ v. event.Look v.number)
-          (λ v. finds.Control c.control_of-control.result) c.self.view_is
+          (λ v. finds.Control c.control_of.result) c.self.view_is
           c.mutator_load-found.ensures.same
-          (after_look c.self.invariant.0 c.control_of-control.result
-          c.control_of-control.ensures.control c.mutator_load-found.ensures.step).view;
-      valid = c.control_of-control.ensures.valid;
+          (after_look c.self.invariant.0 c.control_of.result
+          c.control_of.ensures.control c.mutator_load-found.ensures.step).view;
+      valid = c.control_of.ensures.valid;
     }

@@ -51,7 +51,7 @@ invariant_of-self g c =
     let may = within (λ v. MayRead v c.args.place c.args.field) c.self.view_is c.requires.may in
     let seat = c.self.inside in (
       subst (λ (cells : List ℕ). IsMutator c.mutator_load-number.new.seat.me seat.number seat.room
-          cells seat.mode
+          cells seat.looked
           seat.inside seat.status seat.claims) (sym c.hold_found.ensures.cells)
           (after_read c.self.invariant.0 c.args.place c.args.field c.field_of-found.result
           c.field_of-found.ensures.field may c.mutator_load-number.ensures.step).keeps,

@@ -1,14 +1,12 @@
-use Rattle.std.proofs.Common.{◌≡◌, ◌∙◌, ◌<◌, ℕ, Some, length, refl, sym, ap, subst, Option}
+use Rattle.std.proofs.Common.{◌<◌, ℕ, Some, length, refl, sym, ap, subst, arith}
 use Rattle.core_machine.specs.declared.events.Found.TheVariants as finds
-use Rattle.core_machine.specs.declared.pending.Pending.{Pending}
-use Rattle.core_machine.specs.Own.{pending_or_none}
 use Rattle.core_machine.specs.Table.{FieldOf, index_of}
-use Rattle.heap_rule.specs.Asks.{MayStore, begun_of, target}
+use Rattle.heap_rule.specs.Asks.{MayStore, target}
 use Rattle.heap_rule.specs.Steps.{Picks}
 use Rattle.heap_table.specs.Seats.{SeatView}
 use Rattle.mutator_events.specs.Events.{AtEvent, store_of}
 use Rattle.mutator_events.specs.Values.{field_at}
-use Rattle.mutator_events.proofs.Begun.{begun_in, begun_payload, begun_there, none_begun}
+use Rattle.mutator_events.proofs.Begun.{begun_goes, begun_in, none_begun}
 use Rattle.mutator_events.proofs.Calls.{after_store}
 use Rattle.mutator_events.proofs.Calls.{same_within}
 use Rattle.mutator_events.proofs.Calls.{within, without}
@@ -20,16 +18,15 @@ field_at-word-requires-clause-there g c =
     let may = within (λ v. MayStore g.P.Keeping.fixed v (field_at v.own.held c.args.new))
     c.self.view_is c.requires.may in
     let seat = c.self.inside in
-    subst (λ (s : SeatView _). c.begun_by-begun.result.place < length s.me.own.held) c.self.view_is
-    (subst (λ (p : Pending). p.place < length seat.seat.me.own.held)
-    (sym c.begun_by-begun.ensures.begun)
-    (begun_there seat.seat.me.own seat.pending seat.inside c.self.invariant.2 may.begun))
+    subst (λ (s : SeatView _). seat.begun_place < length s.me.own.held) c.self.view_is
+    (c.self.invariant.2.there may.begun)
 
 pub field_at-word-requires-clause-field : goal.field_at-word-requires-clause-field
 field_at-word-requires-clause-field g c =
-    let seat = c.self.inside in
-    subst (λ (p : Pending). p.f < 6) (sym c.begun_by-begun.ensures.begun)
-    (begun_payload seat.seat.me.own seat.pending seat.inside c.self.invariant.2)
+    let may = within (λ v. MayStore g.P.Keeping.fixed v (field_at v.own.held c.args.new))
+    c.self.view_is c.requires.may in
+    let le = c.self.invariant.2.payload may.begun in
+    omega (arith, le)
 
 pub mutator_store-requires-clause-made : goal.mutator_store-requires-clause-made
 mutator_store-requires-clause-made g c =
@@ -39,13 +36,15 @@ pub mutator_store-requires-clause-kind : goal.mutator_store-requires-clause-kind
 mutator_store-requires-clause-kind g c =
     let may = within (λ v. MayStore g.P.Keeping.fixed v (field_at v.own.held c.args.new))
     c.self.view_is c.requires.may in
-    let begun = c.begun_by-begun.result in
-    store_owed g.P.Keeping.fixed c.self.invariant.0 begun
+    let seat = c.self.inside in
+    let goes = begun_goes seat.seat.me.own seat.begun_place seat.begun_field seat.inside
+    c.self.invariant.2 may.begun in
+    store_owed g.P.Keeping.fixed c.self.invariant.0 seat.begun_place seat.begun_field
     (same_within (λ v. field_at v.own.held c.args.new) c.self.view_is
     c.stands_for-new.ensures.field)
-    (ap (λ (p : Option Pending). pending_or_none p) c.self.invariant.2.pending_is
-    ∙ sym c.begun_by-begun.ensures.begun)
-    (sym (same_within (λ v. index_of v.shape.mutators (FieldOf (target v begun.place) begun.f))
+    goes.0 goes.1
+    (sym (same_within (λ v. index_of v.shape.mutators
+    (FieldOf (target v seat.begun_place) seat.begun_field))
     c.self.view_is c.field_at-word.ensures.word))
     c.pack_field-written.ensures.word may
 
