@@ -3,9 +3,9 @@
 
 stress.py DOCHEAP [--runs N] [--seed S] [--jobs J] [--only NAME] [--limit SECONDS]
 
-N runs of each kind; a run is made again by its kind and its seed. Three kinds of long runs are
-made only where --only names them: 64 clients with 1,500 commands each on 64 cells, of all kinds or
-puts and gets alone, and 2 to 64 clients. Kinds with batches have scripts of version 2, some beside
+N runs of each kind; a run is made again by its kind and its seed. Four kinds of long runs are made
+only where --only names them: 64 clients with 1,500 commands each on 64 cells, of all kinds or puts
+and gets alone, 2 to 64 clients, and a batch of 1,000 edits beside four clients that commit. Kinds with batches have scripts of version 2, some beside
 scripts of version 1; long batches outgrow the private heap, so the session collects between edits.
 
 The checker shares nothing with the program: it reads the scripts by the grammar, folds the merged
@@ -439,6 +439,20 @@ def scripts_of_puts(r, commands):
     return "".join(r.choice(("put a x\n", "put b y\n", "get a\n")) for _ in range(commands))
 
 
+def batch_of(edits):
+    return "\n".join(["begin", *edits, "commit"]) + "\n"
+
+
+def large_batch_and_commits(r):
+    """A batch of 1,000 edits of a folder with 256 children, and four clients that commit."""
+    names = [f"k{k:03}" for k in range(256)]
+    laid = [f"put f/{name} {quoted(text(r))}" for name in names]
+    edits = [f"put f/{r.choice(names)} {quoted(text(r))}" for _ in range(1000)]
+    return ["docs 2\n" + batch_of(laid) + batch_of(edits)] + [
+        "".join(f"put c{c}/{r.choice('abc')} {n}\n" for n in range(r.randint(100, 2000)))
+        for c in range(4)]
+
+
 # Long runs, made where --only names them. Drafts of 64 clients soon fill 64 cells for good, so one
 # kind has none.
 LONG = {
@@ -446,6 +460,8 @@ LONG = {
         scripts_of(r, 64, 1500, "abc"), 64, 1, MILLION),
     "64 clients, 64 cells, 1500 puts and gets": lambda r: (
         [scripts_of_puts(r, 1500) for _ in range(64)], 64, 1, MILLION),
+    "a batch of 1000 edits, 4 clients that commit": lambda r: (
+        large_batch_and_commits(r), 65_536, r.randint(1, 8), MILLION),
     "2 to 64 clients, keep 1": lambda r: (
         scripts_of(r, r.randint(2, 64), 60, "abc"), r.choice((64, 200, 2048)), 1, MILLION),
 }
