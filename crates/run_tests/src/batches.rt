@@ -1,8 +1,9 @@
 //! Whole runs of scripts of version 2.
-use crate::outcomes::{FINISHED, Shown, refusal_by, shown_by, shown_of, words};
+use crate::outcomes::{FINISHED, Shown, files, refusal_by, shown_by, shown_of, words};
 use doc_model::NoMemory;
 use doc_run::run;
 use outside::{OpenGate, SureShelf, SureSink};
+use script_files::{Fault, scripts_in_files};
 use std::alloc::Global;
 use std::sync::Wait;
 use std::test::Fail;
@@ -138,5 +139,30 @@ fn a_faulty_batch_is_refused_at_its_first_faulty_line(rt: HostRuntime) -> Result
         let refusal = refusal_by(rt.alloc(), &rt, &["run", "f"], script, text)?;
         assert_eq!(rt; refusal, (2, true), "{text}");
     }
+    Ok(())
+}
+
+/// How many commands are in a script of a batch of three edits and so many commands behind it.
+fn commands_behind_a_batch(alloc: Global, many: usize) -> Result<Result<usize, Fault>, NoMemory> {
+    let first = b"docs 2\nbegin\nput a \"1\"\nput b \"2\"\ndel a\ncommit\n";
+    let mut script = Vec::from_slice(alloc, first)?;
+    for _ in 0..many {
+        script.extend_from_slice(b"get a\n")?;
+    }
+    let mut shelf = SureShelf::new(files(alloc, &script)?);
+    Ok(match scripts_in_files(alloc, &["f"], &mut shelf) {
+        Ok(scripts) => match scripts.commands.first() {
+            Some(commands) => Ok(commands.len()),
+            None => Ok(0),
+        },
+        Err(fault) => Err(fault),
+    })
+}
+
+#[test]
+fn a_batch_counts_as_one_command_of_a_run(rt: HostRuntime) -> Result<(), Fail> {
+    assert_eq!(rt; commands_behind_a_batch(rt.alloc(), 99_999)?, Ok(100_000));
+    let refused = Err(Fault::TooLarge { file: 0 });
+    assert_eq!(rt; commands_behind_a_batch(rt.alloc(), 100_000)?, refused);
     Ok(())
 }
