@@ -1,13 +1,13 @@
 #!/usr/bin/env python3
 """Measures batches of 100 puts beside the same puts as commands of their own.
 
-batches.py PROGRAM [--batches 100] [--rounds 15]
+batches.py PROGRAM [--batches 200] [--rounds 15]
 
 Both scripts have the same puts, in the same order, into 200 paths of one folder that stand before.
 The two take turns, and so does a script without them. Printed are the middle times in milliseconds
 (user and system), without that of the last script, and the ratio, the middle one of the rounds. A
 batch makes one version of its puts, so the nodes on the way are copied into the shared heap once
-and not a hundred times; how its edits share the private heap, is in the same figure.
+and not a hundred times. The collector makes no cycle: a million cells are enough for 200 batches.
 """
 import argparse, os, random, resource, statistics, subprocess, sys, tempfile
 
@@ -27,7 +27,7 @@ def scripts(batches):
 
 def spent(program, file):
     before = resource.getrusage(resource.RUSAGE_CHILDREN)
-    subprocess.run([program, "run", file], check=True, stdout=subprocess.DEVNULL)
+    subprocess.run([program, "run", "--cycles", "0", "--cells", "1000000", file], check=True, stdout=subprocess.DEVNULL)
     behind = resource.getrusage(resource.RUSAGE_CHILDREN)
     return behind.ru_utime + behind.ru_stime - before.ru_utime - before.ru_stime
 
@@ -35,7 +35,7 @@ def spent(program, file):
 def main():
     p = argparse.ArgumentParser()
     p.add_argument("program")
-    p.add_argument("--batches", type=int, default=100)
+    p.add_argument("--batches", type=int, default=200)
     p.add_argument("--rounds", type=int, default=15)
     args = p.parse_args()
     with tempfile.TemporaryDirectory() as folder:
