@@ -1,5 +1,5 @@
 -- Numbers that the words bring are within what a run of clients takes.
-use Rattle.std.proofs.Common.{◌≡◌, ℕ, ◌≤◌, List, [], ◌∷◌, length, Err, refl}
+use Rattle.std.proofs.Common.{◌≤◌, List, [], ◌∷◌, length}
 use Rattle.std.proofs.Common.{arith}
 use Rattle.std.specs.Prelude.{All, Vec, sum_by}
 use Rattle.std.specs.declared.alloc.Global.{Global}
@@ -9,11 +9,6 @@ use Rattle.doc_model.specs.declared.command.Command.{Command}
 use Rattle.run_words.specs.Limits.{IsRunWithin}
 use Rattle.run_words.specs.Requests.{run_asked_by}
 use Rattle.run_words.specs.declared.request.RunWords.{RunWords}
-use Rattle.script_files.specs.Made.{DecidesMade}
-use Rattle.script_files.specs.declared.fault.Fault.{Fault}
-use Rattle.script_files.specs.declared.fault.Fault.TheVariants.{Usage, Script, Schedule}
-use Rattle.script_files.specs.declared.fault.Fault.TheVariants.{ReadFault, WriteFault}
-use Rattle.script_files.specs.declared.fault.Fault.TheVariants.{Memory, TooLarge}
 use Rattle.store_run.specs.Opened.{IsWithin}
 use Rattle.doc_run.specs.Clients.{default_options, options_of}
 
@@ -48,15 +43,4 @@ each_short (script ∷ scripts) short =
     All-cons (λ (s : Vec Command Global). length s.items ≤ 100000) script scripts
     (omega (arith, sum, short)) (each_short scripts (omega (arith, sum, short)))
 
--- scripts that are not made want memory
-pub only_memory : (start clients commands : ℕ) (fault : Fault)
-    → DecidesMade start clients commands (Err fault) → fault ≡ Memory
-only_memory start clients commands Usage is = absurd is
-only_memory start clients commands (Script file line kind) is = absurd is
-only_memory start clients commands (Schedule line kind) is = absurd is
-only_memory start clients commands (ReadFault file) is = absurd is
-only_memory start clients commands WriteFault is = absurd is
-only_memory start clients commands Memory is = refl
-only_memory start clients commands (TooLarge file) is = absurd is
-
-pub ruleset ranges = (options_within, default_within, only_memory)
+pub ruleset ranges = (options_within, default_within)

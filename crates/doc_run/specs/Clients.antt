@@ -11,10 +11,9 @@ use Rattle.run_words.specs.declared.request.GenWords.{GenWords}
 use Rattle.script_files.specs.Formed.{AreRead}
 use Rattle.script_files.specs.Made.{AreMade}
 use Rattle.script_files.specs.Scripts.{AreScripts}
+use Rattle.script_files.specs.Sorts.{OfScripts, Refused, sort_of}
 use Rattle.script_files.specs.declared.fault.Fault.{Fault}
-use Rattle.script_files.specs.declared.fault.Fault.TheVariants.{Usage, Script, Schedule}
-use Rattle.script_files.specs.declared.fault.Fault.TheVariants.{ReadFault, WriteFault}
-use Rattle.script_files.specs.declared.fault.Fault.TheVariants.{Memory, TooLarge}
+use Rattle.script_files.specs.declared.fault.Fault.TheVariants.{Memory}
 use Rattle.store_run.specs.Finished.{Comes}
 use Rattle.store_run.specs.declared.finished.Finished.{Finished}
 use Rattle.store_run.specs.declared.options.Options.{Options}
@@ -75,14 +74,8 @@ ComesFrom told options f forms =
 -- could not be read, or memory was wanting
 abbrev pub DecidesRun : List (Option (List ℕ)) → Options → Result Ran Fault → Type 0
 DecidesRun told options (Ok ran) = ComesFrom told options ran.finished ran.forms.items
-DecidesRun told options (Err Usage) = ⊥
-DecidesRun told options (Err (Script file line kind)) =
-    AreScripts told (Err (Script file line kind))
-DecidesRun told options (Err (Schedule line kind)) = ⊥
-DecidesRun told options (Err (ReadFault file)) = Unit {0}
-DecidesRun told options (Err WriteFault) = ⊥
-DecidesRun told options (Err Memory) = Unit {0}
-DecidesRun told options (Err (TooLarge file)) = AreScripts told (Err (TooLarge file))
+DecidesRun told options (Err fault) =
+    Refused OfScripts (sort_of fault) (AreScripts told (Err fault)) (Unit {0})
 
 -- the answer is what a run of generated scripts came to, or memory was wanting
 abbrev pub MakesRun : GenWords → Result Finished Fault → Type 0

@@ -19,10 +19,10 @@ use Rattle.run_words.specs.declared.request.GenWords.{GenWords}
 use Rattle.script_files.specs.Files.{opened}
 use Rattle.script_files.specs.Replayed.{IsReading, IsTextOf}
 use Rattle.script_files.specs.Scripts.{AreScripts, most_commands}
+use Rattle.script_files.specs.Sorts.{OfScripts, OfSchedules, Refused, Sort, sort_of}
+use Rattle.script_files.specs.Sorts.{OfWords, OfLine, OfReading, OfWriting, OfMemory, OfSize}
 use Rattle.script_files.specs.declared.fault.Fault.{Fault}
-use Rattle.script_files.specs.declared.fault.Fault.TheVariants.{Usage, Script, Schedule}
-use Rattle.script_files.specs.declared.fault.Fault.TheVariants.{ReadFault, WriteFault}
-use Rattle.script_files.specs.declared.fault.Fault.TheVariants.{Memory, TooLarge}
+use Rattle.script_files.specs.declared.fault.Fault.TheVariants.{ReadFault, TooLarge}
 use Rattle.script_generator.specs.Generated.{generated_of}
 use Rattle.store_run.specs.declared.finished.Finished.{Finished}
 use Rattle.store_run.specs.declared.options.Options.{Options}
@@ -104,22 +104,26 @@ WritesPartOf holds (Some (Run run)) old new =
 WritesPartOf holds (Some (Replay name)) old new = WritesTextPart (IsTextOf (holds name)) old new
 WritesPartOf holds (Some (Gen made)) old new = WritesMadePart made old new
 
+-- What is so by the sort of a fault: the first fact where the run was refused, the next where the
+-- output could not be written, the last where memory was wanting.
+abbrev pub BySort : Sort → Type 0 → Type 0 → Type 0 → Type 0
+BySort OfWords Refusal Failed Wanting = Refusal
+BySort (OfLine grammar) Refusal Failed Wanting = Refusal
+BySort OfReading Refusal Failed Wanting = Refusal
+BySort OfWriting Refusal Failed Wanting = Failed
+BySort OfMemory Refusal Failed Wanting = Wanting
+BySort OfSize Refusal Failed Wanting = Refusal
+
 -- By the fault of a run of clients.
 
 -- what an ending says of the scripts that are given, and of what the run came to
 abbrev pub Explains : (Result (List (List Command)) Fault → Type 0) → Options → Option Fault
     → Option Finished → Type 0
 Explains Given options None finished = IsSomeAnd finished (λ f. ComesBy Given options f)
-Explains Given options (Some Usage) finished = ⊥
-Explains Given options (Some (Script file line kind)) finished =
-    Given (Err (Script file line kind)) × IsNone finished
-Explains Given options (Some (Schedule line kind)) finished = ⊥
-Explains Given options (Some (ReadFault file)) finished = IsNone finished
-Explains Given options (Some WriteFault) finished =
-    IsSomeAnd finished (λ f. ComesBy Given options f)
-Explains Given options (Some Memory) finished = IsNone finished
-Explains Given options (Some (TooLarge file)) finished =
-    Given (Err (TooLarge file)) × IsNone finished
+Explains Given options (Some fault) finished =
+    BySort (sort_of fault)
+    (Refused OfScripts (sort_of fault) (Given (Err fault)) (Unit {0}) × IsNone finished)
+    (IsSomeAnd finished (λ f. ComesBy Given options f)) (IsNone finished)
 
 -- what an ending says of what was written
 abbrev pub Writes : (Result (List (List Command)) Fault → Type 0) → Options
@@ -127,15 +131,9 @@ abbrev pub Writes : (Result (List (List Command)) Fault → Type 0) → Options
     → Option Fault → Option Finished → Type 0
 Writes Given options IsText old new None finished =
     IsSomeAnd finished (λ f. WritesAll (IsText f) old new)
-Writes Given options IsText old new (Some Usage) finished = new ≡ old
-Writes Given options IsText old new (Some (Script file line kind)) finished = new ≡ old
-Writes Given options IsText old new (Some (Schedule line kind)) finished = new ≡ old
-Writes Given options IsText old new (Some (ReadFault file)) finished = new ≡ old
-Writes Given options IsText old new (Some WriteFault) finished =
-    IsSomeAnd finished (λ f. WritesFront (IsText f) old new)
-Writes Given options IsText old new (Some Memory) finished =
-    WritesPart Given options IsText old new
-Writes Given options IsText old new (Some (TooLarge file)) finished = new ≡ old
+Writes Given options IsText old new (Some fault) finished =
+    BySort (sort_of fault) (new ≡ old) (IsSomeAnd finished (λ f. WritesFront (IsText f) old new))
+    (WritesPart Given options IsText old new)
 
 -- By the fault of generated scripts.
 
@@ -149,14 +147,10 @@ IsMadeRun made finished =
 -- what an ending says of the words, and of what the run came to
 abbrev pub ExplainsMade : GenWords → Option Fault → Option Finished → Type 0
 ExplainsMade made None finished = IsMadeRun made finished
-ExplainsMade made (Some Usage) finished = ⊥
-ExplainsMade made (Some (Script file line kind)) finished = ⊥
-ExplainsMade made (Some (Schedule line kind)) finished = ⊥
-ExplainsMade made (Some (ReadFault file)) finished = ⊥
-ExplainsMade made (Some WriteFault) finished = IsMadeRun made finished
-ExplainsMade made (Some Memory) finished = IsNone finished
-ExplainsMade made (Some (TooLarge file)) finished =
-    (file ≡ 0) × (most_commands < made.clients * made.commands) × IsNone finished
+ExplainsMade made (Some fault) finished =
+    BySort (sort_of fault)
+    ((fault ≡ TooLarge 0) × (most_commands < made.clients * made.commands) × IsNone finished)
+    (IsMadeRun made finished) (IsNone finished)
 
 -- what an ending says of what was written
 abbrev pub WritesMade : GenWords → Option (List ℕ) → Option (List ℕ) → Option Fault
@@ -164,49 +158,32 @@ abbrev pub WritesMade : GenWords → Option (List ℕ) → Option (List ℕ) →
 WritesMade made old new None finished =
     ByPrint made.print (IsSomeAnd finished (λ f. WritesAll (IsSummaryOf made f) old new))
     (λ client. Appends old new (printed_of made client))
-WritesMade made old new (Some Usage) finished = new ≡ old
-WritesMade made old new (Some (Script file line kind)) finished = new ≡ old
-WritesMade made old new (Some (Schedule line kind)) finished = new ≡ old
-WritesMade made old new (Some (ReadFault file)) finished = new ≡ old
-WritesMade made old new (Some WriteFault) finished =
-    ByPrint made.print (IsSomeAnd finished (λ f. WritesFront (IsSummaryOf made f) old new))
-    (λ client. AppendsPart old new (printed_of made client))
-WritesMade made old new (Some Memory) finished = WritesMadePart made old new
-WritesMade made old new (Some (TooLarge file)) finished = new ≡ old
+WritesMade made old new (Some fault) finished =
+    BySort (sort_of fault) (new ≡ old)
+    (ByPrint made.print (IsSomeAnd finished (λ f. WritesFront (IsSummaryOf made f) old new))
+    (λ client. AppendsPart old new (printed_of made client))) (WritesMadePart made old new)
 
 -- what an ending says of a script that is printed
 abbrev pub PrintsBy : List ℕ → Option Fault → Option (List ℕ) → Option (List ℕ)
     → Type 0
 PrintsBy text None old new = Appends old new text
-PrintsBy text (Some Usage) old new = ⊥
-PrintsBy text (Some (Script file line kind)) old new = ⊥
-PrintsBy text (Some (Schedule line kind)) old new = ⊥
-PrintsBy text (Some (ReadFault file)) old new = ⊥
-PrintsBy text (Some WriteFault) old new = AppendsPart old new text
-PrintsBy text (Some Memory) old new = (new ≡ old) ⊎ AppendsPart old new text
-PrintsBy text (Some (TooLarge file)) old new = ⊥
+PrintsBy text (Some fault) old new =
+    BySort (sort_of fault) ⊥ (AppendsPart old new text) ((new ≡ old) ⊎ AppendsPart old new text)
 
 -- By the fault of a replay of a schedule.
 
 -- what an ending says of the file
 abbrev pub ExplainsReplay : Option (List ℕ) → Option Fault → Type 0
 ExplainsReplay told None = Unit {0}
-ExplainsReplay told (Some Usage) = ⊥
-ExplainsReplay told (Some (Script file line kind)) = ⊥
-ExplainsReplay told (Some (Schedule line kind)) = IsReading told (Err (Schedule line kind))
-ExplainsReplay told (Some (ReadFault file)) = file ≡ 1
-ExplainsReplay told (Some WriteFault) = Unit {0}
-ExplainsReplay told (Some Memory) = Unit {0}
-ExplainsReplay told (Some (TooLarge file)) = IsReading told (Err (TooLarge file))
+ExplainsReplay told (Some fault) =
+    BySort (sort_of fault)
+    (Refused OfSchedules (sort_of fault) (IsReading told (Err fault)) (fault ≡ ReadFault 1))
+    (Unit {0}) (Unit {0})
 
 -- what an ending says of what was written
 abbrev pub WritesReplay : Option (List ℕ) → Option (List ℕ) → Option (List ℕ)
     → Option Fault → Type 0
 WritesReplay told old new None = WritesAll (IsTextOf told) old new
-WritesReplay told old new (Some Usage) = new ≡ old
-WritesReplay told old new (Some (Script file line kind)) = new ≡ old
-WritesReplay told old new (Some (Schedule line kind)) = new ≡ old
-WritesReplay told old new (Some (ReadFault file)) = new ≡ old
-WritesReplay told old new (Some WriteFault) = WritesFront (IsTextOf told) old new
-WritesReplay told old new (Some Memory) = WritesTextPart (IsTextOf told) old new
-WritesReplay told old new (Some (TooLarge file)) = new ≡ old
+WritesReplay told old new (Some fault) =
+    BySort (sort_of fault) (new ≡ old) (WritesFront (IsTextOf told) old new)
+    (WritesTextPart (IsTextOf told) old new)

@@ -7,12 +7,15 @@
 //! clients all that it came to. The layer above hands `run` the real shelf and sink, a runtime with
 //! threads and a gate; what a file holds, and what became of standard output, no contract says.
 //!
-//! Reading order: `words`, `outcome`, `clients`, `summary`, `generated`, `whole_run`.
+//! Reading order: `words`, `outcome`, `clients`, `summary`, then a file for each request's ending,
+//! `scripts`, `generated` and `schedule`, and `whole_run`.
 #![tactic(auto)]
 
 mod clients;
 mod generated;
 mod outcome;
+mod schedule;
+mod scripts;
 mod summary;
 mod whole_run;
 mod words;

@@ -1,4 +1,4 @@
-//! The top call.
+//! The top call: each request is handed on to the file that ends it.
 //!
 //! All lines are made before the first of them is written, so a refusal writes nothing. Where the
 //! shelf does not tell what a file holds, the clauses speak of some bytes that it may have held.
@@ -8,32 +8,30 @@ ghost use Rattle.std.specs.Prelude.{◌<◌, ◌⊎◌, ◌↔◌, Err, None, So
 ghost use Rattle.std.specs.Prelude.{IsSomeAnd, IfSome, length, map};
 ghost use Rattle.std.specs.Io.KnownBytes.{Appends};
 ghost use Rattle.outside.specs.Calls.{IsUnbroken, IsOrderly};
-ghost use Rattle.outside.specs.Causes.{Rose, next_count};
+ghost use Rattle.outside.specs.Causes.{Rose};
 ghost use Rattle.outside.specs.Pieces.{AppendsPart};
 ghost use Rattle.cmd_text.specs.declared.fault.ScriptKind.{ScriptKind};
 ghost use Rattle.core_replay.specs.declared.fault.ScheduleKind.{ScheduleKind};
 ghost use Rattle.doc_run.specs.Clients.{ComesBy, IsMade, default_options, options_of};
-ghost use Rattle.doc_run.specs.Ending.{IsRefusal, Explains, ExplainsReplay, IsOutputOf};
-ghost use Rattle.doc_run.specs.Ending.{IsSummaryOf, OpensFiles, Writes, WritesAll, WritesFront};
-ghost use Rattle.doc_run.specs.Ending.{WritesPartOf, WritesReplay, printed_of, shown_of};
+ghost use Rattle.doc_run.specs.Ending.{IsOutputOf, IsRefusal, IsSummaryOf, OpensFiles, WritesAll};
+ghost use Rattle.doc_run.specs.Ending.{WritesFront, WritesPartOf, printed_of};
 ghost use Rattle.doc_run.specs.Request.{ByPrint, IfGen, IfReplay, IfRun, IsReplayAnd, IsRunAnd};
 ghost use Rattle.doc_run.specs.Request.{RunsClients, names_of};
-ghost use Rattle.run_words.specs.Limits.{IsRunWithin};
-ghost use Rattle.run_words.specs.Requests.{request_of, run_asked_by};
+ghost use Rattle.run_words.specs.Requests.{request_of};
 ghost use Rattle.script_files.specs.Fault.{status_of};
-ghost use Rattle.script_files.specs.Files.{OpensInTurn, files_read, opened};
+ghost use Rattle.script_files.specs.Files.{files_read, opened};
 ghost use Rattle.script_files.specs.Replayed.{IsFaultySchedule, IsReading, IsSchedule, IsTextOf};
 ghost use Rattle.script_files.specs.Scripts.{AreScripts, IsDueFor, IsUnhindered, StopsBehind};
 ghost use Rattle.script_files.specs.Scripts.{largest_file, most_commands};
 
-use crate::clients::{Ran, run_files};
 use crate::generated::run_generated;
 use crate::outcome::Outcome;
+use crate::schedule::run_schedule;
+use crate::scripts::run_scripts;
 use crate::words::Words;
-use outside::{Gate, OutFault, READ_LIMIT, Shelf, Sink, write_all, write_lines};
-use run_output::{Shown, output_text};
-use run_words::{Request, RunWords, WordsFault, read_words};
-use script_files::{Fault, replay_in_file};
+use outside::{Gate, READ_LIMIT, Shelf, Sink};
+use run_words::{Request, WordsFault, read_words};
+use script_files::Fault;
 use std::alloc::Global;
 use std::sync::Wait;
 use std::thread::Threads;
@@ -162,103 +160,5 @@ pub fn run<R: Threads + Wait + Sync, H: Shelf, S: Sink, G: Gate + Sync>(
         Ok(Request::Gen(made)) => run_generated(alloc, rt, made, sink, gate),
         Err(WordsFault::Usage) => Outcome::usage(),
         Err(WordsFault::NoMemory) => Outcome::refused(Fault::Memory),
-    }
-}
-
-// Answers the scripts in the files of the words.
-fn run_scripts<R: Threads + Wait + Sync, H: Shelf, S: Sink, G: Gate + Sync>(
-    alloc: Global,
-    rt: &R,
-    run: &RunWords<'_>,
-    shelf: &mut H,
-    sink: &mut S,
-    gate: &G,
-) -> Outcome
-    requires within { IsRunWithin run.now }
-    ensures status { result.status ≡ status_of result.fault }
-    ensures explained { Explains
-        (AreScripts (map (H.holds shelf.old) (run_asked_by run.now).files))
-        (options_of (run_asked_by run.now)) result.fault result.finished }
-    ensures written { Writes
-        (AreScripts (map (H.holds shelf.old) (run_asked_by run.now).files))
-        (options_of (run_asked_by run.now))
-        (IsOutputOf (map (H.holds shelf.old) (run_asked_by run.now).files) (run_asked_by run.now))
-        (S.written sink.old) (S.written sink.new) result.fault result.finished }
-    ensures read { result.status ≡ 3 → Rose (H.faults shelf.old) (H.faults shelf.new) }
-    ensures read_file { (file : ℕ) → result.fault ≡ Some (Fault.ReadFault file) →
-        H.opens shelf.new ≡ opened (H.opens shelf.old) file }
-    ensures write { result.status ≡ 4 → Rose (S.faults sink.old) (S.faults sink.new) }
-    ensures memory { result.status ≡ 5 → (S.written sink.new ≡ S.written sink.old)
-        ⊎ Rose (S.wants sink.old) (S.wants sink.new) }
-    ensures unbroken_shelf { result.status ≡ 0 → IsUnbroken (H.course shelf.old)
-        → IsUnbroken (H.course shelf.new) }
-    ensures unbroken_sink { result.status ≡ 0 → IsUnbroken (S.course sink.old)
-        → IsUnbroken (S.course sink.new) }
-    ensures orderly_shelf { IsUnbroken (H.course shelf.old) → IsOrderly (H.course shelf.new) }
-    ensures orderly_sink { IsUnbroken (S.course sink.old) → IsOrderly (S.course sink.new) }
-    ensures opens { OpensInTurn (H.opens shelf.old) (H.opens shelf.new)
-        (files_read (length run.now.files.items)) }
-    ensures all_opened { result.status ≡ 0 → H.opens shelf.new
-        ≡ opened (H.opens shelf.old) (length run.now.files.items) }
-    ensures stops { StopsBehind 1 0 (map (H.holds shelf.old) (run_asked_by run.now).files)
-        (H.opens shelf.old) (H.opens shelf.new) }
-    ensures calls { H.calls shelf.new
-        ≤ H.calls shelf.old + files_read (length run.now.files.items) * (READ_LIMIT + 1) }
-{
-    let ran = match run_files(alloc, rt, run, shelf, gate) {
-        Ok(ran) => ran,
-        Err(fault) => return Outcome::refused(fault),
-    };
-    let Ran { finished, forms } = ran;
-    let shown = shown(run);
-    let Ok(text) = output_text(alloc, shown, &finished.logs, &forms, &finished.totals) else {
-        return Outcome::refused(Fault::Memory);
-    };
-    Outcome::by_writing(write_lines(sink, &text), Some(finished))
-}
-
-// What is written behind the replies.
-fn shown(run: &RunWords<'_>) -> Shown
-    ensures { result ≡ shown_of (run_asked_by run.now) }
-{
-    Shown {
-        history: run.history,
-        stats: run.stats,
-    }
-}
-
-// Replays the schedule in the file of this name.
-fn run_schedule<H: Shelf, S: Sink>(
-    alloc: Global,
-    name: &str,
-    shelf: &mut H,
-    sink: &mut S,
-) -> Outcome
-    ensures status { result.status ≡ status_of result.fault }
-    ensures finished { result.finished ≡ None }
-    ensures explained { ExplainsReplay (H.holds shelf.old name.now) result.fault }
-    ensures written { WritesReplay (H.holds shelf.old name.now) (S.written sink.old)
-        (S.written sink.new) result.fault }
-    ensures read { result.status ≡ 3 → Rose (H.faults shelf.old) (H.faults shelf.new) }
-    ensures write { result.status ≡ 4 → Rose (S.faults sink.old) (S.faults sink.new) }
-    ensures memory { result.status ≡ 5 → (S.written sink.new ≡ S.written sink.old)
-        ⊎ Rose (S.wants sink.old) (S.wants sink.new) }
-    ensures unbroken_shelf { result.status ≡ 0 → IsUnbroken (H.course shelf.old)
-        → IsUnbroken (H.course shelf.new) }
-    ensures unbroken_sink { result.status ≡ 0 → IsUnbroken (S.course sink.old)
-        → IsUnbroken (S.course sink.new) }
-    ensures orderly_shelf { IsUnbroken (H.course shelf.old) → IsOrderly (H.course shelf.new) }
-    ensures orderly_sink { IsUnbroken (S.course sink.old) → IsOrderly (S.course sink.new) }
-    ensures opens { H.opens shelf.new ≡ next_count (H.opens shelf.old) }
-    ensures calls { H.calls shelf.new ≤ H.calls shelf.old + READ_LIMIT + 1 }
-{
-    let text = match replay_in_file(alloc, name, shelf) {
-        Ok(text) => text,
-        Err(fault) => return Outcome::refused(fault),
-    };
-    match write_all(sink, &text) {
-        Ok(()) => Outcome::new(None, None),
-        Err(OutFault::Failed) => Outcome::refused(Fault::WriteFault),
-        Err(OutFault::NoMemory) => Outcome::refused(Fault::Memory),
     }
 }

@@ -11,10 +11,10 @@ use Rattle.script_files.specs.Formed.{DecidesFiles}
 use Rattle.script_files.specs.Reading.{DecidesFile, DecidesFrom}
 use Rattle.script_files.specs.Scripts.{in_front, with_first, scripts_from}
 use Rattle.script_files.specs.Scripts.{IsScriptIn, AreScripts, AreScriptsFrom}
+use Rattle.script_files.proofs.Sorting.{refused_as}
+use Rattle.script_files.specs.Sorts.{OfScripts, sort_of}
 use Rattle.script_files.specs.declared.fault.Fault.{Fault}
-use Rattle.script_files.specs.declared.fault.Fault.TheVariants.{Usage, Script, Schedule}
-use Rattle.script_files.specs.declared.fault.Fault.TheVariants.{ReadFault, WriteFault}
-use Rattle.script_files.specs.declared.fault.Fault.TheVariants.{Memory, TooLarge}
+use Rattle.script_files.specs.declared.fault.Fault.TheVariants.{TooLarge}
 
 -- some contents that are what is told
 some_told : (told : List (Option (List ℕ)))
@@ -63,15 +63,9 @@ none_decided file before old = ([], sym (append-nil old), no_scripts file before
 pub first_decided : (place before : ℕ) (one : Option (List ℕ)) (told : List (Option (List ℕ)))
     (fault : Fault) (old new : List (List Command)) → DecidesFile place before (Err fault) one
     → DecidesFrom place before (one ∷ told) (Err fault) old new
-first_decided place before one told Usage old new is = is
-first_decided place before one told (Script file line kind) old new is =
-    first_refused place before one told (Script file line kind) is
-first_decided place before one told (Schedule line kind) old new is = is
-first_decided place before one told (ReadFault file) old new is = tt
-first_decided place before one told WriteFault old new is = is
-first_decided place before one told Memory old new is = tt
-first_decided place before one told (TooLarge file) old new is =
-    first_refused place before one told (TooLarge file) is
+first_decided place before one told fault old new is =
+    refused_as OfScripts (sort_of fault) _ _ _ _ (first_refused place before one told fault)
+    (λ unread. tt) is
 
 -- the first file is a script, which was added, and the others were gone over behind it
 pub next_decided : (place before : ℕ) (one : Option (List ℕ)) (told : List (Option (List ℕ)))
@@ -84,18 +78,12 @@ next_decided place before one told commands (Ok done) old new is others = (
   others.1 ∙ append_assoc old (commands ∷ []) others.0,
   after_first place before one told commands (Ok others.0) is others.2,
 )
-next_decided place before one told commands (Err Usage) old new is others = others
-next_decided place before one told commands (Err (Script file line kind)) old new is others =
-    after_first place before one told commands (Err (Script file line kind)) is others
-next_decided place before one told commands (Err (Schedule line kind)) old new is others = others
-next_decided place before one told commands (Err (ReadFault file)) old new is others = tt
-next_decided place before one told commands (Err WriteFault) old new is others = others
-next_decided place before one told commands (Err Memory) old new is others = tt
-next_decided place before one told commands (Err (TooLarge file)) old new is others =
-    after_first place before one told commands (Err (TooLarge file)) is others
+next_decided place before one told commands (Err fault) old new is others =
+    refused_as OfScripts (sort_of fault) _ _ _ _
+    (after_first place before one told commands (Err fault) is) (λ unread. tt) others
 
--- one file more, read or refused, in front of the others
-pub ruleset in_turn = (none_decided, first_decided, next_decided)
+-- one file more in front of the others
+pub ruleset in_turn = (none_decided, next_decided)
 
 -- there is a content for each file
 pub told_length : (told : List (Option (List ℕ))) (contents : List (List ℕ))
@@ -131,11 +119,6 @@ pub one_refused : (told : List (Option (List ℕ))) (fault : Fault)
     (old new : List (List Command)) → length told ≤ 64
     → DecidesFrom 1 0 told (Err fault) old new
     → DecidesFiles told (Err fault)
-one_refused told Usage old new few is = is
-one_refused told (Script file line kind) old new few is =
-    within_count told (Err (Script file line kind)) few is
-one_refused told (Schedule line kind) old new few is = is
-one_refused told (ReadFault file) old new few is = tt
-one_refused told WriteFault old new few is = is
-one_refused told Memory old new few is = tt
-one_refused told (TooLarge file) old new few is = within_count told (Err (TooLarge file)) few is
+one_refused told fault old new few is =
+    refused_as OfScripts (sort_of fault) _ _ _ _ (within_count told (Err fault) few)
+    (λ unread. tt) is

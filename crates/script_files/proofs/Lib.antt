@@ -1,3 +1,4 @@
+pub mod Sorting
 mod Sessions
 pub mod Files
 pub mod Forms

@@ -14,22 +14,18 @@ use Rattle.script_files.specs.Files.{AreTold}
 use Rattle.script_files.specs.Made.{DecidesMade, texts_from}
 use Rattle.script_files.specs.Reading.{Decides, DecidesFile, DecidesFrom, lists_of}
 use Rattle.script_files.specs.Scripts.{AreScriptsFrom, script_in, scripts_from}
+use Rattle.script_files.proofs.Sorting.{is_memory, is_reading, refused_as, refused_wanting}
+use Rattle.script_files.specs.Sorts.{OfScripts, sort_of}
 use Rattle.script_files.specs.declared.fault.Fault.{Fault}
-use Rattle.script_files.specs.declared.fault.Fault.TheVariants.{Usage, Script, Schedule}
-use Rattle.script_files.specs.declared.fault.Fault.TheVariants.{ReadFault, WriteFault}
-use Rattle.script_files.specs.declared.fault.Fault.TheVariants.{Memory, TooLarge}
+use Rattle.script_files.specs.declared.fault.Fault.TheVariants.{ReadFault}
 
 -- the answer to a text that is there already
 of_text : (place before : ℕ) (text : List ℕ) (answer : Result (Vec Command Global) Fault)
     → Decides answer (script_in place before text) → DecidesFile place before answer (Some text)
 of_text place before text (Ok script) is = (text, refl, is)
-of_text place before text (Err Usage) is = is
-of_text place before text (Err (Script file line kind)) is = (text, refl, is)
-of_text place before text (Err (Schedule line kind)) is = is
-of_text place before text (Err (ReadFault file)) is = absurd is
-of_text place before text (Err WriteFault) is = is
-of_text place before text (Err Memory) is = is
-of_text place before text (Err (TooLarge file)) is = (text, refl, is)
+of_text place before text (Err fault) is =
+    refused_as OfScripts (sort_of fault) _ _ _ _ (λ decided. (text, refl, decided))
+    (λ never. absurd never) is
 
 -- no client is left
 pub made_none : (start commands client more before : ℕ) (old : List (List Command)) → more ≡ 0
@@ -121,15 +117,9 @@ pub made_not : (start clients commands : ℕ) (fault : Fault) (old new : List (L
     → ((file : ℕ) → fault ≡ ReadFault file → ⊥)
     → DecidesFrom 1 0 (map Some (texts_from start commands 1 clients)) (Err fault) old new
     → DecidesMade start clients commands (Err fault)
-made_not start clients commands Usage old new low few short all read is = is
-made_not start clients commands (Script file line kind) old new low few short all read is =
-    never start clients commands (Script file line kind) low few short all is
-made_not start clients commands (Schedule line kind) old new low few short all read is = is
-made_not start clients commands (ReadFault file) old new low few short all read is =
-    read file refl
-made_not start clients commands WriteFault old new low few short all read is = is
-made_not start clients commands Memory old new low few short all read is = tt
-made_not start clients commands (TooLarge file) old new low few short all read is =
-    never start clients commands (TooLarge file) low few short all is
+made_not start clients commands fault old new low few short all read is =
+    is_memory fault (refused_wanting OfScripts (sort_of fault) _ _
+    (never start clients commands fault low few short all)
+    (λ e. let one = is_reading fault e in read one.0 one.1) is)
 
-pub ruleset adding = (made_none, made_refused, made_more)
+pub ruleset adding = (made_none, made_more)

@@ -10,10 +10,10 @@ use Rattle.std.proofs.lemmas.List.{length-take, take_all}
 use Rattle.std.proofs.lemmas.Bool.{lt-ltb, ltb-true, ltb-false}
 use Rattle.outside.specs.Pieces.{IsFrontOf}
 use Rattle.doc_model.specs.declared.command.Command.{Command}
+use Rattle.script_files.proofs.Sorting.{refused_as}
+use Rattle.script_files.specs.Sorts.{OfSchedules, OfScripts, sort_of}
 use Rattle.script_files.specs.declared.fault.Fault.{Fault}
-use Rattle.script_files.specs.declared.fault.Fault.TheVariants.{Usage, Script, Schedule}
-use Rattle.script_files.specs.declared.fault.Fault.TheVariants.{ReadFault, WriteFault}
-use Rattle.script_files.specs.declared.fault.Fault.TheVariants.{Memory, TooLarge}
+use Rattle.script_files.specs.declared.fault.Fault.TheVariants.{TooLarge}
 use Rattle.script_files.specs.Scripts.{after_reading, script_in, within_size, IsScriptIn}
 use Rattle.script_files.specs.Replayed.{after_schedule, steps_of, IsReading, Replays, ReplaysFile}
 use Rattle.cmd_text.specs.Form.{form_of}
@@ -73,15 +73,9 @@ pub decided_file : (file before : ℕ) (told : Option (List ℕ)) (front : List 
     → Decides answer (script_in file before front) → DecidesFile file before answer told
 decided_file place before told front (Ok script) read is =
     script_of_file place before told front (Ok script.items) read is
-decided_file place before told front (Err Usage) read is = absurd is
-decided_file place before told front (Err (Script file line kind)) read is =
-    script_of_file place before told front (Err (Script file line kind)) read is
-decided_file place before told front (Err (Schedule line kind)) read is = absurd is
-decided_file place before told front (Err (ReadFault file)) read is = absurd is
-decided_file place before told front (Err WriteFault) read is = absurd is
-decided_file place before told front (Err Memory) read is = tt
-decided_file place before told front (Err (TooLarge file)) read is =
-    script_of_file place before told front (Err (TooLarge file)) read is
+decided_file place before told front (Err fault) read is =
+    refused_as OfScripts (sort_of fault) _ _ _ _
+    (script_of_file place before told front (Err fault) read) (λ never. absurd never) is
 
 -- a file whose script was read is no longer than what was read of it
 sized : (file : ℕ) (reading : List ℕ → Result (List Command) Fault) (bytes : List ℕ)
@@ -119,12 +113,6 @@ pub replayed_file : (told : Option (List ℕ)) (front : List ℕ)
     → Replays answer (steps_of front) → ReplaysFile answer told
 replayed_file told front (Ok text) read is =
     (is.0, reading_of_file told front (Ok is.0) read is.1, is.2)
-replayed_file told front (Err Usage) read is = absurd is
-replayed_file told front (Err (Script file line kind)) read is = absurd is
-replayed_file told front (Err (Schedule line kind)) read is =
-    reading_of_file told front (Err (Schedule line kind)) read is
-replayed_file told front (Err (ReadFault file)) read is = absurd is
-replayed_file told front (Err WriteFault) read is = absurd is
-replayed_file told front (Err Memory) read is = tt
-replayed_file told front (Err (TooLarge file)) read is =
-    reading_of_file told front (Err (TooLarge file)) read is
+replayed_file told front (Err fault) read is =
+    refused_as OfSchedules (sort_of fault) _ _ _ _
+    (reading_of_file told front (Err fault) read) (λ never. absurd never) is

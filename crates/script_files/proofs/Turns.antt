@@ -9,7 +9,7 @@ use Rattle.std.specs.Prelude.{Vec}
 use Rattle.std.specs.declared.alloc.Global.{Global}
 use Rattle.outside.specs.Causes.{next_count}
 use Rattle.doc_model.specs.declared.command.Command.{Command}
-use Rattle.script_files.proofs.Files.{next_decided}
+use Rattle.script_files.proofs.Files.{first_decided, next_decided}
 use Rattle.script_files.proofs.Opens.{opens_more, stops_first, stops_more}
 use Rattle.script_files.specs.Files.{OpensInTurn}
 use Rattle.script_files.specs.Files.{opened}
@@ -49,6 +49,18 @@ turn_decided text (one ∷ names) otherwise bytes holds later file before script
     (subst (λ n. DecidesFrom (file + 1) (before + n)
     (map later (map text (take (length (one ∷ names) - 1) names)))
     result (lists_of middle) new) counted others))))
+
+-- the first file was refused, or could not be read, or memory was wanting
+pub turn_refused : {A : Type 0} (text : A → List ℕ) (names : List A) (otherwise : A)
+    (bytes : List ℕ) (holds : List ℕ → Option (List ℕ)) (file before : ℕ) (fault : Fault)
+    (old new : List (List Command)) → 1 ≤ length names
+    → bytes ≡ text (get_or names 0 otherwise) → DecidesFile file before (Err fault) (holds bytes)
+    → DecidesFrom file before (map holds (map text names)) (Err fault) old new
+turn_refused text [] otherwise bytes holds file before fault old new some first is =
+    absurd (omega (arith, some))
+turn_refused text (one ∷ names) otherwise bytes holds file before fault old new some first is =
+    first_decided file before (holds (text one)) (map holds (map text names)) fault old new
+    (subst (λ b. DecidesFile file before (Err fault) (holds b)) first is)
 
 -- how often the shelf was opened
 pub turn_opens : (before middle now others files : ℕ) → suc others ≡ files
@@ -103,8 +115,9 @@ pub turn_unread : (file before : ℕ) (one : Option (List ℕ)) (fault : Fault)
     → refused fault ≡ refused (ReadFault place) → now ≡ next_count opens
     → (more : ℕ) × (file + more ≡ place + 1) × (now ≡ opened opens more)
 turn_unread file before one fault place opens now is e first =
-    let same : place ≡ file =
+    let reads : ReadFault place ≡ ReadFault file =
     subst (λ f. DecidesFile file before (Err f) one) (ap fault_or_usage e) is in
+    let same : place ≡ file = cc in
     (1, omega (arith, same), first)
 
 -- a later file could not be read

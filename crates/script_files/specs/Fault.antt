@@ -1,4 +1,4 @@
--- The status of each fault, and the text that is printed of it.
+-- The status of each sort of faults, and the text that is printed of a fault.
 -- Source: this project's own.
 use Rattle.std.specs.Prelude.{ℕ, List, ◌++◌, Option, None, Some, codes, decimal, Bool, true, false}
 use Rattle.std.specs.Prelude.{◌==◌, if◌then◌else◌}
@@ -8,20 +8,25 @@ use Rattle.cmd_text.specs.declared.fault.ScriptKind.TheVariants.{BadNumber, BadP
 use Rattle.cmd_text.specs.declared.fault.ScriptKind.TheVariants.{LongText, Extra, LongBatch}
 use Rattle.core_replay.specs.declared.fault.ScheduleKind.{ScheduleKind}
 use Rattle.core_replay.specs.declared.fault.ScheduleKind.TheVariants as schedule
+use Rattle.script_files.specs.Sorts.{Sort, OfWords, OfLine, OfReading, OfWriting, OfMemory, OfSize}
+use Rattle.script_files.specs.Sorts.{sort_of}
 use Rattle.script_files.specs.declared.fault.Fault.{Fault}
 use Rattle.script_files.specs.declared.fault.Fault.TheVariants.{Usage, Script, Schedule, ReadFault}
 use Rattle.script_files.specs.declared.fault.Fault.TheVariants.{WriteFault, Memory, TooLarge}
 
+-- the status of a sort of faults
+abbrev pub status_by : Sort → ℕ
+status_by OfWords = 1
+status_by (OfLine grammar) = 2
+status_by OfReading = 3
+status_by OfWriting = 4
+status_by OfMemory = 5
+status_by OfSize = 6
+
 -- the status of a run
 abbrev pub status_of : Option Fault → ℕ
 status_of None = 0
-status_of (Some Usage) = 1
-status_of (Some (Script file line kind)) = 2
-status_of (Some (Schedule line kind)) = 2
-status_of (Some (ReadFault file)) = 3
-status_of (Some WriteFault) = 4
-status_of (Some Memory) = 5
-status_of (Some (TooLarge file)) = 6
+status_of (Some fault) = status_by (sort_of fault)
 
 -- the word for what is wrong in a line
 abbrev pub kind_text_of : ScriptKind → List ℕ

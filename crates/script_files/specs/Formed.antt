@@ -7,10 +7,8 @@ use Rattle.doc_model.specs.declared.command.Command.{Command}
 use Rattle.script_files.specs.Files.{AreTold}
 use Rattle.script_files.specs.Reading.{Decides, DecidesFile, DecidesFrom, lists_of}
 use Rattle.script_files.specs.Scripts.{AreScripts, script_in, scripts_from, scripts_of}
+use Rattle.script_files.specs.Sorts.{OfScripts, Refused, sort_of}
 use Rattle.script_files.specs.declared.fault.Fault.{Fault}
-use Rattle.script_files.specs.declared.fault.Fault.TheVariants.{Usage, Script, Schedule}
-use Rattle.script_files.specs.declared.fault.Fault.TheVariants.{ReadFault, WriteFault}
-use Rattle.script_files.specs.declared.fault.Fault.TheVariants.{Memory, TooLarge}
 use Rattle.script_files.specs.declared.scripts.Script as one
 use Rattle.script_files.specs.declared.scripts.Scripts.{Scripts}
 
@@ -61,10 +59,5 @@ AreRead told scripts forms =
 abbrev pub DecidesFiles : List (Option (List ℕ)) → Result Scripts Fault → Type 0
 DecidesFiles told (Ok scripts) =
     AreRead told (lists_of scripts.commands.items) scripts.forms.items
-DecidesFiles told (Err Usage) = ⊥
-DecidesFiles told (Err (Script file line kind)) = AreScripts told (Err (Script file line kind))
-DecidesFiles told (Err (Schedule line kind)) = ⊥
-DecidesFiles told (Err (ReadFault file)) = Unit {0}
-DecidesFiles told (Err WriteFault) = ⊥
-DecidesFiles told (Err Memory) = Unit {0}
-DecidesFiles told (Err (TooLarge file)) = AreScripts told (Err (TooLarge file))
+DecidesFiles told (Err fault) =
+    Refused OfScripts (sort_of fault) (AreScripts told (Err fault)) (Unit {0})

@@ -1,4 +1,5 @@
 pub mod Fault
+pub mod Sorts
 pub mod Files
 pub mod Formed
 pub mod Scripts

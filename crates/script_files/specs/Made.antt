@@ -9,9 +9,7 @@ use Rattle.script_generator.specs.Generated.{generated_of}
 use Rattle.script_files.specs.Reading.{lists_of}
 use Rattle.script_files.specs.Scripts.{scripts_from}
 use Rattle.script_files.specs.declared.fault.Fault.{Fault}
-use Rattle.script_files.specs.declared.fault.Fault.TheVariants.{Usage, Script, Schedule}
-use Rattle.script_files.specs.declared.fault.Fault.TheVariants.{ReadFault, WriteFault}
-use Rattle.script_files.specs.declared.fault.Fault.TheVariants.{Memory, TooLarge}
+use Rattle.script_files.specs.declared.fault.Fault.TheVariants.{Memory}
 
 -- the texts of so many clients, of whom the first has this number
 abbrev pub texts_from : ℕ → ℕ → ℕ → ℕ → List (List ℕ)
@@ -29,10 +27,4 @@ abbrev pub DecidesMade : ℕ → ℕ → ℕ → Result (Vec (Vec Command Global
     → Type 0
 DecidesMade start clients commands (Ok scripts) =
     AreMade start clients commands (lists_of scripts.items)
-DecidesMade start clients commands (Err Usage) = ⊥
-DecidesMade start clients commands (Err (Script file line kind)) = ⊥
-DecidesMade start clients commands (Err (Schedule line kind)) = ⊥
-DecidesMade start clients commands (Err (ReadFault file)) = ⊥
-DecidesMade start clients commands (Err WriteFault) = ⊥
-DecidesMade start clients commands (Err Memory) = Unit {0}
-DecidesMade start clients commands (Err (TooLarge file)) = ⊥
+DecidesMade start clients commands (Err fault) = fault ≡ Memory

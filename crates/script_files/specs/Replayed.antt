@@ -10,9 +10,9 @@ use Rattle.core_replay.specs.Schedule.{schedule_of}
 use Rattle.core_replay.specs.ScheduleValue.{ScheduleValue}
 use Rattle.core_replay.specs.declared.fault.ScheduleFault.{ScheduleFault}
 use Rattle.script_files.specs.Scripts.{largest_file, within_size}
+use Rattle.script_files.specs.Sorts.{OfSchedules, Refused, sort_of}
 use Rattle.script_files.specs.declared.fault.Fault.{Fault}
-use Rattle.script_files.specs.declared.fault.Fault.TheVariants.{Usage, Script, Schedule, ReadFault}
-use Rattle.script_files.specs.declared.fault.Fault.TheVariants.{WriteFault, Memory, TooLarge}
+use Rattle.script_files.specs.declared.fault.Fault.TheVariants.{Schedule, ReadFault}
 
 -- what the reading of a schedule gives
 abbrev pub after_schedule : Result ScheduleValue ScheduleFault → Result ScheduleValue Fault
@@ -45,21 +45,10 @@ IsSchedule bytes = (length bytes ≤ largest_file) × IsOk (schedule_of bytes)
 abbrev pub Replays : Result (Vec ℕ Global) Fault → Result ScheduleValue Fault → Type 0
 Replays (Ok text) steps =
     (schedule : ScheduleValue) × (steps ≡ Ok schedule) × IsReplayText schedule text.items
-Replays (Err Usage) steps = ⊥
-Replays (Err (Script file line kind)) steps = ⊥
-Replays (Err (Schedule line kind)) steps = steps ≡ Err (Schedule line kind)
-Replays (Err (ReadFault file)) steps = ⊥
-Replays (Err WriteFault) steps = ⊥
-Replays (Err Memory) steps = Unit {0}
-Replays (Err (TooLarge file)) steps = steps ≡ Err (TooLarge file)
+Replays (Err fault) steps = Refused OfSchedules (sort_of fault) (steps ≡ Err fault) ⊥
 
 -- the answer is the replay text of the file, or it could not be read, or memory was wanting
 abbrev pub ReplaysFile : Result (Vec ℕ Global) Fault → Option (List ℕ) → Type 0
 ReplaysFile (Ok text) told = IsTextOf told text.items
-ReplaysFile (Err Usage) told = ⊥
-ReplaysFile (Err (Script file line kind)) told = ⊥
-ReplaysFile (Err (Schedule line kind)) told = IsReading told (Err (Schedule line kind))
-ReplaysFile (Err (ReadFault file)) told = file ≡ 1
-ReplaysFile (Err WriteFault) told = ⊥
-ReplaysFile (Err Memory) told = Unit {0}
-ReplaysFile (Err (TooLarge file)) told = IsReading told (Err (TooLarge file))
+ReplaysFile (Err fault) told =
+    Refused OfSchedules (sort_of fault) (IsReading told (Err fault)) (fault ≡ ReadFault 1)

@@ -11,10 +11,9 @@ use Rattle.doc_model.specs.declared.command.Command.{Command}
 use Rattle.cmd_text.specs.Whole.{script_of}
 use Rattle.cmd_text.specs.declared.fault.ScriptFault.{ScriptFault}
 use Rattle.script_files.specs.Files.{AreTold, most_files, opened}
+use Rattle.script_files.specs.Sorts.{OfLine, OfScripts, OfSize, sort_of}
 use Rattle.script_files.specs.declared.fault.Fault.{Fault}
-use Rattle.script_files.specs.declared.fault.Fault.TheVariants.{Usage, Script, Schedule}
-use Rattle.script_files.specs.declared.fault.Fault.TheVariants.{ReadFault, WriteFault}
-use Rattle.script_files.specs.declared.fault.Fault.TheVariants.{Memory, TooLarge}
+use Rattle.script_files.specs.declared.fault.Fault.TheVariants.{Script, TooLarge}
 
 -- how many bytes a file has at most
 abbrev pub largest_file : ℕ
@@ -96,23 +95,11 @@ StopsBehind file before told old new =
 
 -- a fault of a script's grammar
 abbrev pub IsFaultyLine : Fault → Type 0
-IsFaultyLine Usage = ⊥
-IsFaultyLine (Script file line kind) = Unit {0}
-IsFaultyLine (Schedule line kind) = ⊥
-IsFaultyLine (ReadFault file) = ⊥
-IsFaultyLine WriteFault = ⊥
-IsFaultyLine Memory = ⊥
-IsFaultyLine (TooLarge file) = ⊥
+IsFaultyLine fault = sort_of fault ≡ OfLine OfScripts
 
 -- a fault of sizes
 abbrev pub IsLarge : Fault → Type 0
-IsLarge Usage = ⊥
-IsLarge (Script file line kind) = ⊥
-IsLarge (Schedule line kind) = ⊥
-IsLarge (ReadFault file) = ⊥
-IsLarge WriteFault = ⊥
-IsLarge Memory = ⊥
-IsLarge (TooLarge file) = Unit {0}
+IsLarge fault = sort_of fault ≡ OfSize
 
 -- the run ended neither by a read fault nor for want of memory
 abbrev pub IsUnhindered : ℕ → Type 0

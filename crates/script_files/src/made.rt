@@ -26,7 +26,6 @@ pub fn is_too_large(clients: u32, commands: u32) -> bool
 }
 
 /// The scripts of so many clients with so many commands each, by the number that all start from.
-#[tactic(auto, using(crate::proofs::MadeScripts::made_not))]
 pub fn scripts_made(
     alloc: Global,
     start: u32,

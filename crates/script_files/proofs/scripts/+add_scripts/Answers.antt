@@ -3,13 +3,19 @@ use Rattle.std.proofs.Common.{refl, rules, arith}
 use Rattle.std.proofs.Common.{length-drop}
 use Rattle.std.proofs.lemmas.List.{length-take}
 use Rattle.script_files.proofs.Forms.{none_left, turn_added}
-use Rattle.script_files.proofs.Turns.{turn_later, turn_opens, turn_stops, turn_unread}
+use Rattle.script_files.proofs.Turns.{turn_later, turn_opens, turn_refused, turn_stops, turn_unread}
 use Rattle.script_files.proofs.scripts.+add_scripts.Goals as goal
 
 pub returns-in_default-clause-scripts : goal.returns-in_default-clause-scripts
 returns-in_default-clause-scripts g t c =
     none_left (λ name. name.now) c.args.names.now (g.H.Shelf.holds c.args.shelf.now) c.args.file
     c.args.before c.args.scripts.now c.in_default.len_below
+
+pub returns-in-Err-clause-scripts : goal.returns-in-Err-clause-scripts
+returns-in-Err-clause-scripts g t c =
+    turn_refused (λ name. name.now) c.args.names.now _ _ (g.H.Shelf.holds c.args.shelf.now)
+    c.args.file c.args.before c.in-Err.fault [] [] c.in-len1-up.len_at_least refl
+    c.in-Err.ensures.script
 
 pub returns-in-Err-clause-read_file : goal.returns-in-Err-clause-read_file
 returns-in-Err-clause-read_file g t c place is =

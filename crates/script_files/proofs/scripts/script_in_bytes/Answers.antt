@@ -25,4 +25,4 @@ returns-in-Err-Fault-clause-script c =
       le-ltb 1048576 (length c.args.bytes.now)
           (omega (arith, c.if-bytes-gt-LARGEST_FILE.false)),
       read,
-    ) refl
+    ) (refl, refl)

@@ -1,4 +1,4 @@
-use Rattle.std.proofs.Common.{ap, arith}
+use Rattle.std.proofs.Common.{[], ap, arith}
 use Rattle.script_files.proofs.Files.{one_refused, told_names}
 use Rattle.script_files.proofs.Forms.{all_formed}
 use Rattle.script_files.specs.Reading.{lists_of}
@@ -16,4 +16,5 @@ returns-in-Ok-clause-scripts g c =
 pub returns-in-Err-clause-scripts : goal.returns-in-Err-clause-scripts
 returns-in-Err-clause-scripts g c =
     let many = told_names (g.H.Shelf.holds c.args.shelf.now) (λ name. name.now) c.args.names.now in
-    one_refused _ _ _ _ (omega (arith, many, c.requires.few)) c.in-Err.ensures.scripts
+    one_refused _ c.in-Err.fault [] [] (omega (arith, many, c.requires.few))
+    c.in-Err.ensures.scripts

@@ -7,7 +7,7 @@ use Rattle.run_output.specs.Output.{IsOutput}
 use Rattle.doc_run.proofs.Deciding.{comes_by}
 use Rattle.doc_run.proofs.Writing.{by_done, by_explained, by_failed, by_no_file, by_no_read}
 use Rattle.doc_run.proofs.Writing.{by_wanting, by_written}
-use Rattle.doc_run.proofs.whole_run.run_scripts.Goals as goal
+use Rattle.doc_run.proofs.scripts.run_scripts.Goals as goal
 
 pub returns-clause-explained : goal.returns-clause-explained
 returns-clause-explained g c =
