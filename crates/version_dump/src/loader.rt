@@ -1,0 +1,97 @@
+//! A whole dump.
+ghost use Rattle.doc_tree.specs.Tree.{DocTree};
+ghost use Rattle.std.specs.Prelude.{IfOk, ℕ};
+ghost use Rattle.version_dump.specs.Answers.{IsLoaded, Lists, Reads};
+ghost use Rattle.version_dump.specs.Contents.{contents_of, nodes_of};
+ghost use Rattle.version_dump.specs.Laws.{IsDump};
+ghost use Rattle.line_words.specs.Lines.{lines_of};
+
+use crate::fault::{LineError, LoadError, LoadFault, LoadKind};
+use crate::grow::{Turn, lone_node, read_turn};
+use crate::line::{read_head, read_root};
+use doc_tree::{Name, Path, Tree};
+use line_words::cut_line;
+use std::alloc::Global;
+
+/// A version and its tree.
+#[derive(Drop)]
+pub struct Loaded {
+    pub version: u64,
+    pub tree: Tree,
+}
+
+/// The version and the tree of which the bytes are the dump, or the first line by which they are
+/// none.
+pub fn load(alloc: Global, bytes: &[u8]) -> Result<Loaded, LoadError>
+    ensures dump { IfOk result (λ loaded. IsDump bytes.now loaded.version loaded.tree) }
+    ensures dumps { (v : ℕ) (t : DocTree) → IsDump bytes.now v t → IsLoaded result v t }
+    ensures contents { Reads result (contents_of bytes.now) }
+{
+    let (head, Some(rest)) = cut_line(bytes) else {
+        return Err(fault_at(1, LoadKind::NoHead));
+    };
+    let Some(version) = read_head(head) else {
+        return Err(fault_at(1, LoadKind::NoHead));
+    };
+    let tree = read_tree(alloc, rest)?;
+    Ok(Loaded { version, tree })
+}
+
+fn fault_at(line: u32, kind: LoadKind) -> LoadError {
+    LoadError::Fault(LoadFault { line, kind })
+}
+
+fn error_at(line: u32, error: LineError) -> LoadError {
+    match error {
+        LineError::Kind(kind) => fault_at(line, kind),
+        LineError::NoMemory => LoadError::NoMemory,
+    }
+}
+
+// The tree of the lines behind the head.
+fn read_tree(alloc: Global, bytes: &[u8]) -> Result<Tree, LoadError>
+    ensures { Lists result (nodes_of (lines_of bytes.now)) }
+{
+    let (line, rest) = cut_line(bytes);
+    let text = match read_root(alloc, line, rest.is_some()) {
+        Ok(text) => text,
+        Err(error) => return Err(error_at(2, error)),
+    };
+    read_below(alloc, lone_node(alloc, &text)?, rest)
+}
+
+// The tree with the nodes of the lines behind the root's.
+fn read_below(alloc: Global, root: Tree, bytes: Option<&[u8]>) -> Result<Tree, LoadError> {
+    let mut tree = root;
+    let mut last = None;
+    let mut rest = bytes;
+    while let Some(left) = rest {
+        let (line, more) = cut_line(left);
+        match read_turn(alloc, &tree, names_of(&last), line, more.is_some()) {
+            Ok(Turn::End) => return ended(tree, more),
+            Ok(Turn::Grown { path, tree: grown }) => {
+                tree = grown;
+                last = Some(path);
+                rest = more;
+            }
+            Err(error) => return Err(error_at(tree.count() as u32 + 2, error)),
+        }
+    }
+    Err(fault_at(tree.count() as u32 + 2, LoadKind::BadEnd))
+}
+
+// The names on the way to the last node, none where that is the root.
+fn names_of(last: &Option<Path>) -> &[Name] {
+    match last {
+        Some(path) => path.names(),
+        None => &[],
+    }
+}
+
+// The tree, if no byte follows the end.
+fn ended(tree: Tree, rest: Option<&[u8]>) -> Result<Tree, LoadError> {
+    match rest {
+        None | Some([]) => Ok(tree),
+        Some(_) => Err(fault_at(tree.count() as u32 + 3, LoadKind::BadEnd)),
+    }
+}
