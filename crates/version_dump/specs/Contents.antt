@@ -35,16 +35,16 @@ is_end ([] ∷ []) = true
 is_end ([] ∷ line ∷ lines) = false
 is_end ((byte ∷ bytes) ∷ lines) = false
 
--- the node behind these, or what is at fault with it there
-abbrev pub placed : List Listed → Listed → Result (Option Listed) LoadKind
+-- these nodes and one more, or what is at fault with it there
+abbrev pub placed : List Listed → Listed → Result (Option (List Listed)) LoadKind
 placed nodes node =
     if not (follows nodes node.path) then Err NoOrder
     else if nat_le 256 (siblings nodes node.path) then Err Many
     else if nat_le 10_000 (length nodes) then Err Big
-    else Ok (Some node)
+    else Ok (Some (nodes ++ node ∷ []))
 
--- what a line comes to behind these nodes: one more, or none at the end
-abbrev pub turn_of : List Listed → Result Held LoadKind → Result (Option Listed) LoadKind
+-- what a line comes to behind these nodes: them and one more, or none at the end
+abbrev pub turn_of : List Listed → Result Held LoadKind → Result (Option (List Listed)) LoadKind
 turn_of nodes (Err kind) = Err kind
 turn_of nodes (Ok held.End) = Ok None
 turn_of nodes (Ok (held.Node path text)) = placed nodes (record { path = path; text = text })
@@ -53,11 +53,11 @@ turn_of nodes (Ok (held.Node path text)) = placed nodes (record { path = path; t
 abbrev pub ended : List Listed → List (List ℕ) → Result (List Listed) LoadFault
 ended nodes lines = if is_end lines then Ok nodes else fault_at (length nodes + 3) BadEnd
 
-abbrev pub with_turn : List Listed → Result (Option Listed) LoadKind → List (List ℕ)
+abbrev pub with_turn : List Listed → Result (Option (List Listed)) LoadKind → List (List ℕ)
     → (List Listed → Result (List Listed) LoadFault) → Result (List Listed) LoadFault
 with_turn nodes (Err kind) lines later = fault_at (length nodes + 2) kind
 with_turn nodes (Ok None) lines later = ended nodes lines
-with_turn nodes (Ok (Some node)) lines later = later (nodes ++ node ∷ [])
+with_turn nodes (Ok (Some more)) lines later = later more
 
 -- all nodes, behind these
 abbrev pub nodes_from : List Listed → List (List ℕ) → Result (List Listed) LoadFault

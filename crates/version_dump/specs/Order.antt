@@ -19,21 +19,22 @@ path_cmp m n = slice_cmp name_cmp m n
 abbrev pub comes_after : Path → Path → Bool
 comes_after last path = is_lt (path_cmp last path)
 
+abbrev pub is_empty : Path → Bool
+is_empty [] = true
+is_empty (n ∷ path) = false
+
 -- the path has these names and one more
 abbrev pub is_child : Path → Path → Bool
 is_child [] [] = false
-is_child [] (n ∷ []) = true
-is_child [] (n ∷ k ∷ path) = false
+is_child [] (n ∷ path) = is_empty path
 is_child (m ∷ parent) [] = false
 is_child (m ∷ parent) (n ∷ path) = bytes_eq m n && is_child parent path
 
 -- both have one parent
 abbrev pub is_sibling : Path → Path → Bool
 is_sibling [] other = false
-is_sibling (n ∷ []) [] = false
-is_sibling (n ∷ []) (m ∷ []) = true
-is_sibling (n ∷ []) (m ∷ k ∷ other) = false
-is_sibling (n ∷ k ∷ path) [] = false
+is_sibling (n ∷ path) [] = false
+is_sibling (n ∷ []) (m ∷ other) = is_empty other
 is_sibling (n ∷ k ∷ path) (m ∷ other) = bytes_eq n m && is_sibling (k ∷ path) other
 
 -- the path of the last node
@@ -53,10 +54,6 @@ siblings nodes path = count_by (λ node. is_sibling path node.path) nodes
 -- the path may come behind these nodes
 abbrev pub follows : List Listed → Path → Bool
 follows nodes path = comes_after (last_path nodes) path && has_parent nodes path
-
-abbrev pub is_empty : Path → Bool
-is_empty [] = true
-is_empty (n ∷ path) = false
 
 -- the same, by the last path alone, where the paths before are those of a tree
 abbrev pub is_next : Path → Path → Bool

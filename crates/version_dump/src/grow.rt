@@ -1,9 +1,12 @@
 //! A tree that grows by one node after another.
 ghost use Rattle.doc_tree.specs.Lawful.{IsLawful};
-ghost use Rattle.doc_tree.specs.Tree.{count, no_kids};
-ghost use Rattle.std.specs.Prelude.{IfOk, ◌≡◌, ◌≤◌};
+ghost use Rattle.doc_tree.specs.Tree.{no_kids};
+ghost use Rattle.std.specs.Prelude.{IfOk, length, ◌≡◌};
 ghost use Rattle.std.specs.Result.{ForOk};
-ghost use Rattle.version_dump.specs.Answers.{Gives};
+ghost use Rattle.version_dump.specs.Answers.{Grows, IsGrown, Turns};
+ghost use Rattle.version_dump.specs.Contents.{placed, turn_of};
+ghost use Rattle.version_dump.specs.Line.{line_of};
+ghost use Rattle.version_dump.specs.Listing.{listed};
 
 use crate::fault::{LineError, LoadKind};
 use crate::line::{Held, read_line};
@@ -29,7 +32,10 @@ pub(crate) fn read_turn(
     last: &[Name],
     line: &[u8],
     has_feed: bool,
-) -> Result<Turn, LineError> {
+) -> Result<Turn, LineError>
+    requires { IsGrown last.now tree.now }
+    ensures { Turns result (turn_of (listed tree.now) (line_of (length (listed tree.now)) has_feed line.now)) }
+{
     match read_line(alloc, line, has_feed, tree.count())? {
         Held::End => Ok(Turn::End),
         Held::Node { path, text } => {
@@ -45,7 +51,10 @@ fn with_node(
     last: &[Name],
     path: &Path,
     text: &Text,
-) -> Result<Tree, LineError> {
+) -> Result<Tree, LineError>
+    requires { IsGrown last.now tree.now }
+    ensures { Grows path.now result (placed (listed tree.now) (record { path = path.now; text = text.now })) }
+{
     if !is_next(last, path.names()) {
         return Err(LineError::Kind(LoadKind::NoOrder));
     }

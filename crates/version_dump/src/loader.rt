@@ -1,10 +1,15 @@
 //! A whole dump.
-ghost use Rattle.doc_tree.specs.Tree.{DocTree};
-ghost use Rattle.std.specs.Prelude.{IfOk, ℕ};
-ghost use Rattle.version_dump.specs.Answers.{IsLoaded, Lists, Reads};
-ghost use Rattle.version_dump.specs.Contents.{contents_of, nodes_of};
-ghost use Rattle.version_dump.specs.Laws.{IsDump};
+ghost use Rattle.doc_tree.specs.Lawful.{IsLawful};
+ghost use Rattle.doc_tree.specs.Tree.{DocTree, count};
 ghost use Rattle.line_words.specs.Lines.{lines_of};
+ghost use Rattle.std.specs.Prelude.{IfOk, [], ℕ, ◌≡◌, ◌≤◌};
+ghost use Rattle.std.specs.Result.{ForOk};
+ghost use Rattle.version_dump.specs.Answers.{IsGrown, IsLoaded, Lists, Reads, error_in, lines_left};
+ghost use Rattle.version_dump.specs.Answers.{names_in};
+ghost use Rattle.version_dump.specs.Contents.{contents_of, ended, nodes_from, nodes_of};
+ghost use Rattle.version_dump.specs.Laws.{IsDump};
+ghost use Rattle.version_dump.specs.Listing.{listed};
+ghost use Rattle.version_dump.specs.declared.fault.LoadError.TheVariants as load;
 
 use crate::fault::{LineError, LoadError, LoadFault, LoadKind};
 use crate::grow::{Turn, lone_node, read_turn};
@@ -37,11 +42,15 @@ pub fn load(alloc: Global, bytes: &[u8]) -> Result<Loaded, LoadError>
     Ok(Loaded { version, tree })
 }
 
-fn fault_at(line: u32, kind: LoadKind) -> LoadError {
+fn fault_at(line: u32, kind: LoadKind) -> LoadError
+    ensures { result ≡ load.Fault (record { line = line; kind = kind }) }
+{
     LoadError::Fault(LoadFault { line, kind })
 }
 
-fn error_at(line: u32, error: LineError) -> LoadError {
+fn error_at(line: u32, error: LineError) -> LoadError
+    ensures { result ≡ error_in line error }
+{
     match error {
         LineError::Kind(kind) => fault_at(line, kind),
         LineError::NoMemory => LoadError::NoMemory,
@@ -50,7 +59,8 @@ fn error_at(line: u32, error: LineError) -> LoadError {
 
 // The tree of the lines behind the head.
 fn read_tree(alloc: Global, bytes: &[u8]) -> Result<Tree, LoadError>
-    ensures { Lists result (nodes_of (lines_of bytes.now)) }
+    ensures nodes { Lists result (nodes_of (lines_of bytes.now)) }
+    ensures lawful { ForOk result IsLawful }
 {
     let (line, rest) = cut_line(bytes);
     let text = match read_root(alloc, line, rest.is_some()) {
@@ -61,7 +71,11 @@ fn read_tree(alloc: Global, bytes: &[u8]) -> Result<Tree, LoadError>
 }
 
 // The tree with the nodes of the lines behind the root's.
-fn read_below(alloc: Global, root: Tree, bytes: Option<&[u8]>) -> Result<Tree, LoadError> {
+fn read_below(alloc: Global, root: Tree, bytes: Option<&[u8]>) -> Result<Tree, LoadError>
+    requires { IsGrown [] root }
+    ensures nodes { Lists result (nodes_from (listed root) (lines_left bytes.entry)) }
+    ensures lawful { ForOk result IsLawful }
+{
     let mut tree = root;
     let mut last = None;
     let mut rest = bytes;
@@ -81,7 +95,9 @@ fn read_below(alloc: Global, root: Tree, bytes: Option<&[u8]>) -> Result<Tree, L
 }
 
 // The names on the way to the last node, none where that is the root.
-fn names_of(last: &Option<Path>) -> &[Name] {
+fn names_of(last: &Option<Path>) -> &[Name]
+    ensures { result.now ≡ names_in last.now }
+{
     match last {
         Some(path) => path.names(),
         None => &[],
@@ -89,7 +105,12 @@ fn names_of(last: &Option<Path>) -> &[Name] {
 }
 
 // The tree, if no byte follows the end.
-fn ended(tree: Tree, rest: Option<&[u8]>) -> Result<Tree, LoadError> {
+fn ended(tree: Tree, rest: Option<&[u8]>) -> Result<Tree, LoadError>
+    requires lawful { IsLawful tree }
+    requires few { count tree ≤ 10_000 }
+    ensures nodes { Lists result (ended (listed tree) (lines_left rest.entry)) }
+    ensures lawful { ForOk result IsLawful }
+{
     match rest {
         None | Some([]) => Ok(tree),
         Some(_) => Err(fault_at(tree.count() as u32 + 3, LoadKind::BadEnd)),

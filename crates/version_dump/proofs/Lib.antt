@@ -1,0 +1,5 @@
+pub mod Edges
+pub mod Fronts
+pub mod Growth
+pub mod Listings
+pub mod Orders
