@@ -1,11 +1,27 @@
--- What the loop over the lines of a dump keeps.
-use Rattle.std.proofs.Common.{◌≡◌, ℕ, ◌+◌, ◌<◌, List, [], ◌∷◌, Option, Some, None, length, Bor}
-use Rattle.std.proofs.Common.{Bool, true, refl, arith}
-use Rattle.std.specs.Prelude.{is_some, ◌==◌}
+-- What the loop over the lines of a dump keeps: the nodes of the tree so far, with those of the
+-- lines that are left, are all nodes.
+use Rattle.std.proofs.Common.{◌≡◌, ℕ, ◌+◌, ◌<◌, ◌≤◌, Bool, true, false, cond, List, [], ◌∷◌, length}
+use Rattle.std.proofs.Common.{Option, Some, None, Result, Ok, Err, Bor, refl, sym, ap, subst, ◌∙◌}
+use Rattle.std.proofs.Common.{arith, eqb}
+use Rattle.std.specs.Prelude.{MatchOption, is_some, ◌==◌}
+use Rattle.std.specs.List.{onto_first}
 use Rattle.std.proofs.lemmas.List.Splits.{length-slice_split}
+use Rattle.doc_tree.specs.Tree.{DocTree}
 use Rattle.line_words.specs.Lines.{lines_of}
-use Rattle.version_dump.specs.Answers.{lines_left}
-use Rattle.version_dump.specs.Contents.{has_feed}
+use Rattle.version_dump.specs.Answers.{Gives, Lists, Reads, Turns, error_in, lines_left}
+use Rattle.version_dump.specs.Contents.{contents_in, contents_of, ended, fault_at, has_feed, is_end}
+use Rattle.version_dump.specs.Contents.{nodes_from, nodes_of, turn_of, with_head, with_nodes}
+use Rattle.version_dump.specs.Contents.{with_root, with_turn, Contents}
+use Rattle.version_dump.specs.Line.{head_of, line_of, root_line_of}
+use Rattle.version_dump.specs.Listing.{Listed, listed, root_of}
+use Rattle.version_dump.specs.declared.fault.LineError.{LineError}
+use Rattle.version_dump.specs.declared.fault.LineError.TheVariants as line
+use Rattle.version_dump.specs.declared.fault.LoadError.{LoadError}
+use Rattle.version_dump.specs.declared.fault.LoadError.TheVariants as load
+use Rattle.version_dump.specs.declared.fault.LoadFault.{LoadFault}
+use Rattle.version_dump.specs.declared.fault.LoadKind.{LoadKind}
+use Rattle.version_dump.specs.declared.fault.LoadKind.TheVariants.{BadEnd, NoHead}
+use Rattle.version_dump.specs.declared.loader.Loaded.{Loaded}
 
 -- how long the lines may still be
 abbrev pub left : Option (Bor (List ℕ)) → ℕ
@@ -16,8 +32,125 @@ some_lines : (lines : List (List ℕ)) → 0 < length lines → has_feed lines �
 some_lines [] some = absurd (omega arith)
 some_lines (line ∷ lines) some = refl
 
+pub fed_lines : (bytes : List ℕ) → has_feed (lines_of bytes) ≡ true
+fed_lines bytes =
+    some_lines (lines_of bytes)
+    (omega (arith, length-slice_split (λ byte. byte == 10) bytes))
+
 pub has_lines : (rest : Option (Bor (List ℕ))) → has_feed (lines_left rest) ≡ is_some rest
 has_lines None = refl
-has_lines (Some rest) =
-    some_lines (lines_of rest.now)
-    (omega (arith, length-slice_split (λ byte. byte == 10) rest.now))
+has_lines (Some rest) = fed_lines rest.now
+
+-- where a line ends
+abbrev IsCut : List ℕ → List ℕ → Option (Bor (List ℕ)) → Type 0
+IsCut bytes line rest =
+    MatchOption rest (lines_of bytes ≡ line ∷ [])
+    (λ more. lines_of bytes ≡ line ∷ lines_of more.now)
+
+cut_lines : (bytes line : List ℕ) (rest : Option (Bor (List ℕ))) → IsCut bytes line rest
+    → lines_of bytes ≡ line ∷ lines_left rest
+cut_lines bytes line None is = is
+cut_lines bytes line (Some more) is = is
+
+-- the next line
+first_line : (nodes : List Listed) (bytes line : List ℕ) (rest : Option (Bor (List ℕ)))
+    (turn : Result (Option (List Listed)) LoadKind) → IsCut bytes line rest
+    → turn_of nodes (line_of (length nodes) (is_some rest) line) ≡ turn
+    → nodes_from nodes (lines_of bytes)
+    ≡ with_turn nodes turn (lines_left rest) (λ more. nodes_from more (lines_left rest))
+first_line nodes bytes line rest turn is read =
+    ap (nodes_from nodes) (cut_lines bytes line rest is)
+    ∙ ap (λ b. with_turn nodes (turn_of nodes (line_of (length nodes) b line)) (lines_left rest)
+    (λ more. nodes_from more (lines_left rest))) (has_lines rest)
+    ∙ ap (λ t. with_turn nodes t (lines_left rest) (λ more. nodes_from more (lines_left rest))) read
+
+pub goes_on : (nodes more : List Listed) (bytes line : List ℕ) (rest : Option (Bor (List ℕ)))
+    (whole : Result (List Listed) LoadFault) → IsCut bytes line rest
+    → turn_of nodes (line_of (length nodes) (is_some rest) line) ≡ Ok (Some more)
+    → nodes_from nodes (lines_of bytes) ≡ whole → nodes_from more (lines_left rest) ≡ whole
+goes_on nodes more bytes line rest whole is read so_far =
+    sym (first_line nodes bytes line rest (Ok (Some more)) is read) ∙ so_far
+
+pub ends : (nodes : List Listed) (bytes line : List ℕ) (rest : Option (Bor (List ℕ)))
+    (whole : Result (List Listed) LoadFault) (answer : Result DocTree LoadError)
+    → IsCut bytes line rest
+    → turn_of nodes (line_of (length nodes) (is_some rest) line) ≡ Ok None
+    → nodes_from nodes (lines_of bytes) ≡ whole → Lists answer (ended nodes (lines_left rest))
+    → Lists answer whole
+ends nodes bytes line rest whole answer is read so_far lists =
+    subst (Lists answer) (sym (first_line nodes bytes line rest (Ok None) is read) ∙ so_far) lists
+
+pub stops : (error : LineError) (number : ℕ) (nodes : List Listed) (bytes line : List ℕ)
+    (rest : Option (Bor (List ℕ))) (whole : Result (List Listed) LoadFault)
+    → IsCut bytes line rest → number ≡ length nodes + 2
+    → Turns (Err error) (turn_of nodes (line_of (length nodes) (is_some rest) line))
+    → nodes_from nodes (lines_of bytes) ≡ whole → Lists (Err (error_in number error)) whole
+stops (line.Kind kind) number nodes bytes text rest whole is same faulty so_far =
+    sym so_far ∙ first_line nodes bytes text rest (Err kind) is faulty
+    ∙ ap (λ n. fault_at n kind) (sym same)
+stops line.NoMemory number nodes bytes text rest whole is same faulty so_far = tt
+
+pub missing : (number : ℕ) (nodes : List Listed) (whole : Result (List Listed) LoadFault)
+    → number ≡ length nodes + 2 → nodes_from nodes [] ≡ whole
+    → whole ≡ Err (record { line = number; kind = BadEnd })
+missing number nodes whole same so_far =
+    sym so_far ∙ ap (λ n. fault_at n BadEnd) (sym same)
+
+-- behind the end
+not_end : (bytes : List ℕ) → 0 < length bytes → is_end (lines_of bytes) ≡ false
+not_end [] some = absurd (omega arith)
+not_end (b ∷ bytes) some =
+    elim (eqb b 10)
+    as (λ t. is_end (cond t ([] ∷ lines_of bytes) (onto_first b (lines_of bytes))) ≡ false) [
+      | true ↦
+          elim (lines_of bytes) as (λ ls. has_feed ls ≡ true → is_end ([] ∷ ls) ≡ false)
+          [ [] ↦ λ h. cc | l ∷ ls ↦ λ h. refl ] (fed_lines bytes)
+      | false ↦
+          elim (lines_of bytes) as (λ ls. is_end (onto_first b ls) ≡ false)
+          [ [] ↦ refl | l ∷ ls ↦ refl ]
+    ]
+
+pub follows_end : (number : ℕ) (nodes : List Listed) (rest : List ℕ) → 0 < length rest
+    → number ≡ length nodes + 3
+    → ended nodes (lines_of rest) ≡ Err (record { line = number; kind = BadEnd })
+follows_end number nodes rest some same =
+    ap (λ b. cond b (Ok nodes) (fault_at (length nodes + 3) BadEnd)) (not_end rest some)
+    ∙ ap (λ n. fault_at n BadEnd) (sym same)
+
+-- the root's line
+root_line : (bytes line : List ℕ) (rest : Option (Bor (List ℕ))) (read : Result (List ℕ) LoadKind)
+    → IsCut bytes line rest → root_line_of (is_some rest) line ≡ read
+    → nodes_of (lines_of bytes) ≡ with_root read (lines_left rest)
+root_line bytes line rest read is text =
+    ap nodes_of (cut_lines bytes line rest is)
+    ∙ ap (λ b. with_root (root_line_of b line) (lines_left rest)) (has_lines rest)
+    ∙ ap (λ r. with_root r (lines_left rest)) text
+
+pub root_read : (bytes line : List ℕ) (rest : Option (Bor (List ℕ))) (text : List ℕ) (t : DocTree)
+    (answer : Result DocTree LoadError)
+    → IsCut bytes line rest → root_line_of (is_some rest) line ≡ Ok text
+    → listed t ≡ root_of text ∷ [] → Lists answer (nodes_from (listed t) (lines_left rest))
+    → Lists answer (nodes_of (lines_of bytes))
+root_read bytes line rest text t answer is read one lists =
+    subst (Lists answer) (ap (λ (ns : List Listed). nodes_from ns (lines_left rest)) one
+    ∙ sym (root_line bytes line rest (Ok text) is read)) lists
+
+pub root_stops : (error : LineError) (bytes line : List ℕ) (rest : Option (Bor (List ℕ)))
+    → IsCut bytes line rest → Gives {A = List ℕ} (Err error) (root_line_of (is_some rest) line)
+    → Lists (Err (error_in 2 error)) (nodes_of (lines_of bytes))
+root_stops (line.Kind kind) bytes text rest is faulty = root_line bytes text rest (Err kind) is faulty
+root_stops line.NoMemory bytes text rest is faulty = tt
+
+-- the head
+pub head_read : (bytes line rest : List ℕ) (v : ℕ) → lines_of bytes ≡ line ∷ lines_of rest
+    → head_of line ≡ Some v → contents_of bytes ≡ with_nodes v (nodes_of (lines_of rest))
+head_read bytes line rest v is head =
+    ap contents_in is
+    ∙ ap (λ o. with_head o (has_feed (lines_of rest)) (lines_of rest)) head
+    ∙ ap (λ b. with_head (Some v) b (lines_of rest)) (fed_lines rest)
+
+pub tree_read : (v : ℕ) (answer : Result DocTree LoadError) (error : LoadError)
+    (whole : Result Contents LoadFault) (nodes : Result (List Listed) LoadFault)
+    → whole ≡ with_nodes v nodes → Lists (Err error) nodes → Reads (Err error) whole
+tree_read v answer (load.Fault fault) whole nodes is lists = is ∙ ap (with_nodes v) lists
+tree_read v answer load.NoMemory whole nodes is lists = tt

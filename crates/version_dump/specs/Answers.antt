@@ -2,6 +2,8 @@
 -- Source: this project's own.
 use Rattle.std.specs.Prelude.{◌≡◌, ℕ, ◌≤◌, List, [], Result, Ok, Err, Option, Some, None}
 use Rattle.std.specs.Borrow.{Bor}
+use Rattle.doc_tree.specs.declared.edit.EditFault.{EditFault}
+use Rattle.doc_tree.specs.declared.edit.EditFault.TheVariants as edit
 use Rattle.doc_tree.specs.Lawful.{IsLawful}
 use Rattle.doc_tree.specs.Tree.{DocTree, count}
 use Rattle.line_words.specs.Lines.{lines_of}
@@ -13,6 +15,7 @@ use Rattle.version_dump.specs.declared.fault.LoadError.{LoadError}
 use Rattle.version_dump.specs.declared.fault.LoadError.TheVariants as load
 use Rattle.version_dump.specs.declared.fault.LoadFault.{LoadFault}
 use Rattle.version_dump.specs.declared.fault.LoadKind.{LoadKind}
+use Rattle.version_dump.specs.declared.fault.LoadKind.TheVariants.{Many}
 use Rattle.version_dump.specs.Order.{Path, last_path}
 use Rattle.version_dump.specs.declared.grow.Turn.{Turn}
 use Rattle.version_dump.specs.declared.grow.Turn.TheVariants as turns
@@ -23,6 +26,14 @@ abbrev pub Gives : {A : Type 0} → Result A LineError → Result A LoadKind →
 Gives (Ok part) reading = reading ≡ Ok part
 Gives (Err (line.Kind kind)) reading = reading ≡ Err kind
 Gives (Err line.NoMemory) reading = Unit {0}
+
+-- what refuses a node that is in its order
+abbrev pub refused : EditFault → LineError
+refused edit.Absent = line.Kind Many
+refused edit.Many = line.Kind Many
+refused edit.Deep = line.Kind Many
+refused edit.Big = line.Kind Many
+refused edit.NoMemory = line.NoMemory
 
 -- an error in the line with this number
 abbrev pub error_in : ℕ → LineError → LoadError

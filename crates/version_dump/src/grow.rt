@@ -3,7 +3,7 @@ ghost use Rattle.doc_tree.specs.Lawful.{IsLawful};
 ghost use Rattle.doc_tree.specs.Tree.{no_kids};
 ghost use Rattle.std.specs.Prelude.{IfOk, length, ◌≡◌};
 ghost use Rattle.std.specs.Result.{ForOk};
-ghost use Rattle.version_dump.specs.Answers.{Grows, IsGrown, Turns};
+ghost use Rattle.version_dump.specs.Answers.{Grows, IsGrown, Turns, refused};
 ghost use Rattle.version_dump.specs.Contents.{placed, turn_of};
 ghost use Rattle.version_dump.specs.Line.{line_of};
 ghost use Rattle.version_dump.specs.Listing.{listed};
@@ -36,12 +36,13 @@ pub(crate) fn read_turn(
     requires { IsGrown last.now tree.now }
     ensures { Turns result (turn_of (listed tree.now) (line_of (length (listed tree.now)) has_feed line.now)) }
 {
-    match read_line(alloc, line, has_feed, tree.count())? {
-        Held::End => Ok(Turn::End),
-        Held::Node { path, text } => {
-            let tree = with_node(alloc, tree, last, &path, &text)?;
-            Ok(Turn::Grown { path, tree })
-        }
+    match read_line(alloc, line, has_feed, tree.count()) {
+        Ok(Held::End) => Ok(Turn::End),
+        Ok(Held::Node { path, text }) => match with_node(alloc, tree, last, &path, &text) {
+            Ok(tree) => Ok(Turn::Grown { path, tree }),
+            Err(error) => Err(error),
+        },
+        Err(error) => Err(error),
     }
 }
 
@@ -60,13 +61,24 @@ fn with_node(
     }
     let grown = match tree.set_text(alloc, path, text) {
         Ok(grown) => grown,
-        Err(EditFault::NoMemory) => return Err(LineError::NoMemory),
-        Err(_) => return Err(LineError::Kind(LoadKind::Many)),
+        Err(refusal) => return Err(refused(refusal)),
     };
     if tree.count() >= MOST_NODES {
         return Err(LineError::Kind(LoadKind::Big));
     }
     Ok(grown)
+}
+
+// A node in its order is refused for its parent alone.
+fn refused(refusal: EditFault) -> LineError
+    ensures { result ≡ refused refusal }
+{
+    match refusal {
+        EditFault::NoMemory => LineError::NoMemory,
+        EditFault::Absent | EditFault::Many | EditFault::Deep | EditFault::Big => {
+            LineError::Kind(LoadKind::Many)
+        }
+    }
 }
 
 /// The tree of one node.
