@@ -160,7 +160,7 @@ parent_below n (kid m text inside rest) path rising =
     (parent_below n rest path rising.1)
 
 -- after a last path of one name or more
-after_none : (path : Path) → comes_after path [] ≡ false
+pub after_none : (path : Path) → comes_after path [] ≡ false
 after_none [] = refl
 after_none (n ∷ path) = refl
 

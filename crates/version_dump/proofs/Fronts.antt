@@ -6,14 +6,17 @@ use Rattle.std.proofs.Common.{arith, eqb}
 use Rattle.std.specs.Prelude.{MatchOption, is_some, ◌==◌}
 use Rattle.std.specs.List.{onto_first}
 use Rattle.std.proofs.lemmas.List.Splits.{length-slice_split}
-use Rattle.doc_tree.specs.Tree.{DocTree}
+use Rattle.doc_tree.specs.Lawful.{IsLawful}
+use Rattle.doc_tree.specs.Tree.{DocTree, no_kids, count}
 use Rattle.line_words.specs.Lines.{lines_of}
-use Rattle.version_dump.specs.Answers.{Gives, Lists, Reads, Turns, error_in, lines_left}
+use Rattle.version_dump.specs.Answers.{Gives, IsGrown, Lists, Reads, Turns, error_in}
+use Rattle.version_dump.specs.Answers.{lines_left}
 use Rattle.version_dump.specs.Contents.{contents_in, contents_of, ended, fault_at, has_feed, is_end}
 use Rattle.version_dump.specs.Contents.{nodes_from, nodes_of, turn_of, with_head, with_nodes}
 use Rattle.version_dump.specs.Contents.{with_root, with_turn, Contents}
 use Rattle.version_dump.specs.Line.{head_of, line_of, root_line_of}
 use Rattle.version_dump.specs.Listing.{Listed, listed, root_of}
+use Rattle.version_dump.specs.Order.{last_path}
 use Rattle.version_dump.specs.declared.fault.LineError.{LineError}
 use Rattle.version_dump.specs.declared.fault.LineError.TheVariants as line
 use Rattle.version_dump.specs.declared.fault.LoadError.{LoadError}
@@ -53,42 +56,43 @@ cut_lines bytes line None is = is
 cut_lines bytes line (Some more) is = is
 
 -- the next line
-first_line : (nodes : List Listed) (bytes line : List ℕ) (rest : Option (Bor (List ℕ)))
-    (turn : Result (Option (List Listed)) LoadKind) → IsCut bytes line rest
-    → turn_of nodes (line_of (length nodes) (is_some rest) line) ≡ turn
+first_line : (nodes : List Listed) (bytes line : List ℕ) (rest : Option (Bor (List ℕ))) (has : Bool)
+    (turn : Result (Option (List Listed)) LoadKind) → IsCut bytes line rest → has ≡ is_some rest
+    → turn_of nodes (line_of (length nodes) has line) ≡ turn
     → nodes_from nodes (lines_of bytes)
     ≡ with_turn nodes turn (lines_left rest) (λ more. nodes_from more (lines_left rest))
-first_line nodes bytes line rest turn is read =
+first_line nodes bytes line rest has turn is feed read =
     ap (nodes_from nodes) (cut_lines bytes line rest is)
     ∙ ap (λ b. with_turn nodes (turn_of nodes (line_of (length nodes) b line)) (lines_left rest)
-    (λ more. nodes_from more (lines_left rest))) (has_lines rest)
+    (λ more. nodes_from more (lines_left rest))) (has_lines rest ∙ sym feed)
     ∙ ap (λ t. with_turn nodes t (lines_left rest) (λ more. nodes_from more (lines_left rest))) read
 
 pub goes_on : (nodes more : List Listed) (bytes line : List ℕ) (rest : Option (Bor (List ℕ)))
-    (whole : Result (List Listed) LoadFault) → IsCut bytes line rest
-    → turn_of nodes (line_of (length nodes) (is_some rest) line) ≡ Ok (Some more)
+    (has : Bool) (whole : Result (List Listed) LoadFault) → IsCut bytes line rest
+    → has ≡ is_some rest → turn_of nodes (line_of (length nodes) has line) ≡ Ok (Some more)
     → nodes_from nodes (lines_of bytes) ≡ whole → nodes_from more (lines_left rest) ≡ whole
-goes_on nodes more bytes line rest whole is read so_far =
-    sym (first_line nodes bytes line rest (Ok (Some more)) is read) ∙ so_far
+goes_on nodes more bytes line rest has whole is feed read so_far =
+    sym (first_line nodes bytes line rest has (Ok (Some more)) is feed read) ∙ so_far
 
-pub ends : (nodes : List Listed) (bytes line : List ℕ) (rest : Option (Bor (List ℕ)))
+pub ends : (nodes : List Listed) (bytes line : List ℕ) (rest : Option (Bor (List ℕ))) (has : Bool)
     (whole : Result (List Listed) LoadFault) (answer : Result DocTree LoadError)
-    → IsCut bytes line rest
-    → turn_of nodes (line_of (length nodes) (is_some rest) line) ≡ Ok None
+    → IsCut bytes line rest → has ≡ is_some rest
+    → turn_of nodes (line_of (length nodes) has line) ≡ Ok None
     → nodes_from nodes (lines_of bytes) ≡ whole → Lists answer (ended nodes (lines_left rest))
     → Lists answer whole
-ends nodes bytes line rest whole answer is read so_far lists =
-    subst (Lists answer) (sym (first_line nodes bytes line rest (Ok None) is read) ∙ so_far) lists
+ends nodes bytes line rest has whole answer is feed read so_far lists =
+    subst (Lists answer) (sym (first_line nodes bytes line rest has (Ok None) is feed read) ∙ so_far)
+    lists
 
 pub stops : (error : LineError) (number : ℕ) (nodes : List Listed) (bytes line : List ℕ)
-    (rest : Option (Bor (List ℕ))) (whole : Result (List Listed) LoadFault)
-    → IsCut bytes line rest → number ≡ length nodes + 2
-    → Turns (Err error) (turn_of nodes (line_of (length nodes) (is_some rest) line))
+    (rest : Option (Bor (List ℕ))) (has : Bool) (whole : Result (List Listed) LoadFault)
+    → IsCut bytes line rest → has ≡ is_some rest → number ≡ length nodes + 2
+    → Turns (Err error) (turn_of nodes (line_of (length nodes) has line))
     → nodes_from nodes (lines_of bytes) ≡ whole → Lists (Err (error_in number error)) whole
-stops (line.Kind kind) number nodes bytes text rest whole is same faulty so_far =
-    sym so_far ∙ first_line nodes bytes text rest (Err kind) is faulty
+stops (line.Kind kind) number nodes bytes text rest has whole is feed same faulty so_far =
+    sym so_far ∙ first_line nodes bytes text rest has (Err kind) is feed faulty
     ∙ ap (λ n. fault_at n kind) (sym same)
-stops line.NoMemory number nodes bytes text rest whole is same faulty so_far = tt
+stops line.NoMemory number nodes bytes text rest has whole is feed same faulty so_far = tt
 
 pub missing : (number : ℕ) (nodes : List Listed) (whole : Result (List Listed) LoadFault)
     → number ≡ length nodes + 2 → nodes_from nodes [] ≡ whole
@@ -118,28 +122,40 @@ follows_end number nodes rest some same =
     ∙ ap (λ n. fault_at n BadEnd) (sym same)
 
 -- the root's line
-root_line : (bytes line : List ℕ) (rest : Option (Bor (List ℕ))) (read : Result (List ℕ) LoadKind)
-    → IsCut bytes line rest → root_line_of (is_some rest) line ≡ read
-    → nodes_of (lines_of bytes) ≡ with_root read (lines_left rest)
-root_line bytes line rest read is text =
+root_line : (bytes line : List ℕ) (rest : Option (Bor (List ℕ))) (has : Bool)
+    (read : Result (List ℕ) LoadKind) → IsCut bytes line rest → has ≡ is_some rest
+    → root_line_of has line ≡ read → nodes_of (lines_of bytes) ≡ with_root read (lines_left rest)
+root_line bytes line rest has read is feed text =
     ap nodes_of (cut_lines bytes line rest is)
-    ∙ ap (λ b. with_root (root_line_of b line) (lines_left rest)) (has_lines rest)
+    ∙ ap (λ b. with_root (root_line_of b line) (lines_left rest)) (has_lines rest ∙ sym feed)
     ∙ ap (λ r. with_root r (lines_left rest)) text
 
-pub root_read : (bytes line : List ℕ) (rest : Option (Bor (List ℕ))) (text : List ℕ) (t : DocTree)
-    (answer : Result DocTree LoadError)
-    → IsCut bytes line rest → root_line_of (is_some rest) line ≡ Ok text
-    → listed t ≡ root_of text ∷ [] → Lists answer (nodes_from (listed t) (lines_left rest))
+pub root_read : (bytes line : List ℕ) (rest : Option (Bor (List ℕ))) (has : Bool) (text : List ℕ)
+    (t : DocTree) (answer : Result DocTree LoadError)
+    → IsCut bytes line rest → has ≡ is_some rest → root_line_of has line ≡ Ok text
+    → t ≡ record { text = text; kids = no_kids }
+    → Lists answer (nodes_from (listed t) (lines_left rest))
     → Lists answer (nodes_of (lines_of bytes))
-root_read bytes line rest text t answer is read one lists =
-    subst (Lists answer) (ap (λ (ns : List Listed). nodes_from ns (lines_left rest)) one
-    ∙ sym (root_line bytes line rest (Ok text) is read)) lists
+root_read bytes line rest has text t answer is feed read one lists =
+    subst (Lists answer) (ap (λ (u : DocTree). nodes_from (listed u) (lines_left rest)) one
+    ∙ sym (root_line bytes line rest has (Ok text) is feed read)) lists
 
-pub root_stops : (error : LineError) (bytes line : List ℕ) (rest : Option (Bor (List ℕ)))
-    → IsCut bytes line rest → Gives {A = List ℕ} (Err error) (root_line_of (is_some rest) line)
+pub root_stops : (error : LineError) (bytes line : List ℕ) (rest : Option (Bor (List ℕ))) (has : Bool)
+    → IsCut bytes line rest → has ≡ is_some rest
+    → Gives {A = List ℕ} (Err error) (root_line_of has line)
     → Lists (Err (error_in 2 error)) (nodes_of (lines_of bytes))
-root_stops (line.Kind kind) bytes text rest is faulty = root_line bytes text rest (Err kind) is faulty
-root_stops line.NoMemory bytes text rest is faulty = tt
+root_stops (line.Kind kind) bytes text rest has is feed faulty =
+    root_line bytes text rest has (Err kind) is feed faulty
+root_stops line.NoMemory bytes text rest has is feed faulty = tt
+
+-- a tree of one node
+pub one_grown : (text : List ℕ) (t : DocTree) → t ≡ record { text = text; kids = no_kids }
+    → IsLawful t → IsGrown [] t
+one_grown text t is lawful = record {
+  lawful = lawful;
+  few = omega (arith, ap count is);
+  last = sym (ap (λ (u : DocTree). last_path (listed u)) is);
+}
 
 -- the head
 pub head_read : (bytes line rest : List ℕ) (v : ℕ) → lines_of bytes ≡ line ∷ lines_of rest

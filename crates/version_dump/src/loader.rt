@@ -32,14 +32,23 @@ pub fn load(alloc: Global, bytes: &[u8]) -> Result<Loaded, LoadError>
     ensures dumps { (v : ℕ) (t : DocTree) → IsDump bytes.now v t → IsLoaded result v t }
     ensures contents { Reads result (contents_of bytes.now) }
 {
+    read_dump(alloc, bytes)
+}
+
+fn read_dump(alloc: Global, bytes: &[u8]) -> Result<Loaded, LoadError>
+    ensures contents { Reads result (contents_of bytes.now) }
+    ensures lawful { IfOk result (λ loaded. IsLawful loaded.tree) }
+{
     let (head, Some(rest)) = cut_line(bytes) else {
         return Err(fault_at(1, LoadKind::NoHead));
     };
     let Some(version) = read_head(head) else {
         return Err(fault_at(1, LoadKind::NoHead));
     };
-    let tree = read_tree(alloc, rest)?;
-    Ok(Loaded { version, tree })
+    match read_tree(alloc, rest) {
+        Ok(tree) => Ok(Loaded { version, tree }),
+        Err(error) => Err(error),
+    }
 }
 
 fn fault_at(line: u32, kind: LoadKind) -> LoadError
