@@ -5,6 +5,7 @@ use Rattle.std.proofs.Common.{Option, Some, None, Result, Ok, Err, Bor, refl, sy
 use Rattle.std.proofs.Common.{arith, eqb}
 use Rattle.std.specs.Prelude.{MatchOption, is_some, ◌==◌}
 use Rattle.std.specs.List.{onto_first}
+use Rattle.std.proofs.lemmas.Bool.Decides.{nat_tests}
 use Rattle.std.proofs.lemmas.List.Splits.{length-slice_split}
 use Rattle.doc_tree.specs.Lawful.{IsLawful}
 use Rattle.doc_tree.specs.Tree.{DocTree, no_kids, count}
@@ -114,11 +115,21 @@ not_end (b ∷ bytes) some =
           [ [] ↦ refl | l ∷ ls ↦ refl ]
     ]
 
-pub follows_end : (number : ℕ) (nodes : List Listed) (rest : List ℕ) → 0 < length rest
-    → number ≡ length nodes + 3
-    → ended nodes (lines_of rest) ≡ Err (record { line = number; kind = BadEnd })
-follows_end number nodes rest some same =
-    ap (λ b. cond b (Ok nodes) (fault_at (length nodes + 3) BadEnd)) (not_end rest some)
+some_differs : (n : ℕ) → 0 < n → eqb n 0 ≡ false
+some_differs n some = grind (arith, nat_tests)
+
+pub empty_ends : (rest : List ℕ) (has : Bool) → has ≡ eqb (length rest) 0
+    → has ≡ is_end (lines_of rest)
+empty_ends [] has is = is
+empty_ends (b ∷ rest) has is =
+    is ∙ some_differs (length (b ∷ rest)) (omega arith)
+    ∙ sym (not_end (b ∷ rest) (omega arith))
+
+pub follows_end : (number : ℕ) (nodes : List Listed) (lines : List (List ℕ))
+    → is_end lines ≡ false → number ≡ length nodes + 3
+    → ended nodes lines ≡ Err (record { line = number; kind = BadEnd })
+follows_end number nodes lines more same =
+    ap (λ b. cond b (Ok nodes) (fault_at (length nodes + 3) BadEnd)) more
     ∙ ap (λ n. fault_at n BadEnd) (sym same)
 
 -- the root's line
@@ -165,8 +176,12 @@ head_read bytes line rest v is head =
     ∙ ap (λ o. with_head o (has_feed (lines_of rest)) (lines_of rest)) head
     ∙ ap (λ b. with_head (Some v) b (lines_of rest)) (fed_lines rest)
 
-pub tree_read : (v : ℕ) (answer : Result DocTree LoadError) (error : LoadError)
-    (whole : Result Contents LoadFault) (nodes : Result (List Listed) LoadFault)
-    → whole ≡ with_nodes v nodes → Lists (Err error) nodes → Reads (Err error) whole
-tree_read v answer (load.Fault fault) whole nodes is lists = is ∙ ap (with_nodes v) lists
-tree_read v answer load.NoMemory whole nodes is lists = tt
+pub tree_stops : (error : LoadError) (bytes line : List ℕ) (more : Option (Bor (List ℕ)))
+    (rest : Bor (List ℕ)) (v : ℕ) → IsCut bytes line more → more ≡ Some rest
+    → head_of line ≡ Some v → Lists (Err error) (nodes_of (lines_of rest.now))
+    → Reads (Err error) (contents_of bytes)
+tree_stops (load.Fault fault) bytes line more rest v is some head lists =
+    head_read bytes line rest.now v (cut_lines bytes line more is
+    ∙ ap (λ m. line ∷ lines_left m) some) head
+    ∙ ap (with_nodes v) lists
+tree_stops load.NoMemory bytes line more rest v is some head lists = tt

@@ -6,7 +6,7 @@ ghost use Rattle.std.specs.Prelude.{IfOk, [], ℕ, ◌≡◌, ◌≤◌};
 ghost use Rattle.std.specs.Result.{ForOk};
 ghost use Rattle.version_dump.specs.Answers.{IsGrown, IsLoaded, Lists, Reads, error_in, lines_left};
 ghost use Rattle.version_dump.specs.Answers.{names_in};
-ghost use Rattle.version_dump.specs.Contents.{contents_of, ended, nodes_from, nodes_of};
+ghost use Rattle.version_dump.specs.Contents.{contents_of, ended, is_end, nodes_from, nodes_of};
 ghost use Rattle.version_dump.specs.Laws.{IsDump};
 ghost use Rattle.version_dump.specs.Listing.{listed};
 ghost use Rattle.version_dump.specs.declared.fault.LoadError.TheVariants as load;
@@ -39,7 +39,8 @@ fn read_dump(alloc: Global, bytes: &[u8]) -> Result<Loaded, LoadError>
     ensures contents { Reads result (contents_of bytes.now) }
     ensures lawful { IfOk result (λ loaded. IsLawful loaded.tree) }
 {
-    let (head, Some(rest)) = cut_line(bytes) else {
+    let (head, more) = cut_line(bytes);
+    let Some(rest) = more else {
         return Err(fault_at(1, LoadKind::NoHead));
     };
     let Some(version) = read_head(head) else {
@@ -120,8 +121,18 @@ fn ended(tree: Tree, rest: Option<&[u8]>) -> Result<Tree, LoadError>
     ensures nodes { Lists result (ended (listed tree) (lines_left rest.entry)) }
     ensures lawful { ForOk result IsLawful }
 {
+    if is_end(rest) {
+        Ok(tree)
+    } else {
+        Err(fault_at(tree.count() as u32 + 3, LoadKind::BadEnd))
+    }
+}
+
+fn is_end(rest: Option<&[u8]>) -> bool
+    ensures { result ≡ is_end (lines_left rest.entry) }
+{
     match rest {
-        None | Some([]) => Ok(tree),
-        Some(_) => Err(fault_at(tree.count() as u32 + 3, LoadKind::BadEnd)),
+        Some(rest) => rest.is_empty(),
+        None => true,
     }
 }
