@@ -1,18 +1,18 @@
 -- What is read is a dump, each dump is read, and none begins another.
-use Rattle.std.proofs.Common.{◌≡◌, ℕ, ◌+◌, ◌≤◌, Bool, true, false, cond, List, [], ◌∷◌, ◌++◌, length, Result}
+use Rattle.std.proofs.Common.{◌≡◌, ℕ, ◌+◌, true, false, cond, List, [], ◌∷◌, ◌++◌, length, Result}
 use Rattle.std.proofs.Common.{Ok, Err, refl, sym, ap, subst, ◌∙◌, append-nil, arith}
 use Rattle.std.specs.Prelude.{IfOk}
 use Rattle.std.specs.List.{join_with_byte}
 use Rattle.std.proofs.lemmas.List.Splits.{join_with_byte-slice_split}
 use Rattle.doc_tree.specs.Lawful.{IsLawful}
-use Rattle.doc_tree.specs.Tree.{DocTree, Kids, count}
+use Rattle.doc_tree.specs.Tree.{DocTree}
 use Rattle.doc_tree.specs.Words.{is_text}
 use Rattle.line_words.specs.Lines.{lines_of}
 use Rattle.version_dump.specs.Answers.{IsLoaded, Reads}
 use Rattle.version_dump.specs.Contents.{Contents, contents_of, ended, fault_at, is_end, with_nodes}
-use Rattle.version_dump.specs.Dump.{dump_of, end_line, head_line, lines_below, root_line}
+use Rattle.version_dump.specs.Dump.{end_line, head_line, lines_below, root_line}
 use Rattle.version_dump.specs.Laws.{IsDump, NoneIsAFront}
-use Rattle.version_dump.specs.Listing.{Listed, listed, listed_below, root_of}
+use Rattle.version_dump.specs.Listing.{Listed, listed, listed_below}
 use Rattle.version_dump.specs.declared.fault.LoadError.{LoadError}
 use Rattle.version_dump.specs.declared.fault.LoadError.TheVariants as load
 use Rattle.version_dump.specs.declared.fault.LoadFault.{LoadFault}

@@ -8,17 +8,16 @@ use Rattle.std.specs.Ordering.{is_lt, ordering_then}
 use Rattle.std.specs.declared.cmp.Ordering.{Ordering}
 use Rattle.std.specs.declared.cmp.Ordering.TheVariants.{Less, Equal, Greater}
 use Rattle.std.proofs.Math.Bool.{and-true, or-false}
-use Rattle.std.proofs.lemmas.Bool.{and_right}
 use Rattle.std.proofs.lemmas.Cmp.{nat_list_cmp_total}
-use Rattle.doc_tree.specs.Lawful.{AreOrderly, IsOrdered, IsOrderly}
+use Rattle.doc_tree.specs.Lawful.{AreOrderly, IsOrdered}
 use Rattle.doc_tree.specs.Rows.{join, IsBelow}
 use Rattle.doc_tree.specs.Tree.{DocTree, Kids, no_kids, kid, name_cmp, by_order, child, IsAbove}
 use Rattle.doc_tree.specs.Tree.{IsRising}
 use Rattle.doc_tree.proofs.Joined.{above_right, child_past}
 use Rattle.doc_tree.proofs.Rising.{above_later, greater_turned, less_turned}
-use Rattle.version_dump.specs.Listing.{Listed, listed, listed_below, root_of, under}
-use Rattle.version_dump.specs.Order.{Path, comes_after, follows, has_parent, is_child, is_empty}
-use Rattle.version_dump.specs.Order.{is_next, last_path, path_cmp}
+use Rattle.version_dump.specs.Listing.{listed, listed_below, root_of, under}
+use Rattle.version_dump.specs.Order.{Path, comes_after, has_parent, is_child}
+use Rattle.version_dump.specs.Order.{is_next, last_path}
 use Rattle.version_dump.proofs.Listings.{any-append, last-append, last-under, parent_under}
 use Rattle.version_dump.proofs.Orders.{equal_is, greater_differs, less_differs, same_bytes}
 use Rattle.version_dump.proofs.Orders.{same_equal}
@@ -112,7 +111,7 @@ abbrev pub parent_in : Option DocTree → Path → Bool
 parent_in None path = false
 parent_in (Some d) path = has_parent (listed d) path
 
-above_child : (n : List ℕ) (kids : Kids) → IsAbove n kids → child n kids ≡ None
+pub above_child : (n : List ℕ) (kids : Kids) → IsAbove n kids → child n kids ≡ None
 above_child n no_kids above = refl
 above_child n (kid m text inside rest) above = rw above.0 refl
 

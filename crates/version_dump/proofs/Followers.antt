@@ -1,10 +1,9 @@
 -- The nodes of a lawful tree may follow each other, as lines do.
 use Rattle.std.proofs.Common.{◌≡◌, ℕ, ◌+◌, ◌<◌, ◌≤◌, Bool, true, false, ◌&&◌, cond, List, [], ◌∷◌, ◌++◌}
-use Rattle.std.proofs.Common.{length, map, max, Option, Some, None, Ok, refl, sym, ap, subst, ◌∙◌}
+use Rattle.std.proofs.Common.{length, map, max, Option, Some, None, refl, sym, ap, subst, ◌∙◌}
 use Rattle.std.proofs.Common.{append_assoc, arith, inl, inr, ⊎_elim}
-use Rattle.std.specs.Prelude.{◌||◌, ◌⊎◌, bytes_eq, count_by, nat_le}
+use Rattle.std.specs.Prelude.{◌||◌, ◌⊎◌, bytes_eq, nat_le}
 use Rattle.std.specs.Cmp.Lexicographic.{slice_cmp}
-use Rattle.std.specs.List.{list_any}
 use Rattle.std.specs.Ordering.{is_lt, ordering_then}
 use Rattle.std.specs.declared.cmp.Ordering.{Ordering}
 use Rattle.std.specs.declared.cmp.Ordering.TheVariants.{Less, Equal, Greater}
@@ -13,21 +12,20 @@ use Rattle.std.proofs.lemmas.Bool.{and_from, and_parts, or_left, or_right}
 use Rattle.std.proofs.lemmas.Bool.Decides.{nat_tests}
 use Rattle.std.proofs.lemmas.List.{length-append}
 use Rattle.doc_tree.specs.Lawful.{AreOrderly, IsLawful, IsOrdered}
-use Rattle.doc_tree.specs.Tree.{DocTree, Kids, no_kids, kid, kid_count, name_cmp, by_order, child}
+use Rattle.doc_tree.specs.Tree.{DocTree, Kids, no_kids, kid, name_cmp, by_order, child}
 use Rattle.doc_tree.specs.Tree.{count, height_below, IsAbove, IsRising}
-use Rattle.doc_tree.specs.Words.{are_names, is_name, is_path, is_text}
+use Rattle.doc_tree.specs.Words.{are_names, is_name, is_text}
 use Rattle.doc_tree.proofs.Orderly.{ordered_child}
 use Rattle.doc_tree.proofs.Rising.{above_later}
-use Rattle.version_dump.specs.Contents.{placed}
 use Rattle.version_dump.specs.Laws.{has_words}
 use Rattle.version_dump.specs.Listing.{Listed, listed, listed_below, root_of, under}
-use Rattle.version_dump.specs.Order.{Path, comes_after, follows, has_parent, is_child, is_empty}
+use Rattle.version_dump.specs.Order.{Path, comes_after, has_parent, is_child}
 use Rattle.version_dump.specs.Order.{is_sibling, last_path, siblings}
-use Rattle.version_dump.proofs.Edges.{after_none}
+use Rattle.version_dump.proofs.Edges.{above_child, after_none}
 use Rattle.version_dump.proofs.Listings.{any-append, count-append, count-cons, count_listed}
 use Rattle.version_dump.proofs.Listings.{last-append, parent_under, siblings_below, siblings_root}
 use Rattle.version_dump.proofs.Listings.{siblings_under}
-use Rattle.version_dump.proofs.Nexts.{placed_as}
+use Rattle.version_dump.proofs.Nexts.{below_ten, low_children, placed_as}
 use Rattle.version_dump.proofs.Orders.{equal_is, greater_differs, less_differs, same_bytes}
 use Rattle.version_dump.proofs.Orders.{same_equal}
 use Rattle.version_dump.proofs.Texts.{AreLines, AreNext}
@@ -75,8 +73,7 @@ rises_listed : (kids : Kids) (last : Path) → IsRising kids → AreOrderly kids
     → Rises last (listed_below kids)
 rises_listed no_kids last rising all before = tt
 rises_listed (kid n text inside rest) last rising all before =
-    let within = map (under n) (listed_below inside) in
-    (
+    let within = map (under n) (listed_below inside) in (
       first_after last n text inside rest before,
       rises-append (n ∷ []) within (listed_below rest)
           (rises-under n [] (listed_below inside)
@@ -124,44 +121,41 @@ parents-under : (n : List ℕ) (nodes others more : List Listed)
     → ((path : Path) → has_parent nodes path ≡ true → has_parent others (n ∷ path) ≡ true)
     → HaveParents nodes more → HaveParents others (map (under n) more)
 parents-under n nodes others [] known all = tt
-parents-under n nodes others (node ∷ more) known all =
-    (
-      known node.path all.0,
-      parents-under n (nodes ++ node ∷ []) (others ++ under n node ∷ []) more
-          (λ path is. ⊎_elim
-          (λ left. parent_left others (under n node ∷ []) (n ∷ path) (known path left))
-          (λ right. parent_right others (under n node ∷ []) (n ∷ path)
-          (parent_within n (node ∷ []) path right))
-          (parent_cases nodes (node ∷ []) path is))
-          all.1,
-    )
+parents-under n nodes others (node ∷ more) known all = (
+  known node.path all.0,
+  parents-under n (nodes ++ node ∷ []) (others ++ under n node ∷ []) more
+      (λ path is. ⊎_elim
+      (λ left. parent_left others (under n node ∷ []) (n ∷ path) (known path left))
+      (λ right. parent_right others (under n node ∷ []) (n ∷ path)
+      (parent_within n (node ∷ []) path right))
+      (parent_cases nodes (node ∷ []) path is))
+      all.1,
+)
 
 parents-more : (nodes others more : List Listed)
     → ((path : Path) → has_parent nodes path ≡ true → has_parent others path ≡ true)
     → HaveParents nodes more → HaveParents others more
 parents-more nodes others [] known all = tt
-parents-more nodes others (node ∷ more) known all =
-    (
-      known node.path all.0,
-      parents-more (nodes ++ node ∷ []) (others ++ node ∷ []) more
-          (λ path is. ⊎_elim
-          (λ left. parent_left others (node ∷ []) path (known path left))
-          (λ right. parent_right others (node ∷ []) path right)
-          (parent_cases nodes (node ∷ []) path is))
-          all.1,
-    )
+parents-more nodes others (node ∷ more) known all = (
+  known node.path all.0,
+  parents-more (nodes ++ node ∷ []) (others ++ node ∷ []) more
+      (λ path is. ⊎_elim
+      (λ left. parent_left others (node ∷ []) path (known path left))
+      (λ right. parent_right others (node ∷ []) path right)
+      (parent_cases nodes (node ∷ []) path is))
+      all.1,
+)
 
 parents-append : (nodes l r : List Listed) → HaveParents nodes l → HaveParents (nodes ++ l) r
     → HaveParents nodes (l ++ r)
 parents-append nodes [] r left right =
     parents-more (nodes ++ []) nodes r
     (λ path is. ⊎_elim (λ there. there) (λ none. cc) (parent_cases nodes [] path is)) right
-parents-append nodes (node ∷ l) r left right =
-    (
-      left.0,
-      parents-append (nodes ++ node ∷ []) l r left.1
-          (subst (λ (ns : List Listed). HaveParents ns r) (sym (append_assoc nodes (node ∷ []) l)) right),
-    )
+parents-append nodes (node ∷ l) r left right = (
+  left.0,
+  parents-append (nodes ++ node ∷ []) l r left.1
+      (subst (λ (ns : List Listed). HaveParents ns r) (sym (append_assoc nodes (node ∷ []) l)) right),
+)
 
 root_parent : (text : List ℕ) (more : List Listed) (path : Path)
     → has_parent (root_of text ∷ []) path ≡ true → has_parent (root_of text ∷ more) path ≡ true
@@ -175,8 +169,7 @@ parents_listed no_kids text = tt
 parents_listed (kid n other inside rest) text =
     let own = under n (root_of other) in
     let within = map (under n) (listed_below inside) in
-    let before = root_of text ∷ own ∷ [] in
-    (
+    let before = root_of text ∷ own ∷ [] in (
       refl,
       parents-append before within (listed_below rest)
           (parents-under n (root_of other ∷ []) before (listed_below inside)
@@ -197,10 +190,6 @@ siblings_none (node ∷ nodes) =
 abbrev siblings_in : Option DocTree → Path → ℕ
 siblings_in None path = 0
 siblings_in (Some d) path = siblings (listed d) path
-
-above_child : (n : List ℕ) (kids : Kids) → IsAbove n kids → child n kids ≡ None
-above_child n no_kids above = refl
-above_child n (kid m text inside rest) above = rw above.0 refl
 
 siblings_at : (o : Ordering) (n m k text : List ℕ) (inside rest : Kids) (path : Path)
     → name_cmp n m ≡ o → IsAbove m rest
@@ -268,12 +257,6 @@ own_sibling : (last path : Path) → comes_after last path ≡ true → is_sibli
 own_sibling last [] after = let no = sym (after_none last) ∙ after in cc
 own_sibling last (n ∷ path) after = self_sibling n path
 
-below_children : (n : ℕ) → n < 256 → nat_le 256 n ≡ false
-below_children n h = grind (arith, nat_tests)
-
-below_ten : (n : ℕ) → n < 10_000 → nat_le 10_000 n ≡ false
-below_ten n h = grind (arith, nat_tests)
-
 room_for : (nodes more : List Listed) (node : Listed) → is_sibling node.path node.path ≡ true
     → siblings (nodes ++ node ∷ more) node.path ≤ 256 → siblings nodes node.path < 256
 room_for nodes more node own few =
@@ -298,12 +281,11 @@ next_from (node ∷ more) nodes whole last is few all at rises parents =
     let room = room_for nodes more node own
     (subst (λ (ns : List Listed). siblings ns node.path ≤ 256) is (all node.path)) in
     let short : length nodes < 10_000 =
-    omega (arith, few, ap length is, length-append nodes (node ∷ more)) in
-    (
+    omega (arith, few, ap length is, length-append nodes (node ∷ more)) in (
       placed_as nodes node true false false
           (and_from (comes_after (last_path nodes) node.path) (has_parent nodes node.path) after
           parents.0)
-          (below_children (siblings nodes node.path) room) (below_ten (length nodes) short),
+          (low_children (siblings nodes node.path) room) (below_ten (length nodes) short),
       next_from more (nodes ++ node ∷ []) whole node.path
           (is ∙ sym (append_assoc nodes (node ∷ []) more)) few all
           (sym (last-append nodes node [])) rises.1 parents.1,
@@ -339,8 +321,7 @@ short-under : (n : List ℕ) (k : ℕ) (nodes : List Listed) → is_name n ≡ t
     → AreShort (k + 1) (map (under n) nodes)
 short-under n k [] name all = tt
 short-under n k (node ∷ nodes) name all =
-    let short = all.3 in
-    (
+    let short = all.3 in (
       and_from (is_name n) (are_names node.path) name all.0,
       all.1,
       omega arith,
@@ -356,8 +337,7 @@ short_listed (kid n text inside rest) words =
     let both = and_parts (is_name n) (is_text text) inner.0 in
     let high = max (height_below inside + 1) (height_below rest) in
     let within = short-under n (height_below inside) (listed_below inside) both.0
-    (short_listed inside inner.1) in
-    (
+    (short_listed inside inner.1) in (
       and_from (is_name n) true both.0 refl,
       both.1,
       omega arith,

@@ -1,6 +1,6 @@
 -- What the loop over the lines of a dump keeps: the nodes of the tree so far, with those of the
 -- lines that are left, are all nodes.
-use Rattle.std.proofs.Common.{◌≡◌, ℕ, ◌+◌, ◌<◌, ◌≤◌, Bool, true, false, cond, List, [], ◌∷◌, length}
+use Rattle.std.proofs.Common.{◌≡◌, ℕ, ◌+◌, ◌<◌, Bool, true, false, cond, List, [], ◌∷◌, length}
 use Rattle.std.proofs.Common.{Option, Some, None, Result, Ok, Err, Bor, refl, sym, ap, subst, ◌∙◌}
 use Rattle.std.proofs.Common.{arith, eqb}
 use Rattle.std.specs.Prelude.{MatchOption, is_some, ◌==◌}
@@ -14,9 +14,9 @@ use Rattle.version_dump.specs.Answers.{Gives, IsGrown, Lists, Reads, Turns, erro
 use Rattle.version_dump.specs.Answers.{lines_left}
 use Rattle.version_dump.specs.Contents.{contents_in, contents_of, ended, fault_at, has_feed, is_end}
 use Rattle.version_dump.specs.Contents.{nodes_from, nodes_of, turn_of, with_head, with_nodes}
-use Rattle.version_dump.specs.Contents.{with_root, with_turn, Contents}
+use Rattle.version_dump.specs.Contents.{with_root, with_turn}
 use Rattle.version_dump.specs.Line.{head_of, line_of, root_line_of}
-use Rattle.version_dump.specs.Listing.{Listed, listed, root_of}
+use Rattle.version_dump.specs.Listing.{Listed, listed}
 use Rattle.version_dump.specs.Order.{last_path}
 use Rattle.version_dump.specs.declared.fault.LineError.{LineError}
 use Rattle.version_dump.specs.declared.fault.LineError.TheVariants as line
@@ -24,8 +24,7 @@ use Rattle.version_dump.specs.declared.fault.LoadError.{LoadError}
 use Rattle.version_dump.specs.declared.fault.LoadError.TheVariants as load
 use Rattle.version_dump.specs.declared.fault.LoadFault.{LoadFault}
 use Rattle.version_dump.specs.declared.fault.LoadKind.{LoadKind}
-use Rattle.version_dump.specs.declared.fault.LoadKind.TheVariants.{BadEnd, NoHead}
-use Rattle.version_dump.specs.declared.loader.Loaded.{Loaded}
+use Rattle.version_dump.specs.declared.fault.LoadKind.TheVariants.{BadEnd}
 
 -- how long the lines may still be
 abbrev pub left : Option (Bor (List ℕ)) → ℕ

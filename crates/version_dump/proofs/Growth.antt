@@ -1,24 +1,22 @@
 -- A tree with one node more at its right edge.
-use Rattle.std.proofs.Common.{◌≡◌, ℕ, ◌+◌, ◌<◌, ◌≤◌, Bool, true, false, cond, List, [], ◌∷◌, ◌++◌}
-use Rattle.std.proofs.Common.{map, Option, Some, None, Result, Ok, Err, refl, sym, ap, subst, ◌∙◌}
+use Rattle.std.proofs.Common.{◌≡◌, ℕ, ◌<◌, ◌≤◌, Bool, true, false, cond, List, [], ◌∷◌, ◌++◌}
+use Rattle.std.proofs.Common.{map, None, Ok, Err, refl, sym, ap, subst, ◌∙◌}
 use Rattle.std.proofs.Common.{append-nil, append_assoc, arith}
-use Rattle.std.specs.Prelude.{nat_lt, bytes_eq}
-use Rattle.std.specs.declared.cmp.Ordering.{Ordering}
+use Rattle.std.specs.Prelude.{nat_lt}
 use Rattle.std.specs.declared.cmp.Ordering.TheVariants.{Less, Equal, Greater}
 use Rattle.std.proofs.lemmas.Bool.Decides.{nat_tests}
 use Rattle.std.proofs.lemmas.List.{map-append}
-use Rattle.doc_tree.specs.declared.edit.EditFault.{EditFault}
 use Rattle.doc_tree.specs.declared.edit.EditFault.TheVariants as fault
 use Rattle.doc_tree.specs.Edits.{begun, edit_along, edited, placed, start, with_child, with_text}
-use Rattle.doc_tree.specs.Lawful.{AreOrderly, IsOrdered}
+use Rattle.doc_tree.specs.Lawful.{IsOrdered}
 use Rattle.doc_tree.specs.Rows.{join, IsBelow}
 use Rattle.doc_tree.specs.Tree.{DocTree, Kids, no_kids, kid, empty, kid_count, name_cmp, by_order}
-use Rattle.doc_tree.specs.Tree.{child, put_child}
+use Rattle.doc_tree.specs.Tree.{put_child}
 use Rattle.doc_tree.proofs.Joined.{put_past}
 use Rattle.doc_tree.proofs.Rising.{less_turned}
 use Rattle.version_dump.specs.Listing.{Listed, listed, listed_below, root_of, under}
 use Rattle.version_dump.specs.Order.{Path, is_empty, is_next, is_sibling, siblings}
-use Rattle.version_dump.proofs.Edges.{Edge, bare, edge, edge_of, last_way, last_way-join}
+use Rattle.version_dump.proofs.Edges.{bare, edge, edge_of, last_way, last_way-join}
 use Rattle.version_dump.proofs.Edges.{below_child, below_join, below_more, last_child, ordered_last}
 use Rattle.version_dump.proofs.Listings.{count-append, listed_join, siblings_below, siblings_root}
 use Rattle.version_dump.proofs.Listings.{siblings_under}
@@ -88,7 +86,7 @@ siblings_front n k path (kid m text inside rest) below =
     omega (
       arith,
       count-append (λ node. is_sibling (n ∷ k ∷ path) node.path)
-      (map (under m) (root_of text ∷ listed_below inside)) (listed_below rest),
+          (map (under m) (root_of text ∷ listed_below inside)) (listed_below rest),
       none,
       siblings_front n k path rest below.1,
     )

@@ -1,8 +1,8 @@
 -- The nodes of a tree in the order of their lines, along rows of children and below one child.
 use Rattle.std.proofs.Common.{◌≡◌, ℕ, ◌+◌, Bool, true, false, ◌&&◌, cond, List, [], ◌∷◌, ◌++◌, map}
-use Rattle.std.proofs.Common.{length, refl, sym, ap, ◌∙◌, append_assoc, append-nil, arith}
+use Rattle.std.proofs.Common.{length, refl, sym, ap, ◌∙◌, append_assoc, arith}
 use Rattle.std.specs.Prelude.{◌||◌, count_by, bytes_eq}
-use Rattle.std.specs.List.{list_any, sum_by}
+use Rattle.std.specs.List.{list_any}
 use Rattle.std.proofs.lemmas.List.{length-append}
 use Rattle.std.proofs.lemmas.List.Sums.{sum_by-append, sum_by-cons}
 use Rattle.doc_tree.specs.Rows.{join}
@@ -83,7 +83,7 @@ empties (kid name text inside rest) =
     omega (
       arith,
       count-append (λ node. is_empty node.path)
-      (map (under name) (root_of text ∷ listed_below inside)) (listed_below rest),
+          (map (under name) (root_of text ∷ listed_below inside)) (listed_below rest),
       none_is_empty name (root_of text ∷ listed_below inside),
       empties rest,
     )
@@ -104,7 +104,7 @@ siblings_root n (kid name text inside rest) =
     omega (
       arith,
       count-append (λ node. is_sibling (n ∷ []) node.path)
-      (map (under name) (root_of text ∷ listed_below inside)) (listed_below rest),
+          (map (under name) (root_of text ∷ listed_below inside)) (listed_below rest),
       siblings_one n name text inside,
       siblings_root n rest,
     )

@@ -1,14 +1,14 @@
 -- Bytes without a certain one: where lines, words and names end.
-use Rattle.std.proofs.Common.{◌≡◌, ℕ, zero, suc, ◌+◌, ◌<◌, ◌≤◌, ◌^◌, Bool, true, false, not, ◌&&◌}
-use Rattle.std.proofs.Common.{cond, eqb, List, [], ◌∷◌, ◌++◌, length, take, drop, Some, None, refl}
-use Rattle.std.proofs.Common.{sym, ap, subst, ◌∙◌, append_assoc, arith, IsTrue}
+use Rattle.std.proofs.Common.{◌≡◌, ℕ, suc, ◌+◌, ◌<◌, ◌≤◌, ◌^◌, Bool, true, false, not, ◌&&◌}
+use Rattle.std.proofs.Common.{cond, List, [], ◌∷◌, ◌++◌, length, take, drop, refl}
+use Rattle.std.proofs.Common.{sym, ap, subst, ◌∙◌, append_assoc, arith}
 use Rattle.std.specs.Prelude.{◌==◌, ◌⊎◌, decimal}
 use Rattle.std.proofs.Common.{inl, inr}
-use Rattle.std.specs.List.{flat_map, join_with_byte, list_all, onto_first, position_or_len}
+use Rattle.std.specs.List.{flat_map, list_all, onto_first, position_or_len}
 use Rattle.std.specs.List.{slice_split}
 use Rattle.std.specs.Str.Parse.{AllDigits}
 use Rattle.std.proofs.Math.Seq.{drop-append_seam, take-append_seam}
-use Rattle.std.proofs.lemmas.Bool.{and_from, and_parts, eqb-true, eqb-false}
+use Rattle.std.proofs.lemmas.Bool.{and_from, and_parts, eqb-true}
 use Rattle.std.proofs.lemmas.Bool.Decides.{nat_tests}
 use Rattle.std.proofs.lemmas.Fmt.{decimal_is_IsNumeral}
 use Rattle.std.proofs.lemmas.List.{take-append-drop}
@@ -116,8 +116,7 @@ name_bytes name is = (and_parts _ (list_all is_name_byte name) is).1
 pub name_lacks : (name : List ℕ) → is_name name ≡ true
     → (lacks 10 name ≡ true) × (lacks 32 name ≡ true) × (lacks 47 name ≡ true)
 name_lacks name is =
-    let bytes = name_bytes name is in
-    (
+    let bytes = name_bytes name is in (
       all_pass is_name_byte (λ b. not (b == 10)) name (λ b h. (name_byte b h).0) bytes,
       all_pass is_name_byte (λ b. not (b == 32)) name (λ b h. (name_byte b h).1) bytes,
       all_pass is_name_byte (λ b. not (b == 47)) name (λ b h. (name_byte b h).2) bytes,
@@ -131,8 +130,7 @@ path_lacks (n ∷ []) all =
 path_lacks (n ∷ m ∷ path) all =
     let parts = and_parts (is_name n) (are_names (m ∷ path)) all in
     let one = name_lacks n parts.0 in
-    let later = path_lacks (m ∷ path) parts.1 in
-    (
+    let later = path_lacks (m ∷ path) parts.1 in (
       lacks-append 10 n (47 ∷ path_text (m ∷ path)) one.0 later.0,
       lacks-append 32 n (47 ∷ path_text (m ∷ path)) one.1 later.1,
     )
@@ -152,18 +150,18 @@ escaped_lacks b =
     (cond (b == 9) (92 ∷ 116 ∷ []) (cond (b == 10) (92 ∷ 110 ∷ []) (b ∷ []))))) ≡ true) [
       | true ↦ refl
       | false ↦ elim (b == 92) as (λ t. lacks 10 (cond t (92 ∷ 92 ∷ [])
-        (cond (b == 9) (92 ∷ 116 ∷ []) (cond (b == 10) (92 ∷ 110 ∷ []) (b ∷ [])))) ≡ true) [
-        | true ↦ refl
-        | false ↦ elim (b == 9) as (λ t. lacks 10 (cond t (92 ∷ 116 ∷ [])
-          (cond (b == 10) (92 ∷ 110 ∷ []) (b ∷ []))) ≡ true) [
-          | true ↦ refl
-          | false ↦ elim (b == 10) as (λ t. (b == 10) ≡ t
-            → lacks 10 (cond t (92 ∷ 110 ∷ []) (b ∷ [])) ≡ true) [
-            | true ↦ λ e. refl
-            | false ↦ λ e. ap (λ t. not t && true) e
-          ] refl
-        ]
-      ]
+          (cond (b == 9) (92 ∷ 116 ∷ []) (cond (b == 10) (92 ∷ 110 ∷ []) (b ∷ [])))) ≡ true) [
+            | true ↦ refl
+            | false ↦ elim (b == 9) as (λ t. lacks 10 (cond t (92 ∷ 116 ∷ [])
+                (cond (b == 10) (92 ∷ 110 ∷ []) (b ∷ []))) ≡ true) [
+                  | true ↦ refl
+                  | false ↦ elim (b == 10) as (λ t. (b == 10) ≡ t
+                      → lacks 10 (cond t (92 ∷ 110 ∷ []) (b ∷ [])) ≡ true) [
+                        | true ↦ λ e. refl
+                        | false ↦ λ e. ap (λ t. not t && true) e
+                      ] refl
+                ]
+          ]
     ]
 
 inside_lacks : (text : List ℕ) → lacks 10 (flat_map escaped text) ≡ true

@@ -1,6 +1,6 @@
 -- What a node line comes to behind the lines of a tree.
-use Rattle.std.proofs.Common.{◌≡◌, ◌≢◌, ℕ, ◌+◌, ◌<◌, ◌≤◌, Bool, true, false, not, ◌&&◌, cond, List}
-use Rattle.std.proofs.Common.{[], ◌∷◌, ◌++◌, length, Option, Some, None, Result, Ok, Err, refl, sym}
+use Rattle.std.proofs.Common.{◌≡◌, ℕ, ◌+◌, ◌<◌, ◌≤◌, Bool, true, false, not, ◌&&◌, cond, List}
+use Rattle.std.proofs.Common.{[], ◌∷◌, ◌++◌, length, Option, Some, Result, Ok, Err, refl, sym}
 use Rattle.std.proofs.Common.{ap, subst, ◌∙◌, arith}
 use Rattle.std.specs.Prelude.{nat_le, nat_lt}
 use Rattle.std.proofs.lemmas.Bool.Decides.{nat_tests}
@@ -16,7 +16,7 @@ use Rattle.version_dump.specs.Line.{line_of}
 use Rattle.version_dump.specs.declared.fault.LineError.{LineError}
 use Rattle.version_dump.specs.declared.fault.LineError.TheVariants as line
 use Rattle.version_dump.specs.declared.line.Held.{Held}
-use Rattle.version_dump.specs.Listing.{Listed, listed, root_of, listed_below}
+use Rattle.version_dump.specs.Listing.{Listed, listed}
 use Rattle.version_dump.specs.Order.{Path, comes_after, follows, has_parent, is_next, last_path}
 use Rattle.version_dump.specs.Order.{siblings}
 use Rattle.version_dump.specs.declared.fault.LoadKind.{LoadKind}
@@ -63,19 +63,19 @@ growing last path text t grown next =
     grow path text t.text t.kids grown.lawful.nodes
     (ap (λ (l : Path). is_next l path) (sym (last_listed t.text t.kids) ∙ sym grown.last) ∙ next)
 
-low_ten : (n : ℕ) → nat_le 10_000 n ≡ false → n < 10_000
+pub low_ten : (n : ℕ) → nat_le 10_000 n ≡ false → n < 10_000
 low_ten n h = grind (arith, nat_tests)
 
 high_ten : (n : ℕ) → 10_000 ≤ n → nat_le 10_000 n ≡ true
 high_ten n h = grind (arith, nat_tests)
 
-low_children : (n : ℕ) → n < 256 → nat_le 256 n ≡ false
+pub low_children : (n : ℕ) → n < 256 → nat_le 256 n ≡ false
 low_children n h = grind (arith, nat_tests)
 
 high_children : (n : ℕ) → 256 ≤ n → nat_le 256 n ≡ true
 high_children n h = grind (arith, nat_tests)
 
-below_ten : (n : ℕ) → n < 10_000 → nat_le 10_000 n ≡ false
+pub below_ten : (n : ℕ) → n < 10_000 → nat_le 10_000 n ≡ false
 below_ten n h = grind (arith, nat_tests)
 
 many_is : (last path : Path) (text : List ℕ) (t : DocTree) → IsGrown last t
@@ -198,8 +198,7 @@ more_is : (last path : Path) (text : List ℕ) (t g : DocTree) → IsGrown last 
     → is_next last path ≡ true → siblings (listed t) path < 256 → count t < 10_000
     → listed g ≡ listed t ++ record { path = path; text = text } ∷ [] → IsMore path text t g
 more_is last path text t g grown next room few list =
-    let node : Listed = record { path = path; text = text } in
-    (
+    let node : Listed = record { path = path; text = text } in (
       placed_as (listed t) node true false false (next_is last path t grown ∙ next)
           (low_children (siblings (listed t) path) room)
           (below_ten (length (listed t)) (omega (arith, few, count_listed t)))

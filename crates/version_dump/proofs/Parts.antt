@@ -1,15 +1,15 @@
 -- What a line holds, and which line holds it.
-use Rattle.std.proofs.Common.{◌≡◌, ℕ, ◌+◌, ◌<◌, ◌≤◌, ◌^◌, Bool, true, false, not, ◌&&◌, cond, eqb, List}
-use Rattle.std.proofs.Common.{[], ◌∷◌, ◌++◌, length, take, drop, get_or, Option, Some, None, Result, Ok}
+use Rattle.std.proofs.Common.{◌≡◌, ℕ, ◌<◌, ◌≤◌, ◌^◌, Bool, true, false, not, ◌&&◌, cond, eqb, List}
+use Rattle.std.proofs.Common.{[], ◌∷◌, ◌++◌, length, take, drop, get_or, Option, Some, None, Ok}
 use Rattle.std.proofs.Common.{Err, refl, sym, ap, subst, ◌∙◌, arith}
-use Rattle.std.specs.Prelude.{◌==◌, ◌||◌, ◌⊎◌, bytes_eq, codes, decimal, nat_le, ok_or}
+use Rattle.std.specs.Prelude.{◌==◌, ◌||◌, bytes_eq, codes, decimal, nat_le}
 use Rattle.std.proofs.Common.{⊎_elim}
 use Rattle.std.specs.Char.{is_ascii_digit}
 use Rattle.std.specs.Cmp.Lexicographic.{bytes_decides}
-use Rattle.std.specs.List.{flat_map, list_all}
+use Rattle.std.specs.List.{list_all}
 use Rattle.std.specs.Option.{option_and_then}
 use Rattle.std.specs.Str.Parse.{AllDigits, digits_value}
-use Rattle.std.proofs.lemmas.Bool.{and_from, and_parts, and_right, cond-true, or_parts}
+use Rattle.std.proofs.lemmas.Bool.{and_from, and_parts, and_right, cond-true}
 use Rattle.std.proofs.lemmas.Bool.Decides.{nat_tests}
 use Rattle.std.proofs.lemmas.Fmt.{decimal-digits_value, decimal_digit, decimal_is_IsNumeral}
 use Rattle.std.proofs.lemmas.Fmt.{first_decimal, length-decimal-le}
@@ -21,15 +21,13 @@ use Rattle.doc_tree.specs.Words.{are_names, is_path, is_text, is_text_byte, path
 use Rattle.doc_tree.specs.Words.{pieces, text_of}
 use Rattle.line_words.specs.Cut.{rest_of, word_of}
 use Rattle.line_words.specs.Numbers.{are_digits, decimal_of, digits_of, is_shortest}
-use Rattle.quoted_text.specs.Quoted.{escaped, quoted_of, unquoted_of}
+use Rattle.quoted_text.specs.Quoted.{quoted_of, unquoted_of}
 use Rattle.quoted_text.proofs.Laws.{from_quote, read_back}
 use Rattle.version_dump.specs.Dump.{end_text, head_text, node_text, path_text, root_text}
 use Rattle.version_dump.specs.Line.{begins_digit, begins_end, end_in, head_of, is_missing, line_of}
 use Rattle.version_dump.specs.Line.{low_version, node_in, node_with, root_in, root_line_of, text_in}
 use Rattle.version_dump.specs.Line.{with_feed}
-use Rattle.version_dump.specs.declared.fault.LoadKind.{LoadKind}
-use Rattle.version_dump.specs.declared.fault.LoadKind.TheVariants.{BadEnd, BadLine}
-use Rattle.version_dump.specs.declared.line.Held.{Held}
+use Rattle.version_dump.specs.declared.fault.LoadKind.TheVariants.{BadEnd}
 use Rattle.version_dump.specs.declared.line.Held.TheVariants as held
 use Rattle.version_dump.proofs.Marks.{path_lacks, path_pieces, rest_cases, word_and_rest}
 use Rattle.version_dump.proofs.Marks.{word_first, word_rest}
@@ -58,8 +56,7 @@ text_from : (read : Option (List ℕ)) (bytes text : List ℕ) → unquoted_of b
     → (bytes ≡ quoted_of text) × (is_text text ≡ true)
 text_from None bytes text is h = cc
 text_from (Some inner) bytes text is h =
-    let both = text_some inner text h in
-    (
+    let both = text_some inner text h in (
       (from_quote bytes inner is).0 ∙ ap quoted_of both.0,
       both.1,
     )
@@ -83,8 +80,7 @@ path_back bytes path is =
     → cond b (Some (pieces bytes)) None ≡ Some path
     → (bytes ≡ path_text path) × (is_path path ≡ true)) [
       | true ↦ λ e h. (
-          let same : pieces bytes ≡ path = cc in
-          (
+          let same : pieces bytes ≡ path = cc in (
             sym (join_with_byte-slice_split 47 bytes) ∙ ap path_text same,
             ap is_path (sym same) ∙ e,
           )
@@ -260,8 +256,7 @@ root_from line text is =
     → (line ≡ root_text text) × (is_text text ≡ true)) [
       | true ↦ λ e h. (
           let front = (bytes_decides (take 2 line) (codes ". ")).0 e in
-          let back = text_back (drop 2 line) text h in
-          (
+          let back = text_back (drop 2 line) text h in (
             sym (take-append-drop 2 line) ∙ ap (λ f. f ++ drop 2 line) front
                 ∙ ap (λ r. codes ". " ++ r) back.0,
             back.1,
@@ -414,8 +409,7 @@ head_back line v is =
     → (line ≡ head_text v) × (v ≤ 1_000_000)) [
       | true ↦ λ e h. (
           let front = (bytes_decides (take 12 line) (codes "docs-dump 1 ")).0 e in
-          let low = low_back (decimal_of 7 (drop 12 line)) v h in
-          (
+          let low = low_back (decimal_of 7 (drop 12 line)) v h in (
             sym (take-append-drop 12 line) ∙ ap (λ f. f ++ drop 12 line) front
                 ∙ ap (λ r. codes "docs-dump 1 " ++ r) (decimal_back (drop 12 line) v low.1 low.0),
             low.1,

@@ -5,7 +5,6 @@ use Rattle.std.proofs.Common.{ap, subst, ◌∙◌, append_assoc, append-nil, ar
 use Rattle.std.specs.Prelude.{nat_le}
 use Rattle.std.specs.List.{flat_map, join_with_byte}
 use Rattle.std.proofs.lemmas.Bool.{and_from, and_parts}
-use Rattle.std.proofs.lemmas.Bool.Decides.{nat_tests}
 use Rattle.std.proofs.lemmas.Grind.{flat_map-append}
 use Rattle.std.proofs.lemmas.List.{length-append}
 use Rattle.std.proofs.lemmas.List.Splits.{join_with_byte-slice_split}
@@ -23,13 +22,14 @@ use Rattle.version_dump.specs.Listing.{Listed, listed, listed_below, root_of, un
 use Rattle.version_dump.specs.Order.{Path, follows, siblings}
 use Rattle.version_dump.specs.declared.fault.LoadFault.{LoadFault}
 use Rattle.version_dump.specs.declared.fault.LoadKind.{LoadKind}
-use Rattle.version_dump.specs.declared.fault.LoadKind.TheVariants.{BadEnd, Big, Many, NoHead}
+use Rattle.version_dump.specs.declared.fault.LoadKind.TheVariants.{BadEnd, Big, Many}
 use Rattle.version_dump.specs.declared.fault.LoadKind.TheVariants.{NoOrder}
 use Rattle.version_dump.specs.declared.line.Held.{Held}
 use Rattle.version_dump.specs.declared.line.Held.TheVariants as held
 use Rattle.version_dump.proofs.Fronts.{fed_lines}
 use Rattle.version_dump.proofs.Listings.{count_listed}
 use Rattle.version_dump.proofs.Marks.{end_lacks, head_lacks, line_first, node_lacks, root_lacks}
+use Rattle.version_dump.proofs.Nexts.{low_ten}
 use Rattle.version_dump.proofs.Parts.{end_line_there, head_back, head_there, line_end_back}
 use Rattle.version_dump.proofs.Parts.{line_node_back, node_line_there, root_back, root_there}
 
@@ -92,9 +92,6 @@ ended_back nodes all lines more is =
       | true ↦ λ e h. (last_lines lines more e, cc)
       | false ↦ λ e h. cc
     ] refl is
-
-low_ten : (n : ℕ) → nat_le 10_000 n ≡ false → n < 10_000
-low_ten n h = grind (arith, nat_tests)
 
 placed_back : (nodes all : List Listed) (node : Listed) (lines : List (List ℕ))
     (later : List Listed → Result (List Listed) LoadFault)

@@ -1,6 +1,6 @@
 -- One line of a dump without its line feed: what it holds, or what is at fault in it.
 -- Source: this project's own.
-use Rattle.std.specs.Prelude.{ℕ, Bool, true, false, ◌&&◌, ◌||◌, ◌==◌, List, [], ◌∷◌, Option, Some}
+use Rattle.std.specs.Prelude.{ℕ, Bool, true, false, ◌&&◌, ◌||◌, List, [], ◌∷◌, Option, Some}
 use Rattle.std.specs.Prelude.{None, Result, Ok, Err, ok_or, take, drop, nat_le, codes, bytes_eq}
 use Rattle.std.specs.Prelude.{if◌then◌else◌}
 use Rattle.std.specs.Char.{is_ascii_digit}

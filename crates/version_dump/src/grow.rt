@@ -92,6 +92,7 @@ pub(crate) fn lone_node(alloc: Global, text: &Text) -> Result<Tree, NoMemory>
     };
     let above = match Tree::empty(alloc)?.set_text(alloc, &path, text) {
         Ok(above) => above,
+        // no limit is near
         Err(_) => return Err(NoMemory),
     };
     match above.node(&path) {

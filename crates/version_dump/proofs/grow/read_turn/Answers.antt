@@ -1,4 +1,4 @@
-use Rattle.std.proofs.Common.{Ok, ap, ◌∙◌}
+use Rattle.std.proofs.Common.{Ok}
 use Rattle.version_dump.specs.declared.line.Held.TheVariants as held
 use Rattle.version_dump.proofs.Nexts.{faulty_turn, turned}
 use Rattle.version_dump.proofs.grow.read_turn.Goals as goal

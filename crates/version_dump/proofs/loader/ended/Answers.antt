@@ -1,4 +1,4 @@
-use Rattle.std.proofs.Common.{◌≡◌, ◌+◌, length, false, Err, sym, subst, ◌∙◌, arith}
+use Rattle.std.proofs.Common.{◌≡◌, ◌+◌, length, false, Err, sym, subst, arith}
 use Rattle.version_dump.specs.Answers.{Lists, lines_left}
 use Rattle.version_dump.specs.Contents.{ended, is_end}
 use Rattle.version_dump.specs.Listing.{listed}

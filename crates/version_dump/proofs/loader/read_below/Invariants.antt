@@ -1,4 +1,4 @@
-use Rattle.std.proofs.Common.{◌≡◌, ◌+◌, length, Bor, Option, None, Some, List, ℕ}
+use Rattle.std.proofs.Common.{◌≡◌}
 use Rattle.version_dump.specs.Answers.{IsGrown, lines_left, names_in}
 use Rattle.version_dump.specs.Contents.{nodes_from}
 use Rattle.version_dump.specs.Listing.{listed}
