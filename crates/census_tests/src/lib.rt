@@ -1,0 +1,8 @@
+//! What no clause says of the crates about closed heaps: each public call on its happy path, and the
+//! texts and counts that were worked out by hand.
+//!
+//! Reading order: `texts`.
+#![tactic(auto)]
+
+#[cfg(test)]
+mod texts;
