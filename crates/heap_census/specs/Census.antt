@@ -38,3 +38,7 @@ pub record IsCensus (h : Heap) (x : Census) : Type 0 where
   pub texts : IsCountOf (HasRole h role.Text) h.cells x.texts
   pub shared : IsCountOf (IsShared h) h.cells x.shared
   pub floating : IsCountOf (IsFloating h) h.cells x.floating
+
+-- each cell is free, the anchor, or of one of the other sorts
+abbrev pub AddsUp : Census → Type 0
+AddsUp x = x.cells ≡ x.free + 1 + x.versions + x.nodes + x.entries + x.texts + x.floating

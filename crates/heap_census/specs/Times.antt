@@ -1,6 +1,6 @@
 -- Fields looked at in order, and how often each cell was named by them.
 -- Source: this project's.
-use Rattle.std.specs.Prelude.{ℕ, ◌≡◌, ◌<◌, ◌⊎◌, Bool, true, false, List, length, nat_lt}
+use Rattle.std.specs.Prelude.{ℕ, ◌≡◌, ◌<◌, ◌↔◌, ◌⊎◌, Bool, true, false, List, length, nat_lt}
 use Rattle.std.specs.Prelude.{slice_index_or, slice_set, if◌then◌else◌}
 use Rattle.heap_census.specs.declared.naming.Times.{Times}
 use Rattle.heap_census.specs.declared.naming.Times.TheVariants as times
@@ -49,3 +49,8 @@ Tells times.Often h cell field d = IsShared h d
 abbrev pub Told : Heap → ℕ → ℕ → List Times → Type 0
 Told h cell field named =
     (d : ℕ) → d < length named → Tells (slice_index_or named d never) h cell field d
+
+-- the cells that are shared are those that are named often
+abbrev pub TellsShared : Heap → List Times → Type 0
+TellsShared h named =
+    (d : ℕ) → d < length named → (is_often (slice_index_or named d never) ≡ true) ↔ IsShared h d

@@ -37,11 +37,12 @@ fn fits_all<C: Cells>(cells: &C, roles: Roles, cell: u32) -> bool
         → (r : RoleOf) → has_role roles r ≡ true → FitsAs h r cell }
     ensures misfit { (h : Heap) → C.shows cells.now h → result ≡ false → Misfits h roles cell }
 {
-    fits_as(cells, roles, cell, Role::Anchor)
-        && fits_as(cells, roles, cell, Role::Version)
-        && fits_as(cells, roles, cell, Role::Node)
-        && fits_as(cells, roles, cell, Role::Entry)
-        && fits_as(cells, roles, cell, Role::Text)
+    let boxes =
+        fits_as(cells, roles, cell, Role::Anchor) & fits_as(cells, roles, cell, Role::Version);
+    let records = fits_as(cells, roles, cell, Role::Node)
+        & fits_as(cells, roles, cell, Role::Entry)
+        & fits_as(cells, roles, cell, Role::Text);
+    boxes & records
 }
 
 // Whether the cell is fit for a role, if it has that.

@@ -4,7 +4,7 @@ ghost use Rattle.heap_census.specs.Counts.{count_below};
 ghost use Rattle.heap_census.specs.Flags.{floats, has_role, no_roles};
 ghost use Rattle.heap_census.specs.Heap.{Heap, is_free};
 ghost use Rattle.heap_census.specs.Times.{is_often, never};
-ghost use Rattle.std.specs.Prelude.{length, slice_index_or, ◌≡◌, ◌≤◌};
+ghost use Rattle.std.specs.Prelude.{length, slice_index_or, ◌<◌, ◌^◌, ◌≡◌};
 
 use crate::reading::Cells;
 use crate::checking::is_free;
@@ -15,6 +15,7 @@ use cell_words::Colour;
 
 /// How many cells have the role.
 pub(crate) fn count_role(marks: &[Roles], role: Role) -> u64
+    requires { length marks.now < 2 ^ 32 }
     ensures { result ≡ count_below (λ c. has_role (slice_index_or marks.now c no_roles) role) (length marks.now) }
 {
     let mut count = 0;
@@ -62,6 +63,7 @@ fn is_floating(colour: Colour, roles: Roles) -> bool
 
 /// How many cells are named often.
 pub(crate) fn count_shared(times: &[Times]) -> u64
+    requires { length times.now < 2 ^ 32 }
     ensures { result ≡ count_below (λ c. is_often (slice_index_or times.now c never)) (length times.now) }
 {
     let mut count = 0;

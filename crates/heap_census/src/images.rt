@@ -1,10 +1,10 @@
 //! A closed heap in numbers and as text.
 ghost use Rattle.core_machine.specs.State.{State};
-ghost use Rattle.heap_census.specs.Census.{IsCensus, IsFaulty, IsSound};
+ghost use Rattle.heap_census.specs.Census.{AddsUp, IsCensus, IsFaulty, IsSound};
 ghost use Rattle.heap_census.specs.Heap.{heap_of};
 ghost use Rattle.heap_census.specs.ImageText.{image_text};
 ghost use Rattle.heap_table.specs.Images.{Shows};
-ghost use Rattle.std.specs.Prelude.{IfOk, IfSome, MatchOption, ◌+◌, ◌≡◌};
+ghost use Rattle.std.specs.Prelude.{IfOk, IfSome, MatchOption, ◌≡◌};
 
 use crate::numbers::Census;
 use crate::taking::census_of;
@@ -20,7 +20,7 @@ pub fn census(alloc: Global, image: &Image) -> Result<Option<Census>, NoMemory>
     ensures counts { IfOk result (λ found. IfSome found (λ x. (s : State) → Shows image.now s
         → IsCensus (heap_of s) x)) }
     ensures sum { IfOk result (λ found. IfSome found (λ x. (s : State) → Shows image.now s
-        → x.cells ≡ x.free + 1 + x.versions + x.nodes + x.entries + x.texts + x.floating)) }
+        → AddsUp x)) }
 {
     census_of(alloc, image)
 }

@@ -1,10 +1,9 @@
 //! How often the cells with a role name each cell.
 ghost use Rattle.heap_census.specs.Heap.{Heap};
-ghost use Rattle.heap_census.specs.Names.{IsShared};
 ghost use Rattle.heap_census.specs.Roles.{HasRole, TellsRoles};
-ghost use Rattle.heap_census.specs.Times.{Told, is_often, more_often, never, with_name};
+ghost use Rattle.heap_census.specs.Times.{TellsShared, Told, is_often, more_often, with_name};
 ghost use Rattle.heap_census.specs.declared.layouts.Role.{Role as RoleOf};
-ghost use Rattle.std.specs.Prelude.{IfOk, ℕ, length, slice_index_or, true, ◌+◌, ◌<◌, ◌≡◌, ◌↔◌};
+ghost use Rattle.std.specs.Prelude.{IfOk, length, ◌+◌, ◌<◌, ◌≡◌};
 
 use crate::reading::Cells;
 use crate::flags::Roles;
@@ -47,7 +46,7 @@ pub(crate) fn times_named<C: Cells>(
     requires { length marks.now ≡ C.size cells.now }
     ensures size { IfOk result (λ times. length times.items ≡ C.size cells.now) }
     ensures shared { IfOk result (λ times. (h : Heap) → C.shows cells.now h → TellsRoles h marks.now
-        → (d : ℕ) → (is_often (slice_index_or times.items d never) ≡ true) ↔ IsShared h d) }
+        → TellsShared h times.items) }
 {
     let count = cells.cells();
     let mut times = vec![in alloc; Times::Never; count as usize]?;

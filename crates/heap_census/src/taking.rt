@@ -1,7 +1,9 @@
 //! Taking a census.
-ghost use Rattle.heap_census.specs.Census.{IsCensus, IsFaulty, IsSound};
+ghost use Rattle.heap_census.specs.Census.{AddsUp, IsCensus, IsFaulty, IsSound};
 ghost use Rattle.heap_census.specs.Heap.{Heap};
-ghost use Rattle.std.specs.Prelude.{IfOk, IfSome, MatchOption, ◌+◌, ◌≡◌};
+ghost use Rattle.heap_census.specs.Roles.{TellsRoles};
+ghost use Rattle.heap_census.specs.Times.{TellsShared};
+ghost use Rattle.std.specs.Prelude.{IfOk, IfSome, MatchOption, length, ◌≡◌};
 
 use crate::checking::is_sound;
 use crate::counting::{count_floating, count_free, count_role, count_shared};
@@ -22,7 +24,7 @@ pub fn census_of<C: Cells>(alloc: Global, cells: &C) -> Result<Option<Census>, N
     ensures counts { IfOk result (λ found. IfSome found (λ x. (h : Heap) → C.shows cells.now h
         → IsCensus h x)) }
     ensures sum { IfOk result (λ found. IfSome found (λ x. (h : Heap) → C.shows cells.now h
-        → x.cells ≡ x.free + 1 + x.versions + x.nodes + x.entries + x.texts + x.floating)) }
+        → AddsUp x)) }
 {
     let marks = find_roles(alloc, cells)?;
     if !is_sound(cells, &marks) {
@@ -32,7 +34,12 @@ pub fn census_of<C: Cells>(alloc: Global, cells: &C) -> Result<Option<Census>, N
     Ok(Some(counted(cells, &marks, &times)))
 }
 
+// The numbers of a heap whose cells with a role have their layouts.
 fn counted<C: Cells>(cells: &C, marks: &[Roles], times: &[Times]) -> Census
+    requires marks { length marks.now ≡ C.size cells.now }
+    requires times { length times.now ≡ C.size cells.now }
+    ensures { (h : Heap) → C.shows cells.now h → TellsRoles h marks.now
+        → TellsShared h times.now → IsSound h → IsCensus h result × AddsUp result }
 {
     Census {
         cells: u64::from(cells.cells()),

@@ -39,5 +39,6 @@ fn line_of<C: Cells>(alloc: Global, cells: &C, cell: u32) -> Result<String, NoMe
     for i in 0..6 {
         line = with_field(alloc, line, cells.field(cell, i))?;
     }
-    format!(in alloc; "{line}\n")
+    line.push_str("\n")?;
+    Ok(line)
 }
