@@ -1,7 +1,8 @@
 -- What a look at each cell with a role shows of a heap.
 use Rattle.std.proofs.Common.{◌≡◌, ◌<◌, ◌+◌, ◌∙◌, ◌⊎◌, inl, inr, ℕ, true, false, List, length}
 use Rattle.std.proofs.Common.{get_or, refl, ap, subst, sym, arith}
-use Rattle.std.proofs.lemmas.Bool.{cases_lt, eqb-true}
+use Rattle.std.specs.Prelude.{Bool, ◌&&◌}
+use Rattle.std.proofs.lemmas.Bool.{and_cases, and_parts, cases_lt, eqb-true}
 use Rattle.cell_words.specs.declared.fields.Field.{Field}
 use Rattle.cell_words.specs.declared.fields.Field.TheVariants as field
 use Rattle.heap_census.specs.declared.flags.Roles.{Roles}
@@ -137,16 +138,44 @@ shape_more h r c i all here k lt = elim (cases_lt k i) [
       subst (λ n. fits (part_of r n) (h.field c n) ≡ true) (sym same) here
 ]
 
--- a cell that is fit for each of the five roles is fit for all that it has
-pub five_fit : (h : Heap) (m : Roles) (c : ℕ)
-    → (has_role m role.Anchor ≡ true → FitsAs h role.Anchor c)
-    → (has_role m role.Version ≡ true → FitsAs h role.Version c)
-    → (has_role m role.Node ≡ true → FitsAs h role.Node c)
-    → (has_role m role.Entry ≡ true → FitsAs h role.Entry c)
-    → (has_role m role.Text ≡ true → FitsAs h role.Text c)
+-- five tests, made all at once
+
+all_five : (a v n e t : Bool) → ((a && v) && ((n && e) && t)) ≡ true
+    → (a ≡ true) × (v ≡ true) × (n ≡ true) × (e ≡ true) × (t ≡ true)
+all_five a v n e t is =
+    let both = and_parts (a && v) ((n && e) && t) is in
+    let boxes = and_parts a v both.0 in
+    let records = and_parts (n && e) t both.1 in
+    let nodes = and_parts n e records.0 in
+    (boxes.0, boxes.1, nodes.0, nodes.1, records.1)
+
+one_of_five : (P : Type 0) (a v n e t : Bool) → ((a && v) && ((n && e) && t)) ≡ false
+    → (a ≡ false → P) → (v ≡ false → P) → (n ≡ false → P) → (e ≡ false → P) → (t ≡ false → P) → P
+one_of_five P a v n e t is in_a in_v in_n in_e in_t = elim (and_cases (a && v) ((n && e) && t) is) [
+  | inl boxes ↦ elim (and_cases a v boxes) [ inl is_a ↦ in_a is_a | inr is_v ↦ in_v is_v ]
+  | inr records ↦ elim (and_cases (n && e) t records) [
+    | inl nodes ↦ elim (and_cases n e nodes) [ inl is_n ↦ in_n is_n | inr is_e ↦ in_e is_e ]
+    | inr is_t ↦ in_t is_t
+  ]
+]
+
+-- what each test shows of its role
+pub record Tested (h : Heap) (m : Roles) (c : ℕ) (r : Role) (is : Bool) : Type 0 where
+  pub fit : is ≡ true → has_role m r ≡ true → FitsAs h r c
+  pub misfit : is ≡ false → Misfits h m c
+
+pub five_fit : (h : Heap) (m : Roles) (c : ℕ) (a v n e t : Bool) → Tested h m c role.Anchor a
+    → Tested h m c role.Version v → Tested h m c role.Node n → Tested h m c role.Entry e
+    → Tested h m c role.Text t → ((a && v) && ((n && e) && t)) ≡ true
     → (r : Role) → has_role m r ≡ true → FitsAs h r c
-five_fit h m c a v n e t role.Anchor = a
-five_fit h m c a v n e t role.Version = v
-five_fit h m c a v n e t role.Node = n
-five_fit h m c a v n e t role.Entry = e
-five_fit h m c a v n e t role.Text = t
+five_fit h m c a v n e t ta tv tn te tx is role.Anchor = ta.fit (all_five a v n e t is).0
+five_fit h m c a v n e t ta tv tn te tx is role.Version = tv.fit (all_five a v n e t is).1
+five_fit h m c a v n e t ta tv tn te tx is role.Node = tn.fit (all_five a v n e t is).2
+five_fit h m c a v n e t ta tv tn te tx is role.Entry = te.fit (all_five a v n e t is).3
+five_fit h m c a v n e t ta tv tn te tx is role.Text = tx.fit (all_five a v n e t is).4
+
+pub five_misfit : (h : Heap) (m : Roles) (c : ℕ) (a v n e t : Bool) → Tested h m c role.Anchor a
+    → Tested h m c role.Version v → Tested h m c role.Node n → Tested h m c role.Entry e
+    → Tested h m c role.Text t → ((a && v) && ((n && e) && t)) ≡ false → Misfits h m c
+five_misfit h m c a v n e t ta tv tn te tx is =
+    one_of_five (Misfits h m c) a v n e t is ta.misfit tv.misfit tn.misfit te.misfit tx.misfit

@@ -6,3 +6,4 @@ pub mod Lines
 pub mod Parts
 pub mod Named
 pub mod Roles
+pub mod Totals

@@ -1,9 +1,11 @@
--- One flag more.
-use Rattle.std.proofs.Common.{◌≡◌, ◌⊎◌, inl, inr, true, refl}
+-- One flag more, and whether there is one.
+use Rattle.std.specs.Prelude.{◌||◌}
+use Rattle.std.proofs.Common.{◌≡◌, ◌⊎◌, ◌∙◌, inl, inr, true, false, refl, sym}
+use Rattle.std.proofs.lemmas.Bool.{false≢true, or_cases, or_parts}
 use Rattle.heap_census.specs.declared.flags.Roles.{Roles}
 use Rattle.heap_census.specs.declared.layouts.Role.{Role}
 use Rattle.heap_census.specs.declared.layouts.Role.TheVariants as role
-use Rattle.heap_census.specs.Flags.{has_role, with_role}
+use Rattle.heap_census.specs.Flags.{has_any, has_role, with_role}
 
 pub has_with : (m : Roles) (r : Role) → has_role (with_role m r) r ≡ true
 has_with m role.Anchor = refl
@@ -66,3 +68,36 @@ had_before m role.Text role.Anchor h = inl h
 had_before m role.Text role.Version h = inl h
 had_before m role.Text role.Node h = inl h
 had_before m role.Text role.Entry h = inl h
+
+-- whether there is a flag at all
+
+pub some_role : (m : Roles) → has_any m ≡ true → (r : Role) × (has_role m r ≡ true)
+some_role m is = elim (or_cases (m.anchor || m.version || m.node || m.entry) m.text is) [
+  | inr text ↦ (role.Text, text)
+  | inl four ↦ elim (or_cases (m.anchor || m.version || m.node) m.entry four) [
+    | inr entry ↦ (role.Entry, entry)
+    | inl three ↦ elim (or_cases (m.anchor || m.version) m.node three) [
+      | inr node ↦ (role.Node, node)
+      | inl two ↦ elim (or_cases m.anchor m.version two) [
+        | inl anchor ↦ (role.Anchor, anchor)
+        | inr version ↦ (role.Version, version)
+      ]
+    ]
+  ]
+]
+
+none_of : (m : Roles) → m.anchor ≡ false → m.version ≡ false → m.node ≡ false → m.entry ≡ false
+    → m.text ≡ false → (r : Role) → has_role m r ≡ true → ⊥
+none_of m a v n e t role.Anchor has = false≢true (sym a ∙ has)
+none_of m a v n e t role.Version has = false≢true (sym v ∙ has)
+none_of m a v n e t role.Node has = false≢true (sym n ∙ has)
+none_of m a v n e t role.Entry has = false≢true (sym e ∙ has)
+none_of m a v n e t role.Text has = false≢true (sym t ∙ has)
+
+pub no_role : (m : Roles) → has_any m ≡ false → (r : Role) → has_role m r ≡ true → ⊥
+no_role m is r has =
+    let four = or_parts (m.anchor || m.version || m.node || m.entry) m.text is in
+    let three = or_parts (m.anchor || m.version || m.node) m.entry four.0 in
+    let two = or_parts (m.anchor || m.version) m.node three.0 in
+    let one = or_parts m.anchor m.version two.0 in
+    none_of m one.0 one.1 two.1 three.1 four.1 r has

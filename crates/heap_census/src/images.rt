@@ -17,12 +17,13 @@ use std::alloc::Global;
 pub fn census(alloc: Global, image: &Image) -> Result<Option<Census>, NoMemory>
     ensures found { IfOk result (λ found. (s : State) → Shows image.now s
         → MatchOption found (IsFaulty (heap_of s)) (λ x. IsSound (heap_of s))) }
-    ensures counts { IfOk result (λ found. IfSome found (λ x. (s : State) → Shows image.now s
-        → IsCensus (heap_of s) x)) }
-    ensures sum { IfOk result (λ found. IfSome found (λ x. (s : State) → Shows image.now s
-        → AddsUp x)) }
+    ensures counts { IfOk result (λ found. (s : State) → Shows image.now s
+        → IfSome found (IsCensus (heap_of s))) }
+    ensures sum { IfOk result (λ found. (s : State) → Shows image.now s
+        → IfSome found AddsUp) }
 {
-    census_of(alloc, image)
+    let found = census_of(alloc, image)?;
+    Ok(found)
 }
 
 /// The text of a closed heap: a head with the number of cells, a line for each cell in use, and an
@@ -31,5 +32,6 @@ pub fn image_text(alloc: Global, image: &Image) -> Result<Vec<u8>, NoMemory>
     ensures { IfOk result (λ text. (s : State) → Shows image.now s
         → text.items ≡ image_text (heap_of s)) }
 {
-    text_of(alloc, image)
+    let text = text_of(alloc, image)?;
+    Ok(text)
 }

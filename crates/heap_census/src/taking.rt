@@ -21,10 +21,10 @@ use std::alloc::Global;
 pub fn census_of<C: Cells>(alloc: Global, cells: &C) -> Result<Option<Census>, NoMemory>
     ensures found { IfOk result (λ found. (h : Heap) → C.shows cells.now h
         → MatchOption found (IsFaulty h) (λ x. IsSound h)) }
-    ensures counts { IfOk result (λ found. IfSome found (λ x. (h : Heap) → C.shows cells.now h
-        → IsCensus h x)) }
-    ensures sum { IfOk result (λ found. IfSome found (λ x. (h : Heap) → C.shows cells.now h
-        → AddsUp x)) }
+    ensures counts { IfOk result (λ found. (h : Heap) → C.shows cells.now h
+        → IfSome found (IsCensus h)) }
+    ensures sum { IfOk result (λ found. (h : Heap) → C.shows cells.now h
+        → IfSome found AddsUp) }
 {
     let marks = find_roles(alloc, cells)?;
     if !is_sound(cells, &marks) {

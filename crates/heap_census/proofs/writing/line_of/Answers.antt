@@ -18,4 +18,7 @@ loop-i-preserved g c = λ h shows.
     ∙ ap (λ field. line ++ (codes " " ++ field_text field)) (c.field.ensures h shows))
 
 pub returns : goal.returns
-returns g c = λ h shows. let is = c.in_ok-push_str.ensures in ?
+returns g c = λ h shows.
+    line_done h c.args.cell c.loop-i.i (string_bytes c.loop-i.line)
+    (string_bytes c.push_str.new.self) (c.loop-i.invariant h shows) c.loop-i.auto.i-end
+    c.loop-i-test.false c.in_ok-push_str.ensures.bytes
