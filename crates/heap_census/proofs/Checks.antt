@@ -1,6 +1,6 @@
 -- What a look at each cell with a role shows of a heap.
-use Rattle.std.proofs.Common.{◌≡◌, ◌<◌, ◌+◌, ◌∙◌, ◌⊎◌, inl, inr, ℕ, true, false, List, length}
-use Rattle.std.proofs.Common.{get_or, refl, ap, subst, sym, arith}
+use Rattle.std.proofs.Common.{◌≡◌, ◌<◌, ◌+◌, inl, inr, ℕ, true, false, List}
+use Rattle.std.proofs.Common.{get_or, refl, subst, sym, arith}
 use Rattle.std.specs.Prelude.{Bool, ◌&&◌}
 use Rattle.std.proofs.lemmas.Bool.{and_cases, and_parts, cases_lt, eqb-true}
 use Rattle.cell_words.specs.declared.fields.Field.{Field}

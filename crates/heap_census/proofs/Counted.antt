@@ -1,7 +1,7 @@
 -- Counting one number after another.
-use Rattle.std.proofs.Common.{◌≡◌, ◌<◌, ◌≤◌, ◌+◌, ◌∙◌, ℕ, suc, zero, Bool, true, false, refl, ap, sym}
-use Rattle.std.proofs.Common.{add-one, arith, ◌↔◌}
-use Rattle.heap_census.specs.Counts.{IsCountOf, count_below, one_if}
+use Rattle.std.proofs.Common.{◌≡◌, ◌≤◌, ◌+◌, ◌∙◌, ℕ, suc, zero, Bool, true, false, ap}
+use Rattle.std.proofs.Common.{add-one, arith}
+use Rattle.heap_census.specs.Counts.{count_below, one_if}
 
 pub count_below-add_one : (test : ℕ → Bool) (m : ℕ)
     → count_below test (m + 1) ≡ count_below test m + one_if (test m)

@@ -1,7 +1,7 @@
 -- How often each cell was named, a field after another.
-use Rattle.std.proofs.Common.{◌≡◌, ◌≢◌, ◌<◌, ◌≤◌, ◌+◌, ◌⊎◌, ◌↔◌, ◌∙◌, inl, inr, ℕ, zero, suc, Bool}
+use Rattle.std.proofs.Common.{◌≡◌, ◌≢◌, ◌<◌, ◌+◌, ◌⊎◌, ◌↔◌, ◌∙◌, inl, inr, ℕ, zero, suc}
 use Rattle.std.proofs.Common.{true, false, List, length, get_or, replicate, nat_lt, refl, sym, subst}
-use Rattle.std.proofs.Common.{ap, arith, if◌then◌else◌}
+use Rattle.std.proofs.Common.{arith, if◌then◌else◌}
 use Rattle.std.proofs.Math.ListN.{set}
 use Rattle.std.proofs.lemmas.Bool.{cases_lt, ltb-true, ltb-false}
 use Rattle.std.proofs.lemmas.List.{length-set}
@@ -13,7 +13,7 @@ use Rattle.heap_census.specs.declared.naming.Times.TheVariants as times
 use Rattle.heap_census.specs.Heap.{Heap, NamesFit}
 use Rattle.heap_census.specs.Names.{IsShared, Names}
 use Rattle.heap_census.specs.Roles.{HasRole}
-use Rattle.heap_census.specs.Times.{IsNamedOnce, Seen, Tells, TellsShared, Told, is_often, more_often}
+use Rattle.heap_census.specs.Times.{Seen, Tells, TellsShared, Told, is_often, more_often}
 use Rattle.heap_census.specs.Times.{never, with_name}
 use Rattle.heap_census.proofs.Roles.{role_below}
 
@@ -112,9 +112,9 @@ told_more h k j e named r has among is told =
           set_else (λ n t. n < length named → Tells t h k (j + 1) n) named e
           (more_often (get_or named e never)) never (ltb-true e (length named) lt)
           (λ there. once_more (get_or named e never) h k j e
-              (record { role = (r, has); in_cell = among; is = is }) (told e there))
+          (record { role = (r, has); in_cell = among; is = is }) (told e there))
           (λ n ne there. pass (get_or named n never) h k j n (other_cell h k j n e is ne)
-              (told n there)) d (omega (arith, below, size))
+          (told n there)) d (omega (arith, below, size))
       | false ↦ λ past d below. pass (get_or named d never) h k j d
           (other_cell h k j d e is
           (λ same. let out = ltb-false e (length named) past in omega (arith, out, same, below)))

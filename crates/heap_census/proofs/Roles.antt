@@ -1,6 +1,5 @@
 -- Where a cell with a role stands.
-use Rattle.std.proofs.Common.{◌≡◌, ◌<◌, ◌∙◌, ℕ, zero, suc, Some, None, refl, subst, sym}
-use Rattle.cell_words.specs.declared.fields.Field.TheVariants as field
+use Rattle.std.proofs.Common.{◌≡◌, ◌<◌, ℕ, zero, suc, Some, subst, sym}
 use Rattle.core_machine.specs.InRange.{NamesBelow}
 use Rattle.heap_census.specs.declared.layouts.Role.{Role}
 use Rattle.heap_census.specs.declared.layouts.Role.TheVariants as role

@@ -1,9 +1,9 @@
 -- Why the numbers of a census are those of the heap, and add up.
-use Rattle.std.specs.Prelude.{◌==◌, not, ◌&&◌, ◌||◌}
-use Rattle.std.proofs.Common.{◌≡◌, ◌<◌, ◌≤◌, ◌+◌, ◌∙◌, ◌↔◌, ◌⊎◌, inl, inr, ℕ, zero, suc, Bool}
+use Rattle.std.specs.Prelude.{not}
+use Rattle.std.proofs.Common.{◌≡◌, ◌<◌, ◌+◌, ◌∙◌, ◌↔◌, ℕ, zero, suc, Bool}
 use Rattle.std.proofs.Common.{true, false, List, length, get_or, refl, ap, subst, sym, arith}
-use Rattle.std.proofs.lemmas.Bool.{and_parts, and_from, false_from_ne_true, true≢false, false≢true}
-use Rattle.std.proofs.lemmas.Bool.{cases_Bool, not_from_false, not-true}
+use Rattle.std.proofs.lemmas.Bool.{and_parts, and_from, false_from_ne_true}
+use Rattle.std.proofs.lemmas.Bool.{not_from_false, not-true}
 use Rattle.heap_census.specs.declared.flags.Roles.{Roles}
 use Rattle.heap_census.specs.declared.layouts.Role.{Role}
 use Rattle.heap_census.specs.declared.layouts.Role.TheVariants as role
@@ -93,16 +93,18 @@ floats_or_not : (h : Heap) (marks : List Roles) (c : ℕ) → TellsRoles h marks
     → (floats (is_free h c) (get_or marks c no_roles) ≡ true) ↔ IsFloating h c
 floats_or_not h marks c tells = (
   (λ is.
-      let parts = and_parts (not (is_free h c)) (not (has_any (get_or marks c no_roles))) is in
-      (not-true (is_free h c) parts.0, λ r has.
-          no_role (get_or marks c no_roles) (not-true (has_any (get_or marks c no_roles)) parts.1) r
-          ((tells r c).1 has))),
+      let parts = and_parts (not (is_free h c)) (not (has_any (get_or marks c no_roles))) is in (
+        not-true (is_free h c) parts.0,
+        λ r has.
+            no_role (get_or marks c no_roles) (not-true (has_any (get_or marks c no_roles)) parts.1) r
+            ((tells r c).1 has),
+      )),
   (λ is. and_from (not (is_free h c)) (not (has_any (get_or marks c no_roles)))
       (not_from_false (is_free h c) is.0)
       (not_from_false (has_any (get_or marks c no_roles))
       (false_from_ne_true (has_any (get_or marks c no_roles)) (λ any.
-          let some = some_role (get_or marks c no_roles) any in
-          is.1 some.0 ((tells some.0 c).0 some.1))))),
+      let some = some_role (get_or marks c no_roles) any in
+      is.1 some.0 ((tells some.0 c).0 some.1))))),
 )
 
 -- a count up to a length
@@ -198,5 +200,14 @@ counted_adds_up h marks named size x fit tells sound k =
     (λ c lt. sort_of h marks c tells sound) in
     let one = one_anchor h marks size fit.some_cells tells in
     omega (
-      arith, sum, one, k.cells, k.free, k.versions, k.nodes, k.entries, k.texts, k.floating,
+      arith,
+      sum,
+      one,
+      k.cells,
+      k.free,
+      k.versions,
+      k.nodes,
+      k.entries,
+      k.texts,
+      k.floating,
     )

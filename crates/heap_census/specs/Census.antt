@@ -1,6 +1,6 @@
 -- What a census says of a heap, and which heaps it refuses.
 -- Source: this project's.
-use Rattle.std.specs.Prelude.{ℕ, ◌≡◌, ◌≢◌, ◌<◌, ◌+◌, ◌⊎◌, true, false}
+use Rattle.std.specs.Prelude.{ℕ, ◌≡◌, ◌≢◌, ◌<◌, ◌+◌, true, false}
 use Rattle.heap_census.specs.declared.numbers.Census.{Census}
 use Rattle.heap_census.specs.declared.layouts.Role.{Role}
 use Rattle.heap_census.specs.declared.layouts.Role.TheVariants as role

@@ -1,7 +1,7 @@
 -- A search for roles under way: what was found, and which cells wait with one of their roles, since
 -- their fields are still to be looked at for it.
 -- Source: this project's.
-use Rattle.std.specs.Prelude.{ℕ, ◌≡◌, ◌+◌, ◌*◌, ◌<◌, ◌≤◌, ◌⊎◌, Bool, true, false, not, List, []}
+use Rattle.std.specs.Prelude.{ℕ, ◌≡◌, ◌+◌, ◌<◌, ◌≤◌, ◌⊎◌, Bool, true, false, List, []}
 use Rattle.std.specs.Prelude.{◌∷◌, ◌++◌, length, nat_lt, slice_index_or, slice_set}
 use Rattle.std.specs.Prelude.{if◌then◌else◌, Some}
 use Rattle.std.specs.List.{Contains}
@@ -31,9 +31,9 @@ abbrev pub with_found : Search → Role → ℕ → Search
 with_found search r c =
     if nat_lt c (length search.marks)
     then (if has_found search r c then search else record {
-        marks = slice_set search.marks c (with_role (slice_index_or search.marks c no_roles) r);
-        waiting = search.waiting ++ named r c ∷ [];
-      })
+      marks = slice_set search.marks c (with_role (slice_index_or search.marks c no_roles) r);
+      waiting = search.waiting ++ named r c ∷ [];
+    })
     else search
 
 -- 2 where the role was not found

@@ -9,9 +9,9 @@ ghost use Rattle.core_machine.specs.Words.{is_blue};
 ghost use Rattle.std.specs.Prelude.{MatchBool, ℕ, false, length, true, ◌<◌, ◌≡◌};
 ghost use Rattle.heap_census.specs.declared.layouts.Role.{Role as RoleOf};
 
-use crate::reading::Cells;
 use crate::flags::Roles;
 use crate::layouts::{Role, fits, layout};
+use crate::reading::Cells;
 use cell_words::Colour;
 
 /// Whether each cell with a role is in use, and has the layout of it and no other role.
@@ -37,8 +37,8 @@ fn fits_all<C: Cells>(cells: &C, roles: Roles, cell: u32) -> bool
         → (r : RoleOf) → has_role roles r ≡ true → FitsAs h r cell }
     ensures misfit { (h : Heap) → C.shows cells.now h → result ≡ false → Misfits h roles cell }
 {
-    let boxes =
-        fits_as(cells, roles, cell, Role::Anchor) & fits_as(cells, roles, cell, Role::Version);
+    let boxes = fits_as(cells, roles, cell, Role::Anchor)
+        & fits_as(cells, roles, cell, Role::Version);
     let records = fits_as(cells, roles, cell, Role::Node)
         & fits_as(cells, roles, cell, Role::Entry)
         & fits_as(cells, roles, cell, Role::Text);

@@ -6,11 +6,11 @@ ghost use Rattle.heap_census.specs.Heap.{Heap, is_free};
 ghost use Rattle.heap_census.specs.Times.{is_often, never};
 ghost use Rattle.std.specs.Prelude.{length, slice_index_or, ◌<◌, ◌^◌, ◌≡◌};
 
-use crate::reading::Cells;
 use crate::checking::is_free;
 use crate::flags::Roles;
-use crate::naming::Times;
 use crate::layouts::Role;
+use crate::naming::Times;
+use crate::reading::Cells;
 use cell_words::Colour;
 
 /// How many cells have the role.

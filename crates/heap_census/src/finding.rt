@@ -5,9 +5,9 @@ ghost use Rattle.heap_census.specs.Roles.{HasRole, TellsRoles};
 ghost use Rattle.heap_census.specs.Search.{FoundNamed, GrowsTo, IsFound};
 ghost use Rattle.std.specs.Prelude.{IfOk, OnOk, length, ◌<◌, ◌≡◌};
 
-use crate::reading::Cells;
 use crate::flags::Roles;
 use crate::layouts::{Role, layout, named_by};
+use crate::reading::Cells;
 use crate::searching::{Named, Searching};
 use cell_words::Field;
 use heap_table::NoMemory;

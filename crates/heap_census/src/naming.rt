@@ -5,8 +5,8 @@ ghost use Rattle.heap_census.specs.Times.{TellsShared, Told, is_often, more_ofte
 ghost use Rattle.heap_census.specs.declared.layouts.Role.{Role as RoleOf};
 ghost use Rattle.std.specs.Prelude.{IfOk, length, ◌+◌, ◌<◌, ◌≡◌};
 
-use crate::reading::Cells;
 use crate::flags::Roles;
+use crate::reading::Cells;
 use cell_words::Field;
 use heap_table::NoMemory;
 use std::alloc::Global;

@@ -3,8 +3,8 @@ ghost use Rattle.heap_census.specs.Heap.{Heap};
 ghost use Rattle.heap_census.specs.ImageText.{cell_line, image_text};
 ghost use Rattle.std.specs.Prelude.{IfOk, string_bytes, ◌<◌, ◌≡◌};
 
-use crate::reading::Cells;
 use crate::checking::is_free;
+use crate::reading::Cells;
 use cell_texts::{colour_text, with_field};
 use heap_table::NoMemory;
 use std::alloc::Global;

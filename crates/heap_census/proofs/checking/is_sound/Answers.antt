@@ -1,4 +1,4 @@
-use Rattle.std.proofs.Common.{arith, refl}
+use Rattle.std.proofs.Common.{arith}
 use Rattle.std.proofs.lemmas.Bool.{true≢false, false≢true}
 use Rattle.heap_census.proofs.Checks.{all_more, sound_from, faulty_from}
 use Rattle.heap_census.proofs.checking.is_sound.Goals as goal

@@ -1,5 +1,4 @@
 use Rattle.heap_census.specs.Heap.{Heap}
-use Rattle.heap_census.specs.Roles.{TellsRoles}
 use Rattle.heap_census.proofs.Checks.{AllFit}
 use Rattle.heap_census.proofs.checking.is_sound.Given as goal
 

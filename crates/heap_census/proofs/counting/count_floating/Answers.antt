@@ -14,23 +14,23 @@ loop-cell-preserved g c =
     let mark = get_or marks i no_roles in
     elim c.if-is_floating.branch [
       | then-is_floating w ↦ record {
-          few = omega (arith, w.count-is, so.few);
-          is = λ h shows. w.count-is
-              ∙ count_yes (λ n. floats (is_free h n) (get_or marks n no_roles)) i c.loop-cell.count
-              (so.is h shows)
-              (sym (c.is_floating.ensures
-              ∙ ap (λ k. floats (is_blue k) mark) (c.colour.ensures h shows))
-              ∙ w.if-is_floating.true);
-        }
+        few = omega (arith, w.count-is, so.few);
+        is = λ h shows. w.count-is
+            ∙ count_yes (λ n. floats (is_free h n) (get_or marks n no_roles)) i c.loop-cell.count
+            (so.is h shows)
+            (sym (c.is_floating.ensures
+            ∙ ap (λ k. floats (is_blue k) mark) (c.colour.ensures h shows))
+            ∙ w.if-is_floating.true);
+      }
       | else-is_floating w ↦ record {
-          few = omega (arith, w.count-is, so.few);
-          is = λ h shows. w.count-is
-              ∙ count_no (λ n. floats (is_free h n) (get_or marks n no_roles)) i c.loop-cell.count
-              (so.is h shows)
-              (sym (c.is_floating.ensures
-              ∙ ap (λ k. floats (is_blue k) mark) (c.colour.ensures h shows))
-              ∙ w.if-is_floating.false);
-        }
+        few = omega (arith, w.count-is, so.few);
+        is = λ h shows. w.count-is
+            ∙ count_no (λ n. floats (is_free h n) (get_or marks n no_roles)) i c.loop-cell.count
+            (so.is h shows)
+            (sym (c.is_floating.ensures
+            ∙ ap (λ k. floats (is_blue k) mark) (c.colour.ensures h shows))
+            ∙ w.if-is_floating.false);
+      }
     ]
 
 pub returns : goal.returns

@@ -1,7 +1,6 @@
 use Rattle.std.proofs.Common.{◌∙◌, ℕ, Bool, arith, get_or, sym}
-use Rattle.heap_census.specs.Counts.{count_below}
 use Rattle.heap_census.specs.Flags.{has_role, no_roles}
-use Rattle.heap_census.proofs.Counted.{count_yes, count_no, count_below-le, count_all}
+use Rattle.heap_census.proofs.Counted.{count_yes, count_no, count_below-le}
 use Rattle.heap_census.proofs.counting.count_role.Goals as goal
 use Rattle.heap_census.proofs.counting.count_role.Goals.{then-has, else-has}
 

@@ -1,5 +1,5 @@
-use Rattle.std.proofs.Common.{◌≡◌, ◌+◌, ◌∙◌, ap, arith, length, subst, sym}
-use Rattle.heap_census.specs.Heap.{Heap, NamesFit}
+use Rattle.std.proofs.Common.{◌+◌, ◌∙◌, ap, arith, subst, sym}
+use Rattle.heap_census.specs.Heap.{NamesFit}
 use Rattle.heap_census.specs.Layouts.{named_by}
 use Rattle.heap_census.specs.Search.{GrowsTo, with_found}
 use Rattle.heap_census.proofs.Found.{grows_same, grows_on, add_grows, named_start, named_pass}
@@ -41,19 +41,19 @@ loop-i-preserved g c =
                 (invariant.named h shows));
           }
       | in-Some+in_default-field w ↦ record {
-          grows = subst (GrowsTo start) (sym w.found-is) invariant.grows;
-          named = λ h shows. subst (NamedSoFar h r b (i + 1) start) (sym w.found-is)
-              (named_pass h r b i start old
-              (λ q d _ is. w.in_default-field.not-Cell d (w.field.ensures h shows ∙ is))
-              (invariant.named h shows));
-        }
+        grows = subst (GrowsTo start) (sym w.found-is) invariant.grows;
+        named = λ h shows. subst (NamedSoFar h r b (i + 1) start) (sym w.found-is)
+            (named_pass h r b i start old
+            (λ q d _ is. w.in_default-field.not-Cell d (w.field.ensures h shows ∙ is))
+            (invariant.named h shows));
+      }
       | in_default w ↦ record {
-          grows = subst (GrowsTo start) (sym w.found-is) invariant.grows;
-          named = λ h shows. subst (NamedSoFar h r b (i + 1) start) (sym w.found-is)
-              (named_pass h r b i start old
-              (λ q d gives_it _. w.in_default.not-Some q (gave ∙ gives_it))
-              (invariant.named h shows));
-        }
+        grows = subst (GrowsTo start) (sym w.found-is) invariant.grows;
+        named = λ h shows. subst (NamedSoFar h r b (i + 1) start) (sym w.found-is)
+            (named_pass h r b i start old
+            (λ q d gives_it _. w.in_default.not-Some q (gave ∙ gives_it))
+            (invariant.named h shows));
+      }
     ]
 
 pub returns : goal.returns

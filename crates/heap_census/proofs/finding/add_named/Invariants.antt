@@ -1,4 +1,3 @@
-use Rattle.std.proofs.Common.{◌≡◌, length}
 use Rattle.heap_census.specs.Heap.{Heap}
 use Rattle.heap_census.specs.Search.{GrowsTo}
 use Rattle.heap_census.proofs.Found.{NamedSoFar}

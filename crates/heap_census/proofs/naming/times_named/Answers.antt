@@ -1,4 +1,4 @@
-use Rattle.std.proofs.Common.{◌≡◌, ◌+◌, ◌∙◌, ap, arith, false, length, replicate, rules, subst, sym, true}
+use Rattle.std.proofs.Common.{◌≡◌, ◌+◌, ◌∙◌, ap, arith, length, replicate, rules, subst, sym}
 use Rattle.std.proofs.lemmas.List.{length-replicate, with_items_is}
 use Rattle.heap_census.specs.Times.{Told, never}
 use Rattle.heap_census.proofs.Named.{told_start, told_skip, told_shared}
@@ -40,13 +40,13 @@ loop-cell-preserved g c =
                 subst (Told h (c.loop-cell.cell + 1) 0) (sym is) new;
           }
       | else-has_any w ↦ record {
-          size = ap (λ t. length t.items) w.times-is ∙ c.loop-cell.invariant.size;
-          told = λ h shows tells. subst (λ t. Told h (c.loop-cell.cell + 1) 0 t.items) (sym w.times-is)
-              (told_skip h c.loop-cell.cell c.loop-cell.times.items
-              (λ r has. no_role _ (sym c.has_any.ensures ∙ w.if-has_any.false) r
-                  ((tells r c.loop-cell.cell).1 has))
-              (c.loop-cell.invariant.told h shows tells));
-        }
+        size = ap (λ t. length t.items) w.times-is ∙ c.loop-cell.invariant.size;
+        told = λ h shows tells. subst (λ t. Told h (c.loop-cell.cell + 1) 0 t.items) (sym w.times-is)
+            (told_skip h c.loop-cell.cell c.loop-cell.times.items
+            (λ r has. no_role _ (sym c.has_any.ensures ∙ w.if-has_any.false) r
+            ((tells r c.loop-cell.cell).1 has))
+            (c.loop-cell.invariant.told h shows tells));
+      }
     ]
 
 pub returns : goal.returns

@@ -1,5 +1,4 @@
-use Rattle.std.proofs.Common.{◌∙◌, arith, get_or, length}
-use Rattle.heap_census.specs.declared.layouts.Role.{Role}
+use Rattle.std.proofs.Common.{arith, get_or, length}
 use Rattle.heap_census.specs.declared.layouts.Role.TheVariants as role
 use Rattle.heap_census.specs.declared.numbers.Census.{Census}
 use Rattle.heap_census.specs.Flags.{has_role, no_roles}
