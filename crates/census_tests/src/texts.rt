@@ -19,7 +19,10 @@ fn each_colour_has_its_word(rt: HostRuntime) {
 fn a_field_is_read_up_to_its_greatest_number(rt: HostRuntime) {
     assert_eq!(rt; read_field(b"-"), Some(Field::Null));
     assert_eq!(rt; read_field(b"=0"), Some(Field::Num(0)));
-    assert_eq!(rt; read_field(b"=4611686018427387903"), Some(Field::Num(4611686018427387903)));
+    assert_eq!(rt;
+        read_field(b"=4611686018427387903"),
+        Some(Field::Num(4611686018427387903))
+    );
     assert_eq!(rt; read_field(b"=4611686018427387904"), None);
     assert_eq!(rt; read_field(b"@4294967295"), Some(Field::Cell(4294967295)));
     assert_eq!(rt; read_field(b"@4294967296"), None);
