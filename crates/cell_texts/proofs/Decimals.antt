@@ -1,5 +1,6 @@
 -- The word of a number without zeros before it is what the number is written as.
-use Rattle.std.proofs.Common.{◌≡◌, ℕ, ◌^◌, ◌<◌, ◌≤◌, inl, inr, Bool, true, false, List, [], ◌∷◌, length, Some}
+use Rattle.std.proofs.Common.{◌≡◌, ℕ, ◌^◌, ◌<◌, ◌≤◌, inl, inr, Bool, true, false, List, [], ◌∷◌}
+use Rattle.std.proofs.Common.{length, Some}
 use Rattle.std.proofs.Common.{None, refl, sym, ap, ◌∙◌, arith, get_or, rules, tests}
 use Rattle.std.specs.Prelude.{Option, decimal, not, nat_le, ◌==◌, ◌&&◌, if◌then◌else◌}
 use Rattle.std.specs.Char.{is_ascii_digit}

@@ -286,7 +286,8 @@ search_more h old mid new n k marks waiting grew found names =
           | inl waits ↦ elim (Contains-push_cases mid.waiting n (named r d)
               (subst (λ w. Contains w (named r d)) waiting waits)) [
                 | inl still ↦ inl (grew.waits r d still)
-                | inr here ↦ inr (subst (λ (x : Named). FoundNamed h x.role x.cell 6 new) here names)
+                | inr here ↦ inr
+                    (subst (λ (x : Named). FoundNamed h x.role x.cell 6 new) here names)
               ]
           | inr done ↦ inr (λ i q e lt gave is. grew.kept q e
               (sym (same q e) ∙ done i q e lt gave is))

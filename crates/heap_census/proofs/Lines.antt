@@ -83,4 +83,5 @@ text_done h c text whole so all adds =
     ∙ (ap (λ (t : List ℕ). t ++ codes "end\n")
     (so ∙ ap (λ n. text_head h ++ cell_lines h n) all)
     ∙ (append_assoc (text_head h) lines (codes "end\n")
-    ∙ ap (λ (x : List ℕ). codes "image 1 " ++ x) (append_assoc (decimal h.cells) (codes "\n") rest)))
+    ∙ ap (λ (x : List ℕ). codes "image 1 " ++ x)
+    (append_assoc (decimal h.cells) (codes "\n") rest)))

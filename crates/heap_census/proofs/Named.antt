@@ -1,6 +1,7 @@
 -- How often each cell was named, a field after another.
 use Rattle.std.proofs.Common.{◌≡◌, ◌≢◌, ◌<◌, ◌+◌, ◌⊎◌, ◌↔◌, ◌∙◌, inl, inr, ℕ, zero, suc}
-use Rattle.std.proofs.Common.{true, false, List, length, get_or, replicate, nat_lt, refl, sym, subst}
+use Rattle.std.proofs.Common.{true, false, List, length, get_or, replicate, nat_lt, refl, sym}
+use Rattle.std.proofs.Common.{subst}
 use Rattle.std.proofs.Common.{arith, if◌then◌else◌}
 use Rattle.std.proofs.Math.ListN.{set}
 use Rattle.std.proofs.lemmas.Bool.{cases_lt, ltb-true, ltb-false}

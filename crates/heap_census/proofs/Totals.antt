@@ -96,7 +96,8 @@ floats_or_not h marks c tells = (
       let parts = and_parts (not (is_free h c)) (not (has_any (get_or marks c no_roles))) is in (
         not-true (is_free h c) parts.0,
         λ r has.
-            no_role (get_or marks c no_roles) (not-true (has_any (get_or marks c no_roles)) parts.1) r
+            no_role (get_or marks c no_roles)
+            (not-true (has_any (get_or marks c no_roles)) parts.1) r
             ((tells r c).1 has),
       )),
   (λ is. and_from (not (is_free h c)) (not (has_any (get_or marks c no_roles)))
@@ -117,7 +118,8 @@ pub record IsCounted (h : Heap) (marks : List Roles) (named : List Times) (size 
     : Type 0 where
   pub cells : x.cells ≡ size
   pub free : x.free ≡ count_below (is_free h) size
-  pub versions : x.versions ≡ count_below (λ c. has_role (get_or marks c no_roles) role.Version) size
+  pub versions : x.versions
+      ≡ count_below (λ c. has_role (get_or marks c no_roles) role.Version) size
   pub nodes : x.nodes ≡ count_below (λ c. has_role (get_or marks c no_roles) role.Node) size
   pub entries : x.entries ≡ count_below (λ c. has_role (get_or marks c no_roles) role.Entry) size
   pub texts : x.texts ≡ count_below (λ c. has_role (get_or marks c no_roles) role.Text) size

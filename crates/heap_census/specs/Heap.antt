@@ -39,7 +39,8 @@ pub image_fits : (i : ImageView) (h : Heap) → ShowsHeap i h → NamesFit i.cel
 image_fits i h shows =
     let s = shows.0 in
     let shape = shows.1.in_range.shape in
-    subst (NamesFit i.cells) shows.2 (subst (λ n. NamesFit n (heap_of s)) shows.1.cells_are (record {
+    subst (NamesFit i.cells) shows.2
+    (subst (λ n. NamesFit n (heap_of s)) shows.1.cells_are (record {
       cells_are = refl;
       some_cells = shape.cells_fit.some_cells;
       fields_fit = shape.names_fit.fields_fit;

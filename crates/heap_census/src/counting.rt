@@ -16,7 +16,8 @@ use cell_words::Colour;
 /// How many cells have the role.
 pub(crate) fn count_role(marks: &[Roles], role: Role) -> u64
     requires { length marks.now < 2 ^ 32 }
-    ensures { result ≡ count_below (λ c. has_role (slice_index_or marks.now c no_roles) role) (length marks.now) }
+    ensures { result ≡ count_below (λ c. has_role (slice_index_or marks.now c no_roles) role)
+        (length marks.now) }
 {
     let mut count = 0;
     for roles in marks {
@@ -29,7 +30,8 @@ pub(crate) fn count_role(marks: &[Roles], role: Role) -> u64
 
 /// How many cells nobody has.
 pub(crate) fn count_free<C: Cells>(cells: &C) -> u64
-    ensures { (h : Heap) → C.shows cells.now h → result ≡ count_below (is_free h) (C.size cells.now) }
+    ensures { (h : Heap) → C.shows cells.now h
+        → result ≡ count_below (is_free h) (C.size cells.now) }
 {
     let mut count = 0;
     for cell in 0..cells.cells() {
@@ -43,7 +45,9 @@ pub(crate) fn count_free<C: Cells>(cells: &C) -> u64
 /// How many cells are in use and have no role.
 pub(crate) fn count_floating<C: Cells>(cells: &C, marks: &[Roles]) -> u64
     requires { length marks.now ≡ C.size cells.now }
-    ensures { (h : Heap) → C.shows cells.now h → result ≡ count_below (λ c. floats (is_free h c) (slice_index_or marks.now c no_roles)) (C.size cells.now) }
+    ensures { (h : Heap) → C.shows cells.now h
+        → result ≡ count_below (λ c. floats (is_free h c) (slice_index_or marks.now c no_roles))
+        (C.size cells.now) }
 {
     let mut count = 0;
     for cell in 0..cells.cells() {
@@ -64,7 +68,8 @@ fn is_floating(colour: Colour, roles: Roles) -> bool
 /// How many cells are named often.
 pub(crate) fn count_shared(times: &[Times]) -> u64
     requires { length times.now < 2 ^ 32 }
-    ensures { result ≡ count_below (λ c. is_often (slice_index_or times.now c never)) (length times.now) }
+    ensures { result ≡ count_below (λ c. is_often (slice_index_or times.now c never))
+        (length times.now) }
 {
     let mut count = 0;
     for named in times {

@@ -25,7 +25,8 @@ returns-then-not-fits g c = record {
         i,
         c.loop-i-test.true,
         ap (λ p. fits p (h.field c.args.cell i)) (sym part)
-            ∙ (ap (fits _) (sym (c.field.ensures h shows)) ∙ (sym c.fits.ensures ∙ c.if-not-fits.true)),
+            ∙ (ap (fits _) (sym (c.field.ensures h shows))
+            ∙ (sym c.fits.ensures ∙ c.if-not-fits.true)),
       );
 }
 

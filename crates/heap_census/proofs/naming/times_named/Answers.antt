@@ -41,7 +41,8 @@ loop-cell-preserved g c =
           }
       | else-has_any w ↦ record {
         size = ap (λ t. length t.items) w.times-is ∙ c.loop-cell.invariant.size;
-        told = λ h shows tells. subst (λ t. Told h (c.loop-cell.cell + 1) 0 t.items) (sym w.times-is)
+        told = λ h shows tells.
+            subst (λ t. Told h (c.loop-cell.cell + 1) 0 t.items) (sym w.times-is)
             (told_skip h c.loop-cell.cell c.loop-cell.times.items
             (λ r has. no_role _ (sym c.has_any.ensures ∙ w.if-has_any.false) r
             ((tells r c.loop-cell.cell).1 has))

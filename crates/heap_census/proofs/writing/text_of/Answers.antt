@@ -35,5 +35,11 @@ returns g c = λ h shows.
     let fit = g.met.C.Cells.fits c.args.cells.now h shows in
     text_done h c.loop-cell.cell c.loop-cell.text.items c.extend_from_slice-2.new.self.items
     (c.loop-cell.invariant h shows)
-    (omega (arith, c.loop-cell-test.false, c.loop-cell.auto.cell-end, c.cells-count.ensures, fit.cells_are))
+    (omega (
+      arith,
+      c.loop-cell-test.false,
+      c.loop-cell.auto.cell-end,
+      c.cells-count.ensures,
+      fit.cells_are,
+    ))
     c.in_ok-extend_from_slice-3.ensures.items
