@@ -1,0 +1,10 @@
+//! What no clause says of the crates about closed heaps: each public call on its happy path, and
+//! the texts and counts that were worked out by hand.
+//!
+//! Reading order: `texts`, `closed`.
+#![tactic(auto)]
+
+#[cfg(test)]
+mod closed;
+#[cfg(test)]
+mod texts;

@@ -1,0 +1,11 @@
+pub mod Census
+pub mod Counts
+pub mod Fit
+pub mod Flags
+pub mod Heap
+pub mod ImageText
+pub mod Layouts
+pub mod Names
+pub mod Roles
+pub mod Search
+pub mod Times
