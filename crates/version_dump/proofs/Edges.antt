@@ -129,7 +129,8 @@ parent_at o n m text inside rest path is above later =
     (map (under m) (root_of text ∷ listed_below inside)) (listed_below rest)
     ∙ ap (λ (b : Bool). b || later_any) (parent_under m n path (listed d)) in
     elim o as (λ o. name_cmp n m ≡ o → list_any (λ node. is_child node.path (n ∷ path))
-    (listed_below (kid m text inside rest)) ≡ parent_in (by_order o None (Some d) (child n rest)) path) [
+    (listed_below (kid m text inside rest))
+    ≡ parent_in (by_order o None (Some d) (child n rest)) path) [
       | Less ↦ λ e. split
           ∙ ap (λ (b : Bool). (b && inner) || later_any) (greater_differs m n (less_turned n m e))
           ∙ later

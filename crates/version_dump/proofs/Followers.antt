@@ -1,5 +1,6 @@
 -- The nodes of a lawful tree may follow each other, as lines do.
-use Rattle.std.proofs.Common.{◌≡◌, ℕ, ◌+◌, ◌<◌, ◌≤◌, Bool, true, false, ◌&&◌, cond, List, [], ◌∷◌, ◌++◌}
+use Rattle.std.proofs.Common.{◌≡◌, ℕ, ◌+◌, ◌<◌, ◌≤◌, Bool, true, false, ◌&&◌, cond, List, []}
+use Rattle.std.proofs.Common.{◌∷◌, ◌++◌}
 use Rattle.std.proofs.Common.{length, map, max, Option, Some, None, refl, sym, ap, subst, ◌∙◌}
 use Rattle.std.proofs.Common.{append_assoc, arith, inl, inr, ⊎_elim}
 use Rattle.std.specs.Prelude.{◌||◌, ◌⊎◌, bytes_eq, nat_le}
@@ -44,7 +45,8 @@ rises-append : (last : Path) (l r : List Listed) → Rises last l → Rises (end
 rises-append last [] r left right = right
 rises-append last (node ∷ l) r left right = (left.0, rises-append node.path l r left.1 right)
 
-after_under : (n : List ℕ) (last path : Path) → comes_after (n ∷ last) (n ∷ path) ≡ comes_after last path
+after_under : (n : List ℕ) (last path : Path)
+    → comes_after (n ∷ last) (n ∷ path) ≡ comes_after last path
 after_under n last path =
     ap (λ o. is_lt (ordering_then o (slice_cmp name_cmp last path))) (same_equal n)
 
@@ -154,7 +156,8 @@ parents-append nodes [] r left right =
 parents-append nodes (node ∷ l) r left right = (
   left.0,
   parents-append (nodes ++ node ∷ []) l r left.1
-      (subst (λ (ns : List Listed). HaveParents ns r) (sym (append_assoc nodes (node ∷ []) l)) right),
+      (subst (λ (ns : List Listed). HaveParents ns r)
+      (sym (append_assoc nodes (node ∷ []) l)) right),
 )
 
 root_parent : (text : List ℕ) (more : List Listed) (path : Path)
@@ -206,7 +209,8 @@ siblings_at o n m k text inside rest path is above later =
     count-append (λ node. is_sibling (n ∷ k ∷ path) node.path) (map (under m) (listed d))
     (listed_below rest)
     ∙ ap (λ j. j + after) (siblings_under n m k path (listed d)) in
-    elim o as (λ o. name_cmp n m ≡ o → siblings (listed_below (kid m text inside rest)) (n ∷ k ∷ path)
+    elim o as (λ o. name_cmp n m ≡ o
+    → siblings (listed_below (kid m text inside rest)) (n ∷ k ∷ path)
     ≡ siblings_in (by_order o None (Some d) (child n rest)) (k ∷ path)) [
       | Less ↦ λ e. (
           let none = later ∙ ap (λ (c : Option DocTree). siblings_in c (k ∷ path))
@@ -329,7 +333,8 @@ short-under n k (node ∷ nodes) name all =
       short-under n k nodes name all.4,
     )
 
-short_listed : (kids : Kids) → has_words kids ≡ true → AreShort (height_below kids) (listed_below kids)
+short_listed : (kids : Kids) → has_words kids ≡ true
+    → AreShort (height_below kids) (listed_below kids)
 short_listed no_kids words = tt
 short_listed (kid n text inside rest) words =
     let outer = and_parts (is_name n && is_text text && has_words inside) (has_words rest) words in
@@ -369,4 +374,5 @@ pub lines_of_tree : (t : DocTree) → IsLawful t → has_words t.kids ≡ true
     → AreLines (listed_below t.kids)
 lines_of_tree t lawful words =
     lines_of_short (listed_below t.kids)
-    (short_more (height_below t.kids) 8 (listed_below t.kids) lawful.low (short_listed t.kids words))
+    (short_more (height_below t.kids) 8 (listed_below t.kids) lawful.low
+    (short_listed t.kids words))

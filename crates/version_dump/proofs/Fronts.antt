@@ -81,8 +81,8 @@ pub ends : (nodes : List Listed) (bytes line : List ℕ) (rest : Option (Bor (Li
     → nodes_from nodes (lines_of bytes) ≡ whole → Lists answer (ended nodes (lines_left rest))
     → Lists answer whole
 ends nodes bytes line rest has whole answer is feed read so_far lists =
-    subst (Lists answer) (sym (first_line nodes bytes line rest has (Ok None) is feed read) ∙ so_far)
-    lists
+    subst (Lists answer)
+    (sym (first_line nodes bytes line rest has (Ok None) is feed read) ∙ so_far) lists
 
 pub stops : (error : LineError) (number : ℕ) (nodes : List Listed) (bytes line : List ℕ)
     (rest : Option (Bor (List ℕ))) (has : Bool) (whole : Result (List Listed) LoadFault)
@@ -150,7 +150,8 @@ root_read bytes line rest has text t answer is feed read one lists =
     subst (Lists answer) (ap (λ (u : DocTree). nodes_from (listed u) (lines_left rest)) one
     ∙ sym (root_line bytes line rest has (Ok text) is feed read)) lists
 
-pub root_stops : (error : LineError) (bytes line : List ℕ) (rest : Option (Bor (List ℕ))) (has : Bool)
+pub root_stops : (error : LineError) (bytes line : List ℕ) (rest : Option (Bor (List ℕ)))
+    (has : Bool)
     → IsCut bytes line rest → has ≡ is_some rest
     → Gives {A = List ℕ} (Err error) (root_line_of has line)
     → Lists (Err (error_in 2 error)) (nodes_of (lines_of bytes))

@@ -128,7 +128,8 @@ put_last n d text inside = rw (same_equal n) refl
 listed_inside : (n root text new : List ℕ) (path : Path) (front inside : Kids) (u : DocTree)
     → IsBelow n front
     → listed u ≡ listed (record { text = text; kids = inside }) ++ node_at path new ∷ []
-    → listed (with_child n u (record { text = root; kids = join front (kid n text inside no_kids) }))
+    → listed
+    (with_child n u (record { text = root; kids = join front (kid n text inside no_kids) }))
     ≡ listed (record { text = root; kids = join front (kid n text inside no_kids) })
     ++ node_at (n ∷ path) new ∷ []
 listed_inside n root text new path front inside u below is =
@@ -139,9 +140,11 @@ listed_inside n root text new path front inside u below is =
     ∙ ap (join front) (put_last n u text inside))
     ∙ listed_last n root front u
     ∙ ap (λ (ns : List Listed). before ++ map (under n) ns) is
-    ∙ ap (λ (ns : List Listed). before ++ ns) (map-append (under n) (listed d) (node_at path new ∷ []))
+    ∙ ap (λ (ns : List Listed). before ++ ns)
+    (map-append (under n) (listed d) (node_at path new ∷ []))
     ∙ sym (append_assoc before (map (under n) (listed d)) (node_at (n ∷ path) new ∷ []))
-    ∙ ap (λ (ns : List Listed). ns ++ node_at (n ∷ path) new ∷ []) (sym (listed_last n root front d))
+    ∙ ap (λ (ns : List Listed). ns ++ node_at (n ∷ path) new ∷ [])
+    (sym (listed_last n root front d))
 
 grow_inside : (n k text root other : List ℕ) (path : Path) (front inside : Kids)
     → IsBelow n front → Growing (record { text = other; kids = inside }) (k ∷ path) text
@@ -194,7 +197,8 @@ grow (n ∷ []) text root kids ordered next =
 grow (n ∷ k ∷ path) text root kids ordered next =
     elim (edge_of kids ordered.here.rising) [
       | bare is ↦ (
-          let none : false ≡ true = ap (λ (w : Path). is_next w (n ∷ k ∷ path)) (ap last_way (sym is))
+          let none : false ≡ true =
+          ap (λ (w : Path). is_next w (n ∷ k ∷ path)) (ap last_way (sym is))
           ∙ next in
           cc
           )

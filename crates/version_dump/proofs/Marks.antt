@@ -95,7 +95,8 @@ rest_cases [] = inl refl
 rest_cases (x ∷ xs) =
     let n = position_or_len is_space xs in
     elim (x == 32) as (λ t. (x == 32) ≡ t → (drop (cond (not t) (1 + n) 0) (x ∷ xs) ≡ [])
-    ⊎ (drop (cond (not t) (1 + n) 0) (x ∷ xs) ≡ 32 ∷ drop 1 (drop (cond (not t) (1 + n) 0) (x ∷ xs)))) [
+    ⊎ (drop (cond (not t) (1 + n) 0) (x ∷ xs)
+    ≡ 32 ∷ drop 1 (drop (cond (not t) (1 + n) 0) (x ∷ xs)))) [
       | true ↦ λ e. inr (ap (λ (y : ℕ). y ∷ xs) (eqb-true x 32 e))
       | false ↦ λ e. (
           let one : 1 + n ≡ suc n = omega arith in

@@ -240,7 +240,8 @@ faulty_turn (line.Kind kind) t nodes has_feed bytes number is =
     turned t nodes has_feed bytes (Err kind) number is
 faulty_turn line.NoMemory t nodes has_feed bytes number is = tt
 
-pub faulty_node : (error : LineError) (path : Path) (first second : Result (Option (List Listed)) LoadKind)
+pub faulty_node : (error : LineError) (path : Path)
+    (first second : Result (Option (List Listed)) LoadKind)
     → first ≡ second → Grows path (Err error) second → Turns (Err error) first
 faulty_node (line.Kind kind) path first second same is = same ∙ is
 faulty_node line.NoMemory path first second same is = tt

@@ -1,6 +1,7 @@
 -- Which text has these contents, and which contents the text of these nodes has.
-use Rattle.std.proofs.Common.{◌≡◌, ℕ, ◌+◌, ◌<◌, ◌≤◌, ◌^◌, Bool, true, false, not, ◌&&◌, cond, List, []}
-use Rattle.std.proofs.Common.{◌∷◌, ◌++◌, length, map, Option, Some, None, Result, Ok, Err, refl, sym}
+use Rattle.std.proofs.Common.{◌≡◌, ℕ, ◌+◌, ◌<◌, ◌≤◌, ◌^◌, Bool, true, false, not, ◌&&◌, cond}
+use Rattle.std.proofs.Common.{List, [], ◌∷◌, ◌++◌, length, map, Option, Some, None, Result, Ok}
+use Rattle.std.proofs.Common.{Err, refl, sym}
 use Rattle.std.proofs.Common.{ap, subst, ◌∙◌, append_assoc, append-nil, arith}
 use Rattle.std.specs.Prelude.{nat_le}
 use Rattle.std.specs.List.{flat_map, join_with_byte}
@@ -48,7 +49,8 @@ lines_under base n (node ∷ nodes) =
     (sym (append_assoc base (n ∷ []) node.path))
     ∙ ap (λ r. node_line ((base ++ n ∷ []) ++ node.path) node.text ++ r) (lines_under base n nodes)
 
-lines_listed : (base : Path) (kids : Kids) → lines_below base kids ≡ lines_at base (listed_below kids)
+lines_listed : (base : Path) (kids : Kids)
+    → lines_below base kids ≡ lines_at base (listed_below kids)
 lines_listed base no_kids = refl
 lines_listed base (kid n text inside rest) =
     let first = node_line (base ++ n ∷ []) text in
@@ -249,7 +251,8 @@ text_of_head line lines (Some w) true v nodes head is =
     → IsText (join_with_byte 10 (line ∷ lines)) v nodes) [
       | Err fault ↦ λ e h. cc
       | Ok ns ↦ λ e h. (
-          let same : record { version = w; nodes = ns } ≡ record { version = v; nodes = nodes } = cc in
+          let same : record { version = w; nodes = ns }
+          ≡ record { version = v; nodes = nodes } = cc in
           let version : w ≡ v = ap (λ (c : Contents). c.version) same in
           let list : ns ≡ nodes = ap (λ (c : Contents). c.nodes) same in
           let back = head_back line w head in

@@ -27,7 +27,7 @@ Gives (Ok part) reading = reading ≡ Ok part
 Gives (Err (line.Kind kind)) reading = reading ≡ Err kind
 Gives (Err line.NoMemory) reading = Unit {0}
 
--- what refuses a node that is in its order
+-- how a node in its order is refused
 abbrev pub refused : EditFault → LineError
 refused edit.Absent = line.Kind Many
 refused edit.Many = line.Kind Many
@@ -63,6 +63,7 @@ Grows path (Ok tree) nodes = (nodes ≡ Ok (Some (listed tree))) × IsGrown path
 Grows path (Err (line.Kind kind)) nodes = nodes ≡ Err kind
 Grows path (Err line.NoMemory) nodes = Unit {0}
 
+-- the same of a line, at the end of the nodes too
 abbrev pub Turns : Result Turn LineError → Result (Option (List Listed)) LoadKind → Type 0
 Turns (Ok turns.End) nodes = nodes ≡ Ok None
 Turns (Ok (turns.Grown path tree)) nodes =

@@ -1,7 +1,8 @@
 -- What a text holds that may be a dump: the number and the nodes, or the first faulty line.
 --
--- The head is line 1 and the root line 2, so behind so many nodes the next line is that number and
--- 2. Each line is looked at behind those before it, none of which is at fault.
+-- The head is line 1 and the root's line 2: the line behind N nodes is line N + 2, and behind the
+-- end it is line N + 3. A line is looked at behind the nodes before it, where no line is at fault
+-- among those.
 -- Source: this project's own.
 use Rattle.std.specs.Prelude.{ℕ, Bool, true, false, not, ◌+◌, List, [], ◌∷◌, ◌++◌, length, nat_le}
 use Rattle.std.specs.Prelude.{Option, Some, None, Result, Ok, Err, if◌then◌else◌}
@@ -23,7 +24,7 @@ pub record Contents : Type 0 where
 abbrev pub fault_at : {A : Type 0} → ℕ → LoadKind → Result A LoadFault
 fault_at line kind = Err (record { line = line; kind = kind })
 
--- a line feed is behind the line where there are lines behind it, and be the last one empty
+-- a line feed ends the line where others are behind it, of which the last may be empty
 abbrev pub has_feed : List (List ℕ) → Bool
 has_feed [] = false
 has_feed (line ∷ lines) = true
@@ -53,6 +54,7 @@ turn_of nodes (Ok (held.Node path text)) = placed nodes (record { path = path; t
 abbrev pub ended : List Listed → List (List ℕ) → Result (List Listed) LoadFault
 ended nodes lines = if is_end lines then Ok nodes else fault_at (length nodes + 3) BadEnd
 
+-- the rest behind what a line comes to
 abbrev pub with_turn : List Listed → Result (Option (List Listed)) LoadKind → List (List ℕ)
     → (List Listed → Result (List Listed) LoadFault) → Result (List Listed) LoadFault
 with_turn nodes (Err kind) lines later = fault_at (length nodes + 2) kind
@@ -66,6 +68,7 @@ nodes_from nodes (line ∷ lines) =
     with_turn nodes (turn_of nodes (line_of (length nodes) (has_feed lines) line)) lines
     (λ more. nodes_from more lines)
 
+-- the rest behind the root's line
 abbrev pub with_root : Result (List ℕ) LoadKind → List (List ℕ) → Result (List Listed) LoadFault
 with_root (Err kind) lines = fault_at 2 kind
 with_root (Ok text) lines = nodes_from (root_of text ∷ []) lines
@@ -79,14 +82,17 @@ abbrev pub with_nodes : ℕ → Result (List Listed) LoadFault → Result Conten
 with_nodes v (Ok nodes) = Ok (record { version = v; nodes = nodes })
 with_nodes v (Err fault) = Err fault
 
+-- the rest behind a head, which is none without its line feed
 abbrev pub with_head : Option ℕ → Bool → List (List ℕ) → Result Contents LoadFault
 with_head None has lines = fault_at 1 NoHead
 with_head (Some v) false lines = fault_at 1 NoHead
 with_head (Some v) true lines = with_nodes v (nodes_of lines)
 
+-- the contents of these lines
 abbrev pub contents_in : List (List ℕ) → Result Contents LoadFault
 contents_in [] = fault_at 1 NoHead
 contents_in (line ∷ lines) = with_head (head_of line) (has_feed lines) lines
 
+-- the contents of a text
 abbrev pub contents_of : List ℕ → Result Contents LoadFault
 contents_of bytes = contents_in (lines_of bytes)
