@@ -1,0 +1,12 @@
+pub mod Decoding
+pub mod Dumps
+pub mod Edges
+pub mod Followers
+pub mod Fronts
+pub mod Growth
+pub mod Listings
+pub mod Marks
+pub mod Nexts
+pub mod Orders
+pub mod Parts
+pub mod Texts

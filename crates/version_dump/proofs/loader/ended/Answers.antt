@@ -1,0 +1,18 @@
+use Rattle.std.proofs.Common.{◌≡◌, ◌+◌, length, false, Err, sym, subst, arith}
+use Rattle.version_dump.specs.Answers.{Lists, lines_left}
+use Rattle.version_dump.specs.Contents.{ended, is_end}
+use Rattle.version_dump.specs.Listing.{listed}
+use Rattle.version_dump.specs.declared.fault.LoadError.{LoadError}
+use Rattle.version_dump.proofs.Fronts.{follows_end}
+use Rattle.version_dump.proofs.Listings.{count_listed}
+use Rattle.version_dump.proofs.loader.ended.Goals as goal
+
+pub returns-else-is_end-clause-nodes : goal.returns-else-is_end-clause-nodes
+returns-else-is_end-clause-nodes c =
+    let number = c.count.ensures.exact c.requires.lawful in
+    let same : c.count.result + 3 ≡ length (listed c.args.tree) + 3 =
+    omega (arith, number, count_listed c.args.tree) in
+    let more : is_end (lines_left c.args.rest) ≡ false = cc in
+    subst (λ (e : LoadError). Lists (Err e) (ended (listed c.args.tree) (lines_left c.args.rest)))
+    (sym c.fault_at.ensures)
+    (follows_end (c.count.result + 3) (listed c.args.tree) (lines_left c.args.rest) more same)

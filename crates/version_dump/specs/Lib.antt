@@ -1,0 +1,7 @@
+pub mod Answers
+pub mod Contents
+pub mod Dump
+pub mod Laws
+pub mod Line
+pub mod Listing
+pub mod Order
