@@ -4,9 +4,10 @@ use Rattle.std.proofs.Common.{length, map}
 use Rattle.std.proofs.Common.{inl, inr, refl, sym, subst, arith}
 use Rattle.std.specs.Prelude.{◌⊎◌, ◌↔◌, ◌≢◌, IfSome, IsSomeAnd}
 use Rattle.outside.specs.Causes.{next_count}
-use Rattle.run_words.specs.Requests.{Asked, Run, Replay, Gen, RunAsked}
+use Rattle.run_words.specs.Requests.{Asked, Run, Replay, Gen, Load, RunAsked}
 use Rattle.run_words.specs.declared.request.GenWords.{GenWords}
 use Rattle.script_files.specs.Files.{OpensInTurn, files_read}
+use Rattle.script_files.specs.Loaded.{IsDumpFile, IsFaultyDump}
 use Rattle.script_files.specs.Replayed.{IsFaultySchedule, IsSchedule}
 use Rattle.script_files.specs.Scripts.{IsDue, IsDueFor, IsUnhindered, largest_file, most_commands}
 use Rattle.script_files.proofs.Opens.{stops_none}
@@ -18,7 +19,7 @@ use Rattle.store_run.specs.declared.finished.Finished.{Finished}
 use Rattle.doc_run.specs.Clients.{options_of}
 use Rattle.doc_run.specs.Ending.{Explains}
 use Rattle.doc_run.specs.Ending.{OpensFiles, WritesPartOf}
-use Rattle.doc_run.specs.Request.{ByPrint, IfGen, IfReplay, IfRun, names_of}
+use Rattle.doc_run.specs.Request.{ByPrint, IfGen, IfLoad, IfReplay, IfRun, names_of}
 
 if_run : (asked : Option Asked) (Fact : RunAsked → Type 0) → ((run : RunAsked) → Fact run)
     → IfRun asked Fact
@@ -26,6 +27,7 @@ if_run None Fact all = tt
 if_run (Some (Run run)) Fact all = all run
 if_run (Some (Replay name)) Fact all = tt
 if_run (Some (Gen made)) Fact all = tt
+if_run (Some (Load name)) Fact all = tt
 
 if_replay : (asked : Option Asked) (Fact : List ℕ → Type 0)
     → ((name : List ℕ) → Fact name) → IfReplay asked Fact
@@ -33,6 +35,7 @@ if_replay None Fact all = tt
 if_replay (Some (Run run)) Fact all = tt
 if_replay (Some (Replay name)) Fact all = all name
 if_replay (Some (Gen made)) Fact all = tt
+if_replay (Some (Load name)) Fact all = tt
 
 if_gen : (asked : Option Asked) (Fact : GenWords → Type 0) → ((made : GenWords) → Fact made)
     → IfGen asked Fact
@@ -40,6 +43,15 @@ if_gen None Fact all = tt
 if_gen (Some (Run run)) Fact all = tt
 if_gen (Some (Replay name)) Fact all = tt
 if_gen (Some (Gen made)) Fact all = all made
+if_gen (Some (Load name)) Fact all = tt
+
+if_load : (asked : Option Asked) (Fact : List ℕ → Type 0) → ((name : List ℕ) → Fact name)
+    → IfLoad asked Fact
+if_load None Fact all = tt
+if_load (Some (Run run)) Fact all = tt
+if_load (Some (Replay name)) Fact all = tt
+if_load (Some (Gen made)) Fact all = tt
+if_load (Some (Load name)) Fact all = all name
 
 if_some : (told : Option (List ℕ)) (Fact : List ℕ → Type 0)
     → ((bytes : List ℕ) → Fact bytes) → IfSome told Fact
@@ -84,6 +96,25 @@ pub unread_complete : (asked : Option Asked) (holds : List ℕ → Option (List 
     → (status ≡ 0) ⊎ (status ≡ 3) ⊎ (status ≡ 4) ⊎ (status ≡ 5))
 unread_complete asked holds status is = if_replay asked _ (λ name good. inr (inr (inr is)))
 
+pub unread_dump : (asked : Option Asked) (holds : List ℕ → Option (List ℕ)) (status : ℕ)
+    → status ≡ 5 → IfLoad asked (λ name. IfSome (holds name) (λ bytes.
+    (status ≡ 2) ↔ (IsUnhindered status × IsFaultyDump bytes)))
+unread_dump asked holds status is =
+    if_load asked _ (λ name. if_some (holds name) _ (λ bytes.
+    ((λ two. absurd (omega (arith, is, two))), (λ facts. absurd (facts.0.1 is)))))
+
+pub unread_large_dump : (asked : Option Asked) (holds : List ℕ → Option (List ℕ)) (status : ℕ)
+    → status ≡ 5 → IfLoad asked (λ name. IfSome (holds name) (λ bytes.
+    (status ≡ 6) ↔ (IsUnhindered status × (largest_file < length bytes))))
+unread_large_dump asked holds status is =
+    if_load asked _ (λ name. if_some (holds name) _ (λ bytes.
+    ((λ six. absurd (omega (arith, is, six))), (λ facts. absurd (facts.0.1 is)))))
+
+pub unread_complete_load : (asked : Option Asked) (holds : List ℕ → Option (List ℕ))
+    (status : ℕ) → status ≡ 5 → IfLoad asked (λ name. IsSomeAnd (holds name) IsDumpFile
+    → (status ≡ 0) ⊎ (status ≡ 3) ⊎ (status ≡ 4) ⊎ (status ≡ 5))
+unread_complete_load asked holds status is = if_load asked _ (λ name good. inr (inr (inr is)))
+
 made_unwritten : (print : Option ℕ) (Whole : Type 0) (One : ℕ → Type 0) → Whole
     → ((client : ℕ) → One client) → ByPrint print Whole One
 made_unwritten None Whole One whole one = whole
@@ -96,6 +127,7 @@ unwritten_part (Some (Run run)) holds old new is = inl is
 unwritten_part (Some (Replay name)) holds old new is = inl is
 unwritten_part (Some (Gen made)) holds old new is =
     made_unwritten made.print _ _ (inl is) (λ client. inl is)
+unwritten_part (Some (Load name)) holds old new is = inl is
 
 -- no file was opened
 pub opens_nothing : (status before files : ℕ) → status ≡ 5
@@ -150,6 +182,14 @@ opens_replay asked name status before now is first =
     subst (λ a. OpensFiles status before now (files_read (length (names_of a)))) (sym is)
     (opens_one status before now first)
 
+-- the file of a dump
+pub opens_load : (asked : Option Asked) (name : List ℕ) (status before now : ℕ)
+    → asked ≡ Some (Load name) → now ≡ next_count before
+    → OpensFiles status before now (files_read (length (names_of asked)))
+opens_load asked name status before now is first =
+    subst (λ a. OpensFiles status before now (files_read (length (names_of a)))) (sym is)
+    (opens_one status before now first)
+
 pub ruleset asking = (
   unread_scripts,
   unread_large_made,
@@ -157,6 +197,9 @@ pub ruleset asking = (
   unread_schedule,
   unread_large,
   unread_complete,
+  unread_dump,
+  unread_large_dump,
+  unread_complete_load,
   unwritten_part,
   opens_nothing,
   opens_no_file,
@@ -165,4 +208,5 @@ pub ruleset asking = (
   due_asked,
   unread_stops,
   opens_replay,
+  opens_load,
 )

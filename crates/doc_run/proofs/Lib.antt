@@ -4,3 +4,4 @@ pub mod Asking
 pub mod Writing
 pub mod Summaries
 pub mod Deciding
+pub mod Loading

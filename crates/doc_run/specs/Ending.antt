@@ -10,13 +10,16 @@ use Rattle.doc_model.specs.Merge.{IsMerge}
 use Rattle.doc_model.specs.declared.command.Command.{Command}
 use Rattle.doc_model.specs.declared.command.Entry.{Entry}
 use Rattle.outside.specs.Pieces.{AppendsPart}
+use Rattle.doc_tree.specs.Tree.{DocTree}
+use Rattle.run_output.specs.Loaded.{loaded_text_of}
 use Rattle.run_output.specs.Output.{IsOutput}
 use Rattle.run_output.specs.Summary.{summary_text_of}
 use Rattle.run_output.specs.declared.output.Shown.{Shown}
 use Rattle.run_output.specs.declared.summary.Made.{Made}
-use Rattle.run_words.specs.Requests.{Asked, Run, Replay, Gen, RunAsked}
+use Rattle.run_words.specs.Requests.{Asked, Run, Replay, Gen, Load, RunAsked}
 use Rattle.run_words.specs.declared.request.GenWords.{GenWords}
 use Rattle.script_files.specs.Files.{opened}
+use Rattle.script_files.specs.Loaded.{HoldsDump, RefusesDump}
 use Rattle.script_files.specs.Replayed.{IsReading, IsTextOf}
 use Rattle.script_files.specs.Scripts.{AreScripts, most_commands}
 use Rattle.script_files.specs.Sorts.{OfScripts, OfSchedules, Refused, Sort, sort_of}
@@ -94,6 +97,11 @@ WritesMadePart made old new =
     ByPrint made.print (WritesPart (IsMade made) default_options (IsSummaryOf made) old new)
     (λ client. (new ≡ old) ⊎ AppendsPart old new (printed_of made client))
 
+-- what is written of the dump that the file holds
+abbrev pub IsLoadedText : Option (List ℕ) → List ℕ → Type 0
+IsLoadedText told text =
+    (v : ℕ) × (t : DocTree) × HoldsDump told v t × (text ≡ loaded_text_of v t)
+
 -- nothing was written, or a front of what the request asks for
 abbrev pub WritesPartOf : (List ℕ → Option (List ℕ)) → Option Asked → Option (List ℕ)
     → Option (List ℕ) → Type 0
@@ -103,6 +111,8 @@ WritesPartOf holds (Some (Run run)) old new =
     (IsOutputOf (map holds run.files) run) old new
 WritesPartOf holds (Some (Replay name)) old new = WritesTextPart (IsTextOf (holds name)) old new
 WritesPartOf holds (Some (Gen made)) old new = WritesMadePart made old new
+WritesPartOf holds (Some (Load name)) old new =
+    WritesTextPart (IsLoadedText (holds name)) old new
 
 -- What is so by the sort of a fault: the first fact where the run was refused, the next where the
 -- output could not be written, the last where memory was wanting.
@@ -187,3 +197,19 @@ WritesReplay told old new None = WritesAll (IsTextOf told) old new
 WritesReplay told old new (Some fault) =
     BySort (sort_of fault) (new ≡ old) (WritesFront (IsTextOf told) old new)
     (WritesTextPart (IsTextOf told) old new)
+
+-- By the fault of the loading of a dump.
+
+-- what an ending says of the file
+abbrev pub ExplainsLoad : Option (List ℕ) → Option Fault → Type 0
+ExplainsLoad told None = Unit {0}
+ExplainsLoad told (Some fault) =
+    BySort (sort_of fault) (RefusesDump told fault) (Unit {0}) (Unit {0})
+
+-- what an ending says of what was written
+abbrev pub WritesLoad : Option (List ℕ) → Option (List ℕ) → Option (List ℕ) → Option Fault
+    → Type 0
+WritesLoad told old new None = WritesAll (IsLoadedText told) old new
+WritesLoad told old new (Some fault) =
+    BySort (sort_of fault) (new ≡ old) (WritesFront (IsLoadedText told) old new)
+    (WritesTextPart (IsLoadedText told) old new)

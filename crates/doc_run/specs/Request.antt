@@ -1,7 +1,7 @@
 -- What is so by what the words of a command line ask for.
 -- Source: this project's own.
 use Rattle.std.specs.Prelude.{ℕ, List, [], ◌∷◌, Option, None, Some, IsNone}
-use Rattle.run_words.specs.Requests.{Asked, Run, Replay, Gen, RunAsked}
+use Rattle.run_words.specs.Requests.{Asked, Run, Replay, Gen, Load, RunAsked}
 use Rattle.run_words.specs.declared.request.GenWords.{GenWords}
 
 -- the files that a request names, in order
@@ -10,6 +10,7 @@ names_of None = []
 names_of (Some (Run run)) = run.files
 names_of (Some (Replay name)) = name ∷ []
 names_of (Some (Gen made)) = []
+names_of (Some (Load name)) = name ∷ []
 
 -- the request is a run of clients, with scripts of files or generated ones
 abbrev pub RunsClients : Option Asked → Type 0
@@ -17,6 +18,7 @@ RunsClients None = ⊥
 RunsClients (Some (Run run)) = Unit {0}
 RunsClients (Some (Replay name)) = ⊥
 RunsClients (Some (Gen made)) = IsNone made.print
+RunsClients (Some (Load name)) = ⊥
 
 -- the fact holds of the words, if the request is a run of the scripts of files
 abbrev pub IfRun : Option Asked → (RunAsked → Type 0) → Type 0
@@ -24,6 +26,7 @@ IfRun None Fact = Unit {0}
 IfRun (Some (Run run)) Fact = Fact run
 IfRun (Some (Replay name)) Fact = Unit {0}
 IfRun (Some (Gen made)) Fact = Unit {0}
+IfRun (Some (Load name)) Fact = Unit {0}
 
 -- the request is a run of the scripts of files, and the fact holds of its words
 abbrev pub IsRunAnd : Option Asked → (RunAsked → Type 0) → Type 0
@@ -31,6 +34,7 @@ IsRunAnd None Fact = ⊥
 IsRunAnd (Some (Run run)) Fact = Fact run
 IsRunAnd (Some (Replay name)) Fact = ⊥
 IsRunAnd (Some (Gen made)) Fact = ⊥
+IsRunAnd (Some (Load name)) Fact = ⊥
 
 -- the fact holds of the name, if the request is a replay
 abbrev pub IfReplay : Option Asked → (List ℕ → Type 0) → Type 0
@@ -38,6 +42,7 @@ IfReplay None Fact = Unit {0}
 IfReplay (Some (Run run)) Fact = Unit {0}
 IfReplay (Some (Replay name)) Fact = Fact name
 IfReplay (Some (Gen made)) Fact = Unit {0}
+IfReplay (Some (Load name)) Fact = Unit {0}
 
 -- the request is a replay, and the fact holds of the name
 abbrev pub IsReplayAnd : Option Asked → (List ℕ → Type 0) → Type 0
@@ -45,6 +50,7 @@ IsReplayAnd None Fact = ⊥
 IsReplayAnd (Some (Run run)) Fact = ⊥
 IsReplayAnd (Some (Replay name)) Fact = Fact name
 IsReplayAnd (Some (Gen made)) Fact = ⊥
+IsReplayAnd (Some (Load name)) Fact = ⊥
 
 -- the fact holds of the words, if the request is for generated scripts
 abbrev pub IfGen : Option Asked → (GenWords → Type 0) → Type 0
@@ -52,6 +58,23 @@ IfGen None Fact = Unit {0}
 IfGen (Some (Run run)) Fact = Unit {0}
 IfGen (Some (Replay name)) Fact = Unit {0}
 IfGen (Some (Gen made)) Fact = Fact made
+IfGen (Some (Load name)) Fact = Unit {0}
+
+-- the fact holds of the name, if the request is to load a dump
+abbrev pub IfLoad : Option Asked → (List ℕ → Type 0) → Type 0
+IfLoad None Fact = Unit {0}
+IfLoad (Some (Run run)) Fact = Unit {0}
+IfLoad (Some (Replay name)) Fact = Unit {0}
+IfLoad (Some (Gen made)) Fact = Unit {0}
+IfLoad (Some (Load name)) Fact = Fact name
+
+-- the request is to load a dump, and the fact holds of the name
+abbrev pub IsLoadAnd : Option Asked → (List ℕ → Type 0) → Type 0
+IsLoadAnd None Fact = ⊥
+IsLoadAnd (Some (Run run)) Fact = ⊥
+IsLoadAnd (Some (Replay name)) Fact = ⊥
+IsLoadAnd (Some (Gen made)) Fact = ⊥
+IsLoadAnd (Some (Load name)) Fact = Fact name
 
 -- the one fact where no script is printed, else the other of the client whose script it is
 abbrev pub ByPrint : Option ℕ → Type 0 → (ℕ → Type 0) → Type 0

@@ -4,7 +4,7 @@
 //! shelf does not tell what a file holds, the clauses speak of some bytes that it may have held.
 //! The words are read with memory, so want of it may come before all else.
 ghost use Rattle.std.specs.Prelude.{◌≡◌, ◌≢◌, ℕ, ◌+◌, ◌*◌, ◌≤◌};
-ghost use Rattle.std.specs.Prelude.{◌<◌, ◌⊎◌, ◌↔◌, Err, None, Some, IsSome, IsNone};
+ghost use Rattle.std.specs.Prelude.{◌<◌, ◌⊎◌, ◌↔◌, Err, Some, IsSome, IsNone};
 ghost use Rattle.std.specs.Prelude.{IsSomeAnd, IfSome, length, map};
 ghost use Rattle.std.specs.Io.KnownBytes.{Appends};
 ghost use Rattle.outside.specs.Calls.{IsUnbroken, IsOrderly};
@@ -12,18 +12,22 @@ ghost use Rattle.outside.specs.Causes.{Rose};
 ghost use Rattle.outside.specs.Pieces.{AppendsPart};
 ghost use Rattle.cmd_text.specs.declared.fault.ScriptKind.{ScriptKind};
 ghost use Rattle.core_replay.specs.declared.fault.ScheduleKind.{ScheduleKind};
+ghost use Rattle.version_dump.specs.declared.fault.LoadKind.{LoadKind};
 ghost use Rattle.doc_run.specs.Clients.{ComesBy, IsMade, default_options, options_of};
-ghost use Rattle.doc_run.specs.Ending.{IsOutputOf, IsRefusal, IsSummaryOf, OpensFiles, WritesAll};
-ghost use Rattle.doc_run.specs.Ending.{WritesFront, WritesPartOf, printed_of};
-ghost use Rattle.doc_run.specs.Request.{ByPrint, IfGen, IfReplay, IfRun, IsReplayAnd, IsRunAnd};
-ghost use Rattle.doc_run.specs.Request.{RunsClients, names_of};
+ghost use Rattle.doc_run.specs.Ending.{IsLoadedText, IsOutputOf, IsRefusal, IsSummaryOf};
+ghost use Rattle.doc_run.specs.Ending.{OpensFiles, WritesAll, WritesFront, WritesPartOf};
+ghost use Rattle.doc_run.specs.Ending.{printed_of};
+ghost use Rattle.doc_run.specs.Request.{ByPrint, IfGen, IfLoad, IfReplay, IfRun, IsLoadAnd};
+ghost use Rattle.doc_run.specs.Request.{IsReplayAnd, IsRunAnd, RunsClients, names_of};
 ghost use Rattle.run_words.specs.Requests.{request_of};
 ghost use Rattle.script_files.specs.Fault.{status_of};
 ghost use Rattle.script_files.specs.Files.{files_read, opened};
+ghost use Rattle.script_files.specs.Loaded.{IsDumpFile, IsDumpRead, IsFaultyDump};
 ghost use Rattle.script_files.specs.Replayed.{IsFaultySchedule, IsReading, IsSchedule, IsTextOf};
 ghost use Rattle.script_files.specs.Scripts.{AreScripts, IsDueFor, IsUnhindered, StopsBehind};
 ghost use Rattle.script_files.specs.Scripts.{largest_file, most_commands};
 
+use crate::dump::load_dump;
 use crate::generated::run_generated;
 use crate::outcome::Outcome;
 use crate::schedule::run_schedule;
@@ -54,7 +58,7 @@ pub fn run<R: Threads + Wait + Sync, H: Shelf, S: Sink, G: Gate + Sync>(
 
     // Done: what the run of the files' scripts came to, and its output is all that was written; or
     // the same of generated scripts, and their summary; or the script that was asked for; or the
-    // replay text of the file's schedule.
+    // replay text of the file's schedule; or how large the tree of the file's dump is.
     ensures done { result.status ≡ 0 → IfRun (request_of words.now) (λ run.
         IsSomeAnd result.finished (λ f.
         ComesBy (AreScripts (map (H.holds shelf.old) run.files)) (options_of run) f
@@ -67,6 +71,10 @@ pub fn run<R: Threads + Wait + Sync, H: Shelf, S: Sink, G: Gate + Sync>(
         (λ client. Appends (S.written sink.old) (S.written sink.new) (printed_of made client))) }
     ensures replayed { result.status ≡ 0 → IfReplay (request_of words.now) (λ name.
         WritesAll (IsTextOf (H.holds shelf.old name)) (S.written sink.old) (S.written sink.new)) }
+
+    ensures loaded { result.status ≡ 0 → IfLoad (request_of words.now) (λ name.
+        WritesAll (IsLoadedText (H.holds shelf.old name)) (S.written sink.old)
+        (S.written sink.new)) }
 
     // Refused for its words, or for the files, where what the shelf tells of them decides that: the
     // status is that which is due, and with good files it is 0, or a device failed, or memory was
@@ -106,6 +114,23 @@ pub fn run<R: Threads + Wait + Sync, H: Shelf, S: Sink, G: Gate + Sync>(
         IsSomeAnd (H.holds shelf.old name) IsSchedule
         → (result.status ≡ 0) ⊎ (result.status ≡ 3) ⊎ (result.status ≡ 4)
         ⊎ (result.status ≡ 5)) }
+    ensures dump { IfLoad (request_of words.now) (λ name.
+        IfSome (H.holds shelf.old name) (λ bytes.
+        (result.status ≡ 2) ↔ (IsUnhindered result.status × IsFaultyDump bytes))) }
+    ensures dump_line { (line : ℕ) (kind : LoadKind) →
+        result.fault ≡ Some (Fault.Dump line kind) →
+        IsLoadAnd (request_of words.now) (λ name.
+        IsDumpRead (H.holds shelf.old name) (Err (Fault.Dump line kind))) }
+    ensures large_dump { IfLoad (request_of words.now) (λ name.
+        IfSome (H.holds shelf.old name) (λ bytes.
+        (result.status ≡ 6) ↔ (IsUnhindered result.status × (largest_file < length bytes)))) }
+    ensures large_dump_file { (file : ℕ) → result.fault ≡ Some (Fault.TooLarge file) →
+        IfLoad (request_of words.now) (λ name.
+        IsDumpRead (H.holds shelf.old name) (Err (Fault.TooLarge file))) }
+    ensures complete_load { IfLoad (request_of words.now) (λ name.
+        IsSomeAnd (H.holds shelf.old name) IsDumpFile
+        → (result.status ≡ 0) ⊎ (result.status ≡ 3) ⊎ (result.status ≡ 4)
+        ⊎ (result.status ≡ 5)) }
 
     // A device failed, or memory was wanting.
     ensures read { result.status ≡ 3 → Rose (H.faults shelf.old) (H.faults shelf.new) }
@@ -125,6 +150,9 @@ pub fn run<R: Threads + Wait + Sync, H: Shelf, S: Sink, G: Gate + Sync>(
         (printed_of made client))) }
     ensures write_front { result.status ≡ 4 → IfReplay (request_of words.now) (λ name.
         WritesFront (IsTextOf (H.holds shelf.old name)) (S.written sink.old)
+        (S.written sink.new)) }
+    ensures write_loaded { result.status ≡ 4 → IfLoad (request_of words.now) (λ name.
+        WritesFront (IsLoadedText (H.holds shelf.old name)) (S.written sink.old)
         (S.written sink.new)) }
     ensures memory { result.status ≡ 5 → (S.written sink.new ≡ S.written sink.old)
         ⊎ Rose (S.wants sink.old) (S.wants sink.new) }
@@ -158,6 +186,7 @@ pub fn run<R: Threads + Wait + Sync, H: Shelf, S: Sink, G: Gate + Sync>(
         Ok(Request::Run(run)) => run_scripts(alloc, rt, &run, shelf, sink, gate),
         Ok(Request::Replay(name)) => run_schedule(alloc, name, shelf, sink),
         Ok(Request::Gen(made)) => run_generated(alloc, rt, made, sink, gate),
+        Ok(Request::Load(name)) => load_dump(alloc, name, shelf, sink),
         Err(WordsFault::Usage) => Outcome::usage(),
         Err(WordsFault::NoMemory) => Outcome::refused(Fault::Memory),
     }

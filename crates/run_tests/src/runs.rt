@@ -1,4 +1,4 @@
-//! Whole runs of one client, replays, generated scripts, and what is refused.
+//! Whole runs of one client, replays, generated scripts, dumps, and what is refused.
 use crate::outcomes::{DONE, FINISHED, Shown, files, refusal_by, shown_by, shown_of, words};
 use cmd_text::ScriptKind;
 use core_replay::ScheduleKind;
@@ -10,6 +10,7 @@ use std::alloc::Global;
 use std::sync::Wait;
 use std::test::Fail;
 use std::thread::Threads;
+use version_dump::LoadKind;
 
 const HELLO: &[u8] = b"put a hello\nget a\n";
 
@@ -70,6 +71,41 @@ fn a_faulty_schedule_is_refused_at_its_first_faulty_line(rt: HostRuntime) -> Res
     ];
     for (schedule, text) in table {
         let refusal = refusal_by(rt.alloc(), &rt, &["replay", "f"], schedule, text)?;
+        assert_eq!(rt; refusal, (2, true), "{text}");
+    }
+    Ok(())
+}
+
+/// A dump of the second version of `put a x / put a/b y`.
+const DUMP: &[u8] = b"docs-dump 1 2\n. \"\"\na \"x\"\na/b \"y\"\nend 3\n";
+
+#[test]
+fn a_dump_is_loaded(rt: HostRuntime) -> Result<(), Fail> {
+    let text = "version 2\nnodes 3\nheight 2\n";
+    let shown = shown_by(rt.alloc(), &rt, &["load", "f"], DUMP, text.as_bytes())?;
+    assert_eq!(rt; shown, DONE);
+    Ok(())
+}
+
+#[test]
+fn a_faulty_dump_is_refused_at_its_first_faulty_line(rt: HostRuntime) -> Result<(), Fail> {
+    let table: [(&[u8], &str); 4] = [
+        (HELLO, "docheap: file 1: line 1: NoHead"),
+        (
+            b"docs-dump 1 2\n. \"\"\na \"x\"\na/b \"y\"\n",
+            "docheap: file 1: line 5: BadEnd",
+        ),
+        (
+            b"docs-dump 1 2\n. \"\"\na/b \"y\"\na \"x\"\nend 3\n",
+            "docheap: file 1: line 3: NoOrder",
+        ),
+        (
+            b"docs-dump 1 2\n. \"\"\na x\nend 2\n",
+            "docheap: file 1: line 3: BadLine",
+        ),
+    ];
+    for (dump, text) in table {
+        let refusal = refusal_by(rt.alloc(), &rt, &["load", "f"], dump, text)?;
         assert_eq!(rt; refusal, (2, true), "{text}");
     }
     Ok(())
@@ -170,11 +206,12 @@ fn a_failing_sink_ends_the_run(rt: HostRuntime) -> Result<(), Fail> {
 
 #[test]
 fn other_words_are_a_faulty_command_line(rt: HostRuntime) -> Result<(), Fail> {
-    let table: [&[&str]; 6] = [
+    let table: [&[&str]; 7] = [
         &[],
         &["run"],
         &["runs", "f"],
         &["replay", "f", "f"],
+        &["load"],
         &["run", "--cells", "63", "f"],
         &["gen", "1", "2", "3", "--print", "3"],
     ];
@@ -291,6 +328,13 @@ fn each_fault_has_its_text(rt: HostRuntime) -> Result<(), Fail> {
                 kind: ScheduleKind::NoEvent,
             },
             "docheap: file 1: line 7: NoEvent",
+        ),
+        (
+            Fault::Dump {
+                line: 7,
+                kind: LoadKind::NoOrder,
+            },
+            "docheap: file 1: line 7: NoOrder",
         ),
         (Fault::ReadFault { file: 1 }, "docheap: file 1: read fault"),
         (Fault::WriteFault, "docheap: write fault"),

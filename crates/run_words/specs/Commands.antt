@@ -72,8 +72,9 @@ course_rules =
 abbrev pub run_app : App
 run_app = with_rules (with_rules (bare (codes "run")) room_rules) course_rules
 
-abbrev pub replay_app : App
-replay_app = with_rules (bare (codes "replay")) (name_rule (codes "file") ∷ [])
+-- of a subcommand of this name that takes one file
+abbrev pub file_app : Text → App
+file_app subcommand = with_rules (bare subcommand) (name_rule (codes "file") ∷ [])
 
 abbrev pub gen_app : App
 gen_app = with_rules (bare (codes "gen")) (

@@ -40,3 +40,4 @@ abbrev pub IsWithin : Request → Type 0
 IsWithin (code.Run run) = IsRunWithin run
 IsWithin (code.Replay name) = Unit {0}
 IsWithin (code.Gen words) = IsGenWithin words
+IsWithin (code.Load name) = Unit {0}

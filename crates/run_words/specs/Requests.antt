@@ -13,7 +13,7 @@ use Rattle.std.specs.Prelude.{option_and_then}
 use Rattle.std.specs.Prelude.{option_map, unwrap_or}
 use Rattle.clap.specs.Words.{App, Kinds, Row, Text, all_of, fault_of, first_of, matches_of}
 use Rattle.clap.specs.Words.{one_of}
-use Rattle.run_words.specs.Commands.{gen_app, replay_app, run_app}
+use Rattle.run_words.specs.Commands.{file_app, gen_app, run_app}
 use Rattle.run_words.specs.Readings.{flag_in, names_in, number_in}
 use Rattle.run_words.specs.declared.request.GenWords.{GenWords}
 use Rattle.run_words.specs.declared.request.Request.{Request}
@@ -38,6 +38,7 @@ pub data Asked : Type 0 where
   Run : RunAsked → Asked
   Replay : Text → Asked
   Gen : GenWords → Asked
+  Load : Text → Asked
 
 -- what was found, where no step of the reading fails
 abbrev pub taken : {A : Type 0} → Kinds → Option A → Option A
@@ -77,9 +78,10 @@ read_by app reading words = taken (fault_of app words) (reading (matches_of app 
 abbrev pub run_of : List Text → Option RunAsked
 run_of words = read_by run_app (λ rows. if_some_file (run_found rows)) words
 
--- the words behind `replay`: a name
-abbrev pub replay_of : List Text → Option Text
-replay_of words = read_by replay_app (λ rows. first_of (codes "file") rows) words
+-- the words behind a subcommand of this name that takes one file: the file's name
+abbrev pub file_of : Text → List Text → Option Text
+file_of subcommand words =
+    read_by (file_app subcommand) (λ rows. first_of (codes "file") rows) words
 
 -- the words, where the client whose script is printed is one of the clients
 abbrev pub if_client : Option ℕ → GenWords → Option GenWords
@@ -113,8 +115,9 @@ gen_of words = read_by gen_app gen_found words
 abbrev pub request_behind : Text → List Text → Option Asked
 request_behind word words =
     cond (bytes_eq word (codes "run")) (option_map Run (run_of words))
-    (cond (bytes_eq word (codes "replay")) (option_map Replay (replay_of words))
-    (cond (bytes_eq word (codes "gen")) (option_map Gen (gen_of words)) None))
+    (cond (bytes_eq word (codes "replay")) (option_map Replay (file_of (codes "replay") words))
+    (cond (bytes_eq word (codes "gen")) (option_map Gen (gen_of words))
+    (cond (bytes_eq word (codes "load")) (option_map Load (file_of (codes "load") words)) None)))
 
 -- what the words ask for, or nothing where they are no command line
 abbrev pub request_of : List Text → Option Asked
@@ -139,6 +142,7 @@ abbrev pub asked_by : Request → Asked
 asked_by (code.Run run) = Run (run_asked_by run)
 asked_by (code.Replay name) = Replay name.now
 asked_by (code.Gen words) = Gen words
+asked_by (code.Load name) = Load name.now
 
 -- an answer is what the words ask for, seen so, and usage exactly where that is nothing
 abbrev pub Gives : {V A : Type 0} → (V → A) → Result V WordsFault → Option A → Type 0

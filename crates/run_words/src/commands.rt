@@ -2,8 +2,8 @@
 //!
 //! None of them has subcommands, short options, or words for help and version.
 ghost use Rattle.clap.specs.Words.{app_of, rule_of};
-ghost use Rattle.run_words.specs.Commands.{bare, course_rules, flag_rule, gen_app, name_rule};
-ghost use Rattle.run_words.specs.Commands.{names_rule, number_rule, option_rule, replay_app};
+ghost use Rattle.run_words.specs.Commands.{bare, course_rules, file_app, flag_rule, gen_app};
+ghost use Rattle.run_words.specs.Commands.{name_rule, names_rule, number_rule, option_rule};
 ghost use Rattle.run_words.specs.Commands.{room_rules, run_app, with_rules};
 ghost use Rattle.std.specs.Prelude.{IfOk, false, ◌≡◌};
 
@@ -41,11 +41,14 @@ fn with_course<'a>(alloc: Global, command: Command<'a>) -> Result<Command<'a>, A
         .arg(names(alloc, "file"))
 }
 
-/// The command of `replay`.
-pub(crate) fn replay_command<'a>(alloc: Global) -> Result<Command<'a>, AllocError>
-    ensures { IfOk result (λ command. app_of command ≡ replay_app) }
+/// The command of a subcommand that takes one file.
+pub(crate) fn file_command<'a>(
+    alloc: Global,
+    subcommand: &'a str,
+) -> Result<Command<'a>, AllocError>
+    ensures { IfOk result (λ command. app_of command ≡ file_app subcommand.entry.now) }
 {
-    bare_command(alloc, "replay").arg(name(alloc, "file"))
+    bare_command(alloc, subcommand).arg(name(alloc, "file"))
 }
 
 /// The command of `gen`.

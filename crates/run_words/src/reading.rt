@@ -4,13 +4,14 @@ ghost use Rattle.run_words.specs.Commands.{gen_app, run_app};
 ghost use Rattle.run_words.specs.Limits.{HasGenNumbersWithin, HasNumbersWithin, IsGenWithin};
 ghost use Rattle.run_words.specs.Limits.{IsRunWithin, IsWithin};
 ghost use Rattle.run_words.specs.Readings.{AreAccepted};
-ghost use Rattle.run_words.specs.Requests.{Gen, Gives, Replay, Run, asked_by, gen_found, gen_of};
-ghost use Rattle.run_words.specs.Requests.{if_printable, if_some_file, replay_of, request_behind};
-ghost use Rattle.run_words.specs.Requests.{request_of, run_asked_by, run_found, run_of};
-ghost use Rattle.std.specs.Prelude.{IfOk, IfSome, map, option_map, string_bytes, ◌≡◌};
+ghost use Rattle.run_words.specs.Requests.{Gen, Gives, Load, Replay, Run, asked_by, file_of};
+ghost use Rattle.run_words.specs.Requests.{gen_found, gen_of, if_printable, if_some_file};
+ghost use Rattle.run_words.specs.Requests.{request_behind, request_of, run_asked_by, run_found};
+ghost use Rattle.run_words.specs.Requests.{run_of};
+ghost use Rattle.std.specs.Prelude.{IfOk, IfSome, codes, map, option_map, string_bytes, ◌≡◌};
 ghost use Rattle.std.specs.Prelude.{◌≤◌};
 
-use crate::commands::{gen_command, replay_command, run_command};
+use crate::commands::{file_command, gen_command, run_command};
 use crate::limits::{CELLS, CLIENTS, COMMANDS, CYCLES, KEEP, MINOR, START, VERSIONS};
 use crate::request::{GenWords, Request, RunWords, WordsFault};
 use crate::values::{flag, matches_on, name, names, number, number_or};
@@ -43,6 +44,7 @@ fn read_behind<'a>(
         "run" => run_request(alloc, words),
         "replay" => replay_request(alloc, words),
         "gen" => gen_request(alloc, words),
+        "load" => load_request(alloc, words),
         _ => Err(WordsFault::Usage),
     }
 }
@@ -60,11 +62,22 @@ fn run_request<'a>(alloc: Global, words: &'a [String]) -> Result<Request<'a>, Wo
 
 fn replay_request<'a>(alloc: Global, words: &'a [String]) -> Result<Request<'a>, WordsFault>
     ensures request { Gives asked_by result
-        (option_map Replay (replay_of (map string_bytes words.entry.now))) }
+        (option_map Replay (file_of (codes "replay") (map string_bytes words.entry.now))) }
     ensures within { IfOk result IsWithin }
 {
-    match replay_words(alloc, words) {
+    match file_words(alloc, "replay", words) {
         Ok(name) => Ok(Request::Replay(name)),
+        Err(fault) => Err(fault),
+    }
+}
+
+fn load_request<'a>(alloc: Global, words: &'a [String]) -> Result<Request<'a>, WordsFault>
+    ensures request { Gives asked_by result
+        (option_map Load (file_of (codes "load") (map string_bytes words.entry.now))) }
+    ensures within { IfOk result IsWithin }
+{
+    match file_words(alloc, "load", words) {
+        Ok(name) => Ok(Request::Load(name)),
         Err(fault) => Err(fault),
     }
 }
@@ -128,12 +141,16 @@ fn some_file(run: RunWords<'_>) -> Result<RunWords<'_>, WordsFault>
     Ok(run)
 }
 
-// The words behind `replay`.
-fn replay_words<'a>(alloc: Global, words: &'a [String]) -> Result<&'a str, WordsFault>
+// The words behind a subcommand that takes one file.
+fn file_words<'a>(
+    alloc: Global,
+    subcommand: &'a str,
+    words: &'a [String],
+) -> Result<&'a str, WordsFault>
     ensures { Gives (λ name. name.now) result
-        (replay_of (map string_bytes words.entry.now)) }
+        (file_of subcommand.entry.now (map string_bytes words.entry.now)) }
 {
-    let command = replay_command(alloc)?;
+    let command = file_command(alloc, subcommand)?;
     match matches_on(command, words) {
         Ok(matches) => name(&matches, "file").ok_or(WordsFault::Usage),
         Err(fault) => Err(fault),

@@ -13,6 +13,8 @@ pub enum Request<'a> {
     Replay(&'a str),
     /// Scripts are generated, and run or printed.
     Gen(GenWords),
+    /// The dump in the file of this name is loaded.
+    Load(&'a str),
 }
 
 /// The words of a run.

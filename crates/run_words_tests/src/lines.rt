@@ -124,6 +124,22 @@ fn a_replay_names_one_file(rt: HostRuntime) -> Result<(), Fail> {
     Ok(())
 }
 
+fn is_load_of(alloc: Global, line: &str, file: &str) -> Result<bool, WordsFault> {
+    let words = words_of(alloc, line)?;
+    Ok(match &read_words(alloc, &words)? {
+        Request::Load(name) => *name == file,
+        _ => false,
+    })
+}
+
+#[test]
+fn a_load_names_one_file(rt: HostRuntime) -> Result<(), Fail> {
+    for (line, file) in &[("load a.dump", "a.dump"), ("load -- -a", "-a")] {
+        assert!(rt; is_load_of(rt.alloc(), line, file)?, "at {line:?}");
+    }
+    Ok(())
+}
+
 fn gen_of(alloc: Global, line: &str) -> Result<Option<GenWords>, WordsFault> {
     let words = words_of(alloc, line)?;
     Ok(match &read_words(alloc, &words)? {
@@ -169,7 +185,7 @@ fn fault_of(alloc: Global, line: &str) -> Result<Option<WordsFault>, AllocError>
     Ok(read_words(alloc, &words).err())
 }
 
-const REFUSED: [&str; 60] = [
+const REFUSED: [&str; 63] = [
     "''",
     "a",
     "Run a",
@@ -213,6 +229,9 @@ const REFUSED: [&str; 60] = [
     "replay a b",
     "replay --history a",
     "replay --help",
+    "load",
+    "load a b",
+    "load --history a",
     "gen",
     "gen 1 2",
     "gen 1 2 3 4",

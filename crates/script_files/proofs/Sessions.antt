@@ -11,13 +11,16 @@ use Rattle.std.proofs.lemmas.Bool.{lt-ltb, ltb-true, ltb-false}
 use Rattle.outside.specs.Pieces.{IsFrontOf}
 use Rattle.doc_model.specs.declared.command.Command.{Command}
 use Rattle.script_files.proofs.Sorting.{refused_as}
-use Rattle.script_files.specs.Sorts.{OfSchedules, OfScripts, sort_of}
+use Rattle.script_files.specs.Sorts.{OfDumps, OfSchedules, OfScripts, sort_of}
 use Rattle.script_files.specs.declared.fault.Fault.{Fault}
 use Rattle.script_files.specs.declared.fault.Fault.TheVariants.{TooLarge}
 use Rattle.script_files.specs.Scripts.{after_reading, script_in, within_size, IsScriptIn}
+use Rattle.script_files.specs.Loaded.{IsDumpFile, Loads, LoadsFile, after_dump, contents_by}
 use Rattle.script_files.specs.Replayed.{after_schedule, steps_of, IsReading, Replays, ReplaysFile}
 use Rattle.cmd_text.specs.Form.{form_of}
 use Rattle.cmd_text.specs.Whole.{script_of}
+use Rattle.version_dump.specs.Contents.{contents_of}
+use Rattle.version_dump.specs.declared.loader.Loaded.{Loaded}
 use Rattle.core_replay.specs.Schedule.{schedule_of}
 use Rattle.core_replay.specs.ScheduleValue.{ScheduleValue}
 use Rattle.std.specs.declared.alloc.Global.{Global}
@@ -77,13 +80,12 @@ decided_file place before told front (Err fault) read is =
     refused_as OfScripts (sort_of fault) _ _ _ _
     (script_of_file place before told front (Err fault) read) (λ never. absurd never) is
 
--- a file whose script was read is no longer than what was read of it
-sized : (file : ℕ) (reading : List ℕ → Result (List Command) Fault) (bytes : List ℕ)
-    (commands : List Command) → within_size file reading bytes ≡ Ok commands
-    → length bytes ≤ 1048576
-sized file reading bytes commands =
+-- a file that was read as something is no longer than what was read of it
+sized : {A : Type 0} (file : ℕ) (reading : List ℕ → Result A Fault) (bytes : List ℕ) (read : A)
+    → within_size file reading bytes ≡ Ok read → length bytes ≤ 1048576
+sized file reading bytes read =
     elim (nat_lt 1048576 (length bytes)) as (λ b. nat_lt 1048576 (length bytes) ≡ b
-    → (if b then Err (TooLarge file) else reading bytes) ≡ Ok commands
+    → (if b then Err (TooLarge file) else reading bytes) ≡ Ok read
     → length bytes ≤ 1048576) [
       | true ↦ λ e is. absurd (cc)
       | false ↦ λ e is. ltb-false 1048576 (length bytes) e
@@ -116,3 +118,32 @@ replayed_file told front (Ok text) read is =
 replayed_file told front (Err fault) read is =
     refused_as OfSchedules (sort_of fault) _ _ _ _
     (reading_of_file told front (Err fault) read) (λ never. absurd never) is
+
+-- a file within its size was read whole
+whole_read : (all front : List ℕ) → front ≡ take 1048577 all → length all ≤ 1048576
+    → front ≡ all
+whole_read all front read short = read ∙ take_all 1048577 all (omega (arith, short))
+
+-- where what was read is no dump, the file is none
+no_dump_file : (told : Option (List ℕ)) (front : List ℕ) → IsFrontOf told 1048577 front
+    → (IsDumpFile front → ⊥) → IfSome told (λ bytes. IsDumpFile bytes → ⊥)
+no_dump_file None front read none = tt
+no_dump_file (Some all) front read none =
+    λ good. none (subst IsDumpFile (sym (whole_read all front read good.0)) good)
+
+pub loaded_file : (told : Option (List ℕ)) (front : List ℕ) (answer : Result Loaded Fault)
+    → IsFrontOf told 1048577 front → Loads answer front → LoadsFile answer told
+loaded_file None front (Ok loaded) read is = ((front, tt, is.0), (front, tt, is.1))
+loaded_file (Some all) front (Ok loaded) read is =
+    let short = sized 1 (λ dump. after_dump (contents_of dump)) front
+    (contents_by loaded.version loaded.tree) is.0 in
+    let whole : take 1048577 all ≡ all =
+    all_read 1048576 all (subst (λ (f : List ℕ). length f ≤ 1048576) read short) in
+    ((front, read ∙ whole, is.0), (front, read ∙ whole, is.1))
+loaded_file told front (Err fault) read is =
+    refused_as OfDumps (sort_of fault) _ _ _ _
+    (λ both. (
+      of_file 1 (λ dump. after_dump (contents_of dump)) told front (Err fault) read both.0,
+      no_dump_file told front read both.1,
+    ))
+    (λ never. absurd never) is

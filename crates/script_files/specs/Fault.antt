@@ -11,8 +11,11 @@ use Rattle.core_replay.specs.declared.fault.ScheduleKind.TheVariants as schedule
 use Rattle.script_files.specs.Sorts.{Sort, OfWords, OfLine, OfReading, OfWriting, OfMemory, OfSize}
 use Rattle.script_files.specs.Sorts.{sort_of}
 use Rattle.script_files.specs.declared.fault.Fault.{Fault}
-use Rattle.script_files.specs.declared.fault.Fault.TheVariants.{Usage, Script, Schedule, ReadFault}
-use Rattle.script_files.specs.declared.fault.Fault.TheVariants.{WriteFault, Memory, TooLarge}
+use Rattle.script_files.specs.declared.fault.Fault.TheVariants.{Usage, Script, Schedule, Dump}
+use Rattle.script_files.specs.declared.fault.Fault.TheVariants.{ReadFault, WriteFault}
+use Rattle.script_files.specs.declared.fault.Fault.TheVariants.{Memory, TooLarge}
+use Rattle.version_dump.specs.declared.fault.LoadKind.{LoadKind}
+use Rattle.version_dump.specs.declared.fault.LoadKind.TheVariants as load
 
 -- the status of a sort of faults
 abbrev pub status_by : Sort → ℕ
@@ -48,6 +51,15 @@ schedule_kind_text_of schedule.NoEvent = codes "NoEvent"
 schedule_kind_text_of schedule.BadNumber = codes "BadNumber"
 schedule_kind_text_of schedule.Extra = codes "Extra"
 
+-- the same for a line of a dump
+abbrev pub load_kind_text_of : LoadKind → List ℕ
+load_kind_text_of load.NoHead = codes "NoHead"
+load_kind_text_of load.BadEnd = codes "BadEnd"
+load_kind_text_of load.BadLine = codes "BadLine"
+load_kind_text_of load.NoOrder = codes "NoOrder"
+load_kind_text_of load.Many = codes "Many"
+load_kind_text_of load.Big = codes "Big"
+
 -- what is said of a file
 abbrev pub file_text_of : ℕ → List ℕ → List ℕ
 file_text_of file what = codes "docheap: file " ++ (decimal file ++ (codes ": " ++ what))
@@ -61,6 +73,7 @@ abbrev pub fault_text_of : Fault → List ℕ
 fault_text_of Usage = codes "docheap: usage"
 fault_text_of (Script file line kind) = file_text_of file (line_text_of line (kind_text_of kind))
 fault_text_of (Schedule line kind) = file_text_of 1 (line_text_of line (schedule_kind_text_of kind))
+fault_text_of (Dump line kind) = file_text_of 1 (line_text_of line (load_kind_text_of kind))
 fault_text_of (ReadFault file) = file_text_of file (codes "read fault")
 fault_text_of WriteFault = codes "docheap: write fault"
 fault_text_of Memory = codes "docheap: out of memory"

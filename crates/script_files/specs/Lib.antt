@@ -6,3 +6,4 @@ pub mod Scripts
 pub mod Reading
 pub mod Made
 pub mod Replayed
+pub mod Loaded

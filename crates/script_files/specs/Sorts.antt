@@ -5,7 +5,7 @@
 -- Source: this project's own.
 use Rattle.std.specs.Prelude.{◌≡◌}
 use Rattle.script_files.specs.declared.fault.Fault.{Fault}
-use Rattle.script_files.specs.declared.fault.Fault.TheVariants.{Usage, Script, Schedule}
+use Rattle.script_files.specs.declared.fault.Fault.TheVariants.{Usage, Script, Schedule, Dump}
 use Rattle.script_files.specs.declared.fault.Fault.TheVariants.{ReadFault, WriteFault}
 use Rattle.script_files.specs.declared.fault.Fault.TheVariants.{Memory, TooLarge}
 
@@ -13,6 +13,7 @@ use Rattle.script_files.specs.declared.fault.Fault.TheVariants.{Memory, TooLarge
 pub data Grammar : Type 0 where
   OfScripts : Grammar
   OfSchedules : Grammar
+  OfDumps : Grammar
 
 -- what a fault lies in: the words of the command line, a line of a file, the reading of a file, the
 -- writing of the output, want of memory, or a size
@@ -29,6 +30,7 @@ abbrev pub sort_of : Fault → Sort
 sort_of Usage = OfWords
 sort_of (Script file line kind) = OfLine OfScripts
 sort_of (Schedule line kind) = OfLine OfSchedules
+sort_of (Dump line kind) = OfLine OfDumps
 sort_of (ReadFault file) = OfReading
 sort_of WriteFault = OfWriting
 sort_of Memory = OfMemory

@@ -1,7 +1,7 @@
 ghost use Rattle.std.specs.Prelude.{◌≡◌, IfOk, is_ok, string_bytes};
 ghost use Rattle.script_files.specs.Fault.{fault_text_of, file_text_of, final_fault_of};
-ghost use Rattle.script_files.specs.Fault.{kind_text_of, line_text_of, schedule_kind_text_of};
-ghost use Rattle.script_files.specs.Fault.{status_of};
+ghost use Rattle.script_files.specs.Fault.{kind_text_of, line_text_of, load_kind_text_of};
+ghost use Rattle.script_files.specs.Fault.{schedule_kind_text_of, status_of};
 
 use cmd_text::ScriptKind;
 use core_replay::ScheduleKind;
@@ -10,6 +10,7 @@ use outside::OutFault;
 use std::alloc::Global;
 use std::fmt::{self, Display, Formatter, Write};
 use thiserror::Error;
+use version_dump::LoadKind;
 
 /// Why a run ended early. Files are numbered from 1. It shows itself as `fault_text` says.
 #[derive(Clone, Copy, Debug, PartialEq, Eq, Error)]
@@ -29,6 +30,12 @@ pub enum Fault {
     Schedule {
         line: u32,
         kind: ScheduleKind,
+    },
+    /// A file is no dump. It is the only one.
+    #[error("docheap: file 1: line {line}: {kind:?}")]
+    Dump {
+        line: u32,
+        kind: LoadKind,
     },
     /// A file could not be opened or read.
     #[error("docheap: file {file}: read fault")]
@@ -81,6 +88,10 @@ fn said(alloc: Global, fault: &Fault) -> Result<String, NoMemory>
             let what = said_of_line(alloc, *line, schedule_kind_text(*kind))?;
             said_of_file(alloc, 1, what.as_str())
         }
+        Fault::Dump { line, kind } => {
+            let what = said_of_line(alloc, *line, load_kind_text(*kind))?;
+            said_of_file(alloc, 1, what.as_str())
+        }
         Fault::ReadFault { file } => said_of_file(alloc, *file, "read fault"),
         Fault::WriteFault => String::from_str(alloc, "docheap: write fault"),
         Fault::Memory => String::from_str(alloc, "docheap: out of memory"),
@@ -129,6 +140,19 @@ fn schedule_kind_text(kind: ScheduleKind) -> &'static str
     }
 }
 
+fn load_kind_text(kind: LoadKind) -> &'static str
+    ensures { result.now ≡ load_kind_text_of kind }
+{
+    match kind {
+        LoadKind::NoHead => "NoHead",
+        LoadKind::BadEnd => "BadEnd",
+        LoadKind::BadLine => "BadLine",
+        LoadKind::NoOrder => "NoOrder",
+        LoadKind::Many => "Many",
+        LoadKind::Big => "Big",
+    }
+}
+
 /// The status that the program ends with.
 pub fn status(fault: Option<Fault>) -> u8
     ensures { result ≡ status_of fault }
@@ -136,7 +160,7 @@ pub fn status(fault: Option<Fault>) -> u8
     match fault {
         None => 0,
         Some(Fault::Usage) => 1,
-        Some(Fault::Script { .. } | Fault::Schedule { .. }) => 2,
+        Some(Fault::Script { .. } | Fault::Schedule { .. } | Fault::Dump { .. }) => 2,
         Some(Fault::ReadFault { .. }) => 3,
         Some(Fault::WriteFault) => 4,
         Some(Fault::Memory) => 5,

@@ -1,7 +1,8 @@
 use Rattle.std.proofs.Common.{◌≡◌, ◌∙◌, Some, ap, subst}
-use Rattle.run_words.specs.Requests.{Run, Replay, asked_by, request_of, run_asked_by}
-use Rattle.doc_run.proofs.Asking.{due_asked, opens_replay, stops_asked, unread_scripts}
+use Rattle.run_words.specs.Requests.{Run, Replay, Load, asked_by, request_of, run_asked_by}
+use Rattle.doc_run.proofs.Asking.{due_asked, opens_load, opens_replay, stops_asked, unread_scripts}
 use Rattle.doc_run.proofs.Asking.{unread_stops}
+use Rattle.doc_run.proofs.Loading.{line_asked, size_asked}
 use Rattle.doc_run.proofs.whole_run.run.Goals as goal
 
 pub returns-in-Ok-Run-clause-scripts : goal.returns-in-Ok-Run-clause-scripts
@@ -40,7 +41,39 @@ returns-in-Ok-Replay-clause-opens g c =
     c.run_schedule.result.status (g.H.Shelf.opens c.args.shelf.now)
     (g.H.Shelf.opens c.run_schedule.new.shelf) asked c.run_schedule.ensures.opens
 
+pub returns-in-Ok-Load-clause-opens : goal.returns-in-Ok-Load-clause-opens
+returns-in-Ok-Load-clause-opens g c =
+    let asked : request_of c.args.words.now ≡ Some (Load c.in-Ok-Load.name.now) =
+    subst (λ words. request_of words ≡ Some (Load c.in-Ok-Load.name.now))
+    c.all.ensures (c.in-Ok-Load.ensures.request
+    ∙ ap (λ request. Some (asked_by request)) c.in-Ok-Load.field-0-is) in
+    opens_load (request_of c.args.words.now) c.in-Ok-Load.name.now
+    c.load_dump.result.status (g.H.Shelf.opens c.args.shelf.now)
+    (g.H.Shelf.opens c.load_dump.new.shelf) asked c.load_dump.ensures.opens
+
 pub returns-in-Err-NoMemory-clause-scripts : goal.returns-in-Err-NoMemory-clause-scripts
 returns-in-Err-NoMemory-clause-scripts g c =
     unread_scripts (request_of c.args.words.now) (g.H.Shelf.holds c.args.shelf.now)
     c.refused.result.status c.refused.ensures.status
+
+pub returns-in-Ok-Load-clause-dump : goal.returns-in-Ok-Load-clause-dump
+returns-in-Ok-Load-clause-dump g c =
+    let asked : request_of c.args.words.now ≡ Some (Load c.in-Ok-Load.name.now) =
+    subst (λ words. request_of words ≡ Some (Load c.in-Ok-Load.name.now))
+    c.all.ensures (c.in-Ok-Load.ensures.request
+    ∙ ap (λ request. Some (asked_by request)) c.in-Ok-Load.field-0-is) in
+    line_asked (request_of c.args.words.now) c.in-Ok-Load.name.now
+    (g.H.Shelf.holds c.args.shelf.now) c.load_dump.result.fault c.load_dump.result.status
+    (g.S.Sink.written c.args.sink.now) (g.S.Sink.written c.load_dump.new.sink) asked
+    c.load_dump.ensures.status c.load_dump.ensures.explained c.load_dump.ensures.written
+
+pub returns-in-Ok-Load-clause-large_dump : goal.returns-in-Ok-Load-clause-large_dump
+returns-in-Ok-Load-clause-large_dump g c =
+    let asked : request_of c.args.words.now ≡ Some (Load c.in-Ok-Load.name.now) =
+    subst (λ words. request_of words ≡ Some (Load c.in-Ok-Load.name.now))
+    c.all.ensures (c.in-Ok-Load.ensures.request
+    ∙ ap (λ request. Some (asked_by request)) c.in-Ok-Load.field-0-is) in
+    size_asked (request_of c.args.words.now) c.in-Ok-Load.name.now
+    (g.H.Shelf.holds c.args.shelf.now) c.load_dump.result.fault c.load_dump.result.status
+    (g.S.Sink.written c.args.sink.now) (g.S.Sink.written c.load_dump.new.sink) asked
+    c.load_dump.ensures.status c.load_dump.ensures.explained c.load_dump.ensures.written
