@@ -1,0 +1,96 @@
+//! What the heaps of whole runs hold at their close, in numbers and as text.
+use crate::outcomes::outcome_at;
+use doc_model::NoMemory;
+use heap_census::Census;
+use heap_census::images::{census, image_text};
+use outside::OpenGate;
+use std::alloc::Global;
+use std::sync::Wait;
+use std::test::Fail;
+use std::thread::Threads;
+
+/// The census of the heap that a run of these words on this script leaves.
+fn counted<R: Threads + Wait + Sync>(
+    alloc: Global,
+    rt: &R,
+    all: &[&str],
+    script: &[u8],
+) -> Result<Option<Census>, NoMemory> {
+    let (outcome, _) = outcome_at(alloc, rt, all, script, &OpenGate)?;
+    match &outcome.finished {
+        Some(finished) => census(alloc, &finished.image),
+        None => Ok(None),
+    }
+}
+
+/// A census by its numbers, in their order.
+fn census_with(numbers: [u64; 8]) -> Option<Census> {
+    let [
+        cells,
+        free,
+        versions,
+        nodes,
+        entries,
+        texts,
+        shared,
+        floating,
+    ] = numbers;
+    Some(Census {
+        cells,
+        free,
+        versions,
+        nodes,
+        entries,
+        texts,
+        shared,
+        floating,
+    })
+}
+
+#[test]
+fn a_store_without_commands_has_one_version_and_one_node(rt: HostRuntime) -> Result<(), Fail> {
+    let all = ["run", "--cells", "64", "--cycles", "0", "f"];
+    let wanted = census_with([64, 61, 1, 1, 0, 0, 0, 0]);
+    assert_eq!(rt; counted(rt.alloc(), &rt, &all, b"")?, wanted);
+    Ok(())
+}
+
+#[test]
+fn versions_that_stay_share_what_they_have_in_common(rt: HostRuntime) -> Result<(), Fail> {
+    let all = ["run", "--cells", "64", "--cycles", "0", "f"];
+    let script = b"put a x\n".repeat(rt.alloc(), 13)?;
+    let wanted = census_with([64, 0, 8, 16, 8, 9, 1, 22]);
+    assert_eq!(rt; counted(rt.alloc(), &rt, &all, &script)?, wanted);
+    Ok(())
+}
+
+#[test]
+fn nothing_floats_where_the_collector_was_never_stopped(rt: HostRuntime) -> Result<(), Fail> {
+    let all = ["run", "--cells", "64", "--keep", "1", "f"];
+    let script = b"put a x\n".repeat(rt.alloc(), 100)?;
+    let wanted = census_with([64, 57, 1, 2, 1, 2, 0, 0]);
+    assert_eq!(rt; counted(rt.alloc(), &rt, &all, &script)?, wanted);
+    Ok(())
+}
+
+/// The text of the heap that a run without commands leaves.
+fn text_without_commands<R: Threads + Wait + Sync>(
+    alloc: Global,
+    rt: &R,
+) -> Result<Vec<u8>, NoMemory> {
+    let all = ["run", "--cells", "64", "--cycles", "0", "f"];
+    let (outcome, _) = outcome_at(alloc, rt, &all, b"", &OpenGate)?;
+    match &outcome.finished {
+        Some(finished) => image_text(alloc, &finished.image),
+        None => Ok(Vec::new(alloc)),
+    }
+}
+
+#[test]
+fn a_heap_is_written_a_line_for_each_cell_in_use(rt: HostRuntime) -> Result<(), Fail> {
+    let text = text_without_commands(rt.alloc(), &rt)?;
+    let lines =
+        "image 1 64\n0 white @1 - - - - =2\n1 white =0 @2 - - - =2\n2 white - - =1 =0 - =1\nend\n";
+    assert_eq!(rt; text.as_slice(), lines.as_bytes());
+    Ok(())
+}
