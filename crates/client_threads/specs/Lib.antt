@@ -1,3 +1,4 @@
 pub mod Clients
 pub mod Going
-pub mod Serving
+pub mod Opened
+pub mod Taken

@@ -1,23 +1,24 @@
-//! Clients in threads of their own, beside the collector on one of its own.
+//! Clients in threads of their own, on a heap that is opened for them.
 //!
-//! The layer above may rely on this: when `run_beside` returns, each client's mutator is over, and
+//! The layer above may rely on this: when `run_each` returns, each client's mutator is over, and
 //! its log is in step with what its seat has; a client that did not fail answered its whole script.
-//! The collector's seat has served once, or went off duty and serves in `serve_after`, and is off
-//! duty then. Where the clients' seats are joined before, that service finds each mutator over. That
-//! anything runs beside anything else is claimed by no clause.
+//! The heap may have more mutators than clients: `open_store` leaves the others to be split off,
+//! and `take_back` joins the clients' seats. That anything runs beside anything else is claimed by
+//! no clause; the collector's side is the crate beside_collector.
 //!
-//! Reading order: `clients`, specs/Clients; specs/Going, `answering`, `running`; `keeper`,
-//! specs/Serving, `serving`; `beside`.
+//! Reading order: `clients`, specs/Clients; specs/Opened, `opened`, `opening`; specs/Going,
+//! `answering`, `running`; specs/Taken, `taking_back`.
 #![tactic(auto)]
 
 mod answering;
-mod beside;
 mod clients;
-mod keeper;
+mod opened;
+mod opening;
 mod running;
-mod serving;
+mod taking_back;
 
-pub use beside::run_beside;
 pub use clients::Client;
-pub use keeper::{Keeper, Standby};
-pub use serving::serve_after;
+pub use opened::OpenStore;
+pub use opening::open_store;
+pub use running::run_each;
+pub use taking_back::take_back;

@@ -87,8 +87,10 @@ fn run_client<R: Wait, G: Gate>(
     }
 }
 
-/// Runs the clients, each on a thread of its own: the last one beside all others.
-pub(crate) fn run_each<R: Threads + Wait + Sync, G: Gate + Sync>(
+/// Runs the clients, each on a thread of its own: the last one beside all others. Client k of the
+/// list has script k. The limits are those that the sessions were made with: contracts alone read
+/// them.
+pub fn run_each<R: Threads + Wait + Sync, G: Gate + Sync>(
     alloc: Global,
     rt: &R,
     gate: &G,

@@ -12,8 +12,10 @@ use Rattle.std.specs.List.{list_any}
 use Rattle.std.proofs.lemmas.List.Folds.{list_any-append}
 use mathlib.Core.Option.{some}
 use lib.ListN.{get_elem?}
+use Rattle.beside_collector.specs.Duty.{duty_on}
+use Rattle.beside_collector.specs.Serving.{off_first}
 use Rattle.client_threads.specs.Clients.{places_for}
-use Rattle.client_threads.specs.Serving.{off_first}
+use Rattle.client_threads.specs.Taken.{AllHadRoom}
 use Rattle.client_turns.specs.Runs.{was_full}
 use Rattle.closed_store.specs.Chain.{ShowsVersions}
 use Rattle.closed_store.specs.Closing.{AreJoined, EndedStore}
@@ -47,9 +49,9 @@ use Rattle.run_history.specs.Agreed.{LogsAgree}
 use Rattle.run_history.specs.Left.{AreLeft}
 use Rattle.run_history.proofs.Agreeing.{logs_agree}
 use Rattle.run_history.proofs.Indices.{at_once}
-use Rattle.store_run.specs.Finished.{Comes, IsTiedTo, IsTotals, commands_of, duty_on}
+use Rattle.store_run.specs.Finished.{Comes, IsTiedTo, IsTotals, commands_of}
 use Rattle.store_run.specs.Opened.{IsWithin, limits_of, shape_of}
-use Rattle.store_run.specs.Parts.{AllHadRoom, IsCounted}
+use Rattle.store_run.specs.Parts.{IsCounted}
 use Rattle.store_run.specs.declared.options.Options.{Options}
 use Rattle.version_rule.specs.Opening.{first_rows}
 use Rattle.version_rule.specs.Pass.{Pass}

@@ -8,12 +8,15 @@ use Rattle.std.specs.declared.alloc.Global.{Global}
 use Rattle.std.proofs.lemmas.Bool.{false≢true}
 use Rattle.std.proofs.lemmas.List.{append_assoc, length-map, length-take}
 use Rattle.std.proofs.lemmas.List.Elements.{All-cons, All-head, All-nil, All-tail}
+use Rattle.beside_collector.specs.Duty.{duty_on}
+use Rattle.beside_collector.specs.Serving.{MayServe, ServesLate, Stands, off_first}
+use Rattle.beside_collector.specs.declared.keeper.Standby.{Standby}
 use Rattle.cell_heap.specs.Telling.{AreJoined}
 use Rattle.cell_words.specs.declared.controls.Control.{Control}
 use Rattle.client_run.specs.declared.session.Limits.{Limits as ClientLimits}
 use Rattle.client_threads.specs.Clients.{places_for, store_limits}
-use Rattle.client_threads.specs.Serving.{MayServe, ServesLate, Stands, off_first}
-use Rattle.client_threads.specs.declared.keeper.Standby.{Standby}
+use Rattle.client_threads.specs.Opened.{IsStill}
+use Rattle.client_threads.specs.Taken.{AllHadRoom, AreFronts, AreTaken, lists_of}
 use Rattle.collector.specs.Cycles.{Served}
 use Rattle.collector.specs.Over.{MeetOver}
 use Rattle.core_machine.specs.State.{greatest_cycles}
@@ -27,9 +30,9 @@ use Rattle.heap_rule.specs.declared.view.Place.{Place}
 use Rattle.heap_rule.specs.declared.view.View.{View}
 use Rattle.heap_table.specs.Seats.{HeapId, IsSeatOf, SeatView}
 use Rattle.run_history.specs.Left.{AreLeft}
-use Rattle.store_run.specs.Finished.{AreFronts, commands_of, duty_on}
-use Rattle.store_run.specs.Opened.{IsWithin, client_limits, limits_of, lists_of, shape_of}
-use Rattle.store_run.specs.Parts.{AllHadRoom, AreTaken, IsOpened, IsStill}
+use Rattle.store_run.specs.Finished.{commands_of}
+use Rattle.store_run.specs.Opened.{IsWithin, client_limits, limits_of, shape_of}
+use Rattle.store_run.specs.Parts.{IsOpened}
 use Rattle.store_run.specs.declared.opened.Opened.{Opened}
 use Rattle.store_run.specs.declared.options.Options.{Options}
 use Rattle.version_rule.specs.Pass.{Pass}
@@ -215,19 +218,19 @@ shaped o scripts h is =
 -- The same, from the opening as it was given.
 module _ (o : Options) (scripts : List (Vec Command Global)) (made : Opened)
     (opened : IsOpened o scripts made) where
-  pub shape_there : made.heap.shape ≡ shape_of o (length (lists_of scripts))
-  shape_there = shaped o scripts made.heap.shape opened.shape
+  pub shape_there : made.store.heap.shape ≡ shape_of o (length (lists_of scripts))
+  shape_there = shaped o scripts made.store.heap.shape opened.shape
 
   pub closing : (limits : ClientLimits) (queue : FreeQueue) (mid joined last : SeatView Pass)
       (standby : Option Standby) (logs : List ClientLog)
       → 1 ≤ length scripts → IsWithin o → limits ≡ client_limits o
-      → Stands made.heap queue o.cycles made.keeper.seat mid standby
-      → AreTaken (store_limits limits) made.heap.shape.cells (places_for limits.minor)
+      → Stands made.store.heap queue o.cycles made.store.keeper.seat mid standby
+      → AreTaken (store_limits limits) made.store.heap.shape.cells (places_for limits.minor)
       (length scripts) logs mid joined
       → ServesLate o.cycles standby joined last
       → AtClose o (lists_of scripts) logs last.me
   closing limits queue mid joined last standby logs least within limits_are stands taken late =
-      at_close o scripts made.heap queue made.keeper.seat mid joined last standby logs least within
-      opened.shape opened.seat opened.trail opened.no_cycles stands
-      (subst (λ (l : ClientLimits). AreTaken (store_limits l) made.heap.shape.cells
+      at_close o scripts made.store.heap queue made.store.keeper.seat mid joined last standby logs
+      least within opened.shape opened.seat opened.trail opened.no_cycles stands
+      (subst (λ (l : ClientLimits). AreTaken (store_limits l) made.store.heap.shape.cells
       (places_for l.minor) (length scripts) logs mid joined) limits_are taken) late

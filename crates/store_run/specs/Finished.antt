@@ -4,12 +4,13 @@
 -- All is said of one heap that was opened for this run and closed behind it: of the core state that
 -- its words show at the close, and of the trails and passes that its seats left.
 -- Source: this project's.
-use Rattle.std.specs.Prelude.{ℕ, zero, suc, ◌≡◌, ◌≤◌, ◌<◌, ◌+◌, ◌-◌}
+use Rattle.std.specs.Prelude.{ℕ, ◌≡◌, ◌≤◌, ◌<◌, ◌+◌, ◌-◌}
 use Rattle.std.specs.Prelude.{◌++◌, ◌⊎◌, true, false}
-use Rattle.std.specs.Prelude.{List, [], ◌∷◌, length, map, take}
+use Rattle.std.specs.Prelude.{List, [], ◌∷◌, length, map}
 use Rattle.std.specs.List.{list_any}
 use mathlib.Core.Option.{some}
 use lib.ListN.{get_elem?}
+use Rattle.beside_collector.specs.Duty.{duty_on}
 use Rattle.client_threads.specs.Clients.{places_for}
 use Rattle.client_turns.specs.Runs.{ShowsRun, was_full}
 use Rattle.closed_store.specs.Chain.{ShowsVersions}
@@ -47,14 +48,6 @@ use Rattle.version_rule.specs.Tied.{Tied}
 abbrev pub commands_of : ClientLog → List Command
 commands_of log = map (λ (e : Entry). e.command) log.entries
 
--- each of these lists is a front of the one that stands beside it
-abbrev pub AreFronts : List (List Command) → List (List Command) → Type 0
-AreFronts [] [] = Unit {0}
-AreFronts [] (whole ∷ wholes) = ⊥
-AreFronts (front ∷ fronts) [] = ⊥
-AreFronts (front ∷ fronts) (whole ∷ wholes) =
-    (front ≡ take (length front) whole) × AreFronts fronts wholes
-
 -- The log with this index and what the mutator with this index left: its seat was joined, the log
 -- is tied to its pass, and its trail shows what the log tells of. So many cells has the heap, and so
 -- many places the mutator.
@@ -80,11 +73,6 @@ pub record IsTotals (s : State) (logs : List ClientLog) (trees : List DocTree) (
   pub free : t.free ≡ free_count_of s
   pub cycles : t.cycles ≡ s.control.cycles
   pub nodes : t.nodes ≡ count (tree_at trees (length trees - 1))
-
--- on duty from the first event on, where there are cycles to make
-abbrev pub duty_on : ℕ → List Taken
-duty_on zero = []
-duty_on (suc more) = took (event.Duty true) finds.Stored ∷ []
 
 -- The collector's trail: on duty where it may make cycles; then perhaps off duty, where it has no
 -- thread of its own; then the service. Off duty stands nowhere else, since there is none among the

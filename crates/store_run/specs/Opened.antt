@@ -1,10 +1,8 @@
 -- What a run opens: the limits of its options, and the heap that they ask for.
 -- Source: this project's.
-use Rattle.std.specs.Prelude.{ℕ, ◌≤◌, List, Vec, map}
-use Rattle.std.specs.declared.alloc.Global.{Global}
+use Rattle.std.specs.Prelude.{ℕ, ◌≤◌}
 use Rattle.client_run.specs.declared.session.Limits.{Limits as ClientLimits}
 use Rattle.doc_model.specs.Answers.{Limits}
-use Rattle.doc_model.specs.declared.command.Command.{Command}
 use Rattle.heap_rule.specs.Shape.{Shape}
 use Rattle.store_run.specs.declared.options.Options.{Options}
 use Rattle.version_rule.specs.Opening.{first_rows}
@@ -16,10 +14,6 @@ pub record IsWithin (o : Options) : Type 0 where
   pub keep : (1 ≤ o.keep) × (o.keep ≤ 100)
   pub versions : (1 ≤ o.versions) × (o.versions ≤ 1_000_000)
   pub cycles : o.cycles ≤ 4_000_000_000
-
--- the scripts as lists of commands
-abbrev pub lists_of : List (Vec Command Global) → List (List Command)
-lists_of scripts = map (λ script. script.items) scripts
 
 -- the limits by which each command is answered
 abbrev pub limits_of : Options → Limits

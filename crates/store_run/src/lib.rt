@@ -6,16 +6,15 @@
 //! are a legal history of one store, whose kept versions stand in the image; the totals are those
 //! of the image and the logs. How a script is read and a log written is left to that layer.
 //!
-//! Reading order: specs/Opened, Finished; then `options`, `finished`; specs/Parts; then `opening`,
-//! `taking_back`, `totals`, `opened`, `running`.
+//! Reading order: specs/Opened, Finished; then `options`, `finished`; specs/Parts; then `totals`,
+//! `at_work`, `opened`, `running`.
 #![tactic(auto)]
 
+mod at_work;
 mod finished;
 mod opened;
-mod opening;
 mod options;
 mod running;
-mod taking_back;
 mod totals;
 
 pub use finished::Finished;

@@ -4,40 +4,28 @@
 //! An opened heap can't be let go, and no other module can take it apart: `run_opened` alone does,
 //! and that closes it. So whoever opened one closes it, also where memory is wanting.
 ghost use Rattle.std.specs.Prelude.{◌≡◌, ◌≤◌, All, IfOk, [], false, length, map, vec_capacity};
-ghost use Rattle.store_run.specs.Finished.{AreFronts, Comes, commands_of};
-ghost use Rattle.store_run.specs.Opened.{IsWithin, lists_of};
+ghost use Rattle.client_threads.specs.Clients.{AllDone, AllReady};
+ghost use Rattle.client_threads.specs.Taken.{AreFronts, lists_of};
+ghost use Rattle.store_run.specs.Finished.{Comes, commands_of};
+ghost use Rattle.store_run.specs.Opened.{IsWithin};
 ghost use Rattle.store_run.specs.Parts.{IsOpened};
 
+use crate::at_work::ClientsAtWork;
 use crate::finished::Finished;
-use crate::opening::{begin_duty, split_clients};
 use crate::options::Options;
-use crate::taking_back::take_back;
 use crate::totals::totals_of;
-use cell_heap::ColSeat;
-use client_threads::{Client, Keeper, run_beside, serve_after};
-use collector::{MarkStack, NoMemory};
+use beside_collector::{run_beside, serve_after};
+use client_threads::{Client, OpenStore, open_store, run_each, take_back};
+use collector::NoMemory;
 use doc_model::{Command, Log};
-use document_versions::Documents;
-use free_cells::FreeQueue;
-use heap_table::CellHeap;
 use outside::Gate;
 use std::alloc::Global;
 use std::sync::Wait;
 use std::thread::Threads;
-use version_store::opening_rows;
-
-/// How many cells can wait for a look of the collector.
-const MARKS: u32 = 65_536;
-
-/// How many of the first cells the opening of a store takes.
-const FIRST: u32 = 3;
 
 /// A store's heap with all that its clients and its collector need.
 pub(crate) struct Opened {
-    heap: CellHeap<Documents>,
-    queue: FreeQueue,
-    keeper: Keeper,
-    clients: Vec<Client>,
+    store: OpenStore,
 }
 
 /// What a run comes to behind its opening, and whether memory was wanting for some client.
@@ -49,7 +37,7 @@ pub(crate) struct Closed {
 
 /// Opens the heap of a run, with a client for each script. The collector is on duty where it may
 /// make cycles.
-pub(crate) fn open_store<R: Wait>(
+pub(crate) fn open_run<R: Wait>(
     alloc: Global,
     rt: &R,
     scripts: &[Vec<Command>],
@@ -62,20 +50,17 @@ pub(crate) fn open_store<R: Wait>(
     ensures opened { IfOk result (λ made. IsOpened options.now scripts.now made) }
 {
     let mutators = scripts.len() as u32;
-    let (queue, mut pass) = FreeQueue::open(alloc, rt, options.cells, FIRST)?;
-    let stack = MarkStack::with_room(alloc, MARKS)?;
-    let keep = u64::from(options.keep);
-    let rows = opening_rows();
-    let (heap, mut seat) = ColSeat::<Documents>::open(alloc, options.cells, mutators, keep, &rows)?;
     let limits = options.client_limits();
-    let clients = split_clients(alloc, &heap, &queue, limits, scripts, &mut seat, &mut pass)?;
-    begin_duty(&heap, options.cycles, &mut seat);
-    Ok(Opened {
-        heap,
-        queue,
-        keeper: Keeper { seat, stack, pass },
-        clients,
-    })
+    let store = open_store(
+        alloc,
+        rt,
+        scripts,
+        mutators,
+        options.cells,
+        options.cycles,
+        limits,
+    )?;
+    Ok(Opened { store })
 }
 
 /// Runs the scripts' commands on the opened heap and closes it, whatever became of the clients. What
@@ -104,28 +89,27 @@ pub(crate) fn run_opened<R: Threads + Wait + Sync, G: Gate + Sync>(
         → map commands_of result.finished.logs.items ≡ lists_of scripts.now }
 {
     let limits = options.client_limits();
-    let Opened {
+    let Opened { store } = opened;
+    let OpenStore {
         heap,
         queue,
         keeper,
         clients,
-    } = opened;
-    let (clients, seat, standby) = run_beside(
-        alloc,
-        rt,
-        gate,
-        &heap,
-        &queue,
-        scripts,
-        limits,
-        keeper,
-        options.cycles,
-        clients,
-    );
+    } = store;
+    let at = &heap;
+    let hints = &queue;
+    let run = move || -> Vec<Client>
+        requires { AllReady at.now hints.now limits scripts.now clients.items }
+        ensures { AllDone at.entry.now limits scripts.entry.now result.items
+            × (length result.items ≡ length clients.items) }
+    { run_each(alloc, rt, gate, at, hints, scripts, limits, clients) };
+    let cycles = options.cycles;
+    let work = ClientsAtWork { run };
+    let (clients, seat, standby) = run_beside(alloc, rt, at, hints, keeper, cycles, work);
     let mut seat = seat;
     let mut logs = logs;
     let failed = take_back(&heap, limits, scripts, clients, &mut seat, &mut logs);
-    let seat = serve_after(rt, &heap, &queue, options.cycles, seat, standby);
+    let seat = serve_after(rt, &heap, &queue, cycles, seat, standby);
     let freed = seat.freed();
     let (image, passes) = seat.close(heap);
     let totals = totals_of(&image, freed, &logs);

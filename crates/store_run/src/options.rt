@@ -1,3 +1,7 @@
+ghost use Rattle.std.specs.Prelude.{◌≡◌};
+
+use client_run::Limits;
+
 /// How a store is run, by numbers.
 #[derive(Clone, Copy, Debug, PartialEq, Eq)]
 pub struct Options {
@@ -11,4 +15,19 @@ pub struct Options {
     pub versions: u32,
     /// how many cycles the collector makes at most; with none it stays off duty
     pub cycles: u32,
+}
+
+impl Options {
+    ghost use Rattle.store_run.specs.Opened.{client_limits};
+
+    /// What a client's session is told.
+    pub(crate) fn client_limits(&self) -> Limits
+        ensures limits { result ≡ client_limits self.now }
+    {
+        Limits {
+            keep: self.keep,
+            versions: self.versions,
+            minor: self.minor,
+        }
+    }
 }

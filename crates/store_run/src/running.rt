@@ -1,10 +1,11 @@
 //! The whole run, from the opening of the heap to its close.
 ghost use Rattle.std.specs.Prelude.{◌≤◌, All, IfOk, length};
+ghost use Rattle.client_threads.specs.Taken.{lists_of};
 ghost use Rattle.store_run.specs.Finished.{Comes};
-ghost use Rattle.store_run.specs.Opened.{IsWithin, lists_of};
+ghost use Rattle.store_run.specs.Opened.{IsWithin};
 
 use crate::finished::Finished;
-use crate::opened::{Closed, open_store, run_opened};
+use crate::opened::{Closed, open_run, run_opened};
 use crate::options::Options;
 use collector::NoMemory;
 use doc_model::Command;
@@ -35,7 +36,7 @@ pub fn run_clients<R: Threads + Wait + Sync, G: Gate + Sync>(
         f.passes f.totals) }
 {
     let logs = Vec::with_capacity(alloc, scripts.len())?;
-    let opened = open_store(alloc, rt, scripts, options)?;
+    let opened = open_run(alloc, rt, scripts, options)?;
     let Closed { finished, failed } = run_opened(alloc, rt, scripts, options, gate, opened, logs);
     if failed {
         return Err(NoMemory);

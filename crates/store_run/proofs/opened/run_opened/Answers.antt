@@ -1,14 +1,16 @@
-use Rattle.std.proofs.Common.{◌≡◌, ◌≤◌, ◌∙◌, ℕ, List, All, ap, length, map, refl, subst, sym}
+use Rattle.std.proofs.Common.{◌≡◌, ◌≤◌, ◌∙◌, ℕ, List, All, ap, arith, length, map}
+use Rattle.std.proofs.Common.{refl, subst, sym}
 use Rattle.std.specs.Prelude.{Vec}
 use Rattle.std.specs.declared.alloc.Global.{Global}
 use Rattle.std.proofs.lemmas.List.{length-map}
+use Rattle.client_threads.specs.Taken.{lists_of}
 use Rattle.doc_model.specs.ClientLog.{ClientLog}
 use Rattle.doc_model.specs.declared.command.Command.{Command}
 use Rattle.heap_rule.specs.Shape.{Shape}
 use Rattle.heap_rule.specs.declared.view.Place.{Place}
 use Rattle.heap_rule.specs.declared.view.View.{View}
 use Rattle.store_run.specs.Finished.{Comes, IsTotals, commands_of}
-use Rattle.store_run.specs.Opened.{lists_of, shape_of}
+use Rattle.store_run.specs.Opened.{shape_of}
 use Rattle.version_rule.specs.Pass.{Pass}
 use Rattle.store_run.proofs.Closed.{comes, counted}
 use Rattle.store_run.proofs.Ending.{by_number, closing, late_seat, may_serve, shape_there}
@@ -31,12 +33,12 @@ totals_of-totals-requires-clause-counted g c =
     let new = c.serve_after-seat.result in
     let logs = c.take_back-failed.new.logs.items in
     let at = closing o scripts c.args.opened opened c.client_limits-limits.result
-    c.args.opened.queue c.run_beside-clients.result.1 c.take_back-failed.new.seat new
+    c.args.opened.store.queue c.run_beside-clients.result.1 c.take_back-failed.new.seat new
     c.run_beside-clients.result.2 logs c.requires.some c.requires.options
     c.client_limits-limits.ensures.limits c.run_beside-clients.ensures.stands
     c.take_back-failed.ensures.taken c.serve_after-seat.ensures.served in
     counted o (lists_of scripts) logs c.close-image.result.0 new.me at
-    c.args.opened.heap.shape (shape_there o scripts c.args.opened opened)
+    c.args.opened.store.heap.shape (shape_there o scripts c.args.opened opened)
     c.close-image.ensures.ended
     (c.close-image.ensures.shown c.close-image.ensures.ended) c.freed-freed.result
     (sym c.freed-freed.ensures.freed)
@@ -44,24 +46,25 @@ totals_of-totals-requires-clause-counted g c =
 pub take_back-failed-requires-clause-seat : goal.take_back-failed-requires-clause-seat
 take_back-failed-requires-clause-seat g c =
     let opened = c.requires.opened in
-    stands_seat c.args.opened.heap c.args.opened.queue c.args.options.now.cycles
-    c.args.opened.keeper.seat c.run_beside-clients.result.1
+    stands_seat c.args.opened.store.heap c.args.opened.store.queue c.args.options.now.cycles
+    c.args.opened.store.keeper.seat c.run_beside-clients.result.1
     c.run_beside-clients.result.1 c.run_beside-clients.result.2 opened.seat
     c.run_beside-clients.ensures.stands
 
 pub take_back-failed-requires-clause-places : goal.take_back-failed-requires-clause-places
 take_back-failed-requires-clause-places g c =
     let opened = c.requires.opened in
-    ap (λ (ps : List (Place Pass)). length ps)
-    (stands_places c.args.opened.heap c.args.opened.queue
-    c.args.options.now.cycles c.args.opened.keeper.seat c.run_beside-clients.result.1
+    let same = ap (λ (ps : List (Place Pass)). length ps)
+    (stands_places c.args.opened.store.heap c.args.opened.store.queue
+    c.args.options.now.cycles c.args.opened.store.keeper.seat c.run_beside-clients.result.1
     c.run_beside-clients.result.1 c.run_beside-clients.result.2
-    c.run_beside-clients.ensures.stands) ∙ opened.places
+    c.run_beside-clients.ensures.stands) ∙ opened.places in
+    omega (arith, same)
 
 pub serve_after-seat-requires : goal.serve_after-seat-requires
 serve_after-seat-requires g c = record {
-  may = may_serve c.args.opened.heap c.args.opened.queue c.args.options.now.cycles
-      c.args.opened.keeper.seat c.run_beside-clients.result.1
+  may = may_serve c.args.opened.store.heap c.args.opened.store.queue c.args.options.now.cycles
+      c.args.opened.store.keeper.seat c.run_beside-clients.result.1
       c.take_back-failed.new.seat c.run_beside-clients.result.2
       c.run_beside-clients.ensures.stands c.take_back-failed.ensures.taken.still;
 }
@@ -69,10 +72,10 @@ serve_after-seat-requires g c = record {
 pub close-image-requires : goal.close-image-requires
 close-image-requires g c =
     let opened = c.requires.opened in
-    let heap = c.args.opened.heap in
-    let queue = c.args.opened.queue in
+    let heap = c.args.opened.store.heap in
+    let queue = c.args.opened.store.queue in
     let cycles = c.args.options.now.cycles in
-    let first = c.args.opened.keeper.seat in
+    let first = c.args.opened.store.keeper.seat in
     let mid = c.run_beside-clients.result.1 in
     let joined = c.take_back-failed.new.seat in
     let standby = c.run_beside-clients.result.2 in
@@ -102,12 +105,12 @@ returns-clause-comes g c =
     ∙ ap (λ (n : ℕ). shape_of o n) (sym many) in
     let at = by_number o (lists_of scripts) answered logs new.me many
     (closing o scripts c.args.opened opened c.client_limits-limits.result
-    c.args.opened.queue c.run_beside-clients.result.1 c.take_back-failed.new.seat new
+    c.args.opened.store.queue c.run_beside-clients.result.1 c.take_back-failed.new.seat new
     c.run_beside-clients.result.2 logs c.requires.some c.requires.options
     c.client_limits-limits.ensures.limits c.run_beside-clients.ensures.stands
     taken c.serve_after-seat.ensures.served) in
     let whole = comes o answered logs image new.me at
-    c.args.opened.heap.shape shape
+    c.args.opened.store.heap.shape shape
     c.close-image.ensures.ended (c.close-image.ensures.shown c.close-image.ensures.ended) totals
     record {
       freed = c.freed-freed.result;

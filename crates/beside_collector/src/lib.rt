@@ -1,0 +1,24 @@
+//! Work on a heap beside the collector, which has a thread of its own.
+//!
+//! The layer above may rely on this: when `run_beside` returns, the work is done, and the seat of the
+//! collector has served once, or went off duty and serves in `serve_after`, and is off duty then.
+//! Where the mutators' seats are joined before, that service finds each mutator over. That anything
+//! runs beside anything else is claimed by no clause.
+//!
+//! What the work is, and by what rule the heap's boxes are kept, is left to the caller: `Work` says
+//! under which facts it may begin, and what it comes to.
+//!
+//! Reading order: specs/Duty, `duty`; `keeper`, specs/Serving, `serving`; `work`, `beside`.
+#![tactic(auto)]
+
+mod beside;
+mod duty;
+mod keeper;
+mod serving;
+mod work;
+
+pub use beside::run_beside;
+pub use duty::begin_duty;
+pub use keeper::{Keeper, Standby};
+pub use serving::serve_after;
+pub use work::Work;

@@ -1,0 +1,154 @@
+//! The collector's turn.
+//!
+//! Where no thread can be made for it the closure comes back, and nothing opens a closure. So it
+//! looks at a flag first: with the flag set it gives all back as it got it. The seat then goes off
+//! duty, so that no claim waits for it, and serves when the clients are through and their seats are
+//! joined.
+ghost use Rattle.std.specs.Prelude.{◌≡◌};
+ghost use Rattle.beside_collector.specs.Serving.{IsKeeper, MayServe, Serves, ServesLate, Stands};
+ghost use Rattle.beside_collector.specs.Serving.{StandsBy, TurnOf};
+
+use crate::keeper::{Keeper, Standby};
+use cell_heap::ColSeat;
+use collector::Collector;
+use free_cells::FreeQueue;
+use heap_rule::Keeping;
+use heap_table::CellHeap;
+use std::snapshot::Snapshot;
+use std::sync::Wait;
+use std::sync::atomic::{AtomicBool, Ordering};
+use std::thread::Promise;
+
+/// What became of the collector's turn.
+#[derive(Drop)]
+pub(crate) enum Turn<P: Keeping> {
+    /// it served
+    Served(ColSeat<P>),
+    /// it was held back, or went off duty since
+    HandedBack(Keeper<P>),
+}
+
+/// That the thread gives the seat that it got back, behind its turn.
+#[derive(Drop)]
+pub(crate) struct Serving<P: Keeping> {
+    pub(crate) cycles: u32,
+    pub(crate) keeper: Snapshot<Keeper<P>>,
+}
+
+impl<P: Keeping> Promise<Turn<P>> for Serving<P> {
+    ghost use Rattle.beside_collector.specs.Serving.{TurnOf};
+
+    ghost kept_by = { λ p turn. TurnOf p.cycles p.keeper.value turn };
+}
+
+/// Serves for so many cycles.
+fn serve<P: Keeping, R: Wait>(
+    rt: &R,
+    heap: &CellHeap<P>,
+    queue: &FreeQueue,
+    cycles: u32,
+    keeper: Keeper<P>,
+) -> ColSeat<P>
+    requires keeper { IsKeeper heap.now queue.now cycles keeper.seat keeper.pass }
+    ensures serves { Serves cycles keeper.seat result }
+{
+    let Keeper { seat, stack, pass } = keeper;
+    let mut hints = queue.hints(pass);
+    let mut collector = Collector::new(heap, seat, heap.mutators(), stack);
+    let _ = collector.serve(rt, &mut hints, cycles);
+    collector.into_seat()
+}
+
+/// Serves, unless the collector is held back.
+pub(crate) fn take_turn<P: Keeping, R: Wait>(
+    rt: &R,
+    heap: &CellHeap<P>,
+    queue: &FreeQueue,
+    held_back: &AtomicBool,
+    cycles: u32,
+    keeper: Keeper<P>,
+) -> Turn<P>
+    requires keeper { IsKeeper heap.now queue.now cycles keeper.seat keeper.pass }
+    ensures turn { TurnOf cycles keeper result }
+{
+    if held_back.load(Ordering::SeqCst) {
+        return Turn::HandedBack(keeper);
+    }
+    Turn::Served(serve(rt, heap, queue, cycles, keeper))
+}
+
+/// Goes off duty, if it was held back. No contract says which thread was: so behind each of them, a
+/// seat that did not serve is off duty.
+pub(crate) fn stand_down<P: Keeping>(
+    heap: &CellHeap<P>,
+    queue: &FreeQueue,
+    cycles: u32,
+    was: &Snapshot<Keeper<P>>,
+    turn: Turn<P>,
+) -> Turn<P>
+    requires keeper { IsKeeper heap.now queue.now cycles was.now.value.seat was.now.value.pass }
+    requires turn { TurnOf cycles was.now.value turn }
+    ensures stands { StandsBy heap.now queue.now cycles was.now.value.seat result }
+{
+    let _ = queue;
+    let _ = cycles;
+    let _ = was;
+    match turn {
+        Turn::Served(seat) => Turn::Served(seat),
+        Turn::HandedBack(keeper) => {
+            let Keeper {
+                mut seat,
+                stack,
+                pass,
+            } = keeper;
+            seat.duty(heap, false);
+            Turn::HandedBack(Keeper { seat, stack, pass })
+        }
+    }
+}
+
+/// The seat behind the clients' threads, and what is left with it where it did not serve yet.
+pub(crate) fn apart<P: Keeping>(
+    heap: &CellHeap<P>,
+    queue: &FreeQueue,
+    cycles: u32,
+    was: &Snapshot<Keeper<P>>,
+    turn: Turn<P>,
+) -> (ColSeat<P>, Option<Standby>)
+    requires stands { StandsBy heap.now queue.now cycles was.now.value.seat turn }
+    ensures stands { Stands heap.now queue.now cycles was.now.value.seat result.0 result.1 }
+{
+    let _ = heap;
+    let _ = queue;
+    let _ = cycles;
+    let _ = was;
+    match turn {
+        Turn::Served(seat) => (seat, None),
+        Turn::HandedBack(keeper) => {
+            let Keeper { seat, stack, pass } = keeper;
+            (seat, Some(Standby { stack, pass }))
+        }
+    }
+}
+
+/// Serves, if it did not serve yet. It is called when the seats of all mutators are joined: each is
+/// found over then.
+pub fn serve_after<P: Keeping, R: Wait>(
+    rt: &R,
+    heap: &CellHeap<P>,
+    queue: &FreeQueue,
+    cycles: u32,
+    seat: ColSeat<P>,
+    standby: Option<Standby>,
+) -> ColSeat<P>
+    requires may { MayServe heap.now queue.now cycles seat standby }
+    ensures served { ServesLate cycles standby seat result }
+{
+    match standby {
+        None => seat,
+        Some(standby) => {
+            let Standby { stack, pass } = standby;
+            serve(rt, heap, queue, cycles, Keeper { seat, stack, pass })
+        }
+    }
+}

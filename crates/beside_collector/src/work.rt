@@ -1,0 +1,34 @@
+//! What runs beside the collector.
+ghost use Rattle.free_cells.specs.declared.queue.FreeQueue.{FreeQueue as Queue};
+ghost use Rattle.heap_table.specs.Seats.{HeapId};
+
+use free_cells::FreeQueue;
+use heap_rule::Keeping;
+use heap_table::CellHeap;
+use std::alloc::Global;
+use std::sync::Wait;
+use std::thread::Threads;
+
+/// What is to be done on a heap of this rule while the collector serves it: by mutators whose seats
+/// the work has with it.
+pub trait Work<P: Keeping> {
+    /// what it comes to
+    type Done;
+
+    // it may be begun on this heap, with this queue of hints
+    ghost may: { HeapId → Queue → Self → Type 0 };
+
+    // it came to this
+    ghost did: { HeapId → Queue → Self → Self.Done → Type 0 };
+
+    /// Does it, on this thread and on others.
+    fn run<R: Threads + Wait + Sync>(
+        self,
+        alloc: Global,
+        rt: &R,
+        heap: &CellHeap<P>,
+        queue: &FreeQueue,
+    ) -> Self::Done
+        requires may { may heap.now queue.now self }
+        ensures did { did heap.now queue.now self result };
+}

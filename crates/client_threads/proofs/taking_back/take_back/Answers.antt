@@ -1,0 +1,36 @@
+use Rattle.std.proofs.Common.{List, ◌||◌, ap, arith, length, subst, sym}
+use Rattle.std.proofs.lemmas.Bool.{or_parts}
+use Rattle.client_threads.specs.declared.clients.Client.{Client}
+use Rattle.doc_model.specs.ClientLog.{ClientLog}
+use Rattle.client_threads.proofs.TakingBack.{Taking, taking_next}
+use Rattle.client_threads.proofs.taking_back.take_back.Goals as goal
+use Rattle.std.specs.Vec.Iter.{into_iter_items}
+
+pub loop-client-preserved : goal.loop-client-preserved
+loop-client-preserved c =
+    let k = c.loop-client.invariant in
+    let steps = c.in-Some.ensures.steps in
+    let one = ap (λ (cs : List Client). length cs) steps.0 in
+    let len = c.push_reserved.ensures.len in
+    let capacity = c.push_reserved.ensures.capacity in
+    let heap = c.args.heap.now in
+    let limits = c.args.limits in
+    let scripts = c.args.scripts.now in
+    let rest = into_iter_items c.next.new.self in
+    let logs = c.loop-client.logs.items in
+    let failed = c.loop-client.failed in
+    let after = failed || c.in-Some.client.failed in
+    let old = c.args.seat.now in
+    let mid = c.loop-client.seat in
+    let new = c.joined.new.seat in
+    let now = subst (λ (cs : List Client). Taking heap limits scripts cs logs failed old mid)
+    steps.0 k.taking in
+    let next = taking_next heap limits scripts c.in-Some.client rest logs failed after
+    c.joined.result old mid new now c.joined.ensures.log c.joined.ensures.seat
+    (λ so. or_parts failed c.in-Some.client.failed so) in
+    record {
+      left = omega (arith, one, steps.1, k.left);
+      room = omega (arith, one, len, capacity, k.room);
+      taking = subst (λ (gs : List ClientLog). Taking heap limits scripts rest gs after old new)
+          (sym c.push_reserved.ensures.items) next;
+    }

@@ -1,0 +1,69 @@
+-- The heap of a store, opened for its clients and its collector.
+-- Source: this project's.
+use Rattle.std.specs.Prelude.{ℕ, ◌≡◌, ◌≤◌, ◌<◌, List, [], length}
+use Rattle.std.specs.Prelude.{Vec}
+use Rattle.std.specs.declared.alloc.Global.{Global}
+use mathlib.Core.Option.{some}
+use lib.ListN.{get_elem?}
+use Rattle.beside_collector.specs.Duty.{duty_on}
+use Rattle.cell_words.specs.declared.controls.Stage.TheVariants as stage
+use Rattle.client_run.specs.declared.session.Limits.{Limits}
+use Rattle.client_threads.specs.Clients.{AllReady}
+use Rattle.client_threads.specs.declared.opened.OpenStore.{OpenStore}
+use Rattle.collector.specs.Stack.{Stack}
+use Rattle.doc_model.specs.declared.command.Command.{Command}
+use Rattle.free_cells.specs.Hints.{cells_of as hinted_of}
+use Rattle.free_cells.specs.Passes.{IsHintPass}
+use Rattle.heap_rule.specs.Shape.{Shape}
+use Rattle.heap_rule.specs.declared.view.Place.{Place}
+use Rattle.heap_rule.specs.declared.view.Place.TheVariants as places
+use Rattle.heap_table.specs.Seats.{IsSeatOf, SeatView}
+use Rattle.version_rule.specs.Opening.{first_rows}
+use Rattle.version_rule.specs.Pass.{Pass}
+
+-- the heap of a store: the setting is how many versions stay
+abbrev pub store_shape : ℕ → ℕ → ℕ → Shape
+store_shape cells mutators keep = record {
+  cells = cells;
+  mutators = mutators;
+  setting = keep;
+  first = first_rows;
+}
+
+-- The collector's seat is as it was but for where the parts of its mutators are.
+pub record IsStill (old new : SeatView Pass) : Type 0 where
+  pub table : new.table ≡ old.table
+  pub shape : new.me.shape ≡ old.me.shape
+  pub control : new.me.control ≡ old.me.control
+  pub trail : new.me.trail ≡ old.me.trail
+
+-- the mutators from one place on are not split off yet
+abbrev pub AreUnsplit : ℕ → ℕ → List (Place Pass) → Type 0
+AreUnsplit from mutators at =
+    (i : ℕ) → from ≤ i → i < mutators → get_elem? at i ≡ some places.Unsplit
+
+-- The first mutators are split off, and so many there are still.
+pub record HasSplit (clients mutators : ℕ) (old new : SeatView Pass) : Type 0 where
+  pub still : IsStill old new
+  pub many : length new.me.places ≡ mutators
+  pub unsplit : AreUnsplit clients mutators new.me.places
+
+-- how many cells may wait for a look of the collector
+abbrev pub opened_stack : Stack
+opened_stack = record { room = 65_536; cells = [] }
+
+-- The heap is opened, and its clients have not begun.
+pub record IsOpenStore (cells cycles mutators : ℕ) (l : Limits)
+    (scripts : List (Vec Command Global)) (made : OpenStore) : Type 0 where
+  pub shape : made.heap.shape ≡ store_shape cells mutators l.keep
+  pub seat : IsSeatOf made.heap made.keeper.seat
+  pub idle : made.keeper.seat.me.control.stage ≡ stage.Idle
+  pub no_cycles : made.keeper.seat.me.control.cycles ≡ 0
+  pub trail : made.keeper.seat.me.trail ≡ duty_on cycles
+  pub places : length made.keeper.seat.me.places ≡ mutators
+  pub unsplit : AreUnsplit (length scripts) mutators made.keeper.seat.me.places
+  pub stack : made.keeper.stack ≡ opened_stack
+  pub pass : IsHintPass made.queue made.keeper.pass
+  pub hinted : hinted_of made.queue ≡ cells
+  pub ready : AllReady made.heap made.queue l scripts made.clients.items
+  pub many : length made.clients.items ≡ length scripts

@@ -1,0 +1,53 @@
+-- The clients behind their run: their logs, and the collector's seat with theirs joined.
+-- Source: this project's.
+use Rattle.std.specs.Prelude.{ℕ, ◌≡◌, ◌<◌, List, [], ◌∷◌, length, map, take}
+use Rattle.std.specs.Prelude.{Vec}
+use Rattle.std.specs.declared.alloc.Global.{Global}
+use mathlib.Core.Option.{some}
+use lib.ListN.{get_elem?}
+use Rattle.client_threads.specs.Clients.{commands_of}
+use Rattle.client_threads.specs.Opened.{IsStill}
+use Rattle.doc_model.specs.Answers.{Limits}
+use Rattle.doc_model.specs.ClientLog.{ClientLog}
+use Rattle.doc_model.specs.declared.command.Command.{Command}
+use Rattle.heap_rule.specs.declared.view.Place.{Place}
+use Rattle.heap_rule.specs.declared.view.Place.TheVariants as places
+use Rattle.heap_rule.specs.declared.view.Share.{Share}
+use Rattle.heap_table.specs.Seats.{SeatView}
+use Rattle.run_history.specs.Left.{AreLeft}
+use Rattle.version_rule.specs.Pass.{Pass}
+
+-- the scripts as lists of commands
+abbrev pub lists_of : List (Vec Command Global) → List (List Command)
+lists_of scripts = map (λ script. script.items) scripts
+
+-- the commands of a log
+abbrev pub commands_in : ClientLog → List Command
+commands_in log = commands_of log.entries
+
+-- each of these lists is a front of the one that stands beside it
+abbrev pub AreFronts : List (List Command) → List (List Command) → Type 0
+AreFronts [] [] = Unit {0}
+AreFronts [] (whole ∷ wholes) = ⊥
+AreFronts (front ∷ fronts) [] = ⊥
+AreFronts (front ∷ fronts) (whole ∷ wholes) =
+    (front ≡ take (length front) whole) × AreFronts fronts wholes
+
+-- the mutator with this index was joined, and had so many places
+pub record HadRoom (room : ℕ) (joined : List (Place Pass)) (i : ℕ) : Type 0 where
+  pub share : Share Pass
+  pub share_at : get_elem? joined i ≡ some (places.Joined share)
+  pub room_is : share.room ≡ room
+
+-- so had the first mutators, as many as this
+abbrev pub AllHadRoom : ℕ → List (Place Pass) → ℕ → Type 0
+AllHadRoom room joined count = (i : ℕ) → i < count → HadRoom room joined i
+
+-- All clients are taken back, of which there were so many: their seats are joined, which had so
+-- many places each, and the logs are theirs.
+pub record AreTaken (l : Limits) (cells room clients : ℕ) (logs : List ClientLog)
+    (old new : SeatView Pass) : Type 0 where
+  pub still : IsStill old new
+  pub many : length logs ≡ clients
+  pub left : AreLeft l cells logs new.me.places clients
+  pub rooms : AllHadRoom room new.me.places clients

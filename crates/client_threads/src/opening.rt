@@ -1,0 +1,137 @@
+//! The opening of a store's heap, with what its clients and its collector need: for each client a
+//! seat, a session and a pass of the hints; and the collector on duty.
+ghost use Rattle.std.specs.Prelude.{◌≡◌, ◌<◌, ◌≤◌, All, IfOk, List, OnOk, length};
+ghost use Rattle.std.specs.Prelude.{replicate};
+ghost use mathlib.Core.Option.{some};
+ghost use lib.ListN.{get_elem?};
+ghost use Rattle.client_threads.specs.Clients.{AllReady, IsReady};
+ghost use Rattle.client_threads.specs.Opened.{HasSplit, IsOpenStore};
+ghost use Rattle.doc_model.specs.declared.command.Command.{Command as Asked};
+ghost use Rattle.free_cells.specs.Passes.{IsHintPass};
+ghost use Rattle.heap_rule.specs.Moves.{split_view};
+ghost use Rattle.heap_rule.specs.declared.view.Place.TheVariants as places;
+ghost use Rattle.heap_table.specs.Seats.{IsSeatOf};
+
+use crate::clients::Client;
+use crate::opened::OpenStore;
+use beside_collector::{Keeper, begin_duty};
+use cell_heap::ColSeat;
+use client_run::{Limits, Session};
+use collector::{MarkStack, NoMemory};
+use doc_model::Command;
+use document_versions::Documents;
+use free_cells::{FreeQueue, HintPass};
+use heap_table::CellHeap;
+use std::alloc::Global;
+use std::sync::Wait;
+use version_store::opening_rows;
+
+/// How many cells can wait for a look of the collector.
+const MARKS: u32 = 65_536;
+
+/// How many of the first cells the opening of a store takes.
+const FIRST: u32 = 3;
+
+/// Opens a heap with so many mutators, and a client for each script: theirs are the first mutators,
+/// and the others are still to be split off. The collector is on duty where it may make cycles.
+pub fn open_store<R: Wait>(
+    alloc: Global,
+    rt: &R,
+    scripts: &[Vec<Command>],
+    mutators: u32,
+    cells: u32,
+    cycles: u32,
+    limits: Limits,
+) -> Result<OpenStore, NoMemory>
+    requires some { 1 ≤ length scripts.now }
+    requires clients { length scripts.now ≤ mutators }
+    requires few { mutators ≤ 64 }
+    requires short { All (λ script. length script.items ≤ 100_000) scripts.now }
+    requires cells { (64 ≤ cells) × (cells ≤ 4_194_304) }
+    requires minor { (4_096 ≤ limits.minor) × (limits.minor ≤ 262_144) }
+    requires keep { (1 ≤ limits.keep) × (limits.keep ≤ 100) }
+    ensures opened { IfOk result (λ made.
+        IsOpenStore cells cycles mutators limits scripts.now made) }
+{
+    let (queue, mut pass) = FreeQueue::open(alloc, rt, cells, FIRST)?;
+    let stack = MarkStack::with_room(alloc, MARKS)?;
+    let keep = u64::from(limits.keep);
+    let rows = opening_rows();
+    let (heap, mut seat) = ColSeat::<Documents>::open(alloc, cells, mutators, keep, &rows)?;
+    let clients = split_clients(alloc, &heap, &queue, limits, scripts, &mut seat, &mut pass)?;
+    begin_duty(&heap, cycles, &mut seat);
+    Ok(OpenStore {
+        heap,
+        queue,
+        keeper: Keeper { seat, stack, pass },
+        clients,
+    })
+}
+
+/// A client for each script: the first has the mutator with number 0.
+fn split_clients(
+    alloc: Global,
+    heap: &CellHeap<Documents>,
+    queue: &FreeQueue,
+    limits: Limits,
+    scripts: &[Vec<Command>],
+    seat: &mut ColSeat<Documents>,
+    pass: &mut HintPass,
+) -> Result<Vec<Client>, NoMemory>
+    requires few { length scripts.now ≤ 64 }
+    requires short { All (λ script. length script.items ≤ 100_000) scripts.now }
+    requires minor { (4096 ≤ limits.minor) × (limits.minor ≤ 262_144) }
+    requires setting { heap.now.shape.setting ≡ limits.keep }
+    requires mutators { length scripts.now ≤ heap.now.shape.mutators }
+    requires seat { IsSeatOf heap.now seat.old }
+    requires unsplit { seat.old.me.places ≡ replicate heap.now.shape.mutators places.Unsplit }
+    requires pass { IsHintPass queue.now pass.old }
+    ensures ready { IfOk result (λ clients.
+        AllReady heap.now queue.now limits scripts.now clients.items) }
+    ensures many { IfOk result (λ clients. length clients.items ≡ length scripts.now) }
+    ensures seat { OnOk result (HasSplit (length scripts.now) heap.now.shape.mutators
+        seat.old seat.new) }
+    ensures pass { OnOk result (IsHintPass queue.now pass.new) }
+{
+    let mut clients = Vec::with_capacity(alloc, scripts.len())?;
+    for place in 0..scripts.len() as u32 {
+        let client = new_client(alloc, heap, queue, limits, place, seat, pass)?;
+        clients.push_reserved(client);
+    }
+    Ok(clients)
+}
+
+/// The client of the mutator with this number.
+fn new_client(
+    alloc: Global,
+    heap: &CellHeap<Documents>,
+    queue: &FreeQueue,
+    limits: Limits,
+    place: u32,
+    seat: &mut ColSeat<Documents>,
+    pass: &mut HintPass,
+) -> Result<Client, NoMemory>
+    requires few { place < 64 }
+    requires minor { (4096 ≤ limits.minor) × (limits.minor ≤ 262_144) }
+    requires setting { heap.now.shape.setting ≡ limits.keep }
+    requires place { place < heap.now.shape.mutators }
+    requires seat { IsSeatOf heap.now seat.old }
+    requires unsplit { get_elem? seat.old.me.places place ≡ some places.Unsplit }
+    requires pass { IsHintPass queue.now pass.old }
+    ensures ready { IfOk result (λ client. (script : List Asked) → length script ≤ 100_000
+        → IsReady heap.now queue.now limits script place client) }
+    ensures seat { OnOk result
+        (seat.new ≡ record seat.old { me = split_view place seat.old.me }) }
+    ensures pass { OnOk result (IsHintPass queue.now pass.new) }
+{
+    let session = Session::new(alloc, place + 1, limits)?;
+    let own_pass = queue.split(pass)?;
+    let own_seat = seat.split(alloc, heap, place, 4 * limits.minor + 16_384)?;
+    Ok(Client {
+        place,
+        session,
+        seat: own_seat,
+        pass: own_pass,
+        failed: false,
+    })
+}
