@@ -1,0 +1,5 @@
+pub mod Lines
+pub mod Looks
+pub mod Outcome
+pub mod Still
+pub mod Walks
