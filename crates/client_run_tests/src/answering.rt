@@ -18,7 +18,7 @@ use std::sync::Wait;
 use std::test::Fail;
 
 /// Answers the commands, but for what goes past the most that a log has.
-fn answer_all<R: Wait>(
+pub(crate) fn answer_all<R: Wait>(
     alloc: Global,
     rt: &R,
     hints: &mut Hints<'_>,

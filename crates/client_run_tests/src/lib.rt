@@ -9,6 +9,8 @@ mod answering;
 #[cfg(test)]
 mod batches;
 #[cfg(test)]
+mod dumping;
+#[cfg(test)]
 mod long_rows;
 #[cfg(test)]
 mod opening;
