@@ -10,7 +10,7 @@ use std::test::Fail;
 use std::thread::Threads;
 
 /// As many looks as no thread needs to begin.
-const LOOKS: u64 = 100_000_000;
+const LOOKS: u64 = 1_000_000_000;
 
 /// A cross gate that counts what it is asked and told.
 #[derive(Drop)]

@@ -3,7 +3,7 @@ use outside::{CrossGate, Gate};
 use std::sync::atomic::{AtomicBool, AtomicU32, Ordering};
 
 /// As many looks as no thread needs to begin.
-const LOOKS: u64 = 100_000_000;
+const LOOKS: u64 = 1_000_000_000;
 
 /// How often each client is sent away before its first command.
 const AWAY: u32 = 3;
