@@ -9,7 +9,9 @@ The two take turns, and so does a script without them. Printed are the middle ti
 batch makes one version of its puts, so the nodes on the way are copied into the shared heap once
 and not a hundred times. The collector makes no cycle: a million cells are enough for 200 batches.
 """
-import argparse, os, random, resource, statistics, subprocess, sys, tempfile
+import argparse, random, statistics, sys, tempfile
+sys.dont_write_bytecode = True
+from spent import files_with, rounds_of
 
 PUTS, PATHS = 100, 200
 
@@ -25,13 +27,6 @@ def scripts(batches):
     return ["".join(line + "\n" for line in lines) for lines in (whole, single, empty)]
 
 
-def spent(program, file):
-    before = resource.getrusage(resource.RUSAGE_CHILDREN)
-    subprocess.run([program, "run", "--cycles", "0", "--cells", "1000000", file], check=True, stdout=subprocess.DEVNULL)
-    behind = resource.getrusage(resource.RUSAGE_CHILDREN)
-    return behind.ru_utime + behind.ru_stime - before.ru_utime - before.ru_stime
-
-
 def main():
     p = argparse.ArgumentParser()
     p.add_argument("program")
@@ -39,12 +34,9 @@ def main():
     p.add_argument("--rounds", type=int, default=15)
     args = p.parse_args()
     with tempfile.TemporaryDirectory() as folder:
-        files = []
-        for name, text in zip(("batches", "puts", "neither"), scripts(args.batches)):
-            files.append(os.path.join(folder, name))
-            with open(files[-1], "w", encoding="ascii") as it:
-                it.write(text)
-        rounds = [[spent(args.program, file) for file in files] for _ in range(args.rounds)]
+        texts = zip(("batches", "puts", "neither"), scripts(args.batches))
+        run = [args.program, "run", "--cycles", "0", "--cells", "1000000"]
+        rounds = rounds_of([[*run, file] for file in files_with(folder, texts)], args.rounds)
     batch = statistics.median(whole - none for whole, _, none in rounds) * 1000
     put = statistics.median(single - none for _, single, none in rounds) * 1000
     ratio = statistics.median((whole - none) / (single - none) for whole, single, none in rounds)

@@ -6,7 +6,9 @@ loads.py PROGRAM [--rounds 15]
 Each dump has folders of 200 nodes below the root, and texts of 60 bytes. The dumps take turns.
 Printed are the middle times in milliseconds (user and system), and that of a node in nanoseconds.
 """
-import argparse, os, resource, statistics, subprocess, sys, tempfile
+import argparse, statistics, sys, tempfile
+sys.dont_write_bytecode = True
+from spent import files_with, rounds_of
 
 SIZES, CHILDREN = (1250, 2500, 5000, 10_000), 200
 
@@ -21,24 +23,14 @@ def dump(nodes):
     return "\n".join([*lines, f"end {nodes}"]) + "\n"
 
 
-def spent(program, file):
-    before = resource.getrusage(resource.RUSAGE_CHILDREN)
-    subprocess.run([program, "load", file], check=True, stdout=subprocess.DEVNULL)
-    behind = resource.getrusage(resource.RUSAGE_CHILDREN)
-    return behind.ru_utime + behind.ru_stime - before.ru_utime - before.ru_stime
-
-
 def main():
     p = argparse.ArgumentParser()
     p.add_argument("program")
     p.add_argument("--rounds", type=int, default=15)
     args = p.parse_args()
     with tempfile.TemporaryDirectory() as folder:
-        files = [os.path.join(folder, str(nodes)) for nodes in SIZES]
-        for nodes, file in zip(SIZES, files):
-            with open(file, "w", encoding="ascii") as it:
-                it.write(dump(nodes))
-        rounds = [[spent(args.program, file) for file in files] for _ in range(args.rounds)]
+        files = files_with(folder, [(str(nodes), dump(nodes)) for nodes in SIZES])
+        rounds = rounds_of([[args.program, "load", file] for file in files], args.rounds)
     for nodes, times in zip(SIZES, zip(*rounds)):
         middle = statistics.median(times)
         print(f"{nodes} nodes: {middle * 1000:.1f} ms, {middle * 1e9 / nodes:.0f} ns a node")
