@@ -5,8 +5,9 @@ stress.py DOCHEAP [--runs N] [--seed S] [--jobs J] [--only NAME] [--limit SECOND
 
 N runs of each kind; a run is made again by its kind and its seed. Four kinds of long runs are made
 only where --only names them: 64 clients with 1,500 commands each on 64 cells, of all kinds or puts
-and gets alone, 2 to 64 clients, and a batch of 1,000 edits beside four clients that commit. Kinds with batches have scripts of version 2, some beside
-scripts of version 1; long batches outgrow the private heap, so the session collects between edits.
+and gets alone, 2 to 64 clients, and a batch of 1,000 edits beside four clients that commit. Kinds
+with batches have scripts of version 2, some beside scripts of version 1; long batches outgrow the
+private heap, so the session collects between edits.
 
 The checker shares nothing with the program: it reads the scripts by the grammar, folds the merged
 history over whole trees, and compares each reply; it compares the history with the clients' own
