@@ -4,7 +4,7 @@ use Rattle.std.proofs.Common.{length, map}
 use Rattle.std.proofs.Common.{inl, inr, refl, sym, subst, arith}
 use Rattle.std.specs.Prelude.{◌⊎◌, ◌↔◌, ◌≢◌, IfSome, IsSomeAnd}
 use Rattle.outside.specs.Causes.{next_count}
-use Rattle.run_words.specs.Requests.{Asked, Run, Replay, Gen, Load, RunAsked}
+use Rattle.run_words.specs.Requests.{Asked, Run, Replay, Gen, Load, Image, Dump, Census, RunAsked}
 use Rattle.run_words.specs.declared.request.GenWords.{GenWords}
 use Rattle.script_files.specs.Files.{OpensInTurn, files_read}
 use Rattle.script_files.specs.Loaded.{IsDumpFile, IsFaultyDump}
@@ -19,15 +19,20 @@ use Rattle.store_run.specs.declared.finished.Finished.{Finished}
 use Rattle.doc_run.specs.Clients.{options_of}
 use Rattle.doc_run.specs.Ending.{Explains}
 use Rattle.doc_run.specs.Ending.{OpensFiles, WritesPartOf}
-use Rattle.doc_run.specs.Request.{ByPrint, IfGen, IfLoad, IfReplay, IfRun, names_of}
+use Rattle.doc_run.specs.Request.{ByPrint, IfGen, IfLoad, IfReplay, IfRun, asked_for, names_of}
+use Rattle.doc_run.specs.declared.report.Report.{Report}
+use Rattle.doc_run.specs.declared.report.Report.TheVariants.{Replies, Heap}
 
-if_run : (asked : Option Asked) (Fact : RunAsked → Type 0) → ((run : RunAsked) → Fact run)
-    → IfRun asked Fact
+if_run : (asked : Option Asked) (Fact : Report → RunAsked → Type 0)
+    → ((report : Report) (run : RunAsked) → Fact report run) → IfRun asked Fact
 if_run None Fact all = tt
-if_run (Some (Run run)) Fact all = all run
+if_run (Some (Run run)) Fact all = all Replies run
 if_run (Some (Replay name)) Fact all = tt
 if_run (Some (Gen made)) Fact all = tt
 if_run (Some (Load name)) Fact all = tt
+if_run (Some (Image run)) Fact all = all Heap run
+if_run (Some (Dump names)) Fact all = tt
+if_run (Some (Census name)) Fact all = tt
 
 if_replay : (asked : Option Asked) (Fact : List ℕ → Type 0)
     → ((name : List ℕ) → Fact name) → IfReplay asked Fact
@@ -36,6 +41,9 @@ if_replay (Some (Run run)) Fact all = tt
 if_replay (Some (Replay name)) Fact all = all name
 if_replay (Some (Gen made)) Fact all = tt
 if_replay (Some (Load name)) Fact all = tt
+if_replay (Some (Image run)) Fact all = tt
+if_replay (Some (Dump names)) Fact all = tt
+if_replay (Some (Census name)) Fact all = tt
 
 if_gen : (asked : Option Asked) (Fact : GenWords → Type 0) → ((made : GenWords) → Fact made)
     → IfGen asked Fact
@@ -44,6 +52,9 @@ if_gen (Some (Run run)) Fact all = tt
 if_gen (Some (Replay name)) Fact all = tt
 if_gen (Some (Gen made)) Fact all = all made
 if_gen (Some (Load name)) Fact all = tt
+if_gen (Some (Image run)) Fact all = tt
+if_gen (Some (Dump names)) Fact all = tt
+if_gen (Some (Census name)) Fact all = tt
 
 if_load : (asked : Option Asked) (Fact : List ℕ → Type 0) → ((name : List ℕ) → Fact name)
     → IfLoad asked Fact
@@ -52,6 +63,9 @@ if_load (Some (Run run)) Fact all = tt
 if_load (Some (Replay name)) Fact all = tt
 if_load (Some (Gen made)) Fact all = tt
 if_load (Some (Load name)) Fact all = all name
+if_load (Some (Image run)) Fact all = tt
+if_load (Some (Dump names)) Fact all = tt
+if_load (Some (Census name)) Fact all = tt
 
 if_some : (told : Option (List ℕ)) (Fact : List ℕ → Type 0)
     → ((bytes : List ℕ) → Fact bytes) → IfSome told Fact
@@ -59,9 +73,9 @@ if_some None Fact all = tt
 if_some (Some bytes) Fact all = all bytes
 
 pub unread_scripts : (asked : Option Asked) (holds : List ℕ → Option (List ℕ)) (status : ℕ)
-    → status ≡ 5 → IfRun asked (λ run. IsDueFor (map holds run.files) status)
+    → status ≡ 5 → IfRun asked (λ report run. IsDueFor (map holds run.files) status)
 unread_scripts asked holds status is =
-    if_run asked _ (λ run scripts decided. subst (IsDue scripts) (sym is) (wanting_due scripts))
+    if_run asked _ (λ report run scripts decided. subst (IsDue scripts) (sym is) (wanting_due scripts))
 
 pub unread_large_made : (asked : Option Asked) (status : ℕ) → status ≡ 5
     → IfGen asked (λ made. (status ≡ 6)
@@ -128,6 +142,9 @@ unwritten_part (Some (Replay name)) holds old new is = inl is
 unwritten_part (Some (Gen made)) holds old new is =
     made_unwritten made.print _ _ (inl is) (λ client. inl is)
 unwritten_part (Some (Load name)) holds old new is = inl is
+unwritten_part (Some (Image run)) holds old new is = inl is
+unwritten_part (Some (Dump names)) holds old new is = is
+unwritten_part (Some (Census name)) holds old new is = is
 
 -- no file was opened
 pub opens_nothing : (status before files : ℕ) → status ≡ 5
@@ -149,30 +166,38 @@ pub opens_all : (status before now files : ℕ) → OpensInTurn before now files
     → OpensFiles status before now files
 opens_all status before now files is = (is.0, is.1, (λ other. is.2), is.3)
 
--- the status of a run whose words are known
-pub due_asked : (asked : Option Asked) (run : RunAsked) (holds : List ℕ → Option (List ℕ))
-    (fault : Option Fault) (finished : Option Finished) (status : ℕ) → asked ≡ Some (Run run)
-    → status ≡ status_of fault
-    → Explains (AreScripts (map holds run.files)) (options_of run) fault finished
-    → IfRun asked (λ these. IsDueFor (map holds these.files) status)
-due_asked asked run holds fault finished status is same explained =
-    subst (λ a. IfRun a (λ these. IsDueFor (map holds these.files) status)) (sym is)
-    (run_due (map holds run.files) (options_of run) fault finished status same explained)
+-- what is so of a run whose words are known
+of_run : (report : Report) (run : RunAsked) (Fact : Report → RunAsked → Type 0)
+    → Fact report run → IfRun (Some (asked_for report run)) Fact
+of_run Replies run Fact is = is
+of_run Heap run Fact is = is
 
--- which files a run opened at most
-pub stops_asked : (asked : Option Asked) (run : RunAsked) (holds : List ℕ → Option (List ℕ))
-    (before now : ℕ) → asked ≡ Some (Run run)
+-- its status
+pub due_asked : (asked : Option Asked) (report : Report) (run : RunAsked)
+    (holds : List ℕ → Option (List ℕ)) (fault : Option Fault) (finished : Option Finished)
+    (status : ℕ) → asked ≡ Some (asked_for report run) → status ≡ status_of fault
+    → Explains (AreScripts (map holds run.files)) (options_of run) fault finished
+    → IfRun asked (λ told these. IsDueFor (map holds these.files) status)
+due_asked asked report run holds fault finished status is same explained =
+    subst (λ a. IfRun a (λ told these. IsDueFor (map holds these.files) status)) (sym is)
+    (of_run report run (λ told these. IsDueFor (map holds these.files) status)
+    (run_due (map holds run.files) (options_of run) fault finished status same explained))
+
+-- which files it opened at most
+pub stops_asked : (asked : Option Asked) (report : Report) (run : RunAsked)
+    (holds : List ℕ → Option (List ℕ)) (before now : ℕ) → asked ≡ Some (asked_for report run)
     → StopsBehind 1 0 (map holds run.files) before now
-    → IfRun asked (λ these. StopsBehind 1 0 (map holds these.files) before now)
-stops_asked asked run holds before now is stops =
-    subst (λ a. IfRun a (λ these. StopsBehind 1 0 (map holds these.files) before now)) (sym is)
-    stops
+    → IfRun asked (λ told these. StopsBehind 1 0 (map holds these.files) before now)
+stops_asked asked report run holds before now is stops =
+    subst (λ a. IfRun a (λ told these. StopsBehind 1 0 (map holds these.files) before now))
+    (sym is)
+    (of_run report run (λ told these. StopsBehind 1 0 (map holds these.files) before now) stops)
 
 -- no file was opened
 pub unread_stops : (asked : Option Asked) (holds : List ℕ → Option (List ℕ)) (opens : ℕ)
-    → IfRun asked (λ run. StopsBehind 1 0 (map holds run.files) opens opens)
+    → IfRun asked (λ report run. StopsBehind 1 0 (map holds run.files) opens opens)
 unread_stops asked holds opens =
-    if_run asked _ (λ run. stops_none 1 0 opens (map holds run.files))
+    if_run asked _ (λ report run. stops_none 1 0 opens (map holds run.files))
 
 -- the file of a replay
 pub opens_replay : (asked : Option Asked) (name : List ℕ) (status before now : ℕ)

@@ -5,18 +5,15 @@
 use Rattle.std.specs.Prelude.{◌≡◌, ◌≢◌, ℕ, ◌*◌, ◌<◌, ◌≤◌, List, Option}
 use Rattle.std.specs.Prelude.{None, Some, IsNone, IsSomeAnd, Result, Err, ◌⊎◌, map, true}
 use Rattle.std.specs.Io.KnownBytes.{Appends}
-use Rattle.cmd_text.specs.declared.form.Form.{Form}
 use Rattle.doc_model.specs.Merge.{IsMerge}
 use Rattle.doc_model.specs.declared.command.Command.{Command}
 use Rattle.doc_model.specs.declared.command.Entry.{Entry}
 use Rattle.outside.specs.Pieces.{AppendsPart}
 use Rattle.doc_tree.specs.Tree.{DocTree}
 use Rattle.run_output.specs.Loaded.{loaded_text_of}
-use Rattle.run_output.specs.Output.{IsOutput}
 use Rattle.run_output.specs.Summary.{summary_text_of}
-use Rattle.run_output.specs.declared.output.Shown.{Shown}
 use Rattle.run_output.specs.declared.summary.Made.{Made}
-use Rattle.run_words.specs.Requests.{Asked, Run, Replay, Gen, Load, RunAsked}
+use Rattle.run_words.specs.Requests.{Asked, Run, Replay, Gen, Load, Image, Dump, Census}
 use Rattle.run_words.specs.declared.request.GenWords.{GenWords}
 use Rattle.script_files.specs.Files.{opened}
 use Rattle.script_files.specs.Loaded.{HoldsDump, RefusesDump}
@@ -29,8 +26,10 @@ use Rattle.script_files.specs.declared.fault.Fault.TheVariants.{ReadFault, TooLa
 use Rattle.script_generator.specs.Generated.{generated_of}
 use Rattle.store_run.specs.declared.finished.Finished.{Finished}
 use Rattle.store_run.specs.declared.options.Options.{Options}
-use Rattle.doc_run.specs.Clients.{ComesBy, ComesFrom, IsMade, default_options, options_of}
+use Rattle.doc_run.specs.Clients.{ComesBy, IsMade, default_options, options_of}
+use Rattle.doc_run.specs.Reports.{IsReportOf}
 use Rattle.doc_run.specs.Request.{ByPrint}
+use Rattle.doc_run.specs.declared.report.Report.TheVariants.{Replies, Heap}
 
 -- of so many files each was opened once at most, and unless memory was wanting the first one was
 abbrev pub OpensFiles : ℕ → ℕ → ℕ → ℕ → Type 0
@@ -50,16 +49,6 @@ WritesAll IsText old new = (text : List ℕ) × IsText text × Appends old new t
 abbrev pub WritesFront : (List ℕ → Type 0) → Option (List ℕ) → Option (List ℕ)
     → Type 0
 WritesFront IsText old new = (text : List ℕ) × IsText text × AppendsPart old new text
-
--- what is written behind the replies of a run
-abbrev pub shown_of : RunAsked → Shown
-shown_of run = record { history = run.history; stats = run.stats }
-
--- the output of a run with these words, with the forms of the scripts that it was a run of
-abbrev pub IsOutputOf : List (Option (List ℕ)) → RunAsked → Finished → List ℕ → Type 0
-IsOutputOf told run f text =
-    (forms : List Form) × ComesFrom told (options_of run) f forms
-    × IsOutput (shown_of run) f.logs.items forms f.totals text
 
 -- by which numbers scripts are generated
 abbrev pub numbers_of : GenWords → Made
@@ -108,11 +97,16 @@ abbrev pub WritesPartOf : (List ℕ → Option (List ℕ)) → Option Asked → 
 WritesPartOf holds None old new = new ≡ old
 WritesPartOf holds (Some (Run run)) old new =
     WritesPart (AreScripts (map holds run.files)) (options_of run)
-    (IsOutputOf (map holds run.files) run) old new
+    (IsReportOf Replies (map holds run.files) run) old new
 WritesPartOf holds (Some (Replay name)) old new = WritesTextPart (IsTextOf (holds name)) old new
 WritesPartOf holds (Some (Gen made)) old new = WritesMadePart made old new
 WritesPartOf holds (Some (Load name)) old new =
     WritesTextPart (IsLoadedText (holds name)) old new
+WritesPartOf holds (Some (Image run)) old new =
+    WritesPart (AreScripts (map holds run.files)) (options_of run)
+    (IsReportOf Heap (map holds run.files) run) old new
+WritesPartOf holds (Some (Dump names)) old new = new ≡ old
+WritesPartOf holds (Some (Census name)) old new = new ≡ old
 
 -- What is so by the sort of a fault: the first fact where the run was refused, the next where the
 -- output could not be written, the last where memory was wanting.

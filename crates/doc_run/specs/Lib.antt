@@ -1,4 +1,5 @@
 pub mod Request
 pub mod Clients
+pub mod Reports
 pub mod Ending
 pub mod Written

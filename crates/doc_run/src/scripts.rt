@@ -1,9 +1,10 @@
-//! The scripts of files: they are answered.
+//! The scripts of files: they are answered, and a report of the run is written.
 ghost use Rattle.std.specs.Prelude.{◌≡◌, ℕ, ◌+◌, ◌*◌, ◌≤◌, ◌⊎◌, Some, length, map};
 ghost use Rattle.outside.specs.Calls.{IsUnbroken, IsOrderly};
 ghost use Rattle.outside.specs.Causes.{Rose};
 ghost use Rattle.doc_run.specs.Clients.{options_of};
-ghost use Rattle.doc_run.specs.Ending.{Explains, IsOutputOf, Writes, shown_of};
+ghost use Rattle.doc_run.specs.Ending.{Explains, Writes};
+ghost use Rattle.doc_run.specs.Reports.{IsReportOf};
 ghost use Rattle.run_words.specs.Limits.{IsRunWithin};
 ghost use Rattle.run_words.specs.Requests.{run_asked_by};
 ghost use Rattle.script_files.specs.Fault.{status_of};
@@ -12,19 +13,20 @@ ghost use Rattle.script_files.specs.Scripts.{AreScripts, StopsBehind};
 
 use crate::clients::{Ran, run_files};
 use crate::outcome::Outcome;
+use crate::report::{Report, report_text};
 use outside::{Gate, READ_LIMIT, Shelf, Sink, write_lines};
-use run_output::{Shown, output_text};
 use run_words::RunWords;
 use script_files::Fault;
 use std::alloc::Global;
 use std::sync::Wait;
 use std::thread::Threads;
 
-/// Answers the scripts in the files of the words.
+/// Answers the scripts in the files of the words, and writes this report of the run.
 pub fn run_scripts<R: Threads + Wait + Sync, H: Shelf, S: Sink, G: Gate + Sync>(
     alloc: Global,
     rt: &R,
     run: &RunWords<'_>,
+    report: Report,
     shelf: &mut H,
     sink: &mut S,
     gate: &G,
@@ -37,7 +39,8 @@ pub fn run_scripts<R: Threads + Wait + Sync, H: Shelf, S: Sink, G: Gate + Sync>(
     ensures written { Writes
         (AreScripts (map (H.holds shelf.old) (run_asked_by run.now).files))
         (options_of (run_asked_by run.now))
-        (IsOutputOf (map (H.holds shelf.old) (run_asked_by run.now).files) (run_asked_by run.now))
+        (IsReportOf report (map (H.holds shelf.old) (run_asked_by run.now).files)
+        (run_asked_by run.now))
         (S.written sink.old) (S.written sink.new) result.fault result.finished }
     ensures read { result.status ≡ 3 → Rose (H.faults shelf.old) (H.faults shelf.new) }
     ensures read_file { (file : ℕ) → result.fault ≡ Some (Fault.ReadFault file) →
@@ -64,20 +67,12 @@ pub fn run_scripts<R: Threads + Wait + Sync, H: Shelf, S: Sink, G: Gate + Sync>(
         Ok(ran) => ran,
         Err(fault) => return Outcome::refused(fault),
     };
-    let Ran { finished, forms } = ran;
-    let shown = shown(run);
-    let Ok(text) = output_text(alloc, shown, &finished.logs, &forms, &finished.totals) else {
+    let Ok(text) = report_text(alloc, report, run, &ran) else {
         return Outcome::refused(Fault::Memory);
     };
+    let Ran {
+        finished,
+        forms: _forms,
+    } = ran;
     Outcome::by_writing(write_lines(sink, &text), Some(finished))
-}
-
-// What is written behind the replies.
-fn shown(run: &RunWords<'_>) -> Shown
-    ensures { result ≡ shown_of (run_asked_by run.now) }
-{
-    Shown {
-        history: run.history,
-        stats: run.stats,
-    }
 }

@@ -14,9 +14,10 @@ ghost use Rattle.cmd_text.specs.declared.fault.ScriptKind.{ScriptKind};
 ghost use Rattle.core_replay.specs.declared.fault.ScheduleKind.{ScheduleKind};
 ghost use Rattle.version_dump.specs.declared.fault.LoadKind.{LoadKind};
 ghost use Rattle.doc_run.specs.Clients.{ComesBy, IsMade, default_options, options_of};
-ghost use Rattle.doc_run.specs.Ending.{IsLoadedText, IsOutputOf, IsRefusal, IsSummaryOf};
+ghost use Rattle.doc_run.specs.Ending.{IsLoadedText, IsRefusal, IsSummaryOf};
 ghost use Rattle.doc_run.specs.Ending.{OpensFiles, WritesAll, WritesFront, WritesPartOf};
 ghost use Rattle.doc_run.specs.Ending.{printed_of};
+ghost use Rattle.doc_run.specs.Reports.{IsReportOf};
 ghost use Rattle.doc_run.specs.Request.{ByPrint, IfGen, IfLoad, IfReplay, IfRun, IsLoadAnd};
 ghost use Rattle.doc_run.specs.Request.{IsReplayAnd, IsRunAnd, RunsClients, names_of};
 ghost use Rattle.run_words.specs.Requests.{request_of};
@@ -30,6 +31,7 @@ ghost use Rattle.script_files.specs.Scripts.{largest_file, most_commands};
 use crate::dump::load_dump;
 use crate::generated::run_generated;
 use crate::outcome::Outcome;
+use crate::report::Report;
 use crate::schedule::run_schedule;
 use crate::scripts::run_scripts;
 use crate::words::Words;
@@ -56,13 +58,13 @@ pub fn run<R: Threads + Wait + Sync, H: Shelf, S: Sink, G: Gate + Sync>(
         ↔ (RunsClients (request_of words.now)
         × ((result.status ≡ 0) ⊎ (result.status ≡ 4))) }
 
-    // Done: what the run of the files' scripts came to, and its output is all that was written; or
+    // Done: what the run of the files' scripts came to, and its report is all that was written; or
     // the same of generated scripts, and their summary; or the script that was asked for; or the
     // replay text of the file's schedule; or how large the tree of the file's dump is.
-    ensures done { result.status ≡ 0 → IfRun (request_of words.now) (λ run.
+    ensures done { result.status ≡ 0 → IfRun (request_of words.now) (λ report run.
         IsSomeAnd result.finished (λ f.
         ComesBy (AreScripts (map (H.holds shelf.old) run.files)) (options_of run) f
-        × WritesAll (IsOutputOf (map (H.holds shelf.old) run.files) run f)
+        × WritesAll (IsReportOf report (map (H.holds shelf.old) run.files) run f)
         (S.written sink.old) (S.written sink.new))) }
     ensures made { result.status ≡ 0 → IfGen (request_of words.now) (λ made.
         ByPrint made.print (IsSomeAnd result.finished (λ f.
@@ -81,14 +83,14 @@ pub fn run<R: Threads + Wait + Sync, H: Shelf, S: Sink, G: Gate + Sync>(
     // wanting.
     ensures usage { (result.status ≡ 1)
         ↔ ((result.status ≢ 5) × IsNone (request_of words.now)) }
-    ensures scripts { IfRun (request_of words.now) (λ run.
+    ensures scripts { IfRun (request_of words.now) (λ report run.
         IsDueFor (map (H.holds shelf.old) run.files) result.status) }
     ensures script_line { (file line : ℕ) (kind : ScriptKind) →
         result.fault ≡ Some (Fault.Script file line kind) →
-        IsRunAnd (request_of words.now) (λ run.
+        IsRunAnd (request_of words.now) (λ report run.
         AreScripts (map (H.holds shelf.old) run.files) (Err (Fault.Script file line kind))) }
     ensures large_file { (file : ℕ) → result.fault ≡ Some (Fault.TooLarge file) →
-        IfRun (request_of words.now) (λ run.
+        IfRun (request_of words.now) (λ report run.
         AreScripts (map (H.holds shelf.old) run.files) (Err (Fault.TooLarge file))) }
     ensures large_made { IfGen (request_of words.now) (λ made. (result.status ≡ 6)
         ↔ ((result.status ≢ 5) × (most_commands < made.clients * made.commands))) }
@@ -137,10 +139,10 @@ pub fn run<R: Threads + Wait + Sync, H: Shelf, S: Sink, G: Gate + Sync>(
     ensures read_file { (file : ℕ) → result.fault ≡ Some (Fault.ReadFault file) →
         H.opens shelf.new ≡ opened (H.opens shelf.old) file }
     ensures write { result.status ≡ 4 → Rose (S.faults sink.old) (S.faults sink.new) }
-    ensures write_part { result.status ≡ 4 → IfRun (request_of words.now) (λ run.
+    ensures write_part { result.status ≡ 4 → IfRun (request_of words.now) (λ report run.
         IsSomeAnd result.finished (λ f.
         ComesBy (AreScripts (map (H.holds shelf.old) run.files)) (options_of run) f
-        × WritesFront (IsOutputOf (map (H.holds shelf.old) run.files) run f)
+        × WritesFront (IsReportOf report (map (H.holds shelf.old) run.files) run f)
         (S.written sink.old) (S.written sink.new))) }
     ensures write_made { result.status ≡ 4 → IfGen (request_of words.now) (λ made.
         ByPrint made.print (IsSomeAnd result.finished (λ f.
@@ -176,14 +178,17 @@ pub fn run<R: Threads + Wait + Sync, H: Shelf, S: Sink, G: Gate + Sync>(
         (files_read (length (names_of (request_of words.now)))) }
     ensures all_opened { result.status ≡ 0 → H.opens shelf.new
         ≡ opened (H.opens shelf.old) (length (names_of (request_of words.now))) }
-    ensures stops { IfRun (request_of words.now) (λ run.
+    ensures stops { IfRun (request_of words.now) (λ report run.
         StopsBehind 1 0 (map (H.holds shelf.old) run.files)
         (H.opens shelf.old) (H.opens shelf.new)) }
     ensures calls { H.calls shelf.new ≤ H.calls shelf.old
         + files_read (length (names_of (request_of words.now))) * (READ_LIMIT + 1) }
 {
     match read_words(alloc, words.all()) {
-        Ok(Request::Run(run)) => run_scripts(alloc, rt, &run, shelf, sink, gate),
+        Ok(Request::Run(run)) => run_scripts(alloc, rt, &run, Report::Replies, shelf, sink, gate),
+        Ok(Request::Image(run)) => run_scripts(alloc, rt, &run, Report::Heap, shelf, sink, gate),
+        Ok(Request::Dump(_)) => Outcome::refused(Fault::Memory),
+        Ok(Request::Census(_)) => Outcome::refused(Fault::Memory),
         Ok(Request::Replay(name)) => run_schedule(alloc, name, shelf, sink),
         Ok(Request::Gen(made)) => run_generated(alloc, rt, made, sink, gate),
         Ok(Request::Load(name)) => load_dump(alloc, name, shelf, sink),

@@ -1,5 +1,5 @@
 //! What the heaps of whole runs hold at their close, in numbers and as text.
-use crate::outcomes::outcome_at;
+use crate::outcomes::{FINISHED, outcome_at, refusal_by, shown_by};
 use doc_model::NoMemory;
 use heap_census::Census;
 use heap_census::images::{census, image_text};
@@ -73,6 +73,10 @@ fn nothing_floats_where_the_collector_was_never_stopped(rt: HostRuntime) -> Resu
     Ok(())
 }
 
+/// The heap that a run without commands leaves.
+const OPENED: &str =
+    "image 1 64\n0 white @1 - - - - =2\n1 white =0 @2 - - - =2\n2 white - - =1 =0 - =1\nend\n";
+
 /// The text of the heap that a run without commands leaves.
 fn text_without_commands<R: Threads + Wait + Sync>(
     alloc: Global,
@@ -89,8 +93,17 @@ fn text_without_commands<R: Threads + Wait + Sync>(
 #[test]
 fn a_heap_is_written_a_line_for_each_cell_in_use(rt: HostRuntime) -> Result<(), Fail> {
     let text = text_without_commands(rt.alloc(), &rt)?;
-    let lines =
-        "image 1 64\n0 white @1 - - - - =2\n1 white =0 @2 - - - =2\n2 white - - =1 =0 - =1\nend\n";
-    assert_eq!(rt; text.as_slice(), lines.as_bytes());
+    assert_eq!(rt; text.as_slice(), OPENED.as_bytes());
+    Ok(())
+}
+
+#[test]
+fn an_image_is_the_heap_in_place_of_the_replies(rt: HostRuntime) -> Result<(), Fail> {
+    let all = ["image", "--cells", "64", "--cycles", "0", "f"];
+    let shown = shown_by(rt.alloc(), &rt, &all, b"", OPENED.as_bytes())?;
+    assert_eq!(rt; shown, FINISHED);
+    let text = "docheap: file 1: line 1: NoCommand";
+    let refusal = refusal_by(rt.alloc(), &rt, &all, b"look a\n", text)?;
+    assert_eq!(rt; refusal, (2, true));
     Ok(())
 }

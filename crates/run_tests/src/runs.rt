@@ -206,12 +206,15 @@ fn a_failing_sink_ends_the_run(rt: HostRuntime) -> Result<(), Fail> {
 
 #[test]
 fn other_words_are_a_faulty_command_line(rt: HostRuntime) -> Result<(), Fail> {
-    let table: [&[&str]; 7] = [
+    let table: [&[&str]; 10] = [
         &[],
         &["run"],
         &["runs", "f"],
         &["replay", "f", "f"],
         &["load"],
+        &["image", "--stats", "f"],
+        &["dump"],
+        &["census", "f", "f"],
         &["run", "--cells", "63", "f"],
         &["gen", "1", "2", "3", "--print", "3"],
     ];

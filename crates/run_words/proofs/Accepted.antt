@@ -3,7 +3,7 @@
 -- A parse gives each entry that it makes a value that passed the parser of an argument with the
 -- entry's id. Building a command adds no argument with an id of the command's own, and leaves the
 -- parsers of those that it has.
-use Rattle.std.proofs.Common.{◌≡◌, ◌∙◌, ◌<◌, ◌≤◌, ◌⊎◌, ap, ℕ, true}
+use Rattle.std.proofs.Common.{◌≡◌, ◌∙◌, ◌<◌, ap, ℕ, true}
 use Rattle.std.proofs.Common.{List, [], ◌∷◌, length, map}
 use Rattle.std.proofs.Common.{Option, Some, None, refl, sym, subst, inl, inr, arith, suc, zero}
 use Rattle.std.proofs.Common.{false}
@@ -14,14 +14,14 @@ use Rattle.std.specs.Str.{bytes_eq}
 use Rattle.std.specs.Borrow.{Bor}
 use Rattle.std.proofs.lemmas.List.Elements.{All-get_or}
 use Rattle.std.proofs.lemmas.Slice.Eq.{bytes_eq-Decides}
-use Rattle.clap.specs.Built.{IsAuto, IsParsedFrom, NamesNoGroup}
+use Rattle.clap.specs.Built.{IsAuto, IsParsedFrom}
 use Rattle.clap.specs.Facts.{Entry, EntryPasses, HasReading, PassesArg, args_of, groups_of}
 use Rattle.clap.specs.Facts.{parser_of}
 use Rattle.clap.specs.Facts.{parser_of_value}
 use Rattle.clap.specs.Matches.{found_of, matched_of, one_text}
 use Rattle.clap.specs.Simple.{app_of, is_simple}
 use Rattle.clap.specs.Values.{Accepts, IsUnsignedIn, read_as, reading_of}
-use Rattle.clap.specs.Walk.{Rule, Text, rows_of, rule_of}
+use Rattle.clap.specs.Walk.{Text, rows_of, rule_of}
 use Rattle.clap.specs.declared.builder.arg.Arg.{Arg}
 use Rattle.clap.specs.declared.builder.command.Command.{Command}
 use Rattle.clap.specs.declared.builder.value_parser.Reading.{Reading}

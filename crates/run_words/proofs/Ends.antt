@@ -1,38 +1,37 @@
 -- Between which ends each number is that was found.
-use Rattle.std.proofs.Common.{ℕ, List, refl, codes}
+use Rattle.std.proofs.Common.{List, refl, codes}
 use Rattle.clap.specs.Walk.{Row}
-use Rattle.run_words.specs.Commands.{gen_app, run_app}
+use Rattle.run_words.specs.Commands.{gen_app, image_app, run_app}
+use Rattle.run_words.specs.Limits.{AreOptions}
 use Rattle.run_words.specs.Readings.{AreAccepted, IsNumberWithin}
 
-pub cells : (rows : List Row) → AreAccepted run_app.top.rules rows
-    → IsNumberWithin (codes "cells") 64 4_194_304 rows
-cells rows accepted =
-    accepted.numbers (codes "cells") 64 4_194_304 (refl, refl, refl)
-    (refl, (tt, (tt, (tt, (tt, (tt, (tt, (tt, tt))))))))
+pub run_options : (rows : List Row) → AreAccepted run_app.top.rules rows → AreOptions rows
+run_options rows accepted = record {
+  cells = accepted.numbers (codes "cells") 64 4_194_304 (refl, refl, refl)
+      (refl, (tt, (tt, (tt, (tt, (tt, (tt, (tt, tt))))))));
+  minor = accepted.numbers (codes "minor") 4_096 262_144 (refl, refl, refl)
+      (tt, (refl, (tt, (tt, (tt, (tt, (tt, (tt, tt))))))));
+  keep = accepted.numbers (codes "keep") 1 100 (refl, refl, refl)
+      (tt, (tt, (refl, (tt, (tt, (tt, (tt, (tt, tt))))))));
+  versions = accepted.numbers (codes "versions") 1 1_000_000 (refl, refl, refl)
+      (tt, (tt, (tt, (refl, (tt, (tt, (tt, (tt, tt))))))));
+  cycles = accepted.numbers (codes "cycles") 0 4_000_000_000 (refl, refl, refl)
+      (tt, (tt, (tt, (tt, (refl, (tt, (tt, (tt, tt))))))));
+}
 
-pub minor : (rows : List Row) → AreAccepted run_app.top.rules rows
-    → IsNumberWithin (codes "minor") 4_096 262_144 rows
-minor rows accepted =
-    accepted.numbers (codes "minor") 4_096 262_144 (refl, refl, refl)
-    (tt, (refl, (tt, (tt, (tt, (tt, (tt, (tt, tt))))))))
-
-pub keep : (rows : List Row) → AreAccepted run_app.top.rules rows
-    → IsNumberWithin (codes "keep") 1 100 rows
-keep rows accepted =
-    accepted.numbers (codes "keep") 1 100 (refl, refl, refl)
-    (tt, (tt, (refl, (tt, (tt, (tt, (tt, (tt, tt))))))))
-
-pub versions : (rows : List Row) → AreAccepted run_app.top.rules rows
-    → IsNumberWithin (codes "versions") 1 1_000_000 rows
-versions rows accepted =
-    accepted.numbers (codes "versions") 1 1_000_000 (refl, refl, refl)
-    (tt, (tt, (tt, (refl, (tt, (tt, (tt, (tt, tt))))))))
-
-pub cycles : (rows : List Row) → AreAccepted run_app.top.rules rows
-    → IsNumberWithin (codes "cycles") 0 4_000_000_000 rows
-cycles rows accepted =
-    accepted.numbers (codes "cycles") 0 4_000_000_000 (refl, refl, refl)
-    (tt, (tt, (tt, (tt, (refl, (tt, (tt, (tt, tt))))))))
+pub image_options : (rows : List Row) → AreAccepted image_app.top.rules rows → AreOptions rows
+image_options rows accepted = record {
+  cells = accepted.numbers (codes "cells") 64 4_194_304 (refl, refl, refl)
+      (refl, (tt, (tt, (tt, (tt, (tt, tt))))));
+  minor = accepted.numbers (codes "minor") 4_096 262_144 (refl, refl, refl)
+      (tt, (refl, (tt, (tt, (tt, (tt, tt))))));
+  keep = accepted.numbers (codes "keep") 1 100 (refl, refl, refl)
+      (tt, (tt, (refl, (tt, (tt, (tt, tt))))));
+  versions = accepted.numbers (codes "versions") 1 1_000_000 (refl, refl, refl)
+      (tt, (tt, (tt, (refl, (tt, (tt, tt))))));
+  cycles = accepted.numbers (codes "cycles") 0 4_000_000_000 (refl, refl, refl)
+      (tt, (tt, (tt, (tt, (refl, (tt, tt))))));
+}
 
 pub start : (rows : List Row) → AreAccepted gen_app.top.rules rows
     → IsNumberWithin (codes "start") 0 2_147_483_647 rows

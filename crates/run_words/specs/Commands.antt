@@ -51,26 +51,35 @@ abbrev pub with_rules : App → List Rule → App
 with_rules app [] = app
 with_rules app (rule ∷ rules) = with_rules (with_rule app rule) rules
 
--- what a run may use
+-- what a run may use, and how often the collector may go round
 abbrev pub room_rules : List Rule
 room_rules =
     option_rule (codes "cells") 64 4_194_304
     ∷ option_rule (codes "minor") 4_096 262_144
     ∷ option_rule (codes "keep") 1 100
     ∷ option_rule (codes "versions") 1 1_000_000
+    ∷ option_rule (codes "cycles") 0 4_000_000_000
     ∷ []
 
--- how often the collector may go round, what is written, and which files are read
-abbrev pub course_rules : List Rule
-course_rules =
-    option_rule (codes "cycles") 0 4_000_000_000
-    ∷ flag_rule (codes "history")
+-- what is written, and which files are read
+abbrev pub shown_rules : List Rule
+shown_rules =
+    flag_rule (codes "history")
     ∷ flag_rule (codes "stats")
     ∷ names_rule (codes "file")
     ∷ []
 
 abbrev pub run_app : App
-run_app = with_rules (with_rules (bare (codes "run")) room_rules) course_rules
+run_app = with_rules (with_rules (bare (codes "run")) room_rules) shown_rules
+
+-- of a run whose closed heap is written, and nothing else
+abbrev pub image_app : App
+image_app =
+    with_rules (with_rules (bare (codes "image")) room_rules) (names_rule (codes "file") ∷ [])
+
+-- of a run with no options
+abbrev pub dump_app : App
+dump_app = with_rules (bare (codes "dump")) (names_rule (codes "file") ∷ [])
 
 -- of a subcommand of this name that takes one file
 abbrev pub file_app : Text → App

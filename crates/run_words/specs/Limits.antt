@@ -1,6 +1,8 @@
 -- Between which numbers the numbers of a request are.
 -- Source: this project's own.
-use Rattle.std.specs.Prelude.{◌≤◌, ℕ, IfSome, length}
+use Rattle.std.specs.Prelude.{◌≤◌, ℕ, List, IfSome, codes, length}
+use Rattle.clap.specs.Words.{Row}
+use Rattle.run_words.specs.Readings.{IsNumberWithin}
 use Rattle.run_words.specs.declared.request.GenWords.{GenWords}
 use Rattle.run_words.specs.declared.request.Request.{Request}
 use Rattle.run_words.specs.declared.request.Request.TheVariants as code
@@ -9,6 +11,14 @@ use Rattle.run_words.specs.declared.request.RunWords.{RunWords}
 -- the number is one of these or between them
 abbrev pub IsBetween : ℕ → ℕ → ℕ → Type 0
 IsBetween least most number = (least ≤ number) × (number ≤ most)
+
+-- what `clap` found for the options of a run are numbers in their ends
+pub record AreOptions (rows : List Row) : Type 0 where
+  pub cells : IsNumberWithin (codes "cells") 64 4_194_304 rows
+  pub minor : IsNumberWithin (codes "minor") 4_096 262_144 rows
+  pub keep : IsNumberWithin (codes "keep") 1 100 rows
+  pub versions : IsNumberWithin (codes "versions") 1 1_000_000 rows
+  pub cycles : IsNumberWithin (codes "cycles") 0 4_000_000_000 rows
 
 -- the numbers of a run's options
 pub record HasNumbersWithin (run : RunWords) : Type 0 where
@@ -41,3 +51,6 @@ IsWithin (code.Run run) = IsRunWithin run
 IsWithin (code.Replay name) = Unit {0}
 IsWithin (code.Gen words) = IsGenWithin words
 IsWithin (code.Load name) = Unit {0}
+IsWithin (code.Image run) = IsRunWithin run
+IsWithin (code.Dump names) = 1 ≤ length names.items
+IsWithin (code.Census name) = Unit {0}

@@ -6,14 +6,16 @@
 -- that is printed is one of those that are made, and a run has a file. (No command line reaches the
 -- second, since `clap` takes no `run` without one; so no proof has to go through its walk.)
 -- Source: this project's own.
-use Rattle.std.specs.Prelude.{◌≡◌, ℕ, Bool, List, [], ◌∷◌, Option, Some, None, Result}
-use Rattle.std.specs.Prelude.{Ok, Err}
+use Rattle.std.specs.Prelude.{◌≡◌, ℕ, Bool, false, List, [], ◌∷◌, Option, Some, None, Result}
+use Rattle.std.specs.Prelude.{Ok, Err, Vec}
+use Rattle.std.specs.Borrow.{Bor}
+use Rattle.std.specs.declared.alloc.Global.{Global}
 use Rattle.std.specs.Prelude.{bytes_eq, codes, cond, if◌then◌else◌, map, nat_le}
 use Rattle.std.specs.Prelude.{option_and_then}
 use Rattle.std.specs.Prelude.{option_map, unwrap_or}
 use Rattle.clap.specs.Words.{App, Kinds, Row, Text, all_of, fault_of, first_of, matches_of}
 use Rattle.clap.specs.Words.{one_of}
-use Rattle.run_words.specs.Commands.{file_app, gen_app, run_app}
+use Rattle.run_words.specs.Commands.{dump_app, file_app, gen_app, image_app, run_app}
 use Rattle.run_words.specs.Readings.{flag_in, names_in, number_in}
 use Rattle.run_words.specs.declared.request.GenWords.{GenWords}
 use Rattle.run_words.specs.declared.request.Request.{Request}
@@ -39,6 +41,9 @@ pub data Asked : Type 0 where
   Replay : Text → Asked
   Gen : GenWords → Asked
   Load : Text → Asked
+  Image : RunAsked → Asked
+  Dump : List Text → Asked
+  Census : Text → Asked
 
 -- what was found, where no step of the reading fails
 abbrev pub taken : {A : Type 0} → Kinds → Option A → Option A
@@ -49,24 +54,35 @@ taken (kind ∷ kinds) found = None
 abbrev pub number_of : Text → ℕ → List Row → ℕ
 number_of id otherwise rows = unwrap_or (number_in (one_of id rows)) otherwise
 
--- the run that was found
-abbrev pub run_found : List Row → RunAsked
-run_found rows = record {
+-- the run that was found, with these flags
+abbrev pub run_with : Bool → Bool → List Row → RunAsked
+run_with history stats rows = record {
   cells = number_of (codes "cells") 65_536 rows;
   minor = number_of (codes "minor") 8_192 rows;
   keep = number_of (codes "keep") 8 rows;
   versions = number_of (codes "versions") 1_000_000 rows;
   cycles = number_of (codes "cycles") 4_000_000_000 rows;
-  history = flag_in (first_of (codes "history") rows);
-  stats = flag_in (first_of (codes "stats") rows);
+  history = history;
+  stats = stats;
   files = names_in (all_of (codes "file") rows);
 }
 
--- the run, where it has a file
-abbrev pub if_of_files : List Text → RunAsked → Option RunAsked
-if_of_files [] run = None
-if_of_files (file ∷ files) run = Some run
+-- the run that was found
+abbrev pub run_found : List Row → RunAsked
+run_found rows =
+    run_with (flag_in (first_of (codes "history") rows)) (flag_in (first_of (codes "stats") rows))
+    rows
 
+-- what is asked for, where it is of a file or more
+abbrev pub if_of_files : {A : Type 0} → List Text → A → Option A
+if_of_files [] asked = None
+if_of_files (file ∷ files) asked = Some asked
+
+-- the names, where there are some
+abbrev pub if_some_name : List Text → Option (List Text)
+if_some_name names = if_of_files names names
+
+-- the run, where it has a file
 abbrev pub if_some_file : RunAsked → Option RunAsked
 if_some_file run = if_of_files run.files run
 
@@ -77,6 +93,15 @@ read_by app reading words = taken (fault_of app words) (reading (matches_of app 
 -- the words behind `run`
 abbrev pub run_of : List Text → Option RunAsked
 run_of words = read_by run_app (λ rows. if_some_file (run_found rows)) words
+
+-- the words behind `image`
+abbrev pub image_of : List Text → Option RunAsked
+image_of words = read_by image_app (λ rows. if_some_file (run_with false false rows)) words
+
+-- the words behind `dump`: the names of the files
+abbrev pub dump_of : List Text → Option (List Text)
+dump_of words =
+    read_by dump_app (λ rows. if_some_name (names_in (all_of (codes "file") rows))) words
 
 -- the words behind a subcommand of this name that takes one file: the file's name
 abbrev pub file_of : Text → List Text → Option Text
@@ -117,12 +142,20 @@ request_behind word words =
     cond (bytes_eq word (codes "run")) (option_map Run (run_of words))
     (cond (bytes_eq word (codes "replay")) (option_map Replay (file_of (codes "replay") words))
     (cond (bytes_eq word (codes "gen")) (option_map Gen (gen_of words))
-    (cond (bytes_eq word (codes "load")) (option_map Load (file_of (codes "load") words)) None)))
+    (cond (bytes_eq word (codes "load")) (option_map Load (file_of (codes "load") words))
+    (cond (bytes_eq word (codes "image")) (option_map Image (image_of words))
+    (cond (bytes_eq word (codes "dump")) (option_map Dump (dump_of words))
+    (cond (bytes_eq word (codes "census")) (option_map Census (file_of (codes "census") words))
+    None))))))
 
 -- what the words ask for, or nothing where they are no command line
 abbrev pub request_of : List Text → Option Asked
 request_of [] = None
 request_of (word ∷ words) = request_behind word words
+
+-- the names that a list of the program is
+abbrev pub names_by : Vec (Bor Text) Global → List Text
+names_by names = map (λ name. name.now) names.items
 
 -- the run that a value of the program is
 abbrev pub run_asked_by : RunWords → RunAsked
@@ -134,7 +167,7 @@ run_asked_by run = record {
   cycles = run.cycles;
   history = run.history;
   stats = run.stats;
-  files = map (λ name. name.now) run.files.items;
+  files = names_by run.files;
 }
 
 -- the request that a value of the program is
@@ -143,6 +176,9 @@ asked_by (code.Run run) = Run (run_asked_by run)
 asked_by (code.Replay name) = Replay name.now
 asked_by (code.Gen words) = Gen words
 asked_by (code.Load name) = Load name.now
+asked_by (code.Image run) = Image (run_asked_by run)
+asked_by (code.Dump names) = Dump (names_by names)
+asked_by (code.Census name) = Census name.now
 
 -- an answer is what the words ask for, seen so, and usage exactly where that is nothing
 abbrev pub Gives : {V A : Type 0} → (V → A) → Result V WordsFault → Option A → Type 0

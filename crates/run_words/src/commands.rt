@@ -2,7 +2,8 @@
 //!
 //! None of them has subcommands, short options, or words for help and version.
 ghost use Rattle.clap.specs.Words.{app_of, rule_of};
-ghost use Rattle.run_words.specs.Commands.{bare, course_rules, file_app, flag_rule, gen_app};
+ghost use Rattle.run_words.specs.Commands.{bare, dump_app, file_app, flag_rule, gen_app};
+ghost use Rattle.run_words.specs.Commands.{image_app, shown_rules};
 ghost use Rattle.run_words.specs.Commands.{name_rule, names_rule, number_rule, option_rule};
 ghost use Rattle.run_words.specs.Commands.{room_rules, run_app, with_rules};
 ghost use Rattle.std.specs.Prelude.{IfOk, false, ◌≡◌};
@@ -16,10 +17,24 @@ use std::alloc::{AllocError, Global};
 pub(crate) fn run_command<'a>(alloc: Global) -> Result<Command<'a>, AllocError>
     ensures { IfOk result (λ command. app_of command ≡ run_app) }
 {
-    with_course(alloc, with_room(alloc, bare_command(alloc, "run"))?)
+    with_shown(alloc, with_room(alloc, bare_command(alloc, "run"))?)
 }
 
-// Adds the options for what a run may use.
+/// The command of `image`.
+pub(crate) fn image_command<'a>(alloc: Global) -> Result<Command<'a>, AllocError>
+    ensures { IfOk result (λ command. app_of command ≡ image_app) }
+{
+    with_room(alloc, bare_command(alloc, "image"))?.arg(names(alloc, "file"))
+}
+
+/// The command of `dump`.
+pub(crate) fn dump_command<'a>(alloc: Global) -> Result<Command<'a>, AllocError>
+    ensures { IfOk result (λ command. app_of command ≡ dump_app) }
+{
+    bare_command(alloc, "dump").arg(names(alloc, "file"))
+}
+
+// Adds the options for what a run may use, and for how often the collector may go round.
 fn with_room<'a>(alloc: Global, command: Command<'a>) -> Result<Command<'a>, AllocError>
     ensures { IfOk result (λ more. app_of more ≡ with_rules (app_of command.entry) room_rules) }
 {
@@ -27,15 +42,15 @@ fn with_room<'a>(alloc: Global, command: Command<'a>) -> Result<Command<'a>, All
         .arg(option(alloc, "cells", CELLS))?
         .arg(option(alloc, "minor", MINOR))?
         .arg(option(alloc, "keep", KEEP))?
-        .arg(option(alloc, "versions", VERSIONS))
+        .arg(option(alloc, "versions", VERSIONS))?
+        .arg(option(alloc, "cycles", CYCLES))
 }
 
-// Adds how often the collector may go round, what is written, and which files are read.
-fn with_course<'a>(alloc: Global, command: Command<'a>) -> Result<Command<'a>, AllocError>
-    ensures { IfOk result (λ more. app_of more ≡ with_rules (app_of command.entry) course_rules) }
+// Adds what is written, and which files are read.
+fn with_shown<'a>(alloc: Global, command: Command<'a>) -> Result<Command<'a>, AllocError>
+    ensures { IfOk result (λ more. app_of more ≡ with_rules (app_of command.entry) shown_rules) }
 {
     command
-        .arg(option(alloc, "cycles", CYCLES))?
         .arg(flag(alloc, "history"))?
         .arg(flag(alloc, "stats"))?
         .arg(names(alloc, "file"))

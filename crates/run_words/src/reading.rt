@@ -1,17 +1,20 @@
 //! The words of a whole command line.
 ghost use Rattle.clap.specs.Words.{found_of, rows_of};
-ghost use Rattle.run_words.specs.Commands.{gen_app, run_app};
-ghost use Rattle.run_words.specs.Limits.{HasGenNumbersWithin, HasNumbersWithin, IsGenWithin};
+ghost use Rattle.run_words.specs.Commands.{gen_app};
+ghost use Rattle.run_words.specs.Limits.{AreOptions, HasGenNumbersWithin, HasNumbersWithin};
+ghost use Rattle.run_words.specs.Limits.{IsGenWithin};
 ghost use Rattle.run_words.specs.Limits.{IsRunWithin, IsWithin};
 ghost use Rattle.run_words.specs.Readings.{AreAccepted};
-ghost use Rattle.run_words.specs.Requests.{Gen, Gives, Load, Replay, Run, asked_by, file_of};
-ghost use Rattle.run_words.specs.Requests.{gen_found, gen_of, if_printable, if_some_file};
-ghost use Rattle.run_words.specs.Requests.{request_behind, request_of, run_asked_by, run_found};
-ghost use Rattle.run_words.specs.Requests.{run_of};
-ghost use Rattle.std.specs.Prelude.{IfOk, IfSome, codes, map, option_map, string_bytes, ◌≡◌};
+ghost use Rattle.run_words.specs.Requests.{Census, Dump, Gen, Gives, Image, Load, Replay, Run};
+ghost use Rattle.run_words.specs.Requests.{asked_by, dump_of, file_of, gen_found, gen_of};
+ghost use Rattle.run_words.specs.Requests.{if_printable, if_some_file, if_some_name, image_of};
+ghost use Rattle.run_words.specs.Requests.{names_by, request_behind, request_of, run_asked_by};
+ghost use Rattle.run_words.specs.Requests.{run_of, run_with};
+ghost use Rattle.std.specs.Prelude.{IfOk, IfSome, codes, length, map, option_map, string_bytes};
+ghost use Rattle.std.specs.Prelude.{◌≡◌};
 ghost use Rattle.std.specs.Prelude.{◌≤◌};
 
-use crate::commands::{file_command, gen_command, run_command};
+use crate::commands::{dump_command, file_command, gen_command, image_command, run_command};
 use crate::limits::{CELLS, CLIENTS, COMMANDS, CYCLES, KEEP, MINOR, START, VERSIONS};
 use crate::request::{GenWords, Request, RunWords, WordsFault};
 use crate::values::{flag, matches_on, name, names, number, number_or};
@@ -45,6 +48,9 @@ fn read_behind<'a>(
         "replay" => replay_request(alloc, words),
         "gen" => gen_request(alloc, words),
         "load" => load_request(alloc, words),
+        "image" => image_request(alloc, words),
+        "dump" => dump_request(alloc, words),
+        "census" => census_request(alloc, words),
         _ => Err(WordsFault::Usage),
     }
 }
@@ -82,6 +88,39 @@ fn load_request<'a>(alloc: Global, words: &'a [String]) -> Result<Request<'a>, W
     }
 }
 
+fn image_request<'a>(alloc: Global, words: &'a [String]) -> Result<Request<'a>, WordsFault>
+    ensures request { Gives asked_by result
+        (option_map Image (image_of (map string_bytes words.entry.now))) }
+    ensures within { IfOk result IsWithin }
+{
+    match image_words(alloc, words) {
+        Ok(run) => Ok(Request::Image(run)),
+        Err(fault) => Err(fault),
+    }
+}
+
+fn dump_request<'a>(alloc: Global, words: &'a [String]) -> Result<Request<'a>, WordsFault>
+    ensures request { Gives asked_by result
+        (option_map Dump (dump_of (map string_bytes words.entry.now))) }
+    ensures within { IfOk result IsWithin }
+{
+    match dump_words(alloc, words) {
+        Ok(names) => Ok(Request::Dump(names)),
+        Err(fault) => Err(fault),
+    }
+}
+
+fn census_request<'a>(alloc: Global, words: &'a [String]) -> Result<Request<'a>, WordsFault>
+    ensures request { Gives asked_by result
+        (option_map Census (file_of (codes "census") (map string_bytes words.entry.now))) }
+    ensures within { IfOk result IsWithin }
+{
+    match file_words(alloc, "census", words) {
+        Ok(name) => Ok(Request::Census(name)),
+        Err(fault) => Err(fault),
+    }
+}
+
 fn gen_request<'a>(alloc: Global, words: &'a [String]) -> Result<Request<'a>, WordsFault>
     ensures request { Gives asked_by result
         (option_map Gen (gen_of (map string_bytes words.entry.now))) }
@@ -94,6 +133,7 @@ fn gen_request<'a>(alloc: Global, words: &'a [String]) -> Result<Request<'a>, Wo
 }
 
 // The words behind `run`.
+#[tactic(auto, using(crate::proofs::Ends::run_options))]
 fn run_words<'a>(alloc: Global, words: &'a [String]) -> Result<RunWords<'a>, WordsFault>
     ensures run { Gives run_asked_by result
         (run_of (map string_bytes words.entry.now)) }
@@ -102,18 +142,42 @@ fn run_words<'a>(alloc: Global, words: &'a [String]) -> Result<RunWords<'a>, Wor
     let command = run_command(alloc)?;
     match matches_on(command, words) {
         Ok(matches) => {
-            let run = run_in(alloc, &matches)?;
+            let history = flag(&matches, "history");
+            let stats = flag(&matches, "stats");
+            let run = run_in(alloc, &matches, history, stats)?;
             some_file(run)
         }
         Err(fault) => Err(fault),
     }
 }
 
-// What `clap` found for a run.
-#[tactic(auto, using(crate::proofs::Ends::cells, crate::proofs::Ends::minor, crate::proofs::Ends::keep, crate::proofs::Ends::versions, crate::proofs::Ends::cycles))]
-fn run_in<'a>(alloc: Global, matches: &ArgMatches<'a>) -> Result<RunWords<'a>, AllocError>
-    requires { AreAccepted run_app.top.rules (rows_of (found_of matches.now)) }
-    ensures ok { IfOk result (λ run. run_asked_by run ≡ run_found (rows_of (found_of matches.now))) }
+// The words behind `image`.
+#[tactic(auto, using(crate::proofs::Ends::image_options))]
+fn image_words<'a>(alloc: Global, words: &'a [String]) -> Result<RunWords<'a>, WordsFault>
+    ensures run { Gives run_asked_by result
+        (image_of (map string_bytes words.entry.now)) }
+    ensures within { IfOk result IsRunWithin }
+{
+    let command = image_command(alloc)?;
+    match matches_on(command, words) {
+        Ok(matches) => {
+            let run = run_in(alloc, &matches, false, false)?;
+            some_file(run)
+        }
+        Err(fault) => Err(fault),
+    }
+}
+
+// What `clap` found for a run, with these flags.
+fn run_in<'a>(
+    alloc: Global,
+    matches: &ArgMatches<'a>,
+    history: bool,
+    stats: bool,
+) -> Result<RunWords<'a>, AllocError>
+    requires { AreOptions (rows_of (found_of matches.now)) }
+    ensures ok { IfOk result (λ run. run_asked_by run
+        ≡ run_with history stats (rows_of (found_of matches.now))) }
     ensures within { IfOk result HasNumbersWithin }
 {
     let files = names(alloc, matches, "file")?;
@@ -123,8 +187,8 @@ fn run_in<'a>(alloc: Global, matches: &ArgMatches<'a>) -> Result<RunWords<'a>, A
         keep: number_or(matches, "keep", KEEP, 8),
         versions: number_or(matches, "versions", VERSIONS, 1_000_000),
         cycles: number_or(matches, "cycles", CYCLES, 4_000_000_000),
-        history: flag(matches, "history"),
-        stats: flag(matches, "stats"),
+        history,
+        stats,
         files,
     })
 }
@@ -139,6 +203,32 @@ fn some_file(run: RunWords<'_>) -> Result<RunWords<'_>, WordsFault>
         return Err(WordsFault::Usage);
     }
     Ok(run)
+}
+
+// The words behind `dump`.
+fn dump_words<'a>(alloc: Global, words: &'a [String]) -> Result<Vec<&'a str>, WordsFault>
+    ensures names { Gives names_by result (dump_of (map string_bytes words.entry.now)) }
+    ensures some { IfOk result (λ names. 1 ≤ length names.items) }
+{
+    let command = dump_command(alloc)?;
+    match matches_on(command, words) {
+        Ok(matches) => {
+            let names = names(alloc, &matches, "file")?;
+            some_name(names)
+        }
+        Err(fault) => Err(fault),
+    }
+}
+
+// A dump is of a file or more.
+fn some_name(names: Vec<&str>) -> Result<Vec<&str>, WordsFault>
+    ensures names { Gives names_by result (if_some_name (names_by names.entry)) }
+    ensures some { IfOk result (λ names. 1 ≤ length names.items) }
+{
+    if names.is_empty() {
+        return Err(WordsFault::Usage);
+    }
+    Ok(names)
 }
 
 // The words behind a subcommand that takes one file.

@@ -18,7 +18,7 @@ type Asked = ([u32; 5], [bool; 2], usize, bool);
 
 fn asked_by(request: &Request<'_>, last: &str) -> Option<Asked> {
     match request {
-        Request::Run(run) => Some((
+        Request::Run(run) | Request::Image(run) => Some((
             [run.cells, run.minor, run.keep, run.versions, run.cycles],
             [run.history, run.stats],
             run.files.len(),
@@ -65,6 +65,21 @@ fn both_ends_of_every_option_are_taken(rt: HostRuntime) -> Result<(), Fail> {
         assert_eq!(rt;
             run_of(rt.alloc(), line, "a")?,
             Some((*numbers, [*flags, *flags], 1, true)),
+            "at {line:?}"
+        );
+    }
+    Ok(())
+}
+
+#[test]
+fn an_image_has_the_options_of_a_run_and_no_flags(rt: HostRuntime) -> Result<(), Fail> {
+    let numbers = [64, 4_096, 1, 1, 0];
+    let line = "image --cells 64 --minor 4096 --keep 1 a --versions 1 --cycles 0 b";
+    let defaults = [65_536, 8_192, 8, 1_000_000, 4_000_000_000];
+    for (line, numbers, files, last) in &[(line, numbers, 2, "b"), ("image a", defaults, 1, "a")] {
+        assert_eq!(rt;
+            run_of(rt.alloc(), line, last)?,
+            Some((*numbers, [false, false], *files, true)),
             "at {line:?}"
         );
     }
@@ -140,6 +155,49 @@ fn a_load_names_one_file(rt: HostRuntime) -> Result<(), Fail> {
     Ok(())
 }
 
+fn is_census_of(alloc: Global, line: &str, file: &str) -> Result<bool, WordsFault> {
+    let words = words_of(alloc, line)?;
+    Ok(match &read_words(alloc, &words)? {
+        Request::Census(name) => *name == file,
+        _ => false,
+    })
+}
+
+#[test]
+fn a_census_names_one_file(rt: HostRuntime) -> Result<(), Fail> {
+    for (line, file) in &[("census a.heap", "a.heap"), ("census -- -a", "-a")] {
+        assert!(rt; is_census_of(rt.alloc(), line, file)?, "at {line:?}");
+    }
+    Ok(())
+}
+
+/// How many files a line has dumped a version of, and whether the last has a given name.
+fn dump_of(alloc: Global, line: &str, last: &str) -> Result<Option<(usize, bool)>, WordsFault> {
+    let words = words_of(alloc, line)?;
+    Ok(match &read_words(alloc, &words)? {
+        Request::Dump(names) => Some((names.len(), names.last().copied() == Some(last))),
+        _ => None,
+    })
+}
+
+const DUMPS: [(&str, usize, &str); 3] = [
+    ("dump a", 1, "a"),
+    ("dump a a b", 3, "b"),
+    ("dump -- -b", 1, "-b"),
+];
+
+#[test]
+fn a_dump_names_a_file_or_more(rt: HostRuntime) -> Result<(), Fail> {
+    for (line, files, last) in &DUMPS {
+        assert_eq!(rt;
+            dump_of(rt.alloc(), line, last)?,
+            Some((*files, true)),
+            "at {line:?}"
+        );
+    }
+    Ok(())
+}
+
 fn gen_of(alloc: Global, line: &str) -> Result<Option<GenWords>, WordsFault> {
     let words = words_of(alloc, line)?;
     Ok(match &read_words(alloc, &words)? {
@@ -185,7 +243,7 @@ fn fault_of(alloc: Global, line: &str) -> Result<Option<WordsFault>, AllocError>
     Ok(read_words(alloc, &words).err())
 }
 
-const REFUSED: [&str; 63] = [
+const REFUSED: [&str; 75] = [
     "''",
     "a",
     "Run a",
@@ -232,6 +290,18 @@ const REFUSED: [&str; 63] = [
     "load",
     "load a b",
     "load --history a",
+    "image",
+    "image --history a",
+    "image --stats a",
+    "image --cells 63 a",
+    "image --cycles 4000000001 a",
+    "image --keep 1 --keep 1 a",
+    "dump",
+    "dump --cells 64 a",
+    "dump --history a",
+    "census",
+    "census a b",
+    "census --cells 64 a",
     "gen",
     "gen 1 2",
     "gen 1 2 3 4",

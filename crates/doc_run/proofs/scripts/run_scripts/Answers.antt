@@ -1,9 +1,8 @@
-use Rattle.std.proofs.Common.{map, subst}
+use Rattle.std.proofs.Common.{map}
 use Rattle.run_words.specs.Requests.{run_asked_by}
 use Rattle.script_files.specs.Scripts.{AreScripts}
 use Rattle.doc_run.specs.Clients.{options_of}
-use Rattle.doc_run.specs.Ending.{IsOutputOf}
-use Rattle.run_output.specs.Output.{IsOutput}
+use Rattle.doc_run.specs.Reports.{IsReportOf}
 use Rattle.doc_run.proofs.Deciding.{comes_by}
 use Rattle.doc_run.proofs.Writing.{by_done, by_explained, by_failed, by_no_file, by_no_read}
 use Rattle.doc_run.proofs.Writing.{by_wanting, by_written}
@@ -25,22 +24,15 @@ returns-clause-written g c =
     let asked = run_asked_by c.args.run.now in
     let f = c.in-Ok.ran.finished in
     let forms = c.in-Ok.ran.forms.items in
-    let text = c.in-Ok-output_text.text.items in
-    let lent = subst (λ logs. IsOutput c.shown-shown.result logs c.deref-2.result.now f.totals text)
-    c.deref.ensures.value c.in-Ok-output_text.ensures.text in
-    let formed = subst (λ fs. IsOutput c.shown-shown.result f.logs.items fs f.totals text)
-    c.deref-2.ensures.value lent in
-    by_written (AreScripts told) (options_of asked) (IsOutputOf told asked) f
-    text c.deref-3.result.now
+    let text = c.in-Ok-report_text.text.items in
+    by_written (AreScripts told) (options_of asked) (IsReportOf c.args.report told asked) f
+    text c.deref.result.now
     (g.S.Sink.written c.args.sink.now) (g.S.Sink.written c.write_lines.new.sink)
     c.write_lines.result c.by_writing.result.fault c.by_writing.result.finished
     c.by_writing.ensures.fault c.by_writing.ensures.finished
-    (comes_by told (options_of asked) f forms c.in-Ok.ensures.finished) (
-      forms,
-      c.in-Ok.ensures.finished,
-      subst (λ shown. IsOutput shown f.logs.items forms f.totals text) c.shown-shown.ensures formed,
-    )
-    c.deref-3.ensures.value c.write_lines.ensures.ok c.write_lines.ensures.err
+    (comes_by told (options_of asked) f forms c.in-Ok.ensures.finished)
+    (forms, c.in-Ok.ensures.finished, c.in-Ok-report_text.ensures)
+    c.deref.ensures.value c.write_lines.ensures.ok c.write_lines.ensures.err
 
 pub returns-clause-read : goal.returns-clause-read
 returns-clause-read g c =

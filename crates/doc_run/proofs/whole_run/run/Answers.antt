@@ -1,8 +1,9 @@
 use Rattle.std.proofs.Common.{◌≡◌, ◌∙◌, Some, ap, subst}
-use Rattle.run_words.specs.Requests.{Run, Replay, Load, asked_by, request_of, run_asked_by}
+use Rattle.run_words.specs.Requests.{Run, Replay, Load, Image, asked_by, request_of, run_asked_by}
 use Rattle.doc_run.proofs.Asking.{due_asked, opens_load, opens_replay, stops_asked, unread_scripts}
 use Rattle.doc_run.proofs.Asking.{unread_stops}
 use Rattle.doc_run.proofs.Loading.{line_asked, size_asked}
+use Rattle.doc_run.specs.declared.report.Report.TheVariants.{Replies, Heap}
 use Rattle.doc_run.proofs.whole_run.run.Goals as goal
 
 pub returns-in-Ok-Run-clause-scripts : goal.returns-in-Ok-Run-clause-scripts
@@ -11,7 +12,7 @@ returns-in-Ok-Run-clause-scripts g c =
     subst (λ words. request_of words ≡ Some (Run (run_asked_by c.in-Ok-Run.run')))
     c.all.ensures (c.in-Ok-Run.ensures.request
     ∙ ap (λ request. Some (asked_by request)) c.in-Ok-Run.field-0-is) in
-    due_asked (request_of c.args.words.now) (run_asked_by c.in-Ok-Run.run')
+    due_asked (request_of c.args.words.now) Replies (run_asked_by c.in-Ok-Run.run')
     (g.H.Shelf.holds c.args.shelf.now) c.run_scripts.result.fault c.run_scripts.result.finished
     c.run_scripts.result.status asked c.run_scripts.ensures.status
     c.run_scripts.ensures.explained
@@ -22,9 +23,30 @@ returns-in-Ok-Run-clause-stops g c =
     subst (λ words. request_of words ≡ Some (Run (run_asked_by c.in-Ok-Run.run')))
     c.all.ensures (c.in-Ok-Run.ensures.request
     ∙ ap (λ request. Some (asked_by request)) c.in-Ok-Run.field-0-is) in
-    stops_asked (request_of c.args.words.now) (run_asked_by c.in-Ok-Run.run')
+    stops_asked (request_of c.args.words.now) Replies (run_asked_by c.in-Ok-Run.run')
     (g.H.Shelf.holds c.args.shelf.now) (g.H.Shelf.opens c.args.shelf.now)
     (g.H.Shelf.opens c.run_scripts.new.shelf) asked c.run_scripts.ensures.stops
+
+pub returns-in-Ok-Image-clause-scripts : goal.returns-in-Ok-Image-clause-scripts
+returns-in-Ok-Image-clause-scripts g c =
+    let asked : request_of c.args.words.now ≡ Some (Image (run_asked_by c.in-Ok-Image.run')) =
+    subst (λ words. request_of words ≡ Some (Image (run_asked_by c.in-Ok-Image.run')))
+    c.all.ensures (c.in-Ok-Image.ensures.request
+    ∙ ap (λ request. Some (asked_by request)) c.in-Ok-Image.field-0-is) in
+    due_asked (request_of c.args.words.now) Heap (run_asked_by c.in-Ok-Image.run')
+    (g.H.Shelf.holds c.args.shelf.now) c.run_scripts-2.result.fault c.run_scripts-2.result.finished
+    c.run_scripts-2.result.status asked c.run_scripts-2.ensures.status
+    c.run_scripts-2.ensures.explained
+
+pub returns-in-Ok-Image-clause-stops : goal.returns-in-Ok-Image-clause-stops
+returns-in-Ok-Image-clause-stops g c =
+    let asked : request_of c.args.words.now ≡ Some (Image (run_asked_by c.in-Ok-Image.run')) =
+    subst (λ words. request_of words ≡ Some (Image (run_asked_by c.in-Ok-Image.run')))
+    c.all.ensures (c.in-Ok-Image.ensures.request
+    ∙ ap (λ request. Some (asked_by request)) c.in-Ok-Image.field-0-is) in
+    stops_asked (request_of c.args.words.now) Heap (run_asked_by c.in-Ok-Image.run')
+    (g.H.Shelf.holds c.args.shelf.now) (g.H.Shelf.opens c.args.shelf.now)
+    (g.H.Shelf.opens c.run_scripts-2.new.shelf) asked c.run_scripts-2.ensures.stops
 
 pub returns-in-Err-NoMemory-clause-stops : goal.returns-in-Err-NoMemory-clause-stops
 returns-in-Err-NoMemory-clause-stops g c =

@@ -1,4 +1,3 @@
-use Rattle.std.proofs.Common.{refl}
 use Rattle.std.proofs.lemmas.Result.{IfOk-weaker}
 use Rattle.run_words.proofs.Rules.{more}
 use Rattle.run_words.proofs.commands.gen_command.Goals as goal

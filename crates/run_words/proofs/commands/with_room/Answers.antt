@@ -14,6 +14,10 @@ returns c =
     let keep =
     more _ _ _ _ _ minor c.option-3.ensures.rule
     (c.in_ok-arg-3.ensures.shape c.option-3.ensures.own) in
-    IfOk-weaker c.arg-4.result _ _
-    (λ last adds. more _ _ _ _ _ keep c.option-4.ensures.rule (adds.shape c.option-4.ensures.own))
-    c.arg-4.ensures
+    let versions =
+    more _ _ _ _ _ keep c.option-4.ensures.rule
+    (c.in_ok-arg-4.ensures.shape c.option-4.ensures.own) in
+    IfOk-weaker c.arg-5.result _ _
+    (λ last adds. more _ _ _ _ _ versions c.option-5.ensures.rule
+    (adds.shape c.option-5.ensures.own))
+    c.arg-5.ensures

@@ -1,4 +1,4 @@
-use Rattle.std.proofs.Common.{◌∙◌, sym, ap, codes, map, string_bytes, ℕ, List}
+use Rattle.std.proofs.Common.{◌∙◌, sym, map, string_bytes}
 use Rattle.clap.specs.Words.{app_of, found_of, rows_of}
 use Rattle.run_words.specs.Requests.{gen_found}
 use Rattle.run_words.specs.declared.request.GenWords.{GenWords}

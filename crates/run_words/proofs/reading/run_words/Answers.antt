@@ -1,6 +1,7 @@
-use Rattle.std.proofs.Common.{◌∙◌, sym, subst, ap, codes, map, string_bytes, ℕ, List}
-use Rattle.clap.specs.Words.{app_of, found_of, rows_of}
-use Rattle.run_words.specs.Requests.{Gives, if_some_file, run_asked_by, run_found}
+use Rattle.std.proofs.Common.{◌∙◌, sym, subst, ap, codes, map, string_bytes}
+use Rattle.clap.specs.Words.{app_of, first_of, found_of, rows_of}
+use Rattle.run_words.specs.Readings.{flag_in}
+use Rattle.run_words.specs.Requests.{Gives, if_some_file, run_asked_by, run_found, run_with}
 use Rattle.run_words.specs.Commands.{run_app}
 use Rattle.run_words.proofs.Taken.{refuses, takes}
 use Rattle.run_words.proofs.reading.run_words.Goals as goal
@@ -17,5 +18,9 @@ returns-in_ok-run-in-Ok-clause-run c =
     let found = takes (app_of c.in_ok-command.command) run_app
     (λ rows. if_some_file (run_found rows)) words rows
     c.in_ok-command.ensures c.in-Ok.ensures.takes c.in-Ok.ensures.rows in
+    let flags =
+    ap (λ h. run_with h (flag_in (first_of (codes "stats") rows)) rows) (sym c.flag-history.ensures)
+    ∙ ap (λ s. run_with c.flag-history.result s rows) (sym c.flag-stats.ensures) in
     subst (Gives run_asked_by c.some_file.result)
-    (sym (found ∙ ap if_some_file (sym c.in_ok-run-in-Ok.ensures.ok))) c.some_file.ensures.run
+    (sym (found ∙ ap if_some_file (flags ∙ sym c.in_ok-run-in-Ok.ensures.ok)))
+    c.some_file.ensures.run

@@ -1,0 +1,35 @@
+-- What is written of a run of the scripts of files: the clients' replies, or the heap that the run
+-- left.
+-- Source: this project's own.
+use Rattle.std.specs.Prelude.{◌≡◌, ℕ, List, Option}
+use Rattle.cmd_text.specs.declared.form.Form.{Form}
+use Rattle.core_machine.specs.State.{State}
+use Rattle.heap_census.specs.Heap.{heap_of}
+use Rattle.heap_census.specs.ImageText.{image_text}
+use Rattle.heap_table.specs.Images.{ImageView, Shows}
+use Rattle.run_output.specs.Output.{IsOutput}
+use Rattle.run_output.specs.declared.output.Shown.{Shown}
+use Rattle.run_words.specs.Requests.{RunAsked}
+use Rattle.store_run.specs.declared.finished.Finished.{Finished}
+use Rattle.doc_run.specs.Clients.{ComesFrom, options_of}
+use Rattle.doc_run.specs.declared.report.Report.{Report}
+use Rattle.doc_run.specs.declared.report.Report.TheVariants.{Replies, Heap}
+
+-- what is written behind the replies of a run
+abbrev pub shown_of : RunAsked → Shown
+shown_of run = record { history = run.history; stats = run.stats }
+
+-- the text of a closed heap: that of each core state that its words show
+abbrev pub IsHeapText : ImageView → List ℕ → Type 0
+IsHeapText image text = (s : State) → Shows image s → text ≡ image_text (heap_of s)
+
+-- the text is this report of what a run came to, whose scripts have these forms
+abbrev pub Tells : Report → Shown → Finished → List Form → List ℕ → Type 0
+Tells Replies shown f forms text = IsOutput shown f.logs.items forms f.totals text
+Tells Heap shown f forms text = IsHeapText f.image text
+
+-- the report of a run with these words, with the forms of the scripts that it was a run of
+abbrev pub IsReportOf : Report → List (Option (List ℕ)) → RunAsked → Finished → List ℕ → Type 0
+IsReportOf report told run f text =
+    (forms : List Form) × ComesFrom told (options_of run) f forms
+    × Tells report (shown_of run) f forms text
