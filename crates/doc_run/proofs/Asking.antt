@@ -75,7 +75,8 @@ if_some (Some bytes) Fact all = all bytes
 pub unread_scripts : (asked : Option Asked) (holds : List ℕ → Option (List ℕ)) (status : ℕ)
     → status ≡ 5 → IfRun asked (λ report run. IsDueFor (map holds run.files) status)
 unread_scripts asked holds status is =
-    if_run asked _ (λ report run scripts decided. subst (IsDue scripts) (sym is) (wanting_due scripts))
+    if_run asked _ (λ report run scripts decided.
+    subst (IsDue scripts) (sym is) (wanting_due scripts))
 
 pub unread_large_made : (asked : Option Asked) (status : ℕ) → status ≡ 5
     → IfGen asked (λ made. (status ≡ 6)

@@ -1,6 +1,6 @@
 use Rattle.std.proofs.Common.{◌≡◌, ◌∙◌, Some, ap, subst}
 use Rattle.run_words.specs.Requests.{Run, Replay, Load, Image, asked_by, request_of, run_asked_by}
-use Rattle.doc_run.proofs.Asking.{due_asked, opens_load, opens_replay, stops_asked, unread_scripts}
+use Rattle.doc_run.proofs.Asking.{due_asked, opens_load, opens_replay, stops_asked}
 use Rattle.doc_run.proofs.Asking.{unread_stops}
 use Rattle.doc_run.proofs.Loading.{line_asked, size_asked}
 use Rattle.doc_run.specs.declared.report.Report.TheVariants.{Replies, Heap}
@@ -34,9 +34,9 @@ returns-in-Ok-Image-clause-scripts g c =
     c.all.ensures (c.in-Ok-Image.ensures.request
     ∙ ap (λ request. Some (asked_by request)) c.in-Ok-Image.field-0-is) in
     due_asked (request_of c.args.words.now) Heap (run_asked_by c.in-Ok-Image.run')
-    (g.H.Shelf.holds c.args.shelf.now) c.run_scripts-2.result.fault c.run_scripts-2.result.finished
-    c.run_scripts-2.result.status asked c.run_scripts-2.ensures.status
-    c.run_scripts-2.ensures.explained
+    (g.H.Shelf.holds c.args.shelf.now) c.run_scripts-in-Ok-Image.result.fault c.run_scripts-in-Ok-Image.result.finished
+    c.run_scripts-in-Ok-Image.result.status asked c.run_scripts-in-Ok-Image.ensures.status
+    c.run_scripts-in-Ok-Image.ensures.explained
 
 pub returns-in-Ok-Image-clause-stops : goal.returns-in-Ok-Image-clause-stops
 returns-in-Ok-Image-clause-stops g c =
@@ -46,10 +46,10 @@ returns-in-Ok-Image-clause-stops g c =
     ∙ ap (λ request. Some (asked_by request)) c.in-Ok-Image.field-0-is) in
     stops_asked (request_of c.args.words.now) Heap (run_asked_by c.in-Ok-Image.run')
     (g.H.Shelf.holds c.args.shelf.now) (g.H.Shelf.opens c.args.shelf.now)
-    (g.H.Shelf.opens c.run_scripts-2.new.shelf) asked c.run_scripts-2.ensures.stops
+    (g.H.Shelf.opens c.run_scripts-in-Ok-Image.new.shelf) asked c.run_scripts-in-Ok-Image.ensures.stops
 
-pub returns-in-Err-NoMemory-clause-stops : goal.returns-in-Err-NoMemory-clause-stops
-returns-in-Err-NoMemory-clause-stops g c =
+pub returns-clause-stops : goal.returns-clause-stops
+returns-clause-stops g c =
     unread_stops (request_of c.args.words.now) (g.H.Shelf.holds c.args.shelf.now)
     (g.H.Shelf.opens c.args.shelf.now)
 
@@ -72,11 +72,6 @@ returns-in-Ok-Load-clause-opens g c =
     opens_load (request_of c.args.words.now) c.in-Ok-Load.name.now
     c.load_dump.result.status (g.H.Shelf.opens c.args.shelf.now)
     (g.H.Shelf.opens c.load_dump.new.shelf) asked c.load_dump.ensures.opens
-
-pub returns-in-Err-NoMemory-clause-scripts : goal.returns-in-Err-NoMemory-clause-scripts
-returns-in-Err-NoMemory-clause-scripts g c =
-    unread_scripts (request_of c.args.words.now) (g.H.Shelf.holds c.args.shelf.now)
-    c.refused.result.status c.refused.ensures.status
 
 pub returns-in-Ok-Load-clause-dump : goal.returns-in-Ok-Load-clause-dump
 returns-in-Ok-Load-clause-dump g c =
