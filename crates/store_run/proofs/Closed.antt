@@ -14,6 +14,8 @@ use mathlib.Core.Option.{some}
 use lib.ListN.{get_elem?}
 use Rattle.beside_collector.specs.Duty.{duty_on}
 use Rattle.beside_collector.specs.Serving.{off_first}
+use Rattle.client_run.specs.Options.{IsWithin, limits_of, shape_of}
+use Rattle.client_run.specs.declared.options.Options.{Options}
 use Rattle.client_threads.specs.Clients.{places_for}
 use Rattle.client_threads.specs.Taken.{AllHadRoom}
 use Rattle.client_turns.specs.Runs.{was_full}
@@ -50,9 +52,7 @@ use Rattle.run_history.specs.Left.{AreLeft}
 use Rattle.run_history.proofs.Agreeing.{logs_agree}
 use Rattle.run_history.proofs.Indices.{at_once}
 use Rattle.store_run.specs.Finished.{Comes, IsTiedTo, IsTotals, commands_of}
-use Rattle.store_run.specs.Opened.{IsWithin, limits_of, shape_of}
 use Rattle.store_run.specs.Parts.{IsCounted}
-use Rattle.store_run.specs.declared.options.Options.{Options}
 use Rattle.version_rule.specs.Opening.{first_rows}
 use Rattle.version_rule.specs.Pass.{Pass}
 

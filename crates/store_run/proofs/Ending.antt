@@ -13,6 +13,8 @@ use Rattle.beside_collector.specs.Serving.{MayServe, ServesLate, Stands, off_fir
 use Rattle.beside_collector.specs.declared.keeper.Standby.{Standby}
 use Rattle.cell_heap.specs.Telling.{AreJoined}
 use Rattle.cell_words.specs.declared.controls.Control.{Control}
+use Rattle.client_run.specs.Options.{IsWithin, client_limits, limits_of, shape_of}
+use Rattle.client_run.specs.declared.options.Options.{Options}
 use Rattle.client_run.specs.declared.session.Limits.{Limits as ClientLimits}
 use Rattle.client_threads.specs.Clients.{places_for, store_limits}
 use Rattle.client_threads.specs.Opened.{IsStill}
@@ -31,10 +33,8 @@ use Rattle.heap_rule.specs.declared.view.View.{View}
 use Rattle.heap_table.specs.Seats.{HeapId, IsSeatOf, SeatView}
 use Rattle.run_history.specs.Left.{AreLeft}
 use Rattle.store_run.specs.Finished.{commands_of}
-use Rattle.store_run.specs.Opened.{IsWithin, client_limits, limits_of, shape_of}
 use Rattle.store_run.specs.Parts.{IsOpened}
 use Rattle.store_run.specs.declared.opened.Opened.{Opened}
-use Rattle.store_run.specs.declared.options.Options.{Options}
 use Rattle.version_rule.specs.Pass.{Pass}
 use Rattle.store_run.proofs.Closed.{AtClose}
 

@@ -11,6 +11,8 @@ use Rattle.std.specs.List.{list_any}
 use mathlib.Core.Option.{some}
 use lib.ListN.{get_elem?}
 use Rattle.beside_collector.specs.Duty.{duty_on}
+use Rattle.client_run.specs.Options.{limits_of, shape_of}
+use Rattle.client_run.specs.declared.options.Options.{Options}
 use Rattle.client_threads.specs.Clients.{places_for}
 use Rattle.client_turns.specs.Runs.{ShowsRun, was_full}
 use Rattle.closed_store.specs.Chain.{ShowsVersions}
@@ -38,8 +40,6 @@ use Rattle.heap_rule.specs.declared.view.Place.TheVariants as places
 use Rattle.heap_rule.specs.declared.view.Share.{Share}
 use Rattle.heap_rule.specs.declared.view.View.{View}
 use Rattle.heap_table.specs.Images.{ImageView, Shows}
-use Rattle.store_run.specs.Opened.{limits_of, shape_of}
-use Rattle.store_run.specs.declared.options.Options.{Options}
 use Rattle.trails.specs.Marks.{marks_of}
 use Rattle.version_rule.specs.Pass.{Pass}
 use Rattle.version_rule.specs.Tied.{Tied}

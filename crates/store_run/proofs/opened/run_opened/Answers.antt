@@ -3,6 +3,7 @@ use Rattle.std.proofs.Common.{refl, subst, sym}
 use Rattle.std.specs.Prelude.{Vec}
 use Rattle.std.specs.declared.alloc.Global.{Global}
 use Rattle.std.proofs.lemmas.List.{length-map}
+use Rattle.client_run.specs.Options.{shape_of}
 use Rattle.client_threads.specs.Taken.{lists_of}
 use Rattle.doc_model.specs.ClientLog.{ClientLog}
 use Rattle.doc_model.specs.declared.command.Command.{Command}
@@ -10,7 +11,6 @@ use Rattle.heap_rule.specs.Shape.{Shape}
 use Rattle.heap_rule.specs.declared.view.Place.{Place}
 use Rattle.heap_rule.specs.declared.view.View.{View}
 use Rattle.store_run.specs.Finished.{Comes, IsTotals, commands_of}
-use Rattle.store_run.specs.Opened.{shape_of}
 use Rattle.version_rule.specs.Pass.{Pass}
 use Rattle.store_run.proofs.Closed.{comes, counted}
 use Rattle.store_run.proofs.Ending.{by_number, closing, late_seat, may_serve, shape_there}
