@@ -2,3 +2,4 @@ pub mod Request
 pub mod Clients
 pub mod Ending
 pub mod Written
+pub mod Census
