@@ -1,12 +1,11 @@
 -- The anchor of a store's heap: a box, with null behind its first field.
 use Rattle.std.proofs.Common.{◌≡◌, ◌≤◌, ◌<◌, ◌∙◌, ℕ}
 use Rattle.cell_words.specs.declared.fields.Field.TheVariants as field
-use Rattle.cell_words.specs.Term.{null}
 use Rattle.closed_store.proofs.Denoting.{box_kind}
 use Rattle.core_machine.specs.State.{State, field_of}
 use Rattle.heap_rule.specs.Boxes.{boxes_of, payload_of}
 use Rattle.heap_rule.specs.Facts.{Facts}
-use Rattle.heap_rule.specs.Lore.{Lore, Plain}
+use Rattle.heap_rule.specs.Lore.{Lore}
 use Rattle.heap_rule.proofs.Maps.{In, in_map, of_map}
 use Rattle.version_rule.specs.Shrinks.{same_entry}
 use Rattle.version_rule.specs.Versions.{HasLatest, is_fixed}

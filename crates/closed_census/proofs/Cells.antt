@@ -2,15 +2,15 @@
 -- is one of the chain, and a node, an entry or a text denotes a term that spells one.
 --
 -- Each has the layout of its role, and each cell that it names is what the layout has there.
-use Rattle.std.proofs.Common.{◌≡◌, ◌<◌, ◌∙◌, ℕ, zero, suc, true, List, Option, Some, None}
-use Rattle.std.proofs.Common.{refl, sym, ap, subst, arith}
+use Rattle.std.proofs.Common.{◌≡◌, ℕ, zero, suc, true, List, Some}
+use Rattle.std.proofs.Common.{ap, subst, arith}
 use Rattle.cell_words.specs.declared.fields.Field.{Field}
 use Rattle.cell_words.specs.declared.fields.Field.TheVariants as field
 use Rattle.cell_words.specs.Term.{Term, null, num, five}
 use Rattle.closed_store.specs.Chain.{Denotes, IsRecord}
 use Rattle.core_machine.specs.State.{State, field_of}
-use Rattle.doc_records.specs.Texts.{IsTextCell, SpellsText, text_of}
-use Rattle.doc_records.specs.Trees.{AreEntries, IsEntryRecord, IsNode, IsNodeRecord}
+use Rattle.doc_records.specs.Texts.{SpellsText, text_of}
+use Rattle.doc_records.specs.Trees.{AreEntries, IsNode}
 use Rattle.heap_census.specs.declared.layouts.Role.{Role}
 use Rattle.heap_census.specs.declared.layouts.Role.TheVariants as role
 use Rattle.heap_census.specs.Layouts.{fits, gives, part_of}

@@ -75,13 +75,15 @@ in_rest x c xs (later there) other = there
 rest_found : (x : ℕ) (xs : List ℕ) (test : ℕ → Bool) (m : ℕ) → (Among x xs → ⊥)
     → Finds (x ∷ xs) test m → Finds xs (but x test) m
 rest_found x xs test m apart found c lt = elim (cases_eq c x) [
-  | inl here ↦
-      ((λ is. absurd (false≢true
+  | inl here ↦ (
+    (λ is. absurd (false≢true
         (sym (subst (λ n. but x test n ≡ false) (sym here) (but_here x test)) ∙ is))),
-      (λ there. absurd (apart (subst (λ n. Among n xs) here there))))
-  | inr other ↦
-      ((λ is. in_rest x c xs ((found c lt).0 (sym (but_other x test c other) ∙ is)) other),
-      (λ there. but_other x test c other ∙ (found c lt).1 (later there)))
+    (λ there. absurd (apart (subst (λ n. Among n xs) here there))),
+  )
+  | inr other ↦ (
+    (λ is. in_rest x c xs ((found c lt).0 (sym (but_other x test c other) ∙ is)) other),
+    (λ there. but_other x test c other ∙ (found c lt).1 (later there)),
+  )
 ]
 
 pub found_counts : (xs : List ℕ) (test : ℕ → Bool) (m : ℕ) → Differ xs

@@ -7,7 +7,7 @@ use Rattle.cell_words.specs.declared.colours.Colour.{Colour}
 use Rattle.cell_words.specs.declared.colours.Colour.TheVariants as colour
 use Rattle.cell_words.specs.declared.fields.Field.{Field}
 use Rattle.cell_words.specs.declared.fields.Field.TheVariants as field
-use Rattle.closed_store.specs.Chain.{IsChain, ShowsVersions}
+use Rattle.closed_store.specs.Chain.{ShowsVersions}
 use Rattle.core_machine.specs.State.{State, colour_of, field_of}
 use Rattle.core_machine.specs.Words.{is_blue}
 use Rattle.dlg_core.specs.Reachable.{Reachable}

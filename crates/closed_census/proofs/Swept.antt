@@ -1,7 +1,7 @@
 -- Where the anchor leads to every used cell, none is floating: each cell that a cell with a role
 -- names has a role, since a part of a layout that is a cell gives one.
-use Rattle.std.proofs.Common.{◌≡◌, ◌≢◌, ◌<◌, ◌≤◌, ◌∙◌, ℕ, Bool, true, false, List, Some}
-use Rattle.std.proofs.Common.{[], inl, inr, refl, sym, ap, subst, arith, get_or}
+use Rattle.std.proofs.Common.{◌≡◌, ◌≢◌, ◌≤◌, ◌∙◌, ℕ, true, false, List}
+use Rattle.std.proofs.Common.{[], inl, inr, refl, sym, ap, arith, get_or}
 use Rattle.std.proofs.lemmas.Bool.{cases_lt}
 use Rattle.std.proofs.lemmas.List.{get_or_past}
 use Rattle.cell_words.specs.declared.colours.Colour.{Colour}

@@ -1,10 +1,9 @@
 -- The versions of a chain: each has the layout of a version, names a node and the next of them, and
 -- differs from the others by its number.
-use Rattle.std.proofs.Common.{◌≡◌, ◌≤◌, ◌<◌, ◌+◌, ◌∙◌, ℕ, zero, suc, true, List, [], ◌∷◌}
+use Rattle.std.proofs.Common.{◌≡◌, ◌≤◌, ◌+◌, ◌∙◌, ℕ, zero, suc, true, List, [], ◌∷◌}
 use Rattle.std.proofs.Common.{Some, refl, sym, ap, subst, arith}
 use Rattle.cell_words.specs.declared.fields.Field.{Field}
 use Rattle.cell_words.specs.declared.fields.Field.TheVariants as field
-use Rattle.cell_words.specs.Term.{Term}
 use Rattle.closed_store.specs.Chain.{Denotes, IsChain, IsVersionAt, last, more}
 use Rattle.core_machine.specs.State.{State, field_of}
 use Rattle.doc_records.specs.Trees.{IsNode}
@@ -79,13 +78,15 @@ module _ (s : State) (trees : List DocTree) where
 
   pub differ : (number : ℕ) (xs : List ℕ) → IsChain s trees number xs → Differ xs
   differ _ _ (last {cell = c} is) = (none_there c, tt)
-  differ _ _ (more {cell = c} {number = n} is rest) =
-      ((λ there.
+  differ _ _ (more {cell = c} {number = n} is rest) = (
+    (λ there.
         let below = number_of _ _ rest c there in
         let most = below.1 in
         let same : field.Num below.0 ≡ field.Num (n + 1) = sym below.2 ∙ is.number_is in
         let equal : below.0 ≡ n + 1 = cc in
-        omega (arith, most, equal)), differ _ _ rest)
+        omega (arith, most, equal)),
+    differ _ _ rest,
+  )
 
   -- where the first has the role of a version, each has it
   abbrev pub FirstHas : List ℕ → Type 0
