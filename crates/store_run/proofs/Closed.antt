@@ -17,6 +17,7 @@ use Rattle.beside_collector.specs.Serving.{off_first}
 use Rattle.client_threads.specs.Clients.{places_for}
 use Rattle.client_threads.specs.Taken.{AllHadRoom}
 use Rattle.client_turns.specs.Runs.{was_full}
+use Rattle.closed_census.proofs.Kept.{census_kept}
 use Rattle.closed_store.specs.Chain.{ShowsVersions}
 use Rattle.closed_store.specs.Closing.{AreJoined, EndedStore}
 use Rattle.closed_store.proofs.Chaining.{versions_shown}
@@ -295,6 +296,9 @@ module _ (o : Options) (scripts : List (List Command)) (logs : List ClientLog)
           };
           cycles = omega (arith, most, cycles);
           tidy = λ fewer. tidy_here (omega (arith, fewer, cycles));
+          census = census_kept (shape_of o (length scripts)) image v ended o.keep
+              ended.shows.kept.trees stay (totals.cycles < o.cycles) shown
+              (λ fewer. tidy_here (omega (arith, fewer, cycles)));
         }
 
   -- the heap's shape is that of the run
