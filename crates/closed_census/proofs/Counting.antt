@@ -2,7 +2,8 @@
 use Rattle.std.proofs.Common.{◌≡◌, ◌≢◌, ◌<◌, ◌+◌, ◌==◌, ◌↔◌, ◌∙◌, ℕ, zero, suc, Bool, true}
 use Rattle.std.proofs.Common.{false, cond, List, [], ◌∷◌, length, inl, inr, refl, sym, ap, subst}
 use Rattle.std.proofs.Common.{arith}
-use Rattle.std.proofs.lemmas.Bool.{cases_eq, cases_lt, eq-eqb, false_from_ne_true, false≢true, ne_eqb}
+use Rattle.std.proofs.lemmas.Bool.{cases_eq, cases_lt, eq-eqb, false_from_ne_true}
+use Rattle.std.proofs.lemmas.Bool.{false≢true, ne_eqb}
 use Rattle.heap_census.specs.Counts.{count_below, one_if}
 use Rattle.version_rule.specs.Chains.{Among, first, later}
 

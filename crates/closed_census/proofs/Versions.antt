@@ -103,14 +103,16 @@ module _ (s : State) (trees : List DocTree) where
 
 module _ (s : State) (cells : List ℕ) (c : ℕ) (in_it : IsVersionIn s cells c) where
   pub version_shape : HasShape role.Version (field_of s c)
-  version_shape zero lt = ap (λ (f : Field). fits (part_of role.Version 0) f) in_it.version.number_is
+  version_shape zero lt =
+      ap (λ (f : Field). fits (part_of role.Version 0) f) in_it.version.number_is
   version_shape (suc zero) lt =
       ap (λ (f : Field). fits (part_of role.Version 1) f) in_it.version.names
   version_shape (suc (suc zero)) lt =
       ap (λ (f : Field). fits (part_of role.Version 2) f) in_it.version.link_is
       ∙ link_fits cells in_it.link in_it.stays
   version_shape (suc (suc (suc zero))) lt = null_fits (field_of s c 3) in_it.version.fourth
-  version_shape (suc (suc (suc (suc zero)))) lt = null_fits (field_of s c 4) in_it.version.fifth
+  version_shape (suc (suc (suc (suc zero)))) lt =
+      null_fits (field_of s c 4) in_it.version.fifth
   version_shape (suc (suc (suc (suc (suc zero))))) lt =
       ap (λ (f : Field). fits (part_of role.Version 5) f) in_it.version.kind
   version_shape (suc (suc (suc (suc (suc (suc i)))))) lt = absurd (omega (arith, lt))
