@@ -1,10 +1,10 @@
 -- One more record is copied: those that were copied before stay as they are.
 use Rattle.std.proofs.Common.{◌≡◌, ◌≢◌, ℕ, zero, suc, ◌+◌, ◌<◌, ◌≤◌, Bool, true, false, List, []}
-use Rattle.std.proofs.Common.{◌∷◌, ◌++◌, All, length, drop, get_or, refl, sym, ap, ◌∙◌, arith}
+use Rattle.std.proofs.Common.{◌∷◌, ◌++◌, All, length, refl, sym, ap, ◌∙◌, arith}
 use Rattle.std.proofs.Common.{⊎_elim, true≢false, length-append, get_or-set_other}
 use Rattle.std.specs.Prelude.{slice_index_or, slice_set}
 use Rattle.std.proofs.lemmas.Grind.{get_or-set_at}
-use Rattle.std.proofs.lemmas.List.{at_drop_more, get_or-drop, get_or_append_left, get_or_push}
+use Rattle.std.proofs.lemmas.List.{get_or_append_left, get_or_push}
 use Rattle.std.proofs.lemmas.List.Elements.{All-nil, All-cons}
 use Rattle.minor_heap.specs.declared.fields.MinorField.{MinorField}
 use Rattle.minor_heap.specs.declared.fields.MinorField.TheVariants as field
@@ -15,6 +15,7 @@ use Rattle.minor_heap.specs.Reaches.{IsMarked}
 use Rattle.minor_heap.proofs.Passing.{split}
 use Rattle.minor_heap.proofs.Terms.{fits_is}
 use Rattle.aged_nursery.specs.Copies.{AreClosed, AreCopied, moved_field, moved_record, moved_ref}
+use Rattle.aged_nursery.specs.Copies.{rank}
 
 -- A number that is written for record n leaves what names older ones.
 
@@ -53,6 +54,7 @@ pub copied_none : (old : List (List MinorField)) (marks : List Bool) (numbers : 
     (new : List (List MinorField)) → AreCopied old marks numbers new 0
 copied_none old marks numbers new =
     record {
+      place = λ r is lt. absurd (omega (arith, lt));
       there = λ r is lt. absurd (omega (arith, lt));
       fields = λ r i is lt five. absurd (omega (arith, lt));
     }
@@ -69,12 +71,13 @@ module _ (old : List (List MinorField)) (marks : List Bool) (numbers : List ℕ)
       (true≢false (sym is ∙ ap (λ (k : ℕ). slice_index_or marks k false) same ∙ unmarked)))
       (λ less. less) (split r.number n (omega (arith, lt))) in
       record {
+        place = λ r is lt. so.place r is (older r is lt);
         there = λ r is lt. so.there r is (older r is lt);
         fields = λ r i is lt five. so.fields r i is (older r is lt) five;
       }
 
   module _ (ordered : IsOrdered 0 old) (stands : n < length old) (room : n < length numbers)
-      (v : ℕ) (last : v ≡ length new) where
+      (v : ℕ) (last : v ≡ length new) (count : length new ≡ rank n marks) where
     now : List ℕ
     now = slice_set numbers n v
 
@@ -126,11 +129,21 @@ module _ (old : List (List MinorField)) (marks : List Bool) (numbers : List ℕ)
         omega (arith, e, l, length-append new (fields ∷ [])))
         (split r.number n (omega (arith, lt)))
 
+    copied_place : (r : MinorRef) → IsMarked marks r → r.number < n + 1
+        → slice_index_or now r.number 0 ≡ rank r.number marks
+    unfolding now
+    copied_place r is lt =
+        ⊎_elim
+        (λ (same : r.number ≡ n). at_last r same ∙ count ∙ ap (λ (k : ℕ). rank k marks) (sym same))
+        (λ (less : r.number < n). ref_set numbers n v r less ∙ so.place r is less)
+        (split r.number n (omega (arith, lt)))
+
     pub copied_next : AreCopied old marks (slice_set numbers n v)
         (new ++ moved_record numbers (slice_index_or old n []) ∷ []) (n + 1)
     unfolding now longer fields
     copied_next =
         record {
+          place = copied_place;
           there = copied_there;
           fields = λ r i is lt five. ⊎_elim (λ (same : r.number ≡ n). last_field r i five same)
               (λ (less : r.number < n). older_field r i five is less)
@@ -162,23 +175,36 @@ module _ (old : List (List MinorField)) (marks : List Bool) (numbers : List ℕ)
       (All-cons Fits (to 3) (to 4 ∷ []) (at 3 (omega arith))
       (All-cons Fits (to 4) [] (at 4 (omega arith)) (All-nil Fits)))))
 
--- How many are left.
+-- How many are marked below a record.
 
-left : (marks : List Bool) (n : ℕ) (b : Bool) → n < length marks → get_or marks n false ≡ b
-    → marked_of n (drop n marks) ≡ marked_of n (b ∷ drop (n + 1) marks)
-left marks n b lt is =
-    at_drop_more (marked_of n) marks n false lt
-    ∙ ap (λ (it : Bool). marked_of n (it ∷ drop (n + 1) marks)) is
+rank_suc : (marks : List Bool) (n : ℕ) → slice_index_or marks n false ≡ true
+    → rank (suc n) marks ≡ suc (rank n marks)
+rank_suc [] n is = absurd (true≢false (sym is))
+rank_suc (true ∷ marks) zero is = refl
+rank_suc (false ∷ marks) zero is = absurd (true≢false (sym is))
+rank_suc (true ∷ marks) (suc n) is = ap suc (rank_suc marks n is)
+rank_suc (false ∷ marks) (suc n) is = rank_suc marks n is
 
-pub one_less : (marks : List Bool) (n : ℕ) → n < length marks → slice_index_or marks n false ≡ true
-    → length (marked_of n (drop n marks)) ≡ length (marked_of (n + 1) (drop (n + 1) marks)) + 1
-one_less marks n lt is =
-    let e = ap (λ (rs : List MinorRef). length rs) (left marks n true lt is) in omega (arith, e)
+rank_same : (marks : List Bool) (n : ℕ) → slice_index_or marks n false ≡ false
+    → rank (suc n) marks ≡ rank n marks
+rank_same [] zero is = refl
+rank_same [] (suc n) is = refl
+rank_same (true ∷ marks) zero is = absurd (true≢false is)
+rank_same (false ∷ marks) zero is = refl
+rank_same (true ∷ marks) (suc n) is = ap suc (rank_same marks n is)
+rank_same (false ∷ marks) (suc n) is = rank_same marks n is
 
-pub none_less : (marks : List Bool) (n : ℕ) → n < length marks
-    → slice_index_or marks n false ≡ false
-    → length (marked_of n (drop n marks)) ≡ length (marked_of (n + 1) (drop (n + 1) marks))
-none_less marks n lt is = ap (λ (rs : List MinorRef). length rs) (left marks n false lt is)
+pub one_more : (marks : List Bool) (n : ℕ) → slice_index_or marks n false ≡ true
+    → rank (n + 1) marks ≡ rank n marks + 1
+one_more marks n is =
+    let next : n + 1 ≡ suc n = omega arith in
+    let e = rank_suc marks n is in
+    ap (λ (k : ℕ). rank k marks) next ∙ (omega (arith, e))
+
+pub none_more : (marks : List Bool) (n : ℕ) → slice_index_or marks n false ≡ false
+    → rank (n + 1) marks ≡ rank n marks
+none_more marks n is =
+    let next : n + 1 ≡ suc n = omega arith in ap (λ (k : ℕ). rank k marks) next ∙ rank_same marks n is
 
 none_of : (n : ℕ) (marks : List Bool) → ((k : ℕ) → slice_index_or marks k false ≡ false)
     → length (marked_of n marks) ≡ 0
@@ -190,12 +216,33 @@ not_true : (b : Bool) → (b ≡ true → ⊥) → b ≡ false
 not_true true not = absurd (not refl)
 not_true false not = refl
 
+rank_all : (m : ℕ) (marks : List Bool) (n : ℕ)
+    → ((k : ℕ) → n ≤ k → slice_index_or marks k false ≡ false)
+    → rank n marks ≡ length (marked_of m marks)
+rank_all m marks zero past = sym (none_of m marks (λ k. past k (omega arith)))
+rank_all m [] (suc n) past = refl
+rank_all m (true ∷ marks) (suc n) past =
+    ap suc (rank_all (m + 1) marks n (λ k le. past (suc k) (omega (arith, le))))
+rank_all m (false ∷ marks) (suc n) past =
+    rank_all (m + 1) marks n (λ k le. past (suc k) (omega (arith, le)))
+
 -- past the last record nothing is marked
-pub none_left : (old : List (List MinorField)) (marks : List Bool) (n : ℕ) → AreClosed old marks
-    → length old ≤ n → length (marked_of n (drop n marks)) ≡ 0
-none_left old marks n closed past =
-    none_of n (drop n marks)
-    (λ k. get_or-drop n marks k false
-    ∙ not_true (slice_index_or marks (n + k) false)
-    (λ (is : slice_index_or marks (n + k) false ≡ true).
-    let l = closed.stands (record { number = n + k }) is in omega (arith, l, past)))
+pub all_ranked : (old : List (List MinorField)) (marks : List Bool) (n : ℕ) → AreClosed old marks
+    → length old ≤ n → rank n marks ≡ length (marked_of 0 marks)
+all_ranked old marks n closed past =
+    rank_all 0 marks n
+    (λ k le. not_true (slice_index_or marks k false)
+    (λ (is : slice_index_or marks k false ≡ true).
+    let l = closed.stands (record { number = k }) is in omega (arith, l, le, past)))
+
+-- which record comes at a place of the list of those that are marked
+pub ranked : (m : ℕ) (marks : List Bool) (j : ℕ) (d : MinorRef) → j < length (marked_of m marks)
+    → (k : ℕ) × (slice_index_or marks k false ≡ true)
+    × ((slice_index_or (marked_of m marks) j d).number ≡ m + k) × (rank k marks ≡ j)
+ranked m [] j d lt = absurd (omega (arith, lt))
+ranked m (true ∷ marks) zero d lt = (0, refl, omega arith, refl)
+ranked m (true ∷ marks) (suc j) d lt =
+    let x = ranked (m + 1) marks j d (omega (arith, lt)) in
+    (suc x.0, x.1, omega (arith, x.2), ap suc x.3)
+ranked m (false ∷ marks) j d lt =
+    let x = ranked (m + 1) marks j d lt in (suc x.0, x.1, omega (arith, x.2), x.3)

@@ -1,19 +1,22 @@
 -- What was copied has the terms and the shared places that it had.
-use Rattle.std.proofs.Common.{◌≡◌, ◌↔◌, ℕ, zero, suc, ◌+◌, ◌<◌, ◌≤◌, Bool, List, [], ◌∷◌, All}
-use Rattle.std.proofs.Common.{length, map, refl, sym, ap, subst, ◌∙◌, arith}
+use Rattle.std.proofs.Common.{◌≡◌, ◌↔◌, ℕ, zero, suc, ◌+◌, ◌<◌, ◌≤◌, Bool, true, false, List, []}
+use Rattle.std.proofs.Common.{◌∷◌, ◌++◌, All, length, map, refl, sym, ap, subst, ◌∙◌, arith}
+use Rattle.std.proofs.Common.{length-append}
 use Rattle.std.specs.Prelude.{slice_index_or}
 use Rattle.std.specs.List.{Contains}
-use Rattle.std.proofs.lemmas.List.{get_or-map, get_or_default, length-map}
-use Rattle.cell_words.specs.Term.{Term, five}
+use Rattle.std.proofs.lemmas.List.{get_or-map, get_or_default, length-map, same_lists}
+use Rattle.cell_words.specs.Term.{Term, five, null}
 use Rattle.minor_heap.specs.declared.fields.MinorField.{MinorField}
 use Rattle.minor_heap.specs.declared.fields.MinorField.TheVariants as field
 use Rattle.minor_heap.specs.declared.fields.MinorRef.{MinorRef}
 use Rattle.minor_heap.specs.Marking.{marked_of}
 use Rattle.minor_heap.specs.Nursery.{FitsRecord, IsOrdered, Stands, field_at}
 use Rattle.minor_heap.specs.Reaches.{AreReached, IsMarked, Reaches, named, root}
-use Rattle.minor_heap.specs.Terms.{field_term, term_of, terms_of}
+use Rattle.minor_heap.specs.Terms.{field_term, record_term, term_of, terms_after}
+use Rattle.minor_heap.specs.Terms.{terms_of}
 use Rattle.minor_heap.proofs.Terms.{fits_is, term_is}
-use Rattle.aged_nursery.specs.Copies.{AreClosed, AreCopied, moved_field, moved_ref}
+use Rattle.aged_nursery.specs.Copies.{AreClosed, AreCopied, moved_field, moved_ref, rank}
+use Rattle.aged_nursery.proofs.Copying.{ranked}
 use Rattle.aged_nursery.specs.Survivors.{AreSurvivors, LeadNoFurther, Leads, by, here, root_at}
 
 -- The marks of what some records reach are closed.
@@ -56,6 +59,13 @@ minor_was numbers field.Null s e = absurd (cc)
 minor_was numbers (field.Num n) s e = absurd (cc)
 minor_was numbers (field.Minor r) s e = (r, refl, cc)
 minor_was numbers (field.Shared place) s e = absurd (cc)
+
+terms_length : (shared older : List Term) (records : List (List MinorField))
+    → length (terms_after shared older records) ≡ length older + length records
+terms_length shared older [] = omega arith
+terms_length shared older (fields ∷ records) =
+    let t = record_term shared older fields in
+    omega (arith, terms_length shared (older ++ t ∷ []) records, length-append older (t ∷ []))
 
 module _ (old : List (List MinorField)) (marks : List Bool) (numbers : List ℕ)
     (new : List (List MinorField)) (was : IsOrdered 0 old) (ordered : IsOrdered 0 new)
@@ -108,6 +118,29 @@ module _ (old : List (List MinorField)) (marks : List Bool) (numbers : List ℕ)
       (λ s is. marked s (suc is.0, omega (arith, is.1), is.2)) in
       λ j. first j ∷ rest j
 
+  -- all records, where as many stand as are marked
+  all_terms : (shared : List Term) → length new ≡ length (marked_of 0 marks)
+      → terms_of shared new ≡ map (term_of shared old) (marked_of 0 marks)
+  all_terms shared many =
+      let found = marked_of 0 marks in
+      let zeroth : MinorRef = record { number = 0 } in
+      let count = terms_length shared [] new in
+      same_lists (terms_of shared new) (map (term_of shared old) found)
+      (omega (arith, count, many, length-map found (term_of shared old)))
+      (λ k d lt.
+      let within : k < length found = omega (arith, lt, count, many) in
+      let r = slice_index_or found k zeroth in
+      let x = ranked 0 marks k zeroth within in
+      let number : x.0 ≡ r.number = omega (arith, x.2) in
+      let is : IsMarked marks r =
+      subst (λ (n : ℕ). slice_index_or marks n false ≡ true) number x.1 in
+      let to : k ≡ (moved_ref numbers r).number =
+      sym (so.place r is (closed.stands r is) ∙ ap (λ (k : ℕ). rank k marks) (sym number) ∙ x.3) in
+      get_or_default (terms_of shared new) k d null lt
+      ∙ ap (λ (n : ℕ). slice_index_or (terms_of shared new) n null) to
+      ∙ term_below shared (r.number + 1) r (omega arith) is
+      ∙ sym (get_or-map (term_of shared old) found k zeroth d within))
+
   -- Places.
 
   leads_old : (place : ℕ) (r s : MinorRef) → IsMarked marks r → s ≡ moved_ref numbers r
@@ -158,6 +191,7 @@ module _ (old : List (List MinorField)) (marks : List Bool) (numbers : List ℕ)
             terms = λ shared. same_terms shared from marked;
             places = no_further;
             found = marked_of 0 marks;
+            kept = λ shared. all_terms shared many;
             reached = reached;
             many = many;
             fewer = fewer;

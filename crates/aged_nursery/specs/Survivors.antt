@@ -8,7 +8,7 @@ use Rattle.minor_heap.specs.declared.fields.MinorField.TheVariants as field
 use Rattle.minor_heap.specs.declared.fields.MinorRef.{MinorRef}
 use Rattle.minor_heap.specs.Nursery.{Stands, field_at}
 use Rattle.minor_heap.specs.Reaches.{AreReached}
-use Rattle.minor_heap.specs.Terms.{term_of}
+use Rattle.minor_heap.specs.Terms.{term_of, terms_of}
 
 -- a chain of fields leads from the record to the shared place
 pub data Leads (records : List (List MinorField)) (place : ℕ) : MinorRef → Type 0 where
@@ -37,6 +37,7 @@ pub record AreSurvivors (old : List (List MinorField)) (from : List MinorRef)
   pub places : LeadNoFurther old from new to
   pub found : List MinorRef
   pub reached : AreReached old from found
-  -- each once
+  -- each once, and the oldest first
+  pub kept : (shared : List Term) → terms_of shared new ≡ map (term_of shared old) found
   pub many : length new ≡ length found
   pub fewer : length new ≤ length old

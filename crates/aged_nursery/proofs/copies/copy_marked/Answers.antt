@@ -5,8 +5,8 @@ use Rattle.minor_heap.specs.declared.fields.MinorField.{MinorField}
 use Rattle.minor_heap.specs.Nursery.{IsOrdered, Nursery}
 use Rattle.minor_heap.proofs.Terms.{ordered_snoc}
 use Rattle.aged_nursery.specs.Copies.{AreCopied, moved_record}
-use Rattle.aged_nursery.proofs.Copying.{copied_next, copied_skip, moved_fits, none_left}
-use Rattle.aged_nursery.proofs.Copying.{none_less, one_less}
+use Rattle.aged_nursery.proofs.Copying.{copied_next, copied_skip, moved_fits, none_more}
+use Rattle.aged_nursery.proofs.Copying.{all_ranked, one_more}
 use Rattle.aged_nursery.proofs.copies.copy_marked.Goals.{then-marks-number, else-marks-number}
 use Rattle.aged_nursery.proofs.copies.copy_marked.Goals as goal
 
@@ -26,7 +26,6 @@ loop-number-preserved c =
     let so = c.loop-number.invariant in
     let ordered = c.len-number-end.ensures.ordered in
     let stands : n < length old = omega arith in
-    let within : n < length marks = omega (arith, stands, c.requires.marks) in
     let left = so.many in
     elim c.if-marks-number.branch [
       | then-marks-number w ↦
@@ -39,8 +38,8 @@ loop-number-preserved c =
           let in_numbers : n < length numbers =
           omega (arith, stands, c.requires.numbers, so.numbers) in
           let next = copied_next old marks numbers new n so.copied ordered stands in_numbers
-          w.copy-made.result.number w.copy-made.ensures.made in
-          let less = one_less marks n within is in
+          w.copy-made.result.number w.copy-made.ensures.made left in
+          let more = one_more marks n is in
           record {
             copied =
                 subst
@@ -55,7 +54,7 @@ loop-number-preserved c =
                 (ordered_snoc new fields so.ordered
                 (moved_fits old marks numbers new n so.copied ordered c.requires.closed stands
                 is));
-            many = omega (arith, longer, less, left);
+            many = omega (arith, longer, more, left);
             fewer = omega (arith, longer, so.fewer);
             room = room ∙ w.copy-made.ensures.room ∙ so.room;
             numbers = c.if-marks-number.auto.numbers ∙ so.numbers;
@@ -66,7 +65,7 @@ loop-number-preserved c =
           ap (λ (h : Nursery). h.records) w.other-is in
           let room = ap (λ (h : Nursery). h.room) w.other-is in
           let count = ap length records in
-          let less = none_less marks n within is in
+          let more = none_more marks n is in
           record {
             copied =
                 subst
@@ -77,7 +76,7 @@ loop-number-preserved c =
                 (sym records) (copied_skip old marks numbers new n so.copied is));
             ordered =
                 subst (λ (rs : List (List MinorField)). IsOrdered 0 rs) (sym records) so.ordered;
-            many = omega (arith, count, less, left);
+            many = omega (arith, count, more, left);
             fewer = omega (arith, count, so.fewer);
             room = room ∙ so.room;
             numbers = c.if-marks-number.auto.numbers ∙ so.numbers;
@@ -86,6 +85,6 @@ loop-number-preserved c =
 
 pub returns-clause-many : goal.returns-clause-many
 returns-clause-many c =
-    let e = none_left c.args.heap.now.records c.args.marks.now c.loop-number.number
-    c.requires.closed (omega arith) in
-    omega (arith, e)
+    c.loop-number.invariant.many
+    ∙ all_ranked c.args.heap.now.records c.args.marks.now c.loop-number.number c.requires.closed
+    (omega arith)
