@@ -412,7 +412,8 @@ def library():
     """Builds what holds up the thread that dumps, and gives its path."""
     here, folder = os.path.dirname(os.path.abspath(__file__)), tempfile.mkdtemp()
     atexit.register(shutil.rmtree, folder)
-    source, built = os.path.join(here, "timing", "delay_threads.c"), os.path.join(folder, "delay.so")
+    source = os.path.join(here, "timing", "delay_threads.c")
+    built = os.path.join(folder, "delay.so")
     subprocess.run(["gcc", "-O1", "-shared", "-fPIC", source, "-o", built], check=True)
     return built
 
