@@ -34,7 +34,7 @@ def shown(data):
 
 
 def cut(words):
-    return words if len(words) <= LONG else words[:LONG - 1] + "…"
+    return words if len(words) <= LONG else words[:LONG - 2] + ".."
 
 
 def label(heap, number, role):
