@@ -6,7 +6,7 @@
 -- Source: this project's.
 use Rattle.std.specs.Prelude.{ℕ, ◌≡◌, ◌≤◌, ◌<◌, ◌+◌, ◌-◌}
 use Rattle.std.specs.Prelude.{true}
-use Rattle.std.specs.Prelude.{List, length, map}
+use Rattle.std.specs.Prelude.{List, ◌∷◌, length, map}
 use Rattle.std.specs.List.{list_any}
 use Rattle.client_run.specs.Options.{limits_of, shape_of}
 use Rattle.client_run.specs.declared.options.Options.{Options}
