@@ -1,5 +1,5 @@
 use Rattle.std.proofs.Common.{◌≡◌, ◌≤◌, ℕ, List, Err, inr, length, refl, subst, arith}
-use Rattle.image_files.specs.Answers.{IsFaultIn, ReadsImage}
+use Rattle.image_files.specs.Answers.{ReadsImage}
 use Rattle.image_files.specs.Contents.{contents_of}
 use Rattle.image_files.specs.declared.fault.ImageError.{ImageError}
 use Rattle.image_files.specs.declared.fault.ImageError.TheVariants as image
