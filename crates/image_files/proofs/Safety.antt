@@ -1,16 +1,14 @@
 -- In a heap without a flaw the anchor leads to cells in use alone.
 use Rattle.std.proofs.Common.{◌≡◌, ℕ, false, Result, Ok, Err}
-use Rattle.std.proofs.Common.{refl, sym, subst, ap}
-use Rattle.heap_census.specs.Census.{IsCensus, IsSound}
+use Rattle.std.proofs.Common.{refl, sym, subst}
+use Rattle.heap_census.specs.Census.{IsSound}
 use Rattle.heap_census.specs.Flaws.{IsChecked, IsFlawless}
 use Rattle.heap_census.specs.Heap.{Heap, is_free}
 use Rattle.heap_census.specs.Roles.{HasRole, anchor}
-use Rattle.heap_census.specs.declared.flaws.Flaw.{Flaw}
 use Rattle.heap_census.specs.declared.flaws.Flawed.{Flawed}
 use Rattle.heap_census.specs.declared.layouts.Role.{Role}
 use Rattle.heap_census.specs.declared.layouts.Role.TheVariants as role
 use Rattle.heap_census.specs.declared.numbers.Census.{Census}
-use Rattle.heap_census.specs.declared.taking.Checked.{Checked}
 use Rattle.heap_census.specs.declared.taking.Checked.TheVariants as checked
 use Rattle.heap_census.proofs.Judged.{flawless_sound, role_given}
 use Rattle.image_files.specs.Answers.{IsCensusIn, IsFaultIn, IsSafe, kind_of}

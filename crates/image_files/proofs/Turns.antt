@@ -14,12 +14,13 @@ use Rattle.line_words.specs.Cut.{next_rest_of, next_word_of, rest_of, word_of}
 use Rattle.line_words.specs.Lines.{lines_of}
 use Rattle.line_words.specs.Numbers.{decimal_of}
 use Rattle.image_files.specs.Answers.{Lists, ListsFile, lines_left}
-use Rattle.image_files.specs.Contents.{Contents, contents_in, contents_of, ended, fault_at, has_feed, in_order}
+use Rattle.image_files.specs.Contents.{Contents, contents_in, contents_of, ended, fault_at}
+use Rattle.image_files.specs.Contents.{has_feed, in_order}
 use Rattle.image_files.specs.Contents.{is_end, least_after, lines_from, turn_of, with_head}
 use Rattle.image_files.specs.Contents.{with_lines, with_turn}
 use Rattle.image_files.specs.File.{FileView, LineFits}
-use Rattle.image_files.specs.Line.{below, cell_in, cell_with, colour_in, fields_in, head_of, held_or}
-use Rattle.image_files.specs.Line.{is_missing, line_of, sized}
+use Rattle.image_files.specs.Line.{below, cell_in, cell_with, colour_in, fields_in, head_of}
+use Rattle.image_files.specs.Line.{held_or, is_missing, line_of, sized}
 use Rattle.image_files.specs.declared.fault.ImageError.{ImageError}
 use Rattle.image_files.specs.declared.fault.ImageError.TheVariants as error
 use Rattle.image_files.specs.declared.fault.ImageFault.{ImageFault}

@@ -2,7 +2,7 @@
 use Rattle.std.proofs.Common.{◌≡◌, ℕ, zero, suc, ◌<◌, ◌≤◌, ◌^◌, true, false, cond, List}
 use Rattle.std.proofs.Common.{Bool, [], ◌∷◌, inl, inr, Option, Some, None, length, refl, sym}
 use Rattle.std.proofs.Common.{subst, ap, ◌∙◌, arith, eqb, ltb}
-use Rattle.std.specs.Prelude.{IfSome, bytes_eq, codes, decimal, get_or}
+use Rattle.std.specs.Prelude.{IfSome, bytes_eq, codes, get_or}
 use Rattle.std.specs.Cmp.Lexicographic.{bytes_decides}
 use Rattle.std.proofs.lemmas.Bool.{cases_lt, eqb-true, le-ltb, lt-ltb, ltb-true}
 use Rattle.std.proofs.lemmas.Option.{cond_some, same_Some}

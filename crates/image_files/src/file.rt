@@ -1,6 +1,6 @@
 //! The cells of a heap file, as its lines show them.
-ghost use Rattle.image_files.specs.File.{FileView, IsFile, LineFits, ShowsFile, file_fits, line_for};
-ghost use Rattle.image_files.specs.File.{line_number, place_of};
+ghost use Rattle.image_files.specs.File.{FileView, IsFile, LineFits, ShowsFile, file_fits};
+ghost use Rattle.image_files.specs.File.{line_for, line_number, place_of};
 ghost use Rattle.std.specs.Prelude.{IfOk, OnOk, [], length, ◌++◌, ◌+◌, ◌<◌, ◌≡◌, ◌≤◌, ◌∷◌};
 
 use crate::line::CellLine;

@@ -1,5 +1,5 @@
 use Rattle.std.proofs.Common.{◌≡◌, ◌≤◌, ℕ, List, Err, inr, length, refl, subst, arith}
-use Rattle.image_files.specs.Answers.{IsFaultIn, ReadsImage}
+use Rattle.image_files.specs.Answers.{ReadsImage}
 use Rattle.image_files.specs.Contents.{contents_of}
 use Rattle.image_files.specs.declared.fault.ImageError.{ImageError}
 use Rattle.image_files.specs.declared.fault.ImageError.TheVariants as image
@@ -20,7 +20,14 @@ pub returns-in-Err-Fault : goal.returns-in-Err-Fault
 returns-in-Err-Fault c =
     let fault = c.in-Err-Fault.field-0-0 in
     record {
-      counted = (refl, inr (fault, refl, faulty c.args.bytes.now c.in-Err-Fault.field-0 fault
-          (omega (arith, c.if-bytes-gt-LARGEST_FILE.false)) c.in-Err-Fault.field-0-is
-          c.in-Err-Fault.ensures.contents));
+      counted = (
+        refl,
+        inr (
+          fault,
+          refl,
+          faulty c.args.bytes.now c.in-Err-Fault.field-0 fault
+              (omega (arith, c.if-bytes-gt-LARGEST_FILE.false)) c.in-Err-Fault.field-0-is
+              c.in-Err-Fault.ensures.contents,
+        ),
+      );
     }
