@@ -12,6 +12,7 @@
 //! request's ending, `scripts`, `generated`, `schedule` and `dump`, and `whole_run`.
 #![tactic(auto)]
 
+mod census;
 mod clients;
 mod dump;
 mod generated;

@@ -3,7 +3,7 @@
 //! text of each fault. And what heap_census says of the heaps that runs leave.
 //!
 //! Reading order: `outcomes`; `runs`, `batches`, `pieces`, `failing`, `options`, `totals`,
-//! `clients`, `census`.
+//! `clients`, `census`, `heap_files`.
 #![tactic(auto)]
 
 #[cfg(test)]
@@ -14,6 +14,8 @@ mod census;
 mod clients;
 #[cfg(test)]
 mod failing;
+#[cfg(test)]
+mod heap_files;
 #[cfg(test)]
 mod options;
 #[cfg(test)]
