@@ -1,4 +1,4 @@
-ghost use Rattle.std.specs.Prelude.{◌≡◌, ◌<◌, length};
+ghost use Rattle.std.specs.Prelude.{◌≡◌, ◌<◌, ◌≤◌, length};
 
 use aged_nursery::AgedNursery;
 use minor_heap::MinorField::{Minor, Null, Num, Shared};
@@ -9,6 +9,7 @@ use std::test::Fail;
 /// So many records that nothing names.
 fn make_loose(heap: &mut MinorHeap, count: u32) -> Result<(), MinorFull>
     ensures room { heap.new.room ≡ heap.old.room }
+    ensures more { length heap.old.records ≤ length heap.new.records }
 {
     for _ in 0..count {
         heap.make([Num(1), Null, Null, Null, Shared(0)])?;
