@@ -204,7 +204,8 @@ one_more marks n is =
 pub none_more : (marks : List Bool) (n : ℕ) → slice_index_or marks n false ≡ false
     → rank (n + 1) marks ≡ rank n marks
 none_more marks n is =
-    let next : n + 1 ≡ suc n = omega arith in ap (λ (k : ℕ). rank k marks) next ∙ rank_same marks n is
+    let next : n + 1 ≡ suc n = omega arith in
+    ap (λ (k : ℕ). rank k marks) next ∙ rank_same marks n is
 
 none_of : (n : ℕ) (marks : List Bool) → ((k : ℕ) → slice_index_or marks k false ≡ false)
     → length (marked_of n marks) ≡ 0
