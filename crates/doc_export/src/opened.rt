@@ -147,7 +147,8 @@ pub(crate) fn run_opened<R: Threads + Wait + Sync, G: Gate + Sync>(
     let Through { seat: own, copied } = through;
     seat.join(&heap, own);
     let seat = serve_after(rt, &heap, &queue, cycles, seat, standby);
-    let (_image, passes) = seat.close(heap);
+    let (image, passes) = seat.close(heap);
+    let _ = image;
     Closed {
         logs,
         passes,
