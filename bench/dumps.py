@@ -13,7 +13,7 @@ from documents import EMPTY, NAME, TEXT, Store, find, node, quoted, read, unquot
 
 NODES, LAST = 10_000, 1_000_000
 NUMBER = r"(0|[1-9][0-9]*)"
-CLIENTS, FOLDERS, BELOW, OWN = 16, 38, 255, 13
+CLIENTS, FOLDERS, BELOW, OWN = 16, 38, 16, 13
 
 
 class Wrong(Exception):
@@ -76,17 +76,22 @@ def read_dump(data):
     return int(number[1]), tree_of(lines)
 
 
-def large_batch(copies):
-    """The edits that lay 256 nodes below one folder, and copy them below so many others."""
-    yield from (f'put f0/c1/k{k} "node {k}"' for k in range(BELOW))
+def base_edits(copies):
+    """The edits that lay 256 nodes below one folder, and copy them below so many others. They are
+    taken in small batches, since a large one would lose to clients that commit all the time."""
+    yield from (f'put f0/c1/k0/m{k} "node {k}"' for k in range(BELOW))
+    yield from (f"copy f0/c1/k0 f0/c1/k{k}" for k in range(1, BELOW - 1))
     yield from (f"copy f0/c1 f{k}/c1" for k in range(1, copies + 1))
 
 
-def first_edits(r, copies, number):
-    """Edits of client 1, which change what its first batch has laid."""
+def first_edits(r, base, copies, number):
+    """Edits of client 1, which lays the base and then changes it."""
     def own():
-        return f"f{r.randint(0, copies)}/c1/k{r.randrange(BELOW)}"
+        return f"f{r.randint(0, copies)}/c1/k{r.randrange(BELOW - 1)}/m{r.randrange(BELOW)}"
 
+    if base[5 * (number - 1):]:
+        yield from base[5 * (number - 1):5 * number]
+        return
     for _ in range(r.randint(1, 4)):
         is_copy = r.random() < 0.3
         yield f"copy {own()} {own()}" if is_copy else f"put {own()} {quoted(f'batch {number}')}"
@@ -115,15 +120,15 @@ def reading(r):
 
 
 def scripts_of(r, copies, most):
-    """A script for each client, of so many batches at most."""
+    """A script for each client, of so many batches at most, beside those that lay the base."""
+    base = list(base_edits(copies))
     for client in range(1, CLIENTS + 1):
         folders, there = r.sample(range(FOLDERS), OWN), set()
+        many = r.randint(most // 2, most) + (len(base) // 5 + 1 if client == 1 else 0)
         lines = ["docs 2"]
-        for number in range(1, r.randint(most // 2, most) + 1):
-            if client > 1:
-                edits = own_edits(r, client, folders, there, number)
-            else:
-                edits = first_edits(r, copies, number) if number > 1 else large_batch(copies)
+        for number in range(1, many + 1):
+            edits = (own_edits(r, client, folders, there, number) if client > 1
+                     else first_edits(r, base, copies, number))
             lines += ["begin", f'put p/c{client} "{number}"', *edits, "commit"]
             lines += [reading(r) for _ in range(r.choice((0, 0, 1)))]
         yield "".join(f"{line}\n" for line in lines)

@@ -423,7 +423,7 @@ def dump_of(program, r, seen):
     first of their threads, the second of all, and is held up behind it, so that there is a tree."""
     copies, most = r.choice((3, 10, 37, 37, 37)), r.choice((5, 20, 60))
     scripts = list(dumps.scripts_of(r, copies, most))
-    delay = str(r.choice((0, 1, 5, 20, 100)) * r.randint(500, 1000))
+    delay = str(r.choice((0, 3, 30, 300, 3000)) * r.randint(500, 1000))
     held_up = {"LD_PRELOAD": library(), "DELAY_BEHIND": "2", "DELAY_FOR": delay}
     data = program.run("dump", *program.files(scripts), **held_up).stdout
     if program.ran.returncode:
