@@ -4,7 +4,7 @@ use Rattle.std.proofs.Common.{length, map}
 use Rattle.std.proofs.Common.{inl, inr, refl, sym, subst, arith}
 use Rattle.std.specs.Prelude.{◌⊎◌, ◌↔◌, ◌≢◌, IfSome, IsSomeAnd}
 use Rattle.outside.specs.Causes.{next_count}
-use Rattle.run_words.specs.Requests.{Asked, Run, Replay, Gen, Load, Image, Dump, Census, RunAsked}
+use Rattle.run_words.specs.Requests.{Asked, Run, Replay, Gen, Load, Image, RunAsked}
 use Rattle.run_words.specs.declared.request.GenWords.{GenWords}
 use Rattle.script_files.specs.Files.{OpensInTurn, files_read}
 use Rattle.script_files.specs.Loaded.{IsDumpFile, IsFaultyDump}
@@ -31,8 +31,6 @@ if_run (Some (Replay name)) Fact all = tt
 if_run (Some (Gen made)) Fact all = tt
 if_run (Some (Load name)) Fact all = tt
 if_run (Some (Image run)) Fact all = all Heap run
-if_run (Some (Dump names)) Fact all = tt
-if_run (Some (Census name)) Fact all = tt
 
 if_replay : (asked : Option Asked) (Fact : List ℕ → Type 0)
     → ((name : List ℕ) → Fact name) → IfReplay asked Fact
@@ -42,8 +40,6 @@ if_replay (Some (Replay name)) Fact all = all name
 if_replay (Some (Gen made)) Fact all = tt
 if_replay (Some (Load name)) Fact all = tt
 if_replay (Some (Image run)) Fact all = tt
-if_replay (Some (Dump names)) Fact all = tt
-if_replay (Some (Census name)) Fact all = tt
 
 if_gen : (asked : Option Asked) (Fact : GenWords → Type 0) → ((made : GenWords) → Fact made)
     → IfGen asked Fact
@@ -53,8 +49,6 @@ if_gen (Some (Replay name)) Fact all = tt
 if_gen (Some (Gen made)) Fact all = all made
 if_gen (Some (Load name)) Fact all = tt
 if_gen (Some (Image run)) Fact all = tt
-if_gen (Some (Dump names)) Fact all = tt
-if_gen (Some (Census name)) Fact all = tt
 
 if_load : (asked : Option Asked) (Fact : List ℕ → Type 0) → ((name : List ℕ) → Fact name)
     → IfLoad asked Fact
@@ -64,8 +58,6 @@ if_load (Some (Replay name)) Fact all = tt
 if_load (Some (Gen made)) Fact all = tt
 if_load (Some (Load name)) Fact all = all name
 if_load (Some (Image run)) Fact all = tt
-if_load (Some (Dump names)) Fact all = tt
-if_load (Some (Census name)) Fact all = tt
 
 if_some : (told : Option (List ℕ)) (Fact : List ℕ → Type 0)
     → ((bytes : List ℕ) → Fact bytes) → IfSome told Fact
@@ -144,8 +136,6 @@ unwritten_part (Some (Gen made)) holds old new is =
     made_unwritten made.print _ _ (inl is) (λ client. inl is)
 unwritten_part (Some (Load name)) holds old new is = inl is
 unwritten_part (Some (Image run)) holds old new is = inl is
-unwritten_part (Some (Dump names)) holds old new is = is
-unwritten_part (Some (Census name)) holds old new is = is
 
 -- no file was opened
 pub opens_nothing : (status before files : ℕ) → status ≡ 5

@@ -14,7 +14,7 @@ use Rattle.doc_tree.specs.Tree.{DocTree}
 use Rattle.run_output.specs.Loaded.{loaded_text_of}
 use Rattle.run_output.specs.Summary.{summary_text_of}
 use Rattle.run_output.specs.declared.summary.Made.{Made}
-use Rattle.run_words.specs.Requests.{Asked, Run, Replay, Gen, Load, Image, Dump, Census}
+use Rattle.run_words.specs.Requests.{Asked, Run, Replay, Gen, Load, Image}
 use Rattle.run_words.specs.declared.request.GenWords.{GenWords}
 use Rattle.script_files.specs.Files.{opened}
 use Rattle.script_files.specs.Loaded.{HoldsDump, RefusesDump}
@@ -105,8 +105,6 @@ WritesPartOf holds (Some (Load name)) old new =
 WritesPartOf holds (Some (Image run)) old new =
     WritesPart (AreScripts (map holds run.files)) (options_of run)
     (IsReportOf Heap (map holds run.files) run) old new
-WritesPartOf holds (Some (Dump names)) old new = new ≡ old
-WritesPartOf holds (Some (Census name)) old new = new ≡ old
 
 -- What is so by the sort of a fault: the first fact where the run was refused, the next where the
 -- output could not be written, the last where memory was wanting.

@@ -12,7 +12,6 @@
 //! request's ending, `scripts`, `generated`, `schedule` and `dump`, and `whole_run`.
 #![tactic(auto)]
 
-mod census;
 mod clients;
 mod dump;
 mod generated;

@@ -187,8 +187,6 @@ pub fn run<R: Threads + Wait + Sync, H: Shelf, S: Sink, G: Gate + Sync>(
     match read_words(alloc, words.all()) {
         Ok(Request::Run(run)) => run_scripts(alloc, rt, &run, Report::Replies, shelf, sink, gate),
         Ok(Request::Image(run)) => run_scripts(alloc, rt, &run, Report::Heap, shelf, sink, gate),
-        Ok(Request::Dump(_)) => Outcome::refused(Fault::Memory),
-        Ok(Request::Census(_)) => Outcome::refused(Fault::Memory),
         Ok(Request::Replay(name)) => run_schedule(alloc, name, shelf, sink),
         Ok(Request::Gen(made)) => run_generated(alloc, rt, made, sink, gate),
         Ok(Request::Load(name)) => load_dump(alloc, name, shelf, sink),
