@@ -14,6 +14,8 @@ from documents import EMPTY, NAME, TEXT, Store, find, node, quoted, read, unquot
 NODES, LAST = 10_000, 1_000_000
 NUMBER = r"(0|[1-9][0-9]*)"
 CLIENTS, FOLDERS, BELOW, OWN = 16, 38, 16, 13
+# What the nodes of the client are called that lays most of the tree: the last one begins first.
+BASE = f"c{CLIENTS}"
 
 
 class Wrong(Exception):
@@ -79,15 +81,15 @@ def read_dump(data):
 def base_edits(copies):
     """The edits that lay 256 nodes below one folder, and copy them below so many others. They are
     taken in small batches, since a large one would lose to clients that commit all the time."""
-    yield from (f'put f0/c1/k0/m{k} "node {k}"' for k in range(BELOW))
-    yield from (f"copy f0/c1/k0 f0/c1/k{k}" for k in range(1, BELOW - 1))
-    yield from (f"copy f0/c1 f{k}/c1" for k in range(1, copies + 1))
+    yield from (f'put f0/{BASE}/k0/m{k} "node {k}"' for k in range(BELOW))
+    yield from (f"copy f0/{BASE}/k0 f0/{BASE}/k{k}" for k in range(1, BELOW - 1))
+    yield from (f"copy f0/{BASE} f{k}/{BASE}" for k in range(1, copies + 1))
 
 
-def first_edits(r, base, copies, number):
-    """Edits of client 1, which lays the base and then changes it."""
+def last_edits(r, base, copies, number):
+    """Edits of the last client, which lays the base and then changes it."""
     def own():
-        return f"f{r.randint(0, copies)}/c1/k{r.randrange(BELOW - 1)}/m{r.randrange(BELOW)}"
+        return f"f{r.randint(0, copies)}/{BASE}/k{r.randrange(BELOW - 1)}/m{r.randrange(BELOW)}"
 
     if base[5 * (number - 1):]:
         yield from base[5 * (number - 1):5 * number]
@@ -115,7 +117,7 @@ def own_edits(r, client, folders, there, number):
 
 def reading(r):
     folder = f"f{r.randrange(FOLDERS)}"
-    return r.choice((f"list {folder}", f"size {folder}", f"get {folder}/c1", f"take {folder}",
+    return r.choice((f"list {folder}", f"size {folder}", f"get {folder}/c3", f"take {folder}",
                      f"old {r.randrange(9)} {folder}/c2"))
 
 
@@ -124,11 +126,11 @@ def scripts_of(r, copies, most):
     base = list(base_edits(copies))
     for client in range(1, CLIENTS + 1):
         folders, there = r.sample(range(FOLDERS), OWN), set()
-        many = r.randint(most // 2, most) + (len(base) // 5 + 1 if client == 1 else 0)
+        many = r.randint(most // 2, most) + (len(base) // 5 + 1 if client == CLIENTS else 0)
         lines = ["docs 2"]
         for number in range(1, many + 1):
-            edits = (own_edits(r, client, folders, there, number) if client > 1
-                     else first_edits(r, base, copies, number))
+            edits = (own_edits(r, client, folders, there, number) if client < CLIENTS
+                     else last_edits(r, base, copies, number))
             lines += ["begin", f'put p/c{client} "{number}"', *edits, "commit"]
             lines += [reading(r) for _ in range(r.choice((0, 0, 1)))]
         yield "".join(f"{line}\n" for line in lines)

@@ -107,6 +107,8 @@ def wrong_in(data, cells, keep, versions, cycles, stored):
         trees, latest = trees_of(heap, keep, versions)
     except (images.Faulty, Wrong) as why:
         return str(why)
+    except RecursionError:
+        return "its cells lead in a circle"
     counts = heap.census()
     if heap.size != cells:
         return f"{heap.size} cells and not {cells}"
