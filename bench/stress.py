@@ -18,7 +18,8 @@ In every fourth run `image` stands in the place of `run`, and the image has to b
 its versions, its trees and the counts of `census` (heaps.py); some of these have one client, and
 then the trees of all versions and the cells in use are known. Of images with a fault `census` has
 to name line and kind. A dump beside 16 clients has to be of a version that some history of their
-scripts has (dumps.py), and loading it has to say so.
+scripts has (dumps.py), and loading it has to say so. A program that has no word for a census or a
+dump yet is not asked for one.
 
 It prints a line for each kind of run, and where one is wrong the folder that has its files. A run
 that has not ended within the limit is counted apart, as late, with its seed: each handshake waits
@@ -311,6 +312,10 @@ class Program:
                                   env={**os.environ, **named})
         return self.ran
 
+    def has(self, word):
+        """Whether it has this word: a file that is not there is a read fault then, and not usage."""
+        return self.run(word, os.path.join(self.folder, "absent")).returncode != 1
+
     def wrong_status(self):
         """What is wrong where the last status is not 0."""
         return f"status {self.ran.returncode}: {self.ran.stderr.decode()}"
@@ -366,7 +371,7 @@ def image_of(program, scripts, words, limits, seen):
         return f"{lines} cells in use and not {used}"
     for what, many in (("images", 1), ("cells in use", lines), ("with known trees", bool(stored))):
         seen[what] = seen.get(what, 0) + many
-    return wrong_census(program, image, data)
+    return wrong_census(program, image, data) if program.has("census") else None
 
 
 def wrong_census(program, image, data):
@@ -444,6 +449,9 @@ WAYS["small images with a fault"] = functools.partial(damages_of, False)
 WAYS["a dump beside 16 clients"] = dump_of
 NAMED = {name: functools.partial(run_of, kind) for name, kind in LONG.items()}
 NAMED["every damage of a small image"] = functools.partial(damages_of, True)
+# What a kind cannot do without, where a program may lack it.
+WANTED = {"small images with a fault": "census", "every damage of a small image": "census",
+          "a dump beside 16 clients": "dump"}
 
 
 def one(docheap, name, seed, limit):
@@ -476,7 +484,12 @@ def main():
     args = p.parse_args()
     bad, runs, many_late, all_seen = 0, 0, 0, {}
     names = {**WAYS, **NAMED} if args.only else WAYS
+    program = Program(os.path.abspath(args.docheap), args.limit)
     for name in [name for name in names if not args.only or args.only in name]:
+        word = WANTED.get(name)
+        if word and not program.has(word):
+            print(f"{name}: not run, as this program has no word '{word}'")
+            continue
         if names[name] is dump_of:
             library() # once, before any thread asks for it
         with concurrent.futures.ThreadPoolExecutor(args.jobs) as pool:
