@@ -1,7 +1,7 @@
 -- The latest version is taken: its dump, and then its nodes.
-use Rattle.std.proofs.Common.{◌≡◌, ◌<◌, ◌++◌, ℕ, List, [], ◌∷◌, length, max}
+use Rattle.std.proofs.Common.{◌≡◌, ◌++◌, ℕ, List, [], ◌∷◌, length, max}
 use Rattle.std.proofs.Common.{All, Option, sym, ◌∙◌, ap, subst, arith}
-use Rattle.std.specs.Prelude.{Err, IfErr, Result, Vec}
+use Rattle.std.specs.Prelude.{None, Vec}
 use Rattle.std.specs.declared.alloc.Global.{Global}
 use Rattle.std.proofs.lemmas.List.{append-nil}
 use Rattle.std.proofs.lemmas.List.Elements.{All-head, All-tail}
@@ -29,7 +29,7 @@ use Rattle.version_store.specs.Lasts.{IsSameMutator, LastsAcross, marks}
 use Rattle.version_store.specs.declared.held.HeldVersion.{HeldVersion}
 use Rattle.version_store.proofs.Going.{version_still}
 use Rattle.version_store.proofs.Lasting.{lasts_then, same_then}
-use Rattle.doc_export.specs.Guests.{Copies, IsDumpOf, MayTell, Tells}
+use Rattle.doc_export.specs.Guests.{Copies, IsDumpOf, MayTell, Tells, TellsWithout}
 use Rattle.doc_export.specs.declared.guest.Copied.{Copied}
 
 -- A reader of trees behind a call of versions.
@@ -129,8 +129,12 @@ module _ (m a b : Bound Pass) (v : HeldVersion) (latest : GivesLatest m a v)
       tells = may;
     }
 
--- why there is no dump, where there are too many nodes
-pub too_many : (nodes told : ℕ) (r : Result (Vec ℕ Global) DumpFault)
-    → r ≡ Err (faults.TooMany told) → IfErr r (Refuses nodes) → 10_000 < nodes
-too_many nodes told r is refused =
-    (subst (λ (x : Result (Vec ℕ Global) DumpFault). IfErr x (Refuses nodes)) is refused).1
+    -- where there is no dump
+    pub tells_without : (fault : DumpFault) → Refuses (count (tree_of (root_at a v.place))) fault
+        → (copied : Option Copied) → TellsWithout fault v.number nodes copied
+        → MayTell c.seat.me.pass (marks c) copied
+    tells_without (faults.TooMany told) refused copied is =
+        subst (λ (o : Option Copied). MayTell c.seat.me.pass (marks c) o) (sym is)
+        (tells None refused.1)
+    tells_without faults.NoMemory refused copied is =
+        subst (λ (o : Option Copied). MayTell c.seat.me.pass (marks c) o) (sym is) tt

@@ -10,6 +10,8 @@ use Rattle.mutator_seat.specs.Bound.{Bound}
 use Rattle.trails.specs.Asks.{InOrder}
 use Rattle.trails.specs.Marks.{Mark, marks_of}
 use Rattle.version_dump.specs.Dump.{dump_of}
+use Rattle.version_export.specs.declared.fault.DumpFault.{DumpFault}
+use Rattle.version_export.specs.declared.fault.DumpFault.TheVariants as faults
 use Rattle.version_rule.specs.Fits.{Fits, HasTree}
 use Rattle.version_rule.specs.Pass.{Pass}
 use Rattle.version_store.specs.Calls.{version_asks}
@@ -40,6 +42,13 @@ pub record Tells (p : Pass) (shown : List Mark) (version nodes : ℕ)
 abbrev pub MayTell : Pass → List Mark → Option Copied → Type 0
 MayTell p shown None = Unit {0}
 MayTell p shown (Some c) = Tells p shown c.version c.count c.bytes
+
+-- the version is told of without a dump where its tree has too many nodes, and not at all where
+-- memory was wanting
+abbrev pub TellsWithout : DumpFault → ℕ → ℕ → Option Copied → Type 0
+TellsWithout (faults.TooMany count) version nodes copied =
+    copied ≡ Some (record { version = version; count = nodes; bytes = None })
+TellsWithout faults.NoMemory version nodes copied = copied ≡ None
 
 -- The latest version was taken by a mutator, which committed nothing.
 pub record Copies (old new : Bound Pass) (copied : Option Copied) : Type 0 where

@@ -1,7 +1,7 @@
 //! The guest: it takes the latest version, beside the clients, and commits nothing.
 ghost use Rattle.std.specs.Prelude.{◌≡◌, ◌+◌, ◌≤◌, length, true};
 ghost use Rattle.client_threads.specs.Clients.{IsNewSeat};
-ghost use Rattle.doc_export.specs.Guests.{Copies, IsThrough};
+ghost use Rattle.doc_export.specs.Guests.{Copies, IsThrough, TellsWithout};
 ghost use Rattle.doc_records.specs.Trees.{tree_of};
 ghost use Rattle.doc_tree.specs.Tree.{count};
 ghost use Rattle.version_rule.specs.Pass.{reading};
@@ -103,12 +103,21 @@ fn copy_latest(
             count: nodes,
             bytes: Some(bytes),
         }),
-        Err(DumpFault::TooMany { count: _ }) => Some(Copied {
-            version: v.number,
+        Err(fault) => without_dump(v.number, nodes, fault),
+    }
+}
+
+/// A version of which there is no dump, for this reason: none of all where memory was wanting.
+fn without_dump(version: u64, nodes: u64, fault: DumpFault) -> Option<Copied>
+    ensures without { TellsWithout fault version nodes result }
+{
+    match fault {
+        DumpFault::TooMany { count: _ } => Some(Copied {
+            version,
             count: nodes,
             bytes: None,
         }),
-        Err(DumpFault::NoMemory) => None,
+        DumpFault::NoMemory => None,
     }
 }
 

@@ -1,5 +1,5 @@
-use Rattle.std.proofs.Common.{Some, None}
-use Rattle.doc_export.proofs.Copying.{copies, still_held, tells, too_many}
+use Rattle.std.proofs.Common.{Some}
+use Rattle.doc_export.proofs.Copying.{copies, still_held, tells, tells_without}
 use Rattle.doc_export.proofs.guest.copy_latest.Goals as goal
 
 pub nodes_of-nodes-requires-clause-version : goal.nodes_of-nodes-requires-clause-version
@@ -27,8 +27,8 @@ returns-in-Ok c = record {
       (c.in-Ok.ensures.few, c.in-Ok.ensures.dump));
 }
 
-pub returns-in-Err-TooMany : goal.returns-in-Err-TooMany
-returns-in-Err-TooMany c = record {
+pub returns-in-Err : goal.returns-in-Err
+returns-in-Err c = record {
   copies = copies c.args.m.now c.current-v.new.m c.dump-dumped.new.m c.current-v.result
       c.current-v.ensures.latest c.current-v.ensures.seen c.current-v.ensures.shows
       c.dump-dumped.ensures.held c.dump-dumped.ensures.known c.dump-dumped.ensures.pass
@@ -36,12 +36,12 @@ returns-in-Err-TooMany c = record {
       c.dump-dumped.ensures.lasts c.nodes_of-nodes.ensures.lasts c.current-v.ensures.same
       c.dump-dumped.ensures.same c.nodes_of-nodes.ensures.same c.nodes_of-nodes.ensures.count
       c.nodes_of-nodes.ensures.pass _
-      (tells c.args.m.now c.current-v.new.m c.dump-dumped.new.m c.current-v.result
+      (tells_without c.args.m.now c.current-v.new.m c.dump-dumped.new.m c.current-v.result
       c.current-v.ensures.latest c.current-v.ensures.seen c.current-v.ensures.shows
       c.dump-dumped.ensures.held c.dump-dumped.ensures.known c.dump-dumped.ensures.pass
       c.nodes_of-nodes.new.m c.nodes_of-nodes.result c.current-v.ensures.lasts
       c.dump-dumped.ensures.lasts c.nodes_of-nodes.ensures.lasts c.current-v.ensures.same
       c.dump-dumped.ensures.same c.nodes_of-nodes.ensures.same c.nodes_of-nodes.ensures.count
-      c.nodes_of-nodes.ensures.pass None
-      (too_many _ _ c.dump-dumped.result c.in-Err-TooMany.is c.dump-dumped.ensures.refused));
+      c.nodes_of-nodes.ensures.pass
+      c.in-Err.fault c.in-Err.ensures.refused c.without_dump.result c.without_dump.ensures.without);
 }

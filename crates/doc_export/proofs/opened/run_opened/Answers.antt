@@ -15,7 +15,7 @@ returns-clause-dumps g c =
     let mid = c.run_beside-done.result.1 in
     let joined = c.take_back-failed.new.seat in
     let t = c.run_beside-done.result.0.1 in
-    let through = c.run_beside-done.ensures.done.1.1 in
+    let through = c.run_beside-done.ensures.done.2 in
     subst (λ (v : View Pass). MayDump o (map commands_in logs) logs v t.copied)
     (sym c.close-image.ensures.passes)
     (may_dump o c.args.scripts.now c.args.opened c.requires.opened c.args.opened.queue mid joined
