@@ -48,8 +48,8 @@ returns-in-Ok-Image-clause-stops g c =
     (g.H.Shelf.holds c.args.shelf.now) (g.H.Shelf.opens c.args.shelf.now)
     (g.H.Shelf.opens c.run_scripts-in-Ok-Image.new.shelf) asked c.run_scripts-in-Ok-Image.ensures.stops
 
-pub returns-clause-stops : goal.returns-clause-stops
-returns-clause-stops g c =
+pub returns-in-Err-NoMemory-clause-stops : goal.returns-in-Err-NoMemory-clause-stops
+returns-in-Err-NoMemory-clause-stops g c =
     unread_stops (request_of c.args.words.now) (g.H.Shelf.holds c.args.shelf.now)
     (g.H.Shelf.opens c.args.shelf.now)
 
