@@ -3,13 +3,16 @@
 //! The layer above may rely on this: all that client_session says of a journal's answers holds, in
 //! the words of the mutator, the private heap and the draft; what an answer needs of these holds
 //! behind it again, and behind handshakes that the mutator answers then; and the mutator is the same
-//! one then, with hints of the same queue.
+//! one then, with hints of the same queue. `Options` are the numbers by which a store is run, for
+//! the layers above.
 //!
-//! Reading order: specs/Own, Places; then `over`, `session`, `theorems`.
+//! Reading order: specs/Own, Places; then `over`, `session`, `theorems`; `options`, specs/Options.
 #![tactic(auto)]
 
+mod options;
 mod over;
 mod session;
 pub mod theorems;
 
+pub use options::Options;
 pub use session::{Limits, Session};

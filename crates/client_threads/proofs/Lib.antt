@@ -1,8 +1,10 @@
+pub mod AtClose
 pub mod Going
 pub mod Leaving
 pub mod OneMore
 pub mod Places
 pub mod Scripts
+pub mod Serving
 pub mod Splitting
 pub mod TakingBack
 pub mod Waiting

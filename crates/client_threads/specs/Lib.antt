@@ -1,4 +1,5 @@
 pub mod Clients
+pub mod Ends
 pub mod Going
 pub mod Opened
 pub mod Taken

@@ -24,7 +24,7 @@ fn handshake(m: &mut Mutator<'_, Documents>)
 }
 
 /// Waits until the gate lets the command begin. Between two questions other threads may run.
-fn await_gate<R: Wait, G: Gate>(
+pub fn await_gate<R: Wait, G: Gate>(
     rt: &R,
     gate: &G,
     m: &mut Mutator<'_, Documents>,

@@ -20,7 +20,10 @@ use std::sync::Wait;
 use std::thread::{Threads, join};
 
 /// The mutator of the seat, in.
-fn come_in<'a>(heap: &'a CellHeap<Documents>, seat: MutSeat<Documents>) -> Mutator<'a, Documents>
+pub fn come_in<'a>(
+    heap: &'a CellHeap<Documents>,
+    seat: MutSeat<Documents>,
+) -> Mutator<'a, Documents>
     requires seat { IsSeatOf heap.now seat }
     requires out { MayComeIn seat.me }
     ensures entered { Entered heap.now seat result }
@@ -31,7 +34,7 @@ fn come_in<'a>(heap: &'a CellHeap<Documents>, seat: MutSeat<Documents>) -> Mutat
 }
 
 /// The mutator goes out and is over.
-fn leave(m: Mutator<'_, Documents>) -> MutSeat<Documents>
+pub fn leave(m: Mutator<'_, Documents>) -> MutSeat<Documents>
     requires inside { m.seat.me.presence.inside ≡ true }
     ensures left { Left m.entry result }
 {

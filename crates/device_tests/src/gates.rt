@@ -1,4 +1,4 @@
-use outside::{CrossGate, Gate, HoldGate, OpenGate};
+use outside::{AfterGate, CrossGate, Gate, HoldGate, OpenGate};
 use std::thread;
 
 // As many looks as no thread needs to begin.
@@ -71,4 +71,23 @@ fn a_gate_holds_one_command_for_so_many_turns(rt: HostRuntime) {
         (first, second, third, gate.asked()),
         (false, false, true, 3)
     );
+}
+
+// The number 0 is no client's, and waits for one reply alone.
+#[test]
+fn a_gate_holds_one_command_until_another_has_its_reply(rt: HostRuntime) {
+    let gate = AfterGate::new(1, 2);
+    for (client, number) in [(1, 1), (1, 2), (2, 1), (0, 2)] {
+        assert!(rt;
+            gate.go(client, number),
+            "client {client}, command {number}"
+        );
+    }
+    let first = gate.go(0, 1);
+    for (client, number) in [(1, 1), (2, 2), (1, 3), (0, 1)] {
+        gate.done(client, number);
+        assert!(rt; !gate.go(0, 1), "client {client}, command {number}");
+    }
+    gate.done(1, 2);
+    assert_eq!(rt; (first, gate.go(0, 1), gate.go(0, 1)), (false, true, true));
 }

@@ -1,13 +1,13 @@
 -- A run of scripts that are given comes to what they come to, or memory is wanting.
 use Rattle.std.proofs.Common.{◌≡◌, ℕ, List, Option, OnOk, sym, subst}
 use Rattle.std.specs.Prelude.{Result, Ok, Err}
+use Rattle.client_run.specs.declared.options.Options.{Options}
 use Rattle.cmd_text.specs.declared.form.Form.{Form}
 use Rattle.doc_model.specs.declared.command.Command.{Command}
 use Rattle.script_files.specs.Formed.{AreRead}
 use Rattle.script_files.specs.Scripts.{AreScripts}
 use Rattle.script_files.specs.declared.fault.Fault.{Fault}
 use Rattle.store_run.specs.declared.finished.Finished.{Finished}
-use Rattle.store_run.specs.declared.options.Options.{Options}
 use Rattle.doc_run.specs.Clients.{ComesBy, ComesFrom, ComesOf, DecidesRun, FinishesWith}
 use Rattle.doc_run.specs.declared.clients.Ran.{Ran}
 

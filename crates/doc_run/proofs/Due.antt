@@ -2,6 +2,7 @@
 use Rattle.std.proofs.Common.{◌≡◌, ℕ, List, Option, None, Some, Result, Ok, Err}
 use Rattle.std.proofs.Common.{refl, sym, ap, subst, ◌∙◌, rules, arith}
 use Rattle.std.specs.Prelude.{IsNone, IsSomeAnd}
+use Rattle.client_run.specs.declared.options.Options.{Options}
 use Rattle.doc_model.specs.declared.command.Command.{Command}
 use Rattle.script_files.specs.Fault.{status_by, status_of}
 use Rattle.script_files.specs.Scripts.{AreScripts, IsDue, IsDueFor}
@@ -9,7 +10,6 @@ use Rattle.script_files.specs.Sorts.{OfScripts, Refused, Sort, sort_of}
 use Rattle.script_files.specs.Sorts.{OfWords, OfLine, OfReading, OfWriting, OfMemory, OfSize}
 use Rattle.script_files.specs.declared.fault.Fault.{Fault}
 use Rattle.store_run.specs.declared.finished.Finished.{Finished}
-use Rattle.store_run.specs.declared.options.Options.{Options}
 use Rattle.doc_run.specs.Clients.{ComesBy}
 use Rattle.doc_run.specs.Ending.{BySort, Explains}
 

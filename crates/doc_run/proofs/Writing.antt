@@ -3,6 +3,7 @@ use Rattle.std.proofs.Common.{◌≡◌, ◌∙◌, ℕ, List, Option, Some, Res
 use Rattle.std.proofs.Common.{OnOk, OnErr, inr, refl, sym, ap, subst, arith}
 use Rattle.std.specs.Prelude.{◌⊎◌, IsErrOf}
 use Rattle.std.specs.Io.KnownBytes.{Appends}
+use Rattle.client_run.specs.declared.options.Options.{Options}
 use Rattle.doc_model.specs.declared.command.Command.{Command}
 use Rattle.outside.specs.Pieces.{AppendsPart}
 use Rattle.outside.specs.declared.fault.OutFault.{OutFault}
@@ -11,7 +12,6 @@ use Rattle.script_files.specs.Fault.{status_of}
 use Rattle.script_files.specs.declared.fault.Fault.{Fault}
 use Rattle.script_files.specs.declared.fault.Fault.TheVariants.{ReadFault}
 use Rattle.store_run.specs.declared.finished.Finished.{Finished}
-use Rattle.store_run.specs.declared.options.Options.{Options}
 use Rattle.doc_run.specs.Clients.{ComesBy}
 use Rattle.doc_run.specs.Ending.{Explains, Writes}
 use Rattle.doc_run.specs.Written.{fault_by, kept_by}

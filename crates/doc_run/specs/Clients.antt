@@ -4,6 +4,7 @@
 -- fact of the scripts, or of the fault in their place.
 -- Source: this project's own.
 use Rattle.std.specs.Prelude.{◌≡◌, ℕ, List, Option, Result, Ok, Err}
+use Rattle.client_run.specs.declared.options.Options.{Options}
 use Rattle.cmd_text.specs.declared.form.Form.{Form}
 use Rattle.doc_model.specs.declared.command.Command.{Command}
 use Rattle.run_words.specs.Requests.{RunAsked}
@@ -16,7 +17,6 @@ use Rattle.script_files.specs.declared.fault.Fault.{Fault}
 use Rattle.script_files.specs.declared.fault.Fault.TheVariants.{Memory}
 use Rattle.store_run.specs.Finished.{Comes}
 use Rattle.store_run.specs.declared.finished.Finished.{Finished}
-use Rattle.store_run.specs.declared.options.Options.{Options}
 use Rattle.doc_run.specs.declared.clients.Ran.{Ran}
 
 -- the options that the words of a run ask for

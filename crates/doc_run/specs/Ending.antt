@@ -5,6 +5,7 @@
 use Rattle.std.specs.Prelude.{◌≡◌, ◌≢◌, ℕ, ◌*◌, ◌<◌, ◌≤◌, List, Option}
 use Rattle.std.specs.Prelude.{None, Some, IsNone, IsSomeAnd, Result, Err, ◌⊎◌, map, true}
 use Rattle.std.specs.Io.KnownBytes.{Appends}
+use Rattle.client_run.specs.declared.options.Options.{Options}
 use Rattle.doc_model.specs.Merge.{IsMerge}
 use Rattle.doc_model.specs.declared.command.Command.{Command}
 use Rattle.doc_model.specs.declared.command.Entry.{Entry}
@@ -25,7 +26,6 @@ use Rattle.script_files.specs.declared.fault.Fault.{Fault}
 use Rattle.script_files.specs.declared.fault.Fault.TheVariants.{ReadFault, TooLarge}
 use Rattle.script_generator.specs.Generated.{generated_of}
 use Rattle.store_run.specs.declared.finished.Finished.{Finished}
-use Rattle.store_run.specs.declared.options.Options.{Options}
 use Rattle.doc_run.specs.Clients.{ComesBy, IsMade, default_options, options_of}
 use Rattle.doc_run.specs.Reports.{IsReportOf}
 use Rattle.doc_run.specs.Request.{ByPrint}

@@ -1,6 +1,7 @@
 //! A run of clients, from where their scripts come from to what it came to.
 ghost use Rattle.std.specs.Prelude.{◌≡◌, ℕ, ◌+◌, ◌*◌, ◌≤◌, IsErrOf, OnOk, length};
 ghost use Rattle.std.specs.Prelude.{map, sum_by};
+ghost use Rattle.client_run.specs.Options.{IsWithin};
 ghost use Rattle.outside.specs.Calls.{IsUnbroken, IsOrderly};
 ghost use Rattle.outside.specs.Causes.{Rose};
 ghost use Rattle.doc_run.specs.Clients.{DecidesRun, Finishes, FinishesWith, MakesRun, options_of};
@@ -9,7 +10,6 @@ ghost use Rattle.run_words.specs.Requests.{run_asked_by};
 ghost use Rattle.script_files.specs.Files.{OpensInTurn, files_read, opened};
 ghost use Rattle.script_files.specs.Reading.{lists_of};
 ghost use Rattle.script_files.specs.Scripts.{StopsBehind};
-ghost use Rattle.store_run.specs.Opened.{IsWithin};
 
 use cmd_text::Form;
 use doc_model::Command;

@@ -3,7 +3,7 @@
 //! A gate lets a test choose when commands come. It answers freely, so the trait has no clause, and
 //! a client that is sent away asks again. Its calls take no runtime: what it has to remember stands
 //! in atomics.
-ghost use Rattle.std.specs.Prelude.{IsTrue};
+ghost use Rattle.std.specs.Prelude.{◌≡◌, IsTrue, false};
 
 use std::sync::atomic::{AtomicBool, AtomicU64, Ordering};
 
@@ -117,4 +117,38 @@ impl Gate for HoldGate {
     }
 
     fn done(&self, _client: u32, _number: u32) {}
+}
+
+/// A gate that holds the first command of client 0, the number that is no client's, until one
+/// command of one client has its reply. It lets all else begin at once.
+#[derive(Drop)]
+pub struct AfterGate {
+    client: u32,
+    number: u32,
+    is_done: AtomicBool,
+}
+
+impl AfterGate {
+    /// A gate that was told of no reply yet.
+    pub fn new(client: u32, number: u32) -> AfterGate {
+        AfterGate {
+            client,
+            number,
+            is_done: AtomicBool::new(false),
+        }
+    }
+}
+
+impl Gate for AfterGate {
+    fn go(&self, client: u32, number: u32) -> bool
+        ensures held { result ≡ false → (client ≡ 0) × (number ≡ 1) }
+    {
+        client != 0 || number != 1 || self.is_done.load(Ordering::SeqCst)
+    }
+
+    fn done(&self, client: u32, number: u32) {
+        if client == self.client && number == self.number {
+            self.is_done.store(true, Ordering::SeqCst);
+        }
+    }
 }

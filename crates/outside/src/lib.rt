@@ -26,7 +26,7 @@ mod writing;
 pub use course::Course;
 pub use fault::OutFault;
 pub use file_shelf::FileShelf;
-pub use gate::{CrossGate, Gate, HoldGate, OpenGate};
+pub use gate::{AfterGate, CrossGate, Gate, HoldGate, OpenGate};
 pub use mem_shelf::MemShelf;
 pub use mem_sink::MemSink;
 pub use reading::{READ_LIMIT, Shelf, read_file};

@@ -2,36 +2,26 @@
 --
 -- counted   the state that the image shows, with the versions that stay
 -- comes     all of it
-use Rattle.std.proofs.Common.{◌≡◌, ◌≤◌, ◌<◌, ◌+◌, ◌++◌, ◌⊎◌, ℕ}
+use Rattle.std.proofs.Common.{◌≡◌, ◌≤◌, ◌<◌, ◌+◌, ℕ}
 use Rattle.std.proofs.Common.{zero, suc, Bool, true, false, List}
-use Rattle.std.proofs.Common.{[], ◌∷◌, length, map, inl, inr, refl, sym, ◌∙◌, ap, subst}
+use Rattle.std.proofs.Common.{[], ◌∷◌, length, map, refl, sym, ◌∙◌, ap, subst}
 use Rattle.std.proofs.Common.{arith}
-use Rattle.std.proofs.Common.{append_assoc}
 use Rattle.std.specs.Prelude.{◌||◌}
 use Rattle.std.specs.List.{list_any}
 use Rattle.std.proofs.lemmas.List.Folds.{list_any-append}
 use mathlib.Core.Option.{some}
 use lib.ListN.{get_elem?}
-use Rattle.beside_collector.specs.Duty.{duty_on}
-use Rattle.beside_collector.specs.Serving.{off_first}
-use Rattle.client_threads.specs.Clients.{places_for}
-use Rattle.client_threads.specs.Taken.{AllHadRoom}
+use Rattle.client_run.specs.Options.{limits_of, shape_of}
+use Rattle.client_run.specs.declared.options.Options.{Options}
+use Rattle.client_threads.proofs.AtClose.{AtClose, agreed, cycles_made, few_cycles, service, tidy}
+use Rattle.client_threads.proofs.AtClose.{tied}
 use Rattle.client_turns.specs.Runs.{was_full}
 use Rattle.closed_store.specs.Chain.{ShowsVersions}
 use Rattle.closed_store.specs.Closing.{AreJoined, EndedStore}
 use Rattle.closed_store.proofs.Chaining.{versions_shown}
 use Rattle.closed_store.proofs.Claiming.{all_claimed}
 use Rattle.closed_store.proofs.Out.{joined_out}
-use Rattle.collector.specs.Cycles.{Served}
-use Rattle.collector.specs.Over.{MeetOver}
-use Rattle.collector.proofs.Leaving.{tidy_at_close}
 use Rattle.core_machine.specs.Collector.{Collector}
-use Rattle.core_machine.specs.declared.events.Event.TheVariants as event
-use Rattle.core_machine.specs.declared.events.Found.TheVariants as finds
-use Rattle.core_machine.specs.declared.events.Taken.{Taken}
-use Rattle.cell_words.specs.declared.controls.Control.{Control}
-use Rattle.dlg_core.specs.Collects.{IsTidy}
-use Rattle.dlg_core.specs.FirstRows.{AreRows}
 use Rattle.dlg_core.specs.Sums.{claims_of}
 use Rattle.doc_model.specs.Agreement.{rising}
 use Rattle.doc_model.specs.ClientLog.{ClientLog}
@@ -39,21 +29,13 @@ use Rattle.doc_model.specs.Merge.{all_entries}
 use Rattle.doc_model.specs.declared.command.Command.{Command}
 use Rattle.doc_model.specs.declared.command.Entry.{Entry}
 use Rattle.doc_model.specs.declared.totals.Totals.{Totals}
-use Rattle.heap_rule.specs.Rule.{took}
-use Rattle.heap_rule.specs.Shape.{IsSound, Shape}
-use Rattle.heap_rule.specs.declared.view.Place.{Place}
+use Rattle.heap_rule.specs.Shape.{Shape}
 use Rattle.heap_rule.specs.declared.view.Place.TheVariants as places
 use Rattle.heap_rule.specs.declared.view.View.{View}
 use Rattle.heap_table.specs.Images.{ImageView, Shows}
 use Rattle.run_history.specs.Agreed.{LogsAgree}
-use Rattle.run_history.specs.Left.{AreLeft}
-use Rattle.run_history.proofs.Agreeing.{logs_agree}
-use Rattle.run_history.proofs.Indices.{at_once}
-use Rattle.store_run.specs.Finished.{Comes, IsTiedTo, IsTotals, commands_of}
-use Rattle.store_run.specs.Opened.{IsWithin, limits_of, shape_of}
+use Rattle.store_run.specs.Finished.{Comes, IsTotals, commands_of}
 use Rattle.store_run.specs.Parts.{IsCounted}
-use Rattle.store_run.specs.declared.options.Options.{Options}
-use Rattle.version_rule.specs.Opening.{first_rows}
 use Rattle.version_rule.specs.Pass.{Pass}
 
 -- an entry of a log that found the heap full
@@ -123,58 +105,10 @@ full_log (g ∷ logs) h =
     (sym (list_any-append was_full g.entries (all_entries logs)) ∙ h)
     (λ rest. full_log logs rest)
 
-rows_are : AreRows first_rows
-rows_are zero lt = refl
-rows_are (suc zero) lt = refl
-rows_are (suc (suc zero)) lt = refl
-rows_are (suc (suc (suc c))) lt = absurd (omega (arith, lt))
-
-sound : (o : Options) (clients : ℕ) → IsWithin o → IsSound (shape_of o clients)
-sound o clients within = record {
-  rows = rows_are;
-  first = refl;
-  fit = let least = within.cells.0 in omega (arith, least);
-  few = within.cells.1;
-}
-
-off_or_not : (held : Bool) → (off_first held ≡ []) ⊎ (off_first held
-    ≡ took (event.Duty false) finds.Stored ∷ [])
-off_or_not true = inr refl
-off_or_not false = inl refl
-
-off_was : (held : Bool) → off_first held ≡ took (event.Duty false) finds.Stored ∷ []
-    → held ≡ true
-off_was true is = refl
-off_was false is = absurd cc
-
 there : {A : Type 0} (xs : List A) (i : ℕ) (x : A) → get_elem? xs i ≡ some x → i < length xs
 there [] i x h = absurd cc
 there (y ∷ ys) zero x h = omega arith
 there (y ∷ ys) (suc i) x h = let rest = there ys i x h in omega (arith, rest)
-
--- how many places a joined mutator had
-abbrev room_in : Place Pass → ℕ
-room_in places.Unsplit = 0
-room_in places.Away = 0
-room_in (places.Joined share) = share.room
-
--- What is known where the heap of a run is closed: of its clients, and of its collector.
-pub record AtClose (o : Options) (scripts : List (List Command)) (logs : List ClientLog)
-    (v : View Pass) : Type 0 where
-  pub least : 1 ≤ length scripts
-  pub within : IsWithin o
-  pub many : length logs ≡ length scripts
-  pub left : AreLeft (limits_of o) o.cells logs v.places (length scripts)
-  pub rooms : AllHadRoom (places_for o.minor) v.places (length scripts)
-  -- the collector's trail and its control
-  pub held_back : Bool
-  pub made : ℕ
-  pub freed : ℕ
-  pub added : List Taken
-  pub trail : v.trail ≡ duty_on o.cycles ++ (off_first held_back ++ added)
-  pub served : Served (length scripts) o.cycles made freed added
-  pub late : held_back ≡ true → MeetOver added
-  pub cycles : v.control.cycles ≡ made
 
 -- What the totals are known by: each state that the image shows.
 pub record AreCounted (logs : List ClientLog) (image : ImageView) (v : View Pass) (cells : ℕ)
@@ -186,22 +120,22 @@ pub record AreCounted (logs : List ClientLog) (image : ImageView) (v : View Pass
   pub all_cells : totals.used + totals.free ≡ cells
 
 module _ (o : Options) (scripts : List (List Command)) (logs : List ClientLog)
-    (image : ImageView) (v : View Pass) (at : AtClose o scripts logs v) where
+    (image : ImageView) (v : View Pass)
+    (at : AtClose o (length scripts) (length scripts) logs v) where
   joined : AreJoined (length scripts) v.places
   joined = λ i lt. let one = at.left i lt in record { share = one.share; share_at = one.share_at }
 
   module _ (ended : EndedStore (shape_of o (length scripts)) image.words v)
       (shown : Shows image ended.shows.core) where
-    agreed : LogsAgree (limits_of o) (shape_of o (length scripts)) image.words v logs ended
-    agreed = logs_agree (limits_of o) (shape_of o (length scripts)) image.words v logs ended
-        at.least at.many at.left
+    agrees : LogsAgree (limits_of o) (shape_of o (length scripts)) image.words v logs ended
+    agrees = agreed o (length scripts) (length scripts) logs image.words v at ended
 
     stay : ShowsVersions ended.shows.core o.keep ended.shows.kept.trees
     stay =
         subst (λ (keep : ℕ). ShowsVersions ended.shows.core keep ended.shows.kept.trees)
-        agreed.keep
-        (versions_shown (shape_of o (length scripts)) image.words v ended agreed.cut.client
-        agreed.cut.pass agreed.cut.pass_at agreed.cut.far
+        agrees.keep
+        (versions_shown (shape_of o (length scripts)) image.words v ended agrees.cut.client
+        agrees.cut.pass agrees.cut.pass_at agrees.cut.far
         (joined_out (shape_of o (length scripts)) image.words v ended joined))
 
     counted_here : (freed : ℕ) → v.part.number_freed ≡ freed → IsCounted image freed
@@ -216,85 +150,45 @@ module _ (o : Options) (scripts : List (List Command)) (logs : List ClientLog)
       versions = stay;
     }
 
-    tied_here : (i : ℕ) → i < length scripts
-        → IsTiedTo (limits_of o) o.cells (places_for o.minor) logs v.places i
-    tied_here i lt =
-        let one = at.left i lt in
-        let had = at.rooms i lt in
-        let its = agreed.clients i one.log one.share one.log_at one.share_at in
-        record {
-          log = one.log;
-          log_at = one.log_at;
-          share = one.share;
-          share_at = one.share_at;
-          room_is = ap (λ (p : Place Pass). room_in p)
-              (at_once v.places i (places.Joined one.share) (places.Joined had.share)
-              one.share_at had.share_at) ∙ had.room_is;
-          tied = its.tied;
-          shows = its.shows;
-        }
-
     full_here : list_any was_full (all_entries logs) ≡ true
         → o.cells ≤ claims_of ended.shows.core + 3
     full_here met =
         let found = full_log logs met in
         let within = there logs found.client found.log found.log_at in
         let one = at.left found.client (omega (arith, within, at.many)) in
-        let its = agreed.clients found.client found.log one.share found.log_at one.share_at in
+        let its = agrees.clients found.client found.log one.share found.log_at one.share_at in
         let had = its.full found.place found.entry found.entry_at found.full in
         all_claimed (shape_of o (length scripts)) image.words v ended found.client one.share
         had.before had.stretch had.after one.share_at had.is had.meets
-
-    tidy_here : at.made < o.cycles → IsTidy ended.shows.core
-    tidy_here fewer =
-        let on = duty_on o.cycles in
-        let off = off_first at.held_back in
-        let last = took (event.Duty false) finds.Stored ∷ [] in
-        tidy_at_close (shape_of o (length scripts)) image.words v o.cycles at.made at.freed
-        (on ++ off) at.served.made last (sound o (length scripts) at.within) ended
-        (at.trail ∙ ap (λ (ts : List Taken). on ++ (off ++ ts)) at.served.split
-        ∙ sym (append_assoc on off (at.served.made ++ last))) at.served.cycles fewer
-
-    cycles_here : ended.shows.core.control.cycles ≡ at.made
-    cycles_here = ap (λ (c : Control). c.cycles) ended.collector.control ∙ at.cycles
 
     comes_here : (totals : Totals) → AreCounted logs image v o.cells totals
         → map commands_of logs ≡ scripts → Comes o scripts logs image v totals
     unfolding counted_here
     comes_here totals are answered =
         let totals_are = are.are (counted_here are.freed are.freed_is) in
-        let cycles = totals_are.cycles ∙ cycles_here in
-        let most = at.served.cycles.most_are in
-        let claimed = agreed.claimed in
+        let n = length scripts in
+        let cycles = totals_are.cycles ∙ cycles_made o n n logs image.words v at ended in
+        let claimed = agrees.claimed in
         let a = totals_are.versions in
         let b = totals_are.claimed in
         record {
-          clients = agreed.agree.clients ∙ ap (λ (n : ℕ). rising 0 n) at.many;
+          clients = agrees.agree.clients ∙ ap (λ (n : ℕ). rising 0 n) at.many;
           answered = answered;
           ended = ended;
           shown = shown;
-          tied = tied_here;
-          agree = agreed.agree;
-          merged = agreed.legal;
+          tied = λ i lt. tied o n n logs image.words v at ended i lt (omega arith);
+          agree = agrees.agree;
+          merged = agrees.legal;
           totals_are = totals_are;
           balance = are.balance;
           all_cells = are.all_cells;
           stay = stay;
-          made = agreed.made ∙ ap (λ (n : ℕ). n + 1) (sym a);
+          made = agrees.made ∙ ap (λ (n : ℕ). n + 1) (sym a);
           claims = omega (arith, claimed, a, b);
           full = λ met. let whole = full_here met in omega (arith, whole, b);
-          service = record {
-            off = off_first at.held_back;
-            off_is = off_or_not at.held_back;
-            served = at.added;
-            trail_is = at.trail;
-            freed = at.freed;
-            serves = subst (λ (n : ℕ). Served (length scripts) o.cycles n at.freed at.added)
-                (sym cycles) at.served;
-            late = λ off. at.late (off_was at.held_back off);
-          };
-          cycles = omega (arith, most, cycles);
-          tidy = λ fewer. tidy_here (omega (arith, fewer, cycles));
+          service = service o n n logs image.words v at ended totals.cycles cycles;
+          cycles = few_cycles o n n logs image.words v at ended totals.cycles cycles;
+          tidy = tidy o n n logs image.words v at ended totals.cycles cycles;
         }
 
   -- the heap's shape is that of the run

@@ -5,26 +5,20 @@
 -- its words show at the close, and of the trails and passes that its seats left.
 -- Source: this project's.
 use Rattle.std.specs.Prelude.{ℕ, ◌≡◌, ◌≤◌, ◌<◌, ◌+◌, ◌-◌}
-use Rattle.std.specs.Prelude.{◌++◌, ◌⊎◌, true, false}
-use Rattle.std.specs.Prelude.{List, [], ◌∷◌, length, map}
+use Rattle.std.specs.Prelude.{true}
+use Rattle.std.specs.Prelude.{List, length, map}
 use Rattle.std.specs.List.{list_any}
-use mathlib.Core.Option.{some}
-use lib.ListN.{get_elem?}
-use Rattle.beside_collector.specs.Duty.{duty_on}
+use Rattle.client_run.specs.Options.{limits_of, shape_of}
+use Rattle.client_run.specs.declared.options.Options.{Options}
 use Rattle.client_threads.specs.Clients.{places_for}
-use Rattle.client_turns.specs.Runs.{ShowsRun, was_full}
+use Rattle.client_threads.specs.Ends.{IsService, IsTiedTo}
+use Rattle.client_turns.specs.Runs.{was_full}
 use Rattle.closed_store.specs.Chain.{ShowsVersions}
 use Rattle.closed_store.specs.Closing.{EndedStore}
-use Rattle.collector.specs.Cycles.{Served}
-use Rattle.collector.specs.Over.{MeetOver}
 use Rattle.core_machine.specs.State.{State, free_count_of}
-use Rattle.core_machine.specs.declared.events.Event.TheVariants as event
-use Rattle.core_machine.specs.declared.events.Found.TheVariants as finds
-use Rattle.core_machine.specs.declared.events.Taken.{Taken}
 use Rattle.dlg_core.specs.Collects.{IsTidy}
 use Rattle.dlg_core.specs.Sums.{claims_of, used_count_of}
 use Rattle.doc_model.specs.Agreement.{Agree, MergedIsLegal, ok_places, rising}
-use Rattle.doc_model.specs.Answers.{Limits}
 use Rattle.doc_model.specs.ClientLog.{ClientLog}
 use Rattle.doc_model.specs.Merge.{IsMerge, all_entries}
 use Rattle.doc_model.specs.Store.{tree_at}
@@ -32,34 +26,14 @@ use Rattle.doc_model.specs.declared.command.Command.{Command}
 use Rattle.doc_model.specs.declared.command.Entry.{Entry}
 use Rattle.doc_model.specs.declared.totals.Totals.{Totals}
 use Rattle.doc_tree.specs.Tree.{DocTree, count}
-use Rattle.heap_rule.specs.Rule.{took}
-use Rattle.heap_rule.specs.declared.view.Place.{Place}
 use Rattle.heap_rule.specs.declared.view.Place.TheVariants as places
-use Rattle.heap_rule.specs.declared.view.Share.{Share}
 use Rattle.heap_rule.specs.declared.view.View.{View}
 use Rattle.heap_table.specs.Images.{ImageView, Shows}
-use Rattle.store_run.specs.Opened.{limits_of, shape_of}
-use Rattle.store_run.specs.declared.options.Options.{Options}
-use Rattle.trails.specs.Marks.{marks_of}
 use Rattle.version_rule.specs.Pass.{Pass}
-use Rattle.version_rule.specs.Tied.{Tied}
 
 -- The commands of a log.
 abbrev pub commands_of : ClientLog → List Command
 commands_of log = map (λ (e : Entry). e.command) log.entries
-
--- The log with this index and what the mutator with this index left: its seat was joined, the log
--- is tied to its pass, and its trail shows what the log tells of. So many cells has the heap, and so
--- many places the mutator.
-pub record IsTiedTo (l : Limits) (cells room : ℕ) (logs : List ClientLog) (joined : List (Place Pass))
-    (i : ℕ) : Type 0 where
-  pub log : ClientLog
-  pub log_at : get_elem? logs i ≡ some log
-  pub share : Share Pass
-  pub share_at : get_elem? joined i ≡ some (places.Joined share)
-  pub room_is : share.room ≡ room
-  pub tied : Tied l share.pass log
-  pub shows : ShowsRun cells log.entries (marks_of share.trail)
 
 -- What the totals count: entries and new versions of the logs; of the state at the close claims,
 -- frees, cells and cycles; and the nodes of the latest tree.
@@ -73,21 +47,6 @@ pub record IsTotals (s : State) (logs : List ClientLog) (trees : List DocTree) (
   pub free : t.free ≡ free_count_of s
   pub cycles : t.cycles ≡ s.control.cycles
   pub nodes : t.nodes ≡ count (tree_at trees (length trees - 1))
-
--- The collector's trail: on duty where it may make cycles; then perhaps off duty, where it has no
--- thread of its own; then the service. Off duty stands nowhere else, since there is none among the
--- cycles of a service. One that went off duty first serves behind the clients.
-pub record IsService (most mutators count : ℕ) (trail : List Taken) : Type 0 where
-  pub off : List Taken
-  pub off_is : (off ≡ []) ⊎ (off ≡ took (event.Duty false) finds.Stored ∷ [])
-  pub served : List Taken
-  pub trail_is : trail ≡ duty_on most ++ (off ++ served)
-  -- whole cycles, and fewer than it may make only where two of them began after every mutator was
-  -- found over; and then off duty
-  pub freed : ℕ
-  pub serves : Served mutators most count freed served
-  -- where it went off duty first, each Poll and each AnswerOut found its mutator over
-  pub late : off ≡ took (event.Duty false) finds.Stored ∷ [] → MeetOver served
 
 pub record Comes (o : Options) (scripts : List (List Command)) (logs : List ClientLog)
     (image : ImageView) (passes : View Pass) (totals : Totals) : Type 0 where

@@ -2,6 +2,8 @@
 -- Source: this project's.
 use Rattle.std.specs.Prelude.{ℕ, ◌≡◌, List, length, Vec}
 use Rattle.std.specs.declared.alloc.Global.{Global}
+use Rattle.client_run.specs.Options.{client_limits}
+use Rattle.client_run.specs.declared.options.Options.{Options}
 use Rattle.client_threads.specs.Opened.{IsOpenStore}
 use Rattle.closed_store.specs.Chain.{ShowsVersions}
 use Rattle.core_machine.specs.InRange.{IsShaped}
@@ -10,9 +12,7 @@ use Rattle.dlg_core.specs.Sums.{IsBalanced}
 use Rattle.doc_model.specs.declared.command.Command.{Command}
 use Rattle.doc_tree.specs.Tree.{DocTree}
 use Rattle.heap_table.specs.Images.{ImageView, Shows}
-use Rattle.store_run.specs.Opened.{client_limits}
 use Rattle.store_run.specs.declared.opened.Opened.{Opened}
-use Rattle.store_run.specs.declared.options.Options.{Options}
 
 -- The heap of a run is opened, with a mutator for each client, and its clients have not begun.
 abbrev pub IsOpened : Options → List (Vec Command Global) → Opened → Type 0

@@ -6,17 +6,16 @@
 //! are a legal history of one store, whose kept versions stand in the image; the totals are those
 //! of the image and the logs. How a script is read and a log written is left to that layer.
 //!
-//! Reading order: specs/Opened, Finished; then `options`, `finished`; specs/Parts; then `totals`,
+//! Reading order: client_run specs/Options; specs/Finished, `finished`; specs/Parts; then `totals`,
 //! `at_work`, `opened`, `running`.
 #![tactic(auto)]
 
 mod at_work;
 mod finished;
 mod opened;
-mod options;
 mod running;
 mod totals;
 
+pub use client_run::Options;
 pub use finished::Finished;
-pub use options::Options;
 pub use running::run_clients;

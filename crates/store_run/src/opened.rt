@@ -4,17 +4,17 @@
 //! An opened heap can't be let go, and no other module can take it apart: `run_opened` alone does,
 //! and that closes it. So whoever opened one closes it, also where memory is wanting.
 ghost use Rattle.std.specs.Prelude.{◌≡◌, ◌≤◌, All, IfOk, [], false, length, map, vec_capacity};
+ghost use Rattle.client_run.specs.Options.{IsWithin};
 ghost use Rattle.client_threads.specs.Clients.{AllDone, AllReady};
 ghost use Rattle.client_threads.specs.Taken.{AreFronts, lists_of};
 ghost use Rattle.store_run.specs.Finished.{Comes, commands_of};
-ghost use Rattle.store_run.specs.Opened.{IsWithin};
 ghost use Rattle.store_run.specs.Parts.{IsOpened};
 
 use crate::at_work::ClientsAtWork;
 use crate::finished::Finished;
-use crate::options::Options;
 use crate::totals::totals_of;
 use beside_collector::{run_beside, serve_after};
+use client_run::Options;
 use client_threads::{Client, OpenStore, open_store, run_each, take_back};
 use collector::NoMemory;
 use doc_model::{Command, Log};

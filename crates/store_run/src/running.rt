@@ -1,12 +1,12 @@
 //! The whole run, from the opening of the heap to its close.
 ghost use Rattle.std.specs.Prelude.{◌≤◌, All, IfOk, length};
+ghost use Rattle.client_run.specs.Options.{IsWithin};
 ghost use Rattle.client_threads.specs.Taken.{lists_of};
 ghost use Rattle.store_run.specs.Finished.{Comes};
-ghost use Rattle.store_run.specs.Opened.{IsWithin};
 
 use crate::finished::Finished;
 use crate::opened::{Closed, open_run, run_opened};
-use crate::options::Options;
+use client_run::Options;
 use collector::NoMemory;
 use doc_model::Command;
 use outside::Gate;

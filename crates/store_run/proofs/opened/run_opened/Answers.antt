@@ -1,21 +1,18 @@
 use Rattle.std.proofs.Common.{◌≡◌, ◌≤◌, ◌∙◌, ℕ, List, All, ap, arith, length, map}
 use Rattle.std.proofs.Common.{refl, subst, sym}
-use Rattle.std.specs.Prelude.{Vec}
-use Rattle.std.specs.declared.alloc.Global.{Global}
 use Rattle.std.proofs.lemmas.List.{length-map}
+use Rattle.client_run.specs.Options.{shape_of}
 use Rattle.client_threads.specs.Taken.{lists_of}
 use Rattle.doc_model.specs.ClientLog.{ClientLog}
-use Rattle.doc_model.specs.declared.command.Command.{Command}
 use Rattle.heap_rule.specs.Shape.{Shape}
 use Rattle.heap_rule.specs.declared.view.Place.{Place}
 use Rattle.heap_rule.specs.declared.view.View.{View}
 use Rattle.store_run.specs.Finished.{Comes, IsTotals, commands_of}
-use Rattle.store_run.specs.Opened.{shape_of}
 use Rattle.version_rule.specs.Pass.{Pass}
 use Rattle.store_run.proofs.Closed.{comes, counted}
-use Rattle.store_run.proofs.Ending.{by_number, closing, late_seat, may_serve, shape_there}
-use Rattle.store_run.proofs.Ending.{short_logs}
-use Rattle.store_run.proofs.Ending.{stands_places, stands_seat, still_seat}
+use Rattle.client_threads.proofs.Serving.{late_seat, may_serve, stands_places, stands_seat}
+use Rattle.client_threads.proofs.Serving.{still_seat}
+use Rattle.store_run.proofs.Ending.{closing, many_lists, shape_there, short_logs}
 use Rattle.store_run.proofs.opened.run_opened.Goals as goal
 
 pub totals_of-totals-requires-clause-short : goal.totals_of-totals-requires-clause-short
@@ -34,9 +31,9 @@ totals_of-totals-requires-clause-counted g c =
     let logs = c.take_back-failed.new.logs.items in
     let at = closing o scripts c.args.opened opened c.client_limits-limits.result
     c.args.opened.store.queue c.run_beside-clients.result.1 c.take_back-failed.new.seat new
-    c.run_beside-clients.result.2 logs c.requires.some c.requires.options
+    c.run_beside-clients.result.2 logs (lists_of scripts) c.requires.some c.requires.options
     c.client_limits-limits.ensures.limits c.run_beside-clients.ensures.stands
-    c.take_back-failed.ensures.taken c.serve_after-seat.ensures.served in
+    c.take_back-failed.ensures.taken c.serve_after-seat.ensures.served (many_lists scripts) in
     counted o (lists_of scripts) logs c.close-image.result.0 new.me at
     c.args.opened.store.heap.shape (shape_there o scripts c.args.opened opened)
     c.close-image.ensures.ended
@@ -99,16 +96,14 @@ returns-clause-comes g c =
     let taken = c.take_back-failed.ensures.taken in
     let answered = map commands_of logs in
     let many : length answered ≡ length (lists_of scripts) =
-    length-map logs commands_of ∙ taken.many
-    ∙ sym (length-map scripts (λ (script : Vec Command Global). script.items)) in
+    length-map logs commands_of ∙ taken.many ∙ sym (many_lists scripts) in
     let shape = shape_there o scripts c.args.opened opened
     ∙ ap (λ (n : ℕ). shape_of o n) (sym many) in
-    let at = by_number o (lists_of scripts) answered logs new.me many
-    (closing o scripts c.args.opened opened c.client_limits-limits.result
+    let at = closing o scripts c.args.opened opened c.client_limits-limits.result
     c.args.opened.store.queue c.run_beside-clients.result.1 c.take_back-failed.new.seat new
-    c.run_beside-clients.result.2 logs c.requires.some c.requires.options
+    c.run_beside-clients.result.2 logs answered c.requires.some c.requires.options
     c.client_limits-limits.ensures.limits c.run_beside-clients.ensures.stands
-    taken c.serve_after-seat.ensures.served) in
+    taken c.serve_after-seat.ensures.served (many ∙ many_lists scripts) in
     let whole = comes o answered logs image new.me at
     c.args.opened.store.heap.shape shape
     c.close-image.ensures.ended (c.close-image.ensures.shown c.close-image.ensures.ended) totals

@@ -1,10 +1,11 @@
--- What a run opens: the limits of its options, and the heap that they ask for.
+-- What the options of a run come to: their ranges, the limits by which clients are answered, and the
+-- heap that they ask for.
 -- Source: this project's.
 use Rattle.std.specs.Prelude.{ℕ, ◌≤◌}
+use Rattle.client_run.specs.declared.options.Options.{Options}
 use Rattle.client_run.specs.declared.session.Limits.{Limits as ClientLimits}
 use Rattle.doc_model.specs.Answers.{Limits}
 use Rattle.heap_rule.specs.Shape.{Shape}
-use Rattle.store_run.specs.declared.options.Options.{Options}
 use Rattle.version_rule.specs.Opening.{first_rows}
 
 -- each number is within its range

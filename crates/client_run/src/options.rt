@@ -1,6 +1,6 @@
 ghost use Rattle.std.specs.Prelude.{◌≡◌};
 
-use client_run::Limits;
+use crate::session::Limits;
 
 /// How a store is run, by numbers.
 #[derive(Clone, Copy, Debug, PartialEq, Eq)]
@@ -18,10 +18,10 @@ pub struct Options {
 }
 
 impl Options {
-    ghost use Rattle.store_run.specs.Opened.{client_limits};
+    ghost use Rattle.client_run.specs.Options.{client_limits};
 
     /// What a client's session is told.
-    pub(crate) fn client_limits(&self) -> Limits
+    pub fn client_limits(&self) -> Limits
         ensures limits { result ≡ client_limits self.now }
     {
         Limits {

@@ -1,0 +1,59 @@
+-- What the guest tells of a version, and what it leaves.
+-- Source: this project's.
+use Rattle.std.specs.Prelude.{ℕ, ◌≡◌, ◌≤◌, ◌<◌, List, [], Option, Some, None, Vec, true}
+use Rattle.std.specs.declared.alloc.Global.{Global}
+use Rattle.client_run.specs.declared.session.Limits.{Limits}
+use Rattle.client_threads.specs.Clients.{places_for}
+use Rattle.doc_tree.specs.Tree.{DocTree, count}
+use Rattle.heap_table.specs.Seats.{HeapId, IsSeatOf}
+use Rattle.mutator_seat.specs.Bound.{Bound}
+use Rattle.trails.specs.Asks.{InOrder}
+use Rattle.trails.specs.Marks.{Mark, marks_of}
+use Rattle.version_dump.specs.Dump.{dump_of}
+use Rattle.version_rule.specs.Fits.{Fits, HasTree}
+use Rattle.version_rule.specs.Pass.{Pass}
+use Rattle.version_store.specs.Calls.{version_asks}
+use Rattle.version_store.specs.Lasts.{IsSameMutator, marks}
+use Rattle.doc_export.specs.declared.guest.Copied.{Copied}
+use Rattle.doc_export.specs.declared.guest.Through.{Through}
+
+-- the bytes are the dump of the version with this number and this tree; there are none exactly where
+-- the tree has more nodes than a dump may have
+abbrev pub IsDumpOf : ℕ → DocTree → Option (Vec ℕ Global) → Type 0
+IsDumpOf version t None = 10_000 < count t
+IsDumpOf version t (Some bytes) = (count t ≤ 10_000) × (bytes.items ≡ dump_of version t)
+
+-- By the pass and the trail of who tells of a version: it is the latest that was seen, whose box the
+-- anchor named. Of whatever list of versions fits the pass, it is the tree of that version which has
+-- so many nodes, and which was dumped.
+pub record Tells (p : Pass) (shown : List Mark) (version nodes : ℕ)
+    (bytes : Option (Vec ℕ Global)) : Type 0 where
+  pub latest : p.seen ≡ version
+  pub cell : ℕ
+  pub read : InOrder (version_asks cell version) shown
+  pub tree : DocTree
+  pub fits : (trees : List DocTree) → Fits trees p → HasTree trees version tree
+  pub counted : nodes ≡ count tree
+  pub dumped : IsDumpOf version tree bytes
+
+-- so it is of the version, if there is one
+abbrev pub MayTell : Pass → List Mark → Option Copied → Type 0
+MayTell p shown None = Unit {0}
+MayTell p shown (Some c) = Tells p shown c.version c.count c.bytes
+
+-- The latest version was taken by a mutator, which committed nothing.
+pub record Copies (old new : Bound Pass) (copied : Option Copied) : Type 0 where
+  pub same : IsSameMutator old new
+  pub keep : new.seat.me.pass.keep ≡ old.seat.me.pass.keep
+  pub commits : new.seat.me.pass.commits ≡ old.seat.me.pass.commits
+  pub tells : MayTell new.seat.me.pass (marks new) copied
+
+-- The guest is through: its mutator, the one with this number, is over, and made no version.
+pub record IsThrough (heap : HeapId) (l : Limits) (place : ℕ) (t : Through) : Type 0 where
+  pub seat_is : IsSeatOf heap t.seat
+  pub number_is : t.seat.me.number ≡ place
+  pub room : t.seat.me.room ≡ places_for l.minor
+  pub over : t.seat.me.presence.over ≡ true
+  pub keep : t.seat.me.pass.keep ≡ l.keep
+  pub commits : t.seat.me.pass.commits ≡ []
+  pub tells : MayTell t.seat.me.pass (marks_of t.seat.me.trail) t.copied

@@ -1,0 +1,17 @@
+use cell_heap::Passes;
+use doc_model::Log;
+use document_versions::Documents;
+
+/// What a run comes to beside which a version was dumped: what each client was answered, what all
+/// seats had at the close, and the version.
+#[derive(Drop)]
+pub struct Dumped {
+    pub logs: Vec<Log>,
+    pub passes: Passes<Documents>,
+    /// the number of the version
+    pub version: u64,
+    /// how many nodes its tree has
+    pub count: u64,
+    /// its dump, unless the tree has more nodes than a dump may have
+    pub bytes: Option<Vec<u8>>,
+}

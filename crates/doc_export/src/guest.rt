@@ -1,0 +1,123 @@
+//! The guest: it takes the latest version, beside the clients, and commits nothing.
+ghost use Rattle.std.specs.Prelude.{◌≡◌, ◌+◌, ◌≤◌, length, true};
+ghost use Rattle.client_threads.specs.Clients.{IsNewSeat};
+ghost use Rattle.doc_export.specs.Guests.{Copies, IsThrough};
+ghost use Rattle.doc_records.specs.Trees.{tree_of};
+ghost use Rattle.doc_tree.specs.Tree.{count};
+ghost use Rattle.version_rule.specs.Pass.{reading};
+ghost use Rattle.version_store.specs.Held.{IsHeld, root_at};
+ghost use Rattle.version_store.specs.Lasts.{IsSameMutator, LastsAcross};
+
+use client_run::Limits;
+use client_threads::{await_gate, come_in, leave};
+use client_trees::{NodeAt, count};
+use document_versions::Documents;
+use heap_table::CellHeap;
+use minor_heap::MinorHeap;
+use mutator_seat::{MutSeat, Mutator};
+use outside::Gate;
+use std::alloc::Global;
+use std::sync::Wait;
+use version_export::{DumpFault, HeldVersion, dump};
+use version_store::{current, tree};
+
+/// The guest before its turn: the seat of its mutator, and a private heap, that stays empty, for
+/// the readers of trees.
+#[derive(Drop)]
+pub(crate) struct Guest {
+    /// the number of its mutator
+    pub(crate) place: u32,
+    pub(crate) seat: MutSeat<Documents>,
+    pub(crate) minor: MinorHeap,
+}
+
+/// A version as the guest tells of it.
+#[derive(Drop)]
+pub(crate) struct Copied {
+    pub(crate) version: u64,
+    pub(crate) count: u64,
+    pub(crate) bytes: Option<Vec<u8>>,
+}
+
+/// The guest behind its turn. It has no version where it wanted memory.
+#[derive(Drop)]
+pub(crate) struct Through {
+    pub(crate) seat: MutSeat<Documents>,
+    pub(crate) copied: Option<Copied>,
+}
+
+/// The guest's turn, on this thread: when the gate lets it begin, it takes the latest version. Its
+/// mutator comes in before and is over behind.
+pub(crate) fn take_version<R: Wait, G: Gate>(
+    alloc: Global,
+    rt: &R,
+    gate: &G,
+    heap: &CellHeap<Documents>,
+    limits: Limits,
+    guest: Guest,
+) -> Through
+    requires minor { 4_096 ≤ limits.minor }
+    requires guest { IsNewSeat heap.now limits guest.place guest.seat }
+    ensures through { IsThrough heap.now limits guest.place result }
+{
+    let _ = limits;
+    let Guest {
+        place: _,
+        seat,
+        mut minor,
+    } = guest;
+    let mut m = come_in(heap, seat);
+    await_gate(rt, gate, &mut m, 0, 1);
+    let copied = copy_latest(alloc, &mut m, &mut minor);
+    if copied.is_some() {
+        gate.done(0, 1);
+    }
+    Through {
+        seat: leave(m),
+        copied,
+    }
+}
+
+/// Takes the latest version: its number, its nodes and its dump, unless memory is wanting.
+fn copy_latest(
+    alloc: Global,
+    m: &mut Mutator<'_, Documents>,
+    minor: &mut MinorHeap,
+) -> Option<Copied>
+    requires inside { m.old.seat.me.presence.inside ≡ true }
+    requires held { length m.old.seat.me.own.held ≡ 1 }
+    requires room { 20_000 ≤ m.old.seat.me.room }
+    ensures copies { Copies m.old m.new result }
+{
+    let v = current(m);
+    let dumped = dump(alloc, m, minor, v);
+    let nodes = nodes_of(m, minor, v);
+    match dumped {
+        Ok(bytes) => Some(Copied {
+            version: v.number,
+            count: nodes,
+            bytes: Some(bytes),
+        }),
+        Err(DumpFault::TooMany { count: _ }) => Some(Copied {
+            version: v.number,
+            count: nodes,
+            bytes: None,
+        }),
+        Err(DumpFault::NoMemory) => None,
+    }
+}
+
+/// How many nodes the tree of a version has.
+fn nodes_of(m: &mut Mutator<'_, Documents>, minor: &mut MinorHeap, v: HeldVersion) -> u64
+    requires inside { m.old.seat.me.presence.inside ≡ true }
+    requires version { IsHeld m.old v }
+    requires room { length m.old.seat.me.own.held + 16_384 ≤ m.old.seat.me.room }
+    ensures count { result ≡ count (tree_of (root_at m.old v.place)) }
+    ensures pass { m.new.seat.me.pass
+        ≡ reading v.number (tree_of (root_at m.old v.place)) m.old.seat.me.pass }
+    ensures same { IsSameMutator m.old m.new }
+    ensures lasts { LastsAcross m.old m.new }
+{
+    let root = tree(m, v);
+    count(m, minor, NodeAt::Shared(root))
+}

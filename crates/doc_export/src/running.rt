@@ -1,0 +1,68 @@
+//! The whole run, from the opening of the heap to its close.
+ghost use Rattle.std.specs.Prelude.{◌≤◌, All, IfOk, length};
+ghost use Rattle.client_run.specs.Options.{IsWithin};
+ghost use Rattle.client_threads.specs.Taken.{lists_of};
+ghost use Rattle.doc_export.specs.Dumps.{Dumps};
+
+use crate::dumped::Dumped;
+use crate::guest::Copied;
+use crate::opened::{Closed, open_run, run_opened};
+use client_run::Options;
+use collector::NoMemory;
+use doc_model::Command;
+use outside::Gate;
+use std::alloc::Global;
+use std::sync::Wait;
+use std::thread::Threads;
+
+/// Runs the scripts' commands on one store, each script by a client on a thread of its own, beside
+/// the collector, and dumps one version on a thread more: the one that is the latest when the gate
+/// lets the command 1 of client 0 begin. All memory but that of the answers and of the dump is taken
+/// before the first thread begins.
+///
+/// Where no thread could be made for the collector, it serves when all seats are joined.
+///
+/// Before each command its client asks the gate. Where memory is wanting, who wants it ends, the
+/// others go on, and the run answers so behind them.
+pub fn dump_run<R: Threads + Wait + Sync, G: Gate + Sync>(
+    alloc: Global,
+    rt: &R,
+    scripts: &[Vec<Command>],
+    options: &Options,
+    gate: &G,
+) -> Result<Dumped, NoMemory>
+    requires some { 1 ≤ length scripts.now }
+    requires few { length scripts.now ≤ 63 }
+    requires short { All (λ script. length script.items ≤ 100_000) scripts.now }
+    requires options { IsWithin options.now }
+    ensures { IfOk result (λ d. Dumps options.now (lists_of scripts.now) d.logs.items d.passes
+        d.version d.count d.bytes) }
+{
+    let logs = Vec::with_capacity(alloc, scripts.len())?;
+    let opened = open_run(alloc, rt, scripts, options)?;
+    let Closed {
+        logs,
+        passes,
+        copied,
+        failed,
+    } = run_opened(alloc, rt, scripts, options, gate, opened, logs);
+    if failed {
+        return Err(NoMemory);
+    }
+    match copied {
+        Some(
+            Copied {
+                version,
+                count,
+                bytes,
+            },
+        ) => Ok(Dumped {
+            logs,
+            passes,
+            version,
+            count,
+            bytes,
+        }),
+        None => Err(NoMemory),
+    }
+}
