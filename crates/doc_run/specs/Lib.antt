@@ -3,3 +3,4 @@ pub mod Clients
 pub mod Reports
 pub mod Ending
 pub mod Written
+pub mod Census

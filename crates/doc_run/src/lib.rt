@@ -13,6 +13,7 @@
 //! ending, `scripts`, `generated`, `schedule` and `dump`, and `whole_run`.
 #![tactic(auto)]
 
+mod census;
 mod clients;
 mod dump;
 mod generated;

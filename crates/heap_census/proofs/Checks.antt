@@ -43,7 +43,7 @@ record_boxed (field.Cell c) is also = absurd cc
 abbrev Fit : Role → (ℕ → Field) → Type 0
 Fit r f = (i : ℕ) → i < 6 → fits (part_of r i) (f i) ≡ true
 
-two_layouts : (r q : Role) (f : ℕ → Field) → Fit r f → Fit q f → r ≡ q
+pub two_layouts : (r q : Role) (f : ℕ → Field) → Fit r f → Fit q f → r ≡ q
 two_layouts role.Anchor role.Anchor f a b = refl
 two_layouts role.Version role.Version f a b = refl
 two_layouts role.Node role.Node f a b = refl

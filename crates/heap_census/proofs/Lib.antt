@@ -2,6 +2,7 @@ pub mod Checks
 pub mod Counted
 pub mod OneMore
 pub mod Found
+pub mod Judged
 pub mod Lines
 pub mod Parts
 pub mod Named

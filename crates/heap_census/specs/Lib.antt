@@ -2,6 +2,7 @@ pub mod Census
 pub mod Counts
 pub mod Fit
 pub mod Flags
+pub mod Flaws
 pub mod Heap
 pub mod ImageText
 pub mod Layouts

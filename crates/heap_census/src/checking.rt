@@ -1,12 +1,10 @@
-//! Whether the cells with a role are in use, and have its layout.
-ghost use Rattle.heap_census.specs.Census.{IsFaulty, IsSound};
+//! Whether a cell with roles is in use, and has their layout.
 ghost use Rattle.heap_census.specs.Fit.{FitsAs, Misfits};
 ghost use Rattle.heap_census.specs.Flags.{has_role};
 ghost use Rattle.heap_census.specs.Heap.{Heap};
 ghost use Rattle.heap_census.specs.Layouts.{fits, part_of};
-ghost use Rattle.heap_census.specs.Roles.{TellsRoles};
 ghost use Rattle.core_machine.specs.Words.{is_blue};
-ghost use Rattle.std.specs.Prelude.{MatchBool, ℕ, false, length, true, ◌<◌, ◌≡◌};
+ghost use Rattle.std.specs.Prelude.{ℕ, false, true, ◌<◌, ◌≡◌};
 ghost use Rattle.heap_census.specs.declared.layouts.Role.{Role as RoleOf};
 
 use crate::flags::Roles;
@@ -14,24 +12,8 @@ use crate::layouts::{Role, fits, layout};
 use crate::reading::Cells;
 use cell_words::Colour;
 
-/// Whether each cell with a role is in use, and has the layout of it and no other role.
-pub(crate) fn is_sound<C: Cells>(cells: &C, marks: &[Roles]) -> bool
-    requires { length marks.now ≡ C.size cells.now }
-    ensures sound { (h : Heap) → C.shows cells.now h → TellsRoles h marks.now → result ≡ true
-        → IsSound h }
-    ensures faulty { (h : Heap) → C.shows cells.now h → TellsRoles h marks.now → result ≡ false
-        → IsFaulty h }
-{
-    for cell in 0..cells.cells() {
-        if !fits_all(cells, marks[cell as usize], cell) {
-            return false;
-        }
-    }
-    true
-}
-
-// Whether the cell is fit for all its roles.
-fn fits_all<C: Cells>(cells: &C, roles: Roles, cell: u32) -> bool
+/// Whether the cell is fit for all its roles.
+pub(crate) fn fits_all<C: Cells>(cells: &C, roles: Roles, cell: u32) -> bool
     requires { cell < C.size cells.now }
     ensures fit { (h : Heap) → C.shows cells.now h → result ≡ true
         → (r : RoleOf) → has_role roles r ≡ true → FitsAs h r cell }

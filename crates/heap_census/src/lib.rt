@@ -6,13 +6,14 @@
 //! the one of the heap's definition.
 //!
 //! Reading order: `numbers`, `layouts`, `reading`, `flags`, `searching`, `finding`, `checking`,
-//! `naming`, `counting`, `taking`, `writing`, `images`.
+//! `flaws`, `naming`, `counting`, `taking`, `writing`, `images`.
 #![tactic(auto)]
 
 mod checking;
 mod counting;
 mod finding;
 mod flags;
+mod flaws;
 pub mod images;
 mod layouts;
 mod naming;
@@ -22,9 +23,10 @@ mod searching;
 mod taking;
 mod writing;
 
+pub use crate::flaws::{Flaw, Flawed};
 pub use crate::layouts::Role;
 pub use crate::numbers::Census;
 pub use crate::reading::Cells;
-pub use crate::taking::census_of;
+pub use crate::taking::{Checked, census_of, check_cells};
 pub use crate::writing::text_of;
 pub use heap_table::NoMemory;

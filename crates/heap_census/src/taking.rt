@@ -1,20 +1,28 @@
 //! Taking a census.
 ghost use Rattle.heap_census.specs.Census.{AddsUp, IsCensus, IsFaulty, IsSound};
+ghost use Rattle.heap_census.specs.Flaws.{IsChecked};
 ghost use Rattle.heap_census.specs.Heap.{Heap};
 ghost use Rattle.heap_census.specs.Roles.{TellsRoles};
 ghost use Rattle.heap_census.specs.Times.{TellsShared};
 ghost use Rattle.std.specs.Prelude.{IfOk, IfSome, MatchOption, length, ◌≡◌};
 
-use crate::checking::is_sound;
 use crate::counting::{count_floating, count_free, count_role, count_shared};
 use crate::finding::find_roles;
 use crate::flags::Roles;
+use crate::flaws::{Flawed, first_flaw};
 use crate::layouts::Role;
 use crate::naming::{Times, times_named};
 use crate::numbers::Census;
 use crate::reading::Cells;
 use heap_table::NoMemory;
 use std::alloc::Global;
+
+/// The census of cells, or the first of them with which something is wrong.
+#[derive(Clone, Copy, Debug, PartialEq, Eq)]
+pub enum Checked {
+    Sound(Census),
+    Faulty(Flawed),
+}
 
 /// The census of any cells that nobody changes any more. There is none where a cell with a role is
 /// free or has not its layout.
@@ -26,12 +34,23 @@ pub fn census_of<C: Cells>(alloc: Global, cells: &C) -> Result<Option<Census>, N
     ensures sum { IfOk result (λ found. (h : Heap) → C.shows cells.now h
         → IfSome found AddsUp) }
 {
+    let checked = check_cells(alloc, cells)?;
+    match checked {
+        Checked::Sound(census) => Ok(Some(census)),
+        Checked::Faulty(_) => Ok(None),
+    }
+}
+
+/// The census of any cells that nobody changes any more, or what is wrong with them.
+pub fn check_cells<C: Cells>(alloc: Global, cells: &C) -> Result<Checked, NoMemory>
+    ensures { IfOk result (λ found. (h : Heap) → C.shows cells.now h → IsChecked h found) }
+{
     let marks = find_roles(alloc, cells)?;
-    if !is_sound(cells, &marks) {
-        return Ok(None);
+    if let Some(flawed) = first_flaw(cells, &marks) {
+        return Ok(Checked::Faulty(flawed));
     }
     let times = times_named(alloc, cells, &marks)?;
-    Ok(Some(counted(cells, &marks, &times)))
+    Ok(Checked::Sound(counted(cells, &marks, &times)))
 }
 
 // The numbers of a heap whose cells with a role have their layouts.

@@ -1,3 +1,4 @@
 pub mod Output
 pub mod Summary
 pub mod Loaded
+pub mod Counted

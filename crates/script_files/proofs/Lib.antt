@@ -2,6 +2,7 @@ pub mod Sorting
 mod Sessions
 pub mod Files
 pub mod Forms
+pub mod Images
 pub mod Opens
 mod Turns
 pub mod Counting

@@ -91,7 +91,7 @@ sized file reading bytes read =
       | false ↦ λ e is. ltb-false 1048576 (length bytes) e
     ] refl
 
-all_read : (n : ℕ) (all : List ℕ) → length (take (n + 1) all) ≤ n → take (n + 1) all ≡ all
+pub all_read : (n : ℕ) (all : List ℕ) → length (take (n + 1) all) ≤ n → take (n + 1) all ≡ all
 all_read n all short =
     let few : length all ≤ n + 1 = omega (arith, length-take (n + 1) all) in
     take_all (n + 1) all few

@@ -8,11 +8,13 @@ use Rattle.cmd_text.specs.declared.fault.ScriptKind.TheVariants.{BadNumber, BadP
 use Rattle.cmd_text.specs.declared.fault.ScriptKind.TheVariants.{LongText, Extra, LongBatch}
 use Rattle.core_replay.specs.declared.fault.ScheduleKind.{ScheduleKind}
 use Rattle.core_replay.specs.declared.fault.ScheduleKind.TheVariants as schedule
+use Rattle.image_files.specs.declared.fault.ImageKind.{ImageKind}
+use Rattle.image_files.specs.declared.fault.ImageKind.TheVariants as image
 use Rattle.script_files.specs.Sorts.{Sort, OfWords, OfLine, OfReading, OfWriting, OfMemory, OfSize}
 use Rattle.script_files.specs.Sorts.{sort_of}
 use Rattle.script_files.specs.declared.fault.Fault.{Fault}
 use Rattle.script_files.specs.declared.fault.Fault.TheVariants.{Usage, Script, Schedule, Dump}
-use Rattle.script_files.specs.declared.fault.Fault.TheVariants.{ReadFault, WriteFault}
+use Rattle.script_files.specs.declared.fault.Fault.TheVariants.{Image, ReadFault, WriteFault}
 use Rattle.script_files.specs.declared.fault.Fault.TheVariants.{Memory, TooLarge}
 use Rattle.version_dump.specs.declared.fault.LoadKind.{LoadKind}
 use Rattle.version_dump.specs.declared.fault.LoadKind.TheVariants as load
@@ -60,6 +62,15 @@ load_kind_text_of load.NoOrder = codes "NoOrder"
 load_kind_text_of load.Many = codes "Many"
 load_kind_text_of load.Big = codes "Big"
 
+-- the same for a line of a heap file
+abbrev pub image_kind_text_of : ImageKind → List ℕ
+image_kind_text_of image.NoHead = codes "NoHead"
+image_kind_text_of image.BadEnd = codes "BadEnd"
+image_kind_text_of image.BadLine = codes "BadLine"
+image_kind_text_of image.NoOrder = codes "NoOrder"
+image_kind_text_of image.Blue = codes "Blue"
+image_kind_text_of image.BadShape = codes "BadShape"
+
 -- what is said of a file
 abbrev pub file_text_of : ℕ → List ℕ → List ℕ
 file_text_of file what = codes "docheap: file " ++ (decimal file ++ (codes ": " ++ what))
@@ -74,6 +85,7 @@ fault_text_of Usage = codes "docheap: usage"
 fault_text_of (Script file line kind) = file_text_of file (line_text_of line (kind_text_of kind))
 fault_text_of (Schedule line kind) = file_text_of 1 (line_text_of line (schedule_kind_text_of kind))
 fault_text_of (Dump line kind) = file_text_of 1 (line_text_of line (load_kind_text_of kind))
+fault_text_of (Image line kind) = file_text_of 1 (line_text_of line (image_kind_text_of kind))
 fault_text_of (ReadFault file) = file_text_of file (codes "read fault")
 fault_text_of WriteFault = codes "docheap: write fault"
 fault_text_of Memory = codes "docheap: out of memory"

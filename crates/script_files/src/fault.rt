@@ -1,11 +1,12 @@
 ghost use Rattle.std.specs.Prelude.{◌≡◌, IfOk, is_ok, string_bytes};
 ghost use Rattle.script_files.specs.Fault.{fault_text_of, file_text_of, final_fault_of};
-ghost use Rattle.script_files.specs.Fault.{kind_text_of, line_text_of, load_kind_text_of};
-ghost use Rattle.script_files.specs.Fault.{schedule_kind_text_of, status_of};
+ghost use Rattle.script_files.specs.Fault.{image_kind_text_of, kind_text_of, line_text_of};
+ghost use Rattle.script_files.specs.Fault.{load_kind_text_of, schedule_kind_text_of, status_of};
 
 use cmd_text::ScriptKind;
 use core_replay::ScheduleKind;
 use doc_model::NoMemory;
+use image_files::ImageKind;
 use outside::OutFault;
 use std::alloc::Global;
 use std::fmt::{self, Display, Formatter, Write};
@@ -36,6 +37,12 @@ pub enum Fault {
     Dump {
         line: u32,
         kind: LoadKind,
+    },
+    /// A file is no heap file, or its heap has no census. It is the only one.
+    #[error("docheap: file 1: line {line}: {kind:?}")]
+    Image {
+        line: u32,
+        kind: ImageKind,
     },
     /// A file could not be opened or read.
     #[error("docheap: file {file}: read fault")]
@@ -90,6 +97,10 @@ fn said(alloc: Global, fault: &Fault) -> Result<String, NoMemory>
         }
         Fault::Dump { line, kind } => {
             let what = said_of_line(alloc, *line, load_kind_text(*kind))?;
+            said_of_file(alloc, 1, what.as_str())
+        }
+        Fault::Image { line, kind } => {
+            let what = said_of_line(alloc, *line, image_kind_text(*kind))?;
             said_of_file(alloc, 1, what.as_str())
         }
         Fault::ReadFault { file } => said_of_file(alloc, *file, "read fault"),
@@ -153,6 +164,19 @@ fn load_kind_text(kind: LoadKind) -> &'static str
     }
 }
 
+fn image_kind_text(kind: ImageKind) -> &'static str
+    ensures { result.now ≡ image_kind_text_of kind }
+{
+    match kind {
+        ImageKind::NoHead => "NoHead",
+        ImageKind::BadEnd => "BadEnd",
+        ImageKind::BadLine => "BadLine",
+        ImageKind::NoOrder => "NoOrder",
+        ImageKind::Blue => "Blue",
+        ImageKind::BadShape => "BadShape",
+    }
+}
+
 /// The status that the program ends with.
 pub fn status(fault: Option<Fault>) -> u8
     ensures { result ≡ status_of fault }
@@ -160,7 +184,8 @@ pub fn status(fault: Option<Fault>) -> u8
     match fault {
         None => 0,
         Some(Fault::Usage) => 1,
-        Some(Fault::Script { .. } | Fault::Schedule { .. } | Fault::Dump { .. }) => 2,
+        Some(Fault::Script { .. } | Fault::Schedule { .. }) => 2,
+        Some(Fault::Dump { .. } | Fault::Image { .. }) => 2,
         Some(Fault::ReadFault { .. }) => 3,
         Some(Fault::WriteFault) => 4,
         Some(Fault::Memory) => 5,

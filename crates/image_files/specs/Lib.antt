@@ -1,0 +1,5 @@
+pub mod Answers
+pub mod Contents
+pub mod File
+pub mod Line
+pub mod Reach
