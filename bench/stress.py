@@ -3,105 +3,33 @@
 
 stress.py DOCHEAP [--runs N] [--seed S] [--jobs J] [--only NAME] [--limit SECONDS]
 
-N runs of each kind; a run is made again by its kind and its seed. Four kinds of long runs are made
-only where --only names them: 64 clients with 1,500 commands each on 64 cells, of all kinds or puts
-and gets alone, 2 to 64 clients, and a batch of 1,000 edits beside four clients that commit. Kinds
-with batches have scripts of version 2, some beside scripts of version 1; long batches outgrow the
-private heap, so the session collects between edits.
+N runs of each kind; a run is made again by its kind and its seed. Some kinds are made only where
+--only names them: 64 clients with 1,500 commands each on 64 cells, of all kinds or puts and gets
+alone, 2 to 64 clients, a batch of 1,000 edits beside four clients that commit, and every damage of
+a small image. Kinds with batches have scripts of version 2, some beside scripts of version 1; long
+batches outgrow the private heap, so the session collects between edits.
 
 The checker shares nothing with the program: it reads the scripts by the grammar, folds the merged
 history over whole trees, and compares each reply; it compares the history with the clients' own
-replies, and the totals with both. The numbers of the versions that the clients were shown are looked
-at without the history too. It prints a line for each kind of run, and where one is wrong the folder
-that has its files. A run that has not ended within the limit is counted apart, as late, with its
-seed: each handshake waits until every thread had a processor, so on a machine that is full of other
-work a run of some hundred cycles takes minutes by `nice -n 10`, and under a second else.
+replies, and the totals with both. The numbers of the versions that the clients were shown are
+looked at without the history too.
+
+In every fourth run `image` stands in the place of `run`, and the image has to be that of a store:
+its versions, its trees and the counts of `census` (heaps.py); some of these have one client, and
+then the trees of all versions and the cells in use are known. Of images with a fault `census` has
+to name line and kind. A dump beside 16 clients has to be of a version that some history of their
+scripts has (dumps.py), and loading it has to say so.
+
+It prints a line for each kind of run, and where one is wrong the folder that has its files. A run
+that has not ended within the limit is counted apart, as late, with its seed: each handshake waits
+until every thread had a processor, so on a machine that is full of other work a run of some hundred
+cycles takes minutes by `nice -n 10`, and under a second else.
 """
-import argparse, concurrent.futures, os, random, shutil, subprocess, sys, tempfile
+import argparse, atexit, concurrent.futures, functools, os, random, shutil, subprocess, sys
+import tempfile
 
-CHILDREN, HEIGHT, COUNT = 256, 8, 1_000_000_000
-
-
-# Trees: (text, {name: tree}, count, height). A dict is never changed once it stands in a tree.
-
-def node(text, kids):
-    count = 1 + sum(k[2] for k in kids.values())
-    height = 1 + max(k[3] for k in kids.values()) if kids else 0
-    return (text, kids, count, height)
-
-
-EMPTY = node("", {})
-
-
-class Refused(Exception):
-    pass
-
-
-def find(tree, path):
-    for name in path:
-        tree = tree[1].get(name)
-        if tree is None:
-            return None
-    return tree
-
-
-def change(tree, path, at_end):
-    """The tree with what stands at the path changed; nodes on the way are made."""
-    if not path:
-        return at_end(tree)
-    kids = tree[1]
-    if path[0] not in kids and len(kids) >= CHILDREN:
-        raise Refused("many")
-    inner = change(kids.get(path[0], EMPTY), path[1:], at_end)
-    return node(tree[0], {**kids, path[0]: inner})
-
-
-def fits(tree):
-    if tree[3] > HEIGHT:
-        raise Refused("deep")
-    if tree[2] > COUNT:
-        raise Refused("big")
-    return tree
-
-
-def set_text(tree, path, text):
-    return fits(change(tree, path, lambda t: node(text, t[1])))
-
-
-def attach(tree, path, sub):
-    return fits(change(tree, path, lambda t: sub))
-
-
-def delete(tree, path):
-    if find(tree, path) is None:
-        raise Refused("none")
-    if len(path) == 1:
-        return node(tree[0], {n: t for n, t in tree[1].items() if n != path[0]})
-    return node(tree[0], {**tree[1], path[0]: delete(tree[1][path[0]], path[1:])})
-
-
-# Texts on one line: those of version 2 in quotes, and those of the history with two bytes escaped.
-
-ESCAPES = {'"': '\\"', "\\": "\\\\", "\t": "\\t", "\n": "\\n"}
-PLAIN = {"\t": "\\t", "\n": "\\n"}
-MEANT = {'"': '"', "\\": "\\", "t": "\t", "n": "\n"}
-
-
-def quoted(text):
-    return '"' + "".join(ESCAPES.get(x, x) for x in text) + '"'
-
-
-def plain(text):
-    return "".join(PLAIN.get(x, x) for x in text)
-
-
-def unquoted(word):
-    assert len(word) > 1 and word[0] == word[-1] == '"', word
-    text, inside = "", iter(word[1:-1])
-    for x in inside:
-        assert x != '"', word
-        text += MEANT[next(inside)] if x == "\\" else x
-    return text
+import dumps, heaps
+from documents import Store, is_second, plain, quoted, read
 
 
 def line_of(reply, text_of):
@@ -110,113 +38,6 @@ def line_of(reply, text_of):
         return reply
     word, number, text = reply.split(" ", 2)
     return f"{word} {number} {text_of(text)}"
-
-
-# Commands of a script. A batch is one, with its edits in the place of a path.
-
-def is_second(script):
-    return script.split("\n")[0].removesuffix("\r") == "docs 2"
-
-
-def read_line(line, text_of):
-    word, _, rest = line.partition(" ")
-    if word in ("put", "dput"):
-        path, _, text = rest.partition(" ")
-        return (word, path.split("/"), text_of(text))
-    if word == "copy":
-        one, other = rest.split(" ")
-        return (word, one.split("/"), other.split("/"))
-    if word == "old":
-        back, path = rest.split(" ")
-        return (word, path.split("/"), int(back))
-    return (word, rest.split("/"), None)
-
-
-def read(script):
-    second = is_second(script)
-    commands, batch = [], None
-    for line in script.split("\n")[second:]:
-        line = line.removesuffix("\r")
-        if not line or line.startswith("#"):
-            continue
-        if second and line == "begin":
-            batch = []
-        elif second and line == "commit":
-            commands.append(("batch", batch, None))
-            batch = None
-        else:
-            whole = commands if batch is None else batch
-            whole.append(read_line(line, unquoted if second else str))
-    assert batch is None
-    return commands
-
-
-class Store:
-    def __init__(self, clients, keep, versions):
-        self.trees, self.keep, self.versions = [EMPTY], keep, versions
-        self.drafts, self.lasts = [EMPTY] * clients, [0] * clients
-
-    def edited(self, client, edit, tree):
-        """The tree that one edit makes of a tree."""
-        word, path, more = edit
-        if word == "put":
-            return set_text(tree, path, more)
-        if word == "del":
-            return delete(tree, path)
-        if word == "publish":
-            return attach(tree, path, self.drafts[client - 1])
-        assert word == "copy", word
-        sub = find(tree, path)
-        if sub is None:
-            raise Refused("none")
-        return attach(tree, more, sub)
-
-    def answer(self, client, command, place):
-        """The reply of a client's next command, which read the version at its place, or made it."""
-        word, path, more = command
-        c = client - 1
-        if word == "dput":
-            try:
-                self.drafts[c] = set_text(self.drafts[c], path, more)
-                return f"drafted {self.lasts[c]}"
-            except Refused as why:
-                return f"{why} {self.lasts[c]}"
-        if word == "dget":
-            at = find(self.drafts[c], path)
-            return f"none {self.lasts[c]}" if at is None else f"val {self.lasts[c]} {at[0]}"
-        v = len(self.trees) - 1
-        tree = self.trees[v]
-        if word in ("put", "del", "copy", "publish", "batch"):
-            made = tree
-            try:
-                for edit in path if word == "batch" else [command]:
-                    made = self.edited(client, edit, made)
-            except Refused as why:
-                return f"{why} {v}"
-            if v == self.versions:
-                return f"worn {v}"
-            self.trees.append(made)
-            return f"ok {v + 1}"
-        if word == "old":
-            if more > v:
-                return f"before {v}"
-            if more >= self.keep:
-                return f"gone {v} {v - more}"
-            at = find(self.trees[v - more], path)
-            return f"none {v - more}" if at is None else f"val {v - more} {at[0]}"
-        at = find(tree, path)
-        if at is None:
-            return f"none {v}"
-        if word == "get":
-            return f"val {v} {at[0]}"
-        if word == "size":
-            return f"num {v} {at[2]}"
-        if word == "list":
-            return " ".join([f"names {v}", *sorted(at[1], key=lambda n: n.encode())])
-        if word == "take":
-            self.drafts[c] = at
-            return f"drafted {v}"
-        raise AssertionError(word)
 
 
 MAY_BE_FULL = ("put", "del", "copy", "publish", "dput", "take", "batch")
@@ -468,33 +289,175 @@ LONG = {
 }
 
 
+class Program:
+    """The program, with a folder that has the files of one run."""
+
+    def __init__(self, docheap, limit):
+        self.docheap, self.limit, self.ran = docheap, limit, None
+        self.folder = tempfile.mkdtemp(prefix="docheap-stress-")
+
+    def file(self, name, data):
+        path = os.path.join(self.folder, name)
+        with open(path, "wb") as it:
+            it.write(data)
+        return path
+
+    def files(self, scripts):
+        return [self.file(str(c), script.encode("ascii")) for c, script in enumerate(scripts, 1)]
+
+    def run(self, *words, **named):
+        """What the program answers to the words, with these variables of the environment."""
+        self.ran = subprocess.run([self.docheap, *words], capture_output=True, timeout=self.limit,
+                                  env={**os.environ, **named})
+        return self.ran
+
+    def wrong_status(self):
+        """What is wrong where the last status is not 0."""
+        return f"status {self.ran.returncode}: {self.ran.stderr.decode()}"
+
+
+def totals_of(output):
+    """The lines behind `stats` of an output, by their words."""
+    lines = output.split("\n")
+    lines = lines[lines.index("stats") + 1:]
+    return {line.split(" ")[0]: int(line.split(" ")[1]) for line in lines if line}
+
+
+def run_of(kind, program, r, seen):
+    """Runs scripts, or has the image that they leave."""
+    scripts, cells, keep, versions = kind(r)
+    cycles = r.choice((heaps.WHOLE, heaps.WHOLE, heaps.WHOLE, 0, 1, 3))
+    is_image, is_one = r.random() < 0.25, r.random() < 0.3
+    limits = {"cells": cells, "keep": keep, "versions": versions, "cycles": cycles}
+    words = ["--minor", "4096"]
+    for name, value in limits.items():
+        words += [f"--{name}", str(value)]
+    if is_image:
+        return image_of(program, scripts[:1] if is_one else scripts, words, limits, seen)
+    ran = program.run("run", *words, "--history", "--stats", *program.files(scripts))
+    if ran.returncode:
+        return program.wrong_status()
+    return check(scripts, ran.stdout.decode(), seen=seen, **limits)
+
+
+def image_of(program, scripts, words, limits, seen):
+    files, stored, used = program.files(scripts), None, None
+    # One client's versions are known where no reply can be `full`.
+    if len(scripts) == 1 and limits["cells"] >= 2048:
+        ran = program.run("run", *words, "--history", "--stats", *files)
+        if ran.returncode:
+            return program.wrong_status()
+        wrong = check(scripts, ran.stdout.decode(), seen=seen, **limits)
+        if wrong:
+            return wrong
+        store = Store(1, limits["keep"], limits["versions"])
+        for command in read(scripts[0]):
+            store.answer(1, command, None)
+        stored, used = store.trees, totals_of(ran.stdout.decode())["used"]
+    data = program.run("image", *words, *files).stdout
+    if program.ran.returncode:
+        return program.wrong_status()
+    image = program.file("image", data)
+    wrong = heaps.wrong_in(data, stored=stored, **limits)
+    if wrong:
+        return wrong
+    lines = data.count(b"\n") - 2
+    if used is not None and limits["cycles"] == heaps.WHOLE and used != lines:
+        return f"{lines} cells in use and not {used}"
+    for what, many in (("images", 1), ("cells in use", lines), ("with known trees", bool(stored))):
+        seen[what] = seen.get(what, 0) + many
+    return wrong_census(program, image, data)
+
+
+def wrong_census(program, image, data):
+    """What is wrong with the census of a text, which may be no image."""
+    ran = program.run("census", image)
+    if len(data) > heaps.LARGEST:
+        wanted, status = "docheap: file 1: too large\n", 6
+    else:
+        wanted = heaps.census_of(data)
+        status = 0 if wanted.startswith("cells") else 2
+    said, silent = (ran.stderr, ran.stdout) if status else (ran.stdout, ran.stderr)
+    if ran.returncode != status or said.decode() != wanted or silent:
+        return f"census: status {ran.returncode}, {said.decode()!r} and not {status}, {wanted!r}"
+    return None
+
+
+def damages_of(is_every, program, r, seen):
+    """Images of a small heap with a fault, some with two."""
+    script = "".join(command(r, "ab") + "\n" for _ in range(r.randint(2, 6)))
+    data = program.run("image", "--cells", "64", "--keep", str(r.randint(1, 3)), "--cycles", "0",
+                       *program.files([script])).stdout
+    if program.ran.returncode:
+        return program.wrong_status()
+    texts = [data, *heaps.damaged(data)]
+    twice = [text for text in r.sample(texts, 300) if heaps.census_of(text).startswith("cells")]
+    if not is_every:
+        texts = r.sample(texts, 40)
+    for text in twice[:10]:
+        texts += r.sample(list(heaps.damaged(text)), 3)
+    for text in texts:
+        wrong = wrong_census(program, program.file("image", text), text)
+        if wrong:
+            return wrong
+        kind = heaps.census_of(text).split("\n")[0].split(": ")[-1]
+        kind = "as they are counted" if kind.startswith("cells") else kind
+        for what in ("damages", kind):
+            seen[what] = seen.get(what, 0) + 1
+    return None
+
+
+@functools.cache
+def library():
+    """Builds what holds up the thread that dumps, and gives its path."""
+    here, folder = os.path.dirname(os.path.abspath(__file__)), tempfile.mkdtemp()
+    atexit.register(shutil.rmtree, folder)
+    source = os.path.join(here, "timing", "delay_threads.c")
+    built = os.path.join(folder, "delay.so")
+    subprocess.run(["gcc", "-O1", "-shared", "-fPIC", source, "-o", built], check=True)
+    return built
+
+
+def dump_of(program, r, seen):
+    """A dump of a version beside 16 clients that write to the same folders. Who dumps made the
+    first of their threads, the second of all, and is held up behind it, so that there is a tree."""
+    copies, most = r.choice((3, 10, 37, 37, 37)), r.choice((5, 20, 60))
+    scripts = list(dumps.scripts_of(r, copies, most))
+    delay = str(r.choice((0, 1, 5, 20, 100)) * r.randint(500, 1000))
+    held_up = {"LD_PRELOAD": library(), "DELAY_BEHIND": "2", "DELAY_FOR": delay}
+    data = program.run("dump", *program.files(scripts), **held_up).stdout
+    if program.ran.returncode:
+        return program.wrong_status()
+    dump = program.file("dump", data)
+    wrong = dumps.wrong_in(scripts, data, seen)
+    if wrong:
+        return wrong
+    if program.run("load", dump).returncode:
+        return program.wrong_status()
+    found, wanted = program.ran.stdout.decode(), dumps.loaded(data)
+    return None if found == wanted else f"loaded: {found!r} and not {wanted!r}"
+
+
+# The kinds of runs that are made, and those that have to be named.
+WAYS = {name: functools.partial(run_of, kind) for name, kind in KINDS.items()}
+WAYS["small images with a fault"] = functools.partial(damages_of, False)
+WAYS["a dump beside 16 clients"] = dump_of
+NAMED = {name: functools.partial(run_of, kind) for name, kind in LONG.items()}
+NAMED["every damage of a small image"] = functools.partial(damages_of, True)
+
+
 def one(docheap, name, seed, limit):
     """What is wrong with a run, or None, and what was seen in it."""
-    seen = {}
-    r = random.Random(f"{name} {seed}")
-    scripts, cells, keep, versions = {**KINDS, **LONG}[name](r)
-    cycles = r.choice((4_000_000_000, 4_000_000_000, 4_000_000_000, 0, 1, 3))
-    folder = tempfile.mkdtemp(prefix="docheap-stress-")
-    files = []
-    for c, script in enumerate(scripts, 1):
-        files.append(os.path.join(folder, str(c)))
-        with open(files[-1], "w", encoding="ascii") as it:
-            it.write(script)
-    args = [docheap, "run", "--cells", str(cells), "--minor", "4096", "--keep", str(keep),
-            "--versions", str(versions), "--cycles", str(cycles), "--history", "--stats", *files]
+    seen, program = {}, Program(docheap, limit)
     try:
-        ran = subprocess.run(args, capture_output=True, timeout=limit)
+        wrong = {**WAYS, **NAMED}[name](program, random.Random(f"{name} {seed}"), seen)
     except subprocess.TimeoutExpired:
-        shutil.rmtree(folder)
+        shutil.rmtree(program.folder)
         return None, {"late": seed}
-    if ran.returncode:
-        return f"status {ran.returncode}: {' '.join(args)}: {ran.stderr.decode()}", seen
-    wrong = check(scripts, ran.stdout.decode(), cells, keep, versions, cycles, seen)
     if wrong:
-        with open(os.path.join(folder, "output"), "wb") as it:
-            it.write(ran.stdout)
-        return f"{wrong}: {' '.join(args)}", seen
-    shutil.rmtree(folder)
+        program.file("output", program.ran.stdout)
+        return f"{wrong}: {' '.join(program.ran.args)}", seen
+    shutil.rmtree(program.folder)
     return None, seen
 
 
@@ -512,9 +475,10 @@ def main():
     p.add_argument("--limit", type=int, default=120)
     args = p.parse_args()
     bad, runs, many_late, all_seen = 0, 0, 0, {}
-    for name in {**KINDS, **LONG} if args.only else KINDS:
-        if args.only and args.only not in name:
-            continue
+    names = {**WAYS, **NAMED} if args.only else WAYS
+    for name in [name for name in names if not args.only or args.only in name]:
+        if names[name] is dump_of:
+            library() # once, before any thread asks for it
         with concurrent.futures.ThreadPoolExecutor(args.jobs) as pool:
             seeds = range(args.seed, args.seed + args.runs)
             found = list(pool.map(lambda k: one(os.path.abspath(args.docheap), name, k, args.limit),

@@ -15,7 +15,8 @@ import os
 import subprocess
 import sys
 import tempfile
-from html import escape
+
+from drawing import LETTER, LINE, dot, legend, rect, style, svg, text
 
 TOP = os.path.dirname(os.path.dirname(os.path.abspath(__file__)))
 STAGES = ["idle", "sync1", "clear", "sync2", "trace", "sweep"]
@@ -146,44 +147,12 @@ class Threads:
         return self.stage, tuple(self.of)
 
 
-LIGHT = {"page": "#ffffff", "ink": "#1f2328", "faint": "#59636e", "no": "#c62828",
-         "async": "#d3ecd6", "sync1": "#fdf0c0", "sync2": "#fbd3ae", "idle": "#eef0f2",
+LIGHT = {"async": "#d3ecd6", "sync1": "#fdf0c0", "sync2": "#fbd3ae", "idle": "#eef0f2",
          "clear": "#e6dcf5", "trace": "#cfe3fb", "sweep": "#cdeeea"}
-DARK = {"page": "#0d1117", "ink": "#e6edf3", "faint": "#a3abb4", "no": "#ff7b72",
-        "async": "#1d4228", "sync1": "#57490f", "sync2": "#66400f", "idle": "#262c34",
+DARK = {"async": "#1d4228", "sync1": "#57490f", "sync2": "#66400f", "idle": "#262c34",
         "clear": "#43305f", "trace": "#123f6e", "sweep": "#0f4a45"}
-COLOURS = {"blue": "#6ea8fe", "white": "#ffffff", "gray": "#9aa4af", "black": "#14171a"}
-LINE, DOT = "#848d97", "#e5534b"
-
-
-def style():
-    def rules(palette):
-        return "".join(f" .{name} {{ fill: {colour}; }}" for name, colour in palette.items())
-
-    return (f"text {{ font: 11px Menlo, Consolas, 'DejaVu Sans Mono', monospace; }}\n"
-            f".name {{ font-weight: bold; }} .dot {{ fill: {DOT}; }}\n"
-            f"{rules(LIGHT)}\n{rules(COLOURS)}\n"
-            f"@media (prefers-color-scheme: dark) {{{rules(DARK)} }}\n"
-            f".box {{ stroke: {LINE}; stroke-width: .6; }}\n"
-            f".out {{ fill: none; stroke: {LINE}; stroke-width: .6; stroke-dasharray: 2 3; }}")
-
-
-COLUMN, LEFT, BAND, STRIP, CELL, LETTER = 17, 96, 40, 15, 18, 6.7
-
-
-def rect(x, y, wide, high, kind, title=""):
-    inside = f"<title>{escape(title)}</title>" if title else ""
-    return (f'<rect x="{x:g}" y="{y:g}" width="{wide:g}" height="{high:g}" class="{kind}">'
-            f"{inside}</rect>")
-
-
-def text(x, y, words, kind="ink", upright=False):
-    turn = f' transform="rotate(-90 {x:g} {y:g})"' if upright else ""
-    return f'<text x="{x:g}" y="{y:g}" class="{kind}"{turn}>{escape(words)}</text>'
-
-
-def dot(x, y):
-    return f'<circle cx="{x:g}" cy="{y:g}" r="2.6" class="dot"/>'
+OUT = f".out {{ fill: none; stroke: {LINE}; stroke-width: .6; stroke-dasharray: 2 3; }}"
+COLUMN, LEFT, BAND, STRIP, CELL = 17, 96, 40, 15, 18
 
 
 def runs(values):
@@ -278,23 +247,19 @@ class Picture:
         self.y += 18
 
     def legend(self):
-        x, y = LEFT, self.y
-
-        def entry(mark, words, kind="faint"):
-            nonlocal x
-            self.parts += [*mark, text(x + 19, y + 11, words, kind)]
-            x += 19 + LETTER * len(words) + 18
-
-        for colour, words in [("blue", "free"), ("white", "not reached"),
-                              ("gray", "reached, not scanned"), ("black", "scanned")]:
-            entry([rect(x, y, 13, 13, f"box {colour}")], f"{colour}: {words}")
-        entry([dot(x + 7, y + 7)], "a field changed")
-        x, y = LEFT, y + 21
-        for status in ("async", "sync1", "sync2"):
-            entry([rect(x, y, 13, 13, f"box {status}")], status)
-        entry([rect(x, y, 13, 13, "out")], "the mutator is out")
+        y = self.y
+        colours = [(lambda x, it=colour: rect(x, y, 13, 13, f"box {it}"), f"{colour}: {words}")
+                   for colour, words in [("blue", "free"), ("white", "not reached"),
+                                         ("gray", "reached, not scanned"), ("black", "scanned")]]
+        first = [*colours, (lambda x: dot(x + 7, y + 7), "a field changed")]
+        self.parts += legend(LEFT, y, [(*entry, "faint") for entry in first])
+        y += 21
+        second = [(lambda x, it=status: rect(x, y, 13, 13, f"box {it}"), status, "faint")
+                  for status in ("async", "sync1", "sync2")]
+        second.append((lambda x: rect(x, y, 13, 13, "out"), "the mutator is out", "faint"))
         if self.known < len(self.shown):
-            entry([], "red: cannot happen now", "no")
+            second.append((None, "red: cannot happen now", "no"))
+        self.parts += legend(LEFT, y, second)
         self.y = y + 24
 
     def svg(self, columns, name):
@@ -304,10 +269,7 @@ class Picture:
             self.columns(begin, min(begin + columns, many))
         self.legend()
         wide = max(LEFT + min(many, columns) * COLUMN + 12, 860)
-        size = f'viewBox="0 0 {wide:g} {self.y:g}" width="{wide:g}" height="{self.y:g}"'
-        return "\n".join([f'<svg xmlns="http://www.w3.org/2000/svg" {size} role="img">',
-                          f"<title>{escape(name)}</title>", f"<style>{style()}</style>",
-                          rect(0, 0, wide, self.y, "page"), *self.parts, "</svg>", ""])
+        return svg(wide, self.y, name, style(LIGHT, DARK, OUT), self.parts)
 
 
 def main():

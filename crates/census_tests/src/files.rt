@@ -4,7 +4,8 @@ use std::alloc::Global;
 use std::test::Fail;
 
 /// The heap of a store that was opened and closed, with no text in it.
-const OPENED: &str = "image 1 64\n0 white @1 - - - - =2\n1 white =0 @2 - - - =2\n2 white - - =1 =0 - =1\nend\n";
+const OPENED: &str = "image 1 64\n0 white @1 - - - - =2\n1 white =0 @2 - - - =2\n\
+2 white - - =1 =0 - =1\nend\n";
 
 /// How many cells of that are for what.
 const OPENED_CENSUS: Census = Census {
@@ -42,7 +43,9 @@ fn the_heap_of_a_store_without_texts_is_counted(rt: HostRuntime) {
 
 #[test]
 fn entries_texts_and_what_floats_are_counted(rt: HostRuntime) {
-    let text = "image 1 64\n0 black @1 - - - - =2\n1 gray =1 @2 - - - =2\n2 white - @3 =2 =1 - =1\n3 white @4 @5 - - =1 =1\n4 white =1 =97 =0 =0 - =1\n5 white @4 - =1 =0 - =1\n9 white - - - - - -\nend\n";
+    let text = "image 1 64\n0 black @1 - - - - =2\n1 gray =1 @2 - - - =2\n\
+2 white - @3 =2 =1 - =1\n3 white @4 @5 - - =1 =1\n4 white =1 =97 =0 =0 - =1\n\
+5 white @4 - =1 =0 - =1\n9 white - - - - - -\nend\n";
     let census = Census {
         cells: 64,
         free: 57,
@@ -94,7 +97,14 @@ fn a_line_is_that_of_a_cell_in_use(rt: HostRuntime) {
     assert!(rt; has_fault(alloc, "image 1 64\n0 white @1 - - - - =2 \nend\n", 2, bad));
     assert!(rt; has_fault(alloc, "image 1 64\n0 white @1 - - - - =2\r\nend\n", 2, bad));
     assert!(rt; has_fault(alloc, "image 1 64\n\nend\n", 2, bad));
-    assert!(rt; has_fault(alloc, "image 1 64\n0 white =4611686018427387904 - - - - =2\n", 2, bad));
+    assert!(rt;
+        has_fault(
+            alloc,
+            "image 1 64\n0 white =4611686018427387904 - - - - =2\n",
+            2,
+            bad
+        )
+    );
 }
 
 #[test]
@@ -115,16 +125,19 @@ fn who_names_a_free_cell_is_blue(rt: HostRuntime) {
     assert!(rt; has_fault(alloc, no_version, 2, ImageKind::Blue));
     let no_anchor = "image 1 64\n1 white =0 @2 - - - =2\n2 white - - =1 =0 - =1\nend\n";
     assert!(rt; has_fault(alloc, no_anchor, 1, ImageKind::Blue));
-    let kind_names = "image 1 64\n0 white @1 - - - - @9\n1 white =0 @2 - - - =2\n2 white - - =1 =0 - =1\nend\n";
+    let kind_names = "image 1 64\n0 white @1 - - - - @9\n1 white =0 @2 - - - =2\n\
+2 white - - =1 =0 - =1\nend\n";
     assert!(rt; has_fault(alloc, kind_names, 2, ImageKind::Blue));
 }
 
 #[test]
 fn a_cell_has_the_layout_of_its_one_role(rt: HostRuntime) {
     let alloc = rt.alloc();
-    let record = "image 1 64\n0 white @1 - - - - =1\n1 white =0 @2 - - - =2\n2 white - - =1 =0 - =1\nend\n";
+    let record = "image 1 64\n0 white @1 - - - - =1\n1 white =0 @2 - - - =2\n\
+2 white - - =1 =0 - =1\nend\n";
     assert!(rt; has_fault(alloc, record, 2, ImageKind::BadShape));
-    let no_count = "image 1 64\n0 white @1 - - - - =2\n1 white =0 @2 - - - =2\n2 white - - - =0 - =1\nend\n";
+    let no_count = "image 1 64\n0 white @1 - - - - =2\n1 white =0 @2 - - - =2\n\
+2 white - - - =0 - =1\nend\n";
     assert!(rt; has_fault(alloc, no_count, 4, ImageKind::BadShape));
     let own_root = "image 1 64\n0 white @1 - - - - =2\n1 white =0 @1 - - - =2\nend\n";
     assert!(rt; has_fault(alloc, own_root, 3, ImageKind::BadShape));

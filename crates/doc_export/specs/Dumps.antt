@@ -20,7 +20,7 @@ use Rattle.doc_model.specs.Merge.{IsMerge}
 use Rattle.doc_model.specs.Store.{tree_at}
 use Rattle.doc_model.specs.declared.command.Command.{Command}
 use Rattle.doc_model.specs.declared.command.Entry.{Entry}
-use Rattle.doc_tree.specs.Tree.{DocTree, count}
+use Rattle.doc_tree.specs.Tree.{count}
 use Rattle.heap_rule.specs.declared.view.Place.{Place}
 use Rattle.heap_rule.specs.declared.view.Place.TheVariants as places
 use Rattle.heap_rule.specs.declared.view.Share.{Share}

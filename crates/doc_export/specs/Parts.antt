@@ -1,6 +1,6 @@
 -- What stands between the parts of a run: behind the opening, and where the heap is closed.
 -- Source: this project's.
-use Rattle.std.specs.Prelude.{ℕ, ◌≡◌, ◌+◌, List, length, Option, Some, None, Vec}
+use Rattle.std.specs.Prelude.{◌≡◌, ◌+◌, List, length, Option, Some, None, Vec}
 use Rattle.std.specs.declared.alloc.Global.{Global}
 use Rattle.beside_collector.specs.Duty.{duty_on}
 use Rattle.cell_words.specs.declared.controls.Stage.TheVariants as stage

@@ -69,12 +69,17 @@ pub(crate) fn take_version<R: Wait, G: Gate>(
     let mut m = come_in(heap, seat);
     await_gate(rt, gate, &mut m, 0, 1);
     let copied = copy_latest(alloc, &mut m, &mut minor);
-    if copied.is_some() {
-        gate.done(0, 1);
-    }
+    tell(gate, &copied);
     Through {
         seat: leave(m),
         copied,
+    }
+}
+
+/// Tells the gate that there is a version, if there is one.
+fn tell<G: Gate>(gate: &G, copied: &Option<Copied>) {
+    if copied.is_some() {
+        gate.done(0, 1);
     }
 }
 

@@ -15,6 +15,7 @@ mod beside;
 mod dumped;
 mod guest;
 mod opened;
+pub mod probe;
 mod running;
 
 pub use client_run::Options;

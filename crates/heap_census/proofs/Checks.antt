@@ -1,6 +1,6 @@
 -- What a look at each cell with a role shows of a heap.
-use Rattle.std.proofs.Common.{◌≡◌, ◌<◌, ◌+◌, inl, inr, ℕ, true, false, List}
-use Rattle.std.proofs.Common.{get_or, refl, subst, sym, arith}
+use Rattle.std.proofs.Common.{◌≡◌, ◌<◌, ◌+◌, inl, inr, ℕ, true, false}
+use Rattle.std.proofs.Common.{refl, subst, sym, arith}
 use Rattle.std.specs.Prelude.{Bool, ◌&&◌}
 use Rattle.std.proofs.lemmas.Bool.{and_cases, and_parts, cases_lt, eqb-true}
 use Rattle.cell_words.specs.declared.fields.Field.{Field}
@@ -9,14 +9,10 @@ use Rattle.heap_census.specs.declared.flags.Roles.{Roles}
 use Rattle.heap_census.specs.declared.layouts.Part.TheVariants as part
 use Rattle.heap_census.specs.declared.layouts.Role.{Role}
 use Rattle.heap_census.specs.declared.layouts.Role.TheVariants as role
-use Rattle.heap_census.specs.Census.{IsFaulty, IsSound}
-use Rattle.heap_census.specs.Census as faulty
 use Rattle.heap_census.specs.Fit.{FitsAs, Misfits}
-use Rattle.heap_census.specs.Flags.{has_role, no_roles}
-use Rattle.heap_census.specs.Heap.{Heap, NamesFit}
+use Rattle.heap_census.specs.Flags.{has_role}
+use Rattle.heap_census.specs.Heap.{Heap}
 use Rattle.heap_census.specs.Layouts.{fits, part_of}
-use Rattle.heap_census.specs.Roles.{HasRole, TellsRoles}
-use Rattle.heap_census.proofs.Roles.{role_below}
 
 -- No two layouts fit one cell.
 
@@ -89,43 +85,6 @@ two_layouts role.Text role.Node f a b =
     absurd (number_may role.Text (f 0) (a 0 (omega arith)) (b 0 (omega arith)))
 two_layouts role.Text role.Entry f a b =
     absurd (number_names role.Text (f 0) (a 0 (omega arith)) (b 0 (omega arith)))
-
--- each cell with a role is fit for it
-abbrev pub AllFit : Heap → List Roles → ℕ → Type 0
-AllFit h marks size = (c : ℕ) → c < size → (r : Role)
-    → has_role (get_or marks c no_roles) r ≡ true → FitsAs h r c
-
-pub sound_from : (h : Heap) (marks : List Roles) (size : ℕ) → NamesFit size h → TellsRoles h marks
-    → AllFit h marks size → IsSound h
-sound_from h marks size fit tells all =
-    let fits_as : (r : Role) (c : ℕ) → HasRole h r c → FitsAs h r c =
-    λ r c has. all c (role_below size h r c fit has) r ((tells r c).1 has) in
-    record {
-      used = λ r c has. (fits_as r c has).used;
-      shaped = λ r c i has among. (fits_as r c has).shaped i among;
-      one_role = λ r q c has also.
-          two_layouts r q (h.field c) (fits_as r c has).shaped (fits_as q c also).shaped;
-    }
-
-pub faulty_from : (h : Heap) (marks : List Roles) (c : ℕ) → TellsRoles h marks
-    → Misfits h (get_or marks c no_roles) c → IsFaulty h
-faulty_from h marks c tells bad =
-    let has = (tells bad.role c).0 bad.has in
-    elim bad.misfits [
-      | inl free ↦ faulty.free has free
-      | inr shape ↦ faulty.shapeless shape.0 has shape.1 shape.2
-    ]
-
--- one cell more is fit
-pub all_more : (h : Heap) (marks : List Roles) (c : ℕ) → AllFit h marks c
-    → ((r : Role) → has_role (get_or marks c no_roles) r ≡ true → FitsAs h r c)
-    → AllFit h marks (c + 1)
-all_more h marks c all here k lt r has = elim (cases_lt k c) [
-  | inl below ↦ all k below r has
-  | inr past ↦ let same : k ≡ c = omega (arith, lt, past) in
-      subst (FitsAs h r) (sym same)
-      (here r (subst (λ n. has_role (get_or marks n no_roles) r ≡ true) same has))
-]
 
 -- one field more is fit
 pub shape_more : (h : Heap) (r : Role) (c i : ℕ)

@@ -64,6 +64,25 @@ flawless_sound h none = record {
       (λ i among. shaped_role h q c i none also among);
 }
 
+-- a cell that fits gets a role there
+
+fitting_name : (p : Part) (d : ℕ) → fits p (field.Cell d) ≡ true
+    → (q : Role) × (named_by p ≡ Some q)
+fitting_name part.Null d is = absurd cc
+fitting_name part.Number d is = absurd cc
+fitting_name part.Record d is = absurd cc
+fitting_name part.Boxed d is = absurd cc
+fitting_name (part.Names r) d is = (r, refl)
+fitting_name (part.MayName r) d is = (r, refl)
+
+-- what a cell with a role names has one too
+pub role_given : (h : Heap) (r : Role) (c i d : ℕ) → IsSound h → HasRole h r c → i < 6
+    → h.field c i ≡ field.Cell d → (q : Role) × HasRole h q d
+role_given h r c i d sound has among is =
+    let there = fitting_name (part_of r i) d
+    (ap (fits (part_of r i)) (sym is) ∙ sound.shaped r c i has among) in
+    (there.0, named {r = r} {q = there.0} {c = c} {d = d} i has among there.1 is)
+
 -- with one
 
 no_name_there : (p : Part) (d : ℕ) → named_by p ≡ None → fits p (field.Cell d) ≡ false

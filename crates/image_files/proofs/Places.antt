@@ -4,6 +4,7 @@ use Rattle.std.proofs.Common.{List, [], ◌∷◌, Option, Some, None, length, g
 use Rattle.std.proofs.Common.{refl, sym, subst, ap, ◌∙◌, arith}
 use Rattle.std.specs.Prelude.{IfSome, set, slice_get}
 use Rattle.std.proofs.lemmas.Bool.{cases_eq, eq-eqb, ne_eqb}
+use Rattle.std.proofs.lemmas.Option.{same_Some}
 use Rattle.std.proofs.lemmas.List.{get_or-set_other, get_or-set_same, length-set}
 use Rattle.image_files.specs.Contents.{least_after}
 use Rattle.image_files.specs.File.{FileView, IsFile, LineFits, one_later, place_of}
@@ -45,9 +46,12 @@ place_new : (lines : List CellLine) (l : CellLine) (c : ℕ) → l.cell ≡ c �
 place_new [] l c is none = ap (λ b. cond b (Some 0) None) (eq-eqb l.cell c is)
 place_new (m ∷ lines) l c is none =
     elim (eqb m.cell c) as (λ b. cond b (Some 0) (one_later (place_of lines c)) ≡ None
-    → cond b (Some 0) (one_later (place_of (lines ++ l ∷ []) c)) ≡ Some (length lines + 1)) [
+    → cond b (Some 0) (one_later (place_of (lines ++ l ∷ []) c)) ≡ Some (length (m ∷ lines))) [
       | true ↦ λ h. absurd cc
-      | false ↦ λ h. ap one_later (place_new lines l c is (later_none (place_of lines c) h))
+      | false ↦ λ h.
+          let one : length lines + 1 ≡ length (m ∷ lines) = omega arith in
+          ap one_later (place_new lines l c is (later_none (place_of lines c) h))
+          ∙ ap (λ n. Some n) one
     ] none
 
 -- and the others as before
@@ -65,7 +69,7 @@ least_more (m ∷ n ∷ lines) l = least_more (n ∷ lines) l
 length_more : (lines : List CellLine) (l : CellLine)
     → length (lines ++ l ∷ []) ≡ length lines + 1
 length_more [] l = refl
-length_more (m ∷ lines) l = ap (λ n. n + 1) (length_more lines l)
+length_more (m ∷ lines) l = ap suc (length_more lines l) ∙ omega arith
 
 -- one line more
 pub file_more : (old new : FileView) (l : CellLine) → IsFile old → LineFits old.size l
@@ -110,22 +114,6 @@ file_more old new l file fits order size least lines places =
           ]);
     }
 
--- without lines
-pub file_start : (size : ℕ) (f : FileView) → 0 < size → size ≤ 4_194_304 → f.size ≡ size
-    → f.least ≡ 0 → f.lines ≡ [] → length f.places ≡ size
-    → ((c : ℕ) → get_or f.places c None ≡ None) → IsFile f
-file_start size f some few is least lines placed none = record {
-  some = omega (arith, some, is);
-  few = omega (arith, few, is);
-  least_is = least ∙ sym (ap least_after lines);
-  in_size = omega (arith, least);
-  rises = omega (arith, ap length lines);
-  before = subst (λ ls. AllAt (λ m. m.cell < f.least) ls) (sym lines) (λ k. tt);
-  fit = subst (λ ls. AllAt (LineFits f.size) ls) (sym lines) (λ k. tt);
-  placed = placed ∙ sym is;
-  index = λ c there. none c ∙ sym (ap (λ ls. place_of ls c) lines);
-}
-
 -- a cell past the last has no line
 pub none_past : (f : FileView) (c : ℕ) → IsFile f → f.size ≤ c → place_of f.lines c ≡ None
 none_past f c file past =
@@ -135,3 +123,29 @@ pub place_past : (f : FileView) (c : ℕ) → IsFile f → length f.places ≤ c
     → None ≡ place_of f.lines c
 place_past f c file past =
     sym (none_past f c file (omega (arith, file.placed, past)))
+
+later_within : (place : Option ℕ) (k n : ℕ) → one_later place ≡ Some k
+    → ((j : ℕ) → place ≡ Some j → j < n) → k < n + 1
+later_within None k n is within = absurd cc
+later_within (Some j) k n is within =
+    let same : j + 1 ≡ k = same_Some (j + 1) k is in
+    omega (arith, same, within j refl)
+
+-- a place is that of a line
+pub place_within : (lines : List CellLine) (c k : ℕ) → place_of lines c ≡ Some k
+    → k < length lines
+place_within [] c k is = absurd cc
+place_within (l ∷ lines) c k is =
+    elim (eqb l.cell c) as (λ b. cond b (Some 0) (one_later (place_of lines c)) ≡ Some k
+    → k < length (l ∷ lines)) [
+      | true ↦ λ h. let same : 0 ≡ k = same_Some 0 k h in omega (arith, same)
+      | false ↦ λ h.
+          let within = later_within (place_of lines c) k (length lines) h
+          (λ j. place_within lines c j) in
+          omega (arith, within)
+    ] is
+
+pub place_few : (f : FileView) (c k : ℕ) → IsFile f → place_of f.lines c ≡ Some k
+    → k < 4_194_304
+place_few f c k file is =
+    omega (arith, place_within f.lines c k is, file.rises, file.in_size, file.few)

@@ -1,22 +1,18 @@
 -- In a heap without a flaw the anchor leads to cells in use alone.
-use Rattle.std.proofs.Common.{◌≡◌, ℕ, ◌×◌, true, false, Some, Result, Ok, Err}
-use Rattle.std.proofs.Common.{refl, sym, subst, ap, ◌∙◌}
-use Rattle.cell_words.specs.declared.fields.Field.TheVariants as field
+use Rattle.std.proofs.Common.{◌≡◌, ℕ, false, Result, Ok, Err}
+use Rattle.std.proofs.Common.{refl, sym, subst, ap}
 use Rattle.heap_census.specs.Census.{IsCensus, IsSound}
 use Rattle.heap_census.specs.Flaws.{IsChecked, IsFlawless}
 use Rattle.heap_census.specs.Heap.{Heap, is_free}
-use Rattle.heap_census.specs.Layouts.{fits, named_by, part_of}
-use Rattle.heap_census.specs.Roles.{HasRole, anchor, named}
+use Rattle.heap_census.specs.Roles.{HasRole, anchor}
 use Rattle.heap_census.specs.declared.flaws.Flaw.{Flaw}
 use Rattle.heap_census.specs.declared.flaws.Flawed.{Flawed}
-use Rattle.heap_census.specs.declared.layouts.Part.{Part}
-use Rattle.heap_census.specs.declared.layouts.Part.TheVariants as part
 use Rattle.heap_census.specs.declared.layouts.Role.{Role}
 use Rattle.heap_census.specs.declared.layouts.Role.TheVariants as role
 use Rattle.heap_census.specs.declared.numbers.Census.{Census}
 use Rattle.heap_census.specs.declared.taking.Checked.{Checked}
 use Rattle.heap_census.specs.declared.taking.Checked.TheVariants as checked
-use Rattle.heap_census.proofs.Judged.{flawless_sound}
+use Rattle.heap_census.proofs.Judged.{flawless_sound, role_given}
 use Rattle.image_files.specs.Answers.{IsCensusIn, IsFaultIn, IsSafe, kind_of}
 use Rattle.image_files.specs.Contents.{Contents}
 use Rattle.image_files.specs.File.{FileView, contents_by, heap_in, line_number}
@@ -24,23 +20,11 @@ use Rattle.image_files.specs.Reach.{IsReached, start, step}
 use Rattle.image_files.specs.declared.fault.ImageFault.{ImageFault}
 use Rattle.image_files.specs.declared.fault.ImageKind.{ImageKind}
 
--- a cell that fits is named by its part
-names_there : (p : Part) (d : ℕ) → fits p (field.Cell d) ≡ true
-    → (q : Role) × (named_by p ≡ Some q)
-names_there part.Null d is = absurd cc
-names_there part.Number d is = absurd cc
-names_there part.Record d is = absurd cc
-names_there part.Boxed d is = absurd cc
-names_there (part.Names r) d is = (r, refl)
-names_there (part.MayName r) d is = (r, refl)
-
 reached_role : (h : Heap) (c : ℕ) → IsSound h → IsReached h c → (r : Role) × HasRole h r c
 reached_role h c sound (start is) = (role.Anchor, anchor refl is)
 reached_role h d sound (step {c = c} i reached among is) =
     let has = reached_role h c sound reached in
-    let there = names_there (part_of has.0 i) d
-    (ap (fits (part_of has.0 i)) (sym is) ∙ sound.shaped has.0 c i has.1 among) in
-    (there.0, named i has.1 among there.1 is)
+    role_given h has.0 c i d sound has.1 among is
 
 pub reached_used : (h : Heap) (c : ℕ) → IsFlawless h → IsReached h c → is_free h c ≡ false
 reached_used h c none reached =

@@ -1,6 +1,6 @@
 -- What the loop over the lines of a heap file keeps: the lines so far, with those that are left,
 -- are all lines.
-use Rattle.std.proofs.Common.{◌≡◌, ℕ, ◌+◌, ◌<◌, ◌≤◌, ◌×◌, ◌^◌, Bool, true, false, not, cond, List}
+use Rattle.std.proofs.Common.{◌≡◌, ℕ, ◌+◌, ◌<◌, ◌≤◌, ◌^◌, Bool, true, false, not, cond, List}
 use Rattle.std.proofs.Common.{[], ◌∷◌, ◌++◌, length, Option, Some, None, Result, Ok, Err, Bor}
 use Rattle.std.proofs.Common.{refl, sym, ap, subst, ◌∙◌, arith, eqb, leb}
 use Rattle.std.specs.Prelude.{IfOk, MatchOption, bytes_eq, codes, drop, is_some, take, ◌&&◌, ◌==◌}
@@ -14,7 +14,7 @@ use Rattle.line_words.specs.Cut.{next_rest_of, next_word_of, rest_of, word_of}
 use Rattle.line_words.specs.Lines.{lines_of}
 use Rattle.line_words.specs.Numbers.{decimal_of}
 use Rattle.image_files.specs.Answers.{Lists, ListsFile, lines_left}
-use Rattle.image_files.specs.Contents.{contents_in, contents_of, ended, fault_at, has_feed, in_order}
+use Rattle.image_files.specs.Contents.{Contents, contents_in, contents_of, ended, fault_at, has_feed, in_order}
 use Rattle.image_files.specs.Contents.{is_end, least_after, lines_from, turn_of, with_head}
 use Rattle.image_files.specs.Contents.{with_lines, with_turn}
 use Rattle.image_files.specs.File.{FileView, LineFits}
@@ -150,10 +150,15 @@ follows_end number before lines more same =
 
 -- what the line of a cell is
 
+abbrev cell_held : Result Held ImageKind → Option CellLine
+cell_held (Err kind) = None
+cell_held (Ok held.End) = None
+cell_held (Ok (held.Cell l)) = Some l
+
 held_back : (cell : Option CellLine) (l : CellLine) → held_or cell ≡ Ok (held.Cell l)
     → cell ≡ Some l
 held_back None l is = absurd cc
-held_back (Some m) l is = ap (λ n. Some n) cc
+held_back (Some m) l is = ap cell_held is
 
 abbrev line_held : ℕ → List ℕ → Result Held ImageKind
 line_held size line =
@@ -181,6 +186,9 @@ line_back size has line l is =
           ] h
     ] is
 
+abbrev IsHeld : Result Held ImageKind → CellLine → Type 0
+IsHeld read l = read ≡ Ok (held.Cell l)
+
 order_back : (least : ℕ) (read : Result Held ImageKind) (l : CellLine)
     → in_order least read ≡ Ok (held.Cell l) → (read ≡ Ok (held.Cell l)) × (least ≤ l.cell)
 order_back least (Err kind) l is = absurd cc
@@ -188,10 +196,10 @@ order_back least (Ok held.End) l is = absurd cc
 order_back least (Ok (held.Cell m)) l is =
     elim (leb least m.cell) as (λ b. leb least m.cell ≡ b
     → cond b (Ok (held.Cell m)) (Err NoOrder) ≡ Ok (held.Cell l)
-    → (Ok (held.Cell m) ≡ Ok (held.Cell l)) × (least ≤ l.cell)) [
+    → IsHeld (Ok (held.Cell m)) l × (least ≤ l.cell)) [
       | true ↦ λ small h.
-          let same : m ≡ l = cc in
-          (h, subst (λ n. least ≤ n.cell) same (leb-true least m.cell small))
+          let same : m ≡ l = same_Some m l (ap cell_held h) in
+          (h, subst (λ (n : CellLine). least ≤ n.cell) same (leb-true least m.cell small))
       | false ↦ λ large h. absurd cc
     ] refl is
 

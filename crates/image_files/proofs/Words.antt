@@ -1,10 +1,10 @@
 -- What a word of a line is: the readers of fields and colours against the definitions.
-use Rattle.std.proofs.Common.{◌≡◌, ℕ, zero, suc, ◌<◌, ◌≤◌, ◌^◌, ◌×◌, true, false, cond, List}
-use Rattle.std.proofs.Common.{[], ◌∷◌, Option, Some, None, refl, sym, subst, ap, ◌∙◌, arith, eqb}
-use Rattle.std.proofs.Common.{ltb}
+use Rattle.std.proofs.Common.{◌≡◌, ℕ, zero, suc, ◌<◌, ◌≤◌, ◌^◌, true, false, cond, List}
+use Rattle.std.proofs.Common.{Bool, [], ◌∷◌, inl, inr, Option, Some, None, length, refl, sym}
+use Rattle.std.proofs.Common.{subst, ap, ◌∙◌, arith, eqb, ltb}
 use Rattle.std.specs.Prelude.{IfSome, bytes_eq, codes, decimal, get_or}
 use Rattle.std.specs.Cmp.Lexicographic.{bytes_decides}
-use Rattle.std.proofs.lemmas.Bool.{eqb-true, le-ltb, lt-ltb, ltb-true}
+use Rattle.std.proofs.lemmas.Bool.{cases_lt, eqb-true, le-ltb, lt-ltb, ltb-true}
 use Rattle.std.proofs.lemmas.Option.{cond_some, same_Some}
 use Rattle.cell_texts.specs.Texts.{colour_text, field_text}
 use Rattle.cell_texts.proofs.Decimals.{decimal-decimal_of, decimal_of-decimal}
@@ -16,12 +16,12 @@ use Rattle.cell_words.specs.declared.fields.Field.TheVariants as field
 use Rattle.core_machine.specs.InRange.{NamesBelow}
 use Rattle.line_words.specs.Cut.{next_rest_of, next_word_of}
 use Rattle.line_words.specs.Numbers.{decimal_of}
-use Rattle.image_files.specs.Line.{below, colour_in, field_in, fields_in, name_in, null_in}
-use Rattle.image_files.specs.Line.{number_in, with_field}
+use Rattle.image_files.specs.Line.{below, colour_in, field_in, fields_in, kept, name_in}
+use Rattle.image_files.specs.Line.{null_in, number_in, with_field}
 
 -- the text of a field is read as it
 
-pub field_there : (size : ℕ) (f : Field) → size ≤ 2 ^ 32 → IsValidField f → NamesBelow size f
+field_there : (size : ℕ) (f : Field) → size ≤ 2 ^ 32 → IsValidField f → NamesBelow size f
     → field_in size (field_text f) ≡ Some f
 field_there size field.Null few valid names = refl
 field_there size (field.Num n) few valid names =
@@ -32,7 +32,7 @@ field_there size (field.Cell c) few valid names =
     ∙ ap (λ b. name_in (cond b (Some c) None)) (lt-ltb c size names)
 
 -- a cell that there is not is read as none
-pub name_past : (size c : ℕ) → c < 2 ^ 32 → size ≤ c
+name_past : (size c : ℕ) → c < 2 ^ 32 → size ≤ c
     → field_in size (field_text (field.Cell c)) ≡ None
 name_past size c few past =
     ap (λ o. name_in (below size o)) (decimal_of-decimal c (omega (arith, few)))
@@ -83,7 +83,7 @@ name_back size digits (Some c) f few read is =
       valid = omega (arith, few, back.0);
     })
 
-pub field_back : (size : ℕ) (word : List ℕ) (f : Field) → size ≤ 2 ^ 32
+field_back : (size : ℕ) (word : List ℕ) (f : Field) → size ≤ 2 ^ 32
     → field_in size word ≡ Some f → IsRead size word f
 field_back size [] f few is = absurd cc
 field_back size (byte ∷ digits) f few is =
@@ -126,16 +126,16 @@ no_field size word (Some f) few reads is =
     let back = field_back size word f few is in
     absurd (let never = reads.all f back.valid back.text in cc)
 
-pub none_read : (size : ℕ) (word : List ℕ) → size ≤ 2 ^ 32 → Reads word None
+none_read : (size : ℕ) (word : List ℕ) → size ≤ 2 ^ 32 → Reads word None
     → None ≡ field_in size word
 none_read size word few reads = sym (no_field size word (field_in size word) few reads refl)
 
-pub field_read : (size : ℕ) (word : List ℕ) (f : Field) → size ≤ 2 ^ 32 → Reads word (Some f)
+field_read : (size : ℕ) (word : List ℕ) (f : Field) → size ≤ 2 ^ 32 → Reads word (Some f)
     → NamesBelow size f → Some f ≡ field_in size word
 field_read size word f few reads names =
     sym (ap (field_in size) (sym reads.text) ∙ field_there size f few reads.valid names)
 
-pub past_read : (size : ℕ) (word : List ℕ) (c : ℕ) → Reads word (Some (field.Cell c)) → size ≤ c
+past_read : (size : ℕ) (word : List ℕ) (c : ℕ) → Reads word (Some (field.Cell c)) → size ≤ c
     → None ≡ field_in size word
 past_read size word c reads past =
     sym (ap (field_in size) (sym reads.text) ∙ name_past size c reads.valid past)
@@ -176,7 +176,7 @@ no_colour word None reads is = refl
 no_colour word (Some c) reads is =
     absurd (let never = reads.all c (colour_back word c is) in cc)
 
-pub none_coloured : (word : List ℕ) → ReadsColour word None → None ≡ colour_in word
+none_coloured : (word : List ℕ) → ReadsColour word None → None ≡ colour_in word
 none_coloured word reads = sym (no_colour word (colour_in word) reads refl)
 
 -- a word that is no colour of a cell in use
@@ -226,3 +226,66 @@ fields_below size (suc count) rest fields few is =
 
 pub cell_below : (size : ℕ) (read : Option ℕ) (c : ℕ) → below size read ≡ Some c → c < size
 cell_below size read c is = (below_back size c read is).0
+
+-- bytes are left behind six fields
+with_none : (read : Option Field) → with_field read None ≡ None
+with_none None = refl
+with_none (Some f) = refl
+
+one_before : (size i : ℕ) (rest : List ℕ) → fields_in size i (next_rest_of rest) ≡ None
+    → fields_in size (suc i) rest ≡ None
+one_before size i rest is =
+    ap (with_field (field_in size (next_word_of rest))) is
+    ∙ with_none (field_in size (next_word_of rest))
+
+none_left : (size : ℕ) (rest : List ℕ) → eqb (length rest) 0 ≡ false
+    → fields_in size 0 rest ≡ None
+none_left size [] is = absurd cc
+none_left size (byte ∷ rest) is = refl
+
+-- the rest behind each word of six
+pub record SixRests (r0 r1 r2 r3 r4 r5 r6 : List ℕ) : Type 0 where
+  pub one : r1 ≡ next_rest_of r0
+  pub two : r2 ≡ next_rest_of r1
+  pub three : r3 ≡ next_rest_of r2
+  pub four : r4 ≡ next_rest_of r3
+  pub five : r5 ≡ next_rest_of r4
+  pub six : r6 ≡ next_rest_of r5
+
+pub left_over : (size : ℕ) (r0 r1 r2 r3 r4 r5 r6 : List ℕ) (empty : Bool)
+    → SixRests r0 r1 r2 r3 r4 r5 r6 → empty ≡ eqb (length r6) 0 → empty ≡ false
+    → None ≡ fields_in size 6 r0
+left_over size r0 r1 r2 r3 r4 r5 r6 empty rests is some =
+    let last = none_left size r6 (sym is ∙ some) in
+    let sixth = one_before size 0 r5 (ap (fields_in size 0) (sym rests.six) ∙ last) in
+    let fifth = one_before size 1 r4 (ap (fields_in size 1) (sym rests.five) ∙ sixth) in
+    let fourth = one_before size 2 r3 (ap (fields_in size 2) (sym rests.four) ∙ fifth) in
+    let third = one_before size 3 r2 (ap (fields_in size 3) (sym rests.three) ∙ fourth) in
+    let second = one_before size 4 r1 (ap (fields_in size 4) (sym rests.two) ∙ third) in
+    sym (one_before size 5 r0 (ap (fields_in size 5) (sym rests.one) ∙ second))
+
+-- the readers, where what they answered is known by an equation
+pub none_by : (size : ℕ) (word : List ℕ) (read : Option Field) → size ≤ 2 ^ 32 → Reads word read
+    → read ≡ None → None ≡ field_in size word
+none_by size word read few reads is = none_read size word few (subst (Reads word) is reads)
+
+kept_read : (size : ℕ) (word : List ℕ) (f : Field) → size ≤ 2 ^ 32 → Reads word (Some f)
+    → kept size f ≡ field_in size word
+kept_read size word field.Null few reads = field_read size word field.Null few reads tt
+kept_read size word (field.Num n) few reads = field_read size word (field.Num n) few reads tt
+kept_read size word (field.Cell c) few reads = elim (cases_lt c size) [
+  | inl names ↦ ap (λ b. name_in (cond b (Some c) None)) (lt-ltb c size names)
+      ∙ field_read size word (field.Cell c) few reads names
+  | inr past ↦ ap (λ b. name_in (cond b (Some c) None)) (le-ltb c size past)
+      ∙ past_read size word c reads past
+]
+
+pub kept_by : (size : ℕ) (word : List ℕ) (read kept_field : Option Field) (f : Field)
+    → size ≤ 2 ^ 32 → Reads word read → read ≡ Some f → kept_field ≡ kept size f
+    → kept_field ≡ field_in size word
+kept_by size word read kept_field f few reads is same =
+    same ∙ kept_read size word f few (subst (Reads word) is reads)
+
+pub colour_none_by : (word : List ℕ) (read : Option Colour) → ReadsColour word read → read ≡ None
+    → None ≡ colour_in word
+colour_none_by word read reads is = none_coloured word (subst (ReadsColour word) is reads)

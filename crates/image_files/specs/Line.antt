@@ -53,6 +53,12 @@ abbrev pub name_in : Option ℕ → Option Field
 name_in None = None
 name_in (Some c) = Some (field.Cell c)
 
+-- the field, if it names no cell past the last
+abbrev pub kept : ℕ → Field → Option Field
+kept size field.Null = Some field.Null
+kept size (field.Num n) = Some (field.Num n)
+kept size (field.Cell c) = name_in (below size (Some c))
+
 -- the field that a word is, in a heap with so many cells
 abbrev pub field_in : ℕ → List ℕ → Option Field
 field_in size [] = None

@@ -52,14 +52,14 @@ impl ImageFile {
 
     /// How many cells there are.
     pub(crate) fn size(&self) -> u32
-        ensures { result ≡ self.size }
+        ensures { result ≡ self.now.size }
     {
         self.size
     }
 
     /// The least number that the next line may have.
     pub(crate) fn least(&self) -> u32
-        ensures { result ≡ self.least }
+        ensures { result ≡ self.now.least }
     {
         self.least
     }
@@ -67,7 +67,7 @@ impl ImageFile {
     /// How many lines there are.
     pub(crate) fn count(&self) -> u32
         requires { IsFile self.now }
-        ensures count { result ≡ length self.lines }
+        ensures count { result ≡ length self.now.lines }
         ensures few { result ≤ 4_194_304 }
     {
         self.lines.len() as u32
@@ -93,7 +93,7 @@ impl ImageFile {
     /// 1 where the cell has none.
     pub(crate) fn line_of(&self, cell: u32) -> u32
         requires { IsFile self.now }
-        ensures { result ≡ line_number self.lines cell }
+        ensures { result ≡ line_number self.now.lines cell }
     {
         match self.place_of(cell) {
             Some(place) => place + 2,
@@ -103,7 +103,7 @@ impl ImageFile {
 
     // The place of the cell's line among the lines of cells.
     fn place_of(&self, cell: u32) -> Option<u32>
-        ensures { IsFile self.now → result ≡ place_of self.lines cell }
+        ensures { IsFile self.now → result ≡ place_of self.now.lines cell }
     {
         match self.places.get(cell as usize) {
             Some(place) => *place,
@@ -113,7 +113,7 @@ impl ImageFile {
 
     // The cell's line.
     fn line_for(&self, cell: u32) -> Option<CellLine>
-        ensures { IsFile self.now → result ≡ line_for self.lines cell }
+        ensures { IsFile self.now → result ≡ line_for self.now.lines cell }
     {
         match self.place_of(cell) {
             Some(place) => self.lines.get(place as usize).copied(),

@@ -1,6 +1,6 @@
 //! One line of a heap file.
 ghost use Rattle.image_files.specs.Line.{below, cell_in, colour_in, field_in, fields_in, head_of};
-ghost use Rattle.image_files.specs.Line.{is_missing, line_of, sized};
+ghost use Rattle.image_files.specs.Line.{is_missing, kept, line_of, sized};
 ghost use Rattle.std.specs.Prelude.{Some, ◌≡◌};
 
 use crate::fault::ImageKind;
@@ -94,7 +94,8 @@ fn colour_in(word: &[u8]) -> Option<Colour>
     ensures { result ≡ colour_in word.now }
 {
     match read_colour(word) {
-        Some(Colour::Blue) | None => None,
+        None => None,
+        Some(Colour::Blue) => None,
         Some(colour) => Some(colour),
     }
 }
@@ -127,8 +128,18 @@ fn fields_in(size: u32, rest: &[u8]) -> Option<[Field; 6]>
 fn field_in(size: u32, word: &[u8]) -> Option<Field>
     ensures { result ≡ field_in size word.now }
 {
-    match read_field(word)? {
+    match read_field(word) {
+        None => None,
+        Some(field) => kept(size, field),
+    }
+}
+
+// The field, if it names no cell past the last.
+fn kept(size: u32, field: Field) -> Option<Field>
+    ensures { result ≡ kept size field }
+{
+    match field {
         Field::Cell(cell) if cell >= size => None,
-        field => Some(field),
+        _ => Some(field),
     }
 }

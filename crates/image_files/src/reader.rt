@@ -1,5 +1,5 @@
 //! A whole heap file: its lines, and the census of the heap that they show.
-ghost use Rattle.image_files.specs.Answers.{Lists, ListsFile, ReadsImage, is_end, lines_left};
+ghost use Rattle.image_files.specs.Answers.{Lists, ListsFile, ReadsImage, lines_left};
 ghost use Rattle.image_files.specs.Answers.{IsSafe};
 ghost use Rattle.image_files.specs.Contents.{contents_of, ended, is_end, lines_from, turn_of};
 ghost use Rattle.image_files.specs.File.{IsFile};
@@ -86,7 +86,7 @@ fn read_turn(file: &ImageFile, line: &[u8], has_feed: bool) -> Result<Held, Imag
 
 // The file, if no byte follows the end.
 fn ended(file: ImageFile, rest: Option<&[u8]>) -> Result<ImageFile, ImageError>
-    requires { IsFile file.now }
+    requires { IsFile file }
     ensures size { IfOk result (λ whole. whole.size ≡ file.size) }
     ensures lines { Lists result (ended file.lines (lines_left rest.entry)) }
     ensures file { IfOk result IsFile }

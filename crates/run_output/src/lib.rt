@@ -4,8 +4,8 @@
 //! `output_text` has the clients' replies, and behind them the merged history and the totals where
 //! they are asked for; `summary_text` the counts of a run of generated scripts; `loaded_text` how
 //! large the tree of a dump is, `census_text` what the cells of a heap are for. The layer above may
-//! rely on the bytes being those of the definitions in specs/. A line of a reply, of an entry and of the totals is that of cmd_text.
-//! Where the bytes go is left to others.
+//! rely on the bytes being those of the definitions in specs/. A line of a reply, of an entry and of
+//! the totals is that of cmd_text. Where the bytes go is left to others.
 //!
 //! Reading order: `output`, `summary`, `loaded`, `counted`.
 #![tactic(auto)]

@@ -3,7 +3,7 @@
 //! text of each fault. And what heap_census says of the heaps that runs leave.
 //!
 //! Reading order: `outcomes`; `runs`, `batches`, `pieces`, `failing`, `options`, `totals`,
-//! `clients`, `census`, `dumps`.
+//! `clients`, `census`, `heap_files`, `dumps`.
 #![tactic(auto)]
 
 #[cfg(test)]
@@ -16,6 +16,8 @@ mod clients;
 mod dumps;
 #[cfg(test)]
 mod failing;
+#[cfg(test)]
+mod heap_files;
 #[cfg(test)]
 mod options;
 #[cfg(test)]

@@ -4,6 +4,7 @@ use cmd_text::ScriptKind;
 use core_replay::ScheduleKind;
 use doc_model::NoMemory;
 use doc_run::{Words, run};
+use image_files::ImageKind;
 use outside::{MemShelf, MemSink, OpenGate, SureShelf, SureSink};
 use script_files::{Fault, fault_text};
 use std::alloc::Global;
@@ -338,6 +339,13 @@ fn each_fault_has_its_text(rt: HostRuntime) -> Result<(), Fail> {
                 kind: LoadKind::NoOrder,
             },
             "docheap: file 1: line 7: NoOrder",
+        ),
+        (
+            Fault::Image {
+                line: 7,
+                kind: ImageKind::BadShape,
+            },
+            "docheap: file 1: line 7: BadShape",
         ),
         (Fault::ReadFault { file: 1 }, "docheap: file 1: read fault"),
         (Fault::WriteFault, "docheap: write fault"),

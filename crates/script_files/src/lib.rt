@@ -3,10 +3,11 @@
 //!
 //! `scripts_in_files` reads several files in turn, `scripts_made` the texts of the generator in
 //! their place; `replay_in_file` gives the replay text of a schedule, `dump_in_file` what a dump is
-//! of, and `census_in_file` the census of a heap. The layer above may rely on an answer being that of the definitions in specs/ for
-//! the bytes that the shelf tells, on the first file that is refused deciding, and on how often the
-//! shelf was called. `Fault` is each way in which the program may end early, with its status and
-//! its text. What scripts are answered, and what is written, is left to others.
+//! of, and `census_in_file` the census of a heap. The layer above may rely on an answer being that
+//! of the definitions in specs/ for the bytes that the shelf tells, on the first file that is
+//! refused deciding, and on how often the shelf was called. `Fault` is each way in which the program
+//! may end early, with its status and its text. What scripts are answered, and what is written, is
+//! left to others.
 //!
 //! Reading order: `fault`, `scripts`, `made`, `replayed`, `loaded`, `counted`.
 #![tactic(auto)]

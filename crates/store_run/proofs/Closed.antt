@@ -16,6 +16,7 @@ use Rattle.client_run.specs.declared.options.Options.{Options}
 use Rattle.client_threads.proofs.AtClose.{AtClose, agreed, cycles_made, few_cycles, service, tidy}
 use Rattle.client_threads.proofs.AtClose.{tied}
 use Rattle.client_turns.specs.Runs.{was_full}
+use Rattle.closed_census.proofs.Kept.{census_kept}
 use Rattle.closed_store.specs.Chain.{ShowsVersions}
 use Rattle.closed_store.specs.Closing.{AreJoined, EndedStore}
 use Rattle.closed_store.proofs.Chaining.{versions_shown}
@@ -189,6 +190,9 @@ module _ (o : Options) (scripts : List (List Command)) (logs : List ClientLog)
           service = service o n n logs image.words v at ended totals.cycles cycles;
           cycles = few_cycles o n n logs image.words v at ended totals.cycles cycles;
           tidy = tidy o n n logs image.words v at ended totals.cycles cycles;
+          census = census_kept (shape_of o (length scripts)) image v ended o.keep
+              ended.shows.kept.trees stay (totals.cycles < o.cycles) shown
+              (tidy o n n logs image.words v at ended totals.cycles cycles);
         }
 
   -- the heap's shape is that of the run

@@ -6,13 +6,14 @@
 -- Source: this project's.
 use Rattle.std.specs.Prelude.{ℕ, ◌≡◌, ◌≤◌, ◌<◌, ◌+◌, ◌-◌}
 use Rattle.std.specs.Prelude.{true}
-use Rattle.std.specs.Prelude.{List, length, map}
+use Rattle.std.specs.Prelude.{List, ◌∷◌, length, map}
 use Rattle.std.specs.List.{list_any}
 use Rattle.client_run.specs.Options.{limits_of, shape_of}
 use Rattle.client_run.specs.declared.options.Options.{Options}
 use Rattle.client_threads.specs.Clients.{places_for}
 use Rattle.client_threads.specs.Ends.{IsService, IsTiedTo}
 use Rattle.client_turns.specs.Runs.{was_full}
+use Rattle.closed_census.specs.Kept.{HasCensus}
 use Rattle.closed_store.specs.Chain.{ShowsVersions}
 use Rattle.closed_store.specs.Closing.{EndedStore}
 use Rattle.core_machine.specs.State.{State, free_count_of}
@@ -78,3 +79,6 @@ pub record Comes (o : Options) (scripts : List (List Command)) (logs : List Clie
   pub service : IsService o.cycles (length scripts) totals.cycles passes.trail
   pub cycles : totals.cycles ≤ o.cycles
   pub tidy : totals.cycles < o.cycles → IsTidy ended.shows.core
+  -- a census of the image is never refused: it counts the versions of that chain, and after fewer
+  -- cycles nothing that floats
+  pub census : HasCensus image (length (stay.latest ∷ stay.older)) (totals.cycles < o.cycles)

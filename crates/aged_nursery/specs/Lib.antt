@@ -1,0 +1,4 @@
+pub mod Aged
+pub mod Copies
+pub mod Lending
+pub mod Survivors

@@ -1,0 +1,5 @@
+ghost use Rattle.std.specs.Prelude.{ℕ, ◌≡◌};
+
+pub fn probe()
+    ensures { (x : ℕ) → x ≡ x }
+{}
