@@ -84,3 +84,5 @@ pub none_opened : (before n : ℕ) → 63 < n → OpensInTurn before before (few
 none_opened before n many =
     subst (OpensInTurn before before) (sym (none_read n many))
     (0, omega arith, (λ some. omega (arith, some)), refl)
+
+pub ruleset few = (none_opened)

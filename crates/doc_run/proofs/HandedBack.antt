@@ -77,9 +77,9 @@ back_sort told fault dumped OfSize same is = elim is [
   | inl refused ↦
       none_back dumped 6 refused.1 (λ e. omega (arith, e)) (λ e. omega (arith, e))
   | inr large ↦ (
-      (λ some. inr (inr (refl, too_large dumped large.1))),
-      (λ ends. some_of dumped large.1),
-    )
+    (λ some. inr (inr (refl, too_large dumped large.1))),
+    (λ ends. some_of dumped large.1),
+  )
 ]
 
 back_of : (told : List (Option (List ℕ))) (fault : Option Fault) (dumped : Option Dumped)

@@ -5,6 +5,7 @@ pub mod Readings
 pub mod Guesting
 pub mod Few
 pub mod HandedBack
+pub mod Endings
 pub mod Asking
 pub mod Faulting
 pub mod Writing

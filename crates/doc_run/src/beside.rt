@@ -23,6 +23,7 @@ const MOST_BESIDE: usize = 63;
 
 /// Answers the scripts in the files of these names, and writes a version that it has dumped beside
 /// them.
+#[tactic(auto, using(crate::proofs::Endings::endings, crate::proofs::Few::few, script_files::proofs::Opens::stops_none))]
 pub fn dump_beside<R: Threads + Wait + Sync, H: Shelf, S: Sink, G: Gate + Sync>(
     alloc: Global,
     rt: &R,
@@ -69,6 +70,7 @@ pub fn dump_beside<R: Threads + Wait + Sync, H: Shelf, S: Sink, G: Gate + Sync>(
 }
 
 // Writes the dump, unless the tree of the version is too large for one.
+#[tactic(auto, using(crate::proofs::Endings::endings))]
 fn write_dump<S: Sink>(sink: &mut S, dumped: Dumped) -> Outcome
     ensures status { result.status ≡ status_of result.fault }
     ensures finished { result.finished ≡ None }
