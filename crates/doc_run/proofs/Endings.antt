@@ -15,17 +15,17 @@ use Rattle.doc_run.specs.Guested.{AreFewScripts, DumpsBy, ExplainsDump, WritesDu
 use Rattle.doc_run.proofs.Few.{many_scripts}
 
 refused_sort : (told : List (Option (List ℕ))) (fault : Fault) (sort : Sort)
-    (Large Failed : Type 0)
+    (dumped : Option Dumped) (Large Failed : Type 0) → IsNone dumped
     → Refused OfScripts sort (AreFewScripts told (Err fault)) (Unit {0})
     → BySort sort
     ((Refused OfScripts sort (AreFewScripts told (Err fault)) (Unit {0})
-    × IsNone {Dumped} None) ⊎ Large) Failed (IsNone {Dumped} None)
-refused_sort told fault OfWords Large Failed is = inl (is, refl)
-refused_sort told fault (OfLine grammar) Large Failed is = inl (is, refl)
-refused_sort told fault OfReading Large Failed is = inl (is, refl)
-refused_sort told fault OfWriting Large Failed is = absurd is
-refused_sort told fault OfMemory Large Failed is = refl
-refused_sort told fault OfSize Large Failed is = inl (is, refl)
+    × IsNone dumped) ⊎ Large) Failed (IsNone dumped)
+refused_sort told fault OfWords dumped Large Failed none is = inl (is, none)
+refused_sort told fault (OfLine grammar) dumped Large Failed none is = inl (is, none)
+refused_sort told fault OfReading dumped Large Failed none is = inl (is, none)
+refused_sort told fault OfWriting dumped Large Failed none is = absurd is
+refused_sort told fault OfMemory dumped Large Failed none is = none
+refused_sort told fault OfSize dumped Large Failed none is = inl (is, none)
 
 unwritten_sort : (sort : Sort) (A Failed Part : Type 0) (old : Option (List ℕ))
     → Refused OfScripts sort A (Unit {0}) → BySort sort (old ≡ old) Failed ((old ≡ old) ⊎ Part)
@@ -42,9 +42,10 @@ pub refused_explained : (told : List (Option (List ℕ))) (fault : Fault) (found
     → Refused OfScripts (sort_of fault) (AreFewScripts told (Err fault)) (Unit {0})
     → found ≡ Some fault → dumped ≡ None → ExplainsDump told found dumped
 refused_explained told fault found dumped is one none =
+    let nothing : IsNone dumped =
+    subst (λ (d : Option Dumped). IsNone d) (sym none) refl in
     subst (λ (f : Option Fault). ExplainsDump told f dumped) (sym one)
-    (subst (λ (d : Option Dumped). ExplainsDump told (Some fault) d) (sym none)
-    (refused_sort told fault (sort_of fault) _ _ is))
+    (refused_sort told fault (sort_of fault) dumped _ _ nothing is)
 
 pub refused_written : (told : List (Option (List ℕ))) (fault : Fault) (found : Option Fault)
     (dumped : Option Dumped) (old : Option (List ℕ))

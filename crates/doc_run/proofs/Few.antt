@@ -36,7 +36,7 @@ pub few_are_read : (holds : List ℕ → Option (List ℕ)) (names : List (Bor (
     → AreRead (map holds (map (λ name. name.now) names)) scripts forms
     → AreFewScripts (map holds (map (λ name. name.now) names)) (Ok scripts)
 few_are_read holds names scripts forms short is =
-    few_scripts _ (Ok scripts) (names_short holds names short) (is.0, is.1.0, is.1.1)
+    few_scripts _ (Ok scripts) (names_short holds names short) (is.0, is.1, is.2)
 
 -- and those that were refused
 pub few_are_refused : (holds : List ℕ → Option (List ℕ)) (names : List (Bor (List ℕ)))

@@ -69,9 +69,9 @@ ended_due scripts dumped status ends fits = record {
       | inl e ↦ omega (arith, six, e)
       | inr e ↦ omega (arith, six, e)
     ])),
-    (λ facts. absurd (elim facts.1 [| inl never ↦ never | inr big ↦ fits big])),
+    (λ facts. absurd (elim facts.1 [ inl never ↦ never | inr big ↦ fits big ])),
   );
-  complete = λ ok. elim ends [| inl e ↦ inl e | inr e ↦ inr (inr (inl e))];
+  complete = λ ok. elim ends [ inl e ↦ inl e | inr e ↦ inr (inr (inl e)) ];
 }
 
 faulty_due : (fault : Fault) (dumped : Option Dumped) → sort_of fault ≡ OfLine OfScripts

@@ -142,7 +142,7 @@ answer_good Images bytes text is =
     let of_bytes = subst (λ (b : List ℕ). IsCensusOf b is.0) held.1 held.2 in (
       of_bytes.short,
       (λ wrong. refused_none bytes (Image wrong.0.line wrong.0.kind)
-      (inr (wrong.0, refl, wrong.1)) (is.0, of_bytes)),
+          (inr (wrong.0, refl, wrong.1)) (is.0, of_bytes)),
     )
 
 -- The status by the sort of the fault.
@@ -169,7 +169,7 @@ answered reading bytes text status ends is =
         ])),
         (λ facts. let long = facts.1 in absurd (omega (arith, long, short))),
       );
-      complete = λ fine. elim ends [| inl e ↦ inl e | inr e ↦ inr (inr (inl e))];
+      complete = λ fine. elim ends [ inl e ↦ inl e | inr e ↦ inr (inr (inl e)) ];
     }
 
 -- it could not be read
@@ -219,7 +219,7 @@ due_sort reading bytes fault OfSize old new same is written =
       faulty = (
         (λ two. absurd (omega (arith, two))),
         (λ facts. let short = faulty_short reading bytes facts.1 in
-        absurd (omega (arith, long, short))),
+            absurd (omega (arith, long, short))),
       );
       large = ((λ six. (search rules, long)), (λ facts. refl));
       complete = λ good. absurd (decides_good reading bytes fault is good);
