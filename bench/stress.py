@@ -313,7 +313,7 @@ class Program:
         return self.ran
 
     def has(self, word):
-        """Whether it has this word: a file that is not there is a read fault then, and not usage."""
+        """Whether it has this word: an absent file is a read fault then, and not usage."""
         return self.run(word, os.path.join(self.folder, "absent")).returncode != 1
 
     def wrong_status(self):
