@@ -1,7 +1,8 @@
-//! What no clause says of line_words, quoted_text, cmd_text and script_generator: scripts, replies
-//! and lines whose readings and texts were worked out by hand.
+//! What no clause says of line_words, quoted_text, cmd_text, mail_text and script_generator: scripts,
+//! replies and lines whose readings and texts were worked out by hand.
 //!
-//! Reading order: `made`, `lines`, `quotes`, `scripts`, `second_scripts`, `summaries`, `generated`.
+//! Reading order: `made`, `lines`, `quotes`, `scripts`, `second_scripts`, `summaries`, `generated`,
+//! `mail`.
 #![tactic(auto)]
 
 #[cfg(test)]
@@ -10,6 +11,8 @@ mod generated;
 mod lines;
 #[cfg(test)]
 mod made;
+#[cfg(test)]
+mod mail;
 #[cfg(test)]
 mod quotes;
 #[cfg(test)]
