@@ -1,3 +1,4 @@
+pub mod Ageing
 pub mod Calls
 pub mod Carrying
 pub mod Commits

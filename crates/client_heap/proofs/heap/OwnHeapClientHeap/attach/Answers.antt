@@ -13,7 +13,7 @@ invariant_of-self g c =
     let same = did.leaves.records_room in
     let fits = was.copies in
     record {
-      sound = left_sound (bound was.m.now) (bound c.attach.new.self) was.minor.now
+      sound = left_sound (bound was.m.now) (bound c.attach.new.self) was.nursery.now.heap
           c.attach.new.minor did.leaves was.draft was.base was.sound did.records did.held
           (omega (arith, room));
       copies = omega (arith, same, fits);
@@ -24,14 +24,14 @@ returns-clause-edits g c =
     let bound = g.M.StoreSeat.bound in
     let was = c.args.self.now in
     let did = c.attach.ensures in
-    left_edits (bound was.m.now) (bound c.attach.new.self) was.minor.now c.attach.new.minor
+    left_edits (bound was.m.now) (bound c.attach.new.self) was.nursery.now.heap c.attach.new.minor
     did.leaves was.draft was.base was.sound did.records did.held
 
 pub returns-clause-still : goal.returns-clause-still
 returns-clause-still g c =
     let bound = g.M.StoreSeat.bound in
     let was = c.args.self.now in
-    left_still (bound was.m.now) (bound c.attach.new.self) was.minor.now c.attach.new.minor
+    left_still (bound was.m.now) (bound c.attach.new.self) was.nursery.now.heap c.attach.new.minor
     c.attach.ensures.leaves
 
 pub returns-clause-lent : goal.returns-clause-lent

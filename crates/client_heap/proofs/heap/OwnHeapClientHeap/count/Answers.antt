@@ -9,7 +9,7 @@ invariant_of-self g c =
     let bound = g.M.StoreSeat.bound in
     let was = c.args.self.now in
     record {
-      sound = all_sound (bound was.m.now) (bound c.count.new.self) was.minor.now c.count.new.minor
+      sound = all_sound (bound was.m.now) (bound c.count.new.self) was.nursery.now.heap c.count.new.minor
           c.count.ensures.leaves was.draft was.base was.sound;
       copies = let room = c.count.ensures.leaves.leaves.records_room in
           let fits = was.copies in omega (arith, room, fits);
@@ -19,14 +19,14 @@ pub returns-clause-rests : goal.returns-clause-rests
 returns-clause-rests g c =
     let bound = g.M.StoreSeat.bound in
     let was = c.args.self.now in
-    all_rests (bound was.m.now) (bound c.count.new.self) was.minor.now c.count.new.minor
+    all_rests (bound was.m.now) (bound c.count.new.self) was.nursery.now.heap c.count.new.minor
     c.count.ensures.leaves was.draft was.base was.sound
 
 pub returns-clause-still : goal.returns-clause-still
 returns-clause-still g c =
     let bound = g.M.StoreSeat.bound in
     let was = c.args.self.now in
-    all_still (bound was.m.now) (bound c.count.new.self) was.minor.now c.count.new.minor
+    all_still (bound was.m.now) (bound c.count.new.self) was.nursery.now.heap c.count.new.minor
     c.count.ensures.leaves
 
 pub returns-clause-lent : goal.returns-clause-lent

@@ -10,7 +10,7 @@ invariant_of-self g c =
     let was = c.args.self.now in
     let did = c.current-found.ensures in
     record {
-      sound = holds_sound (bound was.m.now) (bound c.current-found.new.self) was.minor.now
+      sound = holds_sound (bound was.m.now) (bound c.current-found.new.self) was.nursery.now.heap
           (did.latest.cell ∷ []) did.latest.holds c.len-records.ensures.ordered did.lasts did.same
           was.draft was.base was.sound;
       copies = was.copies;
@@ -21,7 +21,7 @@ returns-clause-rests g c =
     let bound = g.M.StoreSeat.bound in
     let was = c.args.self.now in
     let did = c.current-found.ensures in
-    holds_rests (bound was.m.now) (bound c.current-found.new.self) was.minor.now
+    holds_rests (bound was.m.now) (bound c.current-found.new.self) was.nursery.now.heap
     (did.latest.cell ∷ []) did.latest.holds c.len-records.ensures.ordered did.lasts did.same
     was.draft was.base was.sound 1 (omega arith) (ap commit_numbers did.latest.pass)
     did.latest.claims
@@ -31,7 +31,7 @@ returns-clause-still g c =
     let bound = g.M.StoreSeat.bound in
     let was = c.args.self.now in
     let did = c.current-found.ensures in
-    holds_still (bound was.m.now) (bound c.current-found.new.self) was.minor.now
+    holds_still (bound was.m.now) (bound c.current-found.new.self) was.nursery.now.heap
     (did.latest.cell ∷ []) did.latest.holds c.len-records.ensures.ordered did.lasts did.same
 
 pub returns-clause-lent : goal.returns-clause-lent

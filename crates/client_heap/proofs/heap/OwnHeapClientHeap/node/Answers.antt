@@ -22,7 +22,7 @@ invariant_of-self g c =
     let room = did.carries.follows.minor_room in
     let fits = was.copies in
     record {
-      sound = sound_on _ (bound was.m.now) (bound c.node_below.new.self) was.minor.now
+      sound = sound_on _ (bound was.m.now) (bound c.node_below.new.self) was.nursery.now.heap
           c.node_below.new.minor did.carries was.draft was.base was.sound was.sound.kept
           (omega (arith, same, ready));
       copies = omega (arith, room, fits);
@@ -36,7 +36,7 @@ returns-clause-rests g c =
     let few = path_short c.args.path.now c.names.ensures.path in
     let same = ap (λ (xs : _). length xs) c.names.ensures.names in
     let held = did.held in
-    rests_on _ (bound was.m.now) (bound c.node_below.new.self) was.minor.now c.node_below.new.minor
+    rests_on _ (bound was.m.now) (bound c.node_below.new.self) was.nursery.now.heap c.node_below.new.minor
     did.carries was.draft was.base was.sound was.sound.kept 8 (ap commit_numbers did.pass)
     did.claims (ap (λ (x : _). length x.records) did.minor) (omega (arith, few, same, held))
 
@@ -44,7 +44,7 @@ pub returns-clause-still : goal.returns-clause-still
 returns-clause-still g c =
     let bound = g.M.StoreSeat.bound in
     let was = c.args.self.now in
-    still_on (bound was.m.now) (bound c.node_below.new.self) was.minor.now c.node_below.new.minor
+    still_on (bound was.m.now) (bound c.node_below.new.self) was.nursery.now.heap c.node_below.new.minor
     c.node_below.ensures.carries
 
 pub returns-clause-lent : goal.returns-clause-lent

@@ -9,7 +9,7 @@ invariant_of-self g c =
     let bound = g.M.StoreSeat.bound in
     let was = c.args.self.now in
     record {
-      sound = older_sound (bound was.m.now) (bound c.older.new.self) was.minor.now c.stored.result
+      sound = older_sound (bound was.m.now) (bound c.older.new.self) was.nursery.now.heap c.stored.result
           c.args.back c.len-records.ensures.ordered c.older.ensures.lasts c.older.ensures.same
           c.older.result c.older.ensures.older c.older.ensures.held was.draft was.base was.sound;
       copies = was.copies;
@@ -20,7 +20,7 @@ returns-in-Ok-clause-rests g c =
     let bound = g.M.StoreSeat.bound in
     let was = c.args.self.now in
     let did = c.in-Ok.ensures.older in
-    holds_rests (bound was.m.now) (bound c.older.new.self) was.minor.now (did.cell ∷ []) did.holds
+    holds_rests (bound was.m.now) (bound c.older.new.self) was.nursery.now.heap (did.cell ∷ []) did.holds
     c.len-records.ensures.ordered c.older.ensures.lasts c.older.ensures.same was.draft was.base
     was.sound 1 (omega arith) (ap commit_numbers did.pass) did.claims
 
@@ -29,14 +29,14 @@ returns-in-Ok-clause-still g c =
     let bound = g.M.StoreSeat.bound in
     let was = c.args.self.now in
     let did = c.in-Ok.ensures.older in
-    holds_still (bound was.m.now) (bound c.older.new.self) was.minor.now (did.cell ∷ []) did.holds
+    holds_still (bound was.m.now) (bound c.older.new.self) was.nursery.now.heap (did.cell ∷ []) did.holds
     c.len-records.ensures.ordered c.older.ensures.lasts c.older.ensures.same
 
 pub returns-in-Err-clause-rests : goal.returns-in-Err-clause-rests
 returns-in-Err-clause-rests g c =
     let bound = g.M.StoreSeat.bound in
     let was = c.args.self.now in
-    holds_rests (bound was.m.now) (bound c.older.new.self) was.minor.now [] c.in-Err.ensures.held
+    holds_rests (bound was.m.now) (bound c.older.new.self) was.nursery.now.heap [] c.in-Err.ensures.held
     c.len-records.ensures.ordered c.older.ensures.lasts c.older.ensures.same was.draft was.base
     was.sound 1 (omega arith) (ap commit_numbers c.in-Err.ensures.cut.pass)
     c.older.ensures.claims
@@ -45,7 +45,7 @@ pub returns-in-Err-clause-still : goal.returns-in-Err-clause-still
 returns-in-Err-clause-still g c =
     let bound = g.M.StoreSeat.bound in
     let was = c.args.self.now in
-    holds_still (bound was.m.now) (bound c.older.new.self) was.minor.now [] c.in-Err.ensures.held
+    holds_still (bound was.m.now) (bound c.older.new.self) was.nursery.now.heap [] c.in-Err.ensures.held
     c.len-records.ensures.ordered c.older.ensures.lasts c.older.ensures.same
 
 pub returns-in-Ok-clause-lent : goal.returns-in-Ok-clause-lent

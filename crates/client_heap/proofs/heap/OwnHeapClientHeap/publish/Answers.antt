@@ -11,7 +11,7 @@ invariant_of-self g c =
     let same = did.promoter in
     let fits = was.copies in
     record {
-      sound = sound_on _ (bound was.m.now) (bound c.publish.new.self) was.minor.now was.minor.now
+      sound = sound_on _ (bound was.m.now) (bound c.publish.new.self) was.nursery.now.heap was.nursery.now.heap
           did.carries was.draft was.base was.sound was.sound.kept was.sound.ready;
       copies = omega (arith, same, fits);
     }
@@ -20,7 +20,7 @@ pub returns-clause-draft : goal.returns-clause-draft
 returns-clause-draft g c =
     let bound = g.M.StoreSeat.bound in
     let was = c.args.self.now in
-    draft_on _ (bound was.m.now) (bound c.publish.new.self) was.minor.now was.minor.now
+    draft_on _ (bound was.m.now) (bound c.publish.new.self) was.nursery.now.heap was.nursery.now.heap
     c.publish.ensures.carries was.draft was.base was.sound was.sound.kept
 
 pub returns-clause-lent : goal.returns-clause-lent

@@ -8,8 +8,8 @@ invariant_of-self g c =
     let bound = g.M.StoreSeat.bound in
     let was = c.args.self.now in
     record {
-      sound = sound_on was.base (bound was.m.now) (bound c.cut_back.new.self) was.minor.now
-          was.minor.now c.cut_back.ensures.carries was.draft was.base was.sound (omega arith)
+      sound = sound_on was.base (bound was.m.now) (bound c.cut_back.new.self) was.nursery.now.heap
+          was.nursery.now.heap c.cut_back.ensures.carries was.draft was.base was.sound (omega arith)
           was.sound.ready;
       copies = was.copies;
     }

@@ -9,7 +9,7 @@ invariant_of-self g c =
     let was = c.args.self.now in
     let did = c.trim.ensures in
     record {
-      sound = holds_sound (bound was.m.now) (bound c.trim.new.self) was.minor.now [] did.held
+      sound = holds_sound (bound was.m.now) (bound c.trim.new.self) was.nursery.now.heap [] did.held
           c.len-records.ensures.ordered did.lasts did.same was.draft was.base was.sound;
       copies = was.copies;
     }
@@ -19,7 +19,7 @@ returns-clause-rests g c =
     let bound = g.M.StoreSeat.bound in
     let was = c.args.self.now in
     let did = c.trim.ensures in
-    holds_rests (bound was.m.now) (bound c.trim.new.self) was.minor.now [] did.held
+    holds_rests (bound was.m.now) (bound c.trim.new.self) was.nursery.now.heap [] did.held
     c.len-records.ensures.ordered did.lasts did.same was.draft was.base was.sound 0 (omega arith)
     (trim_commits (bound was.m.now) (bound c.trim.new.self) c.stored.result c.args.keep did.trims
     did.nothing)
