@@ -1,4 +1,4 @@
-pub mod Ageing
+pub mod Aged
 pub mod Calls
 pub mod Carrying
 pub mod Commits

@@ -1,6 +1,6 @@
 //! Ageing: the private records that the draft and a tree in the making reach are copied within the
 //! private heap, and the others are let go of. The shared heap has no part in it.
-ghost use Rattle.std.specs.Prelude.{◌≡◌, ◌<◌, ◌≤◌, ◌+◌, length, true};
+ghost use Rattle.std.specs.Prelude.{◌≡◌, ◌<◌, ◌≤◌, ◌+◌, false, length, true};
 ghost use Rattle.client_heap.specs.Ages.{Ages, is_there};
 ghost use Rattle.client_records.specs.declared.at.NodeAt.TheVariants as at;
 ghost use Rattle.minor_heap.specs.Nursery.{Stands};
@@ -21,10 +21,9 @@ fn age_record(nursery: &mut AgedNursery, r: MinorRef) -> MinorRef
     ensures room { nursery.new.heap.room ≡ nursery.old.heap.room }
     ensures records { nursery.new.records ≡ nursery.old.records }
 {
-    let _records = nursery.heap().len();
     let mut roots = [r];
     nursery.age(&mut roots);
-    let _aged = nursery.heap().len();
+    let _ordered = nursery.heap().len();
     roots[0]
 }
 
@@ -42,10 +41,9 @@ fn age_records(nursery: &mut AgedNursery, q: MinorRef, r: MinorRef) -> (MinorRef
     ensures room { nursery.new.heap.room ≡ nursery.old.heap.room }
     ensures records { nursery.new.records ≡ nursery.old.records }
 {
-    let _records = nursery.heap().len();
     let mut roots = [q, r];
     nursery.age(&mut roots);
-    let _aged = nursery.heap().len();
+    let _ordered = nursery.heap().len();
     (roots[0], roots[1])
 }
 
@@ -105,6 +103,14 @@ fn age_nodes(nursery: &mut AgedNursery, x: NodeAt, y: NodeAt) -> (NodeAt, NodeAt
     }
 }
 
+/// Whether there are places enough, and nothing has aged since the last collection.
+fn is_due(nursery: &AgedNursery, places: bool) -> bool
+    ensures due { result ≡ true → (places ≡ true) × (nursery.now.aged ≡ 0) }
+    ensures waits { result ≡ false → places ≡ true → 0 < nursery.now.aged }
+{
+    places && nursery.aged_len() == 0
+}
+
 /// Ages, with the draft as the root, where there are places enough and nothing has aged since the
 /// last collection. Whether there is room for an edit's records then.
 pub(crate) fn age_draft(nursery: &mut AgedNursery, draft: &mut NodeAt, places: bool) -> bool
@@ -120,7 +126,7 @@ pub(crate) fn age_draft(nursery: &mut AgedNursery, draft: &mut NodeAt, places: b
     ensures room { nursery.new.heap.room ≡ nursery.old.heap.room }
     ensures records { nursery.new.records ≡ nursery.old.records }
 {
-    if !places || nursery.aged_len() != 0 {
+    if !is_due(nursery, places) {
         return false;
     }
     *draft = age_node(nursery, *draft);
@@ -148,7 +154,7 @@ pub(crate) fn age_both(
     ensures room { nursery.new.heap.room ≡ nursery.old.heap.room }
     ensures records { nursery.new.records ≡ nursery.old.records }
 {
-    if !places || nursery.aged_len() != 0 {
+    if !is_due(nursery, places) {
         return (tree, false);
     }
     let (first, second) = age_nodes(nursery, *draft, tree);

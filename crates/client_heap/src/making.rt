@@ -92,9 +92,59 @@ fn share_both<R: Wait>(
     }
 }
 
-/// A collection with the draft and a tree in the making as its roots, which become shared. They are
-/// held behind the anchor, and nothing else is. The nursery has then nothing that aged.
+/// Lets all private records go but those of the draft and of a tree in the making, which become
+/// shared. They are held behind the anchor, and nothing else is.
 fn share_pair<R: Wait>(
+    rt: &R,
+    hints: &mut Hints<'_>,
+    m: &mut Mutator<'_, Documents>,
+    minor: &mut MinorHeap,
+    promoter: &mut Promoter,
+    draft: NodeAt,
+    base: usize,
+    tree: NodeAt,
+) -> Result<(), HeapFull>
+    requires sound { IsSound m.old minor.old draft base }
+    requires node { IsTreeAt m.old minor.old tree }
+    requires copies { minor.old.room ≤ promoter.old }
+    requires ready { length m.old.seat.me.own.held + length minor.old.records + 9000
+        ≤ m.old.seat.me.room }
+    ensures shared { OnOk result (IsSound m.new minor.new (at.Shared 1) 2) }
+    ensures term { OnOk result (node_term m.new minor.new (at.Shared 1)
+        ≡ node_term m.old minor.old draft) }
+    ensures node { OnOk result (IsTreeAt m.new minor.new (at.Shared 2)) }
+    ensures tree { OnOk result (node_term m.new minor.new (at.Shared 2)
+        ≡ node_term m.old minor.old tree) }
+    ensures held { OnOk result (length m.new.seat.me.own.held ≡ 3) }
+    ensures emptied { OnOk result (minor.new.records ≡ []) }
+    ensures sound { OnErr result (IsSound m.new minor.new draft base) }
+    ensures same { OnErr result (node_term m.new minor.new draft
+        ≡ node_term m.old minor.old draft) }
+    ensures full { OnErr result (Had (IsFull m.old.seat.me.shape.cells) (marks m.old)
+        (marks m.new)) }
+    ensures kept { OnErr result (length m.new.seat.me.own.held + length minor.new.records
+        ≡ length m.old.seat.me.own.held + length minor.old.records) }
+    ensures follows { Follows m.old m.new minor.old minor.new }
+    ensures pass { m.new.seat.me.pass ≡ m.old.seat.me.pass }
+    ensures promoter { promoter.new ≡ promoter.old }
+    ensures queue { queue_of hints.new ≡ queue_of hints.old }
+{
+    let _ = base;
+    match share_both(rt, hints, m, minor, promoter, draft, tree) {
+        Ok(first) => {
+            let held = m.held_len();
+            let x = place_of(first, draft);
+            let y = place_of(held - 1, tree);
+            keep_pair(m, minor, x, y);
+            Ok(())
+        }
+        Err(full) => Err(full),
+    }
+}
+
+/// A collection with the draft and a tree in the making as its roots: the nursery is then empty, and
+/// has nothing that aged.
+fn collect_pair<R: Wait>(
     rt: &R,
     hints: &mut Hints<'_>,
     m: &mut Mutator<'_, Documents>,
@@ -131,13 +181,8 @@ fn share_pair<R: Wait>(
     ensures promoter { promoter.new ≡ promoter.old }
     ensures queue { queue_of hints.new ≡ queue_of hints.old }
 {
-    let _ = base;
-    match share_both(rt, hints, m, nursery.heap_mut(), promoter, draft, tree) {
-        Ok(first) => {
-            let held = m.held_len();
-            let x = place_of(first, draft);
-            let y = place_of(held - 1, tree);
-            keep_pair(m, nursery.heap(), x, y);
+    match share_pair(rt, hints, m, nursery.heap_mut(), promoter, draft, base, tree) {
+        Ok(()) => {
             nursery.promoted();
             Ok(())
         }
@@ -194,7 +239,7 @@ pub(crate) fn make_room_for<R: Wait>(
     if enough {
         return Ok(Some(next));
     }
-    match share_pair(rt, hints, m, nursery, promoter, *draft, *base, next) {
+    match collect_pair(rt, hints, m, nursery, promoter, *draft, *base, next) {
         Ok(()) => {
             *draft = NodeAt::Shared(1);
             *base = 2;

@@ -24,7 +24,7 @@ use Rattle.version_store.proofs.Lasting.{lasts_still, same_still}
 use Rattle.client_heap.specs.Ages.{Ages, is_there}
 use Rattle.client_heap.specs.Carries.{Follows}
 use Rattle.client_heap.specs.Shows.{node_term}
-use Rattle.client_heap.specs.Sound.{HasRoom, IsCleared, IsSound}
+use Rattle.client_heap.specs.Sound.{IsSound}
 
 module _ (records : List (List MinorField)) (ok : ℕ → Type 0) where
   -- what rests leads to such places alone
@@ -85,6 +85,10 @@ module _ (old new : List (List MinorField)) (from to : List MinorRef)
     same = λ known. root_term (terms_known known);
   }
 
+-- the records of the heap in use, as it was lent to be read
+pub ordered_by : (a b : Nursery) → b ≡ a → IsOrdered 0 b.records → IsOrdered 0 a.records
+ordered_by a b same ordered = subst (λ (n : Nursery). IsOrdered 0 n.records) same ordered
+
 -- A node that was not touched.
 
 pub shared_ages : (old new : List (List MinorField)) (place : ℕ)
@@ -120,12 +124,12 @@ module _ (m : Bound Pass) (old new : Nursery) (room : new.room ≡ old.room)
     lasts = lasts_still m;
   }
 
-  module _ (d e : NodeAt) (b : ℕ) (ages : Ages old.records new.records d e) where
+  module _ (d e : NodeAt) (ages : Ages old.records new.records d e) where
     pub aged_term : node_term m new e ≡ node_term m old d
     aged_term = ages.same m.seat.me.known
 
-    pub aged_sound : IsSound m old d b → IsSound m new e b
-    aged_sound sound = record {
+    pub aged_sound : (b : ℕ) → IsSound m old d b → IsSound m new e b
+    aged_sound b sound = record {
       inside = sound.inside;
       some = sound.some;
       kept = sound.kept;
@@ -144,17 +148,3 @@ module _ (m : Bound Pass) (old new : Nursery) (room : new.room ≡ old.room)
 
     pub aged_tree : tree_at m new e ≡ tree_at m old d
     aged_tree = ap tree_of aged_term
-
-  pub aged_cleared : length m.seat.me.own.held + (20_480 + length old.records) ≤ m.seat.me.room
-      → length new.records + 2_285 ≤ new.room → IsCleared m new
-  aged_cleared places spare = record {
-    room = omega (arith, places, fewer);
-    spare = spare;
-  }
-
-  pub aged_room : length m.seat.me.own.held + (20_011 + length old.records) ≤ m.seat.me.room
-      → length new.records + 2_285 ≤ new.room → HasRoom m new
-  aged_room places spare = record {
-    room = omega (arith, places, fewer);
-    spare = spare;
-  }
