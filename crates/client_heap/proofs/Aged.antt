@@ -1,17 +1,17 @@
 -- Behind an ageing: what rested on some places and leads no further rests on them again, so nodes
 -- stand and say what they said, and so does the draft.
 use Rattle.std.proofs.Common.{◌≡◌, ◌<◌, ◌≤◌, ◌+◌, ℕ, zero, suc, List, [], length}
-use Rattle.std.proofs.Common.{refl, sym, ◌∙◌, ap, subst, arith}
+use Rattle.std.proofs.Common.{sym, ◌∙◌, ap, subst, arith}
 use Rattle.std.specs.Prelude.{slice_index_or}
 use Rattle.std.proofs.lemmas.List.{get_or-map, length-map}
 use Rattle.aged_nursery.specs.Survivors.{AreSurvivors, Leads, by, here, root_at}
 use Rattle.cell_words.specs.Term.{Term, null}
 use Rattle.client_records.specs.declared.at.NodeAt.{NodeAt}
 use Rattle.client_records.specs.declared.at.NodeAt.TheVariants as at
-use Rattle.client_records.specs.Records.{IsAmong, Rests, rests, stands_on, terms_known}
-use Rattle.client_records.proofs.Resting.{rests_older, rests_place, rests_stands}
-use Rattle.client_trees.specs.Nodes.{IsTreeAt, tree_at}
-use Rattle.doc_records.specs.Trees.{IsTreeNode, tree_of}
+use Rattle.client_records.specs.Records.{IsAmong, Rests, rests, terms_known}
+use Rattle.client_records.proofs.Resting.{rests_older, rests_place}
+use Rattle.client_trees.specs.Nodes.{IsTreeAt}
+use Rattle.doc_records.specs.Trees.{IsTreeNode}
 use Rattle.minor_heap.specs.declared.fields.MinorField.{MinorField}
 use Rattle.minor_heap.specs.declared.fields.MinorField.TheVariants as field
 use Rattle.minor_heap.specs.declared.fields.MinorRef.{MinorRef}
@@ -20,9 +20,7 @@ use Rattle.minor_heap.specs.Terms.{term_of}
 use Rattle.minor_heap.proofs.Terms.{fits_is}
 use Rattle.mutator_seat.specs.Bound.{Bound}
 use Rattle.version_rule.specs.Pass.{Pass}
-use Rattle.version_store.proofs.Lasting.{lasts_still, same_still}
-use Rattle.client_heap.specs.Ages.{Ages, is_there}
-use Rattle.client_heap.specs.Carries.{Follows}
+use Rattle.client_heap.specs.Ages.{Ages}
 use Rattle.client_heap.specs.Shows.{node_term}
 use Rattle.client_heap.specs.Sound.{IsSound}
 
@@ -85,66 +83,27 @@ module _ (old new : List (List MinorField)) (from to : List MinorRef)
     same = λ known. root_term (terms_known known);
   }
 
--- the records of the heap in use, as it was lent to be read
-pub ordered_by : (a b : Nursery) → b ≡ a → IsOrdered 0 b.records → IsOrdered 0 a.records
-ordered_by a b same ordered = subst (λ (n : Nursery). IsOrdered 0 n.records) same ordered
-
--- A node that was not touched.
-
-pub shared_ages : (old new : List (List MinorField)) (place : ℕ)
-    → Ages old new (at.Shared place) (at.Shared place)
-shared_ages old new place = record {
-  still = λ known places stands. stands;
-  same = λ known. refl;
-}
-
-pub none_ages : (records : List (List MinorField)) (a : NodeAt) → Ages records records a a
-none_ages records a = record {
-  still = λ known places stands. stands;
-  same = λ known. refl;
-}
-
--- a node that stands has its record
-pub there_on : (m : Bound Pass) (minor : Nursery) (places : ℕ) (a : NodeAt)
-    → stands_on m.seat.me.known minor.records places a → is_there minor.records a
-there_on m minor places (at.Shared place) stands = tt
-there_on m minor places (at.Minor r) stands =
-    rests_stands minor.records (IsAmong m.seat.me.known places) r stands
-
--- What the mutator has no part in.
+-- For a mutator, which has no part in it.
 module _ (m : Bound Pass) (old new : Nursery) (room : new.room ≡ old.room)
-    (fewer : length new.records ≤ length old.records) where
-  pub aged_follows : Follows m m old new
-  aged_follows = record {
-    inside = refl;
-    room = refl;
-    cells = refl;
-    minor_room = room;
-    same = same_still m;
-    lasts = lasts_still m;
+    (fewer : length new.records ≤ length old.records) (d e : NodeAt)
+    (ages : Ages old.records new.records d e) where
+  aged_term : node_term m new e ≡ node_term m old d
+  aged_term = ages.same m.seat.me.known
+
+  pub aged_sound : (b : ℕ) → IsSound m old d b → IsSound m new e b
+  aged_sound b sound = record {
+    inside = sound.inside;
+    some = sound.some;
+    kept = sound.kept;
+    stands = ages.still m.seat.me.known b sound.stands;
+    node = subst IsTreeNode (sym aged_term) sound.node;
+    records = let many = sound.records in omega (arith, many, room);
+    places = let many = sound.places in omega (arith, many, room);
+    ready = let enough = sound.ready in omega (arith, enough, fewer);
   }
 
-  module _ (d e : NodeAt) (ages : Ages old.records new.records d e) where
-    pub aged_term : node_term m new e ≡ node_term m old d
-    aged_term = ages.same m.seat.me.known
-
-    pub aged_sound : (b : ℕ) → IsSound m old d b → IsSound m new e b
-    aged_sound b sound = record {
-      inside = sound.inside;
-      some = sound.some;
-      kept = sound.kept;
-      stands = ages.still m.seat.me.known b sound.stands;
-      node = subst IsTreeNode (sym aged_term) sound.node;
-      records = let many = sound.records in omega (arith, many, room);
-      places = let many = sound.places in omega (arith, many, room);
-      ready = let enough = sound.ready in omega (arith, enough, fewer);
-    }
-
-    pub aged_node : IsTreeAt m old d → IsTreeAt m new e
-    aged_node node = record {
-      stands = ages.still m.seat.me.known (length m.seat.me.own.held) node.stands;
-      node = subst IsTreeNode (sym aged_term) node.node;
-    }
-
-    pub aged_tree : tree_at m new e ≡ tree_at m old d
-    aged_tree = ap tree_of aged_term
+  pub aged_node : IsTreeAt m old d → IsTreeAt m new e
+  aged_node node = record {
+    stands = ages.still m.seat.me.known (length m.seat.me.own.held) node.stands;
+    node = subst IsTreeNode (sym aged_term) node.node;
+  }

@@ -220,7 +220,8 @@ module _ {E : Type 0} (m n : Bound Pass) (old new : Aged) (d e : NodeAt) (b k : 
           → IfOk r (λ moved. IsNone moved → Still (handles_of m old.heap) (handles_of n new.heap))
       by_result (Ok moved) idle = λ none.
           let is = idle none in
-          subst (λ (x : Bound Pass). Still (handles_of m old.heap) (handles_of x new.heap)) (sym is.0)
+          subst (λ (x : Bound Pass). Still (handles_of m old.heap) (handles_of x new.heap))
+          (sym is.0)
           (subst (λ (y : Aged). Still (handles_of m old.heap) (handles_of m y.heap)) (sym is.1)
           (still_on m m old.heap old.heap (carries_none m old.heap)))
       by_result (Err full) idle = tt

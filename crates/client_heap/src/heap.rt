@@ -22,9 +22,8 @@ pub struct OwnHeap<'a, M: StoreSeat<Q>, Q> {
     draft: NodeAt,
     /// so many places of the held list stay between commands
     base: usize,
-    ghost sound: { IsSound (M.bound m.now) nursery.now.heap draft base } by {
-        sound_once (M.bound m.now) nursery.now.heap draft base
-    },
+    ghost sound: { IsSound (M.bound m.now) nursery.now.heap draft base } by { sound_once
+        (M.bound m.now) nursery.now.heap draft base },
     ghost whole: { nursery.now.heap.room ≡ nursery.now.records },
     ghost copies: { nursery.now.heap.room ≤ promoter.now },
 }
@@ -141,7 +140,8 @@ impl<'a, M: StoreSeat<Q>, Q> ClientHeap for OwnHeap<'a, M, Q> {
     }
 
     fn node(&mut self, root: NodeAt, path: &Path) -> Option<NodeAt> {
-        self.m.node_below(self.nursery.heap_mut(), root, path.names())
+        self.m
+            .node_below(self.nursery.heap_mut(), root, path.names())
     }
 
     fn text(&mut self, alloc: Global, at: NodeAt) -> Result<Text, NoMemory> {
@@ -184,8 +184,15 @@ impl<'a, M: StoreSeat<Q>, Q> ClientHeap for OwnHeap<'a, M, Q> {
         at: NodeAt,
         versions: u64,
     ) -> Result<u64, CommitRefusal> {
-        self.m
-            .publish(rt, self.hints, self.nursery.heap(), self.promoter, v, at, versions)
+        self.m.publish(
+            rt,
+            self.hints,
+            self.nursery.heap(),
+            self.promoter,
+            v,
+            at,
+            versions,
+        )
     }
 
     fn trim(&mut self, v: HeldVersion, keep: u64) {

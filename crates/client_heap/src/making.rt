@@ -142,8 +142,8 @@ fn share_pair<R: Wait>(
     }
 }
 
-/// A collection with the draft and a tree in the making as its roots: the nursery is then empty, and
-/// has nothing that aged.
+/// A collection with the draft and a tree in the making as its roots: the nursery is then empty,
+/// and has nothing that aged.
 fn collect_pair<R: Wait>(
     rt: &R,
     hints: &mut Hints<'_>,
@@ -181,7 +181,16 @@ fn collect_pair<R: Wait>(
     ensures promoter { promoter.new ≡ promoter.old }
     ensures queue { queue_of hints.new ≡ queue_of hints.old }
 {
-    match share_pair(rt, hints, m, nursery.heap_mut(), promoter, draft, base, tree) {
+    match share_pair(
+        rt,
+        hints,
+        m,
+        nursery.heap_mut(),
+        promoter,
+        draft,
+        base,
+        tree,
+    ) {
         Ok(()) => {
             nursery.promoted();
             Ok(())
@@ -191,8 +200,8 @@ fn collect_pair<R: Wait>(
 }
 
 /// Where there is too little room for one more edit, lets all private records go but those of the
-/// draft and of a tree in the making. Where places are not wanting these age once, and become shared
-/// only if that leaves too few. The tree is then at the node that is the answer.
+/// draft and of a tree in the making. Where places are not wanting these age once, and become
+/// shared only if that leaves too few. The tree is then at the node that is the answer.
 pub(crate) fn make_room_for<R: Wait>(
     rt: &R,
     hints: &mut Hints<'_>,

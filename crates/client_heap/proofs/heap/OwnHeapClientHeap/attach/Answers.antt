@@ -16,9 +16,10 @@ invariant_of-self g c =
     let fits = was.copies in
     record {
       sound = left_sound (bound was.m.now) (bound c.attach.new.self) was.nursery.now.heap
-          c.attach.new.minor left was.draft was.base was.sound few did.held
-          (omega (arith, room));
-      whole = let room = left.records_room in let same = was.whole in omega (arith, room, same);
+          c.attach.new.minor left was.draft was.base was.sound few did.held (omega (arith, room));
+      whole =
+          let room = left.records_room in
+          let same = was.whole in omega (arith, room, same);
       copies = omega (arith, same, fits);
     }
 
@@ -44,5 +45,5 @@ pub returns-clause-lent : goal.returns-clause-lent
 returns-clause-lent g c =
     let left = rw c.heap_mut.ensures.heap at c.attach.ensures.leaves in
     let bound = g.M.StoreSeat.bound in
-    lent_stays (bound c.args.self.now.m.now) (bound c.attach.new.self)
-    (left_same _ _ _ _ left) refl left.records_room refl
+    lent_stays (bound c.args.self.now.m.now) (bound c.attach.new.self) (left_same _ _ _ _ left) refl
+    left.records_room refl

@@ -10,9 +10,11 @@ invariant_of-self g c =
     let bound = g.M.StoreSeat.bound in
     let was = c.args.self.now in
     record {
-      sound = all_sound (bound was.m.now) (bound c.count.new.self) was.nursery.now.heap c.count.new.minor
-          all was.draft was.base was.sound;
-      whole = let room = all.leaves.records_room in let same = was.whole in omega (arith, room, same);
+      sound = all_sound (bound was.m.now) (bound c.count.new.self) was.nursery.now.heap
+          c.count.new.minor all was.draft was.base was.sound;
+      whole =
+          let room = all.leaves.records_room in
+          let same = was.whole in omega (arith, room, same);
       copies = let room = all.leaves.records_room in
           let fits = was.copies in omega (arith, room, fits);
     }
@@ -22,20 +24,19 @@ returns-clause-rests g c =
     let all = rw c.heap_mut.ensures.heap at c.count.ensures.leaves in
     let bound = g.M.StoreSeat.bound in
     let was = c.args.self.now in
-    all_rests (bound was.m.now) (bound c.count.new.self) was.nursery.now.heap c.count.new.minor
-    all was.draft was.base was.sound
+    all_rests (bound was.m.now) (bound c.count.new.self) was.nursery.now.heap c.count.new.minor all
+    was.draft was.base was.sound
 
 pub returns-clause-still : goal.returns-clause-still
 returns-clause-still g c =
     let all = rw c.heap_mut.ensures.heap at c.count.ensures.leaves in
     let bound = g.M.StoreSeat.bound in
     let was = c.args.self.now in
-    all_still (bound was.m.now) (bound c.count.new.self) was.nursery.now.heap c.count.new.minor
-    all
+    all_still (bound was.m.now) (bound c.count.new.self) was.nursery.now.heap c.count.new.minor all
 
 pub returns-clause-lent : goal.returns-clause-lent
 returns-clause-lent g c =
     let all = rw c.heap_mut.ensures.heap at c.count.ensures.leaves in
     let bound = g.M.StoreSeat.bound in
-    lent_stays (bound c.args.self.now.m.now) (bound c.count.new.self)
-    (left_same _ _ _ _ all.leaves) refl all.leaves.records_room refl
+    lent_stays (bound c.args.self.now.m.now) (bound c.count.new.self) (left_same _ _ _ _ all.leaves)
+    refl all.leaves.records_room refl

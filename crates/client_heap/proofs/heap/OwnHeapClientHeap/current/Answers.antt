@@ -12,8 +12,8 @@ invariant_of-self g c =
     let did = c.current-found.ensures in
     record {
       sound = holds_sound (bound was.m.now) (bound c.current-found.new.self) was.nursery.now.heap
-          (did.latest.cell ∷ []) did.latest.holds ordered did.lasts did.same
-          was.draft was.base was.sound;
+          (did.latest.cell ∷ []) did.latest.holds ordered did.lasts did.same was.draft was.base
+          was.sound;
       whole = was.whole;
       copies = was.copies;
     }
@@ -25,9 +25,8 @@ returns-clause-rests g c =
     let was = c.args.self.now in
     let did = c.current-found.ensures in
     holds_rests (bound was.m.now) (bound c.current-found.new.self) was.nursery.now.heap
-    (did.latest.cell ∷ []) did.latest.holds ordered did.lasts did.same
-    was.draft was.base was.sound 1 (omega arith) (ap commit_numbers did.latest.pass)
-    did.latest.claims
+    (did.latest.cell ∷ []) did.latest.holds ordered did.lasts did.same was.draft was.base was.sound
+    1 (omega arith) (ap commit_numbers did.latest.pass) did.latest.claims
 
 pub returns-clause-still : goal.returns-clause-still
 returns-clause-still g c =

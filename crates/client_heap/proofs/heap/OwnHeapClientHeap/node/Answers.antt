@@ -27,7 +27,9 @@ invariant_of-self g c =
       sound = sound_on _ (bound was.m.now) (bound c.node_below.new.self) was.nursery.now.heap
           c.node_below.new.minor carried was.draft was.base was.sound was.sound.kept
           (omega (arith, same, ready));
-      whole = let room = carried.follows.minor_room in let same = was.whole in omega (arith, room, same);
+      whole =
+          let room = carried.follows.minor_room in
+          let same = was.whole in omega (arith, room, same);
       copies = omega (arith, room, fits);
     }
 
@@ -41,22 +43,23 @@ returns-clause-rests g c =
     let few = path_short c.args.path.now c.names.ensures.path in
     let same = ap (λ (xs : _). length xs) c.names.ensures.names in
     let held = did.held in
-    rests_on _ (bound was.m.now) (bound c.node_below.new.self) was.nursery.now.heap c.node_below.new.minor
-    carried was.draft was.base was.sound was.sound.kept 8 (ap commit_numbers did.pass)
-    did.claims (ap (λ (x : _). length x.records) kept) (omega (arith, few, same, held))
+    rests_on _ (bound was.m.now) (bound c.node_below.new.self) was.nursery.now.heap
+    c.node_below.new.minor carried was.draft was.base was.sound was.sound.kept 8
+    (ap commit_numbers did.pass) did.claims (ap (λ (x : _). length x.records) kept)
+    (omega (arith, few, same, held))
 
 pub returns-clause-still : goal.returns-clause-still
 returns-clause-still g c =
     let carried = rw c.heap_mut.ensures.heap at c.node_below.ensures.carries in
     let bound = g.M.StoreSeat.bound in
     let was = c.args.self.now in
-    still_on (bound was.m.now) (bound c.node_below.new.self) was.nursery.now.heap c.node_below.new.minor
-    carried
+    still_on (bound was.m.now) (bound c.node_below.new.self) was.nursery.now.heap
+    c.node_below.new.minor carried
 
 pub returns-clause-lent : goal.returns-clause-lent
 returns-clause-lent g c =
     let carried = rw c.heap_mut.ensures.heap at c.node_below.ensures.carries in
     let bound = g.M.StoreSeat.bound in
     let did = c.node_below.ensures in
-    lent_stays (bound c.args.self.now.m.now) (bound c.node_below.new.self) carried.follows.same
-    refl carried.follows.minor_room refl
+    lent_stays (bound c.args.self.now.m.now) (bound c.node_below.new.self) carried.follows.same refl
+    carried.follows.minor_room refl

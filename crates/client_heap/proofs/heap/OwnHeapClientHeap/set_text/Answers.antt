@@ -16,9 +16,10 @@ invariant_of-self g c =
     let fits = was.copies in
     record {
       sound = left_sound (bound was.m.now) (bound c.set_text.new.self) was.nursery.now.heap
-          c.set_text.new.minor left was.draft was.base was.sound few did.held
-          (omega (arith, room));
-      whole = let room = left.records_room in let same = was.whole in omega (arith, room, same);
+          c.set_text.new.minor left was.draft was.base was.sound few did.held (omega (arith, room));
+      whole =
+          let room = left.records_room in
+          let same = was.whole in omega (arith, room, same);
       copies = omega (arith, same, fits);
     }
 
@@ -29,20 +30,20 @@ returns-clause-edits g c =
     let bound = g.M.StoreSeat.bound in
     let was = c.args.self.now in
     let did = c.set_text.ensures in
-    left_edits (bound was.m.now) (bound c.set_text.new.self) was.nursery.now.heap c.set_text.new.minor
-    left was.draft was.base was.sound few did.held
+    left_edits (bound was.m.now) (bound c.set_text.new.self) was.nursery.now.heap
+    c.set_text.new.minor left was.draft was.base was.sound few did.held
 
 pub returns-clause-still : goal.returns-clause-still
 returns-clause-still g c =
     let left = rw c.heap_mut.ensures.heap at c.set_text.ensures.leaves in
     let bound = g.M.StoreSeat.bound in
     let was = c.args.self.now in
-    left_still (bound was.m.now) (bound c.set_text.new.self) was.nursery.now.heap c.set_text.new.minor
-    left
+    left_still (bound was.m.now) (bound c.set_text.new.self) was.nursery.now.heap
+    c.set_text.new.minor left
 
 pub returns-clause-lent : goal.returns-clause-lent
 returns-clause-lent g c =
     let left = rw c.heap_mut.ensures.heap at c.set_text.ensures.leaves in
     let bound = g.M.StoreSeat.bound in
-    lent_stays (bound c.args.self.now.m.now) (bound c.set_text.new.self)
-    (left_same _ _ _ _ left) refl left.records_room refl
+    lent_stays (bound c.args.self.now.m.now) (bound c.set_text.new.self) (left_same _ _ _ _ left)
+    refl left.records_room refl

@@ -10,8 +10,7 @@ invariant_of-self g c =
     let was = c.args.self.now in
     record {
       sound = sound_on was.base (bound was.m.now) (bound c.cut_back.new.self) was.nursery.now.heap
-          was.nursery.now.heap carried was.draft was.base was.sound (omega arith)
-          was.sound.ready;
+          was.nursery.now.heap carried was.draft was.base was.sound (omega arith) was.sound.ready;
       whole = was.whole;
       copies = was.copies;
     }

@@ -12,7 +12,9 @@ invariant_of-self g c =
     record {
       sound = all_sound (bound was.m.now) (bound c.text_of.new.self) was.nursery.now.heap
           c.text_of.new.minor all was.draft was.base was.sound;
-      whole = let room = all.leaves.records_room in let same = was.whole in omega (arith, room, same);
+      whole =
+          let room = all.leaves.records_room in
+          let same = was.whole in omega (arith, room, same);
       copies = let room = all.leaves.records_room in
           let fits = was.copies in omega (arith, room, fits);
     }

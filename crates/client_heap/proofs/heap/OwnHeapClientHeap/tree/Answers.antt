@@ -12,8 +12,8 @@ invariant_of-self g c =
     let did = c.tree.ensures in
     record {
       sound = holds_sound (bound was.m.now) (bound c.tree.new.self) was.nursery.now.heap
-          (did.root.cell ∷ []) did.root.holds ordered did.lasts did.same
-          was.draft was.base was.sound;
+          (did.root.cell ∷ []) did.root.holds ordered did.lasts did.same was.draft was.base
+          was.sound;
       whole = was.whole;
       copies = was.copies;
     }
@@ -25,8 +25,8 @@ returns-clause-rests g c =
     let was = c.args.self.now in
     let did = c.tree.ensures in
     holds_rests (bound was.m.now) (bound c.tree.new.self) was.nursery.now.heap (did.root.cell ∷ [])
-    did.root.holds ordered did.lasts did.same was.draft was.base was.sound 1
-    (omega arith) (ap commit_numbers did.root.pass) did.root.claims
+    did.root.holds ordered did.lasts did.same was.draft was.base was.sound 1 (omega arith)
+    (ap commit_numbers did.root.pass) did.root.claims
 
 pub returns-clause-still : goal.returns-clause-still
 returns-clause-still g c =
@@ -41,5 +41,4 @@ pub returns-clause-lent : goal.returns-clause-lent
 returns-clause-lent g c =
     let bound = g.M.StoreSeat.bound in
     let did = c.tree.ensures in
-    lent_stays (bound c.args.self.now.m.now) (bound c.tree.new.self) did.same refl refl
-    refl
+    lent_stays (bound c.args.self.now.m.now) (bound c.tree.new.self) did.same refl refl refl
