@@ -6,12 +6,12 @@ use Rattle.version_rule.specs.Pass.{Pass}
 use Rattle.version_store.specs.Lasts.{IsSameMutator}
 use Rattle.client_heap.specs.Lent.{Identity, Lent, identity_of}
 
-abbrev lent_by : (mutator hints minor promoter : ℕ) → Bound Pass → FreeQueue
+abbrev lent_by : (mutator hints nursery promoter : ℕ) → Bound Pass → FreeQueue
     → (records copies : ℕ) → Lent
-lent_by mutator hints minor promoter m queue records copies = record {
+lent_by mutator hints nursery promoter m queue records copies = record {
   mutator_name = mutator;
   hints_name = hints;
-  minor_name = minor;
+  nursery_name = nursery;
   promoter_name = promoter;
   mutator = identity_of m;
   queue = queue;
@@ -52,7 +52,7 @@ module _ (m n : Bound Pass) where
   lent_stays {a = a} {b = b} {c = c} {d = d} same queue rooms copied = λ j. record {
     mutator_name = a;
     hints_name = b;
-    minor_name = c;
+    nursery_name = c;
     promoter_name = d;
     mutator = identity_stays same j;
     queue = queue j;

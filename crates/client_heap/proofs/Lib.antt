@@ -1,3 +1,4 @@
+pub mod Aged
 pub mod Calls
 pub mod Carrying
 pub mod Commits

@@ -8,6 +8,7 @@ use Rattle.std.specs.List.{All}
 use Rattle.std.specs.Prelude.{slice_index_or}
 use Rattle.std.proofs.lemmas.List.{length-append, length-map, length-take-le}
 use Rattle.std.proofs.lemmas.List.Elements.{All-contains}
+use Rattle.aged_nursery.specs.Aged.{Aged}
 use Rattle.cell_words.specs.Term.{Term}
 use Rattle.client_records.specs.declared.at.NodeAt.{NodeAt}
 use Rattle.client_records.specs.declared.at.NodeAt.TheVariants as at
@@ -207,30 +208,31 @@ module _ (m n : Bound Pass) (old new : Nursery) (d : NodeAt) (b : ℕ) (sound : 
         spare = omega (arith, none, still, many);
       }
 
--- Without a collection nothing happens.
-module _ {E : Type 0} (m n : Bound Pass) (old new : Nursery) (d e : NodeAt) (b k : ℕ)
+-- Without an ageing or a collection nothing happens.
+module _ {E : Type 0} (m n : Bound Pass) (old new : Aged) (d e : NodeAt) (b k : ℕ)
     (r : Result (Option NodeAt) E) where
   pub idle_still : IfOk r (λ moved. IsNone moved → (n ≡ m) × (new ≡ old) × (e ≡ d) × (k ≡ b))
-      → IfOk r (λ moved. IsNone moved → Still (handles_of m old) (handles_of n new))
+      → IfOk r (λ moved. IsNone moved → Still (handles_of m old.heap) (handles_of n new.heap))
   idle_still = by_result r
     where
       by_result : (r : Result (Option NodeAt) E)
           → IfOk r (λ moved. IsNone moved → (n ≡ m) × (new ≡ old) × (e ≡ d) × (k ≡ b))
-          → IfOk r (λ moved. IsNone moved → Still (handles_of m old) (handles_of n new))
+          → IfOk r (λ moved. IsNone moved → Still (handles_of m old.heap) (handles_of n new.heap))
       by_result (Ok moved) idle = λ none.
           let is = idle none in
-          subst (λ (x : Bound Pass). Still (handles_of m old) (handles_of x new)) (sym is.0)
-          (subst (λ (y : Nursery). Still (handles_of m old) (handles_of m y)) (sym is.1)
-          (still_on m m old old (carries_none m old)))
+          subst (λ (x : Bound Pass). Still (handles_of m old.heap) (handles_of x new.heap))
+          (sym is.0)
+          (subst (λ (y : Aged). Still (handles_of m old.heap) (handles_of m y.heap)) (sym is.1)
+          (still_on m m old.heap old.heap (carries_none m old.heap)))
       by_result (Err full) idle = tt
 
   pub idle_state : IfOk r (λ moved. IsNone moved → (n ≡ m) × (new ≡ old) × (e ≡ d) × (k ≡ b))
-      → IfOk r (λ moved. IsNone moved → state_of n new e k ≡ state_of m old d b)
+      → IfOk r (λ moved. IsNone moved → state_of n new.heap e k ≡ state_of m old.heap d b)
   idle_state = by_result r
     where
       by_result : (r : Result (Option NodeAt) E)
           → IfOk r (λ moved. IsNone moved → (n ≡ m) × (new ≡ old) × (e ≡ d) × (k ≡ b))
-          → IfOk r (λ moved. IsNone moved → state_of n new e k ≡ state_of m old d b)
+          → IfOk r (λ moved. IsNone moved → state_of n new.heap e k ≡ state_of m old.heap d b)
       by_result (Ok moved) idle = λ none.
-          let is = idle none in λ j. state_of (is.0 j) (is.1 j) (is.2 j) (is.3 j)
+          let is = idle none in λ j. state_of (is.0 j) (is.1 j).heap (is.2 j) (is.3 j)
       by_result (Err full) idle = tt

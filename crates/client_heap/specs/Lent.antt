@@ -37,7 +37,7 @@ identity_of m = record {
 pub record Lent : Type 0 where
   pub mutator_name : ℕ
   pub hints_name : ℕ
-  pub minor_name : ℕ
+  pub nursery_name : ℕ
   pub promoter_name : ℕ
   pub mutator : Identity
   pub queue : FreeQueue

@@ -1,3 +1,4 @@
+pub mod Ages
 pub mod Carries
 pub mod Lent
 pub mod Once

@@ -1,6 +1,6 @@
-//! The draft: a node becomes it, and a minor collection moves it.
+//! The draft: a node becomes it, and an ageing or a minor collection moves it.
 ghost use Rattle.std.specs.Prelude.{◌≡◌, ◌+◌, ◌<◌, ◌≤◌, OnErr, OnOk, length};
-ghost use Rattle.std.specs.Prelude.{max, true};
+ghost use Rattle.std.specs.Prelude.{[], max, true};
 ghost use Rattle.client_heap.specs.Carries.{Carries, Follows};
 ghost use Rattle.client_heap.specs.Shows.{node_term};
 ghost use Rattle.client_heap.specs.Sound.{IsCleared, IsSound};
@@ -11,8 +11,10 @@ ghost use Rattle.trails.specs.Claims.{IsFull};
 ghost use Rattle.trails.specs.Stretches.{Had};
 ghost use Rattle.version_store.specs.Lasts.{marks};
 
+use crate::ageing::age_draft;
 use crate::collecting::{clear_records, share_node};
 use crate::places::keep_alone;
+use aged_nursery::AgedNursery;
 use client_session::HeapFull;
 use client_trees::NodeAt;
 use document_versions::Documents;
@@ -78,6 +80,7 @@ fn share_draft<R: Wait>(
     ensures term { OnOk result (node_term m.new minor.new (at.Shared 1)
         ≡ node_term m.old minor.old (at.Minor r)) }
     ensures cleared { OnOk result (IsCleared m.new minor.new) }
+    ensures emptied { OnOk result (minor.new.records ≡ []) }
     ensures sound { OnErr result (IsSound m.new minor.new (at.Minor r) base) }
     ensures same { OnErr result (node_term m.new minor.new (at.Minor r)
         ≡ node_term m.old minor.old (at.Minor r)) }
@@ -116,6 +119,7 @@ fn clear_around<R: Wait>(
     ensures term { node_term m.new minor.new (at.Shared place)
         ≡ node_term m.old minor.old (at.Shared place) }
     ensures cleared { OnOk result (IsCleared m.new minor.new) }
+    ensures emptied { OnOk result (minor.new.records ≡ []) }
     ensures full { OnErr result (Had (IsFull m.old.seat.me.shape.cells) (marks m.old)
         (marks m.new)) }
     ensures kept { length m.new.seat.me.own.held + length minor.new.records
@@ -147,9 +151,8 @@ fn draw_in(m: &mut Mutator<'_, Documents>, minor: &MinorHeap, place: usize, base
     keep_alone(m, minor, place);
 }
 
-/// Lets all private records go but those of the draft, which become shared, where there is too
-/// little room for an edit.
-pub(crate) fn make_room<R: Wait>(
+/// Lets all private records go but those of the draft, which become shared.
+fn share_or_clear<R: Wait>(
     rt: &R,
     hints: &mut Hints<'_>,
     m: &mut Mutator<'_, Documents>,
@@ -164,8 +167,7 @@ pub(crate) fn make_room<R: Wait>(
         ≤ m.old.seat.me.room }
     ensures sound { IsSound m.new minor.new draft.new base.new }
     ensures cleared { OnOk result (IsCleared m.new minor.new) }
-    ensures idle { IsCleared m.old minor.old → (m.new ≡ m.old) × (minor.new ≡ minor.old)
-        × (draft.new ≡ draft.old) × (base.new ≡ base.old) }
+    ensures emptied { OnOk result (minor.new.records ≡ []) }
     ensures full { OnErr result (Had (IsFull m.old.seat.me.shape.cells) (marks m.old)
         (marks m.new)) }
     ensures kept { length m.new.seat.me.own.held + length minor.new.records
@@ -177,10 +179,6 @@ pub(crate) fn make_room<R: Wait>(
     ensures promoter { promoter.new ≡ promoter.old }
     ensures queue { queue_of hints.new ≡ queue_of hints.old }
 {
-    let records = minor.len() as usize;
-    if 2285 <= minor.spare() && 20480 + records <= m.room() {
-        return Ok(());
-    }
     match *draft {
         NodeAt::Minor(r) => {
             share_draft(rt, hints, m, minor, promoter, r, *base)?;
@@ -201,4 +199,88 @@ pub(crate) fn make_room<R: Wait>(
             }
         }
     }
+}
+
+/// A collection with the draft as its root: the nursery is then empty, and has nothing that aged.
+fn collect_draft<R: Wait>(
+    rt: &R,
+    hints: &mut Hints<'_>,
+    m: &mut Mutator<'_, Documents>,
+    nursery: &mut AgedNursery,
+    promoter: &mut Promoter,
+    draft: &mut NodeAt,
+    base: &mut usize,
+) -> Result<(), HeapFull>
+    requires sound { IsSound m.old nursery.old.heap draft.old base.old }
+    requires copies { nursery.old.heap.room ≤ promoter.old }
+    requires ready { length m.old.seat.me.own.held + length nursery.old.heap.records + 9000
+        ≤ m.old.seat.me.room }
+    ensures sound { IsSound m.new nursery.new.heap draft.new base.new }
+    ensures cleared { OnOk result (IsCleared m.new nursery.new.heap) }
+    ensures emptied { OnOk result (nursery.new.heap.records ≡ []) }
+    ensures aged { OnOk result (nursery.new.aged ≡ 0) }
+    ensures records { nursery.new.records ≡ nursery.old.records }
+    ensures full { OnErr result (Had (IsFull m.old.seat.me.shape.cells) (marks m.old)
+        (marks m.new)) }
+    ensures kept { length m.new.seat.me.own.held + length nursery.new.heap.records
+        ≤ length m.old.seat.me.own.held + length nursery.old.heap.records }
+    ensures term { node_term m.new nursery.new.heap draft.new
+        ≡ node_term m.old nursery.old.heap draft.old }
+    ensures small { base.new ≤ max base.old 2 }
+    ensures follows { Follows m.old m.new nursery.old.heap nursery.new.heap }
+    ensures pass { m.new.seat.me.pass ≡ m.old.seat.me.pass }
+    ensures promoter { promoter.new ≡ promoter.old }
+    ensures queue { queue_of hints.new ≡ queue_of hints.old }
+{
+    match share_or_clear(rt, hints, m, nursery.heap_mut(), promoter, draft, base) {
+        Ok(()) => {
+            nursery.promoted();
+            Ok(())
+        }
+        Err(full) => Err(full),
+    }
+}
+
+/// Where there is too little room for an edit, lets all private records go but those of the draft.
+/// Where places are not wanting these age once, and become shared only if that leaves too few.
+pub(crate) fn make_room<R: Wait>(
+    rt: &R,
+    hints: &mut Hints<'_>,
+    m: &mut Mutator<'_, Documents>,
+    nursery: &mut AgedNursery,
+    promoter: &mut Promoter,
+    draft: &mut NodeAt,
+    base: &mut usize,
+) -> Result<(), HeapFull>
+    requires sound { IsSound m.old nursery.old.heap draft.old base.old }
+    requires whole { nursery.old.heap.room ≡ nursery.old.records }
+    requires copies { nursery.old.heap.room ≤ promoter.old }
+    requires ready { length m.old.seat.me.own.held + length nursery.old.heap.records + 9000
+        ≤ m.old.seat.me.room }
+    ensures sound { IsSound m.new nursery.new.heap draft.new base.new }
+    ensures records { nursery.new.records ≡ nursery.old.records }
+    ensures cleared { OnOk result (IsCleared m.new nursery.new.heap) }
+    ensures idle { IsCleared m.old nursery.old.heap → (m.new ≡ m.old)
+        × (nursery.new ≡ nursery.old) × (draft.new ≡ draft.old) × (base.new ≡ base.old) }
+    ensures full { OnErr result (Had (IsFull m.old.seat.me.shape.cells) (marks m.old)
+        (marks m.new)) }
+    ensures kept { length m.new.seat.me.own.held + length nursery.new.heap.records
+        ≤ length m.old.seat.me.own.held + length nursery.old.heap.records }
+    ensures term { node_term m.new nursery.new.heap draft.new
+        ≡ node_term m.old nursery.old.heap draft.old }
+    ensures small { base.new ≤ max base.old 2 }
+    ensures follows { Follows m.old m.new nursery.old.heap nursery.new.heap }
+    ensures pass { m.new.seat.me.pass ≡ m.old.seat.me.pass }
+    ensures promoter { promoter.new ≡ promoter.old }
+    ensures queue { queue_of hints.new ≡ queue_of hints.old }
+{
+    let records = nursery.heap().len() as usize;
+    let places = 20480 + records <= m.room();
+    if places && 2285 <= nursery.heap().spare() {
+        return Ok(());
+    }
+    if age_draft(nursery, draft, places) {
+        return Ok(());
+    }
+    collect_draft(rt, hints, m, nursery, promoter, draft, base)
 }

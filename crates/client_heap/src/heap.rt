@@ -4,10 +4,10 @@ ghost use Rattle.client_heap.specs.Once.{sound_once};
 ghost use Rattle.client_heap.specs.Sound.{IsSound};
 
 use crate::seat::StoreSeat;
+use aged_nursery::AgedNursery;
 use client_session::{ClientHeap, CommitRefusal, HeapFull, HeldVersion};
 use client_trees::NodeAt;
 use doc_tree::{EditFault, Names, NoMemory, Path, Text};
-use minor_heap::MinorHeap;
 use promotion::Promoter;
 use std::alloc::Global;
 use std::sync::Wait;
@@ -17,14 +17,15 @@ use std::sync::Wait;
 pub struct OwnHeap<'a, M: StoreSeat<Q>, Q> {
     m: &'a mut M,
     hints: &'a mut Q,
-    minor: &'a mut MinorHeap,
+    nursery: &'a mut AgedNursery,
     promoter: &'a mut Promoter,
     draft: NodeAt,
     /// so many places of the held list stay between commands
     base: usize,
-    ghost sound: { IsSound (M.bound m.now) minor.now draft base } by { sound_once (M.bound m.now)
-        minor.now draft base },
-    ghost copies: { minor.now.room ≤ promoter.now },
+    ghost sound: { IsSound (M.bound m.now) nursery.now.heap draft base } by { sound_once
+        (M.bound m.now) nursery.now.heap draft base },
+    ghost whole: { nursery.now.heap.room ≡ nursery.now.records },
+    ghost copies: { nursery.now.heap.room ≤ promoter.now },
 }
 
 /// A version in the words of the store.
@@ -43,20 +44,21 @@ impl<'a, M: StoreSeat<Q>, Q> OwnHeap<'a, M, Q> {
     pub fn new(
         m: &'a mut M,
         hints: &'a mut Q,
-        minor: &'a mut MinorHeap,
+        nursery: &'a mut AgedNursery,
         promoter: &'a mut Promoter,
         draft: NodeAt,
         base: usize,
     ) -> OwnHeap<'a, M, Q>
-        requires sound { IsSound (M.bound m.old) minor.old draft base }
-        requires copies { minor.old.room ≤ promoter.old }
+        requires sound { IsSound (M.bound m.old) nursery.old.heap draft base }
+        requires whole { nursery.old.heap.room ≡ nursery.old.records }
+        requires copies { nursery.old.heap.room ≤ promoter.old }
         ensures m_name { result.m.ghost_name ≡ m.entry.ghost_name }
         ensures hints_name { result.hints.ghost_name ≡ hints.entry.ghost_name }
-        ensures minor_name { result.minor.ghost_name ≡ minor.entry.ghost_name }
+        ensures nursery_name { result.nursery.ghost_name ≡ nursery.entry.ghost_name }
         ensures promoter_name { result.promoter.ghost_name ≡ promoter.entry.ghost_name }
         ensures mutator { result.m.now ≡ m.old }
         ensures hints { result.hints.now ≡ hints.old }
-        ensures records { result.minor.now ≡ minor.old }
+        ensures nursery { result.nursery.now ≡ nursery.old }
         ensures promoter { result.promoter.now ≡ promoter.old }
         ensures draft { result.draft ≡ draft }
         ensures base { result.base ≡ base }
@@ -64,7 +66,7 @@ impl<'a, M: StoreSeat<Q>, Q> OwnHeap<'a, M, Q> {
         OwnHeap {
             m,
             hints,
-            minor,
+            nursery,
             promoter,
             draft,
             base,
@@ -93,9 +95,9 @@ impl<'a, M: StoreSeat<Q>, Q> ClientHeap for OwnHeap<'a, M, Q> {
 
     type At = NodeAt;
 
-    ghost state = { λ h. state_of (M.bound h.m.now) h.minor.now h.draft h.base };
+    ghost state = { λ h. state_of (M.bound h.m.now) h.nursery.now.heap h.draft h.base };
 
-    ghost shown = { λ h. handles_of (M.bound h.m.now) h.minor.now };
+    ghost shown = { λ h. handles_of (M.bound h.m.now) h.nursery.now.heap };
 
     ghost shared = { is_shared };
 
@@ -104,16 +106,16 @@ impl<'a, M: StoreSeat<Q>, Q> ClientHeap for OwnHeap<'a, M, Q> {
     ghost lent = { λ h. record {
       mutator_name = h.m.ghost_name;
       hints_name = h.hints.ghost_name;
-      minor_name = h.minor.ghost_name;
+      nursery_name = h.nursery.ghost_name;
       promoter_name = h.promoter.ghost_name;
       mutator = identity_of (M.bound h.m.now);
       queue = M.queue h.hints.now;
-      records = h.minor.now.room;
+      records = h.nursery.now.heap.room;
       copies = h.promoter.now;
     } };
 
     fn current(&mut self) -> HeldVersion {
-        let _records = self.minor.len();
+        let _records = self.nursery.heap().len();
         let found = self.m.current();
         HeldVersion {
             number: found.number,
@@ -122,12 +124,12 @@ impl<'a, M: StoreSeat<Q>, Q> ClientHeap for OwnHeap<'a, M, Q> {
     }
 
     fn tree(&mut self, v: HeldVersion) -> NodeAt {
-        let _records = self.minor.len();
+        let _records = self.nursery.heap().len();
         NodeAt::Shared(self.m.tree(stored(v)))
     }
 
     fn older(&mut self, v: HeldVersion, back: u64) -> Option<HeldVersion> {
-        let _records = self.minor.len();
+        let _records = self.nursery.heap().len();
         match self.m.older(stored(v), back) {
             Ok(found) => Some(HeldVersion {
                 number: found.number,
@@ -138,19 +140,20 @@ impl<'a, M: StoreSeat<Q>, Q> ClientHeap for OwnHeap<'a, M, Q> {
     }
 
     fn node(&mut self, root: NodeAt, path: &Path) -> Option<NodeAt> {
-        self.m.node_below(self.minor, root, path.names())
+        self.m
+            .node_below(self.nursery.heap_mut(), root, path.names())
     }
 
     fn text(&mut self, alloc: Global, at: NodeAt) -> Result<Text, NoMemory> {
-        self.m.text_of(alloc, self.minor, at)
+        self.m.text_of(alloc, self.nursery.heap_mut(), at)
     }
 
     fn names(&mut self, alloc: Global, at: NodeAt) -> Result<Names, NoMemory> {
-        self.m.names(alloc, self.minor, at)
+        self.m.names(alloc, self.nursery.heap_mut(), at)
     }
 
     fn count(&mut self, at: NodeAt) -> u64 {
-        self.m.count(self.minor, at)
+        self.m.count(self.nursery.heap_mut(), at)
     }
 
     fn draft(&self) -> NodeAt {
@@ -158,20 +161,20 @@ impl<'a, M: StoreSeat<Q>, Q> ClientHeap for OwnHeap<'a, M, Q> {
     }
 
     fn set_text(&mut self, root: NodeAt, path: &Path, text: &Text) -> Result<NodeAt, EditFault> {
-        self.m.set_text(self.minor, root, path, text)
+        self.m.set_text(self.nursery.heap_mut(), root, path, text)
     }
 
     fn delete(&mut self, root: NodeAt, path: &Path) -> Result<NodeAt, EditFault> {
-        self.m.delete(self.minor, root, path)
+        self.m.delete(self.nursery.heap_mut(), root, path)
     }
 
     fn attach(&mut self, root: NodeAt, path: &Path, sub: NodeAt) -> Result<NodeAt, EditFault> {
-        self.m.attach(self.minor, root, path, sub)
+        self.m.attach(self.nursery.heap_mut(), root, path, sub)
     }
 
     fn set_draft(&mut self, at: NodeAt) {
         self.m
-            .make_draft(self.minor, &mut self.draft, &mut self.base, at);
+            .make_draft(self.nursery.heap(), &mut self.draft, &mut self.base, at);
     }
 
     fn publish<R: Wait>(
@@ -181,12 +184,19 @@ impl<'a, M: StoreSeat<Q>, Q> ClientHeap for OwnHeap<'a, M, Q> {
         at: NodeAt,
         versions: u64,
     ) -> Result<u64, CommitRefusal> {
-        self.m
-            .publish(rt, self.hints, self.minor, self.promoter, v, at, versions)
+        self.m.publish(
+            rt,
+            self.hints,
+            self.nursery.heap(),
+            self.promoter,
+            v,
+            at,
+            versions,
+        )
     }
 
     fn trim(&mut self, v: HeldVersion, keep: u64) {
-        let _records = self.minor.len();
+        let _records = self.nursery.heap().len();
         self.m.trim(stored(v), keep);
     }
 
@@ -194,7 +204,7 @@ impl<'a, M: StoreSeat<Q>, Q> ClientHeap for OwnHeap<'a, M, Q> {
         self.m.make_room(
             rt,
             self.hints,
-            self.minor,
+            self.nursery,
             self.promoter,
             &mut self.draft,
             &mut self.base,
@@ -205,7 +215,7 @@ impl<'a, M: StoreSeat<Q>, Q> ClientHeap for OwnHeap<'a, M, Q> {
         self.m.make_room_for(
             rt,
             self.hints,
-            self.minor,
+            self.nursery,
             self.promoter,
             &mut self.draft,
             &mut self.base,
@@ -214,6 +224,6 @@ impl<'a, M: StoreSeat<Q>, Q> ClientHeap for OwnHeap<'a, M, Q> {
     }
 
     fn settle(&mut self) {
-        self.m.cut_back(self.minor, self.base);
+        self.m.cut_back(self.nursery.heap(), self.base);
     }
 }

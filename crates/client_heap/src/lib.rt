@@ -4,12 +4,15 @@
 //! The layer above may rely on this: `OwnHeap` is a `ClientHeap`, so all that is proved of a
 //! session holds over it. No call changes which mutator it is, of which queue its hints are, or how
 //! much room there is. Between commands the first places of the held list stay, which are the
-//! anchor's and those that the draft needs. A draft that a minor collection moved stands on two.
+//! anchor's and those that the draft needs. A draft that a minor collection moved stands on two,
+//! and one that aged on those on which it stood. What has aged once is collected when room is
+//! wanting again.
 //!
-//! Reading order: specs/Shows, Carries, Sound, Shared, Lent; then `places`, `walking`,
-//! `collecting`, `drafting`, `making`, `publishing`, `seat`, `mutator`, `heap`.
+//! Reading order: specs/Shows, Carries, Sound, Shared, Ages, Lent; then `places`, `walking`,
+//! `collecting`, `ageing`, `drafting`, `making`, `publishing`, `seat`, `mutator`, `heap`.
 #![tactic(auto)]
 
+mod ageing;
 mod collecting;
 mod drafting;
 mod heap;

@@ -1,4 +1,4 @@
-//! Room for one more edit of a tree that is in the making: a collection of it and of the draft.
+//! Room for one more edit of a tree that is in the making: it and the draft age or are collected.
 ghost use Rattle.std.specs.Prelude.{◌≡◌, ◌≤◌, ◌+◌, ◌-◌, [], IfOk, IfSome, IsNone, None};
 ghost use Rattle.std.specs.Prelude.{Ok, OnErr, OnOk, length, max, true};
 ghost use Rattle.client_heap.specs.Carries.{Carries, Follows};
@@ -12,8 +12,10 @@ ghost use Rattle.trails.specs.Claims.{IsFull};
 ghost use Rattle.trails.specs.Stretches.{Had};
 ghost use Rattle.version_store.specs.Lasts.{marks};
 
+use crate::ageing::age_both;
 use crate::collecting::share_nodes;
 use crate::places::keep_pair;
+use aged_nursery::AgedNursery;
 use client_session::HeapFull;
 use client_trees::NodeAt;
 use document_versions::Documents;
@@ -114,7 +116,7 @@ fn share_pair<R: Wait>(
     ensures tree { OnOk result (node_term m.new minor.new (at.Shared 2)
         ≡ node_term m.old minor.old tree) }
     ensures held { OnOk result (length m.new.seat.me.own.held ≡ 3) }
-    ensures emptied { OnOk result (length minor.new.records ≡ 0) }
+    ensures emptied { OnOk result (minor.new.records ≡ []) }
     ensures sound { OnErr result (IsSound m.new minor.new draft base) }
     ensures same { OnErr result (node_term m.new minor.new draft
         ≡ node_term m.old minor.old draft) }
@@ -140,47 +142,113 @@ fn share_pair<R: Wait>(
     }
 }
 
+/// A collection with the draft and a tree in the making as its roots: the nursery is then empty,
+/// and has nothing that aged.
+fn collect_pair<R: Wait>(
+    rt: &R,
+    hints: &mut Hints<'_>,
+    m: &mut Mutator<'_, Documents>,
+    nursery: &mut AgedNursery,
+    promoter: &mut Promoter,
+    draft: NodeAt,
+    base: usize,
+    tree: NodeAt,
+) -> Result<(), HeapFull>
+    requires sound { IsSound m.old nursery.old.heap draft base }
+    requires node { IsTreeAt m.old nursery.old.heap tree }
+    requires copies { nursery.old.heap.room ≤ promoter.old }
+    requires ready { length m.old.seat.me.own.held + length nursery.old.heap.records + 9000
+        ≤ m.old.seat.me.room }
+    ensures shared { OnOk result (IsSound m.new nursery.new.heap (at.Shared 1) 2) }
+    ensures term { OnOk result (node_term m.new nursery.new.heap (at.Shared 1)
+        ≡ node_term m.old nursery.old.heap draft) }
+    ensures node { OnOk result (IsTreeAt m.new nursery.new.heap (at.Shared 2)) }
+    ensures tree { OnOk result (node_term m.new nursery.new.heap (at.Shared 2)
+        ≡ node_term m.old nursery.old.heap tree) }
+    ensures held { OnOk result (length m.new.seat.me.own.held ≡ 3) }
+    ensures emptied { OnOk result (length nursery.new.heap.records ≡ 0) }
+    ensures aged { OnOk result (nursery.new.aged ≡ 0) }
+    ensures records { nursery.new.records ≡ nursery.old.records }
+    ensures sound { OnErr result (IsSound m.new nursery.new.heap draft base) }
+    ensures same { OnErr result (node_term m.new nursery.new.heap draft
+        ≡ node_term m.old nursery.old.heap draft) }
+    ensures full { OnErr result (Had (IsFull m.old.seat.me.shape.cells) (marks m.old)
+        (marks m.new)) }
+    ensures kept { OnErr result (length m.new.seat.me.own.held + length nursery.new.heap.records
+        ≡ length m.old.seat.me.own.held + length nursery.old.heap.records) }
+    ensures follows { Follows m.old m.new nursery.old.heap nursery.new.heap }
+    ensures pass { m.new.seat.me.pass ≡ m.old.seat.me.pass }
+    ensures promoter { promoter.new ≡ promoter.old }
+    ensures queue { queue_of hints.new ≡ queue_of hints.old }
+{
+    match share_pair(
+        rt,
+        hints,
+        m,
+        nursery.heap_mut(),
+        promoter,
+        draft,
+        base,
+        tree,
+    ) {
+        Ok(()) => {
+            nursery.promoted();
+            Ok(())
+        }
+        Err(full) => Err(full),
+    }
+}
+
 /// Where there is too little room for one more edit, lets all private records go but those of the
-/// draft and of a tree in the making. The tree is then at the node that is the answer.
+/// draft and of a tree in the making. Where places are not wanting these age once, and become
+/// shared only if that leaves too few. The tree is then at the node that is the answer.
 pub(crate) fn make_room_for<R: Wait>(
     rt: &R,
     hints: &mut Hints<'_>,
     m: &mut Mutator<'_, Documents>,
-    minor: &mut MinorHeap,
+    nursery: &mut AgedNursery,
     promoter: &mut Promoter,
     draft: &mut NodeAt,
     base: &mut usize,
     tree: NodeAt,
 ) -> Result<Option<NodeAt>, HeapFull>
-    requires sound { IsSound m.old minor.old draft.old base.old }
-    requires node { IsTreeAt m.old minor.old tree }
-    requires copies { minor.old.room ≤ promoter.old }
-    requires ready { length m.old.seat.me.own.held + length minor.old.records + 9000
+    requires sound { IsSound m.old nursery.old.heap draft.old base.old }
+    requires node { IsTreeAt m.old nursery.old.heap tree }
+    requires whole { nursery.old.heap.room ≡ nursery.old.records }
+    requires copies { nursery.old.heap.room ≤ promoter.old }
+    requires ready { length m.old.seat.me.own.held + length nursery.old.heap.records + 9000
         ≤ m.old.seat.me.room }
-    ensures sound { IsSound m.new minor.new draft.new base.new }
-    ensures room { OnOk result (HasRoom m.new minor.new) }
-    ensures unmoved { HasRoom m.old minor.old → result ≡ Ok None }
+    ensures sound { IsSound m.new nursery.new.heap draft.new base.new }
+    ensures records { nursery.new.records ≡ nursery.old.records }
+    ensures room { OnOk result (HasRoom m.new nursery.new.heap) }
+    ensures unmoved { HasRoom m.old nursery.old.heap → result ≡ Ok None }
     ensures idle { IfOk result (λ moved. IsNone moved → (m.new ≡ m.old)
-        × (minor.new ≡ minor.old) × (draft.new ≡ draft.old) × (base.new ≡ base.old)) }
-    ensures node { IfOk result (λ moved. IfSome moved (IsTreeAt m.new minor.new)) }
-    ensures tree { IfOk result (λ moved. IfSome moved (λ next. tree_at m.new minor.new next
-        ≡ tree_at m.old minor.old tree)) }
+        × (nursery.new ≡ nursery.old) × (draft.new ≡ draft.old) × (base.new ≡ base.old)) }
+    ensures node { IfOk result (λ moved. IfSome moved (IsTreeAt m.new nursery.new.heap)) }
+    ensures tree { IfOk result (λ moved. IfSome moved (λ next. tree_at m.new nursery.new.heap next
+        ≡ tree_at m.old nursery.old.heap tree)) }
     ensures full { OnErr result (Had (IsFull m.old.seat.me.shape.cells) (marks m.old)
         (marks m.new)) }
-    ensures kept { length m.new.seat.me.own.held + length minor.new.records
-        ≤ length m.old.seat.me.own.held + length minor.old.records }
-    ensures term { node_term m.new minor.new draft.new ≡ node_term m.old minor.old draft.old }
+    ensures kept { length m.new.seat.me.own.held + length nursery.new.heap.records
+        ≤ length m.old.seat.me.own.held + length nursery.old.heap.records }
+    ensures term { node_term m.new nursery.new.heap draft.new
+        ≡ node_term m.old nursery.old.heap draft.old }
     ensures small { base.new ≤ max base.old 2 }
-    ensures follows { Follows m.old m.new minor.old minor.new }
+    ensures follows { Follows m.old m.new nursery.old.heap nursery.new.heap }
     ensures pass { m.new.seat.me.pass ≡ m.old.seat.me.pass }
     ensures promoter { promoter.new ≡ promoter.old }
     ensures queue { queue_of hints.new ≡ queue_of hints.old }
 {
-    let records = minor.len() as usize;
-    if 2285 <= minor.spare() && 20011 + records <= m.room() {
+    let records = nursery.heap().len() as usize;
+    let places = 20011 + records <= m.room();
+    if places && 2285 <= nursery.heap().spare() {
         return Ok(None);
     }
-    match share_pair(rt, hints, m, minor, promoter, *draft, *base, tree) {
+    let (next, enough) = age_both(nursery, draft, tree, places);
+    if enough {
+        return Ok(Some(next));
+    }
+    match collect_pair(rt, hints, m, nursery, promoter, *draft, *base, next) {
         Ok(()) => {
             *draft = NodeAt::Shared(1);
             *base = 2;

@@ -31,6 +31,7 @@ ghost use Rattle.version_store.specs.Older.{GivesOlder, Trims};
 
 use crate::seat::StoreSeat;
 use crate::{drafting, making, places, publishing, walking};
+use aged_nursery::AgedNursery;
 use client_session::{CommitRefusal, HeapFull, HeldVersion};
 use client_trees::NodeAt;
 use doc_tree::{EditFault, Name, Names, NoMemory, Path, Text};
@@ -317,72 +318,76 @@ impl<'h, 'q> StoreSeat<Hints<'q>> for Mutator<'h, Documents> {
         &mut self,
         rt: &R,
         hints: &mut Hints<'q>,
-        minor: &mut MinorHeap,
+        nursery: &mut AgedNursery,
         promoter: &mut Promoter,
         draft: &mut NodeAt,
         base: &mut usize,
     ) -> Result<(), HeapFull>
-        requires sound { IsSound self.old minor.old draft.old base.old }
-        requires copies { minor.old.room ≤ promoter.old }
-        requires ready { length self.old.seat.me.own.held + length minor.old.records + 9000
+        requires sound { IsSound self.old nursery.old.heap draft.old base.old }
+        requires whole { nursery.old.heap.room ≡ nursery.old.records }
+        requires copies { nursery.old.heap.room ≤ promoter.old }
+        requires ready { length self.old.seat.me.own.held + length nursery.old.heap.records + 9000
             ≤ self.old.seat.me.room }
-        ensures sound { IsSound self.new minor.new draft.new base.new }
-        ensures cleared { OnOk result (IsCleared self.new minor.new) }
-        ensures idle { IsCleared self.old minor.old
-            → (self.new ≡ self.old) × (minor.new ≡ minor.old)
+        ensures sound { IsSound self.new nursery.new.heap draft.new base.new }
+        ensures records { nursery.new.records ≡ nursery.old.records }
+        ensures cleared { OnOk result (IsCleared self.new nursery.new.heap) }
+        ensures idle { IsCleared self.old nursery.old.heap
+            → (self.new ≡ self.old) × (nursery.new ≡ nursery.old)
             × (draft.new ≡ draft.old) × (base.new ≡ base.old) }
         ensures full { OnErr result (Had (IsFull self.old.seat.me.shape.cells)
             (marks self.old) (marks self.new)) }
-        ensures kept { length self.new.seat.me.own.held + length minor.new.records
-            ≤ length self.old.seat.me.own.held + length minor.old.records }
-        ensures term { node_term self.new minor.new draft.new
-            ≡ node_term self.old minor.old draft.old }
+        ensures kept { length self.new.seat.me.own.held + length nursery.new.heap.records
+            ≤ length self.old.seat.me.own.held + length nursery.old.heap.records }
+        ensures term { node_term self.new nursery.new.heap draft.new
+            ≡ node_term self.old nursery.old.heap draft.old }
         ensures small { base.new ≤ max base.old 2 }
-        ensures follows { Follows self.old self.new minor.old minor.new }
+        ensures follows { Follows self.old self.new nursery.old.heap nursery.new.heap }
         ensures pass { self.new.seat.me.pass ≡ self.old.seat.me.pass }
         ensures promoter { promoter.new ≡ promoter.old }
         ensures queue { queue_of hints.new ≡ queue_of hints.old }
     {
-        drafting::make_room(rt, hints, self, minor, promoter, draft, base)
+        drafting::make_room(rt, hints, self, nursery, promoter, draft, base)
     }
 
     fn make_room_for<R: Wait>(
         &mut self,
         rt: &R,
         hints: &mut Hints<'q>,
-        minor: &mut MinorHeap,
+        nursery: &mut AgedNursery,
         promoter: &mut Promoter,
         draft: &mut NodeAt,
         base: &mut usize,
         tree: NodeAt,
     ) -> Result<Option<NodeAt>, HeapFull>
-        requires sound { IsSound self.old minor.old draft.old base.old }
-        requires node { IsTreeAt self.old minor.old tree }
-        requires copies { minor.old.room ≤ promoter.old }
-        requires ready { length self.old.seat.me.own.held + length minor.old.records + 9000
+        requires sound { IsSound self.old nursery.old.heap draft.old base.old }
+        requires node { IsTreeAt self.old nursery.old.heap tree }
+        requires whole { nursery.old.heap.room ≡ nursery.old.records }
+        requires copies { nursery.old.heap.room ≤ promoter.old }
+        requires ready { length self.old.seat.me.own.held + length nursery.old.heap.records + 9000
             ≤ self.old.seat.me.room }
-        ensures sound { IsSound self.new minor.new draft.new base.new }
-        ensures room { OnOk result (HasRoom self.new minor.new) }
-        ensures unmoved { HasRoom self.old minor.old → result ≡ Ok None }
+        ensures sound { IsSound self.new nursery.new.heap draft.new base.new }
+        ensures records { nursery.new.records ≡ nursery.old.records }
+        ensures room { OnOk result (HasRoom self.new nursery.new.heap) }
+        ensures unmoved { HasRoom self.old nursery.old.heap → result ≡ Ok None }
         ensures idle { IfOk result (λ moved. IsNone moved → (self.new ≡ self.old)
-            × (minor.new ≡ minor.old) × (draft.new ≡ draft.old) × (base.new ≡ base.old)) }
+            × (nursery.new ≡ nursery.old) × (draft.new ≡ draft.old) × (base.new ≡ base.old)) }
         ensures node { IfOk result (λ moved.
-            IfSome moved (IsTreeAt self.new minor.new)) }
+            IfSome moved (IsTreeAt self.new nursery.new.heap)) }
         ensures tree { IfOk result (λ moved. IfSome moved (λ next.
-            tree_at self.new minor.new next ≡ tree_at self.old minor.old tree)) }
+            tree_at self.new nursery.new.heap next ≡ tree_at self.old nursery.old.heap tree)) }
         ensures full { OnErr result (Had (IsFull self.old.seat.me.shape.cells)
             (marks self.old) (marks self.new)) }
-        ensures kept { length self.new.seat.me.own.held + length minor.new.records
-            ≤ length self.old.seat.me.own.held + length minor.old.records }
-        ensures term { node_term self.new minor.new draft.new
-            ≡ node_term self.old minor.old draft.old }
+        ensures kept { length self.new.seat.me.own.held + length nursery.new.heap.records
+            ≤ length self.old.seat.me.own.held + length nursery.old.heap.records }
+        ensures term { node_term self.new nursery.new.heap draft.new
+            ≡ node_term self.old nursery.old.heap draft.old }
         ensures small { base.new ≤ max base.old 2 }
-        ensures follows { Follows self.old self.new minor.old minor.new }
+        ensures follows { Follows self.old self.new nursery.old.heap nursery.new.heap }
         ensures pass { self.new.seat.me.pass ≡ self.old.seat.me.pass }
         ensures promoter { promoter.new ≡ promoter.old }
         ensures queue { queue_of hints.new ≡ queue_of hints.old }
     {
-        making::make_room_for(rt, hints, self, minor, promoter, draft, base, tree)
+        making::make_room_for(rt, hints, self, nursery, promoter, draft, base, tree)
     }
 
     fn cut_back(&mut self, minor: &MinorHeap, places: usize)

@@ -30,6 +30,7 @@ ghost use Rattle.version_store.specs.Held.{GivesLatest, GivesRoot, IsHeld, root_
 ghost use Rattle.version_store.specs.Lasts.{IsSameMutator, LastsAcross, marks};
 ghost use Rattle.version_store.specs.Older.{GivesOlder, Trims};
 
+use aged_nursery::AgedNursery;
 use client_session::{CommitRefusal, HeapFull, HeldVersion};
 use client_trees::NodeAt;
 use doc_tree::{EditFault, Name, Names, NoMemory, Path, Text};
@@ -288,71 +289,79 @@ pub trait StoreSeat<Q> {
         ensures promoter { promoter.new ≡ promoter.old }
         ensures queue { queue hints.new ≡ queue hints.old };
 
-    /// Makes room for an edit, by a minor collection where there is too little.
+    /// Makes room for an edit where there is too little: the private records age once, or else are
+    /// collected.
     fn make_room<R: Wait>(
         &mut self,
         rt: &R,
         hints: &mut Q,
-        minor: &mut MinorHeap,
+        nursery: &mut AgedNursery,
         promoter: &mut Promoter,
         draft: &mut NodeAt,
         base: &mut usize,
     ) -> Result<(), HeapFull>
-        requires sound { IsSound (bound self.old) minor.old draft.old base.old }
-        requires copies { minor.old.room ≤ promoter.old }
-        requires ready { length (bound self.old).seat.me.own.held + length minor.old.records + 9000
-            ≤ (bound self.old).seat.me.room }
-        ensures sound { IsSound (bound self.new) minor.new draft.new base.new }
-        ensures cleared { OnOk result (IsCleared (bound self.new) minor.new) }
-        ensures idle { IsCleared (bound self.old) minor.old
-            → (bound self.new ≡ bound self.old) × (minor.new ≡ minor.old)
+        requires sound { IsSound (bound self.old) nursery.old.heap draft.old base.old }
+        requires whole { nursery.old.heap.room ≡ nursery.old.records }
+        requires copies { nursery.old.heap.room ≤ promoter.old }
+        requires ready { length (bound self.old).seat.me.own.held
+            + length nursery.old.heap.records + 9000 ≤ (bound self.old).seat.me.room }
+        ensures sound { IsSound (bound self.new) nursery.new.heap draft.new base.new }
+        ensures records { nursery.new.records ≡ nursery.old.records }
+        ensures cleared { OnOk result (IsCleared (bound self.new) nursery.new.heap) }
+        ensures idle { IsCleared (bound self.old) nursery.old.heap
+            → (bound self.new ≡ bound self.old) × (nursery.new ≡ nursery.old)
             × (draft.new ≡ draft.old) × (base.new ≡ base.old) }
         ensures full { OnErr result (Had (IsFull (bound self.old).seat.me.shape.cells)
             (marks (bound self.old)) (marks (bound self.new))) }
-        ensures kept { length (bound self.new).seat.me.own.held + length minor.new.records
-            ≤ length (bound self.old).seat.me.own.held + length minor.old.records }
-        ensures term { node_term (bound self.new) minor.new draft.new
-            ≡ node_term (bound self.old) minor.old draft.old }
+        ensures kept { length (bound self.new).seat.me.own.held + length nursery.new.heap.records
+            ≤ length (bound self.old).seat.me.own.held + length nursery.old.heap.records }
+        ensures term { node_term (bound self.new) nursery.new.heap draft.new
+            ≡ node_term (bound self.old) nursery.old.heap draft.old }
         ensures small { base.new ≤ max base.old 2 }
-        ensures follows { Follows (bound self.old) (bound self.new) minor.old minor.new }
+        ensures follows { Follows (bound self.old) (bound self.new) nursery.old.heap
+            nursery.new.heap }
         ensures pass { (bound self.new).seat.me.pass ≡ (bound self.old).seat.me.pass }
         ensures promoter { promoter.new ≡ promoter.old }
         ensures queue { queue hints.new ≡ queue hints.old };
 
-    /// Makes room for one more edit of a tree in the making, by a minor collection where there is
-    /// too little.
+    /// Makes room for one more edit of a tree in the making where there is too little: the private
+    /// records age once, or else are collected.
     fn make_room_for<R: Wait>(
         &mut self,
         rt: &R,
         hints: &mut Q,
-        minor: &mut MinorHeap,
+        nursery: &mut AgedNursery,
         promoter: &mut Promoter,
         draft: &mut NodeAt,
         base: &mut usize,
         tree: NodeAt,
     ) -> Result<Option<NodeAt>, HeapFull>
-        requires sound { IsSound (bound self.old) minor.old draft.old base.old }
-        requires node { IsTreeAt (bound self.old) minor.old tree }
-        requires copies { minor.old.room ≤ promoter.old }
-        requires ready { length (bound self.old).seat.me.own.held + length minor.old.records + 9000
-            ≤ (bound self.old).seat.me.room }
-        ensures sound { IsSound (bound self.new) minor.new draft.new base.new }
-        ensures room { OnOk result (HasRoom (bound self.new) minor.new) }
-        ensures unmoved { HasRoom (bound self.old) minor.old → result ≡ Ok None }
+        requires sound { IsSound (bound self.old) nursery.old.heap draft.old base.old }
+        requires node { IsTreeAt (bound self.old) nursery.old.heap tree }
+        requires whole { nursery.old.heap.room ≡ nursery.old.records }
+        requires copies { nursery.old.heap.room ≤ promoter.old }
+        requires ready { length (bound self.old).seat.me.own.held
+            + length nursery.old.heap.records + 9000 ≤ (bound self.old).seat.me.room }
+        ensures sound { IsSound (bound self.new) nursery.new.heap draft.new base.new }
+        ensures records { nursery.new.records ≡ nursery.old.records }
+        ensures room { OnOk result (HasRoom (bound self.new) nursery.new.heap) }
+        ensures unmoved { HasRoom (bound self.old) nursery.old.heap → result ≡ Ok None }
         ensures idle { IfOk result (λ moved. IsNone moved → (bound self.new ≡ bound self.old)
-            × (minor.new ≡ minor.old) × (draft.new ≡ draft.old) × (base.new ≡ base.old)) }
+            × (nursery.new ≡ nursery.old) × (draft.new ≡ draft.old) × (base.new ≡ base.old)) }
         ensures node { IfOk result (λ moved.
-            IfSome moved (IsTreeAt (bound self.new) minor.new)) }
+            IfSome moved (IsTreeAt (bound self.new) nursery.new.heap)) }
         ensures tree { IfOk result (λ moved. IfSome moved (λ next.
-            tree_at (bound self.new) minor.new next ≡ tree_at (bound self.old) minor.old tree)) }
+            tree_at (bound self.new) nursery.new.heap next
+            ≡ tree_at (bound self.old) nursery.old.heap tree)) }
         ensures full { OnErr result (Had (IsFull (bound self.old).seat.me.shape.cells)
             (marks (bound self.old)) (marks (bound self.new))) }
-        ensures kept { length (bound self.new).seat.me.own.held + length minor.new.records
-            ≤ length (bound self.old).seat.me.own.held + length minor.old.records }
-        ensures term { node_term (bound self.new) minor.new draft.new
-            ≡ node_term (bound self.old) minor.old draft.old }
+        ensures kept { length (bound self.new).seat.me.own.held + length nursery.new.heap.records
+            ≤ length (bound self.old).seat.me.own.held + length nursery.old.heap.records }
+        ensures term { node_term (bound self.new) nursery.new.heap draft.new
+            ≡ node_term (bound self.old) nursery.old.heap draft.old }
         ensures small { base.new ≤ max base.old 2 }
-        ensures follows { Follows (bound self.old) (bound self.new) minor.old minor.new }
+        ensures follows { Follows (bound self.old) (bound self.new) nursery.old.heap
+            nursery.new.heap }
         ensures pass { (bound self.new).seat.me.pass ≡ (bound self.old).seat.me.pass }
         ensures promoter { promoter.new ≡ promoter.old }
         ensures queue { queue hints.new ≡ queue hints.old };

@@ -2,8 +2,9 @@
 use Rattle.std.proofs.Common.{◌≡◌, ◌<◌, ◌≤◌, ◌+◌, ◌*◌, ℕ, zero, suc, true}
 use Rattle.std.proofs.Common.{List, [], ◌∷◌, length, sym, ◌∙◌, ap, subst, arith}
 use Rattle.std.specs.Prelude.{slice_index_or}
+use Rattle.aged_nursery.specs.Aged.{Aged}
 use Rattle.cell_words.specs.Term.{null}
-use Rattle.client_heap.specs.Shows.{state_of}
+use Rattle.client_heap.specs.Shows.{node_term, state_of}
 use Rattle.client_heap.specs.Sound.{IsSound}
 use Rattle.client_records.specs.declared.at.NodeAt.TheVariants as at
 use Rattle.client_records.specs.Records.{IsAmong, Rests, rests, stands_on, term_at, terms_known}
@@ -88,13 +89,19 @@ module _ (m : Bound Pass) (minor : Nursery) (r : MinorRef)
       ready = let is = one in omega (arith, is, many, places);
     }
 
-    pub may_begin : MayAnswer j m minor copies (at.Minor r) 1
-    may_begin = record {
-      client = client;
-      step = step (state_of m minor (at.Minor r) 1) keeps none
-          (ap tree_of draft_bare ∙ bare_is_empty);
-      sound = begin_sound;
-      ready = let is = one in omega (arith, is, held, many, places);
-      settled = held;
-      copied = omega (arith, room, copied);
-    }
+    pub may_begin : (nursery : Aged) → nursery.heap ≡ minor → nursery.records ≡ most
+        → MayAnswer j m nursery copies (at.Minor r) 1
+    may_begin nursery heap all =
+        let same = ap (λ (n : Nursery). n.room) heap in
+        let many = ap (λ (n : Nursery). length n.records) heap in
+        record {
+          client = client;
+          step = step (state_of m nursery.heap (at.Minor r) 1) keeps none
+              (ap (λ (n : Nursery). tree_of (node_term m n (at.Minor r))) heap ∙ ap tree_of draft_bare
+              ∙ bare_is_empty);
+          sound = subst (λ (n : Nursery). IsSound m n (at.Minor r) 1) (sym heap) begin_sound;
+          ready = let is = one in omega (arith, is, many, held, same, room, places);
+          settled = held;
+          whole = omega (arith, same, room, all);
+          copied = omega (arith, same, room, copied);
+        }

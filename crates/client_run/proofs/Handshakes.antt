@@ -5,6 +5,7 @@
 use Rattle.std.proofs.Common.{◌≡◌, ◌≤◌, ℕ, List, length, sym}
 use Rattle.std.proofs.Common.{◌∙◌, ap, subst}
 use Rattle.std.proofs.Common.{arith}
+use Rattle.aged_nursery.specs.Aged.{Aged}
 use Rattle.client_heap.specs.Shows.{state_of}
 use Rattle.client_heap.specs.Sound.{IsSound}
 use Rattle.client_records.specs.declared.at.NodeAt.{NodeAt}
@@ -19,7 +20,6 @@ use Rattle.core_machine.specs.Trail.{own_along}
 use Rattle.core_machine.specs.declared.events.Taken.{Taken}
 use Rattle.doc_records.specs.Trees.{IsTreeNode}
 use Rattle.heap_rule.specs.declared.known.Known.{Known}
-use Rattle.minor_heap.specs.Nursery.{Nursery}
 use Rattle.mutator_seat.specs.Bound.{Bound}
 use Rattle.mutator_seat.specs.Stretches.{Calm, Kept}
 use Rattle.trails.specs.Asks.{Grown}
@@ -44,13 +44,13 @@ module _ (a b : Bound Pass) (stays : Kept a b)
   same_many : length b.seat.me.own.held ≡ length a.seat.me.own.held
   same_many = sym (many_cells b) ∙ ap (λ (cs : List ℕ). length cs) stays.held ∙ many_cells a
 
-  module _ (j : Journal) (minor : Nursery) (copies : ℕ) (draft : NodeAt) (base : ℕ)
-      (may : MayAnswer j a minor copies draft base) where
-    same_term : term_at b.seat.me.known minor.records draft
-        ≡ term_at a.seat.me.known minor.records draft
-    same_term = ap (λ (ks : List Known). term_at ks minor.records draft) stays.known
+  module _ (j : Journal) (nursery : Aged) (copies : ℕ) (draft : NodeAt) (base : ℕ)
+      (may : MayAnswer j a nursery copies draft base) where
+    same_term : term_at b.seat.me.known nursery.heap.records draft
+        ≡ term_at a.seat.me.known nursery.heap.records draft
+    same_term = ap (λ (ks : List Known). term_at ks nursery.heap.records draft) stays.known
 
-    still_sound : IsSound b minor draft base
+    still_sound : IsSound b nursery.heap draft base
     still_sound =
         let many = same_many in
         let room = stays.room in
@@ -61,7 +61,7 @@ module _ (a b : Bound Pass) (stays : Kept a b)
           inside = stays.inside ∙ may.sound.inside;
           some = may.sound.some;
           kept = omega (arith, many, few);
-          stands = subst (λ (ks : List Known). stands_on ks minor.records base draft)
+          stands = subst (λ (ks : List Known). stands_on ks nursery.heap.records base draft)
               (sym stays.known) may.sound.stands;
           node = subst IsTreeNode (sym same_term) may.sound.node;
           records = may.sound.records;
@@ -69,7 +69,7 @@ module _ (a b : Bound Pass) (stays : Kept a b)
           ready = omega (arith, room, ready);
         }
 
-    still_ready : 9_000 ≤ (state_of b minor draft base).room
+    still_ready : 9_000 ≤ (state_of b nursery.heap draft base).room
     still_ready =
         let ready = may.sound.ready in
         let enough = may.ready in
@@ -77,7 +77,7 @@ module _ (a b : Bound Pass) (stays : Kept a b)
         let room = stays.room in
         omega (arith, enough, many, room)
 
-    lost : Lost (state_of a minor draft base) (state_of b minor draft base)
+    lost : Lost (state_of a nursery.heap draft base) (state_of b nursery.heap draft base)
     lost = record {
       lasts = record {
         cells = ap (λ h. h.cells) stays.shape;
@@ -89,15 +89,16 @@ module _ (a b : Bound Pass) (stays : Kept a b)
       ready = still_ready;
       commits = ap commit_numbers stays.pass;
       draft = same_term;
-      small = small_still (state_of a minor draft base);
+      small = small_still (state_of a nursery.heap draft base);
     }
 
-    pub kept_may : MayAnswer j b minor copies draft base
+    pub kept_may : MayAnswer j b nursery copies draft base
     kept_may = record {
       client = may.client;
       step = in_step_lost (bounds j.limits) j.last j.log may.step lost;
       sound = still_sound;
       ready = still_ready;
       settled = same_many ∙ may.settled;
+      whole = may.whole;
       copied = may.copied;
     }

@@ -13,13 +13,14 @@ ghost use Rattle.version_rule.specs.Pass.{Pass};
 ghost use Rattle.version_store.specs.Lasts.{IsSameMutator};
 
 use crate::over::answer_over;
+use aged_nursery::AgedNursery;
 use client_session::Journal;
 use client_trees::NodeAt;
 use doc_model::{Command, Log, Reply};
 use doc_tree::NoMemory;
 use document_versions::Documents;
 use free_cells::Hints;
-use minor_heap::{MinorField, MinorHeap};
+use minor_heap::MinorField;
 use mutator_seat::Mutator;
 use promotion::Promoter;
 use std::alloc::Global;
@@ -38,7 +39,7 @@ pub struct Limits {
 /// the same mutator.
 pub struct Session {
     pub journal: Journal,
-    pub minor: MinorHeap,
+    pub nursery: AgedNursery,
     pub promoter: Promoter,
     pub draft: NodeAt,
     /// so many places are held between commands
@@ -49,7 +50,7 @@ impl Drop for Session {
     fn drop(self) {
         let Session {
             journal: _journal,
-            minor: _minor,
+            nursery: _nursery,
             promoter: _promoter,
             draft: _,
             base: _,
@@ -67,13 +68,13 @@ impl Session {
         ensures client { IfOk result (λ s. s.journal.log.client ≡ client) }
         ensures keep { IfOk result (λ s. s.journal.limits.keep ≡ limits.keep) }
         ensures versions { IfOk result (λ s. s.journal.limits.versions ≡ limits.versions) }
-        ensures minor { IfOk result (λ s. s.minor.room ≡ limits.minor) }
+        ensures minor { IfOk result (λ s. s.nursery.heap.room ≡ limits.minor) }
         ensures may { IfOk result (λ s. (m : Bound Pass) → m.seat.me.presence.inside ≡ true
             → length m.seat.me.own.held ≡ 1 → m.seat.me.pass.keep ≡ limits.keep
             → m.seat.me.pass.commits ≡ [] → 4 * limits.minor + 16384 ≤ m.seat.me.room
-            → MayAnswer s.journal m s.minor s.promoter s.draft s.base) }
+            → MayAnswer s.journal m s.nursery s.promoter s.draft s.base) }
     {
-        let mut minor = MinorHeap::with_room(alloc, limits.minor)?;
+        let mut nursery = AgedNursery::with_room(alloc, limits.minor)?;
         let promoter = Promoter::with_room(alloc, limits.minor)?;
         let fields = [
             MinorField::Null,
@@ -82,7 +83,7 @@ impl Session {
             MinorField::Num(0),
             MinorField::Null,
         ];
-        match minor.make(fields) {
+        match nursery.heap_mut().make(fields) {
             Ok(made) => Ok(Session {
                 journal: Journal::new(
                     alloc,
@@ -92,7 +93,7 @@ impl Session {
                         versions: limits.versions,
                     },
                 ),
-                minor,
+                nursery,
                 promoter,
                 draft: NodeAt::Minor(made),
                 base: 1,
@@ -111,21 +112,21 @@ impl Session {
         m: &mut Mutator<'_, Documents>,
         command: &Command,
     ) -> Result<Reply, NoMemory>
-        requires may { MayAnswer self.old.journal m.old self.old.minor self.old.promoter
+        requires may { MayAnswer self.old.journal m.old self.old.nursery self.old.promoter
             self.old.draft self.old.base }
         requires few { length self.old.journal.log.entries < 100000 }
         ensures enters { IfOk result (λ reply. Enters self.old.journal self.new.journal command.now
-            reply (state_of m.old self.old.minor self.old.draft self.old.base)
-            (state_of m.new self.new.minor self.new.draft self.new.base)) }
+            reply (state_of m.old self.old.nursery.heap self.old.draft self.old.base)
+            (state_of m.new self.new.nursery.heap self.new.draft self.new.base)) }
         ensures held { is_keeping command.now ≡ false → HoldsNoMore m.old m.new }
         ensures reads { is_reading command.now ≡ true
-            → CollectsNone m.old m.new self.old.minor self.new.minor }
+            → CollectsNone m.old m.new self.old.nursery.heap self.new.nursery.heap }
         ensures plain { is_reading command.now ≡ true → IfOk result IsPlain }
         ensures same { IsSameMutator m.old m.new }
         ensures queue { queue_of hints.new ≡ queue_of hints.old }
-        ensures minor_room { self.new.minor.room ≡ self.old.minor.room }
+        ensures minor_room { self.new.nursery.heap.room ≡ self.old.nursery.heap.room }
         ensures promoter { self.new.promoter ≡ self.old.promoter }
-        ensures may { MayAnswer self.new.journal m.new self.new.minor self.new.promoter
+        ensures may { MayAnswer self.new.journal m.new self.new.nursery self.new.promoter
             self.new.draft self.new.base }
         ensures limits { self.new.journal.limits ≡ self.old.journal.limits }
         ensures client { self.new.journal.log.client ≡ self.old.journal.log.client }
@@ -133,10 +134,10 @@ impl Session {
         ensures entries { OnErr result (self.new.journal.log.entries
             ≡ self.old.journal.log.entries) }
         ensures lost { OnErr result (Lost
-            (state_of m.old self.old.minor self.old.draft self.old.base)
-            (state_of m.new self.new.minor self.new.draft self.new.base)) }
+            (state_of m.old self.old.nursery.heap self.old.draft self.old.base)
+            (state_of m.new self.new.nursery.heap self.new.draft self.new.base)) }
         ensures untouched { is_reading command.now ≡ false → OnErr result
-            ((m.new ≡ m.old) × (self.new.minor ≡ self.old.minor)
+            ((m.new ≡ m.old) × (self.new.nursery ≡ self.old.nursery)
             × (self.new.draft ≡ self.old.draft) × (self.new.base ≡ self.old.base)) }
     {
         answer_over(
@@ -145,7 +146,7 @@ impl Session {
             hints,
             m,
             &mut self.journal,
-            &mut self.minor,
+            &mut self.nursery,
             &mut self.promoter,
             &mut self.draft,
             &mut self.base,
@@ -165,7 +166,7 @@ impl Session {
     {
         let Session {
             journal,
-            minor: _minor,
+            nursery: _nursery,
             promoter: _promoter,
             draft: _,
             base: _,

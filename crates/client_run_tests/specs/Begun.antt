@@ -26,4 +26,4 @@ pub record IsBegun (keep : ℕ) (m : Bound Pass) : Type 0 where
 
 -- the session may answer by this mutator
 abbrev pub MayGo : Session → Bound Pass → Type 0
-MayGo s m = MayAnswer s.journal m s.minor s.promoter s.draft s.base
+MayGo s m = MayAnswer s.journal m s.nursery s.promoter s.draft s.base

@@ -135,3 +135,43 @@ fn a_batch_that_collects_on_the_way_comes_out_whole(rt: HostRuntime) -> Result<(
     assert!(rt; folder_row(rt.alloc(), &rt)?);
     Ok(())
 }
+
+/// Edits of the draft at so many names, each of its own.
+fn draft_at_names(alloc: Global, count: u32) -> Result<Vec<u8>, NoMemory> {
+    let mut text = Vec::new(alloc);
+    for number in 0..count {
+        let line = format!(in alloc; "dput n{number} {number}\n")?;
+        text.extend_from_slice(line.as_bytes())?;
+    }
+    Ok(text)
+}
+
+/// The edits of a draft of 101 nodes, and what the batch before the last commands publishes of it.
+fn draft_replies(alloc: Global) -> Result<Vec<u8>, NoMemory> {
+    let mut text = Vec::new(alloc);
+    for _ in 0..100 {
+        text.extend_from_slice(b"drafted 0\n")?;
+    }
+    text.extend_from_slice(b"ok 1\nnum 1 101\nval 1 7\nval 1 997\nval 1 998\n")?;
+    text.extend_from_slice(b"val 1 99\ndrafted 1\nval 1 8\nval 1 6\nok 2\nval 2 8\nval 2 997\n")?;
+    Ok(text)
+}
+
+/// Whether a batch is answered so whose edits fill the private heap again and again beside a draft
+/// that has records of its own there, and whose last edit publishes that draft.
+fn draft_row<R: Wait>(alloc: Global, rt: &R) -> Result<bool, Fail> {
+    let before = draft_at_names(alloc, 100)?;
+    let mut batch = turns_at_names(alloc, 999)?;
+    batch.extend_from_slice(b"publish p\n")?;
+    let behind = b"size p\nget p/n7\nget d/229\nget d/230\n\
+dget n99\ndput n7 8\ndget n7\ndget n6\npublish p\nget p/n7\nget d/229\n";
+    let replies = draft_replies(alloc)?;
+    let texts: (&[u8], &[u8], &[u8]) = (&before, &batch, behind);
+    answers_around(alloc, rt, AMPLE, texts, &replies)
+}
+
+#[test]
+fn a_batch_and_the_draft_age_together(rt: HostRuntime) -> Result<(), Fail> {
+    assert!(rt; draft_row(rt.alloc(), &rt)?);
+    Ok(())
+}

@@ -22,10 +22,10 @@ use Rattle.client_threads.proofs.Waiting.{waits_mutator, waits_same}
 
 module _ (s : Session) (m : Bound Pass) (t : Session) (n : Bound Pass) where
   pub went_on : (c : Command) (reply : Reply) → MayGo t n → IsSameMutator m n
-      → t.journal.limits ≡ s.journal.limits → t.minor.room ≡ s.minor.room
+      → t.journal.limits ≡ s.journal.limits → t.nursery.heap.room ≡ s.nursery.heap.room
       → t.journal.log.client ≡ s.journal.log.client
-      → Enters s.journal t.journal c reply (state_of m s.minor s.draft s.base)
-      (state_of n t.minor t.draft t.base)
+      → Enters s.journal t.journal c reply (state_of m s.nursery.heap s.draft s.base)
+      (state_of n t.nursery.heap t.draft t.base)
       → Went (c ∷ []) s m t n
   went_on c reply may same limits minor client enters = record {
     may = may;
@@ -38,7 +38,7 @@ module _ (s : Session) (m : Bound Pass) (t : Session) (n : Bound Pass) where
   }
 
   pub went_none : MayGo t n → IsSameMutator m n → t.journal.limits ≡ s.journal.limits
-      → t.minor.room ≡ s.minor.room → t.journal.log.client ≡ s.journal.log.client
+      → t.nursery.heap.room ≡ s.nursery.heap.room → t.journal.log.client ≡ s.journal.log.client
       → t.journal.log.entries ≡ s.journal.log.entries → Went [] s m t n
   went_none may same limits minor client entries = record {
     may = may;

@@ -151,10 +151,10 @@ module _ (heap : HeapId) (queue : FreeQueue) (l : Limits) (script : List Command
     room = left.room ∙ front.went.same.room ∙ came.room ∙ ready.seat.room;
     over = left.over;
     left = record {
-      state = state_of n new.session.minor new.session.draft new.session.base;
+      state = state_of n new.session.nursery.heap new.session.draft new.session.base;
       last = new.session.journal.last;
       step = subst (λ (k : StoreLimits). IsInStep k
-          (state_of n new.session.minor new.session.draft new.session.base)
+          (state_of n new.session.nursery.heap new.session.draft new.session.base)
           new.session.journal.last new.session.journal.log) limits front.went.may.step;
       client_is = front.went.client ∙ ready.session.client_is;
       cells_are = ap (λ (h : Shape). h.cells) shape;

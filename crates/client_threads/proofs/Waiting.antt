@@ -47,4 +47,4 @@ module _ (a b : Bound Pass) (w : Waits a b) where
 
   pub waits_may : (s : Session) → MayGo s a → MayGo s b
   waits_may s may =
-      kept_may a b w.kept w.grown s.journal s.minor s.promoter s.draft s.base may
+      kept_may a b w.kept w.grown s.journal s.nursery s.promoter s.draft s.base may

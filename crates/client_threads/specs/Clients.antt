@@ -45,11 +45,11 @@ pub record IsNewSession (l : Limits) (client room : ℕ) (s : Session) : Type 0 
   pub client_is : s.journal.log.client ≡ client
   pub keep : s.journal.limits.keep ≡ l.keep
   pub versions : s.journal.limits.versions ≡ l.versions
-  pub minor : s.minor.room ≡ l.minor
+  pub minor : s.nursery.heap.room ≡ l.minor
   pub may : (m : Bound Pass) → m.seat.me.presence.inside ≡ true
       → length m.seat.me.own.held ≡ 1 → m.seat.me.pass.keep ≡ l.keep
       → m.seat.me.pass.commits ≡ [] → m.seat.me.room ≡ room
-      → MayAnswer s.journal m s.minor s.promoter s.draft s.base
+      → MayAnswer s.journal m s.nursery s.promoter s.draft s.base
 
 -- The seat is the one of the mutator with this number, as it was split off.
 pub record IsNewSeat (heap : HeapId) (l : Limits) (place : ℕ) (seat : SeatView Pass)
@@ -80,7 +80,7 @@ pub record IsDone (heap : HeapId) (l : Limits) (script : List Command) (place : 
   pub place_is : client.place ≡ place
   pub seat_is : IsSeatOf heap client.seat
   pub number_is : client.seat.me.number ≡ place
-  pub minor : client.session.minor.room ≡ l.minor
+  pub minor : client.session.nursery.heap.room ≡ l.minor
   pub room : client.seat.me.room ≡ places_for l.minor
   pub over : client.seat.me.presence.over ≡ true
   pub left : IsLeft (store_limits l) heap.shape.cells (place + 1) client.session.journal.log

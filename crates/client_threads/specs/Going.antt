@@ -21,7 +21,7 @@ pub record Waits (old new : Bound Pass) : Type 0 where
 
 -- the session may answer by this mutator
 abbrev pub MayGo : Session → Bound Pass → Type 0
-MayGo s m = MayAnswer s.journal m s.minor s.promoter s.draft s.base
+MayGo s m = MayAnswer s.journal m s.nursery s.promoter s.draft s.base
 
 -- the command, if it was answered
 abbrev pub answered : Bool → Command → List Command
@@ -34,7 +34,7 @@ pub record Went (more : List Command) (s : Session) (m : Bound Pass) (t : Sessio
   pub may : MayGo t n
   pub same : IsSameMutator m n
   pub limits : t.journal.limits ≡ s.journal.limits
-  pub minor : t.minor.room ≡ s.minor.room
+  pub minor : t.nursery.heap.room ≡ s.nursery.heap.room
   pub client : t.journal.log.client ≡ s.journal.log.client
   pub commands : commands_of t.journal.log.entries ≡ commands_of s.journal.log.entries ++ more
 

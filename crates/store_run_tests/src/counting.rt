@@ -51,6 +51,19 @@ pub(crate) fn totals_of<R: Threads + Wait + Sync, G: Gate + Sync>(
     Ok(finished.totals)
 }
 
+/// What a run of one client comes to, and what that client is answered.
+pub(crate) fn answered<R: Threads + Wait + Sync>(
+    alloc: Global,
+    rt: &R,
+    text: &[u8],
+    cycles: u32,
+) -> Result<(Totals, Vec<u8>), Fail>
+    requires cycles { cycles ≤ 4_000_000_000 }
+{
+    let finished = run_of(alloc, rt, 1, text, cycles, &OpenGate)?;
+    Ok((finished.totals, replies(alloc, &finished.logs)?))
+}
+
 /// Whether the one client of such a run is answered so.
 pub(crate) fn answers_so<R: Threads + Wait + Sync>(
     alloc: Global,
@@ -61,8 +74,8 @@ pub(crate) fn answers_so<R: Threads + Wait + Sync>(
 ) -> Result<bool, Fail>
     requires cycles { cycles ≤ 4_000_000_000 }
 {
-    let finished = run_of(alloc, rt, 1, text, cycles, &OpenGate)?;
-    Ok(replies(alloc, &finished.logs)?.as_slice() == wanted)
+    let (_totals, replies) = answered(alloc, rt, text, cycles)?;
+    Ok(replies.as_slice() == wanted)
 }
 
 /// The replies of the logs, a line each.

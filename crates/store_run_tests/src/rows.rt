@@ -1,6 +1,7 @@
 //! Rows, worked out by hand, and what stands on every schedule.
-use crate::counting::{answers_so, totals_of};
+use crate::counting::{answered, answers_so, totals_of};
 use crate::gates::OrderGate;
+use crate::scripts::repeated;
 use doc_model::{NoMemory, Totals};
 use outside::OpenGate;
 use std::alloc::Global;
@@ -97,5 +98,26 @@ fn full_row<R: Threads + Wait + Sync>(alloc: Global, rt: &R, wanted: &[u8]) -> R
 fn a_client_commits_again_behind_a_full_heap(rt: HostRuntime) -> Result<(), Fail> {
     let wanted = b"ok 1\nfull 1\nok 2\nval 2 y\nnone 2\n";
     assert!(rt; full_row(rt.alloc(), &rt, wanted)?);
+    Ok(())
+}
+
+/// How many cells a client claims for so many edits of its draft at one name, and whether each is
+/// answered as an edit of a draft that nobody published.
+fn drafts_alone<R: Threads + Wait + Sync>(
+    alloc: Global,
+    rt: &R,
+    edits: u32,
+) -> Result<(u64, bool), Fail> {
+    let text = repeated(alloc, b"dput k t\n", edits)?;
+    let wanted = repeated(alloc, b"drafted 0\n", edits)?;
+    let (totals, replies) = answered(alloc, rt, &text, 0)?;
+    Ok((totals.claimed, replies.as_slice() == wanted.as_slice()))
+}
+
+// Five hundred edits make more private records than there is room for, and their draft is three of
+// these: it ages again and again within the private heap, and no collection copies it out of there.
+#[test]
+fn a_draft_that_ages_claims_no_cell(rt: HostRuntime) -> Result<(), Fail> {
+    assert_eq!(rt; drafts_alone(rt.alloc(), &rt, 500)?, (0, true));
     Ok(())
 }

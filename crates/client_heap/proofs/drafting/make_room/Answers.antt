@@ -1,69 +1,14 @@
-use Rattle.std.proofs.Common.{arith}
-use Rattle.client_heap.proofs.Carrying.{follows_then}
-use Rattle.client_heap.proofs.Commits.{full_late, on_refusal}
+use Rattle.client_heap.proofs.Aged.{aged_sound}
 use Rattle.client_heap.proofs.drafting.make_room.Goals as goal
-use Rattle.client_heap.proofs.drafting.make_room.Goals.{
-  else-spare-ge2285-via-then-spare-ge2285+else-records-room,
-  else-spare-ge2285-via-else-spare-ge2285,
-}
 
-pub returns-then-base-gt2-clause-full : goal.returns-then-base-gt2-clause-full
-returns-then-base-gt2-clause-full g c =
-    on_refusal c.clear_around-cleared.result
-    (λ had. full_late c.args.m.now c.draw_in.new.m c.clear_around-cleared.new.m c.args.minor.now
-    c.args.minor.now c.draw_in.ensures.follows had)
-    c.clear_around-cleared.ensures.full
+pub returns-then-age_draft-clause-sound : goal.returns-then-age_draft-clause-sound
+returns-then-age_draft-clause-sound g c =
+    let did = c.age_draft.ensures in
+    aged_sound c.args.m.now c.args.nursery.now.heap c.age_draft.new.nursery.heap did.room did.fewer
+    c.args.draft.now c.age_draft.new.draft did.draft c.args.base.now c.requires.sound
 
-pub returns-then-records-room-clause-cleared : goal.returns-then-records-room-clause-cleared
-returns-then-records-room-clause-cleared g c = record {
-  room = omega arith;
-  spare = omega arith;
-}
-
-pub returns-then-base-gt2-clause-follows : goal.returns-then-base-gt2-clause-follows
-returns-then-base-gt2-clause-follows g c =
-    follows_then c.draw_in.ensures.follows c.clear_around-cleared.ensures.follows
-
-pub returns-then-base-gt2-clause-idle : goal.returns-then-base-gt2-clause-idle
-returns-then-base-gt2-clause-idle g c = λ cleared. absurd (
-    elim c.else-spare-ge2285.branch [
-      | else-spare-ge2285-via-then-spare-ge2285+else-records-room w ↦ omega arith
-      | else-spare-ge2285-via-else-spare-ge2285 w ↦ omega arith
-    ]
-    )
-
-pub returns-else-base-gt2-clause-idle : goal.returns-else-base-gt2-clause-idle
-returns-else-base-gt2-clause-idle g c = λ cleared. absurd (
-    elim c.else-spare-ge2285.branch [
-      | else-spare-ge2285-via-then-spare-ge2285+else-records-room w ↦ omega arith
-      | else-spare-ge2285-via-else-spare-ge2285 w ↦ omega arith
-    ]
-    )
-
-pub returns-in_ok-share_draft-in-Minor-clause-idle :
-    goal.returns-in_ok-share_draft-in-Minor-clause-idle
-returns-in_ok-share_draft-in-Minor-clause-idle g c = λ cleared. absurd (
-    elim c.else-spare-ge2285.branch [
-      | else-spare-ge2285-via-then-spare-ge2285+else-records-room w ↦ omega arith
-      | else-spare-ge2285-via-else-spare-ge2285 w ↦ omega arith
-    ]
-    )
-
-pub returns-in_err-share_draft-in-Minor-clause-idle :
-    goal.returns-in_err-share_draft-in-Minor-clause-idle
-returns-in_err-share_draft-in-Minor-clause-idle g c = λ cleared. absurd (
-    elim c.else-spare-ge2285.branch [
-      | else-spare-ge2285-via-then-spare-ge2285+else-records-room w ↦ omega arith
-      | else-spare-ge2285-via-else-spare-ge2285 w ↦ omega arith
-    ]
-    )
-
-pub returns-in_err-share_draft-in-Minor-clause-term :
-    goal.returns-in_err-share_draft-in-Minor-clause-term
-returns-in_err-share_draft-in-Minor-clause-term g c =
-    rw c.in-Minor.is c.in_err-share_draft-in-Minor.ensures.same
-
-pub returns-in_err-share_draft-in-Minor-clause-sound :
-    goal.returns-in_err-share_draft-in-Minor-clause-sound
-returns-in_err-share_draft-in-Minor-clause-sound g c =
-    rw c.in-Minor.is c.in_err-share_draft-in-Minor.ensures.sound
+pub collect_draft-requires-clause-sound : goal.collect_draft-requires-clause-sound
+collect_draft-requires-clause-sound g c =
+    let did = c.age_draft.ensures in
+    aged_sound c.args.m.now c.args.nursery.now.heap c.age_draft.new.nursery.heap did.room did.fewer
+    c.args.draft.now c.age_draft.new.draft did.draft c.args.base.now c.requires.sound

@@ -91,9 +91,6 @@ returns-in-Ok-clause-tree g c =
     ∙ ap (λ k. shared_place (k - 1) c.args.tree) c.held_len-held.ensures.len)
     c.keep_pair.ensures.second)
 
-pub returns-in-Ok-clause-emptied : goal.returns-in-Ok-clause-emptied
-returns-in-Ok-clause-emptied g c = ap (λ (xs : _). length xs) c.in-Ok.ensures.emptied
-
 pub returns-in-Ok-clause-follows : goal.returns-in-Ok-clause-follows
 returns-in-Ok-clause-follows g c =
     follows_then c.share_both.ensures.follows c.keep_pair.ensures.carries.follows

@@ -6,37 +6,44 @@ use Rattle.client_heap.proofs.heap.OwnHeapClientHeap.attach.Goals as goal
 
 pub invariant_of-self : goal.invariant_of-self
 invariant_of-self g c =
+    let left = rw c.heap_mut.ensures.heap at c.attach.ensures.leaves in
+    let few = rw c.heap_mut.ensures.heap at c.attach.ensures.records in
     let bound = g.M.StoreSeat.bound in
     let was = c.args.self.now in
     let did = c.attach.ensures in
     let room = c.requires.room in
-    let same = did.leaves.records_room in
+    let same = left.records_room in
     let fits = was.copies in
     record {
-      sound = left_sound (bound was.m.now) (bound c.attach.new.self) was.minor.now
-          c.attach.new.minor did.leaves was.draft was.base was.sound did.records did.held
-          (omega (arith, room));
+      sound = left_sound (bound was.m.now) (bound c.attach.new.self) was.nursery.now.heap
+          c.attach.new.minor left was.draft was.base was.sound few did.held (omega (arith, room));
+      whole =
+          let room = left.records_room in
+          let same = was.whole in omega (arith, room, same);
       copies = omega (arith, same, fits);
     }
 
 pub returns-clause-edits : goal.returns-clause-edits
 returns-clause-edits g c =
+    let left = rw c.heap_mut.ensures.heap at c.attach.ensures.leaves in
+    let few = rw c.heap_mut.ensures.heap at c.attach.ensures.records in
     let bound = g.M.StoreSeat.bound in
     let was = c.args.self.now in
     let did = c.attach.ensures in
-    left_edits (bound was.m.now) (bound c.attach.new.self) was.minor.now c.attach.new.minor
-    did.leaves was.draft was.base was.sound did.records did.held
+    left_edits (bound was.m.now) (bound c.attach.new.self) was.nursery.now.heap c.attach.new.minor
+    left was.draft was.base was.sound few did.held
 
 pub returns-clause-still : goal.returns-clause-still
 returns-clause-still g c =
+    let left = rw c.heap_mut.ensures.heap at c.attach.ensures.leaves in
     let bound = g.M.StoreSeat.bound in
     let was = c.args.self.now in
-    left_still (bound was.m.now) (bound c.attach.new.self) was.minor.now c.attach.new.minor
-    c.attach.ensures.leaves
+    left_still (bound was.m.now) (bound c.attach.new.self) was.nursery.now.heap c.attach.new.minor
+    left
 
 pub returns-clause-lent : goal.returns-clause-lent
 returns-clause-lent g c =
+    let left = rw c.heap_mut.ensures.heap at c.attach.ensures.leaves in
     let bound = g.M.StoreSeat.bound in
-    let did = c.attach.ensures in
-    lent_stays (bound c.args.self.now.m.now) (bound c.attach.new.self)
-    (left_same _ _ _ _ did.leaves) refl did.leaves.records_room refl
+    lent_stays (bound c.args.self.now.m.now) (bound c.attach.new.self) (left_same _ _ _ _ left) refl
+    left.records_room refl

@@ -6,32 +6,37 @@ use Rattle.client_heap.proofs.heap.OwnHeapClientHeap.count.Goals as goal
 
 pub invariant_of-self : goal.invariant_of-self
 invariant_of-self g c =
+    let all = rw c.heap_mut.ensures.heap at c.count.ensures.leaves in
     let bound = g.M.StoreSeat.bound in
     let was = c.args.self.now in
     record {
-      sound = all_sound (bound was.m.now) (bound c.count.new.self) was.minor.now c.count.new.minor
-          c.count.ensures.leaves was.draft was.base was.sound;
-      copies = let room = c.count.ensures.leaves.leaves.records_room in
+      sound = all_sound (bound was.m.now) (bound c.count.new.self) was.nursery.now.heap
+          c.count.new.minor all was.draft was.base was.sound;
+      whole =
+          let room = all.leaves.records_room in
+          let same = was.whole in omega (arith, room, same);
+      copies = let room = all.leaves.records_room in
           let fits = was.copies in omega (arith, room, fits);
     }
 
 pub returns-clause-rests : goal.returns-clause-rests
 returns-clause-rests g c =
+    let all = rw c.heap_mut.ensures.heap at c.count.ensures.leaves in
     let bound = g.M.StoreSeat.bound in
     let was = c.args.self.now in
-    all_rests (bound was.m.now) (bound c.count.new.self) was.minor.now c.count.new.minor
-    c.count.ensures.leaves was.draft was.base was.sound
+    all_rests (bound was.m.now) (bound c.count.new.self) was.nursery.now.heap c.count.new.minor all
+    was.draft was.base was.sound
 
 pub returns-clause-still : goal.returns-clause-still
 returns-clause-still g c =
+    let all = rw c.heap_mut.ensures.heap at c.count.ensures.leaves in
     let bound = g.M.StoreSeat.bound in
     let was = c.args.self.now in
-    all_still (bound was.m.now) (bound c.count.new.self) was.minor.now c.count.new.minor
-    c.count.ensures.leaves
+    all_still (bound was.m.now) (bound c.count.new.self) was.nursery.now.heap c.count.new.minor all
 
 pub returns-clause-lent : goal.returns-clause-lent
 returns-clause-lent g c =
+    let all = rw c.heap_mut.ensures.heap at c.count.ensures.leaves in
     let bound = g.M.StoreSeat.bound in
-    let did = c.count.ensures in
-    lent_stays (bound c.args.self.now.m.now) (bound c.count.new.self)
-    (left_same _ _ _ _ did.leaves.leaves) refl did.leaves.leaves.records_room refl
+    lent_stays (bound c.args.self.now.m.now) (bound c.count.new.self) (left_same _ _ _ _ all.leaves)
+    refl all.leaves.records_room refl

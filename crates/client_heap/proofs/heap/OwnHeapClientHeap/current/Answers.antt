@@ -6,33 +6,36 @@ use Rattle.client_heap.proofs.heap.OwnHeapClientHeap.current.Goals as goal
 
 pub invariant_of-self : goal.invariant_of-self
 invariant_of-self g c =
+    let ordered = rw c.heap.ensures.heap at c.len-records.ensures.ordered in
     let bound = g.M.StoreSeat.bound in
     let was = c.args.self.now in
     let did = c.current-found.ensures in
     record {
-      sound = holds_sound (bound was.m.now) (bound c.current-found.new.self) was.minor.now
-          (did.latest.cell ∷ []) did.latest.holds c.len-records.ensures.ordered did.lasts did.same
-          was.draft was.base was.sound;
+      sound = holds_sound (bound was.m.now) (bound c.current-found.new.self) was.nursery.now.heap
+          (did.latest.cell ∷ []) did.latest.holds ordered did.lasts did.same was.draft was.base
+          was.sound;
+      whole = was.whole;
       copies = was.copies;
     }
 
 pub returns-clause-rests : goal.returns-clause-rests
 returns-clause-rests g c =
+    let ordered = rw c.heap.ensures.heap at c.len-records.ensures.ordered in
     let bound = g.M.StoreSeat.bound in
     let was = c.args.self.now in
     let did = c.current-found.ensures in
-    holds_rests (bound was.m.now) (bound c.current-found.new.self) was.minor.now
-    (did.latest.cell ∷ []) did.latest.holds c.len-records.ensures.ordered did.lasts did.same
-    was.draft was.base was.sound 1 (omega arith) (ap commit_numbers did.latest.pass)
-    did.latest.claims
+    holds_rests (bound was.m.now) (bound c.current-found.new.self) was.nursery.now.heap
+    (did.latest.cell ∷ []) did.latest.holds ordered did.lasts did.same was.draft was.base was.sound
+    1 (omega arith) (ap commit_numbers did.latest.pass) did.latest.claims
 
 pub returns-clause-still : goal.returns-clause-still
 returns-clause-still g c =
+    let ordered = rw c.heap.ensures.heap at c.len-records.ensures.ordered in
     let bound = g.M.StoreSeat.bound in
     let was = c.args.self.now in
     let did = c.current-found.ensures in
-    holds_still (bound was.m.now) (bound c.current-found.new.self) was.minor.now
-    (did.latest.cell ∷ []) did.latest.holds c.len-records.ensures.ordered did.lasts did.same
+    holds_still (bound was.m.now) (bound c.current-found.new.self) was.nursery.now.heap
+    (did.latest.cell ∷ []) did.latest.holds ordered did.lasts did.same
 
 pub returns-clause-lent : goal.returns-clause-lent
 returns-clause-lent g c =

@@ -5,4 +5,4 @@ pub returns-clause-node : goal.returns-clause-node
 returns-clause-node g c =
     let bound = g.M.StoreSeat.bound in
     let was = c.args.self.now in
-    draft_node (bound was.m.now) was.minor.now was.draft was.base was.sound
+    draft_node (bound was.m.now) was.nursery.now.heap was.draft was.base was.sound

@@ -12,16 +12,16 @@ pub returns-clause-idle : goal.returns-clause-idle
 returns-clause-idle g c =
     let bound = g.M.StoreSeat.bound in
     let was = c.args.self.now in
-    idle_state (bound was.m.now) (bound c.make_room_for.new.self) was.minor.now
-    c.make_room_for.new.minor was.draft c.make_room_for.new.draft was.base
+    idle_state (bound was.m.now) (bound c.make_room_for.new.self) was.nursery.now
+    c.make_room_for.new.nursery was.draft c.make_room_for.new.draft was.base
     c.make_room_for.new.base c.make_room_for.result c.make_room_for.ensures.idle
 
 pub returns-clause-still : goal.returns-clause-still
 returns-clause-still g c =
     let bound = g.M.StoreSeat.bound in
     let was = c.args.self.now in
-    idle_still (bound was.m.now) (bound c.make_room_for.new.self) was.minor.now
-    c.make_room_for.new.minor was.draft c.make_room_for.new.draft was.base
+    idle_still (bound was.m.now) (bound c.make_room_for.new.self) was.nursery.now
+    c.make_room_for.new.nursery was.draft c.make_room_for.new.draft was.base
     c.make_room_for.new.base c.make_room_for.result c.make_room_for.ensures.idle
 
 pub returns-clause-lent : goal.returns-clause-lent

@@ -14,42 +14,52 @@ node_below-requires-clause-room g c =
 
 pub invariant_of-self : goal.invariant_of-self
 invariant_of-self g c =
+    let carried = rw c.heap_mut.ensures.heap at c.node_below.ensures.carries in
+    let kept = rw c.heap_mut.ensures.heap at c.node_below.ensures.minor in
     let bound = g.M.StoreSeat.bound in
     let was = c.args.self.now in
     let did = c.node_below.ensures in
-    let same = ap (λ (x : _). length x.records) did.minor in
+    let same = ap (λ (x : _). length x.records) kept in
     let ready = was.sound.ready in
-    let room = did.carries.follows.minor_room in
+    let room = carried.follows.minor_room in
     let fits = was.copies in
     record {
-      sound = sound_on _ (bound was.m.now) (bound c.node_below.new.self) was.minor.now
-          c.node_below.new.minor did.carries was.draft was.base was.sound was.sound.kept
+      sound = sound_on _ (bound was.m.now) (bound c.node_below.new.self) was.nursery.now.heap
+          c.node_below.new.minor carried was.draft was.base was.sound was.sound.kept
           (omega (arith, same, ready));
+      whole =
+          let room = carried.follows.minor_room in
+          let same = was.whole in omega (arith, room, same);
       copies = omega (arith, room, fits);
     }
 
 pub returns-clause-rests : goal.returns-clause-rests
 returns-clause-rests g c =
+    let carried = rw c.heap_mut.ensures.heap at c.node_below.ensures.carries in
+    let kept = rw c.heap_mut.ensures.heap at c.node_below.ensures.minor in
     let bound = g.M.StoreSeat.bound in
     let was = c.args.self.now in
     let did = c.node_below.ensures in
     let few = path_short c.args.path.now c.names.ensures.path in
     let same = ap (λ (xs : _). length xs) c.names.ensures.names in
     let held = did.held in
-    rests_on _ (bound was.m.now) (bound c.node_below.new.self) was.minor.now c.node_below.new.minor
-    did.carries was.draft was.base was.sound was.sound.kept 8 (ap commit_numbers did.pass)
-    did.claims (ap (λ (x : _). length x.records) did.minor) (omega (arith, few, same, held))
+    rests_on _ (bound was.m.now) (bound c.node_below.new.self) was.nursery.now.heap
+    c.node_below.new.minor carried was.draft was.base was.sound was.sound.kept 8
+    (ap commit_numbers did.pass) did.claims (ap (λ (x : _). length x.records) kept)
+    (omega (arith, few, same, held))
 
 pub returns-clause-still : goal.returns-clause-still
 returns-clause-still g c =
+    let carried = rw c.heap_mut.ensures.heap at c.node_below.ensures.carries in
     let bound = g.M.StoreSeat.bound in
     let was = c.args.self.now in
-    still_on (bound was.m.now) (bound c.node_below.new.self) was.minor.now c.node_below.new.minor
-    c.node_below.ensures.carries
+    still_on (bound was.m.now) (bound c.node_below.new.self) was.nursery.now.heap
+    c.node_below.new.minor carried
 
 pub returns-clause-lent : goal.returns-clause-lent
 returns-clause-lent g c =
+    let carried = rw c.heap_mut.ensures.heap at c.node_below.ensures.carries in
     let bound = g.M.StoreSeat.bound in
     let did = c.node_below.ensures in
-    lent_stays (bound c.args.self.now.m.now) (bound c.node_below.new.self) did.carries.follows.same
-    refl did.carries.follows.minor_room refl
+    lent_stays (bound c.args.self.now.m.now) (bound c.node_below.new.self) carried.follows.same refl
+    carried.follows.minor_room refl

@@ -11,4 +11,5 @@ returns-clause-lent g c =
     refl refl
 
 pub returns-clause-draft : goal.returns-clause-draft
-returns-clause-draft g c = ap tree_of c.make_draft.ensures.term
+returns-clause-draft g c =
+    let term = rw c.heap.ensures.heap at c.make_draft.ensures.term in ap tree_of term

@@ -5,22 +5,25 @@ use Rattle.client_heap.proofs.heap.OwnHeapClientHeap.trim.Goals as goal
 
 pub invariant_of-self : goal.invariant_of-self
 invariant_of-self g c =
+    let ordered = rw c.heap.ensures.heap at c.len-records.ensures.ordered in
     let bound = g.M.StoreSeat.bound in
     let was = c.args.self.now in
     let did = c.trim.ensures in
     record {
-      sound = holds_sound (bound was.m.now) (bound c.trim.new.self) was.minor.now [] did.held
-          c.len-records.ensures.ordered did.lasts did.same was.draft was.base was.sound;
+      sound = holds_sound (bound was.m.now) (bound c.trim.new.self) was.nursery.now.heap [] did.held
+          ordered did.lasts did.same was.draft was.base was.sound;
+      whole = was.whole;
       copies = was.copies;
     }
 
 pub returns-clause-rests : goal.returns-clause-rests
 returns-clause-rests g c =
+    let ordered = rw c.heap.ensures.heap at c.len-records.ensures.ordered in
     let bound = g.M.StoreSeat.bound in
     let was = c.args.self.now in
     let did = c.trim.ensures in
-    holds_rests (bound was.m.now) (bound c.trim.new.self) was.minor.now [] did.held
-    c.len-records.ensures.ordered did.lasts did.same was.draft was.base was.sound 0 (omega arith)
+    holds_rests (bound was.m.now) (bound c.trim.new.self) was.nursery.now.heap [] did.held ordered
+    did.lasts did.same was.draft was.base was.sound 0 (omega arith)
     (trim_commits (bound was.m.now) (bound c.trim.new.self) c.stored.result c.args.keep did.trims
     did.nothing)
     (trim_claims (bound was.m.now) (bound c.trim.new.self) c.stored.result c.args.keep did.trims
@@ -30,5 +33,4 @@ pub returns-clause-lent : goal.returns-clause-lent
 returns-clause-lent g c =
     let bound = g.M.StoreSeat.bound in
     let did = c.trim.ensures in
-    lent_stays (bound c.args.self.now.m.now) (bound c.trim.new.self) did.same refl refl
-    refl
+    lent_stays (bound c.args.self.now.m.now) (bound c.trim.new.self) did.same refl refl refl
