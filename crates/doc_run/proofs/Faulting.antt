@@ -1,10 +1,11 @@
 -- What the fault of an ending says of what its request names.
-use Rattle.std.proofs.Common.{◌≡◌, ℕ, List, Option, Some, Err, map, refl, sym, subst, inl, inr}
+use Rattle.std.proofs.Common.{◌≡◌, ℕ, ◌<◌, ◌*◌, List, Option, Some, Err, map, refl, sym}
+use Rattle.std.proofs.Common.{subst, inl, inr}
 use Rattle.std.specs.Prelude.{IsNone, IsSomeAnd, ◌⊎◌}
 use Rattle.doc_export.specs.declared.dumped.Dumped.{Dumped}
 use Rattle.run_words.specs.Requests.{Asked, Dump, Gen, RunAsked}
 use Rattle.run_words.specs.declared.request.GenWords.{GenWords}
-use Rattle.script_files.specs.Scripts.{AreScripts}
+use Rattle.script_files.specs.Scripts.{AreScripts, most_commands}
 use Rattle.script_files.specs.Sorts.{Grammar, OfScripts, Refused, Sort, sort_of}
 use Rattle.script_files.specs.Sorts.{OfWords, OfLine, OfReading, OfWriting, OfMemory, OfSize}
 use Rattle.script_files.specs.declared.fault.Fault.{Fault}
@@ -12,7 +13,7 @@ use Rattle.script_files.specs.declared.fault.Fault.TheVariants.{TooLarge}
 use Rattle.store_run.specs.declared.finished.Finished.{Finished}
 use Rattle.doc_run.specs.Asked.{IsFaultOf}
 use Rattle.doc_run.specs.Clients.{options_of}
-use Rattle.doc_run.specs.Ending.{Explains, ExplainsMade}
+use Rattle.doc_run.specs.Ending.{Explains, ExplainsMade, IsMadeRun}
 use Rattle.doc_run.specs.Faults.{ByContents, BySort, ByScripts}
 use Rattle.doc_run.specs.Guested.{AreFewScripts, DumpsBy, ExplainsDump, IsTooLarge}
 use Rattle.doc_run.specs.Reading.{ByReading, Decides, ExplainsFile, Reading, Schedules, Dumps}
@@ -76,7 +77,7 @@ beside_fault told dumped fault OfWriting Failed Wanting same is = tt
 beside_fault told dumped fault OfMemory Failed Wanting same is = tt
 beside_fault told dumped fault OfSize Failed Wanting same is = elim is [
   | inl refused ↦ inl refused.0
-  | inr large ↦ inr (large.0, too_large dumped large.1)
+  | inr large ↦ inr (large.0, too_large (DumpsBy told) dumped large.1)
 ]
 
 -- by the request
@@ -128,7 +129,9 @@ pub fault_of_made : (asked : Option Asked) (made : GenWords) (holds : List ℕ �
 fault_of_made asked made holds dumped found finished fault is explained one =
     let these = subst (λ (f : Option Fault). ExplainsMade made f finished) one explained in
     subst (λ a. IsFaultOf holds a dumped fault) (sym is)
-    (too_large_only fault (sort_of fault) _ _ _ refl these)
+    (too_large_only fault (sort_of fault)
+    ((most_commands < made.clients * made.commands) × IsNone finished) (IsMadeRun made finished)
+    (IsNone finished) refl these)
 
 pub fault_of_dump : (asked : Option Asked) (names : List (List ℕ))
     (holds : List ℕ → Option (List ℕ)) (dumped : Option Dumped) (found : Option Fault)

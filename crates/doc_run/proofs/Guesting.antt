@@ -26,21 +26,22 @@ use Rattle.doc_run.specs.Written.{fault_by, kept_dump}
 
 -- Of the version.
 
-pub too_large : {P : Dumped → Type 0} (dumped : Option Dumped)
+pub too_large : (P : Dumped → Type 0) (dumped : Option Dumped)
     → IsSomeAnd dumped (λ d. P d × IsNone d.bytes) → IsTooLarge dumped
-too_large None is = is
-too_large (Some d) is = is.1
+too_large P None is = is
+too_large P (Some d) is = is.1
 
-some_none : {X : Type 0} {P : X → Type 0} (found : Option X) → IsSomeAnd found P → IsNone found → ⊥
-some_none None is none = is
-some_none (Some x) is none = cc
+some_none : {X : Type 0} (P : X → Type 0) (found : Option X) → IsSomeAnd found P → IsNone found → ⊥
+some_none P None is none = is
+some_none P (Some x) is none = cc
 
 -- what was written of it shows that it is not too large
-small : {Q : List ℕ → Type 0} (dumped : Option Dumped)
+small : (Q : List ℕ → Type 0) (dumped : Option Dumped)
     → IsSomeAnd dumped (λ d. (text : List ℕ) × IsDumpText d text × Q text)
     → IsTooLarge dumped → ⊥
-small None is big = is
-small (Some d) is big = some_none d.bytes is.1 big
+small Q None is big = is
+small Q (Some d) is big =
+    some_none (λ (bytes : Vec ℕ Global). is.0 ≡ bytes.items) d.bytes is.1 big
 
 pub none_small : (dumped : Option Dumped) → IsNone dumped → IsTooLarge dumped → ⊥
 none_small None none big = big
@@ -170,7 +171,7 @@ due_sort told fault dumped (OfLine grammar) old new same is written = elim is [
 due_sort told fault dumped OfReading old new same is written =
     λ scripts decided. unread_due scripts dumped
 due_sort told fault dumped OfWriting old new same is written =
-    ended told dumped 4 (inr refl) is (small dumped written)
+    ended told dumped 4 (inr refl) is (small (λ text. AppendsPart old new text) dumped written)
 due_sort told fault dumped OfMemory old new same is written =
     λ scripts decided. wanting_due scripts dumped 5 refl
 due_sort told fault dumped OfSize old new same is written = elim is [
@@ -182,7 +183,7 @@ dump_due : (told : List (Option (List ℕ))) (fault : Option Fault) (dumped : Op
     (old new : Option (List ℕ)) → ExplainsDump told fault dumped
     → WritesDump told old new fault dumped → IsDumpDueFor told dumped (status_of fault)
 dump_due told None dumped old new is written =
-    ended told dumped 0 (inl refl) is (small dumped written)
+    ended told dumped 0 (inl refl) is (small (λ text. Appends old new text) dumped written)
 dump_due told (Some fault) dumped old new is written =
     due_sort told fault dumped (sort_of fault) old new refl is written
 

@@ -14,9 +14,9 @@ use Rattle.doc_run.specs.Guested.{AreFewScripts, DumpsBy, ExplainsDump, IsTooLar
 use Rattle.doc_run.specs.Request.{AsksDump, IfDump}
 use Rattle.doc_run.proofs.Guesting.{none_small, too_large}
 
-some_of : {P : Dumped → Type 0} (dumped : Option Dumped) → IsSomeAnd dumped P → IsSome dumped
-some_of None is = absurd is
-some_of (Some d) is = refl
+some_of : (P : Dumped → Type 0) (dumped : Option Dumped) → IsSomeAnd dumped P → IsSome dumped
+some_of P None is = absurd is
+some_of P (Some d) is = refl
 
 not_both : (dumped : Option Dumped) → IsNone dumped → IsSome dumped → ⊥
 not_both None none some = cc
@@ -70,21 +70,22 @@ back_sort told fault dumped OfReading same is = elim is [
   | inr large ↦ let size = of_size fault large.0 in absurd (cc)
 ]
 back_sort told fault dumped OfWriting same is =
-    ((λ some. inr (inl refl)), (λ ends. some_of dumped is))
+    ((λ some. inr (inl refl)), (λ ends. some_of (DumpsBy told) dumped is))
 back_sort told fault dumped OfMemory same is =
     none_back dumped 5 is (λ e. omega (arith, e)) (λ e. omega (arith, e))
 back_sort told fault dumped OfSize same is = elim is [
   | inl refused ↦
       none_back dumped 6 refused.1 (λ e. omega (arith, e)) (λ e. omega (arith, e))
   | inr large ↦ (
-    (λ some. inr (inr (refl, too_large dumped large.1))),
-    (λ ends. some_of dumped large.1),
+    (λ some. inr (inr (refl, too_large (DumpsBy told) dumped large.1))),
+    (λ ends. some_of (λ d. DumpsBy told d × IsNone d.bytes) dumped large.1),
   )
 ]
 
 back_of : (told : List (Option (List ℕ))) (fault : Option Fault) (dumped : Option Dumped)
     → ExplainsDump told fault dumped → IsSome dumped ↔ Ends dumped (status_of fault)
-back_of told None dumped is = ((λ some. inl refl), (λ ends. some_of dumped is))
+back_of told None dumped is =
+    ((λ some. inl refl), (λ ends. some_of (DumpsBy told) dumped is))
 back_of told (Some fault) dumped is = back_sort told fault dumped (sort_of fault) refl is
 
 -- the request is known
@@ -100,13 +101,13 @@ handed_back asked names holds fault dumped status is by explained =
 
 -- Where it is too large.
 
-if_some : {P : Dumped → Type 0} (dumped : Option Dumped) → IsSomeAnd dumped P → IfSome dumped P
-if_some None is = tt
-if_some (Some d) is = is
+if_some : (P : Dumped → Type 0) (dumped : Option Dumped) → IsSomeAnd dumped P → IfSome dumped P
+if_some P None is = tt
+if_some P (Some d) is = is
 
-if_none : {P : Dumped → Type 0} (dumped : Option Dumped) → IsNone dumped → IfSome dumped P
-if_none None none = tt
-if_none (Some d) none = absurd (cc)
+if_none : (P : Dumped → Type 0) (dumped : Option Dumped) → IsNone dumped → IfSome dumped P
+if_none P None none = tt
+if_none P (Some d) none = absurd (cc)
 
 large_sort : (told : List (Option (List ℕ))) (fault : Fault) (dumped : Option Dumped) (sort : Sort)
     → sort_of fault ≡ sort
@@ -121,8 +122,8 @@ large_sort told fault dumped OfReading same is six = absurd (omega (arith, six))
 large_sort told fault dumped OfWriting same is six = absurd (omega (arith, six))
 large_sort told fault dumped OfMemory same is six = absurd (omega (arith, six))
 large_sort told fault dumped OfSize same is six = elim is [
-  | inl refused ↦ if_none dumped refused.1
-  | inr large ↦ if_some dumped large.1
+  | inl refused ↦ if_none (λ d. DumpsBy told d × IsNone d.bytes) dumped refused.1
+  | inr large ↦ if_some (λ d. DumpsBy told d × IsNone d.bytes) dumped large.1
 ]
 
 large_of : (told : List (Option (List ℕ))) (fault : Option Fault) (dumped : Option Dumped)

@@ -134,9 +134,11 @@ faulty_short Images bytes is = is.1.short
 answer_good : (reading : Reading) (bytes text : List ℕ) → IsAnswerOf reading (Some bytes) text
     → (length bytes ≤ 1048576) × (IsFaultyFile reading bytes → ⊥)
 answer_good Schedules bytes text is =
-    good_read of_schedule schedule_of bytes is.0 (steps_told bytes (Ok is.0) is.1)
+    let good = good_read of_schedule schedule_of bytes is.0 (steps_told bytes (Ok is.0) is.1) in
+    (good.0, (λ wrong. good.1 wrong.1))
 answer_good Dumps bytes text is =
-    good_read of_dump contents_of bytes _ (dump_told bytes _ is.2.0.0)
+    let good = good_read of_dump contents_of bytes _ (dump_told bytes _ is.2.0.0) in
+    (good.0, (λ wrong. good.1 wrong.1))
 answer_good Images bytes text is =
     let held = is.1 in
     let of_bytes = subst (λ (b : List ℕ). IsCensusOf b is.0) held.1 held.2 in (

@@ -27,7 +27,7 @@ returns-in-Ok-clause-dumped g c =
     (lists_of scripts.commands.items) scripts.forms.items)
     c.deref.ensures.value c.in-Ok.ensures.scripts))
     (subst (λ (all : List (Vec Command Global)). FinishesDump (lists_of all) c.dump_all.result)
-    c.deref-2.ensures.value c.dump_all.ensures)
+    c.deref-in-Ok.ensures.value c.dump_all.ensures)
 
 pub returns-in-Err-clause-dumped : goal.returns-in-Err-clause-dumped
 returns-in-Err-clause-dumped g c =
