@@ -1,8 +1,8 @@
 //! Whole runs beside which a version is dumped.
-use crate::outcomes::{DONE, outcome_at, refusal_by, shown_by, words};
+use crate::outcomes::{DONE, files, outcome_at, refusal_by, shown_by, words};
 use doc_model::NoMemory;
-use doc_run::run;
-use outside::{AfterGate, Gate, MemShelf, OpenGate, SureSink};
+use doc_run::{Outcome, run};
+use outside::{AfterGate, Gate, MemShelf, MemSink, OpenGate, SureSink};
 use script_files::Fault;
 use std::alloc::Global;
 use std::sync::Wait;
@@ -16,6 +16,12 @@ const DUMP: &str = "docs-dump 1 2\n. \"\"\na \"x\"\na/b \"y\"\nend 3\n";
 /// and whether its version has a dump, if one is handed back.
 type Shown = (u8, Option<Fault>, bool, Option<bool>);
 
+fn shown_in(outcome: &Outcome) -> Shown {
+    let dumped = outcome.dumped.as_ref().map(|d| d.bytes.is_some());
+    let finished = outcome.finished.is_some();
+    (outcome.status, outcome.fault, finished, dumped)
+}
+
 /// What a dump beside this script shows where its clients and the guest ask this gate, and whether
 /// this was written.
 fn dumped_by<R: Threads + Wait + Sync, G: Gate + Sync>(
@@ -26,14 +32,7 @@ fn dumped_by<R: Threads + Wait + Sync, G: Gate + Sync>(
     wanted: &[u8],
 ) -> Result<(Shown, bool), NoMemory> {
     let (outcome, sink) = outcome_at(alloc, rt, &["dump", "f"], script, gate)?;
-    let dumped = outcome.dumped.as_ref().map(|d| d.bytes.is_some());
-    let shown = (
-        outcome.status,
-        outcome.fault,
-        outcome.finished.is_some(),
-        dumped,
-    );
-    Ok((shown, sink.written() == wanted))
+    Ok((shown_in(&outcome), sink.written() == wanted))
 }
 
 #[test]
@@ -51,6 +50,29 @@ fn a_version_is_dumped_and_loaded_again(rt: HostRuntime) -> Result<(), Fail> {
         sizes.as_bytes(),
     )?;
     assert_eq!(rt; loaded, DONE);
+    Ok(())
+}
+
+/// What a dump behind two commands shows whose sink takes a line in a call, and whose second call
+/// fails.
+fn dumped_in_part<R: Threads + Wait + Sync>(
+    alloc: Global,
+    rt: &R,
+) -> Result<(Shown, bool), NoMemory> {
+    let words = words(alloc, &["dump", "f"])?;
+    let script = b"put a x\nput a/b y\n";
+    let mut shelf = MemShelf::new(files(alloc, script)?, Vec::new(alloc));
+    let mut sink = MemSink::new(100, vec![in alloc; 2]?);
+    let gate = AfterGate::new(1, 2);
+    let outcome = run(alloc, rt, &words, &mut shelf, &mut sink, &gate);
+    Ok((shown_in(&outcome), sink.written() == b"docs-dump 1 2\n"))
+}
+
+#[test]
+fn a_dump_that_is_not_written_whole_is_handed_back(rt: HostRuntime) -> Result<(), Fail> {
+    let shown = dumped_in_part(rt.alloc(), &rt)?;
+    let fault = Some(Fault::WriteFault);
+    assert_eq!(rt; shown, ((4, fault, false, Some(true)), true));
     Ok(())
 }
 
@@ -98,7 +120,7 @@ fn beside<R: Threads + Wait + Sync>(
     for _ in 0..clients {
         all.push("f")?;
     }
-    let mut shelf = MemShelf::new(crate::outcomes::files(alloc, b"")?, Vec::new(alloc));
+    let mut shelf = MemShelf::new(files(alloc, b"")?, Vec::new(alloc));
     let mut sink = SureSink::new(alloc);
     let outcome = run(alloc, rt, &all, &mut shelf, &mut sink, &OpenGate);
     Ok((outcome.status, shelf.calls()))
