@@ -44,17 +44,18 @@ with_none OfWriting Refusal More Failed Wanting is = is
 with_none OfMemory Refusal More Failed Wanting is = is
 with_none OfSize Refusal More Failed Wanting is = is.0
 
-too_large_only : (fault : Fault) (sort : Sort) (X Failed Wanting : Type 0) → sort_of fault ≡ sort
-    → BySort sort ((fault ≡ TooLarge 0) × X) Failed Wanting
+too_large_only : (fault : Fault) (sort : Sort) (Large Nothing Failed Wanting : Type 0)
+    → sort_of fault ≡ sort
+    → BySort sort ((fault ≡ TooLarge 0) × Large × Nothing) Failed Wanting
     → ByContents sort (λ g. ⊥) (fault ≡ TooLarge 0)
-too_large_only fault OfWords X Failed Wanting same is = tt
-too_large_only fault (OfLine grammar) X Failed Wanting same is =
+too_large_only fault OfWords Large Nothing Failed Wanting same is = tt
+too_large_only fault (OfLine grammar) Large Nothing Failed Wanting same is =
     let size : sort_of fault ≡ OfSize = subst (λ (f : Fault). sort_of f ≡ OfSize) (sym is.0) refl in
     absurd (cc)
-too_large_only fault OfReading X Failed Wanting same is = tt
-too_large_only fault OfWriting X Failed Wanting same is = tt
-too_large_only fault OfMemory X Failed Wanting same is = tt
-too_large_only fault OfSize X Failed Wanting same is = is.0
+too_large_only fault OfReading Large Nothing Failed Wanting same is = tt
+too_large_only fault OfWriting Large Nothing Failed Wanting same is = tt
+too_large_only fault OfMemory Large Nothing Failed Wanting same is = tt
+too_large_only fault OfSize Large Nothing Failed Wanting same is = is.0
 
 beside_fault : (told : List (Option (List ℕ))) (dumped : Option Dumped) (fault : Fault)
     (sort : Sort) (Failed Wanting : Type 0) → sort_of fault ≡ sort
@@ -129,9 +130,8 @@ pub fault_of_made : (asked : Option Asked) (made : GenWords) (holds : List ℕ �
 fault_of_made asked made holds dumped found finished fault is explained one =
     let these = subst (λ (f : Option Fault). ExplainsMade made f finished) one explained in
     subst (λ a. IsFaultOf holds a dumped fault) (sym is)
-    (too_large_only fault (sort_of fault)
-    ((most_commands < made.clients * made.commands) × IsNone finished) (IsMadeRun made finished)
-    (IsNone finished) refl these)
+    (too_large_only fault (sort_of fault) (most_commands < made.clients * made.commands)
+    (IsNone finished) (IsMadeRun made finished) (IsNone finished) refl these)
 
 pub fault_of_dump : (asked : Option Asked) (names : List (List ℕ))
     (holds : List ℕ → Option (List ℕ)) (dumped : Option Dumped) (found : Option Fault)

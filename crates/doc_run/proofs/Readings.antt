@@ -9,7 +9,7 @@ use Rattle.run_words.specs.Requests.{Asked}
 use Rattle.script_files.proofs.Images.{refused_none}
 use Rattle.script_files.specs.Counted.{IsCensusOf, IsFaultyImage, RefusesBytes}
 use Rattle.script_files.specs.Fault.{status_by, status_of}
-use Rattle.script_files.specs.Loaded.{IsDumpFile, after_dump, dump_in}
+use Rattle.script_files.specs.Loaded.{IsDumpFile, after_dump, contents_by, dump_in}
 use Rattle.script_files.specs.Replayed.{after_schedule, steps_of}
 use Rattle.script_files.specs.Sorts.{OfDumps, OfImages, OfSchedules, Refused, Sort, sort_of}
 use Rattle.script_files.specs.Sorts.{OfWords, OfLine, OfReading, OfWriting, OfMemory, OfSize}
@@ -137,7 +137,9 @@ answer_good Schedules bytes text is =
     let good = good_read of_schedule schedule_of bytes is.0 (steps_told bytes (Ok is.0) is.1) in
     (good.0, (λ wrong. good.1 wrong.1))
 answer_good Dumps bytes text is =
-    let good = good_read of_dump contents_of bytes _ (dump_told bytes _ is.2.0.0) in
+    let contents = contents_by is.0 is.1 in
+    let good = good_read of_dump contents_of bytes contents
+    (dump_told bytes (Ok contents) is.2.0) in
     (good.0, (λ wrong. good.1 wrong.1))
 answer_good Images bytes text is =
     let held = is.1 in

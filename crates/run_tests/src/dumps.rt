@@ -65,7 +65,8 @@ fn dumped_in_part<R: Threads + Wait + Sync>(
     let mut sink = MemSink::new(100, vec![in alloc; 2]?);
     let gate = AfterGate::new(1, 2);
     let outcome = run(alloc, rt, &words, &mut shelf, &mut sink, &gate);
-    Ok((shown_in(&outcome), sink.written() == b"docs-dump 1 2\n"))
+    let front: &[u8] = b"docs-dump 1 2\n";
+    Ok((shown_in(&outcome), sink.written() == front))
 }
 
 #[test]

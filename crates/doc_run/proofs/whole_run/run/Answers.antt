@@ -49,7 +49,8 @@ returns-in-Ok-Image-clause-scripts g c =
     c.all.ensures (c.in-Ok-Image.ensures.request
     ∙ ap (λ request. Some (asked_by request)) c.in-Ok-Image.field-0-is) in
     due_asked (request_of c.args.words.now) Heap (run_asked_by c.in-Ok-Image.run')
-    (g.H.Shelf.holds c.args.shelf.now) c.run_scripts-in-Ok-Image.result.fault c.run_scripts-in-Ok-Image.result.finished
+    (g.H.Shelf.holds c.args.shelf.now) c.run_scripts-in-Ok-Image.result.fault
+    c.run_scripts-in-Ok-Image.result.finished
     c.run_scripts-in-Ok-Image.result.status asked c.run_scripts-in-Ok-Image.ensures.status
     c.run_scripts-in-Ok-Image.ensures.explained
 
@@ -60,8 +61,10 @@ returns-in-Ok-Image-clause-refused g c =
     c.all.ensures (c.in-Ok-Image.ensures.request
     ∙ ap (λ request. Some (asked_by request)) c.in-Ok-Image.field-0-is) in
     λ fault. fault_of_run (request_of c.args.words.now) Heap (run_asked_by c.in-Ok-Image.run')
-    (g.H.Shelf.holds c.args.shelf.now) c.run_scripts-in-Ok-Image.result.dumped c.run_scripts-in-Ok-Image.result.fault
-    c.run_scripts-in-Ok-Image.result.finished fault asked c.run_scripts-in-Ok-Image.ensures.explained
+    (g.H.Shelf.holds c.args.shelf.now) c.run_scripts-in-Ok-Image.result.dumped
+    c.run_scripts-in-Ok-Image.result.fault
+    c.run_scripts-in-Ok-Image.result.finished fault asked
+    c.run_scripts-in-Ok-Image.ensures.explained
 
 pub returns-in-Ok-Image-clause-stops : goal.returns-in-Ok-Image-clause-stops
 returns-in-Ok-Image-clause-stops g c =
@@ -71,7 +74,8 @@ returns-in-Ok-Image-clause-stops g c =
     ∙ ap (λ request. Some (asked_by request)) c.in-Ok-Image.field-0-is) in
     stops_asked (request_of c.args.words.now) Heap (run_asked_by c.in-Ok-Image.run')
     (g.H.Shelf.holds c.args.shelf.now) (g.H.Shelf.opens c.args.shelf.now)
-    (g.H.Shelf.opens c.run_scripts-in-Ok-Image.new.shelf) asked c.run_scripts-in-Ok-Image.ensures.stops
+    (g.H.Shelf.opens c.run_scripts-in-Ok-Image.new.shelf) asked
+    c.run_scripts-in-Ok-Image.ensures.stops
 
 pub returns-in-Ok-Replay-clause-file : goal.returns-in-Ok-Replay-clause-file
 returns-in-Ok-Replay-clause-file g c =
