@@ -9,13 +9,12 @@ use Rattle.run_words.specs.Requests.{Asked}
 use Rattle.script_files.proofs.Images.{refused_none}
 use Rattle.script_files.specs.Counted.{IsCensusOf, IsFaultyImage, RefusesBytes}
 use Rattle.script_files.specs.Fault.{status_by, status_of}
-use Rattle.script_files.specs.Loaded.{IsDumpFile, after_dump, contents_by, dump_in}
+use Rattle.script_files.specs.Loaded.{after_dump, contents_by, dump_in}
 use Rattle.script_files.specs.Replayed.{after_schedule, steps_of}
 use Rattle.script_files.specs.Sorts.{OfDumps, OfImages, OfSchedules, Refused, Sort, sort_of}
 use Rattle.script_files.specs.Sorts.{OfWords, OfLine, OfReading, OfWriting, OfMemory, OfSize}
 use Rattle.script_files.specs.declared.fault.Fault.{Fault}
 use Rattle.script_files.specs.declared.fault.Fault.TheVariants.{Dump, Image, ReadFault, Schedule}
-use Rattle.script_files.specs.declared.fault.Fault.TheVariants.{TooLarge}
 use Rattle.version_dump.specs.Contents.{Contents, contents_of}
 use Rattle.version_dump.specs.declared.fault.LoadFault.{LoadFault}
 use Rattle.doc_run.specs.Faults.{BySort}

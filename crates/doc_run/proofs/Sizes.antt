@@ -1,7 +1,7 @@
 -- What a file of bytes is read as where it is looked at for its size first, then for its grammar:
 -- the fault of a line, or that of the size.
 use Rattle.std.proofs.Common.{◌≡◌, ◌∙◌, ℕ, ◌<◌, ◌≤◌, List, Result, Ok, Err}
-use Rattle.std.proofs.Common.{true, false, length, inl, inr, refl, sym, ap, subst}
+use Rattle.std.proofs.Common.{true, false, length, inl, inr, refl, sym, subst}
 use Rattle.std.specs.Prelude.{◌⊎◌, IsErr, IsOk, nat_lt}
 use Rattle.std.proofs.lemmas.Bool.{le-ltb, lt-ltb, ltb-false, ltb-true}
 use Rattle.script_files.specs.Scripts.{within_size}
