@@ -1,25 +1,31 @@
 -- What is so of every request, where memory was wanting before it was known.
 use Rattle.std.proofs.Common.{◌≡◌, ℕ, ◌≤◌, ◌<◌, ◌*◌, List, Option, None, Some}
-use Rattle.std.proofs.Common.{length, map}
+use Rattle.std.proofs.Common.{map}
 use Rattle.std.proofs.Common.{inl, inr, refl, sym, subst, arith}
-use Rattle.std.specs.Prelude.{◌⊎◌, ◌↔◌, ◌≢◌, IfSome, IsSomeAnd}
+use Rattle.std.specs.Prelude.{◌⊎◌, ◌↔◌, ◌≢◌, IfSome}
 use Rattle.outside.specs.Causes.{next_count}
-use Rattle.run_words.specs.Requests.{Asked, Run, Replay, Gen, Load, Image, RunAsked}
+use Rattle.run_words.specs.Requests.{Asked, Run, Replay, Gen, Load, Image, Dump, Census, RunAsked}
 use Rattle.run_words.specs.declared.request.GenWords.{GenWords}
-use Rattle.script_files.specs.Files.{OpensInTurn, files_read}
-use Rattle.script_files.specs.Loaded.{IsDumpFile, IsFaultyDump}
-use Rattle.script_files.specs.Replayed.{IsFaultySchedule, IsSchedule}
-use Rattle.script_files.specs.Scripts.{IsDue, IsDueFor, IsUnhindered, largest_file, most_commands}
+use Rattle.script_files.specs.Files.{OpensInTurn}
+use Rattle.script_files.specs.Scripts.{IsDue, IsDueFor, most_commands}
 use Rattle.script_files.proofs.Opens.{stops_none}
 use Rattle.doc_run.proofs.Due.{run_due, wanting_due}
 use Rattle.script_files.specs.Fault.{status_of}
 use Rattle.script_files.specs.Scripts.{AreScripts, StopsBehind}
 use Rattle.script_files.specs.declared.fault.Fault.{Fault}
+use Rattle.script_files.specs.declared.fault.Fault.TheVariants.{Memory, Usage}
 use Rattle.store_run.specs.declared.finished.Finished.{Finished}
 use Rattle.doc_run.specs.Clients.{options_of}
 use Rattle.doc_run.specs.Ending.{Explains}
-use Rattle.doc_run.specs.Ending.{OpensFiles, WritesPartOf}
-use Rattle.doc_run.specs.Request.{ByPrint, IfGen, IfLoad, IfReplay, IfRun, asked_for, names_of}
+use Rattle.doc_run.specs.Asked.{IsFaultOf, WritesPartOf}
+use Rattle.doc_run.specs.Ending.{OpensFiles}
+use Rattle.doc_run.specs.Guested.{IsDumpDueFor}
+use Rattle.doc_run.specs.Reading.{IsFileDue, Reading, Schedules, Dumps, Images}
+use Rattle.doc_run.specs.Request.{ByPrint, IfDump, IfGen, IfRead, IfRun, IfScripts, asked_for}
+use Rattle.doc_run.specs.Request.{asked_of, files_of}
+use Rattle.doc_run.proofs.Guesting.{beside_wanting}
+use Rattle.doc_run.proofs.Readings.{wanting}
+use Rattle.doc_export.specs.declared.dumped.Dumped.{Dumped}
 use Rattle.doc_run.specs.declared.report.Report.{Report}
 use Rattle.doc_run.specs.declared.report.Report.TheVariants.{Replies, Heap}
 
@@ -31,15 +37,19 @@ if_run (Some (Replay name)) Fact all = tt
 if_run (Some (Gen made)) Fact all = tt
 if_run (Some (Load name)) Fact all = tt
 if_run (Some (Image run)) Fact all = all Heap run
+if_run (Some (Dump names)) Fact all = tt
+if_run (Some (Census name)) Fact all = tt
 
-if_replay : (asked : Option Asked) (Fact : List ℕ → Type 0)
-    → ((name : List ℕ) → Fact name) → IfReplay asked Fact
-if_replay None Fact all = tt
-if_replay (Some (Run run)) Fact all = tt
-if_replay (Some (Replay name)) Fact all = all name
-if_replay (Some (Gen made)) Fact all = tt
-if_replay (Some (Load name)) Fact all = tt
-if_replay (Some (Image run)) Fact all = tt
+if_read : (asked : Option Asked) (Fact : Reading → List ℕ → Type 0)
+    → ((reading : Reading) (name : List ℕ) → Fact reading name) → IfRead asked Fact
+if_read None Fact all = tt
+if_read (Some (Run run)) Fact all = tt
+if_read (Some (Replay name)) Fact all = all Schedules name
+if_read (Some (Gen made)) Fact all = tt
+if_read (Some (Load name)) Fact all = all Dumps name
+if_read (Some (Image run)) Fact all = tt
+if_read (Some (Dump names)) Fact all = tt
+if_read (Some (Census name)) Fact all = all Images name
 
 if_gen : (asked : Option Asked) (Fact : GenWords → Type 0) → ((made : GenWords) → Fact made)
     → IfGen asked Fact
@@ -49,15 +59,30 @@ if_gen (Some (Replay name)) Fact all = tt
 if_gen (Some (Gen made)) Fact all = all made
 if_gen (Some (Load name)) Fact all = tt
 if_gen (Some (Image run)) Fact all = tt
+if_gen (Some (Dump names)) Fact all = tt
+if_gen (Some (Census name)) Fact all = tt
 
-if_load : (asked : Option Asked) (Fact : List ℕ → Type 0) → ((name : List ℕ) → Fact name)
-    → IfLoad asked Fact
-if_load None Fact all = tt
-if_load (Some (Run run)) Fact all = tt
-if_load (Some (Replay name)) Fact all = tt
-if_load (Some (Gen made)) Fact all = tt
-if_load (Some (Load name)) Fact all = all name
-if_load (Some (Image run)) Fact all = tt
+if_dump : (asked : Option Asked) (Fact : List (List ℕ) → Type 0)
+    → ((names : List (List ℕ)) → Fact names) → IfDump asked Fact
+if_dump None Fact all = tt
+if_dump (Some (Run run)) Fact all = tt
+if_dump (Some (Replay name)) Fact all = tt
+if_dump (Some (Gen made)) Fact all = tt
+if_dump (Some (Load name)) Fact all = tt
+if_dump (Some (Image run)) Fact all = tt
+if_dump (Some (Dump names)) Fact all = all names
+if_dump (Some (Census name)) Fact all = tt
+
+if_scripts : (asked : Option Asked) (Fact : List (List ℕ) → Type 0)
+    → ((names : List (List ℕ)) → Fact names) → IfScripts asked Fact
+if_scripts None Fact all = tt
+if_scripts (Some (Run run)) Fact all = all run.files
+if_scripts (Some (Replay name)) Fact all = tt
+if_scripts (Some (Gen made)) Fact all = tt
+if_scripts (Some (Load name)) Fact all = tt
+if_scripts (Some (Image run)) Fact all = all run.files
+if_scripts (Some (Dump names)) Fact all = all names
+if_scripts (Some (Census name)) Fact all = tt
 
 if_some : (told : Option (List ℕ)) (Fact : List ℕ → Type 0)
     → ((bytes : List ℕ) → Fact bytes) → IfSome told Fact
@@ -84,43 +109,45 @@ pub unread_complete_made : (asked : Option Asked) (status : ℕ) → status ≡ 
     → (status ≡ 0) ⊎ (status ≡ 4) ⊎ (status ≡ 5))
 unread_complete_made asked status is = if_gen asked _ (λ made few. inr (inr is))
 
-pub unread_schedule : (asked : Option Asked) (holds : List ℕ → Option (List ℕ)) (status : ℕ)
-    → status ≡ 5 → IfReplay asked (λ name. IfSome (holds name) (λ bytes.
-    (status ≡ 2) ↔ (IsUnhindered status × IsFaultySchedule bytes)))
-unread_schedule asked holds status is =
-    if_replay asked _ (λ name. if_some (holds name) _ (λ bytes.
-    ((λ two. absurd (omega (arith, is, two))), (λ facts. absurd (facts.0.1 is)))))
+pub unread_file : (asked : Option Asked) (holds : List ℕ → Option (List ℕ)) (status : ℕ)
+    → status ≡ 5
+    → IfRead asked (λ reading name. IfSome (holds name) (λ bytes. IsFileDue reading bytes status))
+unread_file asked holds status is =
+    if_read asked _ (λ reading name.
+    if_some (holds name) _ (λ bytes. wanting reading bytes status is))
 
-pub unread_large : (asked : Option Asked) (holds : List ℕ → Option (List ℕ)) (status : ℕ)
-    → status ≡ 5 → IfReplay asked (λ name. IfSome (holds name) (λ bytes.
-    (status ≡ 6) ↔ (IsUnhindered status × (largest_file < length bytes))))
-unread_large asked holds status is =
-    if_replay asked _ (λ name. if_some (holds name) _ (λ bytes.
-    ((λ six. absurd (omega (arith, is, six))), (λ facts. absurd (facts.0.1 is)))))
+pub unread_dump : (asked : Option Asked) (holds : List ℕ → Option (List ℕ))
+    (dumped : Option Dumped) (status : ℕ) → status ≡ 5
+    → IfDump asked (λ names. IsDumpDueFor (map holds names) dumped status)
+unread_dump asked holds dumped status is =
+    if_dump asked _ (λ names. beside_wanting (map holds names) dumped status is)
 
-pub unread_complete : (asked : Option Asked) (holds : List ℕ → Option (List ℕ)) (status : ℕ)
-    → status ≡ 5 → IfReplay asked (λ name. IsSomeAnd (holds name) IsSchedule
-    → (status ≡ 0) ⊎ (status ≡ 3) ⊎ (status ≡ 4) ⊎ (status ≡ 5))
-unread_complete asked holds status is = if_replay asked _ (λ name good. inr (inr (inr is)))
+unread_memory : (asked : Option Asked) (holds : List ℕ → Option (List ℕ)) (dumped : Option Dumped)
+    → IsFaultOf holds asked dumped Memory
+unread_memory None holds dumped = tt
+unread_memory (Some (Run run)) holds dumped = tt
+unread_memory (Some (Replay name)) holds dumped = tt
+unread_memory (Some (Gen made)) holds dumped = tt
+unread_memory (Some (Load name)) holds dumped = tt
+unread_memory (Some (Image run)) holds dumped = tt
+unread_memory (Some (Dump names)) holds dumped = tt
+unread_memory (Some (Census name)) holds dumped = tt
 
-pub unread_dump : (asked : Option Asked) (holds : List ℕ → Option (List ℕ)) (status : ℕ)
-    → status ≡ 5 → IfLoad asked (λ name. IfSome (holds name) (λ bytes.
-    (status ≡ 2) ↔ (IsUnhindered status × IsFaultyDump bytes)))
-unread_dump asked holds status is =
-    if_load asked _ (λ name. if_some (holds name) _ (λ bytes.
-    ((λ two. absurd (omega (arith, is, two))), (λ facts. absurd (facts.0.1 is)))))
+pub unread_fault : (asked : Option Asked) (holds : List ℕ → Option (List ℕ))
+    (dumped : Option Dumped) (found : Option Fault) (fault : Fault) → found ≡ Some Memory
+    → found ≡ Some fault → IsFaultOf holds asked dumped fault
+unread_fault asked holds dumped found fault is one =
+    let same : Memory ≡ fault = cc in
+    subst (λ f. IsFaultOf holds asked dumped f) same (unread_memory asked holds dumped)
 
-pub unread_large_dump : (asked : Option Asked) (holds : List ℕ → Option (List ℕ)) (status : ℕ)
-    → status ≡ 5 → IfLoad asked (λ name. IfSome (holds name) (λ bytes.
-    (status ≡ 6) ↔ (IsUnhindered status × (largest_file < length bytes))))
-unread_large_dump asked holds status is =
-    if_load asked _ (λ name. if_some (holds name) _ (λ bytes.
-    ((λ six. absurd (omega (arith, is, six))), (λ facts. absurd (facts.0.1 is)))))
-
-pub unread_complete_load : (asked : Option Asked) (holds : List ℕ → Option (List ℕ))
-    (status : ℕ) → status ≡ 5 → IfLoad asked (λ name. IsSomeAnd (holds name) IsDumpFile
-    → (status ≡ 0) ⊎ (status ≡ 3) ⊎ (status ≡ 4) ⊎ (status ≡ 5))
-unread_complete_load asked holds status is = if_load asked _ (λ name good. inr (inr (inr is)))
+-- faulty words say nothing of files
+pub usage_fault : (asked : Option Asked) (holds : List ℕ → Option (List ℕ))
+    (dumped : Option Dumped) (found : Option Fault) (fault : Fault) → asked ≡ None
+    → found ≡ Some Usage → found ≡ Some fault → IsFaultOf holds asked dumped fault
+usage_fault asked holds dumped found fault none is one =
+    let same : Usage ≡ fault = cc in
+    subst (λ a. IsFaultOf holds a dumped fault) (sym none)
+    (subst (λ f. IsFaultOf holds None dumped f) same tt)
 
 made_unwritten : (print : Option ℕ) (Whole : Type 0) (One : ℕ → Type 0) → Whole
     → ((client : ℕ) → One client) → ByPrint print Whole One
@@ -136,6 +163,8 @@ unwritten_part (Some (Gen made)) holds old new is =
     made_unwritten made.print _ _ (inl is) (λ client. inl is)
 unwritten_part (Some (Load name)) holds old new is = inl is
 unwritten_part (Some (Image run)) holds old new is = inl is
+unwritten_part (Some (Dump names)) holds old new is = inl is
+unwritten_part (Some (Census name)) holds old new is = inl is
 
 -- no file was opened
 pub opens_nothing : (status before files : ℕ) → status ≡ 5
@@ -175,54 +204,59 @@ due_asked asked report run holds fault finished status is same explained =
     (run_due (map holds run.files) (options_of run) fault finished status same explained))
 
 -- which files it opened at most
+of_run_scripts : (report : Report) (run : RunAsked) (Fact : List (List ℕ) → Type 0)
+    → Fact run.files → IfScripts (Some (asked_for report run)) Fact
+of_run_scripts Replies run Fact is = is
+of_run_scripts Heap run Fact is = is
+
 pub stops_asked : (asked : Option Asked) (report : Report) (run : RunAsked)
     (holds : List ℕ → Option (List ℕ)) (before now : ℕ) → asked ≡ Some (asked_for report run)
     → StopsBehind 1 0 (map holds run.files) before now
-    → IfRun asked (λ told these. StopsBehind 1 0 (map holds these.files) before now)
+    → IfScripts asked (λ names. StopsBehind 1 0 (map holds names) before now)
 stops_asked asked report run holds before now is stops =
-    subst (λ a. IfRun a (λ told these. StopsBehind 1 0 (map holds these.files) before now))
-    (sym is)
-    (of_run report run (λ told these. StopsBehind 1 0 (map holds these.files) before now) stops)
+    subst (λ a. IfScripts a (λ names. StopsBehind 1 0 (map holds names) before now)) (sym is)
+    (of_run_scripts report run (λ names. StopsBehind 1 0 (map holds names) before now) stops)
+
+-- the same of a dump
+pub stops_beside : (asked : Option Asked) (names : List (List ℕ))
+    (holds : List ℕ → Option (List ℕ)) (before now : ℕ) → asked ≡ Some (Dump names)
+    → StopsBehind 1 0 (map holds names) before now
+    → IfScripts asked (λ these. StopsBehind 1 0 (map holds these) before now)
+stops_beside asked names holds before now is stops =
+    subst (λ a. IfScripts a (λ these. StopsBehind 1 0 (map holds these) before now)) (sym is)
+    stops
 
 -- no file was opened
 pub unread_stops : (asked : Option Asked) (holds : List ℕ → Option (List ℕ)) (opens : ℕ)
-    → IfRun asked (λ report run. StopsBehind 1 0 (map holds run.files) opens opens)
+    → IfScripts asked (λ names. StopsBehind 1 0 (map holds names) opens opens)
 unread_stops asked holds opens =
-    if_run asked _ (λ report run. stops_none 1 0 opens (map holds run.files))
+    if_scripts asked _ (λ names. stops_none 1 0 opens (map holds names))
 
--- the file of a replay
-pub opens_replay : (asked : Option Asked) (name : List ℕ) (status before now : ℕ)
-    → asked ≡ Some (Replay name) → now ≡ next_count before
-    → OpensFiles status before now (files_read (length (names_of asked)))
-opens_replay asked name status before now is first =
-    subst (λ a. OpensFiles status before now (files_read (length (names_of a)))) (sym is)
-    (opens_one status before now first)
+-- the only file of a request
+one_file : (reading : Reading) (name : List ℕ) → files_of (Some (asked_of reading name)) ≡ 1
+one_file Schedules name = refl
+one_file Dumps name = refl
+one_file Images name = refl
 
--- the file of a dump
-pub opens_load : (asked : Option Asked) (name : List ℕ) (status before now : ℕ)
-    → asked ≡ Some (Load name) → now ≡ next_count before
-    → OpensFiles status before now (files_read (length (names_of asked)))
-opens_load asked name status before now is first =
-    subst (λ a. OpensFiles status before now (files_read (length (names_of a)))) (sym is)
-    (opens_one status before now first)
+pub opens_file : (asked : Option Asked) (reading : Reading) (name : List ℕ)
+    (status before now : ℕ) → asked ≡ Some (asked_of reading name) → now ≡ next_count before
+    → OpensFiles status before now (files_of asked)
+opens_file asked reading name status before now is first =
+    subst (λ a. OpensFiles status before now (files_of a)) (sym is)
+    (subst (λ n. OpensFiles status before now n) (sym (one_file reading name))
+    (opens_one status before now first))
 
 pub ruleset asking = (
   unread_scripts,
   unread_large_made,
   unread_complete_made,
-  unread_schedule,
-  unread_large,
-  unread_complete,
+  unread_file,
   unread_dump,
-  unread_large_dump,
-  unread_complete_load,
+  unread_fault,
+  usage_fault,
   unwritten_part,
   opens_nothing,
   opens_no_file,
   opens_one,
   opens_all,
-  due_asked,
-  unread_stops,
-  opens_replay,
-  opens_load,
 )

@@ -11,7 +11,8 @@ use Rattle.script_files.specs.Sorts.{OfWords, OfLine, OfReading, OfWriting, OfMe
 use Rattle.script_files.specs.declared.fault.Fault.{Fault}
 use Rattle.store_run.specs.declared.finished.Finished.{Finished}
 use Rattle.doc_run.specs.Clients.{ComesBy}
-use Rattle.doc_run.specs.Ending.{BySort, Explains}
+use Rattle.doc_run.specs.Ending.{Explains}
+use Rattle.doc_run.specs.Faults.{BySort}
 
 -- the scripts were read, and so the status is due
 due_by : (told : List (Option (List ℕ))) (outcome : Result (List (List Command)) Fault)

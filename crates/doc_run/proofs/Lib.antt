@@ -1,7 +1,13 @@
 pub mod Ranges
 pub mod Due
+pub mod Sizes
+pub mod Readings
+pub mod Guesting
+pub mod Few
+pub mod HandedBack
+pub mod Endings
 pub mod Asking
+pub mod Faulting
 pub mod Writing
 pub mod Summaries
 pub mod Deciding
-pub mod Loading

@@ -3,33 +3,27 @@
 -- What the files hold is told or not, file by file.
 -- Source: this project's own.
 use Rattle.std.specs.Prelude.{◌≡◌, ◌≢◌, ℕ, ◌*◌, ◌<◌, ◌≤◌, List, Option}
-use Rattle.std.specs.Prelude.{None, Some, IsNone, IsSomeAnd, Result, Err, ◌⊎◌, map, true}
+use Rattle.std.specs.Prelude.{None, Some, IsNone, IsSomeAnd, Result, Err, ◌⊎◌, true}
 use Rattle.std.specs.Io.KnownBytes.{Appends}
 use Rattle.client_run.specs.declared.options.Options.{Options}
 use Rattle.doc_model.specs.Merge.{IsMerge}
 use Rattle.doc_model.specs.declared.command.Command.{Command}
 use Rattle.doc_model.specs.declared.command.Entry.{Entry}
 use Rattle.outside.specs.Pieces.{AppendsPart}
-use Rattle.doc_tree.specs.Tree.{DocTree}
-use Rattle.run_output.specs.Loaded.{loaded_text_of}
 use Rattle.run_output.specs.Summary.{summary_text_of}
 use Rattle.run_output.specs.declared.summary.Made.{Made}
-use Rattle.run_words.specs.Requests.{Asked, Run, Replay, Gen, Load, Image}
 use Rattle.run_words.specs.declared.request.GenWords.{GenWords}
 use Rattle.script_files.specs.Files.{opened}
-use Rattle.script_files.specs.Loaded.{HoldsDump, RefusesDump}
-use Rattle.script_files.specs.Replayed.{IsReading, IsTextOf}
-use Rattle.script_files.specs.Scripts.{AreScripts, most_commands}
-use Rattle.script_files.specs.Sorts.{OfScripts, OfSchedules, Refused, Sort, sort_of}
-use Rattle.script_files.specs.Sorts.{OfWords, OfLine, OfReading, OfWriting, OfMemory, OfSize}
+use Rattle.script_files.specs.Scripts.{most_commands}
+use Rattle.script_files.specs.Sorts.{OfScripts, Refused, sort_of}
 use Rattle.script_files.specs.declared.fault.Fault.{Fault}
-use Rattle.script_files.specs.declared.fault.Fault.TheVariants.{ReadFault, TooLarge}
+use Rattle.script_files.specs.declared.fault.Fault.TheVariants.{TooLarge}
 use Rattle.script_generator.specs.Generated.{generated_of}
 use Rattle.store_run.specs.declared.finished.Finished.{Finished}
-use Rattle.doc_run.specs.Clients.{ComesBy, IsMade, default_options, options_of}
-use Rattle.doc_run.specs.Reports.{IsReportOf}
+use Rattle.doc_run.specs.Clients.{ComesBy, IsMade, default_options}
+use Rattle.doc_run.specs.Faults.{BySort}
 use Rattle.doc_run.specs.Request.{ByPrint}
-use Rattle.doc_run.specs.declared.report.Report.TheVariants.{Replies, Heap}
+use Rattle.doc_run.specs.Texts.{WritesAll, WritesFront}
 
 -- of so many files each was opened once at most, and unless memory was wanting the first one was
 abbrev pub OpensFiles : ℕ → ℕ → ℕ → ℕ → Type 0
@@ -40,15 +34,6 @@ OpensFiles status before now files =
 -- the run was refused: for its words, its files or the reading of them
 abbrev pub IsRefusal : ℕ → Type 0
 IsRefusal status = (status ≡ 1) ⊎ (status ≡ 2) ⊎ (status ≡ 3) ⊎ (status ≡ 6)
-
--- some text that is as it should be was written whole
-abbrev pub WritesAll : (List ℕ → Type 0) → Option (List ℕ) → Option (List ℕ) → Type 0
-WritesAll IsText old new = (text : List ℕ) × IsText text × Appends old new text
-
--- a front of such a text was written, and not all of it
-abbrev pub WritesFront : (List ℕ → Type 0) → Option (List ℕ) → Option (List ℕ)
-    → Type 0
-WritesFront IsText old new = (text : List ℕ) × IsText text × AppendsPart old new text
 
 -- by which numbers scripts are generated
 abbrev pub numbers_of : GenWords → Made
@@ -75,46 +60,11 @@ WritesPart Given options IsText old new =
     (new ≡ old)
     ⊎ ((f : Finished) × ComesBy Given options f × WritesFront (IsText f) old new)
 
--- nothing was written, or a front of such a text
-abbrev pub WritesTextPart : (List ℕ → Type 0) → Option (List ℕ) → Option (List ℕ)
-    → Type 0
-WritesTextPart IsText old new = (new ≡ old) ⊎ WritesFront IsText old new
-
 -- nothing was written, or a front of what generated scripts come to, or of the one that is printed
 abbrev pub WritesMadePart : GenWords → Option (List ℕ) → Option (List ℕ) → Type 0
 WritesMadePart made old new =
     ByPrint made.print (WritesPart (IsMade made) default_options (IsSummaryOf made) old new)
     (λ client. (new ≡ old) ⊎ AppendsPart old new (printed_of made client))
-
--- what is written of the dump that the file holds
-abbrev pub IsLoadedText : Option (List ℕ) → List ℕ → Type 0
-IsLoadedText told text =
-    (v : ℕ) × (t : DocTree) × HoldsDump told v t × (text ≡ loaded_text_of v t)
-
--- nothing was written, or a front of what the request asks for
-abbrev pub WritesPartOf : (List ℕ → Option (List ℕ)) → Option Asked → Option (List ℕ)
-    → Option (List ℕ) → Type 0
-WritesPartOf holds None old new = new ≡ old
-WritesPartOf holds (Some (Run run)) old new =
-    WritesPart (AreScripts (map holds run.files)) (options_of run)
-    (IsReportOf Replies (map holds run.files) run) old new
-WritesPartOf holds (Some (Replay name)) old new = WritesTextPart (IsTextOf (holds name)) old new
-WritesPartOf holds (Some (Gen made)) old new = WritesMadePart made old new
-WritesPartOf holds (Some (Load name)) old new =
-    WritesTextPart (IsLoadedText (holds name)) old new
-WritesPartOf holds (Some (Image run)) old new =
-    WritesPart (AreScripts (map holds run.files)) (options_of run)
-    (IsReportOf Heap (map holds run.files) run) old new
-
--- What is so by the sort of a fault: the first fact where the run was refused, the next where the
--- output could not be written, the last where memory was wanting.
-abbrev pub BySort : Sort → Type 0 → Type 0 → Type 0 → Type 0
-BySort OfWords Refusal Failed Wanting = Refusal
-BySort (OfLine grammar) Refusal Failed Wanting = Refusal
-BySort OfReading Refusal Failed Wanting = Refusal
-BySort OfWriting Refusal Failed Wanting = Failed
-BySort OfMemory Refusal Failed Wanting = Wanting
-BySort OfSize Refusal Failed Wanting = Refusal
 
 -- By the fault of a run of clients.
 
@@ -171,37 +121,3 @@ abbrev pub PrintsBy : List ℕ → Option Fault → Option (List ℕ) → Option
 PrintsBy text None old new = Appends old new text
 PrintsBy text (Some fault) old new =
     BySort (sort_of fault) ⊥ (AppendsPart old new text) ((new ≡ old) ⊎ AppendsPart old new text)
-
--- By the fault of a replay of a schedule.
-
--- what an ending says of the file
-abbrev pub ExplainsReplay : Option (List ℕ) → Option Fault → Type 0
-ExplainsReplay told None = Unit {0}
-ExplainsReplay told (Some fault) =
-    BySort (sort_of fault)
-    (Refused OfSchedules (sort_of fault) (IsReading told (Err fault)) (fault ≡ ReadFault 1))
-    (Unit {0}) (Unit {0})
-
--- what an ending says of what was written
-abbrev pub WritesReplay : Option (List ℕ) → Option (List ℕ) → Option (List ℕ)
-    → Option Fault → Type 0
-WritesReplay told old new None = WritesAll (IsTextOf told) old new
-WritesReplay told old new (Some fault) =
-    BySort (sort_of fault) (new ≡ old) (WritesFront (IsTextOf told) old new)
-    (WritesTextPart (IsTextOf told) old new)
-
--- By the fault of the loading of a dump.
-
--- what an ending says of the file
-abbrev pub ExplainsLoad : Option (List ℕ) → Option Fault → Type 0
-ExplainsLoad told None = Unit {0}
-ExplainsLoad told (Some fault) =
-    BySort (sort_of fault) (RefusesDump told fault) (Unit {0}) (Unit {0})
-
--- what an ending says of what was written
-abbrev pub WritesLoad : Option (List ℕ) → Option (List ℕ) → Option (List ℕ) → Option Fault
-    → Type 0
-WritesLoad told old new None = WritesAll (IsLoadedText told) old new
-WritesLoad told old new (Some fault) =
-    BySort (sort_of fault) (new ≡ old) (WritesFront (IsLoadedText told) old new)
-    (WritesTextPart (IsLoadedText told) old new)

@@ -1,5 +1,10 @@
-pub mod Request
+pub mod Texts
+pub mod Faults
 pub mod Clients
 pub mod Reports
+pub mod Reading
+pub mod Guested
+pub mod Request
 pub mod Ending
+pub mod Asked
 pub mod Written

@@ -3,6 +3,7 @@
 use Rattle.std.specs.Prelude.{Option, None, Some, Result, Ok, Err}
 use Rattle.outside.specs.declared.fault.OutFault.{OutFault}
 use Rattle.outside.specs.declared.fault.OutFault.TheVariants.{Failed, NoMemory}
+use Rattle.doc_export.specs.declared.dumped.Dumped.{Dumped}
 use Rattle.script_files.specs.declared.fault.Fault.{Fault}
 use Rattle.script_files.specs.declared.fault.Fault.TheVariants.{WriteFault, Memory}
 use Rattle.store_run.specs.declared.finished.Finished.{Finished}
@@ -18,3 +19,9 @@ abbrev pub kept_by : Result (Unit {0}) OutFault → Option Finished → Option F
 kept_by (Ok taken) finished = finished
 kept_by (Err Failed) finished = finished
 kept_by (Err NoMemory) finished = None
+
+-- and what a run came to beside which a version was dumped
+abbrev pub kept_dump : Result (Unit {0}) OutFault → Dumped → Option Dumped
+kept_dump (Ok taken) dumped = Some dumped
+kept_dump (Err Failed) dumped = Some dumped
+kept_dump (Err NoMemory) dumped = None

@@ -6,12 +6,14 @@ ghost use Rattle.outside.specs.Calls.{IsUnbroken, IsOrderly};
 ghost use Rattle.outside.specs.Causes.{Rose};
 ghost use Rattle.doc_run.specs.Clients.{DecidesRun, Finishes, FinishesWith, MakesRun, options_of};
 ghost use Rattle.run_words.specs.Limits.{IsGenWithin, IsRunWithin};
-ghost use Rattle.run_words.specs.Requests.{run_asked_by};
+ghost use Rattle.doc_run.specs.Guested.{DecidesDump, FinishesDump, few_read};
+ghost use Rattle.run_words.specs.Requests.{names_by, run_asked_by};
 ghost use Rattle.script_files.specs.Files.{OpensInTurn, files_read, opened};
 ghost use Rattle.script_files.specs.Reading.{lists_of};
 ghost use Rattle.script_files.specs.Scripts.{StopsBehind};
 
 use cmd_text::Form;
+use doc_export::{Dumped, dump_run};
 use doc_model::Command;
 use outside::{Gate, READ_LIMIT, Shelf};
 use run_words::{GenWords, RunWords};
@@ -68,6 +70,40 @@ pub fn run_files<R: Threads + Wait + Sync, H: Shelf, G: Gate + Sync>(
 {
     match scripts_in_files(alloc, &run.files, shelf) {
         Ok(scripts) => run_formed(alloc, rt, scripts, options(run), gate),
+        Err(fault) => Err(fault),
+    }
+}
+
+/// What a run of the clients comes to whose scripts the files of these names hold, where a version
+/// is dumped beside them.
+pub fn dump_files<R: Threads + Wait + Sync, H: Shelf, G: Gate + Sync>(
+    alloc: Global,
+    rt: &R,
+    names: &Vec<&str>,
+    shelf: &mut H,
+    gate: &G,
+) -> Result<Dumped, Fault>
+    requires some { 1 ≤ length names.now.items }
+    requires few { length names.now.items ≤ 63 }
+    ensures dumped { DecidesDump (map (H.holds shelf.old) (names_by names.now)) result }
+    ensures read { (file : ℕ) → IsErrOf result (Fault.ReadFault file) →
+        Rose (H.faults shelf.old) (H.faults shelf.new) }
+    ensures read_file { (file : ℕ) → IsErrOf result (Fault.ReadFault file) →
+        H.opens shelf.new ≡ opened (H.opens shelf.old) file }
+    ensures opens { OpensInTurn (H.opens shelf.old) (H.opens shelf.new)
+        (few_read (length names.now.items)) }
+    ensures all_opened { OnOk result (H.opens shelf.new
+        ≡ opened (H.opens shelf.old) (length names.now.items)) }
+    ensures stops { StopsBehind 1 0 (map (H.holds shelf.old) (names_by names.now))
+        (H.opens shelf.old) (H.opens shelf.new) }
+    ensures calls { H.calls shelf.new
+        ≤ H.calls shelf.old + few_read (length names.now.items) * (READ_LIMIT + 1) }
+    ensures unbroken { OnOk result (IsUnbroken (H.course shelf.old)
+        → IsUnbroken (H.course shelf.new)) }
+    ensures orderly { IsUnbroken (H.course shelf.old) → IsOrderly (H.course shelf.new) }
+{
+    match scripts_in_files(alloc, names, shelf) {
+        Ok(scripts) => dump_all(alloc, rt, &scripts.commands, gate),
         Err(fault) => Err(fault),
     }
 }
@@ -141,6 +177,25 @@ fn run_all<R: Threads + Wait + Sync, G: Gate + Sync>(
 {
     match run_clients(alloc, rt, scripts, &options, gate) {
         Ok(finished) => Ok(finished),
+        Err(_) => Err(Fault::Memory),
+    }
+}
+
+// What a run of these scripts comes to beside which a version is dumped.
+#[tactic(auto, using(crate::proofs::Ranges::each_short, crate::proofs::Ranges::ranges))]
+fn dump_all<R: Threads + Wait + Sync, G: Gate + Sync>(
+    alloc: Global,
+    rt: &R,
+    scripts: &[Vec<Command>],
+    gate: &G,
+) -> Result<Dumped, Fault>
+    requires some { 1 ≤ length scripts.now }
+    requires few { length scripts.now ≤ 63 }
+    requires total { sum_by (λ script. length script.items) scripts.now ≤ 100_000 }
+    ensures { FinishesDump (lists_of scripts.now) result }
+{
+    match dump_run(alloc, rt, scripts, &DEFAULTS, gate) {
+        Ok(dumped) => Ok(dumped),
         Err(_) => Err(Fault::Memory),
     }
 }

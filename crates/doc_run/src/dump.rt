@@ -2,7 +2,7 @@
 ghost use Rattle.std.specs.Prelude.{◌≡◌, ◌+◌, ◌≤◌, ◌⊎◌, None};
 ghost use Rattle.outside.specs.Calls.{IsUnbroken, IsOrderly};
 ghost use Rattle.outside.specs.Causes.{Rose, next_count};
-ghost use Rattle.doc_run.specs.Ending.{ExplainsLoad, WritesLoad};
+ghost use Rattle.doc_run.specs.Reading.{Dumps, ExplainsFile, WritesFile};
 ghost use Rattle.script_files.specs.Fault.{status_of};
 
 use crate::outcome::Outcome;
@@ -20,8 +20,9 @@ pub fn load_dump<H: Shelf, S: Sink>(
 ) -> Outcome
     ensures status { result.status ≡ status_of result.fault }
     ensures finished { result.finished ≡ None }
-    ensures explained { ExplainsLoad (H.holds shelf.old name.now) result.fault }
-    ensures written { WritesLoad (H.holds shelf.old name.now) (S.written sink.old)
+    ensures dumped { result.dumped ≡ None }
+    ensures explained { ExplainsFile Dumps (H.holds shelf.old name.now) result.fault }
+    ensures written { WritesFile Dumps (H.holds shelf.old name.now) (S.written sink.old)
         (S.written sink.new) result.fault }
     ensures read { result.status ≡ 3 → Rose (H.faults shelf.old) (H.faults shelf.new) }
     ensures write { result.status ≡ 4 → Rose (S.faults sink.old) (S.faults sink.new) }

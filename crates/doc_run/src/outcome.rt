@@ -1,17 +1,19 @@
 ghost use Rattle.std.specs.Prelude.{◌≡◌, Some, None};
-ghost use Rattle.doc_run.specs.Written.{fault_by, kept_by};
+ghost use Rattle.doc_run.specs.Written.{fault_by, kept_by, kept_dump};
 ghost use Rattle.script_files.specs.Fault.{status_of};
 
+use doc_export::Dumped;
 use outside::OutFault;
 use script_files::{Fault, status};
 use store_run::Finished;
 
 /// How a run ended: its status, the fault that the status stands for, and what a run of clients
-/// came to, where one was finished.
+/// came to, where one was finished, or one beside which a version was dumped.
 pub struct Outcome {
     pub status: u8,
     pub fault: Option<Fault>,
     pub finished: Option<Finished>,
+    pub dumped: Option<Dumped>,
 }
 
 impl Drop for Outcome {
@@ -20,6 +22,7 @@ impl Drop for Outcome {
             status: _,
             fault: _,
             finished: _finished,
+            dumped: _dumped,
         } = self;
     }
 }
@@ -29,11 +32,28 @@ impl Outcome {
         ensures status { result.status ≡ status_of fault }
         ensures fault { result.fault ≡ fault }
         ensures finished { result.finished ≡ finished }
+        ensures dumped { result.dumped ≡ None }
     {
         Outcome {
             status: status(fault),
             fault,
             finished,
+            dumped: None,
+        }
+    }
+
+    /// How a run ends behind which a version was dumped.
+    pub(crate) fn with_dump(fault: Option<Fault>, dumped: Dumped) -> Outcome
+        ensures status { result.status ≡ status_of fault }
+        ensures fault { result.fault ≡ fault }
+        ensures finished { result.finished ≡ None }
+        ensures dumped { result.dumped ≡ Some dumped }
+    {
+        Outcome {
+            status: status(fault),
+            fault,
+            finished: None,
+            dumped: Some(dumped),
         }
     }
 
@@ -41,6 +61,7 @@ impl Outcome {
         ensures status { result.status ≡ status_of (Some fault) }
         ensures fault { result.fault ≡ Some fault }
         ensures finished { result.finished ≡ None }
+        ensures dumped { result.dumped ≡ None }
     {
         Outcome::new(Some(fault), None)
     }
@@ -50,6 +71,7 @@ impl Outcome {
         ensures status { result.status ≡ 1 }
         ensures fault { result.fault ≡ Some Fault.Usage }
         ensures finished { result.finished ≡ None }
+        ensures dumped { result.dumped ≡ None }
     {
         Outcome::refused(Fault::Usage)
     }
@@ -59,10 +81,25 @@ impl Outcome {
         ensures status { result.status ≡ status_of result.fault }
         ensures fault { result.fault ≡ fault_by wrote }
         ensures finished { result.finished ≡ kept_by wrote finished }
+        ensures dumped { result.dumped ≡ None }
     {
         match wrote {
             Ok(()) => Outcome::new(None, finished),
             Err(OutFault::Failed) => Outcome::new(Some(Fault::WriteFault), finished),
+            Err(OutFault::NoMemory) => Outcome::refused(Fault::Memory),
+        }
+    }
+
+    /// The same of a run whose dump was offered.
+    pub(crate) fn by_dumping(wrote: Result<(), OutFault>, dumped: Dumped) -> Outcome
+        ensures status { result.status ≡ status_of result.fault }
+        ensures fault { result.fault ≡ fault_by wrote }
+        ensures finished { result.finished ≡ None }
+        ensures dumped { result.dumped ≡ kept_dump wrote dumped }
+    {
+        match wrote {
+            Ok(()) => Outcome::with_dump(None, dumped),
+            Err(OutFault::Failed) => Outcome::with_dump(Some(Fault::WriteFault), dumped),
             Err(OutFault::NoMemory) => Outcome::refused(Fault::Memory),
         }
     }

@@ -1,5 +1,5 @@
 //! The scripts of files: they are answered, and a report of the run is written.
-ghost use Rattle.std.specs.Prelude.{◌≡◌, ℕ, ◌+◌, ◌*◌, ◌≤◌, ◌⊎◌, Some, length, map};
+ghost use Rattle.std.specs.Prelude.{◌≡◌, ℕ, ◌+◌, ◌*◌, ◌≤◌, ◌⊎◌, Some, None, length, map};
 ghost use Rattle.outside.specs.Calls.{IsUnbroken, IsOrderly};
 ghost use Rattle.outside.specs.Causes.{Rose};
 ghost use Rattle.doc_run.specs.Clients.{options_of};
@@ -33,6 +33,7 @@ pub fn run_scripts<R: Threads + Wait + Sync, H: Shelf, S: Sink, G: Gate + Sync>(
 ) -> Outcome
     requires within { IsRunWithin run.now }
     ensures status { result.status ≡ status_of result.fault }
+    ensures dumped { result.dumped ≡ None }
     ensures explained { Explains
         (AreScripts (map (H.holds shelf.old) (run_asked_by run.now).files))
         (options_of (run_asked_by run.now)) result.fault result.finished }

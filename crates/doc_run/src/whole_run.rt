@@ -3,31 +3,28 @@
 //! All lines are made before the first of them is written, so a refusal writes nothing. Where the
 //! shelf does not tell what a file holds, the clauses speak of some bytes that it may have held.
 //! The words are read with memory, so want of it may come before all else.
-ghost use Rattle.std.specs.Prelude.{◌≡◌, ◌≢◌, ℕ, ◌+◌, ◌*◌, ◌≤◌};
-ghost use Rattle.std.specs.Prelude.{◌<◌, ◌⊎◌, ◌↔◌, Err, Some, IsSome, IsNone};
-ghost use Rattle.std.specs.Prelude.{IsSomeAnd, IfSome, length, map};
+ghost use Rattle.std.specs.Prelude.{◌≡◌, ◌≢◌, ℕ, ◌+◌, ◌*◌, ◌≤◌, ◌<◌, ◌⊎◌, ◌↔◌, Some, IsSome};
+ghost use Rattle.std.specs.Prelude.{IsNone, IsSomeAnd, IfSome, length, map};
 ghost use Rattle.std.specs.Io.KnownBytes.{Appends};
 ghost use Rattle.outside.specs.Calls.{IsUnbroken, IsOrderly};
 ghost use Rattle.outside.specs.Causes.{Rose};
 ghost use Rattle.outside.specs.Pieces.{AppendsPart};
-ghost use Rattle.cmd_text.specs.declared.fault.ScriptKind.{ScriptKind};
-ghost use Rattle.core_replay.specs.declared.fault.ScheduleKind.{ScheduleKind};
-ghost use Rattle.version_dump.specs.declared.fault.LoadKind.{LoadKind};
+ghost use Rattle.doc_run.specs.Asked.{IsFaultOf, WritesPartOf};
 ghost use Rattle.doc_run.specs.Clients.{ComesBy, IsMade, default_options, options_of};
-ghost use Rattle.doc_run.specs.Ending.{IsLoadedText, IsRefusal, IsSummaryOf};
-ghost use Rattle.doc_run.specs.Ending.{OpensFiles, WritesAll, WritesFront, WritesPartOf};
-ghost use Rattle.doc_run.specs.Ending.{printed_of};
+ghost use Rattle.doc_run.specs.Ending.{IsRefusal, IsSummaryOf, OpensFiles, printed_of};
+ghost use Rattle.doc_run.specs.Guested.{DumpsBy, IsDumpDueFor, IsDumpText, IsTooLarge};
+ghost use Rattle.doc_run.specs.Reading.{IsAnswerOf, IsFileDue};
 ghost use Rattle.doc_run.specs.Reports.{IsReportOf};
-ghost use Rattle.doc_run.specs.Request.{ByPrint, IfGen, IfLoad, IfReplay, IfRun, IsLoadAnd};
-ghost use Rattle.doc_run.specs.Request.{IsReplayAnd, IsRunAnd, RunsClients, names_of};
+ghost use Rattle.doc_run.specs.Request.{AsksDump, ByPrint, IfDump, IfGen, IfRead, IfRun, IfScripts};
+ghost use Rattle.doc_run.specs.Request.{RunsClients, files_of, names_of};
+ghost use Rattle.doc_run.specs.Texts.{WritesAll, WritesFront};
 ghost use Rattle.run_words.specs.Requests.{request_of};
 ghost use Rattle.script_files.specs.Fault.{status_of};
-ghost use Rattle.script_files.specs.Files.{files_read, opened};
-ghost use Rattle.script_files.specs.Loaded.{IsDumpFile, IsDumpRead, IsFaultyDump};
-ghost use Rattle.script_files.specs.Replayed.{IsFaultySchedule, IsReading, IsSchedule, IsTextOf};
-ghost use Rattle.script_files.specs.Scripts.{AreScripts, IsDueFor, IsUnhindered, StopsBehind};
-ghost use Rattle.script_files.specs.Scripts.{largest_file, most_commands};
+ghost use Rattle.script_files.specs.Files.{opened};
+ghost use Rattle.script_files.specs.Scripts.{AreScripts, IsDueFor, StopsBehind, most_commands};
 
+use crate::beside::dump_beside;
+use crate::census::census_file;
 use crate::dump::load_dump;
 use crate::generated::run_generated;
 use crate::outcome::Outcome;
@@ -57,10 +54,15 @@ pub fn run<R: Threads + Wait + Sync, H: Shelf, S: Sink, G: Gate + Sync>(
     ensures finished { IsSome result.finished
         ↔ (RunsClients (request_of words.now)
         × ((result.status ≡ 0) ⊎ (result.status ≡ 4))) }
+    ensures dumped { IsSome result.dumped
+        ↔ (AsksDump (request_of words.now)
+        × ((result.status ≡ 0) ⊎ (result.status ≡ 4)
+        ⊎ ((result.status ≡ 6) × IsTooLarge result.dumped))) }
 
     // Done: what the run of the files' scripts came to, and its report is all that was written; or
     // the same of generated scripts, and their summary; or the script that was asked for; or the
-    // replay text of the file's schedule; or how large the tree of the file's dump is.
+    // answer to the one file; or what the run came to beside which a version was dumped, and the
+    // dump.
     ensures done { result.status ≡ 0 → IfRun (request_of words.now) (λ report run.
         IsSomeAnd result.finished (λ f.
         ComesBy (AreScripts (map (H.holds shelf.old) run.files)) (options_of run) f
@@ -71,68 +73,34 @@ pub fn run<R: Threads + Wait + Sync, H: Shelf, S: Sink, G: Gate + Sync>(
         ComesBy (IsMade made) default_options f
         × WritesAll (IsSummaryOf made f) (S.written sink.old) (S.written sink.new)))
         (λ client. Appends (S.written sink.old) (S.written sink.new) (printed_of made client))) }
-    ensures replayed { result.status ≡ 0 → IfReplay (request_of words.now) (λ name.
-        WritesAll (IsTextOf (H.holds shelf.old name)) (S.written sink.old) (S.written sink.new)) }
-
-    ensures loaded { result.status ≡ 0 → IfLoad (request_of words.now) (λ name.
-        WritesAll (IsLoadedText (H.holds shelf.old name)) (S.written sink.old)
+    ensures answered { result.status ≡ 0 → IfRead (request_of words.now) (λ reading name.
+        WritesAll (IsAnswerOf reading (H.holds shelf.old name)) (S.written sink.old)
         (S.written sink.new)) }
+    ensures beside { result.status ≡ 0 → IfDump (request_of words.now) (λ names.
+        IsSomeAnd result.dumped (λ d. DumpsBy (map (H.holds shelf.old) names) d
+        × WritesAll (IsDumpText d) (S.written sink.old) (S.written sink.new))) }
 
     // Refused for its words, or for the files, where what the shelf tells of them decides that: the
     // status is that which is due, and with good files it is 0, or a device failed, or memory was
-    // wanting.
+    // wanting. A version whose tree has too many nodes for a dump is refused behind the run.
     ensures usage { (result.status ≡ 1)
         ↔ ((result.status ≢ 5) × IsNone (request_of words.now)) }
     ensures scripts { IfRun (request_of words.now) (λ report run.
         IsDueFor (map (H.holds shelf.old) run.files) result.status) }
-    ensures script_line { (file line : ℕ) (kind : ScriptKind) →
-        result.fault ≡ Some (Fault.Script file line kind) →
-        IsRunAnd (request_of words.now) (λ report run.
-        AreScripts (map (H.holds shelf.old) run.files) (Err (Fault.Script file line kind))) }
-    ensures large_file { (file : ℕ) → result.fault ≡ Some (Fault.TooLarge file) →
-        IfRun (request_of words.now) (λ report run.
-        AreScripts (map (H.holds shelf.old) run.files) (Err (Fault.TooLarge file))) }
     ensures large_made { IfGen (request_of words.now) (λ made. (result.status ≡ 6)
         ↔ ((result.status ≢ 5) × (most_commands < made.clients * made.commands))) }
-    ensures large_made_file { (file : ℕ) → result.fault ≡ Some (Fault.TooLarge file) →
-        IfGen (request_of words.now) (λ made. file ≡ 0) }
     ensures complete_made { IfGen (request_of words.now) (λ made.
         made.clients * made.commands ≤ most_commands
         → (result.status ≡ 0) ⊎ (result.status ≡ 4) ⊎ (result.status ≡ 5)) }
-    ensures schedule { IfReplay (request_of words.now) (λ name.
-        IfSome (H.holds shelf.old name) (λ bytes.
-        (result.status ≡ 2) ↔ (IsUnhindered result.status × IsFaultySchedule bytes))) }
-    ensures schedule_line { (line : ℕ) (kind : ScheduleKind) →
-        result.fault ≡ Some (Fault.Schedule line kind) →
-        IsReplayAnd (request_of words.now) (λ name.
-        IsReading (H.holds shelf.old name) (Err (Fault.Schedule line kind))) }
-    ensures large_schedule { IfReplay (request_of words.now) (λ name.
-        IfSome (H.holds shelf.old name) (λ bytes.
-        (result.status ≡ 6) ↔ (IsUnhindered result.status × (largest_file < length bytes)))) }
-    ensures large_schedule_file { (file : ℕ) → result.fault ≡ Some (Fault.TooLarge file) →
-        IfReplay (request_of words.now) (λ name.
-        IsReading (H.holds shelf.old name) (Err (Fault.TooLarge file))) }
-    ensures complete { IfReplay (request_of words.now) (λ name.
-        IsSomeAnd (H.holds shelf.old name) IsSchedule
-        → (result.status ≡ 0) ⊎ (result.status ≡ 3) ⊎ (result.status ≡ 4)
-        ⊎ (result.status ≡ 5)) }
-    ensures dump { IfLoad (request_of words.now) (λ name.
-        IfSome (H.holds shelf.old name) (λ bytes.
-        (result.status ≡ 2) ↔ (IsUnhindered result.status × IsFaultyDump bytes))) }
-    ensures dump_line { (line : ℕ) (kind : LoadKind) →
-        result.fault ≡ Some (Fault.Dump line kind) →
-        IsLoadAnd (request_of words.now) (λ name.
-        IsDumpRead (H.holds shelf.old name) (Err (Fault.Dump line kind))) }
-    ensures large_dump { IfLoad (request_of words.now) (λ name.
-        IfSome (H.holds shelf.old name) (λ bytes.
-        (result.status ≡ 6) ↔ (IsUnhindered result.status × (largest_file < length bytes)))) }
-    ensures large_dump_file { (file : ℕ) → result.fault ≡ Some (Fault.TooLarge file) →
-        IfLoad (request_of words.now) (λ name.
-        IsDumpRead (H.holds shelf.old name) (Err (Fault.TooLarge file))) }
-    ensures complete_load { IfLoad (request_of words.now) (λ name.
-        IsSomeAnd (H.holds shelf.old name) IsDumpFile
-        → (result.status ≡ 0) ⊎ (result.status ≡ 3) ⊎ (result.status ≡ 4)
-        ⊎ (result.status ≡ 5)) }
+    ensures file { IfRead (request_of words.now) (λ reading name.
+        IfSome (H.holds shelf.old name) (λ bytes. IsFileDue reading bytes result.status)) }
+    ensures scripts_beside { IfDump (request_of words.now) (λ names.
+        IsDumpDueFor (map (H.holds shelf.old) names) result.dumped result.status) }
+    ensures too_large { result.status ≡ 6 → IfSome result.dumped (λ d.
+        IfDump (request_of words.now) (λ names.
+        DumpsBy (map (H.holds shelf.old) names) d × IsNone d.bytes)) }
+    ensures refused { (fault : Fault) → result.fault ≡ Some fault →
+        IsFaultOf (H.holds shelf.old) (request_of words.now) result.dumped fault }
 
     // A device failed, or memory was wanting.
     ensures read { result.status ≡ 3 → Rose (H.faults shelf.old) (H.faults shelf.new) }
@@ -150,20 +118,20 @@ pub fn run<R: Threads + Wait + Sync, H: Shelf, S: Sink, G: Gate + Sync>(
         × WritesFront (IsSummaryOf made f) (S.written sink.old) (S.written sink.new)))
         (λ client. AppendsPart (S.written sink.old) (S.written sink.new)
         (printed_of made client))) }
-    ensures write_front { result.status ≡ 4 → IfReplay (request_of words.now) (λ name.
-        WritesFront (IsTextOf (H.holds shelf.old name)) (S.written sink.old)
+    ensures write_answer { result.status ≡ 4 → IfRead (request_of words.now) (λ reading name.
+        WritesFront (IsAnswerOf reading (H.holds shelf.old name)) (S.written sink.old)
         (S.written sink.new)) }
-    ensures write_loaded { result.status ≡ 4 → IfLoad (request_of words.now) (λ name.
-        WritesFront (IsLoadedText (H.holds shelf.old name)) (S.written sink.old)
-        (S.written sink.new)) }
+    ensures write_dump { result.status ≡ 4 → IfDump (request_of words.now) (λ names.
+        IsSomeAnd result.dumped (λ d. DumpsBy (map (H.holds shelf.old) names) d
+        × WritesFront (IsDumpText d) (S.written sink.old) (S.written sink.new))) }
     ensures memory { result.status ≡ 5 → (S.written sink.new ≡ S.written sink.old)
         ⊎ Rose (S.wants sink.old) (S.wants sink.new) }
     ensures memory_part { result.status ≡ 5 → WritesPartOf (H.holds shelf.old)
         (request_of words.now) (S.written sink.old) (S.written sink.new) }
     ensures unwritten { IsRefusal result.status → S.written sink.new ≡ S.written sink.old }
 
-    // On an object on which no call had failed, no call is made after one that fails, and at status 0
-    // none has failed.
+    // On an object on which no call had failed, no call is made after one that fails, and at
+    // status 0 none has failed.
     ensures unbroken_shelf { result.status ≡ 0 → IsUnbroken (H.course shelf.old)
         → IsUnbroken (H.course shelf.new) }
     ensures unbroken_sink { result.status ≡ 0 → IsUnbroken (S.course sink.old)
@@ -175,18 +143,20 @@ pub fn run<R: Threads + Wait + Sync, H: Shelf, S: Sink, G: Gate + Sync>(
     // it. Too many files are not opened at all, and none is opened behind one that is refused. At
     // status 0 all were opened.
     ensures opens { OpensFiles result.status (H.opens shelf.old) (H.opens shelf.new)
-        (files_read (length (names_of (request_of words.now)))) }
+        (files_of (request_of words.now)) }
     ensures all_opened { result.status ≡ 0 → H.opens shelf.new
         ≡ opened (H.opens shelf.old) (length (names_of (request_of words.now))) }
-    ensures stops { IfRun (request_of words.now) (λ report run.
-        StopsBehind 1 0 (map (H.holds shelf.old) run.files)
+    ensures stops { IfScripts (request_of words.now) (λ names.
+        StopsBehind 1 0 (map (H.holds shelf.old) names)
         (H.opens shelf.old) (H.opens shelf.new)) }
-    ensures calls { H.calls shelf.new ≤ H.calls shelf.old
-        + files_read (length (names_of (request_of words.now))) * (READ_LIMIT + 1) }
+    ensures calls { H.calls shelf.new
+        ≤ H.calls shelf.old + files_of (request_of words.now) * (READ_LIMIT + 1) }
 {
     match read_words(alloc, words.all()) {
         Ok(Request::Run(run)) => run_scripts(alloc, rt, &run, Report::Replies, shelf, sink, gate),
         Ok(Request::Image(run)) => run_scripts(alloc, rt, &run, Report::Heap, shelf, sink, gate),
+        Ok(Request::Dump(names)) => dump_beside(alloc, rt, &names, shelf, sink, gate),
+        Ok(Request::Census(name)) => census_file(alloc, name, shelf, sink),
         Ok(Request::Replay(name)) => run_schedule(alloc, name, shelf, sink),
         Ok(Request::Gen(made)) => run_generated(alloc, rt, made, sink, gate),
         Ok(Request::Load(name)) => load_dump(alloc, name, shelf, sink),

@@ -1,5 +1,5 @@
 //! What the heaps of whole runs hold at their close, in numbers and as text.
-use crate::outcomes::{FINISHED, outcome_at, refusal_by, shown_by};
+use crate::outcomes::{DONE, FINISHED, outcome_at, refusal_by, shown_by};
 use doc_model::NoMemory;
 use heap_census::Census;
 use heap_census::images::{census, image_text};
@@ -105,5 +105,34 @@ fn an_image_is_the_heap_in_place_of_the_replies(rt: HostRuntime) -> Result<(), F
     let text = "docheap: file 1: line 1: NoCommand";
     let refusal = refusal_by(rt.alloc(), &rt, &all, b"look a\n", text)?;
     assert_eq!(rt; refusal, (2, true));
+    Ok(())
+}
+
+/// What `census f` writes of the heap that a run without commands leaves.
+const COUNTED: &str =
+    "cells 64\nfree 61\nversions 1\nnodes 1\nentries 0\ntexts 0\nshared 0\nfloating 0\n";
+
+#[test]
+fn a_heap_file_is_counted(rt: HostRuntime) -> Result<(), Fail> {
+    let bytes = OPENED.as_bytes();
+    let shown = shown_by(rt.alloc(), &rt, &["census", "f"], bytes, COUNTED.as_bytes())?;
+    assert_eq!(rt; shown, DONE);
+    Ok(())
+}
+
+#[test]
+fn a_heap_file_is_refused_at_its_first_fault(rt: HostRuntime) -> Result<(), Fail> {
+    let table: [(&[u8], &str); 3] = [
+        (
+            b"image 1 64\n0 white @1 - - - - =2\n1 white =0 @2 - - - =2\nend\n",
+            "docheap: file 1: line 3: Blue",
+        ),
+        (b"image 1 63\nend\n", "docheap: file 1: line 1: NoHead"),
+        (b"image 1 64\nend\n", "docheap: file 1: line 1: Blue"),
+    ];
+    for (heap, text) in table {
+        let refusal = refusal_by(rt.alloc(), &rt, &["census", "f"], heap, text)?;
+        assert_eq!(rt; refusal, (2, true), "{text}");
+    }
     Ok(())
 }

@@ -3,7 +3,7 @@
 //! text of each fault. And what heap_census says of the heaps that runs leave.
 //!
 //! Reading order: `outcomes`; `runs`, `batches`, `pieces`, `failing`, `options`, `totals`,
-//! `clients`, `census`, `heap_files`.
+//! `clients`, `census`, `heap_files`, `dumps`.
 #![tactic(auto)]
 
 #[cfg(test)]
@@ -12,6 +12,8 @@ mod batches;
 mod census;
 #[cfg(test)]
 mod clients;
+#[cfg(test)]
+mod dumps;
 #[cfg(test)]
 mod failing;
 #[cfg(test)]

@@ -77,6 +77,10 @@ abbrev pub image_app : App
 image_app =
     with_rules (with_rules (bare (codes "image")) room_rules) (names_rule (codes "file") ∷ [])
 
+-- of a run with no options
+abbrev pub dump_app : App
+dump_app = with_rules (bare (codes "dump")) (names_rule (codes "file") ∷ [])
+
 -- of a subcommand of this name that takes one file
 abbrev pub file_app : Text → App
 file_app subcommand = with_rules (bare subcommand) (name_rule (codes "file") ∷ [])

@@ -52,3 +52,5 @@ IsWithin (code.Replay name) = Unit {0}
 IsWithin (code.Gen words) = IsGenWithin words
 IsWithin (code.Load name) = Unit {0}
 IsWithin (code.Image run) = IsRunWithin run
+IsWithin (code.Dump names) = 1 ≤ length names.items
+IsWithin (code.Census name) = Unit {0}

@@ -15,7 +15,7 @@ use Rattle.std.specs.Prelude.{option_and_then}
 use Rattle.std.specs.Prelude.{option_map, unwrap_or}
 use Rattle.clap.specs.Words.{App, Kinds, Row, Text, all_of, fault_of, first_of, matches_of}
 use Rattle.clap.specs.Words.{one_of}
-use Rattle.run_words.specs.Commands.{file_app, gen_app, image_app, run_app}
+use Rattle.run_words.specs.Commands.{dump_app, file_app, gen_app, image_app, run_app}
 use Rattle.run_words.specs.Readings.{flag_in, names_in, number_in}
 use Rattle.run_words.specs.declared.request.GenWords.{GenWords}
 use Rattle.run_words.specs.declared.request.Request.{Request}
@@ -42,6 +42,8 @@ pub data Asked : Type 0 where
   Gen : GenWords → Asked
   Load : Text → Asked
   Image : RunAsked → Asked
+  Dump : List Text → Asked
+  Census : Text → Asked
 
 -- what was found, where no step of the reading fails
 abbrev pub taken : {A : Type 0} → Kinds → Option A → Option A
@@ -76,6 +78,10 @@ abbrev pub if_of_files : {A : Type 0} → List Text → A → Option A
 if_of_files [] asked = None
 if_of_files (file ∷ files) asked = Some asked
 
+-- the names, where there are some
+abbrev pub if_some_name : List Text → Option (List Text)
+if_some_name names = if_of_files names names
+
 -- the run, where it has a file
 abbrev pub if_some_file : RunAsked → Option RunAsked
 if_some_file run = if_of_files run.files run
@@ -91,6 +97,11 @@ run_of words = read_by run_app (λ rows. if_some_file (run_found rows)) words
 -- the words behind `image`
 abbrev pub image_of : List Text → Option RunAsked
 image_of words = read_by image_app (λ rows. if_some_file (run_with false false rows)) words
+
+-- the words behind `dump`: the names of the files
+abbrev pub dump_of : List Text → Option (List Text)
+dump_of words =
+    read_by dump_app (λ rows. if_some_name (names_in (all_of (codes "file") rows))) words
 
 -- the words behind a subcommand of this name that takes one file: the file's name
 abbrev pub file_of : Text → List Text → Option Text
@@ -133,7 +144,9 @@ request_behind word words =
     (cond (bytes_eq word (codes "gen")) (option_map Gen (gen_of words))
     (cond (bytes_eq word (codes "load")) (option_map Load (file_of (codes "load") words))
     (cond (bytes_eq word (codes "image")) (option_map Image (image_of words))
-    None))))
+    (cond (bytes_eq word (codes "dump")) (option_map Dump (dump_of words))
+    (cond (bytes_eq word (codes "census")) (option_map Census (file_of (codes "census") words))
+    None))))))
 
 -- what the words ask for, or nothing where they are no command line
 abbrev pub request_of : List Text → Option Asked
@@ -164,6 +177,8 @@ asked_by (code.Replay name) = Replay name.now
 asked_by (code.Gen words) = Gen words
 asked_by (code.Load name) = Load name.now
 asked_by (code.Image run) = Image (run_asked_by run)
+asked_by (code.Dump names) = Dump (names_by names)
+asked_by (code.Census name) = Census name.now
 
 -- an answer is what the words ask for, seen so, and usage exactly where that is nothing
 abbrev pub Gives : {V A : Type 0} → (V → A) → Result V WordsFault → Option A → Type 0

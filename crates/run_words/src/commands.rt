@@ -2,7 +2,7 @@
 //!
 //! None of them has subcommands, short options, or words for help and version.
 ghost use Rattle.clap.specs.Words.{app_of, rule_of};
-ghost use Rattle.run_words.specs.Commands.{bare, file_app, flag_rule, gen_app};
+ghost use Rattle.run_words.specs.Commands.{bare, dump_app, file_app, flag_rule, gen_app};
 ghost use Rattle.run_words.specs.Commands.{image_app, shown_rules};
 ghost use Rattle.run_words.specs.Commands.{name_rule, names_rule, number_rule, option_rule};
 ghost use Rattle.run_words.specs.Commands.{room_rules, run_app, with_rules};
@@ -25,6 +25,13 @@ pub(crate) fn image_command<'a>(alloc: Global) -> Result<Command<'a>, AllocError
     ensures { IfOk result (λ command. app_of command ≡ image_app) }
 {
     with_room(alloc, bare_command(alloc, "image"))?.arg(names(alloc, "file"))
+}
+
+/// The command of `dump`.
+pub(crate) fn dump_command<'a>(alloc: Global) -> Result<Command<'a>, AllocError>
+    ensures { IfOk result (λ command. app_of command ≡ dump_app) }
+{
+    bare_command(alloc, "dump").arg(names(alloc, "file"))
 }
 
 // Adds the options for what a run may use, and for how often the collector may go round.

@@ -5,16 +5,16 @@ ghost use Rattle.run_words.specs.Limits.{AreOptions, HasGenNumbersWithin, HasNum
 ghost use Rattle.run_words.specs.Limits.{IsGenWithin};
 ghost use Rattle.run_words.specs.Limits.{IsRunWithin, IsWithin};
 ghost use Rattle.run_words.specs.Readings.{AreAccepted};
-ghost use Rattle.run_words.specs.Requests.{Gen, Gives, Image, Load, Replay, Run};
-ghost use Rattle.run_words.specs.Requests.{asked_by, file_of, gen_found, gen_of};
-ghost use Rattle.run_words.specs.Requests.{if_printable, if_some_file, image_of};
+ghost use Rattle.run_words.specs.Requests.{Census, Dump, Gen, Gives, Image, Load, Replay, Run};
+ghost use Rattle.run_words.specs.Requests.{asked_by, dump_of, file_of, gen_found, gen_of};
+ghost use Rattle.run_words.specs.Requests.{if_printable, if_some_file, if_some_name, image_of};
 ghost use Rattle.run_words.specs.Requests.{names_by, request_behind, request_of, run_asked_by};
 ghost use Rattle.run_words.specs.Requests.{run_of, run_with};
 ghost use Rattle.std.specs.Prelude.{IfOk, IfSome, codes, length, map, option_map, string_bytes};
 ghost use Rattle.std.specs.Prelude.{◌≡◌};
 ghost use Rattle.std.specs.Prelude.{◌≤◌};
 
-use crate::commands::{file_command, gen_command, image_command, run_command};
+use crate::commands::{dump_command, file_command, gen_command, image_command, run_command};
 use crate::limits::{CELLS, CLIENTS, COMMANDS, CYCLES, KEEP, MINOR, START, VERSIONS};
 use crate::request::{GenWords, Request, RunWords, WordsFault};
 use crate::values::{flag, matches_on, name, names, number, number_or};
@@ -49,6 +49,8 @@ fn read_behind<'a>(
         "gen" => gen_request(alloc, words),
         "load" => load_request(alloc, words),
         "image" => image_request(alloc, words),
+        "dump" => dump_request(alloc, words),
+        "census" => census_request(alloc, words),
         _ => Err(WordsFault::Usage),
     }
 }
@@ -93,6 +95,28 @@ fn image_request<'a>(alloc: Global, words: &'a [String]) -> Result<Request<'a>, 
 {
     match image_words(alloc, words) {
         Ok(run) => Ok(Request::Image(run)),
+        Err(fault) => Err(fault),
+    }
+}
+
+fn dump_request<'a>(alloc: Global, words: &'a [String]) -> Result<Request<'a>, WordsFault>
+    ensures request { Gives asked_by result
+        (option_map Dump (dump_of (map string_bytes words.entry.now))) }
+    ensures within { IfOk result IsWithin }
+{
+    match dump_words(alloc, words) {
+        Ok(names) => Ok(Request::Dump(names)),
+        Err(fault) => Err(fault),
+    }
+}
+
+fn census_request<'a>(alloc: Global, words: &'a [String]) -> Result<Request<'a>, WordsFault>
+    ensures request { Gives asked_by result
+        (option_map Census (file_of (codes "census") (map string_bytes words.entry.now))) }
+    ensures within { IfOk result IsWithin }
+{
+    match file_words(alloc, "census", words) {
+        Ok(name) => Ok(Request::Census(name)),
         Err(fault) => Err(fault),
     }
 }
@@ -179,6 +203,32 @@ fn some_file(run: RunWords<'_>) -> Result<RunWords<'_>, WordsFault>
         return Err(WordsFault::Usage);
     }
     Ok(run)
+}
+
+// The words behind `dump`.
+fn dump_words<'a>(alloc: Global, words: &'a [String]) -> Result<Vec<&'a str>, WordsFault>
+    ensures names { Gives names_by result (dump_of (map string_bytes words.entry.now)) }
+    ensures some { IfOk result (λ names. 1 ≤ length names.items) }
+{
+    let command = dump_command(alloc)?;
+    match matches_on(command, words) {
+        Ok(matches) => {
+            let names = names(alloc, &matches, "file")?;
+            some_name(names)
+        }
+        Err(fault) => Err(fault),
+    }
+}
+
+// A dump is of a file or more.
+fn some_name(names: Vec<&str>) -> Result<Vec<&str>, WordsFault>
+    ensures names { Gives names_by result (if_some_name (names_by names.entry)) }
+    ensures some { IfOk result (λ names. 1 ≤ length names.items) }
+{
+    if names.is_empty() {
+        return Err(WordsFault::Usage);
+    }
+    Ok(names)
 }
 
 // The words behind a subcommand that takes one file.

@@ -18,6 +18,11 @@ pub enum Request<'a> {
     /// The commands of the scripts in these files are answered, and the heap that they leave is
     /// written in place of the replies. It is asked for neither the history nor the totals.
     Image(RunWords<'a>),
+    /// The commands of the scripts in these files are answered, a client each, and beside them a
+    /// version is dumped.
+    Dump(Vec<&'a str>),
+    /// The heap in the file of this name is counted.
+    Census(&'a str),
 }
 
 /// The words of a run.

@@ -155,6 +155,49 @@ fn a_load_names_one_file(rt: HostRuntime) -> Result<(), Fail> {
     Ok(())
 }
 
+fn is_census_of(alloc: Global, line: &str, file: &str) -> Result<bool, WordsFault> {
+    let words = words_of(alloc, line)?;
+    Ok(match &read_words(alloc, &words)? {
+        Request::Census(name) => *name == file,
+        _ => false,
+    })
+}
+
+#[test]
+fn a_census_names_one_file(rt: HostRuntime) -> Result<(), Fail> {
+    for (line, file) in &[("census a.heap", "a.heap"), ("census -- -a", "-a")] {
+        assert!(rt; is_census_of(rt.alloc(), line, file)?, "at {line:?}");
+    }
+    Ok(())
+}
+
+/// How many files a line has dumped a version of, and whether the last has a given name.
+fn dump_of(alloc: Global, line: &str, last: &str) -> Result<Option<(usize, bool)>, WordsFault> {
+    let words = words_of(alloc, line)?;
+    Ok(match &read_words(alloc, &words)? {
+        Request::Dump(names) => Some((names.len(), names.last().copied() == Some(last))),
+        _ => None,
+    })
+}
+
+const DUMPS: [(&str, usize, &str); 3] = [
+    ("dump a", 1, "a"),
+    ("dump a a b", 3, "b"),
+    ("dump -- -b", 1, "-b"),
+];
+
+#[test]
+fn a_dump_names_a_file_or_more(rt: HostRuntime) -> Result<(), Fail> {
+    for (line, files, last) in &DUMPS {
+        assert_eq!(rt;
+            dump_of(rt.alloc(), line, last)?,
+            Some((*files, true)),
+            "at {line:?}"
+        );
+    }
+    Ok(())
+}
+
 fn gen_of(alloc: Global, line: &str) -> Result<Option<GenWords>, WordsFault> {
     let words = words_of(alloc, line)?;
     Ok(match &read_words(alloc, &words)? {

@@ -17,7 +17,7 @@ use Rattle.script_files.specs.declared.fault.Fault.{Fault}
 use Rattle.script_files.specs.declared.fault.Fault.TheVariants.{TooLarge}
 
 -- some contents that are what is told
-some_told : (told : List (Option (List ℕ)))
+pub some_told : (told : List (Option (List ℕ)))
     → (contents : List (List ℕ)) × AreTold told contents
 some_told [] = ([], tt)
 some_told (None ∷ told) = let others = some_told told in ([] ∷ others.0, (tt, others.1))

@@ -1,0 +1,91 @@
+-- What the file of a request for one file is read as, what is written of it, and how that ends.
+--
+-- What the file holds is told or not.
+-- Source: this project's own.
+use Rattle.std.specs.Prelude.{◌≡◌, ℕ, ◌<◌, List, length, Option, None, Some, IfSome, Err}
+use Rattle.std.specs.Prelude.{◌⊎◌, ◌↔◌}
+use Rattle.doc_tree.specs.Tree.{DocTree}
+use Rattle.heap_census.specs.declared.numbers.Census.{Census}
+use Rattle.run_output.specs.Counted.{census_text_of}
+use Rattle.run_output.specs.Loaded.{loaded_text_of}
+use Rattle.script_files.specs.Counted.{HoldsImage, IsFaultyImage, IsImageFile, OfBytes}
+use Rattle.script_files.specs.Counted.{RefusesBytes}
+use Rattle.script_files.specs.Loaded.{HoldsDump, IsDumpFile, IsDumpRead, IsFaultyDump}
+use Rattle.script_files.specs.Replayed.{IsFaultySchedule, IsReading, IsSchedule, IsTextOf}
+use Rattle.script_files.specs.Scripts.{IsUnhindered, largest_file}
+use Rattle.script_files.specs.Sorts.{Grammar, OfSchedules, OfDumps, OfImages, Refused, Sort}
+use Rattle.script_files.specs.Sorts.{sort_of}
+use Rattle.script_files.specs.declared.fault.Fault.{Fault}
+use Rattle.script_files.specs.declared.fault.Fault.TheVariants.{ReadFault}
+use Rattle.doc_run.specs.Faults.{ByContents, BySort}
+use Rattle.doc_run.specs.Texts.{WritesAll, WritesFront, WritesTextPart}
+
+-- what a file is read as: a schedule is replayed, a dump loaded, the image of a heap counted
+pub data Reading : Type 0 where
+  Schedules : Reading
+  Dumps : Reading
+  Images : Reading
+
+abbrev pub grammar_of : Reading → Grammar
+grammar_of Schedules = OfSchedules
+grammar_of Dumps = OfDumps
+grammar_of Images = OfImages
+
+-- a file within its size that is as it is read
+abbrev pub IsGoodFile : Reading → List ℕ → Type 0
+IsGoodFile Schedules bytes = IsSchedule bytes
+IsGoodFile Dumps bytes = IsDumpFile bytes
+IsGoodFile Images bytes = IsImageFile bytes
+
+-- a file within its size that is not
+abbrev pub IsFaultyFile : Reading → List ℕ → Type 0
+IsFaultyFile Schedules bytes = IsFaultySchedule bytes
+IsFaultyFile Dumps bytes = IsFaultyDump bytes
+IsFaultyFile Images bytes = IsFaultyImage bytes
+
+-- what is written of the file: its replay text, how large the tree of its dump is, or the census of
+-- its heap
+abbrev pub IsAnswerOf : Reading → Option (List ℕ) → List ℕ → Type 0
+IsAnswerOf Schedules told text = IsTextOf told text
+IsAnswerOf Dumps told text =
+    (v : ℕ) × (t : DocTree) × HoldsDump told v t × (text ≡ loaded_text_of v t)
+IsAnswerOf Images told text =
+    (census : Census) × HoldsImage told census × (text ≡ census_text_of census)
+
+-- the file is refused by this fault for what it holds
+abbrev pub Decides : Reading → Option (List ℕ) → Fault → Type 0
+Decides Schedules told fault = IsReading told (Err fault)
+Decides Dumps told fault =
+    IsDumpRead told (Err fault) × IfSome told (λ bytes. IsDumpFile bytes → ⊥)
+Decides Images told fault = OfBytes told (λ bytes. RefusesBytes bytes fault)
+
+-- the status is that which the file calls for
+pub record IsFileDue (reading : Reading) (bytes : List ℕ) (status : ℕ) : Type 0 where
+  -- refused for a fault of its grammar
+  pub faulty : (status ≡ 2) ↔ (IsUnhindered status × IsFaultyFile reading bytes)
+  -- refused for too many bytes
+  pub large : (status ≡ 6) ↔ (IsUnhindered status × (largest_file < length bytes))
+  -- not refused: done, or a device failed, or memory was wanting
+  pub complete : IsGoodFile reading bytes
+      → (status ≡ 0) ⊎ (status ≡ 3) ⊎ (status ≡ 4) ⊎ (status ≡ 5)
+
+-- a fault of this sort decides it, and one of a line is of the grammar of the reading
+abbrev pub ByReading : Reading → Sort → Type 0 → Type 0
+ByReading reading sort Decided =
+    ByContents sort (λ grammar. (grammar ≡ grammar_of reading) × Decided) Decided
+
+-- what an ending says of the file
+abbrev pub ExplainsFile : Reading → Option (List ℕ) → Option Fault → Type 0
+ExplainsFile reading told None = Unit {0}
+ExplainsFile reading told (Some fault) =
+    BySort (sort_of fault)
+    (Refused (grammar_of reading) (sort_of fault) (Decides reading told fault)
+    (fault ≡ ReadFault 1)) (Unit {0}) (Unit {0})
+
+-- what an ending says of what was written
+abbrev pub WritesFile : Reading → Option (List ℕ) → Option (List ℕ) → Option (List ℕ)
+    → Option Fault → Type 0
+WritesFile reading told old new None = WritesAll (IsAnswerOf reading told) old new
+WritesFile reading told old new (Some fault) =
+    BySort (sort_of fault) (new ≡ old) (WritesFront (IsAnswerOf reading told) old new)
+    (WritesTextPart (IsAnswerOf reading told) old new)
