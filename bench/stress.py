@@ -7,7 +7,8 @@ N runs of each kind; a run is made again by its kind and its seed. Some kinds ar
 --only names them: 64 clients with 1,500 commands each on 64 cells, of all kinds or puts and gets
 alone, 2 to 64 clients, a batch of 1,000 edits beside four clients that commit, and every damage of
 a small image. Kinds with batches have scripts of version 2, some beside scripts of version 1; long
-batches outgrow the private heap, so the session collects between edits.
+batches outgrow the private heap, so its records age or are collected between edits. In one kind
+drafts do, some with so many records that an ageing leaves too little room.
 
 The checker shares nothing with the program: it reads the scripts by the grammar, folds the merged
 history over whole trees, and compares each reply; it compares the history with the clients' own
@@ -227,6 +228,28 @@ def second_scripts_of(r, clients, commands, names, most):
         second_command(r, names, most) + "\n" for _ in range(commands)) for one in first]
 
 
+def draft_command(r, names, longest):
+    """A command of version 2 on a draft with these names, or a batch that publishes it."""
+    x, name = r.random(), r.choice(names)
+    if x < 0.80:
+        return f"dput {name} {quoted('t' * r.randint(0, longest))}"
+    if x < 0.88:
+        return f"dget {name}"
+    if x < 0.92:
+        edits = [f"put q/{r.choice(names)} {quoted('b' * r.randint(0, longest))}"
+                 for _ in range(r.randint(1, 80))]
+        return "\n".join(["begin", *edits, "publish p", "commit"])
+    return r.choice(("publish p", "take p", f"get p/{name}", "size p"))
+
+
+def drafts_of(r, clients, commands):
+    """Scripts whose drafts have from a tenth to nearly all of the records of a private heap."""
+    names = [f"n{k}" for k in range(r.choice((60, 120, 200, 250)))]
+    longest = r.choice((0, 40, 150, 300))
+    return ["docs 2\n" + "".join(draft_command(r, names, longest) + "\n" for _ in range(commands))
+            for _ in range(clients)]
+
+
 # Each kind gives its scripts, the cells, how many versions stay, and the number of the last one.
 MILLION = 1_000_000
 KINDS = {
@@ -255,6 +278,8 @@ KINDS = {
         second_scripts_of(r, 2, 40, "abc", 4), 16_384, r.randint(1, 100), r.randint(1, 20)),
     "4 clients, long batches": lambda r: (
         second_scripts_of(r, 4, 8, "abcdefgh", 400), 65_536, 2, MILLION),
+    "1 to 4 clients, drafts that nearly fill the private heap": lambda r: (
+        drafts_of(r, r.randint(1, 4), 500), 65_536, r.randint(1, 4), MILLION),
 }
 
 

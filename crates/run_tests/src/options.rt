@@ -78,18 +78,20 @@ fn name_shown<R: Threads + Wait + Sync>(
     shown_by(alloc, rt, &all, &script, &output)
 }
 
-// The empty draft is one record, the first put makes five, and each further one four. Records are
-// collected before an edit for which fewer than 2,285 are free, and the draft then takes five cells:
-// so it is behind 453 puts in a room for 4,096, which have made 1,814, and not behind 452.
+// The empty draft is one record, the first put makes five, and each further one four. Records age
+// before an edit for which fewer than 2,285 are free: in a room for 4,096 before put 454, when 1,814
+// have been made. Five are left, those of the draft. Before put 906 they and what was made since are
+// 1,813, and since they have aged, they are collected: the draft then takes five cells.
 #[test]
 fn records_are_collected_by_the_room_that_was_asked_for(rt: HostRuntime) -> Result<(), Fail> {
     let table = [
-        ("4096", 453, 0),
-        ("4096", 454, 5),
-        ("4100", 454, 0),
-        ("4100", 455, 5),
-        ("8192", 1_477, 0),
-        ("8192", 1_478, 5),
+        ("4096", 500, 0),
+        ("4096", 905, 0),
+        ("4096", 906, 5),
+        ("4100", 907, 0),
+        ("4100", 908, 5),
+        ("8192", 2_953, 0),
+        ("8192", 2_954, 5),
     ];
     for (minor, count, claimed) in table {
         let shown = name_shown(rt.alloc(), &rt, minor, count, claimed)?;
