@@ -85,7 +85,7 @@ module _ (s : State) (l : Lore) (z i : ℕ) (fresh : l.fresh z ≡ Some i) where
         ≡ put (boxes_of s l) z (Some (payload_of s l z))
     shown_is = λ i x. shown_at x i
 
-module _ {fixed : ℕ → Bool} (s : State) (l : Lore) (facts : Facts fixed s l) where
+module _ (fixed : ℕ → Bool) (s : State) (l : Lore) (facts : Facts fixed s l) where
   pub no_term : (x : ℕ) → Reachable s x → is_box_kind (field_of s x 5) ≡ true → l.terms x ≡ None
   no_term x r box =
       subst (λ (b : Bool). TermFits b l.terms (field_of s x) (l.terms x))
@@ -157,10 +157,10 @@ null_rows zero k f = refl
 null_rows (suc n) zero f = everywhere 6 f
 null_rows (suc n) (suc k) f = null_rows n k f
 
-pub as_many : {P : Type 0} (opens : ℕ → ℕ → P) (setting number n : ℕ)
+pub as_many_open : {P : Type 0} (opens : ℕ → ℕ → P) (setting number n : ℕ)
     → length (passes_from opens setting number n) ≡ n
-as_many opens setting number zero = refl
-as_many opens setting number (suc n) = ap suc (as_many opens setting (number + 1) n)
+as_many_open opens setting number zero = refl
+as_many_open opens setting number (suc n) = ap suc (as_many_open opens setting (number + 1) n)
 
 same_self : (value : Field) → Rattle.core_machine.specs.Words.same_field value value ≡ true
 same_self field.Null = refl

@@ -20,7 +20,7 @@ use Rattle.mail_rule.specs.Mail.{HasPosition, HoldsMail, IsItem, IsOwn, IsSigned
 use Rattle.mail_rule.specs.Opening.{OpensMail, first_rows, first_terms}
 use Rattle.mail_rule.specs.Passes.{opening_pass}
 use Rattle.mail_rule.specs.declared.mail_pass.MailPass.{MailPass}
-use Rattle.mail_rule.proofs.Moved.{as_many, null_rows, same_entry, some_is}
+use Rattle.mail_rule.proofs.Moved.{as_many_open, null_rows, same_entry, some_is}
 
 -- the terms are those of the first rows, which have none
 pub firsts : FirstTerms first_rows first_terms
@@ -103,7 +103,7 @@ module _ (cells : ℕ) (rooms : List ℕ) (known : ℕ) where
   opens_mail setting mutators few = record {
     letters = [];
     takers = [];
-    few = subst (λ (n : ℕ). n ≤ 64) (sym (as_many opening_pass setting 0 mutators)) few;
+    few = subst (λ (n : ℕ). n ≤ 64) (sym (as_many_open opening_pass setting 0 mutators)) few;
     signed = All-nil (IsSigned (length (passes_from opening_pass setting 0 mutators)));
     received = All-nil (λ (number : ℕ).
     number < length (passes_from opening_pass setting 0 mutators));

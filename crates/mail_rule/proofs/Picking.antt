@@ -88,7 +88,7 @@ module _ (v : View MailPass) (s : State) (l : Lore) (passes : List MailPass)
         (slice_set passes v.number (having_sent sent v.pass))
     sent_stands null_there =
         let entry : entry_of l.terms (field.Cell z) ≡ Named z =
-        ap (named_or z) (no_term s l mine.shown.facts z new_reached fresh_known.0) in
+        ap (named_or z) (no_term is_fixed s l mine.shown.facts z new_reached fresh_known.0) in
         let one : sent ≡ record { position = may.last.position + 1; value = sent.value } =
         (λ t. record { position = may.follows t; value = sent.value }) in
         subst (λ (m : Map). HoldsMail
@@ -158,11 +158,11 @@ module _ (v : View MailPass) (s : State) (l : Lore) (passes : List MailPass)
         (slice_set passes v.number (having_taken item v.pass))
     taken_stands there =
         let entry : entry_of l.terms (field.Cell d) ≡ Named d =
-        ap (named_or d) (no_term s l mine.shown.facts d next_seen.in_is.reached
+        ap (named_or d) (no_term is_fixed s l mine.shown.facts d next_seen.in_is.reached
         next_seen.in_is.box) in
         let names : h.latest.anchor 0 ≡ Named b =
         sym (anchor_entry v s l passes mine h) ∙ ap (entry_of l.terms) there
-        ∙ ap (named_or b) (no_term s l mine.shown.facts b before_seen.in_is.reached
+        ∙ ap (named_or b) (no_term is_fixed s l mine.shown.facts b before_seen.in_is.reached
         before_seen.in_is.box) in
         subst (λ (m : Map). HoldsMail (written_map m 0 0 (entry_of l.terms (field.Cell d)))
         (slice_set passes v.number (having_taken item v.pass)))

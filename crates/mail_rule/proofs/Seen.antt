@@ -39,7 +39,7 @@ pub record Seen (s : State) (l : Lore) (x : ℕ) (item : Item) : Type 0 where
   pub sender_is : payload_of s l x 1 ≡ Plain (num item.sender)
   pub value_is : payload_of s l x 2 ≡ Plain (num item.value)
 
-pub position_seen : (s : State) (l : Lore) (x : ℕ) (item : Item) → Seen s l x item
+abbrev pub position_seen : (s : State) (l : Lore) (x : ℕ) (item : Item) → Seen s l x item
     → HasPosition (boxes_of s l) x item.position
 position_seen s l x item seen = record {
   box = payload_of s l x;
@@ -114,7 +114,7 @@ module _ (v : View MailPass) (s : State) (l : Lore) (passes : List MailPass)
       has.there) in
       record {
         told = five_plain (payload_of s l x);
-        is = learned_box s l mine.shown.facts x in_is other;
+        is = learned_box is_fixed s l mine.shown.facts x in_is other;
         position_is = ap plain (entry 0 ∙ is.position_is);
         sender_is = ap plain (entry 1 ∙ is.sender_is);
         value_is = ap plain (entry 2 ∙ is.value_is);
@@ -169,7 +169,7 @@ module _ (v : View MailPass) (s : State) (l : Lore) (passes : List MailPass)
     number_is : (f n : ℕ) → payload_of s l x f ≡ Plain (num n)
         → found_by s (event.Read v.number place f) ≡ finds.Field (field.Num n)
     number_is f n is = ap finds.Field
-        (number_word s l mine.shown.facts x f n seen.in_is.reached is)
+        (number_word is_fixed s l mine.shown.facts x f n seen.in_is.reached is)
 
     pub tells_position : found_by s (event.Read v.number place 0)
         ≡ finds.Field (field.Num item.position)
@@ -198,7 +198,7 @@ module _ (v : View MailPass) (s : State) (l : Lore) (passes : List MailPass)
     tells_next = elim (item_of (boxes_of s l) passes h x item.position
         (position_seen s l x item seen)).next [
       | inl end ↦ inl (ap finds.Field
-          (null_word s l mine.shown.facts x 3 seen.in_is.reached end.none))
+          (null_word is_fixed s l mine.shown.facts x 3 seen.in_is.reached end.none))
       | inr next ↦ inr (follows_tells next)
     ]
 
