@@ -7,7 +7,7 @@ use Rattle.doc_model.specs.Answers.{is_full}
 use Rattle.doc_model.specs.declared.command.Entry.{Entry}
 use Rattle.trails.specs.Asks.{Grown, Meets, gave_at}
 use Rattle.trails.specs.Claims.{IsFull}
-use Rattle.trails.specs.Marks.{Mark, saw, looked, tried}
+use Rattle.trails.specs.Marks.{Mark, saw, wrote, looked, tried}
 use Rattle.trails.specs.Stretches.{Had, InTurn}
 use Rattle.trails.proofs.Counts.{order_counted, turns_counted}
 use Rattle.trails.proofs.Stretches.{turns_grown, turns_inner, turns_some}
@@ -33,6 +33,7 @@ anchor_seen : (cell : ℕ) (mark : Mark) → Meets (gave_at 0 0 (field.Cell cell
     → is_anchor_read mark ≡ true
 anchor_seen cell (saw other place found) meets =
     ap (λ (n : ℕ). (n == 0) && (place == 0)) meets.0 ∙ ap (λ (n : ℕ). (0 == 0) && (n == 0)) meets.1
+anchor_seen cell (wrote other place old new found) meets = absurd meets
 anchor_seen cell (looked control) meets = absurd meets
 anchor_seen cell (tried other found) meets = absurd meets
 

@@ -7,13 +7,14 @@ use Rattle.doc_model.specs.declared.command.Entry.{Entry}
 use Rattle.doc_model.specs.declared.command.Reply.{Reply}
 use Rattle.doc_model.specs.declared.command.Reply.TheVariants as reply
 use Rattle.trails.specs.Claims.{IsFull}
-use Rattle.trails.specs.Marks.{Mark, saw, looked, tried}
+use Rattle.trails.specs.Marks.{Mark, saw, wrote, looked, tried}
 use Rattle.trails.specs.Stretches.{InTurn}
 use Rattle.client_turns.specs.Demands.{ReadsShown, is_drafting}
 
 -- a read of the anchor's field
 abbrev pub is_anchor_read : Mark → Bool
 is_anchor_read (saw cell field found) = (cell == 0) && (field == 0)
+is_anchor_read (wrote cell field old new found) = false
 is_anchor_read (looked control) = false
 is_anchor_read (tried cell found) = false
 

@@ -7,9 +7,9 @@ use Rattle.heap_rule.specs.Boxes.{boxes_of, payload_of}
 use Rattle.heap_rule.specs.Facts.{Facts}
 use Rattle.heap_rule.specs.Lore.{Lore}
 use Rattle.heap_rule.proofs.Maps.{In, in_map, of_map}
-use Rattle.version_rule.specs.Shrinks.{same_entry}
+use Rattle.heap_rule.proofs.Entries.{same_entry}
 use Rattle.version_rule.specs.Versions.{HasLatest, is_fixed}
-use Rattle.version_rule.proofs.States.{null_word}
+use Rattle.heap_rule.proofs.EntryWords.{null_word}
 
 -- what stands in the anchor beside the latest version
 pub record IsBare (s : State) : Type 0 where
@@ -22,7 +22,7 @@ anchor_bare s l number facts latest =
     let there : In s l 0 = of_map s l 0 latest.anchor latest.there in
     record {
       kind = box_kind (field_of s 0 5) there.box;
-      others = λ f low lt. null_word s l facts 0 f there.reached
+      others = λ f low lt. null_word is_fixed s l facts 0 f there.reached
           (same_entry (boxes_of s l) 0 f (payload_of s l 0) latest.anchor (in_map s l 0 there)
           latest.there ∙ latest.others f low lt);
     }

@@ -26,11 +26,11 @@ use Rattle.heap_rule.specs.declared.view.View.{View}
 use Rattle.heap_rule.proofs.Maps.{In, entry_names, in_map, of_map}
 use Rattle.version_rule.specs.Chains.{Chain, Stays, last, more}
 use Rattle.version_rule.specs.Pass.{Pass}
-use Rattle.version_rule.specs.Shrinks.{num_inj, same_entry}
+use Rattle.heap_rule.proofs.Entries.{num_inj, same_entry}
 use Rattle.version_rule.specs.Versions.{HoldsVersions, IsVersion, is_fixed}
 use Rattle.version_rule.proofs.Passing.{version_of}
 use Rattle.version_rule.proofs.Reached.{only_these}
-use Rattle.version_rule.proofs.States.{null_word, number_word, record_word}
+use Rattle.heap_rule.proofs.EntryWords.{null_word, number_word, record_word}
 use Rattle.version_rule.proofs.Staying.{chain_stays}
 use Rattle.closed_store.proofs.Anchored.{box_in, from_anchor}
 use Rattle.closed_store.proofs.Denoting.{box_kind, denotes}
@@ -46,7 +46,7 @@ module _ (s : State) (l : Lore) (facts : Facts is_fixed s l) (passes : List Pass
     entry f = same_entry (boxes_of s l) cell f (payload_of s l cell) box (in_map s l cell there) at
 
     null_there : (f : ℕ) → box f ≡ Plain null → field_of s cell f ≡ field.Null
-    null_there f is = null_word s l facts cell f there.reached (entry f ∙ is)
+    null_there f is = null_word is_fixed s l facts cell f there.reached (entry f ∙ is)
 
     named_there : (f other : ℕ) → box f ≡ Named other
         → field_of s cell f ≡ field.Cell other
@@ -59,11 +59,11 @@ module _ (s : State) (l : Lore) (facts : Facts is_fixed s l) (passes : List Pass
         version_of IsTreeNode tree_of (boxes_of s l) passes h cell box number at is in
         let same : version.number ≡ number =
         num_inj version.number number (sym version.number_is ∙ is) in
-        let root = record_word s l facts cell 1 version.root
+        let root = record_word is_fixed s l facts cell 1 version.root
         (node_is_record version.root version.spells) (entry 1 ∙ version.root_is) in
         record {
           kind = box_kind (field_of s cell 5) there.box;
-          number_is = number_word s l facts cell 0 number there.reached (entry 0 ∙ is);
+          number_is = number_word is_fixed s l facts cell 0 number there.reached (entry 0 ∙ is);
           root = root.0;
           names = root.1.0;
           term = version.root;

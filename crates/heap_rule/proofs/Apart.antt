@@ -1,7 +1,7 @@
 -- A cell that is blue stands at no place of a mutator, since no reachable cell is; and what is known
 -- of two places of one cell agrees, since both is so.
-use Rattle.std.proofs.Common.{◌≡◌, ℕ, suc, Bool, true, false, List, [], ◌∷◌, length}
-use Rattle.std.proofs.Common.{slice_index_or, Some, refl, sym, ◌∙◌, ap, subst}
+use Rattle.std.proofs.Common.{◌≡◌, ℕ, Bool, true, false, List}
+use Rattle.std.proofs.Common.{slice_index_or, Some, refl, sym, ◌∙◌, subst}
 use Rattle.cell_words.specs.declared.colours.Colour.TheVariants as colour
 use Rattle.cell_words.specs.declared.fields.Field.{Field}
 use Rattle.cell_words.specs.declared.fields.Field.TheVariants as field
@@ -11,21 +11,15 @@ use Rattle.core_machine.specs.State.{State, colour_of, field_of}
 use Rattle.core_machine.specs.Words.{is_box_kind}
 use Rattle.dlg_core.proofs.Safety.{consistent_safe}
 use Rattle.heap_rule.specs.Apart.{IsNewTo, KnowsNoOther}
-use Rattle.heap_rule.specs.Facts.{AllKnown, IsKnown}
+use Rattle.heap_rule.specs.Facts.{IsKnown}
 use Rattle.heap_rule.specs.Lore.{Lore, cells_in, has, known_at}
 use Rattle.heap_rule.specs.Steps.{Mine}
 use Rattle.heap_rule.specs.declared.known.Known.{Known}
 use Rattle.heap_rule.specs.declared.known.Known.TheVariants as knows
 use Rattle.heap_rule.specs.declared.view.View.{View}
 use Rattle.heap_rule.proofs.Lists.{all_at, reached_held}
+use Rattle.heap_rule.proofs.Many.{as_many}
 use Rattle.heap_rule.proofs.Seats.{all_mine}
-
-as_many : (K : ℕ → Known → Type 0) (cells : List ℕ) (known : List Known) → AllKnown K cells known
-    → length known ≡ length cells
-as_many K [] [] all = refl
-as_many K [] (k ∷ known) all = absurd all
-as_many K (c ∷ cells) [] all = absurd all
-as_many K (c ∷ cells) (k ∷ known) all = ap suc (as_many K cells known all.1)
 
 -- a record is no box
 no_box : (kind : Field) → kind ≡ field.Num 1 → is_box_kind kind ≡ true → ⊥

@@ -25,11 +25,9 @@ use Rattle.heap_rule.specs.Steps.{Mine}
 use Rattle.heap_rule.specs.declared.known.Known.{Known}
 use Rattle.heap_rule.specs.declared.known.Known.TheVariants as knows
 use Rattle.heap_rule.specs.declared.view.View.{View}
+use Rattle.heap_rule.proofs.EntryWords.{not_some}
 use Rattle.heap_rule.proofs.Lists.{all_changed}
 use Rattle.heap_rule.proofs.Seats.{all_mine, knows_place, reached_place, target_now}
-
-not_some : {A : Type 0} (a : A) (o : Option A) → o ≡ None → o ≡ Some a → ⊥
-not_some a o none some = let e : None ≡ Some a = sym none ∙ some in cc
 
 -- field f of the five is the term of that entry
 part_is : (terms : Terms) (row : ℕ → Field) (f : ℕ) → f ≤ 4

@@ -9,6 +9,7 @@ pub mod Moves
 pub mod NoRule
 pub mod Opening
 pub mod Parts
+pub mod Reads
 pub mod Rule
 pub mod Settled
 pub mod Shape

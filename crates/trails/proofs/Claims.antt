@@ -27,6 +27,7 @@ event_shown : (own : Own) (cell : ℕ) (e : Event) (found : Found)
 event_shown own cell (event.Claim i other) found = claim_shown cell other found
 event_shown own cell (event.Look i) (finds.Control found) = refl
 event_shown own cell (event.Read i place f) (finds.Field found) = refl
+event_shown own cell (event.Write i place f old new) (finds.Field found) = refl
 event_shown own cell e found = refl
 
 pub used_shown : (own : Own) (cell : ℕ) (ts : List Taken)

@@ -3,8 +3,9 @@ use Rattle.std.proofs.Common.{ℕ, List, [], ◌∷◌, ◌++◌, refl, sym, ◌
 use Rattle.std.proofs.lemmas.List.{append_assoc, append-nil}
 use Rattle.cell_words.specs.declared.colours.Colour.{Colour}
 use Rattle.cell_words.specs.declared.controls.Control.{Control}
-use Rattle.trails.specs.Asks.{Ask, gave, gave_at, Meets, InOrder, nothing, pass, here, Shows, Grown}
-use Rattle.trails.specs.Marks.{Mark, saw, looked, tried}
+use Rattle.trails.specs.Asks.{Ask, gave, gave_at, wrote_at, Meets, InOrder, nothing, pass, here}
+use Rattle.trails.specs.Asks.{Shows, Grown}
+use Rattle.trails.specs.Marks.{Mark, saw, wrote, looked, tried}
 use Rattle.trails.specs.Telling.{Due, Tells, Begins, Keeps}
 use Rattle.trails.proofs.Orders.{order_after, order_append, order_back}
 
@@ -47,26 +48,32 @@ keeps_tells keeps all rest due =
 -- The other direction: the old marks are all spent on asks of their own, so what is told stands in
 -- what was added.
 
--- an ask for every read among the marks
+-- an ask for every read and write among the marks
 abbrev asks_of : List Mark → List Ask
 asks_of [] = []
 asks_of (saw cell field found ∷ marks) = gave_at cell field found ∷ asks_of marks
+asks_of (wrote cell field old new found ∷ marks) =
+    wrote_at cell field old new found ∷ asks_of marks
 asks_of (looked control ∷ marks) = asks_of marks
 asks_of (tried cell found ∷ marks) = asks_of marks
 
 asks_shown : (marks : List Mark) → InOrder (asks_of marks) marks
 asks_shown [] = nothing
 asks_shown (saw cell field found ∷ marks) = here (refl, refl, refl) (asks_shown marks)
+asks_shown (wrote cell field old new found ∷ marks) =
+    here (refl, refl, refl, refl, refl) (asks_shown marks)
 asks_shown (looked control ∷ marks) = pass (asks_shown marks)
 asks_shown (tried cell found ∷ marks) = pass (asks_shown marks)
 
 never_looked : (control : Control) (ask : Ask) → Meets ask (looked control) → ⊥
 never_looked control (gave value) meets = meets
 never_looked control (gave_at cell field value) meets = meets
+never_looked control (wrote_at cell field old new value) meets = meets
 
 never_tried : (cell : ℕ) (found : Colour) (ask : Ask) → Meets ask (tried cell found) → ⊥
 never_tried cell found (gave value) meets = meets
 never_tried cell found (gave_at other field value) meets = meets
+never_tried cell found (wrote_at other field old new value) meets = meets
 
 -- a mark that meets no ask is passed
 order_skip : {asks : List Ask} {mark : Mark} {marks : List Mark}
@@ -84,6 +91,12 @@ order_behind (saw cell field found ∷ old) asks added (pass rest) =
     order_behind old asks added
     (order_back (gave_at cell field found ∷ []) (asks_of old ++ asks) (old ++ added) rest)
 order_behind (saw cell field found ∷ old) asks added
+    (here meets rest) = order_behind old asks added rest
+order_behind (wrote cell field before after found ∷ old) asks added (pass rest) =
+    order_behind old asks added
+    (order_back (wrote_at cell field before after found ∷ []) (asks_of old ++ asks)
+    (old ++ added) rest)
+order_behind (wrote cell field before after found ∷ old) asks added
     (here meets rest) = order_behind old asks added rest
 order_behind (looked control ∷ old) asks added shown =
     order_behind old asks added (order_skip (never_looked control) shown)

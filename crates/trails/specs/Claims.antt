@@ -16,7 +16,7 @@ use Rattle.core_machine.specs.declared.events.Found.TheVariants as finds
 use Rattle.core_machine.specs.declared.events.Event.{Event}
 use Rattle.core_machine.specs.declared.events.Event.TheVariants as event
 use Rattle.core_machine.specs.declared.events.Taken.{Taken}
-use Rattle.trails.specs.Marks.{Mark, saw, looked, tried}
+use Rattle.trails.specs.Marks.{Mark, saw, wrote, looked, tried}
 
 -- the cycles that are ended or under way
 abbrev pub begun_at : Stage → ℕ → ℕ
@@ -47,6 +47,7 @@ is_used colour.Black = true
 abbrev pub found_used : ℕ → Mark → Bool
 found_used cell (tried other found) = (other == cell) && is_used found
 found_used cell (saw other field found) = false
+found_used cell (wrote other field old new found) = false
 found_used cell (looked control) = false
 
 abbrev pub was_used : ℕ → List Mark → Bool
@@ -57,6 +58,7 @@ abbrev pub began : List Mark → ℕ
 began [] = 0
 began (looked control ∷ marks) = begun_of control
 began (saw cell field found ∷ marks) = began marks
+began (wrote cell field old new found ∷ marks) = began marks
 began (tried cell found ∷ marks) = began marks
 
 -- a look decided, and behind it each cell was found used

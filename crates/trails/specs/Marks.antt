@@ -1,9 +1,9 @@
--- What a mutator's trail shows of the heap: the fields that it read, each with the cell that it
--- was read from, the looks, and the claims that were tried.
+-- What a mutator's trail shows of the heap: the fields that it read or wrote, each with the cell
+-- that it is of, the looks, and the claims that were tried.
 --
--- A read names a place of the held list. Which cell stood there follows from the events before it,
--- since each of them changes the own part by what it found alone. So whoever has a trail has the
--- cells. A trail is one maker's, so a mark does not say whose it is.
+-- A read or a write names a place of the held list. Which cell stood there follows from the events
+-- before it, since each of them changes the own part by what it found alone. So whoever has a trail
+-- has the cells. A trail is one maker's, so a mark does not say whose it is.
 -- Source: this project's.
 use Rattle.std.specs.Prelude.{ℕ, List, [], ◌∷◌, ◌++◌}
 use Rattle.cell_words.specs.declared.colours.Colour.{Colour}
@@ -20,6 +20,9 @@ use Rattle.core_machine.specs.Places.{cell_at}
 pub data Mark : Type 0 where
   -- this field of this cell held this
   saw : (cell field : ℕ) → Field → Mark
+  -- this field of this cell was to have the new value over the old one, and held this before: it
+  -- was written where it held the old one
+  wrote : (cell field : ℕ) → (old new found : Field) → Mark
   -- the control was this
   looked : Control → Mark
   -- the cell had this colour, and was claimed where it was blue
@@ -30,6 +33,10 @@ pub data Mark : Type 0 where
 abbrev pub read_mark : ℕ → ℕ → Found → List Mark
 read_mark cell f (finds.Field found) = saw cell f found ∷ []
 read_mark cell f _ = []
+
+abbrev pub write_mark : ℕ → ℕ → Field → Field → Found → List Mark
+write_mark cell f old new (finds.Field found) = wrote cell f old new found ∷ []
+write_mark cell f old new _ = []
 
 abbrev pub look_mark : Found → List Mark
 look_mark (finds.Control found) = looked found ∷ []
@@ -43,6 +50,8 @@ claim_mark cell _ = []
 abbrev pub mark_of : Own → Event → Found → List Mark
 mark_of own (event.Look i) found = look_mark found
 mark_of own (event.Read i place f) found = read_mark (cell_at own.held place) f found
+mark_of own (event.Write i place f old new) found =
+    write_mark (cell_at own.held place) f old new found
 mark_of own (event.Claim i cell) found = claim_mark cell found
 mark_of own _ found = []
 

@@ -15,6 +15,7 @@ use Rattle.mutator_seat.specs.Stretches.{Calm, LookAndAnswer}
 use Rattle.trails.specs.Asks.{Grown}
 use Rattle.trails.specs.Claims.{look_of}
 use Rattle.trails.specs.Marks.{Mark, looked, marks_from, marks_of, saw, tried}
+use Rattle.trails.specs.Marks.{wrote}
 use Rattle.trails.proofs.Marks.{marks_append}
 use Rattle.version_dump.proofs.Orders.{same_equal}
 use Rattle.version_rule.specs.Pass.{Pass}
@@ -28,6 +29,7 @@ use Rattle.version_export.specs.Still.{Keeps}
 looks_append : (a b : List Mark) → looks (a ++ b) ≡ looks a + looks b
 looks_append [] b = omega arith
 looks_append (saw cell field found ∷ a) b = looks_append a b
+looks_append (wrote cell field old new found ∷ a) b = looks_append a b
 looks_append (looked control ∷ a) b = let rest = looks_append a b in omega (arith, rest)
 looks_append (tried cell colour ∷ a) b = looks_append a b
 

@@ -2,11 +2,12 @@
 -- Source: this project's own.
 use Rattle.std.specs.Prelude.{ℕ, ◌+◌, List, [], ◌∷◌, Option, Some, None}
 use Rattle.doc_tree.specs.Tree.{DocTree, Kids, child, count}
-use Rattle.trails.specs.Marks.{Mark, looked, saw, tried}
+use Rattle.trails.specs.Marks.{Mark, looked, saw, tried, wrote}
 
 abbrev pub looks : List Mark → ℕ
 looks [] = 0
 looks (saw cell field found ∷ marks) = looks marks
+looks (wrote cell field old new found ∷ marks) = looks marks
 looks (looked control ∷ marks) = looks marks + 1
 looks (tried cell colour ∷ marks) = looks marks
 

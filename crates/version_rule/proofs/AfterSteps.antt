@@ -1,9 +1,9 @@
 -- What a seat shows after a step on versions.
-use Rattle.std.proofs.Common.{◌≡◌, ◌+◌, ◌-◌, ℕ, suc, Bool, true, false}
-use Rattle.std.proofs.Common.{List, [], ◌∷◌, ◌++◌, length, max, slice_index_or}
+use Rattle.std.proofs.Common.{◌≡◌, ◌+◌, ◌-◌, ℕ, Bool, true, false}
+use Rattle.std.proofs.Common.{List, [], ◌∷◌, ◌++◌, length, max}
 use Rattle.std.proofs.Common.{inl, inr, refl, sym, ◌∙◌, ap, subst, arith}
 use Rattle.std.proofs.lemmas.Bool.{eq-eqb}
-use Rattle.std.proofs.lemmas.List.{append_assoc, get_or_push, length-map, length_push}
+use Rattle.std.proofs.lemmas.List.{append_assoc, get_or_push, length_push}
 use Rattle.cell_words.specs.declared.fields.Field.{Field}
 use Rattle.cell_words.specs.declared.fields.Field.TheVariants as field
 use Rattle.cell_words.specs.Field.{pack_field_of}
@@ -14,23 +14,20 @@ use Rattle.core_machine.specs.declared.events.Found.{Found}
 use Rattle.core_machine.specs.declared.events.Found.TheVariants as finds
 use Rattle.core_machine.specs.declared.places.Held.{Held}
 use Rattle.core_machine.specs.Next.{found_by}
-use Rattle.core_machine.specs.Own.{Own, having_read_by}
+use Rattle.core_machine.specs.Own.{having_read_by}
 use Rattle.core_machine.specs.declared.events.Taken.{Taken}
 use Rattle.core_machine.specs.Places.{found_at, no_place}
 use Rattle.core_machine.specs.State.{State, field_of, target_of}
-use Rattle.core_machine.specs.WordOperations.{IsPackedAs}
 use Rattle.core_machine.specs.Words.{same_field}
 use Rattle.core_machine.proofs.WordOperations.{same_packed}
 use Rattle.dlg_core.proofs.Keeps.Write.{same_field_is}
 use Rattle.doc_tree.specs.Tree.{DocTree}
-use Rattle.heap_rule.specs.Asks.{known_of, target}
+use Rattle.heap_rule.specs.Asks.{target}
 use Rattle.heap_rule.specs.Boxes.{Map}
-use Rattle.heap_rule.specs.Facts.{AllKnown, IsKnown}
-use Rattle.heap_rule.specs.Lore.{Lore, at_cell, cells_in, cells_of, known_at, known_read, learned}
+use Rattle.heap_rule.specs.Lore.{Lore, at_cell, learned}
 use Rattle.heap_rule.specs.Rule.{told, took}
 use Rattle.heap_rule.specs.Steps.{AtStep, Mine, same_pass}
 use Rattle.heap_rule.specs.declared.known.Known.{Known}
-use Rattle.heap_rule.specs.declared.known.Known.TheVariants as knows
 use Rattle.heap_rule.specs.declared.known.Learned.{Learned}
 use Rattle.heap_rule.specs.declared.view.View.{View}
 use Rattle.trails.specs.Asks.{here, nothing}
@@ -39,71 +36,20 @@ use Rattle.version_rule.specs.Knowing.{link_seen}
 use Rattle.version_rule.specs.Knowing.{MayCommit, link_taken, made_or_seen, next_made}
 use Rattle.version_rule.specs.Knowing.{root_told, tree_read}
 use Rattle.version_rule.specs.Pass.{Pass, cutting, reading, seeing}
-use Rattle.version_rule.specs.Shows.{HasRead, ReadsLatest, ShowsCommit, ShowsLatest, ShowsLink}
+use Rattle.version_rule.specs.Shows.{ReadsLatest, ShowsCommit, ShowsLatest, ShowsLink}
 use Rattle.version_rule.specs.Shows.{ShowsNumber}
 use Rattle.version_rule.specs.Shows.{ShowsRoot}
 use Rattle.version_rule.specs.Versions.{HoldsVersions, is_fixed}
 use Rattle.version_rule.proofs.Reading.{here_known, number_known, root_known, tells_latest}
+use Rattle.heap_rule.proofs.AfterReads.{found_known, has_read}
 use Rattle.heap_rule.proofs.Seats.{target_now}
 use Rattle.version_rule.proofs.Writing.{low_now}
 use Rattle.version_rule.proofs.Reading.{tells_link, tells_number, tells_root}
 
--- As much is known as there are places.
-
-as_many : (K : ℕ → Known → Type 0) (cells : List ℕ) (known : List Known) → AllKnown K cells known
-    → length known ≡ length cells
-as_many K [] [] all = refl
-as_many K [] (k ∷ known) all = absurd all
-as_many K (c ∷ cells) [] all = absurd all
-as_many K (c ∷ cells) (k ∷ known) all = ap suc (as_many K cells known all.1)
-
-at_cell_many : (change : Known → Known) (c : ℕ) (cells : List ℕ) (known : List Known)
-    → length known ≡ length cells → length (at_cell change c cells known) ≡ length known
-at_cell_many change c [] known same = refl
-at_cell_many change c (d ∷ cells) [] same = refl
-at_cell_many change c (d ∷ cells) (k ∷ known) same =
-    ap suc (at_cell_many change c cells known (let e : length known ≡ length cells =
-    omega (arith, same) in e))
-
-pub known_many : (v : View Pass) (s : State) (l : Lore) → Mine is_fixed v s l
-    → length v.known ≡ length v.own.held
-known_many v s l mine =
-    as_many (IsKnown is_fixed s l v.number) (cells_in v.own.held) v.known
-    (subst (λ (o : Own). AllKnown (IsKnown is_fixed s l v.number) (cells_in o.held) v.known)
-    mine.own
-    (subst (λ (ws : List Known). AllKnown (IsKnown is_fixed s l v.number) (cells_of s v.number) ws)
-    mine.known (mine.shown.facts.known_all v.number)))
-    ∙ length-map v.own.held (λ (p : Held). p.cell)
-
--- A cell that a read found is held and known at the next place.
+-- A version that a read found is held and known at the next place.
 module _ (v w : View Pass) (s : State) (l : Lore) (mine : Mine is_fixed v s l) (place f : ℕ)
     (found : Found) (tells : Learned) (pass : Pass)
     (new : w ≡ told v (event.Read v.number place f) found tells pass) where
-  has_read : (word : ℕ) (value : Field) → found ≡ finds.Field value → IsPackedAs found word
-      → HasRead v w place f word value
-  has_read word value is packed = record {
-    word_is = subst (λ (x : Found). IsPackedAs x word) is packed;
-    own = ap (λ (u : View Pass). u.own) new ∙ ap (having_read_by v.own) is;
-    trail = ap (λ (u : View Pass). u.trail) new
-        ∙ ap (λ (x : Found). v.trail ++ took (event.Read v.number place f) x ∷ []) is;
-  }
-
-  pub found_known : (cell : ℕ) → found ≡ finds.Field (field.Cell cell)
-      → known_of w (length v.own.held) ≡ tells.found
-  found_known cell is =
-      let change = λ (x : Found).
-      known_at (known_read (cells_in v.own.held) v.known place tells x) (length v.own.held) in
-      let many = known_many v s l mine in
-      let cells : length v.known ≡ length (cells_in v.own.held) =
-      many ∙ sym (length-map v.own.held (λ (p : Held). p.cell)) in
-      let before = at_cell (Rattle.heap_rule.specs.Lore.told tells.here)
-      (slice_index_or (cells_in v.own.held) place 0) (cells_in v.own.held) v.known in
-      ap (λ (u : View Pass). known_of u (length v.own.held)) new
-      ∙ ap change is
-      ∙ get_or_push before tells.found knows.Nothing (length v.own.held)
-      (at_cell_many (Rattle.heap_rule.specs.Lore.told tells.here)
-      (slice_index_or (cells_in v.own.held) place 0) (cells_in v.own.held) v.known cells ∙ many)
-
   pub found_version : (cell n : ℕ) (root : Term) → found ≡ finds.Field (field.Cell cell)
       → IsVersionKnown tells.found n root
       → KnowsVersion w (length v.own.held) n root
@@ -114,7 +60,8 @@ module _ (v w : View Pass) (s : State) (l : Lore) (mine : Mine is_fixed v s l) (
         ap (λ (u : View Pass). length u.own.held) new
         ∙ ap (λ (x : Found). length (having_read_by v.own x).held) is in
         omega (arith, more, longer);
-    known = subst (λ (k : Known). IsVersionKnown k n root) (sym (found_known cell is)) known;
+    known = subst (λ (k : Known). IsVersionKnown k n root)
+        (sym (found_known is_fixed v w s l mine place f found tells pass new cell is)) known;
   }
 
 module _ (is_tree : Term → Type 0) (tree_of : Term → DocTree)
@@ -137,8 +84,10 @@ module _ (is_tree : Term → Type 0) (tree_of : Term → DocTree)
       (number_known tells.found is.number is.root is.known) in
       record {
         cell = is.cell;
-        read = has_read v w s l step.mine place 0 found tells (latest_seen tells found v.pass)
-            step.new word (field.Cell is.cell) is.found_is step.says;
+        read =
+            let next = latest_seen tells found v.pass in
+            has_read is_fixed v w s l step.mine place 0 found tells next step.new word
+            (field.Cell is.cell) is.found_is step.says;
         number = is.number;
         root = is.root;
         known = found_version v w s l step.mine place 0 found tells
@@ -165,8 +114,8 @@ module _ (is_tree : Term → Type 0) (tree_of : Term → DocTree)
         let is = tells_number is_tree tree_of is_record v s l step.passes step.mine step.kept
         step.pass place n root knows in
         record {
-          read = has_read v w s l step.mine place 0 (found_by s e) (learned s l e) v.pass step.new
-              word (field.Num n) is step.says;
+          read = has_read is_fixed v w s l step.mine place 0 (found_by s e) (learned s l e) v.pass
+              step.new word (field.Num n) is step.says;
           pass = ap (λ (u : View Pass). u.pass) step.new;
         }
 
@@ -183,10 +132,10 @@ module _ (is_tree : Term → Type 0) (tree_of : Term → DocTree)
         step.pass place n root knows in
         record {
           cell = is.cell;
-          read = has_read v w s l step.mine place 1 found tells
+          read = has_read is_fixed v w s l step.mine place 1 found tells
               (tree_read tree_of tells found v.pass) step.new word (field.Cell is.cell) is.found_is
               step.says;
-          known = found_known v w s l step.mine place 1 found tells
+          known = found_known is_fixed v w s l step.mine place 1 found tells
               (tree_read tree_of tells found v.pass) step.new is.cell is.found_is ∙ is.known;
           spells = is.spells;
           pass = ap (λ (u : View Pass). u.pass) step.new
@@ -216,15 +165,15 @@ module _ (is_tree : Term → Type 0) (tree_of : Term → DocTree)
         elim (tells_link is_tree tree_of is_record v s l step.passes step.mine step.kept
         step.pass place n root knows) [
           | inl none ↦ inl record {
-            read = has_read v w s l step.mine place 2 found tells (next tells found v.pass) step.new
-                word field.Null none step.says;
+            read = has_read is_fixed v w s l step.mine place 2 found tells
+                (next tells found v.pass) step.new word field.Null none step.says;
             pass = ap (λ (u : View Pass). u.pass) step.new
                 ∙ ap (λ (x : Found). next tells x v.pass) none ∙ at_null tells here;
           }
           | inr is ↦ inr record {
             cell = is.cell;
-            read = has_read v w s l step.mine place 2 found tells (next tells found v.pass) step.new
-                word (field.Cell is.cell) is.found_is step.says;
+            read = has_read is_fixed v w s l step.mine place 2 found tells
+                (next tells found v.pass) step.new word (field.Cell is.cell) is.found_is step.says;
             older = is.older;
             before = is.before;
             root = is.root;

@@ -18,11 +18,11 @@ use Rattle.version_rule.specs.Fits.{Fits}
 use Rattle.version_rule.specs.Pass.{Commit, Pass, Reading, committed}
 use Rattle.version_rule.specs.Versions.{HasLatest, HasNumber, HoldsVersions, IsCut, IsInStep}
 use Rattle.version_rule.specs.Versions.{IsLinked, IsVersion, IsNext}
-use Rattle.version_rule.proofs.Cutting.{some_is, written_else, written_here}
+use Rattle.heap_rule.proofs.Entries.{named_inj, same_entry, some_is, written_else, written_here}
 use Rattle.version_rule.proofs.Made.{versions_more}
 use Rattle.version_rule.proofs.Passing.{fits_at, in_step_at, made_of}
 use Rattle.version_rule.specs.Shrinks.{in_step_on, link_on, version_on}
-use Rattle.version_rule.specs.Shrinks.{named_inj, not_anchor, one_number, same_entry}
+use Rattle.version_rule.specs.Shrinks.{not_anchor, one_number}
 use Rattle.version_rule.proofs.Trees.{tree_last, tree_still}
 
 module _ (is_tree : Term → Type 0) (tree_of : Term → DocTree) (map : Map) (passes : List Pass)

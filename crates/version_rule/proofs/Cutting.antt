@@ -1,35 +1,19 @@
 -- The rule where the link of a version is cut.
-use Rattle.std.proofs.Common.{◌≡◌, ◌≢◌, ℕ, ◌+◌, ◌-◌, ◌≤◌, ◌⊎◌, List, length, Some, None}
-use Rattle.std.proofs.Common.{Option, inl, inr, refl, sym, ◌∙◌, ap, subst, arith}
+use Rattle.std.proofs.Common.{◌≡◌, ◌≢◌, ℕ, ◌+◌, ◌-◌, ◌≤◌, ◌⊎◌, List, length, Some}
+use Rattle.std.proofs.Common.{inl, inr, refl, sym, ◌∙◌, ap, subst, arith}
 use Rattle.std.proofs.lemmas.Bool.{cases_eq}
 use Rattle.std.proofs.lemmas.List.Elements.{All-weaker}
 use Rattle.cell_words.specs.Term.{Term, null, num}
 use Rattle.doc_tree.specs.Tree.{DocTree}
-use Rattle.heap_rule.specs.Boxes.{Map, Payload, with_entry, written_map}
+use Rattle.heap_rule.specs.Boxes.{Map, Payload, written_map}
 use Rattle.heap_rule.specs.Lore.{Entry, Plain, put}
-use Rattle.heap_rule.proofs.Claiming.{put_here, put_other}
+use Rattle.heap_rule.proofs.Entries.{num_inj, some_is, written_else, written_here}
 use Rattle.version_rule.specs.Pass.{Pass}
 use Rattle.version_rule.specs.Versions.{HasLatest, HasNumber, HoldsVersions, IsCut, IsInStep}
 use Rattle.version_rule.specs.Versions.{IsLinked, IsVersion}
 use Rattle.version_rule.proofs.Passing.{version_of}
 use Rattle.version_rule.specs.Shrinks.{in_step_on, link_on, version_on}
-use Rattle.version_rule.specs.Shrinks.{not_anchor, num_inj}
-
-abbrev payload_in : Payload → Option Payload → Payload
-payload_in d None = d
-payload_in d (Some p) = p
-
-pub some_is : (p q : Payload) → Some p ≡ Some q → p ≡ q
-some_is p q e = ap (payload_in p) e
-
--- One field of one box of a map changes.
-module _ (map : Map) (x f : ℕ) (entry : Entry) (box : Payload) (there : map x ≡ Some box) where
-  pub written_here : written_map map x f entry x ≡ Some (put box f entry)
-  written_here = put_here map x (with_entry (map x) f entry)
-      ∙ ap (λ (o : Option Payload). with_entry o f entry) there
-
-  pub written_else : (y : ℕ) → y ≢ x → written_map map x f entry y ≡ map y
-  written_else y other = put_other map x (with_entry (map x) f entry) y other
+use Rattle.version_rule.specs.Shrinks.{not_anchor}
 
 -- The link of a version's box becomes null.
 module _ (map : Map) (x n : ℕ) (box : Payload) (there : map x ≡ Some box)

@@ -1,13 +1,12 @@
 -- The rule holds where a store of versions opens.
 use Rattle.std.proofs.Common.{◌≡◌, ◌<◌, ◌≤◌, ◌+◌, ◌-◌, ◌⊎◌, ℕ, zero, suc, true, false}
-use Rattle.std.proofs.Common.{List, [], ◌∷◌, length, get_or, replicate, flat_map, All}
+use Rattle.std.proofs.Common.{List, [], ◌∷◌, length, flat_map}
 use Rattle.std.proofs.Common.{Some, None, inl, inr, refl, sym, ◌∙◌, ap, subst, arith}
-use Rattle.std.proofs.lemmas.List.Elements.{All-cons, All-nil}
+use Rattle.std.proofs.lemmas.List.Elements.{All-nil}
 use Rattle.std.proofs.lemmas.List.Sorted.{IsPermutation-refl}
 use Rattle.cell_words.specs.declared.fields.Field.{Field}
-use Rattle.cell_words.specs.declared.fields.Field.TheVariants as field
 use Rattle.cell_words.specs.Term.{Term, null, num}
-use Rattle.core_machine.specs.State.{State, field_in, field_of, null_row, opening}
+use Rattle.core_machine.specs.State.{State, field_in, field_of, opening}
 use Rattle.core_machine.specs.Words.{is_box_kind}
 use Rattle.dlg_core.specs.Reachable.{anchor, named}
 use Rattle.doc_model.specs.Agreement.{EachOnce}
@@ -19,27 +18,17 @@ use Rattle.heap_rule.specs.Opening.{FirstTerms, opening_lore, opening_passes, op
 use Rattle.heap_rule.specs.Opening.{passes_from}
 use Rattle.heap_rule.specs.Shape.{Shape, start}
 use Rattle.heap_rule.proofs.Claiming.{put_other}
+use Rattle.heap_rule.proofs.Entries.{same_entry, some_is}
 use Rattle.heap_rule.proofs.Maps.{In, in_map, of_map}
+use Rattle.heap_rule.proofs.Openings.{all_opening, as_many_open, null_rows}
 use Rattle.version_rule.specs.Fits.{Fits, HasTree, IsMade}
 use Rattle.version_rule.specs.Opening.{OpensVersions, first_rows, first_terms}
-use Rattle.version_rule.specs.Pass.{Commit, Pass, Reading, commit_numbers, opening_pass}
-use Rattle.version_rule.specs.Shrinks.{same_entry}
+use Rattle.version_rule.specs.Pass.{Commit, Reading, commit_numbers, opening_pass}
 use Rattle.version_rule.specs.Spelling.{bare_root}
 use Rattle.version_rule.specs.Versions.{HasNumber, HoldsVersions, IsInStep}
 use Rattle.version_rule.specs.Versions.{IsVersion}
-use Rattle.version_rule.proofs.Cutting.{some_is}
 
 -- The rows.
-
-everywhere : (n f : ℕ) → get_or (replicate n field.Null) f field.Null ≡ field.Null
-everywhere zero f = refl
-everywhere (suc n) zero = refl
-everywhere (suc n) (suc f) = everywhere n f
-
-null_rows : (n k f : ℕ) → field_in (replicate n null_row) k f ≡ field.Null
-null_rows zero k f = refl
-null_rows (suc n) zero f = everywhere 6 f
-null_rows (suc n) (suc k) f = null_rows n k f
 
 plain_field : (f : ℕ) → f < 5 → IsPlain (entry_of first_terms (field_in first_rows 2 f))
 plain_field zero lt = tt
@@ -150,21 +139,10 @@ module _ (is_tree : Term → Type 0) (tree_of : Term → DocTree) (bare : is_tre
           (number_at x 0 record { box = q; there = at; number_is = is }) version_there);
     }
 
-    all_first : (P : Pass → Type 0) → ((number : ℕ) → P (opening_pass number setting))
-        → (number n : ℕ) → All P (passes_from opening_pass setting number n)
-    all_first P each number zero = All-nil P
-    all_first P each number (suc n) = All-cons P (opening_pass number setting)
-        (passes_from opening_pass setting (number + 1) n) (each number)
-        (all_first P each (number + 1) n)
-
     none_made : (number n : ℕ)
         → flat_map commit_numbers (passes_from opening_pass setting number n) ≡ []
     none_made number zero = refl
     none_made number (suc n) = none_made (number + 1) n
-
-    as_many : (number n : ℕ) → length (passes_from opening_pass setting number n) ≡ n
-    as_many number zero = refl
-    as_many number (suc n) = ap suc (as_many (number + 1) n)
 
     pub opens_versions : (mutators : ℕ) → 1 ≤ setting → setting ≤ 100 → mutators ≤ 64
         → HoldsVersions is_tree tree_of map (passes_from opening_pass setting 0 mutators)
@@ -173,15 +151,15 @@ module _ (is_tree : Term → Type 0) (tree_of : Term → DocTree) (bare : is_tre
       trees = empty ∷ [];
       keeps_some = least;
       keeps_few = most;
-      few = subst (λ (n : ℕ). n ≤ 64) (sym (as_many 0 mutators)) few;
+      few = subst (λ (n : ℕ). n ≤ 64) (sym (as_many_open opening_pass setting 0 mutators)) few;
       versions = record {
         opens = refl;
-        fits = all_first (Fits (empty ∷ [])) fits_first 0 mutators;
+        fits = all_opening opening_pass setting (Fits (empty ∷ [])) fits_first 0 mutators;
         made = ap (λ (ns : List ℕ). length ns + 1) (sym (none_made 0 mutators));
         once = subst (λ (ns : List ℕ). EachOnce ns) (sym (none_made 0 mutators))
             (IsPermutation-refl []);
       };
-      in_step = all_first (IsInStep setting map) in_step_first 0 mutators;
+      in_step = all_opening opening_pass setting (IsInStep setting map) in_step_first 0 mutators;
       latest = record {
         anchor = payload_of s l 0;
         there = anchor_there;

@@ -23,10 +23,10 @@ use Rattle.heap_rule.proofs.Maps.{In, entry_names, in_map, of_map}
 use Rattle.heap_rule.proofs.Writing.{box_no_record}
 use Rattle.version_rule.specs.Chains.{Among, Chain, first, last, later, more}
 use Rattle.version_rule.specs.Pass.{Pass}
-use Rattle.version_rule.specs.Shrinks.{named_inj, same_entry}
 use Rattle.version_rule.specs.Versions.{HasNumber, HoldsVersions, IsVersion, is_fixed}
 use Rattle.version_rule.proofs.Passing.{version_of}
-use Rattle.version_rule.proofs.States.{null_word, number_word}
+use Rattle.heap_rule.proofs.Entries.{named_inj, same_entry}
+use Rattle.heap_rule.proofs.EntryWords.{null_word, number_word}
 
 -- a row has six fields
 past_six : (s : State) (c f : ℕ) → IsShaped s → 6 ≤ f → field_of s c f ≡ field.Null
@@ -140,7 +140,7 @@ module _ (is_tree : Term → Type 0) (tree_of : Term → DocTree)
   empty_field : (c d f : ℕ) → In s l c → payload_of s l c f ≡ Plain null
       → field_of s c f ≡ field.Cell d → ⊥
   empty_field c d f is none e =
-      null_cell (field_of s c f) d (null_word s l facts c f is.reached none) e
+      null_cell (field_of s c f) d (null_word is_fixed s l facts c f is.reached none) e
 
   named_one : (c d x f : ℕ) → payload_of s l c f ≡ Named x → field_of s c f ≡ field.Cell d → x ≡ d
   named_one c d x f names e =
@@ -190,7 +190,8 @@ module _ (is_tree : Term → Type 0) (tree_of : Term → DocTree)
           → Among d (h.latest.cell ∷ cells) ⊎ (is_record_kind (field_of s d 5) ≡ true)
       by_field zero e = absurd (
           let clash : field.Num has.0 ≡ field.Cell d =
-          sym (number_word s l facts c 0 has.0 there.reached (entry 0 ∙ has.1.number_is)) ∙ e in cc)
+          sym (number_word is_fixed s l facts c 0 has.0 there.reached
+          (entry 0 ∙ has.1.number_is)) ∙ e in cc)
       by_field (suc zero) e = inr (plain_record (field_of s c 1) d (named 1 there.reached e)
           (subst IsPlain (sym (entry 1 ∙ version.root_is)) tt) e)
       by_field (suc (suc zero)) e = elim version.link [

@@ -27,15 +27,18 @@ use Rattle.version_rule.specs.Fits.{HasTree}
 use Rattle.version_rule.specs.Knowing.{IsVersionKnown, KnowsVersion, latest_seen, link_cut}
 use Rattle.version_rule.specs.Knowing.{link_seen, number_told, root_told, term_or_null, tree_read}
 use Rattle.version_rule.specs.Pass.{Pass}
-use Rattle.version_rule.specs.Shrinks.{not_anchor, num_inj, same_entry}
+use Rattle.version_rule.specs.Shrinks.{not_anchor}
+use Rattle.heap_rule.proofs.Entries.{num_inj, same_entry}
+use Rattle.heap_rule.proofs.EntryWords.{learned_box, learned_record, null_word, number_word}
+use Rattle.heap_rule.proofs.EntryWords.{record_word}
 use Rattle.version_rule.specs.Told.{TellsLatest, TellsLink, TellsOlder, TellsRoot}
 use Rattle.version_rule.specs.Versions.{HasNumber, HoldsVersions, IsLinked, IsVersion}
 use Rattle.version_rule.specs.Versions.{is_fixed}
 use Rattle.version_rule.proofs.Passing.{cut_stands, fits_at, in_step_at, numbers_few}
 use Rattle.version_rule.proofs.Passing.{read_stands, seen_stands, version_of}
-use Rattle.version_rule.proofs.States.{Seen, learned_box, learned_record, null_word, number_seen}
+use Rattle.version_rule.proofs.States.{Seen, number_seen}
 use Rattle.heap_rule.proofs.Seats.{target_now}
-use Rattle.version_rule.proofs.States.{number_word, record_word, version_seen}
+use Rattle.version_rule.proofs.States.{version_seen}
 
 -- what is known of a version is the number and the root that are told
 
@@ -79,7 +82,7 @@ module _ (is_tree : Term → Type 0) (tree_of : Term → DocTree)
         seen = record { other = other; in_is = in_is; number_is = number_is; root_is = root_is };
         told = record {
           told = five_plain (payload_of s l x);
-          is = learned_box s l mine.shown.facts x in_is other;
+          is = learned_box is_fixed s l mine.shown.facts x in_is other;
           number_is = ap plain number_is;
           root_is = ap plain root_is;
         };
@@ -170,7 +173,7 @@ module _ (is_tree : Term → Type 0) (tree_of : Term → DocTree)
     version = version_held place n root knows
 
     pub tells_number : found_by s (event.Read v.number place 0) ≡ finds.Field (field.Num n)
-    tells_number = ap finds.Field (number_word s l mine.shown.facts
+    tells_number = ap finds.Field (number_word is_fixed s l mine.shown.facts
         (target_of s v.number place) 0 n version.seen.in_is.reached version.seen.number_is)
 
     pub here_known : (f : ℕ)
@@ -184,13 +187,13 @@ module _ (is_tree : Term → Type 0) (tree_of : Term → DocTree)
     tells_root =
         let same = root_held place n root knows in
         let spells = subst is_tree same version.spells in
-        let word = record_word s l mine.shown.facts (target_of s v.number place) 1 root
+        let word = record_word is_fixed s l mine.shown.facts (target_of s v.number place) 1 root
         (is_record root spells) (version.seen.root_is ∙ ap Plain same) in
         record {
           cell = word.0;
           found_is = ap finds.Field word.1.0;
           known = ap (learned_from s l) word.1.0
-              ∙ learned_record s l mine.shown.facts word.0 root word.1.1;
+              ∙ learned_record is_fixed s l mine.shown.facts word.0 root word.1.1;
           here = here_known 1;
           spells = spells;
         }
@@ -247,7 +250,7 @@ module _ (is_tree : Term → Type 0) (tree_of : Term → DocTree)
     pub tells_link : TellsLink is_tree n (learned s l (event.Read v.number place 2))
         (found_by s (event.Read v.number place 2))
     tells_link = elim whole.link [
-      | inl cut ↦ inl (ap finds.Field (null_word s l mine.shown.facts x 2
+      | inl cut ↦ inl (ap finds.Field (null_word is_fixed s l mine.shown.facts x 2
           version.seen.in_is.reached cut.none))
       | inr link ↦ inr (linked_tells link)
     ]

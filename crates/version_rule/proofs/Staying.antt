@@ -14,7 +14,7 @@ use Rattle.heap_rule.specs.Boxes.{Map}
 use Rattle.heap_rule.specs.Lore.{Named, Plain}
 use Rattle.version_rule.specs.Chains.{Chain, Stays, last, more}
 use Rattle.version_rule.specs.Pass.{Pass}
-use Rattle.version_rule.specs.Shrinks.{num_inj}
+use Rattle.heap_rule.proofs.Entries.{num_inj}
 use Rattle.version_rule.specs.Versions.{HasNumber, HoldsVersions, IsLinked, IsVersion}
 use Rattle.version_rule.proofs.Passing.{fits_at, in_step_at, version_of}
 

@@ -1,9 +1,9 @@
 -- Writes: of the anchor's field by a commit, and of a version's link by a trim, which is a store or
 -- an exchange. The rule stands with the pass that is picked, whether an exchange was made or not.
-use Rattle.std.proofs.Common.{◌≡◌, ◌≢◌, ◌<◌, ◌≤◌, ◌+◌, ◌-◌, ◌&&◌, ℕ, Bool, true, false, List}
-use Rattle.std.proofs.Common.{[], ◌∷◌, length, Option, Some, None, is_none, slice_set, inl, inr}
+use Rattle.std.proofs.Common.{◌≡◌, ◌≢◌, ◌<◌, ◌≤◌, ◌+◌, ◌-◌, ℕ, Bool, true, false, List}
+use Rattle.std.proofs.Common.{[], ◌∷◌, length, Option, Some, None, slice_set, inl, inr}
 use Rattle.std.proofs.Common.{max, refl, sym, ◌∙◌, ap, subst, arith}
-use Rattle.std.proofs.lemmas.Bool.{cases_eq, eq-eqb}
+use Rattle.std.proofs.lemmas.Bool.{cases_eq}
 use mathlib.Core.Option.{some}
 use lib.ListN.{get_elem?}
 use Rattle.atomic_table.proofs.Lists.{set_again}
@@ -13,82 +13,38 @@ use Rattle.cell_words.specs.Term.{IsFive, Term, null}
 use Rattle.core_machine.specs.declared.events.Event.TheVariants as event
 use Rattle.core_machine.specs.Own.{Own, pending_or_none}
 use Rattle.core_machine.specs.State.{State, field_of, target_of}
-use Rattle.core_machine.specs.Words.{is_box_kind, same_field}
-use Rattle.dlg_core.specs.Reachable.{Reachable, reach}
+use Rattle.core_machine.specs.Words.{same_field}
+use Rattle.dlg_core.specs.Reachable.{Reachable}
 use Rattle.dlg_core.proofs.Keeps.Write.{same_field_is}
 use Rattle.doc_model.specs.Store.{tree_at}
 use Rattle.doc_tree.specs.Tree.{DocTree}
 use Rattle.heap_rule.specs.Asks.{begun_of, target}
-use Rattle.heap_rule.specs.Boxes.{Map, Payload, boxes_of, payload_of, revealing}
-use Rattle.heap_rule.specs.Boxes.{where_shown, written_if, written_map}
+use Rattle.heap_rule.specs.Boxes.{Map, boxes_of, payload_of, revealing}
+use Rattle.heap_rule.specs.Boxes.{written_if, written_map}
 use Rattle.heap_rule.specs.Facts.{Facts, IsKnown}
 use Rattle.heap_rule.specs.Lore.{Entry, Lore, Named, Plain, entry_of, named_or, put}
 use Rattle.heap_rule.specs.Steps.{Mine, Picks}
 use Rattle.heap_rule.specs.declared.known.Known.{Known}
 use Rattle.heap_rule.specs.declared.known.Known.TheVariants as knows
 use Rattle.heap_rule.specs.declared.view.View.{View}
-use Rattle.heap_rule.proofs.Claiming.{put_here, put_other}
+use Rattle.heap_rule.proofs.Entries.{named_inj, num_inj, same_entry, written_here}
+use Rattle.heap_rule.proofs.EntryWords.{no_term}
 use Rattle.heap_rule.proofs.Maps.{entry_names, in_map, of_map}
+use Rattle.heap_rule.proofs.Revealed.{fresh_absent, shown_is}
+use Rattle.heap_rule.proofs.SameFields.{same_cell, same_value}
 use Rattle.version_rule.specs.Knowing.{HasReadLink, HoldsBefore, MayCommit, MayCut, link_taken}
 use Rattle.version_rule.specs.Knowing.{made_or_seen, next_made}
 use Rattle.version_rule.specs.Pass.{Pass, committed, cutting, seeing}
-use Rattle.version_rule.specs.Shrinks.{named_inj, num_inj, one_number, same_entry}
+use Rattle.version_rule.specs.Shrinks.{one_number}
 use Rattle.version_rule.specs.Versions.{HasNumber, HoldsVersions, IsNext}
 use Rattle.version_rule.specs.Versions.{is_fixed}
 use Rattle.version_rule.proofs.Committing.{commits}
-use Rattle.version_rule.proofs.Cutting.{cuts, written_here}
+use Rattle.version_rule.proofs.Cutting.{cuts}
 use Rattle.version_rule.proofs.Passing.{cut_stands, fits_at, in_step_at, made_of, seen_stands}
 use Rattle.version_rule.proofs.Reading.{Version, version_at, version_held, whole}
 use Rattle.heap_rule.proofs.Seats.{knows_place, reached_place, target_now}
-use Rattle.version_rule.proofs.States.{Seen, no_term, not_some, number_seen}
+use Rattle.version_rule.proofs.States.{Seen, number_seen}
 use Rattle.version_rule.proofs.States.{version_seen}
-
-same_self : (value : Field) → same_field value value ≡ true
-same_self field.Null = refl
-same_self (field.Num n) = eq-eqb n n refl
-same_self (field.Cell c) = eq-eqb c c refl
-
-same_value : (value other : Field) → value ≡ other → same_field value other ≡ true
-same_value value other is = ap (λ (x : Field). same_field x other) is ∙ same_self other
-
-pub same_cell : (value : Field) (c : ℕ) → value ≡ field.Cell c
-    → same_field value (field.Cell c) ≡ true
-same_cell value c is = same_value value (field.Cell c) is
-
--- A fresh box is in no map, and is in the map once a value names it.
-
-module _ (s : State) (l : Lore) (z i : ℕ) (fresh : l.fresh z ≡ Some i) where
-  pub fresh_absent : boxes_of s l z ≡ None
-  fresh_absent = by_map (boxes_of s l z) refl
-    where
-      by_map : (o : Option Payload) → boxes_of s l z ≡ o → o ≡ None
-      by_map None at = refl
-      by_map (Some q) at =
-          absurd (not_some i (l.fresh z) (of_map s l z q at).old fresh)
-
-  module _ (reached : Reachable s z) (box : is_box_kind (field_of s z 5) ≡ true) where
-    same_else : (x : ℕ) → x ≢ z → boxes_of s (revealing l (field.Cell z)) x ≡ boxes_of s l x
-    same_else x other = ap (λ (o : Option ℕ). where_shown
-        (reach s x && (is_box_kind (field_of s x 5) && is_none o)) (payload_of s l x))
-        (put_other l.fresh z None x other)
-
-    shown_here : boxes_of s (revealing l (field.Cell z)) z ≡ Some (payload_of s l z)
-    shown_here = in_map s (revealing l (field.Cell z)) z
-        record { reached = reached; box = box; old = put_here l.fresh z None }
-
-    shown_at : (x : ℕ) → boxes_of s (revealing l (field.Cell z)) x
-        ≡ put (boxes_of s l) z (Some (payload_of s l z)) x
-    shown_at x = elim (cases_eq x z) [
-      | inl same ↦ subst (λ (y : ℕ). boxes_of s (revealing l (field.Cell z)) y
-          ≡ put (boxes_of s l) z (Some (payload_of s l z)) y) (sym same)
-          (shown_here ∙ sym (put_here (boxes_of s l) z (Some (payload_of s l z))))
-      | inr other ↦ same_else x other
-          ∙ sym (put_other (boxes_of s l) z (Some (payload_of s l z)) x other)
-    ]
-
-    pub shown_is : boxes_of s (revealing l (field.Cell z))
-        ≡ put (boxes_of s l) z (Some (payload_of s l z))
-    shown_is = λ i x. shown_at x i
 
 module _ (is_tree : Term → Type 0) (tree_of : Term → DocTree)
     (is_record : (t : Term) → is_tree t → IsFive t) (v : View Pass) (s : State) (l : Lore)
@@ -142,7 +98,7 @@ module _ (is_tree : Term → Type 0) (tree_of : Term → DocTree)
           root_is = cell_is (target v root) 1 (Some made) (row.each 1 (omega arith)) root_term;
           spells = may.spells;
           link_is = cell_is c 2 None (row.each 2 (omega arith))
-              (no_term s l facts c old_seen.in_is.reached old_seen.in_is.box);
+              (no_term is_fixed s l facts c old_seen.in_is.reached old_seen.in_is.box);
           fourth = field_is 3 field.Null (row.each 3 (omega arith));
           fifth = field_is 4 field.Null (row.each 4 (omega arith));
         }
@@ -169,7 +125,7 @@ module _ (is_tree : Term → Type 0) (tree_of : Term → DocTree)
     names_now : field_of s 0 0 ≡ field.Cell c → h.latest.anchor 0 ≡ Named c
     names_now named =
         sym anchor_entry ∙ ap (entry_of l.terms) named
-        ∙ ap (named_or c) (no_term s l facts c old_seen.in_is.reached old_seen.in_is.box)
+        ∙ ap (named_or c) (no_term is_fixed s l facts c old_seen.in_is.reached old_seen.in_is.box)
 
     -- where the anchor names the version's box, none is newer
     pub low_now : field_of s 0 0 ≡ field.Cell c → v.pass.seen ≤ number
@@ -190,7 +146,7 @@ module _ (is_tree : Term → Type 0) (tree_of : Term → DocTree)
         (slice_set passes v.number (committed number (tree_of before) (tree_of made) v.pass))
     made_stands named =
         let entry : entry_of l.terms (field.Cell z) ≡ Named z =
-        ap (named_or z) (no_term s l facts z new_reached fresh_known.0) in
+        ap (named_or z) (no_term is_fixed s l facts z new_reached fresh_known.0) in
         let names = names_now named in
         let follows : number ≡ (number - 1) + 1 = (let le = may.later in omega (arith, le)) in
         subst (λ (m : Map). HoldsVersions is_tree tree_of

@@ -2,29 +2,19 @@
 -- and the pass.
 -- Source: this project's.
 use Rattle.std.specs.Prelude.{List, ℕ, ◌≡◌, ◌≢◌, ◌≤◌, ◌+◌, ◌⊎◌, [], ◌∷◌, ◌++◌, length}
-use Rattle.cell_words.specs.declared.fields.Field.{Field}
 use Rattle.cell_words.specs.declared.fields.Field.TheVariants as field
 use Rattle.cell_words.specs.Field.{pack_field_of}
 use Rattle.cell_words.specs.Term.{Term}
-use Rattle.core_machine.specs.declared.events.Event.TheVariants as event
-use Rattle.core_machine.specs.declared.events.Found.TheVariants as finds
 use Rattle.core_machine.specs.declared.events.Taken.{Taken}
-use Rattle.core_machine.specs.Own.{having_read}
 use Rattle.doc_tree.specs.Tree.{DocTree}
 use Rattle.heap_rule.specs.Asks.{known_of}
-use Rattle.heap_rule.specs.Rule.{took}
+use Rattle.heap_rule.specs.Reads.{HasRead}
 use Rattle.heap_rule.specs.declared.known.Known.TheVariants as knows
 use Rattle.heap_rule.specs.declared.view.View.{View}
 use Rattle.trails.specs.Asks.{InOrder, gave_at}
 use Rattle.trails.specs.Marks.{marks_from}
 use Rattle.version_rule.specs.Knowing.{KnowsVersion}
 use Rattle.version_rule.specs.Pass.{Pass, committed, reading, seeing}
-
--- a read of this field of a held cell found this
-pub record HasRead (v w : View Pass) (place f word : ℕ) (value : Field) : Type 0 where
-  pub word_is : pack_field_of value ≡ word
-  pub own : w.own ≡ having_read v.own value
-  pub trail : w.trail ≡ v.trail ++ took (event.Read v.number place f) (finds.Field value) ∷ []
 
 -- after a read of the anchor: the latest version is held and seen, and none before it was newer
 pub record ShowsLatest (is_tree : Term → Type 0) (v w : View Pass) (place word : ℕ) : Type 0 where

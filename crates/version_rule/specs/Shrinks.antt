@@ -1,31 +1,17 @@
 -- The rule of versions on maps: what its parts say, and that it stands on every smaller map.
 -- Source: this project's.
-use Rattle.std.proofs.Common.{refl, ◌≡◌, ◌≢◌, ℕ, ◌-◌, ◌<◌, ◌⊎◌, List, length, Some, None}
-use Rattle.std.proofs.Common.{Option, inl, inr, sym, ◌∙◌, ap, subst, arith}
+use Rattle.std.proofs.Common.{refl, ◌≡◌, ◌≢◌, ℕ, ◌-◌, ◌<◌, ◌⊎◌, List, length, Some}
+use Rattle.std.proofs.Common.{inl, inr, sym, ◌∙◌, subst, arith}
 use Rattle.std.proofs.lemmas.List.Elements.{All-weaker}
 use Rattle.cell_words.specs.Term.{Term, null, num}
 use Rattle.doc_model.specs.Store.{tree_at}
 use Rattle.doc_tree.specs.Tree.{DocTree}
 use Rattle.heap_rule.specs.Boxes.{Map, Payload, Smaller}
 use Rattle.heap_rule.specs.Lore.{Entry, Named, Plain}
+use Rattle.heap_rule.proofs.Entries.{num_inj, same_entry}
 use Rattle.version_rule.specs.Pass.{Pass}
 use Rattle.version_rule.specs.Versions.{HasLatest, HasNumber, HoldsVersions, IsCut, IsInStep}
 use Rattle.version_rule.specs.Versions.{IsLinked, IsVersion}
-
-abbrev entry_in : Option Payload → ℕ → Entry
-entry_in None f = Named 0
-entry_in (Some p) f = p f
-
--- one box at one cell
-pub same_entry : (map : Map) (x f : ℕ) (p q : Payload) → map x ≡ Some p → map x ≡ Some q
-    → p f ≡ q f
-same_entry map x f p q a b = ap (λ (o : Option Payload). entry_in o f) (sym a ∙ b)
-
-pub named_inj : (a b : ℕ) → Named a ≡ Named b → a ≡ b
-named_inj a b e = cc
-
-pub num_inj : (a b : ℕ) → Plain (num a) ≡ Plain (num b) → a ≡ b
-num_inj a b e = cc
 
 -- one box has one number
 pub one_number : (map : Map) (x a b : ℕ) → HasNumber map x a → HasNumber map x b → a ≡ b

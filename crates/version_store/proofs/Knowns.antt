@@ -26,7 +26,7 @@ use Rattle.heap_rule.specs.Steps.{Mine}
 use Rattle.version_rule.specs.Pass.{Pass}
 use Rattle.version_rule.specs.Versions.{is_fixed}
 use Rattle.heap_rule.proofs.Seats.{knows_place}
-use Rattle.version_rule.proofs.States.{learned_box}
+use Rattle.heap_rule.proofs.EntryWords.{learned_box}
 use Rattle.version_store.specs.Calls.{StillKnown, known_fresh, one_kind, settled}
 use Rattle.version_store.proofs.Going.{still_same}
 
@@ -238,7 +238,7 @@ module _ (v : View Pass) (s : State) (l : Lore) (mine : Mine is_fixed v s l) whe
   told_still x (knows.Fresh fields) r is = told_fresh (learned_of s l x) fields
   told_still x (knows.Record t) r is = told_record (learned_of s l x) t
   told_still x (knows.Boxed others) r is =
-      let box = learned_box s l mine.shown.facts x record {
+      let box = learned_box is_fixed s l mine.shown.facts x record {
         reached = r;
         box = is.1;
         old = is.2;

@@ -34,7 +34,7 @@ use Rattle.mutator_seat.specs.Bound.{Bound, held_cells}
 use Rattle.trails.specs.Asks.{gave_at, here, nothing}
 use Rattle.version_rule.specs.Pass.{Pass}
 use Rattle.version_rule.specs.Versions.{is_fixed}
-use Rattle.version_rule.proofs.AfterSteps.{known_many}
+use Rattle.heap_rule.proofs.Many.{known_many}
 use Rattle.heap_rule.proofs.Seats.{knows_place, reached_place, target_now}
 use Rattle.version_store.specs.Calls.{IsCoherent, StaysKnown, StillKnown, WasRead}
 use Rattle.version_store.specs.Calls.{cells_found}
@@ -118,7 +118,7 @@ module _ (a b : Bound Pass) (s : State) (l : Lore) (mine : Mine is_fixed a.seat.
   known_told = at_cell (told_more tells.here) (get_or cells place 0) cells v.known
 
   many : length v.known ≡ length cells
-  many = known_many v s l mine ∙ sym (length-map v.own.held (λ (p : Held). p.cell))
+  many = known_many is_fixed v s l mine ∙ sym (length-map v.own.held (λ (p : Held). p.cell))
 
   cell_is : get_or cells place 0 ≡ target v place
   cell_is = cell_there v.own.held place
@@ -160,7 +160,7 @@ module _ (a b : Bound Pass) (s : State) (l : Lore) (mine : Mine is_fixed a.seat.
       let changed = changed_many (told_more tells.here) (get_or cells place 0) cells v.known many
       in
       let held = many_held a b (cells_found found) loaded_held in
-      let before = known_many v s l mine in
+      let before = known_many is_fixed v s l mine in
       omega (arith, known, changed, held, before)
 
 module _ (holds : Map → List Pass → Type 0) (next : Learned → Found → Pass → Pass)
