@@ -11,6 +11,7 @@ use Rattle.cell_words.specs.Term.{null, num}
 use Rattle.heap_rule.specs.Boxes.{Map, Payload, written_map}
 use Rattle.heap_rule.specs.Lore.{Entry, Named, Plain, put}
 use Rattle.heap_rule.proofs.Claiming.{put_here, put_other}
+use Rattle.heap_rule.proofs.Entries.{same_entry, some_is, written_else, written_here}
 use Rattle.mail_rule.specs.Items.{Letter, letter_at, sends_of, takes_of}
 use Rattle.mail_rule.specs.Mail.{HasItem, HasPosition, HasTaken, HoldsMail, IsFollowed, IsItem}
 use Rattle.mail_rule.specs.Mail.{IsLast, IsOwn, IsSigned}
@@ -19,7 +20,6 @@ use Rattle.mail_rule.specs.declared.items.Item.{Item}
 use Rattle.mail_rule.specs.declared.items.Sent.{Sent}
 use Rattle.mail_rule.specs.declared.mail_pass.MailPass.{MailPass}
 use Rattle.mail_rule.proofs.Letters.{letter_last, letter_still, sends_more, sends_same, takes_still}
-use Rattle.mail_rule.proofs.Moved.{same_entry, some_is, written_else, written_here}
 use Rattle.mail_rule.proofs.Standing.{At, is_at, item_of, not_anchor, one_position, some_below}
 use Rattle.mail_rule.proofs.Standing.{taken_low}
 

@@ -10,6 +10,7 @@ use Rattle.cell_words.specs.Term.{num}
 use Rattle.heap_rule.specs.Boxes.{Map, Payload, written_map}
 use Rattle.heap_rule.specs.Lore.{Named, Plain, put}
 use Rattle.heap_rule.proofs.Claiming.{put_other}
+use Rattle.heap_rule.proofs.Entries.{named_inj, same_entry, written_else, written_here}
 use Rattle.mail_rule.specs.Items.{item_at, takes_of}
 use Rattle.mail_rule.specs.Mail.{HasPosition, HasTaken, HoldsMail, IsOwn, IsSigned}
 use Rattle.mail_rule.specs.Passes.{having_taken}
@@ -17,7 +18,6 @@ use Rattle.mail_rule.specs.Shrinks.{item_on}
 use Rattle.mail_rule.specs.declared.items.Item.{Item}
 use Rattle.mail_rule.specs.declared.mail_pass.MailPass.{MailPass}
 use Rattle.mail_rule.proofs.Letters.{takes_more, takes_same}
-use Rattle.mail_rule.proofs.Moved.{named_inj, same_entry, written_else, written_here}
 use Rattle.mail_rule.proofs.Standing.{not_anchor, one_position, some_below}
 
 module _ (map : Map) (passes : List MailPass) (h : HoldsMail map passes) (c d u : ℕ)

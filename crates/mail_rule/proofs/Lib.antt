@@ -4,7 +4,6 @@ pub mod Chaining
 pub mod Counting
 pub mod Counts
 pub mod Letters
-pub mod Moved
 pub mod Openings
 pub mod Picking
 pub mod Seen

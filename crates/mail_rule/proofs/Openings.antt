@@ -15,12 +15,13 @@ use Rattle.heap_rule.specs.Opening.{FirstTerms, opening_lore, opening_passes, op
 use Rattle.heap_rule.specs.Opening.{passes_from}
 use Rattle.heap_rule.specs.Shape.{Shape, start}
 use Rattle.heap_rule.proofs.Maps.{In, in_map, of_map}
+use Rattle.heap_rule.proofs.Entries.{same_entry, some_is}
+use Rattle.heap_rule.proofs.Openings.{as_many_open, null_rows}
 use Rattle.mail_rule.specs.Items.{Letter}
 use Rattle.mail_rule.specs.Mail.{HasPosition, HoldsMail, IsItem, IsOwn, IsSigned}
 use Rattle.mail_rule.specs.Opening.{OpensMail, first_rows, first_terms}
 use Rattle.mail_rule.specs.Passes.{opening_pass}
 use Rattle.mail_rule.specs.declared.mail_pass.MailPass.{MailPass}
-use Rattle.mail_rule.proofs.Moved.{as_many_open, null_rows, same_entry, some_is}
 
 -- the terms are those of the first rows, which have none
 pub firsts : FirstTerms first_rows first_terms

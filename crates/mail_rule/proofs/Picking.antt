@@ -22,6 +22,8 @@ use Rattle.heap_rule.specs.declared.known.Known.TheVariants as knows
 use Rattle.heap_rule.specs.declared.view.View.{View}
 use Rattle.heap_rule.proofs.Filling.{fills_nothing}
 use Rattle.heap_rule.proofs.Seats.{knows_place, reached_place, target_now}
+use Rattle.heap_rule.proofs.EntryWords.{no_term}
+use Rattle.heap_rule.proofs.Revealed.{fresh_absent, shown_is}
 use Rattle.mail_rule.specs.Items.{Letter, item_at}
 use Rattle.mail_rule.specs.Knowing.{MaySend, MayTake, item_fields, next_sent, next_taken}
 use Rattle.mail_rule.specs.Mail.{HasPosition, HoldsMail, is_fixed}
@@ -31,7 +33,6 @@ use Rattle.mail_rule.specs.declared.items.Sent.{Sent}
 use Rattle.mail_rule.specs.declared.mail_pass.MailPass.{MailPass}
 use Rattle.mail_rule.proofs.AfterSend.{IsNew, sends}
 use Rattle.mail_rule.proofs.AfterTake.{takes}
-use Rattle.mail_rule.proofs.Moved.{fresh_absent, no_term, shown_is}
 use Rattle.mail_rule.proofs.Seen.{Seen, anchor_entry, item_is, item_seen, position_seen}
 
 module _ (v : View MailPass) (s : State) (l : Lore) (passes : List MailPass)

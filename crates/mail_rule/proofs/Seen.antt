@@ -21,6 +21,8 @@ use Rattle.heap_rule.specs.declared.known.Known.TheVariants as knows
 use Rattle.heap_rule.specs.declared.view.View.{View}
 use Rattle.heap_rule.proofs.Maps.{In, entry_names, in_map, of_map}
 use Rattle.heap_rule.proofs.Seats.{knows_place, reached_place, target_now}
+use Rattle.heap_rule.proofs.Entries.{num_inj, same_entry}
+use Rattle.heap_rule.proofs.EntryWords.{learned_box, null_word, number_word}
 use Rattle.mail_rule.specs.Items.{item_at, letter_at, no_letter}
 use Rattle.mail_rule.specs.Knowing.{IsItemKnown, KnowsItem}
 use Rattle.mail_rule.specs.Mail.{HasPosition, HoldsMail, IsFollowed, is_fixed}
@@ -28,7 +30,6 @@ use Rattle.mail_rule.specs.Told.{IsSmall, TellsFollowing, TellsItem, TellsLatest
 use Rattle.mail_rule.specs.declared.items.Item.{Item}
 use Rattle.mail_rule.specs.declared.mail_pass.MailPass.{MailPass}
 use Rattle.mail_rule.proofs.Counts.{letters_few}
-use Rattle.mail_rule.proofs.Moved.{learned_box, null_word, num_inj, number_word, same_entry}
 use Rattle.mail_rule.proofs.Standing.{item_of, not_anchor, position_low}
 
 -- the box of this item is in the map

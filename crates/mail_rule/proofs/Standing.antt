@@ -6,11 +6,11 @@ use lib.ListN.{get_elem?}
 use Rattle.cell_words.specs.Term.{null, num}
 use Rattle.heap_rule.specs.Boxes.{Map, Payload}
 use Rattle.heap_rule.specs.Lore.{Named, Plain}
+use Rattle.heap_rule.proofs.Entries.{num_inj, same_entry}
 use Rattle.mail_rule.specs.Items.{Letter}
 use Rattle.mail_rule.specs.Mail.{HasItem, HasPosition, HasTaken, HoldsMail, IsFollowed, IsItem}
 use Rattle.mail_rule.specs.Mail.{IsLast}
 use Rattle.mail_rule.specs.declared.mail_pass.MailPass.{MailPass}
-use Rattle.mail_rule.proofs.Moved.{num_inj, same_entry}
 
 pub some_below : {A : Type 0} (xs : List A) (i : ℕ) (x : A) → get_elem? xs i ≡ some x
     → i < length xs
