@@ -9,14 +9,13 @@ use lib.ListN.{get_elem?}
 use Rattle.atomic_table.proofs.Lists.{at_set}
 use Rattle.cell_words.specs.Term.{null, num}
 use Rattle.heap_rule.specs.Boxes.{Map, Payload, written_map}
-use Rattle.heap_rule.specs.Lore.{Entry, Named, Plain, put}
+use Rattle.heap_rule.specs.Lore.{Named, Plain, put}
 use Rattle.heap_rule.proofs.Claiming.{put_here, put_other}
-use Rattle.heap_rule.proofs.Entries.{same_entry, some_is, written_else, written_here}
-use Rattle.mail_rule.specs.Items.{Letter, letter_at, sends_of, takes_of}
-use Rattle.mail_rule.specs.Mail.{HasItem, HasPosition, HasTaken, HoldsMail, IsFollowed, IsItem}
-use Rattle.mail_rule.specs.Mail.{IsLast, IsOwn, IsSigned}
+use Rattle.heap_rule.proofs.Entries.{some_is, written_else, written_here}
+use Rattle.mail_rule.specs.Items.{Letter, letter_at, sends_of}
+use Rattle.mail_rule.specs.Mail.{HasItem, HasPosition, HasTaken, HoldsMail, IsItem}
+use Rattle.mail_rule.specs.Mail.{IsOwn, IsSigned}
 use Rattle.mail_rule.specs.Passes.{having_sent}
-use Rattle.mail_rule.specs.declared.items.Item.{Item}
 use Rattle.mail_rule.specs.declared.items.Sent.{Sent}
 use Rattle.mail_rule.specs.declared.mail_pass.MailPass.{MailPass}
 use Rattle.mail_rule.proofs.Letters.{letter_last, letter_still, sends_more, sends_same, takes_still}

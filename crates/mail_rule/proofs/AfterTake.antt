@@ -7,7 +7,7 @@ use mathlib.Core.Option.{some}
 use lib.ListN.{get_elem?}
 use Rattle.atomic_table.proofs.Lists.{at_set}
 use Rattle.cell_words.specs.Term.{num}
-use Rattle.heap_rule.specs.Boxes.{Map, Payload, written_map}
+use Rattle.heap_rule.specs.Boxes.{Map, written_map}
 use Rattle.heap_rule.specs.Lore.{Named, Plain, put}
 use Rattle.heap_rule.proofs.Claiming.{put_other}
 use Rattle.heap_rule.proofs.Entries.{named_inj, same_entry, written_else, written_here}

@@ -13,9 +13,9 @@ use lib.ListN.{get_elem?}
 use Rattle.atomic_table.proofs.Lists.{at_index}
 use Rattle.heap_rule.specs.Boxes.{Map}
 use Rattle.mail_rule.specs.Counted.{EachOnce, WasSent, all_sent, all_taken, sent_in, taken_in}
-use Rattle.mail_rule.specs.Items.{Letter, item_at, letter_at, no_letter, positions_of, senders}
-use Rattle.mail_rule.specs.Items.{sends_of, sent_at, takes_of}
-use Rattle.mail_rule.specs.Mail.{HasPosition, HoldsMail, IsOwn, IsSigned}
+use Rattle.mail_rule.specs.Items.{Letter, item_at, no_letter, positions_of, senders}
+use Rattle.mail_rule.specs.Items.{sent_at}
+use Rattle.mail_rule.specs.Mail.{HasPosition, HoldsMail, IsSigned}
 use Rattle.mail_rule.specs.Passes.{opening_pass}
 use Rattle.mail_rule.specs.declared.items.Item.{Item}
 use Rattle.mail_rule.specs.declared.items.Sent.{Sent}
@@ -145,9 +145,11 @@ module _ (map : Map) (passes : List MailPass) (h : HoldsMail map passes) where
   pass_at : (number : ℕ) → number < length passes
       → (pass : MailPass) × (get_elem? passes number ≡ some pass)
   pass_at number lt =
-      let pass = get_or passes number (opening_pass 0 0) in
-      (pass, at_index passes number pass lt
-          (get_or_default passes number (opening_pass 0 0) pass lt))
+      let pass = get_or passes number (opening_pass 0 0) in (
+        pass,
+        at_index passes number pass lt
+            (get_or_default passes number (opening_pass 0 0) pass lt),
+      )
 
   pub was_sent : (position : ℕ) → 1 ≤ position → position ≤ length h.letters
       → WasSent passes (item_at h.letters position)

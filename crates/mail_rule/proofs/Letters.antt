@@ -1,8 +1,8 @@
 -- The positions at which somebody stands in a list, and the items there: when the list is longer by
 -- one, and when only the letters are.
 use Rattle.std.proofs.Common.{◌≡◌, ◌≢◌, ℕ, suc, ◌+◌, ◌<◌, ◌≤◌, ◌==◌, Bool, true, false, List, []}
-use Rattle.std.proofs.Common.{◌∷◌, ◌++◌, map, length, get_or, Contains, All, refl, sym, ◌∙◌, ap}
-use Rattle.std.proofs.Common.{subst, arith, if◌then◌else◌}
+use Rattle.std.proofs.Common.{◌∷◌, ◌++◌, map, length, All, refl, ◌∙◌, ap}
+use Rattle.std.proofs.Common.{arith, if◌then◌else◌}
 use Rattle.std.proofs.lemmas.Bool.{eq-eqb, ne_eqb}
 use Rattle.std.proofs.lemmas.List.{append-nil, get_or_append_left, get_or_push, length-map}
 use Rattle.std.proofs.lemmas.List.{map-append, map_push}

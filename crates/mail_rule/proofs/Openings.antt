@@ -1,6 +1,6 @@
 -- The rule holds where a mailbox opens.
 use Rattle.std.proofs.Common.{◌≡◌, ◌<◌, ◌≤◌, ◌-◌, ◌⊎◌, ℕ, zero, suc, ◌+◌, false, true, List, []}
-use Rattle.std.proofs.Common.{◌∷◌, length, Some, inl, inr, refl, sym, ◌∙◌, ap, subst, arith}
+use Rattle.std.proofs.Common.{length, Some, inl, inr, refl, sym, ◌∙◌, ap, subst, arith}
 use Rattle.std.proofs.lemmas.List.Elements.{All-nil}
 use mathlib.Core.Option.{some, some-injective}
 use lib.ListN.{get_elem?}
@@ -14,10 +14,9 @@ use Rattle.heap_rule.specs.Lore.{Lore, Named, Plain}
 use Rattle.heap_rule.specs.Opening.{FirstTerms, opening_lore, opening_passes, opening_rooms}
 use Rattle.heap_rule.specs.Opening.{passes_from}
 use Rattle.heap_rule.specs.Shape.{Shape, start}
-use Rattle.heap_rule.proofs.Maps.{In, in_map, of_map}
+use Rattle.heap_rule.proofs.Maps.{in_map, of_map}
 use Rattle.heap_rule.proofs.Entries.{same_entry, some_is}
 use Rattle.heap_rule.proofs.Openings.{as_many_open, null_rows}
-use Rattle.mail_rule.specs.Items.{Letter}
 use Rattle.mail_rule.specs.Mail.{HasPosition, HoldsMail, IsItem, IsOwn, IsSigned}
 use Rattle.mail_rule.specs.Opening.{OpensMail, first_rows, first_terms}
 use Rattle.mail_rule.specs.Passes.{opening_pass}
@@ -107,7 +106,7 @@ module _ (cells : ℕ) (rooms : List ℕ) (known : ℕ) where
     few = subst (λ (n : ℕ). n ≤ 64) (sym (as_many_open opening_pass setting 0 mutators)) few;
     signed = All-nil (IsSigned (length (passes_from opening_pass setting 0 mutators)));
     received = All-nil (λ (number : ℕ).
-    number < length (passes_from opening_pass setting 0 mutators));
+        number < length (passes_from opening_pass setting 0 mutators));
     own = λ number pass at.
         subst (λ (p : MailPass). IsOwn [] [] number p)
         (first_pass setting 0 mutators number pass at) (first_own number);

@@ -1,11 +1,8 @@
 -- Items from words to the rule and back: what a seat knows of them, and what a read tells.
-use Rattle.std.proofs.Common.{◌≡◌, ◌≢◌, ℕ, zero, suc, ◌+◌, ◌≤◌, ◌⊎◌, List, length, inl, inr, refl}
+use Rattle.std.proofs.Common.{◌≡◌, ◌≢◌, ℕ, zero, suc, ◌+◌, ◌≤◌, List, length, inl, inr, refl}
 use Rattle.std.proofs.Common.{sym, ◌∙◌, ap, subst, arith}
-use mathlib.Core.Option.{some}
-use lib.ListN.{get_elem?}
-use Rattle.cell_words.specs.declared.fields.Field.{Field}
 use Rattle.cell_words.specs.declared.fields.Field.TheVariants as field
-use Rattle.cell_words.specs.Term.{null, num}
+use Rattle.cell_words.specs.Term.{num}
 use Rattle.core_machine.specs.Next.{found_by}
 use Rattle.core_machine.specs.State.{State, field_of, target_of}
 use Rattle.core_machine.specs.declared.events.Event.TheVariants as event
@@ -13,7 +10,7 @@ use Rattle.core_machine.specs.declared.events.Found.TheVariants as finds
 use Rattle.heap_rule.specs.Asks.{target}
 use Rattle.heap_rule.specs.Boxes.{boxes_of, payload_of}
 use Rattle.heap_rule.specs.Facts.{IsKnown}
-use Rattle.heap_rule.specs.Lore.{Lore, Named, Plain, five_plain, learned, learned_from, learned_of}
+use Rattle.heap_rule.specs.Lore.{Lore, Plain, five_plain, learned, learned_from, learned_of}
 use Rattle.heap_rule.specs.Lore.{plain}
 use Rattle.heap_rule.specs.Steps.{AtStep, Mine, same_pass}
 use Rattle.heap_rule.specs.declared.known.Known.{Known}
@@ -198,10 +195,10 @@ module _ (v : View MailPass) (s : State) (l : Lore) (passes : List MailPass)
         (found_by s (event.Read v.number place 3))
     tells_next = elim (item_of (boxes_of s l) passes h x item.position
         (position_seen s l x item seen)).next [
-      | inl end ↦ inl (ap finds.Field
-          (null_word is_fixed s l mine.shown.facts x 3 seen.in_is.reached end.none))
-      | inr next ↦ inr (follows_tells next)
-    ]
+          | inl end ↦ inl (ap finds.Field
+              (null_word is_fixed s l mine.shown.facts x 3 seen.in_is.reached end.none))
+          | inr next ↦ inr (follows_tells next)
+        ]
 
     pub item_small : IsSmall item
     item_small = small_seen x item seen

@@ -1,8 +1,8 @@
 -- The rule of a mailbox on maps: that it stands on every smaller map.
 -- Source: this project's.
-use Rattle.std.proofs.Common.{◌≡◌, ◌≢◌, ℕ, ◌+◌, ◌<◌, ◌⊎◌, List, length, Some, inl, inr, ◌∙◌, arith}
+use Rattle.std.proofs.Common.{◌≡◌, ℕ, ◌+◌, ◌<◌, ◌⊎◌, List, length, Some, inl, inr, ◌∙◌, arith}
 use Rattle.heap_rule.specs.Boxes.{Map, Payload, Smaller}
-use Rattle.heap_rule.specs.Lore.{Entry, Named}
+use Rattle.heap_rule.specs.Lore.{Named}
 use Rattle.mail_rule.specs.Items.{Letter}
 use Rattle.mail_rule.specs.Mail.{HasPosition, HasTaken, HoldsMail, IsFollowed, IsItem, IsLast}
 use Rattle.mail_rule.specs.declared.mail_pass.MailPass.{MailPass}
