@@ -15,10 +15,9 @@ use mathlib.Core.Option.{some}
 use lib.ListN.{get_elem?}
 use Rattle.cell_words.specs.declared.colours.Colour.{Colour}
 use Rattle.cell_words.specs.declared.colours.Colour.TheVariants as colour
-use Rattle.closed_store.specs.Closing.{EndedStore}
-use Rattle.closed_store.proofs.Counting.{below_all}
-use Rattle.closed_store.proofs.Getting.{claims_along, gets_cell, gets_this, got_few}
-use Rattle.closed_store.proofs.Getting.{start_claims, start_paired}
+use Rattle.closed_heap.proofs.Counting.{below_all}
+use Rattle.closed_heap.proofs.Getting.{claims_along, gets_cell, gets_this, got_few}
+use Rattle.closed_heap.proofs.Getting.{start_claims, start_paired}
 use Rattle.core_machine.specs.declared.events.Event.{Event}
 use Rattle.core_machine.specs.declared.events.Event.TheVariants as event
 use Rattle.core_machine.specs.declared.events.Found.{Found}
@@ -29,7 +28,8 @@ use Rattle.core_machine.specs.Own.{no_own}
 use Rattle.core_machine.specs.Run.{last}
 use Rattle.core_machine.specs.Trail.{same_maker, trail_of}
 use Rattle.dlg_core.specs.Sums.{IsClaimed, claims_of}
-use Rattle.heap_rule.specs.Laws.{FoundUsedWasClaimed}
+use Rattle.heap_rule.specs.Boxes.{Map}
+use Rattle.heap_rule.specs.Laws.{Ended, FoundUsedWasClaimed}
 use Rattle.heap_rule.specs.Shape.{Shape, start}
 use Rattle.heap_rule.specs.declared.view.Place.TheVariants as places
 use Rattle.heap_rule.specs.declared.view.Share.{Share}
@@ -37,7 +37,6 @@ use Rattle.heap_rule.specs.declared.view.View.{View}
 use Rattle.trails.specs.Claims.{IsFull, claims_used, finds_used, found_used, is_used}
 use Rattle.trails.specs.Marks.{Mark, looked, marks_of}
 use Rattle.trails.proofs.Claims.{used_shown}
-use Rattle.version_rule.specs.Pass.{Pass}
 
 -- what some event of a trail did some event of the run did
 of_trail : (p : Taken → Bool) (who : Option ℕ) (ts : List Taken)
@@ -155,8 +154,9 @@ claimed_or_first h run c claimed any =
       | inr before ↦ inr (claimed_on run is.before is.later is.passing c is.split before)
     ]
 
-module _ (h : Shape) (words : List ℕ) (v : View Pass) (ended : EndedStore h words v) (i : ℕ)
-    (share : Share Pass) (before stretch after : List Mark)
+module _ {S P : Type 0} {opens : ℕ → ℕ → P} {holding : Map → List P → Type 0} {fixed : ℕ → Bool}
+    (h : Shape) (words : List ℕ) (v : View P) (ended : Ended opens holding fixed h S words v)
+    (i : ℕ) (share : Share P) (before stretch after : List Mark)
     (at : get_elem? v.places i ≡ some (places.Joined share))
     (split : marks_of share.trail ≡ before ++ (stretch ++ after))
     (full : IsFull h.cells stretch) where

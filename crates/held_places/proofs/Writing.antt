@@ -1,5 +1,5 @@
 -- What a write leaves that a picked pass goes with: the trail, the held list, and what is known.
-use Rattle.std.proofs.Common.{◌≡◌, ◌≢◌, ◌<◌, ℕ, Bool, true, false, List, [], ◌++◌, get_or}
+use Rattle.std.proofs.Common.{◌≡◌, ◌≢◌, ◌<◌, ℕ, Bool, true, false, List, [], ◌∷◌, ◌++◌, get_or}
 use Rattle.std.proofs.Common.{length, Result, Ok, Err, OnOk, IfErr, refl, sym, ◌∙◌, ap, subst}
 use Rattle.std.proofs.Common.{arith}
 use Rattle.std.proofs.lemmas.List.{append-nil}
@@ -20,13 +20,12 @@ use Rattle.mutator_events.specs.declared.values.Value.{Value}
 use Rattle.mutator_events.specs.Values.{field_at}
 use Rattle.mutator_seat.specs.Bound.{Bound, held_cells}
 use Rattle.mutator_seat.specs.Writes.{LookAndMarks, Updated, write_of}
-use Rattle.mutator_seat.proofs.Writes.{field_same, many_same}
-use Rattle.trails.specs.Asks.{nothing}
-use Rattle.version_rule.specs.Pass.{Pass}
-use Rattle.version_rule.specs.Versions.{is_fixed}
-use Rattle.version_store.specs.Calls.{Goes, StillKnown, known_fresh}
-use Rattle.version_store.proofs.Filling.{stored_still}
-use Rattle.version_store.proofs.Going.{calm_goes, goes_then, goes_told, many_cells, still_same}
+use Rattle.mutator_seat.proofs.Writes.{cell_same, field_same, many_same}
+use Rattle.trails.specs.Asks.{here, nothing, wrote_at}
+use Rattle.held_places.specs.Calls.{Goes, StillKnown, known_fresh}
+use Rattle.held_places.proofs.Storing.{stored_still}
+use Rattle.held_places.proofs.Going.{calm_goes, goes_none, goes_on, goes_then, goes_told}
+use Rattle.held_places.proofs.Going.{many_cells, still_same}
 
 -- whichever way the write ended
 pub either_way : {U : Field → Type 0} {M : Type 0} (found : M → Field) (expected : Field)
@@ -35,10 +34,11 @@ pub either_way : {U : Field → Type 0} {M : Type 0} (found : M → Field) (expe
 either_way found expected (Ok u) made moved = (expected, made)
 either_way found expected (Err m) made moved = (found m, moved.1)
 
-module _ (holds : Map → List Pass → Type 0) (next : Learned → Found → Pass → Pass)
-    (a b : Bound Pass) (place f : ℕ) (old new : Value) (found : Field)
-    (wrote : Updated holds is_fixed next a place f old new found b) where
-  abbrev at : Bound Pass
+module _ {P : Type 0} (fixed : ℕ → Bool) (holds : Map → List P → Type 0)
+    (next : Learned → Found → P → P)
+    (a b : Bound P) (place f : ℕ) (old new : Value) (found : Field)
+    (wrote : Updated holds fixed next a place f old new found b) where
+  abbrev at : Bound P
   at = wrote.at
 
   abbrev write : Event
@@ -47,23 +47,37 @@ module _ (holds : Map → List Pass → Type 0) (next : Learned → Found → Pa
   abbrev tells : Learned
   tells = learned wrote.event.core wrote.event.lore write
 
-  pub wrote_goes : Goes [] a b
-  wrote_goes =
+  -- the trail shows the write, with the values that stood for the fields before it
+  pub wrote_shown : Goes (wrote_at (target a.seat.me place) f (field_at a.seat.me.own.held old)
+      (field_at a.seat.me.own.held new) found ∷ []) a b
+  wrote_shown =
+      let same = wrote.calm.kept.held in
       goes_then
       (calm_goes (LookAndMarks a.seat.me.number a.seat.me.presence.status old new) a at wrote.calm)
-      (goes_told at b [] write (finds.Field found) tells (next tells (finds.Field found)
-      at.seat.me.pass) (wrote.heap ∙ sym wrote.calm.kept.heap)
-      (wrote.table ∙ sym wrote.calm.kept.table) wrote.event.new refl nothing)
+      (goes_told at b (wrote_at (target a.seat.me place) f (field_at a.seat.me.own.held old)
+      (field_at a.seat.me.own.held new) found ∷ []) write (finds.Field found) tells
+      (next tells (finds.Field found) at.seat.me.pass) (wrote.heap ∙ sym wrote.calm.kept.heap)
+      (wrote.table ∙ sym wrote.calm.kept.table) wrote.event.new refl
+      (here (
+        cell_same at.seat.me.own.held a.seat.me.own.held same place,
+        refl,
+        field_same at.seat.me.own.held a.seat.me.own.held same old,
+        field_same at.seat.me.own.held a.seat.me.own.held same new,
+        refl,
+      ) nothing))
+
+  pub wrote_goes : Goes [] a b
+  wrote_goes = goes_on (goes_none a) wrote_shown
 
   pub wrote_held : held_cells b ≡ held_cells a ++ []
   wrote_held = wrote.held ∙ sym (append-nil (held_cells a))
 
   pub wrote_pass : b.seat.me.pass ≡ next tells (finds.Field found) a.seat.me.pass
-  wrote_pass = ap (λ (u : View Pass). u.pass) wrote.event.new
-      ∙ ap (λ (p : Pass). next tells (finds.Field found) p) wrote.calm.kept.pass
+  wrote_pass = ap (λ (u : View P). u.pass) wrote.event.new
+      ∙ ap (λ (p : P). next tells (finds.Field found) p) wrote.calm.kept.pass
 
   pub wrote_claims : b.seat.me.own.claims ≡ a.seat.me.own.claims
-  wrote_claims = ap (λ (u : View Pass). u.own.claims) wrote.event.new ∙ wrote.calm.kept.claims
+  wrote_claims = ap (λ (u : View P). u.own.claims) wrote.event.new ∙ wrote.calm.kept.claims
 
   abbrev cells : List ℕ
   cells = held_cells at
@@ -74,12 +88,12 @@ module _ (holds : Map → List Pass → Type 0) (next : Learned → Found → Pa
       → get_or cells other 0 ≢ get_or cells place 0)
       → (known_fresh (known_of at.seat.me other) ≡ true
       → (c : ℕ) → field_at at.seat.me.own.held new ≡ field.Cell c → get_or cells other 0 ≢ c)
-      → StillKnown (known_of at.seat.me other)
+      → StillKnown fixed (known_of at.seat.me other)
       (known_at (known_stored_if made cells at.seat.me.known place f
       (field_at at.seat.me.own.held new)) other)
-  stored_if true other many lt apart unnamed = stored_still cells at.seat.me.known place f
+  stored_if true other many lt apart unnamed = stored_still fixed cells at.seat.me.known place f
       (field_at at.seat.me.own.held new) many other lt apart unnamed
-  stored_if false other many lt apart unnamed = still_same (known_of at.seat.me other)
+  stored_if false other many lt apart unnamed = still_same fixed (known_of at.seat.me other)
 
   cell_at_is : (other : ℕ) → get_or cells other 0 ≡ target a.seat.me other
   cell_at_is other = ap (λ (cs : List ℕ). get_or cs other 0) wrote.calm.kept.held
@@ -93,16 +107,16 @@ module _ (holds : Map → List Pass → Type 0) (next : Learned → Found → Pa
       → target a.seat.me other ≢ target a.seat.me place)
       → (known_fresh (known_of a.seat.me other) ≡ true
       → (c : ℕ) → field_at a.seat.me.own.held new ≡ field.Cell c → target a.seat.me other ≢ c)
-      → StillKnown (known_of a.seat.me other) (known_of b.seat.me other)
+      → StillKnown fixed (known_of a.seat.me other) (known_of b.seat.me other)
   wrote_known many other lt apart unnamed =
       let same = many_same at.seat.me.own.held a.seat.me.own.held wrote.calm.kept.held in
       let long = many_cells at in
       let known = ap (λ (ks : List Known). length ks) wrote.calm.kept.known in
       let here : known_of at.seat.me other ≡ known_of a.seat.me other =
       ap (λ (ks : List Known). known_at ks other) wrote.calm.kept.known in
-      subst (λ (k : Known). StillKnown k (known_of b.seat.me other)) here
-      (subst (λ (k : Known). StillKnown (known_of at.seat.me other) k)
-      (sym (ap (λ (u : View Pass). known_of u other) wrote.event.new))
+      subst (λ (k : Known). StillKnown fixed k (known_of b.seat.me other)) here
+      (subst (λ (k : Known). StillKnown fixed (known_of at.seat.me other) k)
+      (sym (ap (λ (u : View P). known_of u other) wrote.event.new))
       (stored_if (was_made (field_at at.seat.me.own.held old) (finds.Field found)) other
       (omega (arith, known, many, long, same)) (omega (arith, lt, long, same))
       (λ is on. apart (sym (ap known_fresh here) ∙ is)

@@ -1,10 +1,9 @@
 -- How calls follow one another: the trail, the held list, and what is known of it.
-use Rattle.std.proofs.Common.{◌≡◌, ◌<◌, ◌≤◌, ◌+◌, ℕ, true, List, [], ◌∷◌, ◌++◌, length}
+use Rattle.std.proofs.Common.{◌≡◌, ◌<◌, ◌≤◌, ◌+◌, ℕ, Bool, true, List, [], ◌∷◌, ◌++◌, length}
 use Rattle.std.proofs.Common.{get_or, take}
 use Rattle.std.proofs.Common.{refl, sym, ◌∙◌, ap, subst, arith}
 use Rattle.std.proofs.lemmas.List.{append_assoc, append-nil, get_or-take, get_or_append_left}
 use Rattle.std.proofs.lemmas.List.{length-append, length-map, take-map, take_at}
-use Rattle.cell_words.specs.Term.{Term, num}
 use Rattle.core_machine.specs.declared.events.Event.{Event}
 use Rattle.core_machine.specs.declared.events.Event.TheVariants as event
 use Rattle.core_machine.specs.declared.events.Found.{Found}
@@ -26,14 +25,12 @@ use Rattle.trails.specs.Asks.{Ask, InOrder, nothing}
 use Rattle.trails.specs.Marks.{Mark, mark_of, marks_from}
 use Rattle.trails.proofs.Marks.{marks_append, own_append}
 use Rattle.trails.proofs.Orders.{order_after, order_append, order_back}
-use Rattle.version_rule.specs.Knowing.{IsVersionKnown, KnowsVersion}
-use Rattle.version_rule.specs.Pass.{Pass}
-use Rattle.version_store.specs.Calls.{Goes, Holds, IsIn, StaysKnown, StillKnown}
-use Rattle.version_store.specs.Calls.{known_fresh, settled}
+use Rattle.held_places.specs.Calls.{Goes, Holds, IsIn, StaysKnown, StillKnown}
+use Rattle.held_places.specs.Calls.{known_fresh, settled}
 
 -- Trails.
 
-pub goes_none : (a : Bound Pass) → Goes [] a a
+pub goes_none : {P : Type 0} (a : Bound P) → Goes [] a a
 goes_none a = record {
   heap = refl;
   table = refl;
@@ -49,7 +46,7 @@ goes_none a = record {
   shown = nothing;
 }
 
-pub goes_then : {xs ys : List Ask} {a b c : Bound Pass} → Goes xs a b → Goes ys b c
+pub goes_then : {P : Type 0} {xs ys : List Ask} {a b c : Bound P} → Goes xs a b → Goes ys b c
     → Goes (xs ++ ys) a c
 goes_then {xs = xs} {ys = ys} {a = a} {b = b} first second = record {
   heap = second.heap ∙ first.heap;
@@ -72,7 +69,7 @@ goes_then {xs = xs} {ys = ys} {a = a} {b = b} first second = record {
 }
 
 -- the same events, asked for other reads
-goes_as : {xs : List Ask} {a b : Bound Pass} (ys : List Ask) (goes : Goes xs a b)
+goes_as : {P : Type 0} {xs : List Ask} {a b : Bound P} (ys : List Ask) (goes : Goes xs a b)
     → InOrder ys (marks_from a.seat.me.own goes.added) → Goes ys a b
 goes_as ys goes shown = record {
   heap = goes.heap;
@@ -90,13 +87,15 @@ goes_as ys goes shown = record {
 }
 
 -- what a call before showed is not asked for
-pub goes_late : {xs ys : List Ask} {a b c : Bound Pass} → Goes xs a b → Goes ys b c → Goes ys a c
+pub goes_late : {P : Type 0} {xs ys : List Ask} {a b c : Bound P} → Goes xs a b → Goes ys b c
+    → Goes ys a c
 goes_late {xs = xs} {ys = ys} {a = a} first second =
     let both = goes_then first second in
     goes_as ys both (order_back xs ys (marks_from a.seat.me.own both.added) both.shown)
 
 -- nor what a call behind showed
-pub goes_on : {xs ys : List Ask} {a b c : Bound Pass} → Goes xs a b → Goes ys b c → Goes xs a c
+pub goes_on : {P : Type 0} {xs ys : List Ask} {a b c : Bound P} → Goes xs a b → Goes ys b c
+    → Goes xs a c
 unfolding goes_then
 goes_on {xs = xs} {a = a} first second =
     goes_as xs (goes_then first second)
@@ -105,45 +104,47 @@ goes_on {xs = xs} {a = a} first second =
     (order_after (marks_from (own_along a.seat.me.own first.added) second.added) first.shown))
 
 -- one event that leaves the presence
-pub goes_told : (a b : Bound Pass) (asks : List Ask) (e : Event) (found : Found) (tells : Learned)
-    (pass : Pass) → b.heap ≡ a.heap → b.seat.table ≡ a.seat.table
+pub goes_told : {P : Type 0} (a b : Bound P) (asks : List Ask) (e : Event) (found : Found)
+    (tells : Learned)
+    (pass : P) → b.heap ≡ a.heap → b.seat.table ≡ a.seat.table
     → b.seat.me ≡ told a.seat.me e found tells pass
     → presence_after a.seat.me.presence e found ≡ a.seat.me.presence
     → InOrder asks (mark_of a.seat.me.own e found) → Goes asks a b
-goes_told a b asks e found tells pass heap table new same shown = record {
+goes_told {P = P} a b asks e found tells pass heap table new same shown = record {
   heap = heap;
   table = table;
-  shape = ap (λ (v : View Pass). v.shape) new;
-  role = ap (λ (v : View Pass). v.role) new;
-  number = ap (λ (v : View Pass). v.number) new;
-  room = ap (λ (v : View Pass). v.room) new;
-  inside = ap (λ (v : View Pass). v.presence.inside) new ∙ ap (λ p. p.inside) same;
-  over = ap (λ (v : View Pass). v.presence.over) new ∙ ap (λ p. p.over) same;
+  shape = ap (λ (v : View P). v.shape) new;
+  role = ap (λ (v : View P). v.role) new;
+  number = ap (λ (v : View P). v.number) new;
+  room = ap (λ (v : View P). v.room) new;
+  inside = ap (λ (v : View P). v.presence.inside) new ∙ ap (λ p. p.inside) same;
+  over = ap (λ (v : View P). v.presence.over) new ∙ ap (λ p. p.over) same;
   added = took e found ∷ [];
-  trail = ap (λ (v : View Pass). v.trail) new;
-  own = ap (λ (v : View Pass). v.own) new;
+  trail = ap (λ (v : View P). v.trail) new;
+  own = ap (λ (v : View P). v.own) new;
   shown = order_after [] shown;
 }
 
 -- a stretch that picked no pass
 
-all_trail : (a : Bound Pass) (ts : List Taken)
+all_trail : {P : Type 0} (a : Bound P) (ts : List Taken)
     → (takes_all a ts).seat.me.trail ≡ a.seat.me.trail ++ ts
 all_trail a [] = sym (append-nil a.seat.me.trail)
 all_trail a (t ∷ ts) = all_trail (takes a t.event t.found) ts
     ∙ append_assoc a.seat.me.trail (t ∷ []) ts
 
-all_own : (a : Bound Pass) (ts : List Taken)
+all_own : {P : Type 0} (a : Bound P) (ts : List Taken)
     → (takes_all a ts).seat.me.own ≡ own_along a.seat.me.own ts
 all_own a [] = refl
 all_own a (t ∷ ts) = all_own (takes a t.event t.found) ts
 
-pub calm_trail : (F : List Taken → Type 0) (a b : Bound Pass) (calm : Calm F a b)
+pub calm_trail : {P : Type 0} (F : List Taken → Type 0) (a b : Bound P) (calm : Calm F a b)
     → b.seat.me.trail ≡ a.seat.me.trail ++ calm.added
-calm_trail F a b calm = ap (λ (m : Bound Pass). m.seat.me.trail) calm.told ∙ all_trail a calm.added
+calm_trail {P = P} F a b calm =
+    ap (λ (m : Bound P). m.seat.me.trail) calm.told ∙ all_trail a calm.added
 
-pub calm_goes : (F : List Taken → Type 0) (a b : Bound Pass) → Calm F a b → Goes [] a b
-calm_goes F a b calm = record {
+pub calm_goes : {P : Type 0} (F : List Taken → Type 0) (a b : Bound P) → Calm F a b → Goes [] a b
+calm_goes {P = P} F a b calm = record {
   heap = calm.kept.heap;
   table = calm.kept.table;
   shape = calm.kept.shape;
@@ -154,16 +155,16 @@ calm_goes F a b calm = record {
   over = calm.kept.over;
   added = calm.added;
   trail = calm_trail F a b calm;
-  own = ap (λ (m : Bound Pass). m.seat.me.own) calm.told ∙ all_own a calm.added;
+  own = ap (λ (m : Bound P). m.seat.me.own) calm.told ∙ all_own a calm.added;
   shown = nothing;
 }
 
 -- Held lists.
 
-pub many_cells : (m : Bound Pass) → length (held_cells m) ≡ length m.seat.me.own.held
+pub many_cells : {P : Type 0} (m : Bound P) → length (held_cells m) ≡ length m.seat.me.own.held
 many_cells m = length-map m.seat.me.own.held (λ (p : Held). p.cell)
 
-pub many_held : (a b : Bound Pass) (cells : List ℕ) → held_cells b ≡ held_cells a ++ cells
+pub many_held : {P : Type 0} (a b : Bound P) (cells : List ℕ) → held_cells b ≡ held_cells a ++ cells
     → length b.seat.me.own.held ≡ length a.seat.me.own.held + length cells
 many_held a b cells is =
     let there = many_cells b in
@@ -171,7 +172,8 @@ many_held a b cells is =
     let both = ap (λ (cs : List ℕ). length cs) is ∙ length-append (held_cells a) cells in
     omega (arith, there, here, both)
 
-pub target_still : (a b : Bound Pass) (cells : List ℕ) → held_cells b ≡ held_cells a ++ cells
+pub target_still : {P : Type 0} (a b : Bound P) (cells : List ℕ)
+    → held_cells b ≡ held_cells a ++ cells
     → (place : ℕ) → place < length a.seat.me.own.held
     → target b.seat.me place ≡ target a.seat.me place
 target_still a b cells is place lt =
@@ -181,7 +183,8 @@ target_still a b cells is place lt =
     (let many = many_cells a in omega (arith, many, lt))
     ∙ cell_there a.seat.me.own.held place
 
-pub in_still : (a b : Bound Pass) (cells : List ℕ) (asks : List Ask) → IsIn a → Goes asks a b
+pub in_still : {P : Type 0} (a b : Bound P) (cells : List ℕ) (asks : List Ask) → IsIn a
+    → Goes asks a b
     → held_cells b ≡ held_cells a ++ cells → IsIn b
 in_still a b cells asks is goes held = record {
   inside = goes.inside ∙ is.inside;
@@ -190,7 +193,7 @@ in_still a b cells asks is goes held = record {
 }
 
 -- as a mutator that is in says of its places
-pub comes_in : (a : Bound Pass) (many : ℕ) → a.seat.me.presence.inside ≡ true
+pub comes_in : {P : Type 0} (a : Bound P) (many : ℕ) → a.seat.me.presence.inside ≡ true
     → many ≡ length a.seat.me.own.held → (a.seat.me.presence.inside ≡ true → 1 ≤ many)
     → (a.seat.me.presence.inside ≡ true → target a.seat.me 0 ≡ 0) → IsIn a
 comes_in a many is len some anchor = record {
@@ -201,131 +204,118 @@ comes_in a many is len some anchor = record {
 
 -- What is known.
 
-pub still_same : (k : Known) → StillKnown k k
-still_same knows.Nothing = tt
-still_same (knows.Raw fields) = refl
-still_same (knows.Fresh fields) = refl
-still_same (knows.Record t) = refl
-still_same (knows.Boxed told) = (told, (refl, λ f t lt is e. e))
+pub still_same : (fixed : ℕ → Bool) (k : Known) → StillKnown fixed k k
+still_same fixed knows.Nothing = tt
+still_same fixed (knows.Raw fields) = refl
+still_same fixed (knows.Fresh fields) = refl
+still_same fixed (knows.Record t) = refl
+still_same fixed (knows.Boxed told) = (told, (refl, λ f t lt is e. e))
 
-pub still_then : (j k l : Known) → StillKnown j k → StillKnown k l → StillKnown j l
-still_then knows.Nothing k l first second = tt
-still_then (knows.Raw fields) k l first second =
-    subst (λ (x : Known). StillKnown x l) first second
-still_then (knows.Fresh fields) k l first second =
-    subst (λ (x : Known). StillKnown x l) first second
-still_then (knows.Record t) k l first second = subst (λ (x : Known). StillKnown x l) first second
-still_then (knows.Boxed told) k l first second =
-    let next = subst (λ (x : Known). StillKnown x l) first.1.0 second in
+pub still_then : (fixed : ℕ → Bool) (j k l : Known) → StillKnown fixed j k → StillKnown fixed k l
+    → StillKnown fixed j l
+still_then fixed knows.Nothing k l first second = tt
+still_then fixed (knows.Raw fields) k l first second =
+    subst (λ (x : Known). StillKnown fixed x l) first second
+still_then fixed (knows.Fresh fields) k l first second =
+    subst (λ (x : Known). StillKnown fixed x l) first second
+still_then fixed (knows.Record t) k l first second = subst
+    (λ (x : Known). StillKnown fixed x l) first second
+still_then fixed (knows.Boxed told) k l first second =
+    let next = subst (λ (x : Known). StillKnown fixed x l) first.1.0 second in
     (next.0, (next.1.0, λ f t lt is e. next.1.1 f t lt is (first.1.1 f t lt is e)))
 
 -- a further step, which may go by what is known to be fresh
-pub still_on : (j k l : Known) → StillKnown j k
-    → (known_fresh k ≡ known_fresh j → StillKnown k l) → StillKnown j l
-still_on knows.Nothing k l first next = tt
-still_on (knows.Raw fields) k l first next =
-    still_then (knows.Raw fields) k l first (next (ap known_fresh first))
-still_on (knows.Fresh fields) k l first next =
-    still_then (knows.Fresh fields) k l first (next (ap known_fresh first))
-still_on (knows.Record t) k l first next =
-    still_then (knows.Record t) k l first (next (ap known_fresh first))
-still_on (knows.Boxed told) k l first next =
-    still_then (knows.Boxed told) k l first (next (ap known_fresh first.1.0))
+pub still_on : (fixed : ℕ → Bool) (j k l : Known) → StillKnown fixed j k
+    → (known_fresh k ≡ known_fresh j → StillKnown fixed k l) → StillKnown fixed j l
+still_on fixed knows.Nothing k l first next = tt
+still_on fixed (knows.Raw fields) k l first next =
+    still_then fixed (knows.Raw fields) k l first (next (ap known_fresh first))
+still_on fixed (knows.Fresh fields) k l first next =
+    still_then fixed (knows.Fresh fields) k l first (next (ap known_fresh first))
+still_on fixed (knows.Record t) k l first next =
+    still_then fixed (knows.Record t) k l first (next (ap known_fresh first))
+still_on fixed (knows.Boxed told) k l first next =
+    still_then fixed (knows.Boxed told) k l first (next (ap known_fresh first.1.0))
 
 -- what is settled stays so
-pub settled_lasts : (j k : Known) → settled j ≡ true → StillKnown j k → settled k ≡ true
-settled_lasts knows.Nothing k is still = absurd cc
-settled_lasts (knows.Raw fields) k is still = absurd cc
-settled_lasts (knows.Fresh fields) k is still = absurd cc
-settled_lasts (knows.Record t) k is still = ap settled still
-settled_lasts (knows.Boxed told) k is still = ap settled still.1.0
+pub settled_lasts : (fixed : ℕ → Bool) (j k : Known) → settled j ≡ true → StillKnown fixed j k
+    → settled k ≡ true
+settled_lasts fixed knows.Nothing k is still = absurd cc
+settled_lasts fixed (knows.Raw fields) k is still = absurd cc
+settled_lasts fixed (knows.Fresh fields) k is still = absurd cc
+settled_lasts fixed (knows.Record t) k is still = ap settled still
+settled_lasts fixed (knows.Boxed told) k is still = ap settled still.1.0
 
-pub known_then : (n : ℕ) (a b c : Bound Pass) → StaysKnown n a b → StaysKnown n b c
-    → StaysKnown n a c
-known_then n a b c first second place lt =
-    still_then (known_of a.seat.me place) (known_of b.seat.me place) (known_of c.seat.me place)
+pub known_then : {P : Type 0} (fixed : ℕ → Bool) (n : ℕ) (a b c : Bound P) → StaysKnown fixed n a b
+    → StaysKnown fixed n b c
+    → StaysKnown fixed n a c
+known_then fixed n a b c first second place lt =
+    still_then fixed (known_of a.seat.me place) (known_of b.seat.me place)
+    (known_of c.seat.me place)
     (first place lt) (second place lt)
 
-pub holds_then : (xs ys : List ℕ) (a b c : Bound Pass) → Holds xs a b → Holds ys b c
-    → Holds (xs ++ ys) a c
-holds_then xs ys a b c first second = record {
+pub holds_then : {P : Type 0} (fixed : ℕ → Bool) (xs ys : List ℕ) (a b c : Bound P)
+    → Holds fixed xs a b → Holds fixed ys b c
+    → Holds fixed (xs ++ ys) a c
+holds_then fixed xs ys a b c first second = record {
   held = second.held ∙ ap (λ (cs : List ℕ). cs ++ ys) first.held
       ∙ append_assoc (held_cells a) xs ys;
-  known = known_then (length a.seat.me.own.held) a b c first.known
+  known = known_then fixed (length a.seat.me.own.held) a b c first.known
       (λ place lt. second.known place
       (let many = many_held a b xs first.held in omega (arith, many, lt)));
 }
 
 -- below another end
-pub known_below : (n k : ℕ) (a b : Bound Pass) → k ≤ n → StaysKnown n a b → StaysKnown k a b
-known_below n k a b le stays place lt = stays place (omega (arith, le, lt))
+pub known_below : {P : Type 0} (fixed : ℕ → Bool) (n k : ℕ) (a b : Bound P) → k ≤ n
+    → StaysKnown fixed n a b → StaysKnown fixed k a b
+known_below fixed n k a b le stays place lt = stays place (omega (arith, le, lt))
 
 -- a stretch that kept all
-pub kept_known : (n : ℕ) (a b : Bound Pass) → Kept a b → StaysKnown n a b
-kept_known n a b kept place lt =
-    subst (λ (k : Known). StillKnown (known_of a.seat.me place) k)
+pub kept_known : {P : Type 0} (fixed : ℕ → Bool) (n : ℕ) (a b : Bound P) → Kept a b
+    → StaysKnown fixed n a b
+kept_known fixed n a b kept place lt =
+    subst (λ (k : Known). StillKnown fixed (known_of a.seat.me place) k)
     (sym (ap (λ (ks : List Known). known_at ks place) kept.known))
-    (still_same (known_of a.seat.me place))
+    (still_same fixed (known_of a.seat.me place))
 
-pub kept_holds : (a b : Bound Pass) → Kept a b → Holds [] a b
-kept_holds a b kept = record {
+pub kept_holds : {P : Type 0} (fixed : ℕ → Bool) (a b : Bound P) → Kept a b → Holds fixed [] a b
+kept_holds fixed a b kept = record {
   held = kept.held ∙ sym (append-nil (held_cells a));
-  known = kept_known (length a.seat.me.own.held) a b kept;
-}
-
-pub version_known : (j k : Known) (number : ℕ) (root : Term) → StillKnown j k
-    → IsVersionKnown j number root → IsVersionKnown k number root
-version_known j k number root still is =
-    let boxed = subst (λ (x : Known). StillKnown x k) is.is still in
-    record {
-      told = boxed.0;
-      is = boxed.1.0;
-      number_is = boxed.1.1 0 (num number) (omega arith) refl is.number_is;
-      root_is = boxed.1.1 1 root (omega arith) refl is.root_is;
-    }
-
--- a version that is held is held still
-pub version_still : (n : ℕ) (cells : List ℕ) (a b : Bound Pass) → StaysKnown n a b
-    → held_cells b ≡ held_cells a ++ cells → (place number : ℕ) (root : Term) → place < n
-    → KnowsVersion a.seat.me place number root → KnowsVersion b.seat.me place number root
-version_still n cells a b stays held place number root lt knows = record {
-  there =
-      let many = many_held a b cells held in
-      let there = knows.there in omega (arith, many, there);
-  known = version_known (known_of a.seat.me place) (known_of b.seat.me place) number root
-      (stays place lt) knows.known;
+  known = kept_known fixed (length a.seat.me.own.held) a b kept;
 }
 
 -- Keeping the first places.
 
-module _ (b c : Bound Pass) (n : ℕ) (p : Found)
+module _ {P : Type 0} (b c : Bound P) (n : ℕ) (p : Found)
     (told : c ≡ takes b (event.Keep b.seat.me.number n 0 0) p) where
   pub cut_goes : Goes [] b c
   cut_goes = goes_told b c [] (event.Keep b.seat.me.number n 0 0) p
       Rattle.heap_rule.specs.Lore.nothing_learned b.seat.me.pass
-      (ap (λ (m : Bound Pass). m.heap) told) (ap (λ (m : Bound Pass). m.seat.table) told)
-      (ap (λ (m : Bound Pass). m.seat.me) told) refl nothing
+      (ap (λ (m : Bound P). m.heap) told) (ap (λ (m : Bound P). m.seat.table) told)
+      (ap (λ (m : Bound P). m.seat.me) told) refl nothing
 
   pub cut_pass : c.seat.me.pass ≡ b.seat.me.pass
-  cut_pass = ap (λ (m : Bound Pass). m.seat.me.pass) told
+  cut_pass = ap (λ (m : Bound P). m.seat.me.pass) told
 
   pub cut_claims : c.seat.me.own.claims ≡ b.seat.me.own.claims
-  cut_claims = ap (λ (m : Bound Pass). m.seat.me.own.claims) told
+  cut_claims = ap (λ (m : Bound P). m.seat.me.own.claims) told
 
-  pub cut_held : (a : Bound Pass) (cells : List ℕ) → n ≡ length a.seat.me.own.held
+  pub cut_held : (a : Bound P) (cells : List ℕ) → n ≡ length a.seat.me.own.held
       → held_cells b ≡ held_cells a ++ cells → held_cells c ≡ held_cells a ++ []
   cut_held a cells many held =
-      ap (λ (m : Bound Pass). held_cells m) told
+      ap (λ (m : Bound P). held_cells m) told
       ∙ ap cells_in (append-nil (take n b.seat.me.own.held))
       ∙ sym (take-map (λ (p : Held). p.cell) n b.seat.me.own.held)
       ∙ ap (take n) held
       ∙ take_at (held_cells a) cells n (many_cells a ∙ sym many)
       ∙ sym (append-nil (held_cells a))
 
-  pub cut_known : StaysKnown n b c
+module _ {P : Type 0} (fixed : ℕ → Bool) (b c : Bound P) (n : ℕ) (p : Found)
+    (told : c ≡ takes b (event.Keep b.seat.me.number n 0 0) p) where
+  pub cut_known : StaysKnown fixed n b c
   cut_known place lt =
-      subst (λ (k : Known). StillKnown (known_of b.seat.me place) k)
-      (sym (ap (λ (m : Bound Pass). known_of m.seat.me place) told
+      subst (λ (k : Known). StillKnown fixed (known_of b.seat.me place) k)
+      (sym (ap (λ (m : Bound P). known_of m.seat.me place) told
       ∙ ap (λ (ks : List Known). known_at ks place) (append-nil (take n b.seat.me.known))
       ∙ get_or-take n b.seat.me.known place knows.Nothing lt))
-      (still_same (known_of b.seat.me place))
+      (still_same fixed (known_of b.seat.me place))

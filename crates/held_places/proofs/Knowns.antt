@@ -23,12 +23,10 @@ use Rattle.heap_rule.specs.Knowledge.{KnownAt}
 use Rattle.heap_rule.specs.Lore.{Entry, Lore, Plain, Terms, at_cell, five_plain, known_at}
 use Rattle.heap_rule.specs.Lore.{learned_of, plain, told}
 use Rattle.heap_rule.specs.Steps.{Mine}
-use Rattle.version_rule.specs.Pass.{Pass}
-use Rattle.version_rule.specs.Versions.{is_fixed}
 use Rattle.heap_rule.proofs.Seats.{knows_place}
 use Rattle.heap_rule.proofs.EntryWords.{learned_box}
-use Rattle.version_store.specs.Calls.{StillKnown, known_fresh, one_kind, settled}
-use Rattle.version_store.proofs.Going.{still_same}
+use Rattle.held_places.specs.Calls.{StillKnown, known_fresh, one_kind, settled}
+use Rattle.held_places.proofs.Going.{still_same}
 
 -- Changes of what is known of one cell.
 
@@ -78,27 +76,29 @@ changed_fresh change leaves c cells known place lt same =
     ]
 
 -- at any place
-pub changed_still : (change : Known → Known) (c : ℕ) (cells : List ℕ) (known : List Known)
+pub changed_still : (fixed : ℕ → Bool) (change : Known → Known) (c : ℕ) (cells : List ℕ)
+    (known : List Known)
     (place : ℕ) → place < length cells → length known ≡ length cells
     → (get_or cells place 0 ≡ c
-    → StillKnown (known_at known place) (change (known_at known place)))
-    → StillKnown (known_at known place) (known_at (at_cell change c cells known) place)
-changed_still change c cells known place lt same step =
+    → StillKnown fixed (known_at known place) (change (known_at known place)))
+    → StillKnown fixed (known_at known place) (known_at (at_cell change c cells known) place)
+changed_still fixed change c cells known place lt same step =
     elim (cases_eq (get_or cells place 0) c) [
-      | inl is ↦ subst (λ (k : Known). StillKnown (known_at known place) k)
+      | inl is ↦ subst (λ (k : Known). StillKnown fixed (known_at known place) k)
           (sym (changed_here change c cells known place lt same is)) (step is)
-      | inr other ↦ subst (λ (k : Known). StillKnown (known_at known place) k)
+      | inr other ↦ subst (λ (k : Known). StillKnown fixed (known_at known place) k)
           (sym (changed_else change c cells known place lt other))
-          (still_same (known_at known place))
+          (still_same fixed (known_at known place))
     ]
 
 -- one place more
-pub pushed_still : (known : List Known) (k : Known) (place : ℕ) → place < length known
-    → StillKnown (known_at known place) (known_at (known ++ k ∷ []) place)
-pushed_still known k place lt =
-    subst (λ (j : Known). StillKnown (known_at known place) j)
+pub pushed_still : (fixed : ℕ → Bool) (known : List Known) (k : Known) (place : ℕ)
+    → place < length known
+    → StillKnown fixed (known_at known place) (known_at (known ++ k ∷ []) place)
+pushed_still fixed known k place lt =
+    subst (λ (j : Known). StillKnown fixed (known_at known place) j)
     (sym (get_or_append_left known (k ∷ []) knows.Nothing place lt))
-    (still_same (known_at known place))
+    (still_same fixed (known_at known place))
 
 -- some place has the cell, and knows that it is sealed
 pub sealed_at : (cells : List ℕ) (known : List Known) (place c : ℕ) → place < length cells
@@ -212,33 +212,34 @@ told_record (knows.Fresh others) t = refl
 told_record (knows.Record u) t = refl
 told_record (knows.Boxed terms) t = refl
 
-module _ (v : View Pass) (s : State) (l : Lore) (mine : Mine is_fixed v s l) where
+module _ {P : Type 0} (fixed : ℕ → Bool) (v : View P) (s : State) (l : Lore)
+    (mine : Mine fixed v s l) where
   pub fit : (one other : ℕ) → one < length v.own.held → other < length v.own.held
       → target v one ≡ target v other → one_kind (known_of v one) (known_of v other) ≡ true
   fit one other here there same =
       let x = target v other in
-      kinds_fit is_fixed l.terms (field_of s x) (l.terms x) (l.fresh x) v.number x
+      kinds_fit fixed l.terms (field_of s x) (l.terms x) (l.fresh x) v.number x
       (known_of v one) (known_of v other)
-      (subst (λ (c : ℕ). IsKnown is_fixed s l v.number c (known_of v one)) same
+      (subst (λ (c : ℕ). IsKnown fixed s l v.number c (known_of v one)) same
       (knows_place v s l mine one here))
       (knows_place v s l mine other there)
 
   pub not_fresh : (place : ℕ) → place < length v.own.held → target v place ≡ 0
       → known_fresh (known_of v place) ≡ false
   not_fresh place lt at_anchor =
-      anchor_old is_fixed s l v.number (known_of v place) mine.shown.facts.freshed.anchor
-      (subst (λ (c : ℕ). IsKnown is_fixed s l v.number c (known_of v place)) at_anchor
+      anchor_old fixed s l v.number (known_of v place) mine.shown.facts.freshed.anchor
+      (subst (λ (c : ℕ). IsKnown fixed s l v.number c (known_of v place)) at_anchor
       (knows_place v s l mine place lt))
 
   -- what a read tells of a cell leaves what is known of it
-  pub told_still : (x : ℕ) (k : Known) → Reachable s x → IsKnown is_fixed s l v.number x k
-      → StillKnown k (told (learned_of s l x) k)
+  pub told_still : (x : ℕ) (k : Known) → Reachable s x → IsKnown fixed s l v.number x k
+      → StillKnown fixed k (told (learned_of s l x) k)
   told_still x knows.Nothing r is = tt
   told_still x (knows.Raw fields) r is = told_raw (learned_of s l x) fields
   told_still x (knows.Fresh fields) r is = told_fresh (learned_of s l x) fields
   told_still x (knows.Record t) r is = told_record (learned_of s l x) t
   told_still x (knows.Boxed others) r is =
-      let box = learned_box is_fixed s l mine.shown.facts x record {
+      let box = learned_box fixed s l mine.shown.facts x record {
         reached = r;
         box = is.1;
         old = is.2;
