@@ -1,0 +1,45 @@
+-- The items behind a box: as many boxes as were sent behind it.
+use Rattle.std.proofs.Common.{◌≡◌, ℕ, zero, suc, ◌+◌, ◌-◌, List, [], ◌∷◌, length, inl, inr, arith}
+use Rattle.heap_rule.specs.Boxes.{Map}
+use Rattle.mail_rule.specs.Chains.{Behind, last, more}
+use Rattle.mail_rule.specs.Mail.{HasPosition, HoldsMail}
+use Rattle.mail_rule.specs.declared.mail_pass.MailPass.{MailPass}
+use Rattle.mail_rule.proofs.Standing.{item_of, position_low}
+
+module _ (map : Map) (passes : List MailPass) (h : HoldsMail map passes) where
+  behind_so_many : (left cell position : ℕ) → position + left ≡ length h.letters
+      → HasPosition map cell position
+      → Behind h.letters map cell position
+  behind_so_many zero cell position so_many has =
+      let is = item_of map passes h cell position has in
+      elim is.next [
+        | inl end ↦ record {
+          cells = [];
+          many = so_many;
+          follow = last has.box has.there is.has end.none;
+        }
+        | inr next ↦ absurd (
+            let low = position_low map passes h next.cell (position + 1) next.item in
+            omega (arith, low, so_many))
+      ]
+  behind_so_many (suc left) cell position so_many has =
+      let is = item_of map passes h cell position has in
+      elim is.next [
+        | inl end ↦ absurd (let e = end.last in omega (arith, e, so_many))
+        | inr next ↦
+            let rest = behind_so_many left next.cell (position + 1) (omega (arith, so_many))
+            next.item in
+            record {
+              cells = next.cell ∷ rest.cells;
+              many = (let m = rest.many in
+                  let e : position + length (next.cell ∷ rest.cells) ≡ length h.letters =
+                  omega (arith, m) in e);
+              follow = more has.box has.there is.has next.names rest.follow;
+            }
+      ]
+
+  pub behind : (cell position : ℕ) → HasPosition map cell position
+      → Behind h.letters map cell position
+  behind cell position has =
+      let low = position_low map passes h cell position has in
+      behind_so_many (length h.letters - position) cell position (omega (arith, low)) has

@@ -1,0 +1,10 @@
+pub mod AfterSend
+pub mod AfterTake
+pub mod Chaining
+pub mod Counting
+pub mod Counts
+pub mod Letters
+pub mod Openings
+pub mod Picking
+pub mod Seen
+pub mod Standing

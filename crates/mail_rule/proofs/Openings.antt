@@ -1,0 +1,139 @@
+-- The rule holds where a mailbox opens.
+use Rattle.std.proofs.Common.{◌≡◌, ◌<◌, ◌≤◌, ◌-◌, ◌⊎◌, ℕ, zero, suc, ◌+◌, false, true, List, []}
+use Rattle.std.proofs.Common.{length, Some, inl, inr, refl, sym, ◌∙◌, ap, subst, arith}
+use Rattle.std.proofs.lemmas.List.Elements.{All-nil}
+use mathlib.Core.Option.{some, some-injective}
+use lib.ListN.{get_elem?}
+use Rattle.cell_words.specs.declared.fields.Field.{Field}
+use Rattle.cell_words.specs.Term.{null, num}
+use Rattle.core_machine.specs.State.{State, field_of, opening}
+use Rattle.core_machine.specs.Words.{is_box_kind}
+use Rattle.dlg_core.specs.Reachable.{anchor, named}
+use Rattle.heap_rule.specs.Boxes.{Map, Payload, boxes_of, payload_of}
+use Rattle.heap_rule.specs.Lore.{Lore, Named, Plain}
+use Rattle.heap_rule.specs.Opening.{FirstTerms, opening_lore, opening_passes, opening_rooms}
+use Rattle.heap_rule.specs.Opening.{passes_from}
+use Rattle.heap_rule.specs.Shape.{Shape, start}
+use Rattle.heap_rule.proofs.Maps.{in_map, of_map}
+use Rattle.heap_rule.proofs.Entries.{same_entry, some_is}
+use Rattle.heap_rule.proofs.Openings.{as_many_open, null_rows}
+use Rattle.mail_rule.specs.Mail.{HasPosition, HoldsMail, IsItem, IsOwn, IsSigned}
+use Rattle.mail_rule.specs.Opening.{OpensMail, first_rows, first_terms}
+use Rattle.mail_rule.specs.Passes.{opening_pass}
+use Rattle.mail_rule.specs.declared.mail_pass.MailPass.{MailPass}
+
+-- the terms are those of the first rows, which have none
+pub firsts : FirstTerms first_rows first_terms
+firsts zero = refl
+firsts (suc zero) = refl
+firsts (suc (suc k)) = refl
+
+-- each of the first passes is the opening one
+first_pass : (setting number n k : ℕ) (pass : MailPass)
+    → get_elem? (passes_from opening_pass setting number n) k ≡ some pass
+    → opening_pass 0 0 ≡ pass
+first_pass setting number zero k pass at = absurd cc
+first_pass setting number (suc n) zero pass at = some-injective (opening_pass 0 0) pass at
+first_pass setting number (suc n) (suc k) pass at =
+    first_pass setting (number + 1) n k pass at
+
+-- The boxes: the anchor, and the one at position 0.
+
+module _ (cells : ℕ) (rooms : List ℕ) (known : ℕ) where
+  abbrev s : State
+  s = opening cells rooms first_rows
+
+  abbrev l : Lore
+  l = opening_lore first_terms known
+
+  abbrev map : Map
+  map = boxes_of s l
+
+  anchor_there : map 0 ≡ Some (payload_of s l 0)
+  anchor_there = in_map s l 0 record { reached = anchor refl; box = refl; old = refl }
+
+  item_there : map 1 ≡ Some (payload_of s l 1)
+  item_there = in_map s l 1
+      record { reached = named 0 (anchor refl) refl; box = refl; old = refl }
+
+  -- no other cell is a box
+  box_is : (x : ℕ) → is_box_kind (field_of s x 5) ≡ true → (x ≡ 0) ⊎ (x ≡ 1)
+  box_is zero is = inl refl
+  box_is (suc zero) is = inr refl
+  box_is (suc (suc k)) is = absurd (
+      let none : is_box_kind (field_of s (suc (suc k)) 5) ≡ false =
+      ap is_box_kind (null_rows (cells - 2) k 5) in cc)
+
+  in_is : (x : ℕ) (q : Payload) → map x ≡ Some q → (x ≡ 0) ⊎ (x ≡ 1)
+  in_is x q at = box_is x (of_map s l x q at).box
+
+  -- only the second has a position
+  position_at : (x u : ℕ) → HasPosition map x u → x ≡ 1
+  position_at x u has = elim (in_is x has.box has.there) [
+    | inl first ↦ absurd (
+        let e : Named 1 ≡ Plain (num u) = same_entry map 0 0 (payload_of s l 0) has.box
+        anchor_there (subst (λ (y : ℕ). map y ≡ Some has.box) first has.there)
+        ∙ has.position_is in
+        cc)
+    | inr is ↦ is
+  ]
+
+  others : (f : ℕ) → 1 ≤ f → f < 5 → payload_of s l 0 f ≡ Plain null
+  others zero low lt = absurd (omega (arith, low))
+  others (suc zero) low lt = refl
+  others (suc (suc zero)) low lt = refl
+  others (suc (suc (suc zero))) low lt = refl
+  others (suc (suc (suc (suc zero)))) low lt = refl
+  others (suc (suc (suc (suc (suc f))))) low lt = absurd (omega (arith, lt))
+
+  first_item : IsItem [] map (payload_of s l 1)
+  first_item = record {
+    position = 0;
+    sent = omega arith;
+    has = record { position_is = refl; sender_is = refl; value_is = refl };
+    next = inl record { last = refl; none = refl };
+    fifth = refl;
+  }
+
+  first_own : (number : ℕ) → IsOwn [] [] number (opening_pass 0 0)
+  first_own number = record { sends = refl; takes = refl; few = omega arith }
+
+  opens_mail : (setting mutators : ℕ) → mutators ≤ 64
+      → HoldsMail map (passes_from opening_pass setting 0 mutators)
+  opens_mail setting mutators few = record {
+    letters = [];
+    takers = [];
+    few = subst (λ (n : ℕ). n ≤ 64) (sym (as_many_open opening_pass setting 0 mutators)) few;
+    signed = All-nil (IsSigned (length (passes_from opening_pass setting 0 mutators)));
+    received = All-nil (λ (number : ℕ).
+        number < length (passes_from opening_pass setting 0 mutators));
+    own = λ number pass at.
+        subst (λ (p : MailPass). IsOwn [] [] number p)
+        (first_pass setting 0 mutators number pass at) (first_own number);
+    latest = record {
+      anchor = payload_of s l 0;
+      there = anchor_there;
+      cell = 1;
+      names = refl;
+      item = record { box = payload_of s l 1; there = item_there; position_is = refl };
+      others = others;
+    };
+    boxes = λ x q other at. elim (in_is x q at) [
+      | inl first ↦ absurd (other first)
+      | inr is ↦
+          subst (λ (p : Payload). IsItem [] map p)
+          (some_is (payload_of s l 1) q (sym item_there
+          ∙ subst (λ (y : ℕ). map y ≡ Some q) is at)) first_item
+    ];
+    apart = λ x y u a b. position_at x u a ∙ sym (position_at y u b);
+  }
+
+-- what is asked of the client of a heap that is made
+pub opened : (h : Shape) → OpensMail h
+    → HoldsMail (boxes_of (start h (opening_rooms h.mutators)) (opening_lore first_terms h.mutators))
+    (opening_passes opening_pass h)
+opened h opens =
+    subst (λ (first : List (List Field)). HoldsMail
+    (boxes_of (opening h.cells (opening_rooms h.mutators) first)
+    (opening_lore first_terms h.mutators)) (opening_passes opening_pass h)) (sym opens.first)
+    (opens_mail h.cells (opening_rooms h.mutators) h.mutators h.setting h.mutators opens.few)

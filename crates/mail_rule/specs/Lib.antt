@@ -1,0 +1,9 @@
+pub mod Chains
+pub mod Counted
+pub mod Items
+pub mod Knowing
+pub mod Mail
+pub mod Opening
+pub mod Passes
+pub mod Shrinks
+pub mod Told
