@@ -1,2 +1,3 @@
+pub mod Makings
 pub mod Openings
 pub mod Sharing

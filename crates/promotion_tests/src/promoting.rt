@@ -4,7 +4,7 @@ ghost use Rattle.heap_rule.specs.Asks.{MayComeIn};
 ghost use Rattle.heap_table.specs.Seats.{IsSeatOf};
 ghost use Rattle.promotion_tests.specs.Two.{two};
 
-use crate::calls::{collect_roots, first_fields, promote_second};
+use crate::calls::{collect_roots, first_fields, make_both, promote_second};
 use crate::heaps::{close_one, come_in, leave, open_one, two_records};
 use cell_heap::{CellHeap, Image, MutSeat, NoMemory};
 use cell_words::Row;
@@ -70,6 +70,25 @@ fn collect_by<R: Wait>(
     (leave(m), found, fields)
 }
 
+/// It makes a record and a box, and leaves.
+fn make_by<R: Wait>(
+    rt: &R,
+    heap: &CellHeap<NoRule>,
+    seat: MutSeat<NoRule>,
+    hints: &mut Hints<'_>,
+) -> (MutSeat<NoRule>, Found)
+    requires seat { IsSeatOf heap.now seat }
+    requires may { MayComeIn seat.me }
+    requires room { seat.me.room ≡ 8 }
+    ensures seat { IsSeatOf heap.now result.0 }
+    ensures over { result.0.me.presence.over ≡ true }
+{
+    let mut m = come_in(heap, seat);
+    let given = make_both(rt, hints, &mut m);
+    let found = (given, m.claims(), m.held_len(), 0);
+    (leave(m), found)
+}
+
 /// The fields of a cell, where there is such a cell.
 fn row_of(image: &Image, cell: u32) -> Option<Row> {
     if cell >= image.cells() {
@@ -111,6 +130,18 @@ pub(crate) fn promoted<R: Wait>(
     let (heap, collector, seat) = open_one(alloc, cells)?;
     let mut hints = queue.hints(pass);
     let (seat, found) = promote_by(rt, &heap, seat, &mut hints, &mut promoter, &minor);
+    Ok((found, cells_of(&close_one(heap, collector, seat))))
+}
+
+/// What the making of a record and a box in a heap of so many cells comes to.
+pub(crate) fn made<R: Wait>(alloc: Global, rt: &R, cells: u32) -> Result<(Found, Cells), NoMemory>
+    requires some { 1 ≤ cells }
+    requires few { cells ≤ 1000 }
+{
+    let (queue, pass) = FreeQueue::open(alloc, rt, cells, 1)?;
+    let (heap, collector, seat) = open_one(alloc, cells)?;
+    let mut hints = queue.hints(pass);
+    let (seat, found) = make_by(rt, &heap, seat, &mut hints);
     Ok((found, cells_of(&close_one(heap, collector, seat))))
 }
 

@@ -1,0 +1,35 @@
+use Rattle.std.proofs.Common.{◌≡◌, ◌≤◌, ℕ, subst, arith}
+use Rattle.heap_rule.proofs.Filling.{fill_picks}
+use Rattle.mutator_events.specs.Values.{field_at}
+use Rattle.cell_making.specs.Makes.{Filled, value_at}
+use Rattle.cell_making.proofs.Filling.{filled_more, filling_starts, may_fill, names_settled}
+use Rattle.cell_making.proofs.making.fill_fields.Goals as goal
+
+pub loop-i-init : goal.loop-i-init
+loop-i-init g c = filling_starts c.args.m.now c.args.place c.args.fields c.requires.may
+
+pub fill-requires-clause-may : goal.fill-requires-clause-may
+fill-requires-clause-may g c =
+    may_fill c.args.m.now c.args.place c.args.fields c.requires.may c.loop-i.i c.loop-i.m
+    c.loop-i.invariant c.loop-i-test.true
+
+pub fill-requires-clause-rule : goal.fill-requires-clause-rule
+fill-requires-clause-rule g c =
+    fill_picks g.P.Keeping.holds g.P.Keeping.fixed c.loop-i.m.seat.me c.args.place c.loop-i.i
+    (field_at c.loop-i.m.seat.me.own.held (value_at c.args.fields c.loop-i.i))
+    (names_settled c.args.m.now c.args.place c.args.fields c.requires.may c.loop-i.i c.loop-i.m
+    c.loop-i.invariant c.loop-i-test.true)
+
+pub loop-i-preserved : goal.loop-i-preserved
+loop-i-preserved g c =
+    filled_more c.args.m.now c.args.place c.args.fields c.requires.may c.loop-i.i c.loop-i.m
+    c.loop-i.invariant c.loop-i-test.true c.fill.new.self c.fill.ensures.told
+
+pub returns : goal.returns
+returns g c =
+    let all : 5 ≤ c.loop-i.i = c.loop-i-test.false in
+    record {
+      filled = subst (λ (n : ℕ). Filled c.args.m.now c.args.place c.args.fields n c.loop-i.m)
+          (let e : c.loop-i.i ≡ 5 = omega (arith, all, c.loop-i.auto.i-end) in e)
+          c.loop-i.invariant;
+    }

@@ -1,0 +1,61 @@
+use Rattle.std.proofs.Common.{◌≡◌, ◌≤◌, ℕ, arith, ◌∙◌, subst}
+use Rattle.heap_rule.specs.Lore.{five_nulls}
+use Rattle.mutator_seat.specs.Bound.{held_cells}
+use Rattle.promotion.specs.Copying.{AreFilled}
+use Rattle.promotion.proofs.Filling.{fill_rule, filled_more, filled_none, may_fill, may_seal}
+use Rattle.promotion.proofs.Filling.{opened, ready_now, sealed_as}
+use Rattle.cell_making.specs.Makes.{value_at}
+use Rattle.cell_making.proofs.making.fill_record.Goals as goal
+
+pub loop-i-init : goal.loop-i-init
+loop-i-init g c = (
+  five_nulls,
+  (
+    opened c.args.m.now c.claim.new.self c.in-Ok.place c.in-Ok.ensures.got,
+    filled_none (held_cells c.args.m.now) (value_at c.args.fields),
+  ),
+)
+
+pub fill-requires-clause-may : goal.fill-requires-clause-may
+fill-requires-clause-may g c =
+    let so = c.loop-i.invariant in
+    may_fill c.args.m.now c.loop-i.m c.in-Ok.place so.0 so.1.0 (value_at c.args.fields c.loop-i.i)
+    c.loop-i.i (value_at c.args.fields) (so.1.0.stays.inside ∙ c.requires.inside)
+    c.loop-i-test.true (c.requires.terms c.loop-i.i c.loop-i-test.true) so.1.1
+
+pub fill-requires-clause-rule : goal.fill-requires-clause-rule
+fill-requires-clause-rule g c =
+    let so = c.loop-i.invariant in
+    fill_rule g.P.Keeping.holds g.P.Keeping.fixed c.loop-i.m.seat.me c.in-Ok.place c.loop-i.i
+    (value_at c.args.fields c.loop-i.i)
+    (ready_now c.args.m.now c.loop-i.m c.in-Ok.place so.0 so.1.0
+    (value_at c.args.fields c.loop-i.i) (c.requires.terms c.loop-i.i c.loop-i-test.true))
+
+pub loop-i-preserved : goal.loop-i-preserved
+loop-i-preserved g c =
+    let so = c.loop-i.invariant in
+    filled_more c.args.m.now c.loop-i.m c.in-Ok.place so.0 so.1.0 (value_at c.args.fields)
+    c.loop-i.i c.fill.new.self c.loop-i-test.true (c.requires.terms c.loop-i.i c.loop-i-test.true)
+    so.1.1 c.fill.ensures.told
+
+pub seal_record-requires : goal.seal_record-requires
+seal_record-requires g c =
+    let so = c.loop-i.invariant in
+    let all : 5 ≤ c.loop-i.i = c.loop-i-test.false in
+    let filled =
+    subst (λ (n : ℕ). AreFilled (held_cells c.args.m.now) (value_at c.args.fields) n so.0)
+    (let e : c.loop-i.i ≡ 5 = omega (arith, all, c.loop-i.auto.i-end) in e) so.1.1 in
+    record {
+      may = may_seal c.args.m.now c.loop-i.m c.in-Ok.place so.0 so.1.0 (value_at c.args.fields)
+          (so.1.0.stays.inside ∙ c.requires.inside) filled c.requires.terms;
+    }
+
+pub returns-after-loop-i-clause-made : goal.returns-after-loop-i-clause-made
+returns-after-loop-i-clause-made g c =
+    let so = c.loop-i.invariant in
+    let all : 5 ≤ c.loop-i.i = c.loop-i-test.false in
+    let filled =
+    subst (λ (n : ℕ). AreFilled (held_cells c.args.m.now) (value_at c.args.fields) n so.0)
+    (let e : c.loop-i.i ≡ 5 = omega (arith, all, c.loop-i.auto.i-end) in e) so.1.1 in
+    sealed_as c.args.m.now c.loop-i.m c.in-Ok.place so.0 so.1.0 (value_at c.args.fields)
+    c.seal_record.new.self filled c.requires.terms c.seal_record.ensures.told
