@@ -1,0 +1,22 @@
+//! The rule: the log is one chain of boxes, an entry for each append, and the anchor names the
+//! newest.
+ghost use Rattle.shared_log.specs.Logging.{KeepsLog, is_fixed};
+ghost use Rattle.shared_log.specs.Shrinks.{log_shrinks};
+
+use heap_rule::Keeping;
+
+/// How many entries one mutator has appended: its pass.
+#[derive(Clone, Copy, Drop)]
+pub struct Appended {
+    pub count: u64,
+}
+
+impl Keeping for Appended {
+    ghost opening = { λ number setting. record { count = 0 } };
+
+    ghost holds = { KeepsLog };
+
+    ghost fixed = { is_fixed };
+
+    ghost shrinks = { log_shrinks };
+}

@@ -1,0 +1,35 @@
+//! A small embedding of the heap with boxes that name boxes: four threads append to one log, beside
+//! the collector on a thread of its own. What shared_counter shows is not told again here.
+//!
+//! The log is a chain of boxes. The anchor names the newest entry, and each entry the one before it,
+//! down to the box that the log opened with. To append one, a thread reads which entry is the newest
+//! and what number it has, makes a fresh box behind it, and exchanges the entry that the anchor
+//! names. Where another thread was faster the box is garbage, and the next try makes another. The
+//! rule of the client, `log`, says what the chain has of each mutator; from the passes at the close it
+//! is proved that the chain in the closed heap has what the threads count on their own.
+//!
+//! Reading order: `log`, specs/Logging, Shrinks, `appending`, specs/Appending, `closing`,
+//! specs/Working, `running`, specs/Serving, `serving`, specs/Leaving, `whole`, `main`.
+#![tactic(auto)]
+
+mod appending;
+mod closing;
+mod log;
+mod running;
+mod serving;
+mod whole;
+
+use std::io;
+
+fn main(rt: HostRuntime) -> io::Result<()> {
+    match whole::run(rt.alloc(), &rt) {
+        Ok(ran) => {
+            let same = ran.boxes == ran.sum + 1;
+            let some = ran.sum > 0;
+            let alone = ran.used == ran.sum + 2;
+            println!(rt; "the log has what four threads appended: {same}, and they did: {some}")?;
+            println!(rt; "no other cell is in use: {alone}")
+        }
+        Err(_) => println!(rt; "there is no memory"),
+    }
+}
