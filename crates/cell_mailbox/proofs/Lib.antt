@@ -1,0 +1,10 @@
+mod Calling
+mod Filling
+mod Finding
+mod Going
+mod Knowns
+mod Steps
+mod Stub
+mod Trying
+mod Turning
+mod Writing

@@ -1,0 +1,5 @@
+pub mod Calls
+pub mod Ends
+pub mod Finds
+pub mod Makes
+pub mod Walks
