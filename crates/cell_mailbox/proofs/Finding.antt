@@ -186,7 +186,6 @@ module _ (a b : Bound MailPass) (heap : b.heap ≡ a.heap) (table : b.seat.table
   finds_next next value = by_told told_next
     where
       by_told : Told → FindsNext a b place next
-      unfolding finds_item
       by_told (inl none) = absurd (
           let word : found ≡ field.Null = same_value found field.Null (sym step.found_is ∙ none) in
           let cell = (found_held (length a.seat.me.own.held) next found value).1.0 in

@@ -5,6 +5,8 @@ mod Going
 mod Knowns
 mod Steps
 mod Stub
+mod StubPlaces
 mod Trying
 mod Turning
+mod Walking
 mod Writing

@@ -18,7 +18,13 @@ use Rattle.mutator_seat.specs.Stretches.{Calm}
 use Rattle.trails.specs.Asks.{Ask}
 use Rattle.cell_mailbox.specs.Calls.{Goes, IsIn}
 use Rattle.cell_mailbox.specs.Ends.{AtOneWrite, EmptyTry, FindsEmpty, Leaves, LostTry, Rests}
-use Rattle.cell_mailbox.specs.Ends.{Returns, Sends, SentTry, Takes, TookTry}
+use Rattle.cell_mailbox.specs.Ends.{FindsFullHeap, FullTry, PostEnds, Returns, Sends, SentTry}
+use Rattle.cell_mailbox.specs.Ends.{Takes, TookTry, TurnEnds}
+use Rattle.cell_mailbox.specs.declared.turns.Post.{Post}
+use Rattle.cell_mailbox.specs.declared.turns.Post.TheVariants as posts
+use Rattle.cell_mailbox.specs.declared.turns.Turn.{Turn}
+use Rattle.cell_mailbox.specs.declared.turns.Turn.TheVariants as turns
+use Rattle.mutator_seat.specs.declared.full.HeapFull.{HeapFull}
 use Rattle.cell_mailbox.proofs.Going.{calm_goes, cut_goes, cut_held, cut_pass, goes_late, goes_none}
 use Rattle.cell_mailbox.proofs.Going.{goes_on, goes_then, in_still, many_held}
 
@@ -62,6 +68,18 @@ module _ (a c : Bound MailPass) (came : Rests a c) where
   cut_kept asks d n is leaves =
       let longer = many_held c d leaves.cells leaves.held in let many = same_many in
       omega (arith, longer, many, is)
+
+  pub cut_turn : (d : Bound MailPass) (n : ℕ) → n ≡ length a.seat.me.own.held → (turn : Turn)
+      → TurnEnds c d turn → n ≤ length d.seat.me.own.held
+  cut_turn d n is (turns.Took item) ends = cut_kept [] d n is ends.leaves
+  cut_turn d n is turns.Empty ends = cut_kept _ d n is ends.leaves
+  cut_turn d n is turns.Lost ends = cut_kept [] d n is ends.leaves
+
+  pub cut_post : (d : Bound MailPass) (n value : ℕ) → n ≡ length a.seat.me.own.held
+      → (post : Post) → PostEnds c d value post → n ≤ length d.seat.me.own.held
+  cut_post d n value is (posts.Sent position) ends = cut_kept [] d n is ends.leaves
+  cut_post d n value is (posts.Full full) ends = cut_kept [] d n is ends.leaves
+  cut_post d n value is posts.Lost ends = cut_kept [] d n is ends.leaves
 
   module _ (d e : Bound MailPass) (n : ℕ) (p : Found) (is : n ≡ length a.seat.me.own.held)
       (told : e ≡ takes d (event.Keep d.seat.me.number n 0 0) p) where
@@ -124,4 +142,17 @@ module _ (a c : Bound MailPass) (came : Rests a c) where
     rests_all try = record {
       returns = returns_all [] try.leaves;
       pass = cut_pass d e n p told ∙ try.pass ∙ came.pass;
+    }
+
+    pub full_all : (full : HeapFull) → FullTry c d full → FindsFullHeap a e full
+    full_all full try = record {
+      returns = returns_all [] try.leaves;
+      pass = cut_pass d e n p told ∙ try.pass ∙ came.pass;
+      from = try.from;
+      to = try.to;
+      before = goes_then came.returns.goes try.before;
+      number_is = try.number_is ∙ came.returns.goes.number;
+      shape_is = try.shape_is ∙ came.returns.goes.shape;
+      full = try.full;
+      after = goes_then try.after (cut_goes d e n p told);
     }

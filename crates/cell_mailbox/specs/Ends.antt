@@ -18,11 +18,10 @@ use Rattle.mail_rule.specs.declared.items.Sent.{Sent}
 use Rattle.mail_rule.specs.declared.mail_pass.MailPass.{MailPass}
 use Rattle.mutator_events.specs.Events.{AtEvent}
 use Rattle.mutator_seat.specs.Bound.{Bound, held_cells}
+use Rattle.mutator_seat.specs.Stretches.{Calm}
 use Rattle.mutator_seat.specs.declared.full.HeapFull.{HeapFull}
 use Rattle.trails.specs.Asks.{Ask, gave_at}
-use Rattle.trails.specs.Claims.{IsFull}
-use Rattle.trails.specs.Marks.{marks_from}
-use Rattle.trails.specs.Stretches.{Had}
+use Rattle.trails.specs.Claims.{FindsFull}
 use Rattle.cell_mailbox.specs.Calls.{Goes}
 use Rattle.cell_mailbox.specs.declared.turns.Post.{Post}
 use Rattle.cell_mailbox.specs.declared.turns.Post.TheVariants as posts
@@ -89,10 +88,18 @@ pub record Sends (old new : Bound MailPass) (sent : Sent) : Type 0 where
   pub returns : Returns [] old new
   pub sent_once : SentOnce old new sent
 
--- no cell was free, and each was then found used in one stretch of this call
+-- Among the events of this call is a stretch that found the heap full, as a claim tells it.
 pub record FindsFullHeap (old new : Bound MailPass) (full : HeapFull) : Type 0 where
   pub returns : Returns [] old new
   pub pass : new.seat.me.pass ≡ old.seat.me.pass
+  pub from : Bound MailPass
+  pub to : Bound MailPass
+  pub before : Goes [] old from
+  pub number_is : from.seat.me.number ≡ old.seat.me.number
+  pub shape_is : from.seat.me.shape ≡ old.seat.me.shape
+  pub full : Calm (FindsFull from.seat.me.number from.seat.me.shape.cells full.off_duty full.began
+      full.ended) from to
+  pub after : Goes [] to new
 
 -- nothing was done yet
 pub record Rests (old new : Bound MailPass) : Type 0 where
@@ -123,8 +130,20 @@ pub record SentTry (old new : Bound MailPass) (sent : Sent) : Type 0 where
   pub leaves : Leaves [] old new
   pub sent_once : SentOnce old new sent
 
+pub record FullTry (old new : Bound MailPass) (full : HeapFull) : Type 0 where
+  pub leaves : Leaves [] old new
+  pub pass : new.seat.me.pass ≡ old.seat.me.pass
+  pub from : Bound MailPass
+  pub to : Bound MailPass
+  pub before : Goes [] old from
+  pub number_is : from.seat.me.number ≡ old.seat.me.number
+  pub shape_is : from.seat.me.shape ≡ old.seat.me.shape
+  pub full : Calm (FindsFull from.seat.me.number from.seat.me.shape.cells full.off_duty full.began
+      full.ended) from to
+  pub after : Goes [] to new
+
 abbrev pub PostEnds : Bound MailPass → Bound MailPass → ℕ → Post → Type 0
 PostEnds old new value (posts.Sent position) =
     SentTry old new (record { position = position; value = value })
-PostEnds old new value (posts.Full full) = LostTry old new
+PostEnds old new value (posts.Full full) = FullTry old new full
 PostEnds old new value posts.Lost = LostTry old new
