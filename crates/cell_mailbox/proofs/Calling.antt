@@ -5,16 +5,17 @@ use Rattle.mail_rule.specs.declared.items.Item.{Item}
 use Rattle.mail_rule.specs.declared.mail_pass.MailPass.{MailPass}
 use Rattle.mutator_seat.specs.Bound.{Bound}
 use Rattle.trails.specs.Asks.{Ask}
-use Rattle.cell_mailbox.specs.Calls.{IsIn}
+use Rattle.held_places.specs.Calls.{IsIn}
 use Rattle.cell_mailbox.specs.Finds.{FindsPart, FindsWhole, Reads}
 use Rattle.cell_mailbox.proofs.Finding.{item_still}
-use Rattle.cell_mailbox.proofs.Going.{goes_late, goes_none, goes_then, holds_then, in_still}
+use Rattle.held_places.proofs.Going.{goes_late, goes_none, goes_then, holds_then, in_still}
+use Rattle.mail_rule.specs.Mail.{is_fixed}
 
 pub reads_then : (xs ys : List Ask) (cs ds : List ℕ) (a b c : Bound MailPass) → Reads xs cs a b
     → Reads ys ds b c → Reads (xs ++ ys) (cs ++ ds) a c
 reads_then xs ys cs ds a b c first second = record {
   goes = goes_then first.goes second.goes;
-  holds = holds_then cs ds a b c first.holds second.holds;
+  holds = holds_then is_fixed cs ds a b c first.holds second.holds;
   pass = second.pass ∙ first.pass;
   many = second.many;
 }

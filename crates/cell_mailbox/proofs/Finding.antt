@@ -32,17 +32,17 @@ use Rattle.mutator_events.specs.Events.{AtEvent}
 use Rattle.mutator_events.specs.Values.{value_found}
 use Rattle.mutator_seat.specs.Bound.{Bound, held_cells}
 use Rattle.trails.specs.Asks.{Ask, gave_at}
-use Rattle.cell_mailbox.specs.Calls.{Goes, Holds, IsIn, StaysKnown, StillKnown, WasRead, cells_found}
+use Rattle.held_places.specs.Calls.{Goes, Holds, IsIn, StaysKnown, StillKnown, WasRead, cells_found}
 use Rattle.cell_mailbox.specs.Finds.{FindsItem, FindsLast, FindsNext, FindsPart, Reads, part_of}
-use Rattle.cell_mailbox.proofs.Going.{many_held}
-use Rattle.cell_mailbox.proofs.Steps.{same_value, was_read}
-use Rattle.cell_mailbox.proofs.Stub.{found_held, found_null, found_number}
+use Rattle.held_places.proofs.Going.{many_held}
+use Rattle.held_places.proofs.Steps.{same_value, was_read}
+use Rattle.held_places.proofs.ReadValues.{found_held, found_null, found_number}
 
 -- what is known of an item is known still
-pub item_known : (j k : Known) (item : Item) → StillKnown j k → IsItemKnown j item
+pub item_known : (j k : Known) (item : Item) → StillKnown is_fixed j k → IsItemKnown j item
     → IsItemKnown k item
 item_known j k item still is =
-    let boxed = subst (λ (x : Known). StillKnown x k) is.is still in
+    let boxed = subst (λ (x : Known). StillKnown is_fixed x k) is.is still in
     record {
       told = boxed.0;
       is = boxed.1.0;
@@ -53,7 +53,7 @@ item_known j k item still is =
 
 -- an item that is held is held still
 pub item_still : (a b : Bound MailPass) (cells : List ℕ) → held_cells b ≡ held_cells a ++ cells
-    → StaysKnown (length a.seat.me.own.held) a b → (place : ℕ) (item : Item)
+    → StaysKnown is_fixed (length a.seat.me.own.held) a b → (place : ℕ) (item : Item)
     → KnowsItem a.seat.me place item → KnowsItem b.seat.me place item
 item_still a b cells held stays place item knows = record {
   there =
@@ -103,7 +103,7 @@ module _ (a b : Bound MailPass) (heap : b.heap ≡ a.heap) (table : b.seat.table
 
   pub reads_one : Reads (gave_at (target a.seat.me place) f found ∷ []) (cells_found found) a b
   reads_one =
-      let read = was_read HoldsMail same_pass a b place f found heap table there step in
+      let read = was_read is_fixed HoldsMail same_pass a b place f found heap table there step in
       record {
         goes = read.goes;
         holds = read.holds;

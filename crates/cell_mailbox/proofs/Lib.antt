@@ -1,12 +1,8 @@
+mod Boxing
 mod Calling
-mod Filling
 mod Finding
-mod Going
-mod Knowns
-mod Steps
-mod Stub
+mod Linking
 mod StubPlaces
 mod Trying
 mod Turning
 mod Walking
-mod Writing

@@ -19,9 +19,10 @@ use Rattle.mail_rule.specs.declared.mail_pass.MailPass.{MailPass}
 use Rattle.mutator_seat.specs.Bound.{Bound, held_cells, takes}
 use Rattle.mutator_seat.specs.Claims.{Claimed, Seeking}
 use Rattle.trails.specs.Asks.{nothing}
-use Rattle.cell_mailbox.specs.Calls.{Goes, StaysKnown, StillKnown}
-use Rattle.cell_mailbox.proofs.Going.{calm_goes, goes_then, goes_told, many_cells, still_same}
-use Rattle.cell_mailbox.proofs.Knowns.{pushed_still}
+use Rattle.held_places.specs.Calls.{Goes, StaysKnown, StillKnown}
+use Rattle.held_places.proofs.Going.{calm_goes, goes_then, goes_told, many_cells, still_same}
+use Rattle.held_places.proofs.Knowns.{pushed_still}
+use Rattle.mail_rule.specs.Mail.{is_fixed}
 
 -- the first places, and behind them the cell of one of the others
 module _ (b c : Bound MailPass) (n place : ℕ) (p : Found)
@@ -61,15 +62,15 @@ module _ (b c : Bound MailPass) (n place : ℕ) (p : Found)
     front = length-take-le n b.seat.me.known (omega (arith, some, many))
 
     -- what is known of the first places
-    pub keep_stays : StaysKnown n b c
+    pub keep_stays : StaysKnown is_fixed n b c
     keep_stays other lt =
-        subst (λ (k : Known). Rattle.cell_mailbox.specs.Calls.StillKnown
+        subst (λ (k : Known). Rattle.held_places.specs.Calls.StillKnown
         (known_of b.seat.me other) k)
         (sym (ap (λ (ks : List Known). known_at ks other) keep_known
         ∙ get_or_append_left (take n b.seat.me.known) (known_of b.seat.me place ∷ [])
         knows.Nothing other (omega (arith, lt, front))
         ∙ get_or-take n b.seat.me.known other knows.Nothing lt))
-        (still_same (known_of b.seat.me other))
+        (still_same is_fixed (known_of b.seat.me other))
 
     -- and of the last
     pub keep_last : known_of c.seat.me n ≡ known_of b.seat.me place
@@ -79,13 +80,13 @@ module _ (b c : Bound MailPass) (n place : ℕ) (p : Found)
         (known_of b.seat.me place) knows.Nothing n front
 
 pushed_anyway : (known : List Known) (k : Known) (place : ℕ)
-    → StillKnown (known_at known place) (known_at (known ++ k ∷ []) place)
+    → StillKnown is_fixed (known_at known place) (known_at (known ++ k ∷ []) place)
 pushed_anyway known k place = by_length (cases_lt place (length known))
   where
     by_length : (place < length known) ⊎ (length known ≤ place)
-        → StillKnown (known_at known place) (known_at (known ++ k ∷ []) place)
-    by_length (inl lt) = pushed_still known k place lt
-    by_length (inr le) = subst (λ (j : Known). StillKnown j (known_at (known ++ k ∷ []) place))
+        → StillKnown is_fixed (known_at known place) (known_at (known ++ k ∷ []) place)
+    by_length (inl lt) = pushed_still is_fixed known k place lt
+    by_length (inr le) = subst (λ (j : Known). StillKnown is_fixed j (known_at (known ++ k ∷ []) place))
         (sym (get_or_past known place knows.Nothing le)) tt
 
 module _ (a b : Bound MailPass) (fresh : ℕ) (got : Claimed a fresh b) where
@@ -104,9 +105,9 @@ module _ (a b : Bound MailPass) (fresh : ℕ) (got : Claimed a fresh b) where
   claimed_claims = ap (λ (m : Bound MailPass). m.seat.me.own.claims) got.told
       ∙ ap (λ (n : ℕ). n + 1) got.calm.kept.claims
 
-  pub claimed_known : StaysKnown (length a.seat.me.own.held) a b
+  pub claimed_known : StaysKnown is_fixed (length a.seat.me.own.held) a b
   claimed_known place lt =
-      subst (λ (k : Known). StillKnown (known_of a.seat.me place) k)
+      subst (λ (k : Known). StillKnown is_fixed (known_of a.seat.me place) k)
       (sym (ap (λ (ks : List Known). known_at ks place) got.known))
       (pushed_anyway a.seat.me.known (knows.Raw five_nulls) place)
 

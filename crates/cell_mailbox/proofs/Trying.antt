@@ -29,22 +29,22 @@ use Rattle.mutator_seat.specs.Stretches.{Kept}
 use Rattle.mutator_seat.specs.Writes.{LookAndMarks, MayUpdate, PicksUpdate, Updated, write_of}
 use Rattle.mutator_seat.proofs.Writes.{cell_same}
 use Rattle.trails.specs.Asks.{gave_at}
-use Rattle.cell_mailbox.specs.Calls.{Goes, IsIn}
+use Rattle.held_places.specs.Calls.{Goes, IsIn}
 use Rattle.cell_mailbox.specs.Ends.{AtOneWrite, EmptyTry, LostTry, TookOnce, TookTry}
 use Rattle.cell_mailbox.specs.Finds.{FindsItem, FindsLast, FindsNext, FindsWhole}
 use Rattle.cell_mailbox.proofs.Calling.{reads_in, reads_still, reads_then, reads_unasked}
 use Rattle.cell_mailbox.proofs.Finding.{item_still}
-use Rattle.cell_mailbox.proofs.Going.{calm_trail, goes_then, kept_known, many_cells}
-use Rattle.cell_mailbox.proofs.Knowns.{sealed_at}
-use Rattle.cell_mailbox.proofs.Stub.{last_held}
-use Rattle.cell_mailbox.proofs.Writing.{wrote_goes, wrote_pass}
+use Rattle.held_places.proofs.Going.{calm_trail, goes_then, kept_known, many_cells}
+use Rattle.held_places.proofs.Knowns.{sealed_at}
+use Rattle.held_places.proofs.ReadValues.{last_held}
+use Rattle.held_places.proofs.Writing.{wrote_goes, wrote_pass}
 
 -- a stretch that kept all keeps what is known of items
 pub item_kept : (a b : Bound MailPass) → Kept a b → (place : ℕ) (item : Item)
     → KnowsItem a.seat.me place item → KnowsItem b.seat.me place item
 item_kept a b kept place item knows =
     item_still a b [] (kept.held ∙ sym (append-nil (held_cells a)))
-    (kept_known (length a.seat.me.own.held) a b kept) place item knows
+    (kept_known is_fixed (length a.seat.me.own.held) a b kept) place item knows
 
 -- a cell that is 0 is the anchor
 pub is_box_of : (cell : ℕ) (k : Known) → cell ≡ 0 → IsBox cell k
@@ -158,7 +158,7 @@ module _ (a b c d : Bound MailPass) (latest next : ℕ) (item : Item) (is : IsIn
       (values.Held next) found e) where
     goes : Goes [] a e
     goes = goes_then all_reads.goes
-        (wrote_goes HoldsMail (next_taken old item) d e 0 0 (values.Held latest)
+        (wrote_goes is_fixed HoldsMail (next_taken old item) d e 0 0 (values.Held latest)
         (values.Held next) found wrote)
 
     held : held_cells e ≡ held_cells a ++ cells
@@ -167,7 +167,7 @@ module _ (a b c d : Bound MailPass) (latest next : ℕ) (item : Item) (is : IsIn
     pass_is : (made : Bool) → same_field found old ≡ made
         → e.seat.me.pass ≡ taken_if made item a.seat.me.pass
     pass_is made is_made =
-        wrote_pass HoldsMail (next_taken old item) d e 0 0 (values.Held latest)
+        wrote_pass is_fixed HoldsMail (next_taken old item) d e 0 0 (values.Held latest)
         (values.Held next) found wrote
         ∙ ap (λ (b : Bool). taken_if b item d.seat.me.pass) is_made
         ∙ ap (taken_if made item) all_reads.pass

@@ -16,7 +16,7 @@ use Rattle.mail_rule.specs.declared.mail_pass.MailPass.{MailPass}
 use Rattle.mutator_seat.specs.Bound.{Bound, held_cells, takes}
 use Rattle.mutator_seat.specs.Stretches.{Calm}
 use Rattle.trails.specs.Asks.{Ask}
-use Rattle.cell_mailbox.specs.Calls.{Goes, IsIn}
+use Rattle.held_places.specs.Calls.{Goes, IsIn}
 use Rattle.cell_mailbox.specs.Ends.{AtOneWrite, EmptyTry, FindsEmpty, Leaves, LostTry, Rests}
 use Rattle.cell_mailbox.specs.Ends.{FindsFullHeap, FullTry, PostEnds, Returns, Sends, SentTry}
 use Rattle.cell_mailbox.specs.Ends.{Takes, TookTry, TurnEnds}
@@ -25,8 +25,8 @@ use Rattle.cell_mailbox.specs.declared.turns.Post.TheVariants as posts
 use Rattle.cell_mailbox.specs.declared.turns.Turn.{Turn}
 use Rattle.cell_mailbox.specs.declared.turns.Turn.TheVariants as turns
 use Rattle.mutator_seat.specs.declared.full.HeapFull.{HeapFull}
-use Rattle.cell_mailbox.proofs.Going.{calm_goes, cut_goes, cut_held, cut_pass, goes_late, goes_none}
-use Rattle.cell_mailbox.proofs.Going.{goes_on, goes_then, in_still, many_held}
+use Rattle.held_places.proofs.Going.{calm_goes, cut_goes, cut_held, cut_pass, goes_late, goes_none}
+use Rattle.held_places.proofs.Going.{goes_on, goes_then, in_still, many_held}
 
 pub rests_first : (a : Bound MailPass) → Rests a a
 rests_first a = record {
@@ -153,6 +153,6 @@ module _ (a c : Bound MailPass) (came : Rests a c) where
       before = goes_then came.returns.goes try.before;
       number_is = try.number_is ∙ came.returns.goes.number;
       shape_is = try.shape_is ∙ came.returns.goes.shape;
-      full = try.full;
+      stretch = try.stretch;
       after = goes_then try.after (cut_goes d e n p told);
     }

@@ -12,12 +12,12 @@ use Rattle.mail_rule.specs.declared.items.Item.{Item}
 use Rattle.mail_rule.specs.declared.mail_pass.MailPass.{MailPass}
 use Rattle.mutator_seat.specs.Bound.{Bound, held_cells, takes}
 use Rattle.mutator_seat.specs.Stretches.{Calm}
-use Rattle.cell_mailbox.specs.Calls.{IsIn}
+use Rattle.held_places.specs.Calls.{IsIn}
 use Rattle.cell_mailbox.specs.Finds.{FindsItem, FindsLast, FindsNext, FindsPart}
 use Rattle.cell_mailbox.specs.Walks.{EndsAt, Stands}
 use Rattle.cell_mailbox.proofs.Calling.{reads_in, reads_still, reads_unasked}
-use Rattle.cell_mailbox.proofs.Going.{calm_goes, goes_late, goes_none, goes_then, in_still, many_cells}
-use Rattle.cell_mailbox.proofs.Going.{many_held}
+use Rattle.held_places.proofs.Going.{calm_goes, goes_late, goes_none, goes_then, in_still, many_cells}
+use Rattle.held_places.proofs.Going.{many_held}
 use Rattle.cell_mailbox.proofs.StubPlaces.{keep_cells, keep_goes, keep_known, keep_last}
 use Rattle.cell_mailbox.proofs.Trying.{item_kept}
 

@@ -22,7 +22,7 @@ use Rattle.mutator_seat.specs.Stretches.{Calm}
 use Rattle.mutator_seat.specs.declared.full.HeapFull.{HeapFull}
 use Rattle.trails.specs.Asks.{Ask, gave_at}
 use Rattle.trails.specs.Claims.{FindsFull}
-use Rattle.cell_mailbox.specs.Calls.{Goes}
+use Rattle.held_places.specs.Calls.{Goes}
 use Rattle.cell_mailbox.specs.declared.turns.Post.{Post}
 use Rattle.cell_mailbox.specs.declared.turns.Post.TheVariants as posts
 use Rattle.cell_mailbox.specs.declared.turns.Turn.{Turn}
@@ -97,7 +97,7 @@ pub record FindsFullHeap (old new : Bound MailPass) (full : HeapFull) : Type 0 w
   pub before : Goes [] old from
   pub number_is : from.seat.me.number ≡ old.seat.me.number
   pub shape_is : from.seat.me.shape ≡ old.seat.me.shape
-  pub full : Calm (FindsFull from.seat.me.number from.seat.me.shape.cells full.off_duty full.began
+  pub stretch : Calm (FindsFull from.seat.me.number from.seat.me.shape.cells full.off_duty full.began
       full.ended) from to
   pub after : Goes [] to new
 
@@ -138,7 +138,7 @@ pub record FullTry (old new : Bound MailPass) (full : HeapFull) : Type 0 where
   pub before : Goes [] old from
   pub number_is : from.seat.me.number ≡ old.seat.me.number
   pub shape_is : from.seat.me.shape ≡ old.seat.me.shape
-  pub full : Calm (FindsFull from.seat.me.number from.seat.me.shape.cells full.off_duty full.began
+  pub stretch : Calm (FindsFull from.seat.me.number from.seat.me.shape.cells full.off_duty full.began
       full.ended) from to
   pub after : Goes [] to new
 

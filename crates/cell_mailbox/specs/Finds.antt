@@ -8,14 +8,15 @@ use Rattle.mail_rule.specs.Told.{IsSmall}
 use Rattle.mail_rule.specs.declared.items.Item.{Item}
 use Rattle.mutator_seat.specs.Bound.{Bound}
 use Rattle.trails.specs.Asks.{Ask, gave_at}
-use Rattle.cell_mailbox.specs.Calls.{Goes, Holds}
+use Rattle.held_places.specs.Calls.{Goes, Holds}
 use Rattle.mail_rule.specs.declared.mail_pass.MailPass.{MailPass}
+use Rattle.mail_rule.specs.Mail.{is_fixed}
 
 -- Reads that show these in the trail and left these cells held behind all others. The pass is as it
 -- was.
 pub record Reads (asks : List Ask) (cells : List ℕ) (old new : Bound MailPass) : Type 0 where
   pub goes : Goes asks old new
-  pub holds : Holds cells old new
+  pub holds : Holds is_fixed cells old new
   pub pass : new.seat.me.pass ≡ old.seat.me.pass
   pub many : length new.seat.me.known ≡ length new.seat.me.own.held
 

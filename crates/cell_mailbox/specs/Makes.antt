@@ -8,7 +8,8 @@ use Rattle.mail_rule.specs.Knowing.{item_fields}
 use Rattle.mail_rule.specs.declared.items.Item.{Item}
 use Rattle.mail_rule.specs.declared.mail_pass.MailPass.{MailPass}
 use Rattle.mutator_seat.specs.Bound.{Bound, held_cells}
-use Rattle.cell_mailbox.specs.Calls.{Goes, StillKnown}
+use Rattle.held_places.specs.Calls.{Goes, StillKnown}
+use Rattle.mail_rule.specs.Mail.{is_fixed}
 
 -- the cell at this place is raw, with null fields
 pub record MayMake (m : Bound MailPass) (fresh : ℕ) : Type 0 where
@@ -25,5 +26,5 @@ pub record Makes (old new : Bound MailPass) (fresh : ℕ) (item : Item) : Type 0
   pub box : known_of new.seat.me fresh ≡ knows.Fresh (item_fields item)
   pub known : (place : ℕ) → place < length old.seat.me.own.held
       → target old.seat.me place ≢ target old.seat.me fresh
-      → StillKnown (known_of old.seat.me place) (known_of new.seat.me place)
+      → StillKnown is_fixed (known_of old.seat.me place) (known_of new.seat.me place)
   pub pass : new.seat.me.pass ≡ old.seat.me.pass

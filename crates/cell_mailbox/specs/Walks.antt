@@ -6,7 +6,7 @@ use Rattle.mail_rule.specs.Told.{IsSmall}
 use Rattle.mail_rule.specs.declared.items.Item.{Item}
 use Rattle.mail_rule.specs.declared.mail_pass.MailPass.{MailPass}
 use Rattle.mutator_seat.specs.Bound.{Bound, held_cells}
-use Rattle.cell_mailbox.specs.Calls.{Goes}
+use Rattle.held_places.specs.Calls.{Goes}
 
 -- one item is held behind all that was held before
 pub record Stands (old new : Bound MailPass) (held : ℕ) : Type 0 where

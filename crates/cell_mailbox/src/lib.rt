@@ -4,7 +4,7 @@
 //! one exchange of one field, tried again where another was faster. A walk to the last item answers
 //! handshakes, so no cycle waits for it.
 //!
-//! Reading order: specs/Calls, Finds, Ends; `rows`, `reading`, `taking`, `sending`.
+//! Reading order: specs/Finds, Ends, Makes, Walks; `rows`, `reading`, `taking`, `sending`.
 #![tactic(auto)]
 
 mod reading;

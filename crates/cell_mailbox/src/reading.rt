@@ -1,6 +1,6 @@
 //! Reading the mailbox: the item that was taken last, the item behind one, and what an item is.
 ghost use Rattle.std.specs.Prelude.{ℕ, ◌≡◌, ◌<◌, ◌≤◌, IfNone, IfSome, length};
-ghost use Rattle.cell_mailbox.specs.Calls.{IsIn};
+ghost use Rattle.held_places.specs.Calls.{IsIn};
 ghost use Rattle.cell_mailbox.specs.Finds.{FindsItem, FindsLast, FindsNext, FindsPart, FindsWhole};
 ghost use Rattle.mail_rule.specs.Knowing.{KnowsItem};
 ghost use Rattle.mail_rule.specs.declared.items.Item.{Item};

@@ -6,7 +6,7 @@ ghost use Rattle.free_cells.specs.Hints.{queue_of};
 ghost use Rattle.mail_rule.specs.Mail.{HoldsMail, is_fixed};
 ghost use Rattle.mutator_events.specs.declared.values.Value.TheVariants as values;
 ghost use Rattle.mutator_seat.specs.Writes.{MayUpdate, PicksUpdate, Updated};
-ghost use Rattle.cell_mailbox.specs.Calls.{IsIn};
+ghost use Rattle.held_places.specs.Calls.{IsIn};
 ghost use Rattle.cell_mailbox.specs.Ends.{FindsFullHeap, PostEnds, Sends};
 ghost use Rattle.cell_mailbox.specs.Makes.{Makes, MayMake};
 ghost use Rattle.cell_mailbox.specs.Walks.{EndsAt};

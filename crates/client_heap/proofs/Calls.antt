@@ -19,7 +19,7 @@ use Rattle.version_store.specs.Lasts.{IsSameMutator, LastsAcross}
 use Rattle.version_store.specs.Older.{GivesOlder, Trims}
 use Rattle.version_store.specs.declared.fault.Cut.{Cut}
 use Rattle.version_store.specs.declared.held.HeldVersion.{HeldVersion}
-use Rattle.version_store.proofs.Going.{many_cells}
+use Rattle.held_places.proofs.Going.{many_cells}
 use Rattle.client_heap.specs.Shows.{handles_of, state_of}
 use Rattle.client_heap.specs.Sound.{IsSound}
 use Rattle.client_heap.proofs.Carrying.{carries_left}

@@ -24,7 +24,8 @@ use Rattle.version_store.specs.Calls.{StaysKnown, StillKnown}
 use Rattle.version_store.specs.Held.{IsHeld}
 use Rattle.version_store.specs.Lasts.{IsSameMutator, LastsAcross}
 use Rattle.version_store.specs.declared.held.HeldVersion.{HeldVersion}
-use Rattle.version_store.proofs.Going.{many_held, version_known}
+use Rattle.held_places.proofs.Going.{many_held}
+use Rattle.version_store.proofs.Remaining.{version_known}
 use Rattle.version_store.proofs.Lasting.{lasts_still, lasts_then, same_still, same_then}
 use Rattle.client_heap.specs.Carries.{Carries, Follows}
 

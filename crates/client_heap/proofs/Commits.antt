@@ -22,7 +22,7 @@ use Rattle.version_rule.specs.Pass.{Pass, committed}
 use Rattle.version_store.specs.Calls.{Holds}
 use Rattle.version_store.specs.Held.{IsRecord as HoldsRecord, term_at, term_told}
 use Rattle.version_store.specs.Lasts.{IsSameMutator, LastsAcross, marks}
-use Rattle.version_store.proofs.Going.{many_held}
+use Rattle.held_places.proofs.Going.{many_held}
 use Rattle.client_heap.specs.Carries.{Carries, Follows}
 use Rattle.client_heap.proofs.Carrying.{carries_known}
 

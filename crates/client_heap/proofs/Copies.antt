@@ -49,10 +49,11 @@ use Rattle.version_rule.specs.Pass.{Pass}
 use Rattle.version_rule.proofs.Trees.{grows_still}
 use Rattle.version_store.specs.Calls.{StaysKnown, StillKnown}
 use Rattle.version_store.specs.Lasts.{IsSameMutator, LastsAcross, marks}
-use Rattle.version_store.proofs.Going.{many_cells, many_held, still_same}
+use Rattle.held_places.proofs.Going.{many_cells, many_held, still_same}
 use Rattle.client_heap.specs.Carries.{Carries, Follows}
 use Rattle.client_heap.specs.Shows.{node_term}
 use Rattle.client_heap.proofs.Carrying.{carries_known}
+use Rattle.version_rule.specs.Versions.{is_fixed}
 
 -- No event takes a claim back.
 
@@ -177,7 +178,7 @@ known_stays : (m n : Bound Pass) (places : ℕ)
     → StaysKnown places m n
 known_stays m n places same p lt =
     subst (λ (k : Known). StillKnown (known_of m.seat.me p) k) (sym (same p lt))
-    (still_same (known_of m.seat.me p))
+    (still_same is_fixed (known_of m.seat.me p))
 
 same_minor : (old new : Nursery) → new.room ≡ old.room → new.records ≡ old.records
     → new ≡ old

@@ -17,12 +17,14 @@ use Rattle.trails.specs.Asks.{nothing}
 use Rattle.version_rule.specs.Fits.{Grows}
 use Rattle.version_rule.specs.Pass.{Pass}
 use Rattle.version_rule.proofs.Trees.{grows_still}
-use Rattle.version_store.specs.Calls.{Goes, StaysKnown, StillKnown}
+use Rattle.held_places.specs.Calls.{Goes}
+use Rattle.version_store.specs.Calls.{StaysKnown, StillKnown}
 use Rattle.version_store.specs.Lasts.{LastsAcross}
-use Rattle.version_store.proofs.Going.{goes_told, still_same}
+use Rattle.held_places.proofs.Going.{goes_told, still_same}
 use Rattle.version_store.proofs.Lasting.{goes_same, lasts_by}
 use Rattle.client_heap.specs.Carries.{Carries}
 use Rattle.client_heap.proofs.Carrying.{carries_known}
+use Rattle.version_rule.specs.Versions.{is_fixed}
 
 -- the first places, and so many cells behind them from a place on
 module _ (m n : Bound Pass) (many from copies : ℕ) (p : Found)
@@ -52,7 +54,7 @@ module _ (m n : Bound Pass) (many from copies : ℕ) (p : Found)
       (sym (ap (λ (b : Bound Pass). known_of b.seat.me place) told
       ∙ at_kept knows.Nothing m.seat.me.known (take copies (drop from m.seat.me.known)) many place
       lt (omega (arith, few, fit))))
-      (still_same (known_of m.seat.me place))
+      (still_same is_fixed (known_of m.seat.me place))
 
   pub keep_carries : (minor : Nursery) → IsOrdered 0 minor.records
       → many ≤ length n.seat.me.own.held → Carries many m n minor minor

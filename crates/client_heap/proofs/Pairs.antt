@@ -28,7 +28,7 @@ use Rattle.mutator_seat.specs.Bound.{Bound, held_cells}
 use Rattle.promotion.specs.Promoting.{Collected, knows_term}
 use Rattle.promotion.specs.Sharing.{ShareRecords}
 use Rattle.version_rule.specs.Pass.{Pass}
-use Rattle.version_store.proofs.Going.{many_cells}
+use Rattle.held_places.proofs.Going.{many_cells}
 use Rattle.client_heap.specs.Carries.{Follows}
 use Rattle.client_heap.specs.Shared.{HoldsTerm, shared_place}
 use Rattle.client_heap.specs.Shows.{handles_of, node_term, state_of}

@@ -28,7 +28,7 @@ use Rattle.trails.proofs.Marks.{marks_append}
 use Rattle.version_rule.specs.Fits.{Grows}
 use Rattle.version_rule.specs.Pass.{Pass, commit_numbers}
 use Rattle.version_rule.proofs.Trees.{grows_still}
-use Rattle.version_store.proofs.Going.{calm_trail, many_cells}
+use Rattle.held_places.proofs.Going.{calm_trail, many_cells}
 use Rattle.client_run.specs.Own.{MayAnswer}
 
 pub calm_grown : (F : List Taken → Type 0) (a b : Bound Pass) → Calm F a b

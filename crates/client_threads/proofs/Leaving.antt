@@ -26,7 +26,7 @@ use Rattle.mutator_seat.specs.Bound.{Bound, held_cells, takes}
 use Rattle.trails.specs.Marks.{Mark, mark_of, marks_of}
 use Rattle.trails.proofs.Marks.{marks_push}
 use Rattle.version_rule.specs.Pass.{Pass}
-use Rattle.version_store.proofs.Going.{many_cells}
+use Rattle.held_places.proofs.Going.{many_cells}
 use Rattle.client_threads.specs.Clients.{IsDone, IsReady, commands_of, store_limits}
 use Rattle.client_threads.specs.Going.{Answers, Entered, Left, MayGo, Went}
 use Rattle.client_threads.specs.declared.clients.Client.{Client}

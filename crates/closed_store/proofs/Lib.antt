@@ -1,9 +1,5 @@
 pub mod Anchored
 pub mod Chaining
-pub mod Claiming
-pub mod Counting
 pub mod Denoting
-pub mod Getting
 pub mod Nodes
-pub mod Out
 pub mod Used

@@ -16,7 +16,7 @@ use Rattle.run_history.specs.Left.{IsLeft}
 use Rattle.trails.specs.Marks.{Mark, marks_of}
 use Rattle.version_rule.specs.Pass.{Commit, Pass}
 use Rattle.version_rule.specs.Spelling.{bare_root}
-use Rattle.version_store.proofs.Going.{many_cells}
+use Rattle.held_places.proofs.Going.{many_cells}
 use Rattle.doc_export.specs.Guests.{Copies, IsThrough, MayTell}
 use Rattle.doc_export.specs.declared.guest.Guest.{Guest}
 use Rattle.doc_export.specs.declared.guest.Through.{Through}

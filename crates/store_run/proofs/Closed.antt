@@ -18,10 +18,11 @@ use Rattle.client_threads.proofs.AtClose.{tied}
 use Rattle.client_turns.specs.Runs.{was_full}
 use Rattle.closed_census.proofs.Kept.{census_kept}
 use Rattle.closed_store.specs.Chain.{ShowsVersions}
-use Rattle.closed_store.specs.Closing.{AreJoined, EndedStore}
+use Rattle.closed_heap.specs.Closing.{AreJoined}
+use Rattle.closed_store.specs.Closing.{EndedStore}
 use Rattle.closed_store.proofs.Chaining.{versions_shown}
-use Rattle.closed_store.proofs.Claiming.{all_claimed}
-use Rattle.closed_store.proofs.Out.{joined_out}
+use Rattle.closed_heap.proofs.Claiming.{all_claimed}
+use Rattle.closed_heap.proofs.Out.{joined_out}
 use Rattle.core_machine.specs.Collector.{Collector}
 use Rattle.dlg_core.specs.Sums.{claims_of}
 use Rattle.doc_model.specs.Agreement.{rising}

@@ -26,13 +26,15 @@ use Rattle.trails.specs.Marks.{Mark}
 use Rattle.version_rule.specs.Fits.{Grows}
 use Rattle.version_rule.specs.Pass.{Pass}
 use Rattle.version_rule.proofs.Trees.{grows_still}
-use Rattle.version_store.specs.Calls.{Goes, StillKnown}
+use Rattle.held_places.specs.Calls.{Goes}
+use Rattle.version_store.specs.Calls.{StillKnown}
 use Rattle.version_store.specs.Lasts.{LastsAcross, marks}
-use Rattle.version_store.proofs.Going.{calm_goes, cut_claims, cut_goes, cut_known, cut_pass}
-use Rattle.version_store.proofs.Going.{kept_known, known_below, known_then, many_cells, many_held}
-use Rattle.version_store.proofs.Going.{still_same}
+use Rattle.held_places.proofs.Going.{calm_goes, cut_claims, cut_goes, cut_known, cut_pass}
+use Rattle.held_places.proofs.Going.{kept_known, known_below, known_then, many_cells, many_held}
+use Rattle.held_places.proofs.Going.{still_same}
 use Rattle.version_store.proofs.Lasting.{goes_same, lasts_by, same_then}
 use Rattle.version_export.specs.Still.{Keeps}
+use Rattle.version_rule.specs.Versions.{is_fixed}
 
 -- One call after another.
 
@@ -49,7 +51,7 @@ keeps_then {places = places} {a = a} {b = b} {c = c} first second = record {
   same = same_then a b c first.same second.same;
   longer = second.longer;
   held = second.held ∙ first.held;
-  known = known_then places a b c first.known second.known;
+  known = known_then is_fixed places a b c first.known second.known;
   pass = second.pass ∙ first.pass;
   claims = second.claims ∙ first.claims;
   grown = grown_then first.grown second.grown;
@@ -63,7 +65,7 @@ keeps_fewer {places = places} {a = a} {b = b} few le keeps = record {
   held = sym (take-take few places (held_cells b) le)
       ∙ ap (λ (cs : List ℕ). take few cs) keeps.held
       ∙ take-take few places (held_cells a) le;
-  known = known_below places few a b le keeps.known;
+  known = known_below is_fixed places few a b le keeps.known;
   pass = keeps.pass;
   claims = keeps.claims;
   grown = keeps.grown;
@@ -89,7 +91,7 @@ stays (knows.Fresh fields) k same = same tt
 stays (knows.Record t) k same = same tt
 stays (knows.Boxed told) k same =
     subst (λ (x : Known). StillKnown (knows.Boxed told) x) (sym (same tt))
-    (still_same (knows.Boxed told))
+    (still_same is_fixed (knows.Boxed told))
 
 pub keeps_left : (m n : Bound Pass) (old new : Nursery) → Leaves m n old new
     → Keeps (length m.seat.me.own.held) m n
@@ -139,7 +141,7 @@ keeps_calm F a b calm =
           let cells = ap (λ (cs : List ℕ). length cs) calm.kept.held in
           omega (arith, here, there, cells);
       held = ap (λ (cs : List ℕ). take places cs) calm.kept.held;
-      known = kept_known places a b calm.kept;
+      known = kept_known is_fixed places a b calm.kept;
       pass = calm.kept.pass;
       claims = calm.kept.claims;
       grown = grown_by a b goes calm.kept.pass calm.kept.claims;
@@ -170,7 +172,7 @@ module _ (b c : Bound Pass) (n : ℕ) (p : Found)
     same = goes_same b c (cut_goes b c n p told);
     longer = let is = cut_length in omega (arith, is);
     held = ap (λ (cs : List ℕ). take n cs) cut_cells ∙ take-take n n (held_cells b) (omega arith);
-    known = cut_known b c n p told;
+    known = cut_known is_fixed b c n p told;
     pass = cut_pass b c n p told;
     claims = cut_claims b c n p told;
     grown = grown_by b c (cut_goes b c n p told) (cut_pass b c n p told) (cut_claims b c n p told);

@@ -20,7 +20,7 @@ use Rattle.trails.proofs.Marks.{marks_append}
 use Rattle.version_dump.proofs.Orders.{same_equal}
 use Rattle.version_rule.specs.Pass.{Pass}
 use Rattle.version_store.specs.Lasts.{marks}
-use Rattle.version_store.proofs.Going.{calm_trail}
+use Rattle.held_places.proofs.Going.{calm_trail}
 use Rattle.version_export.specs.Looks.{child_nodes, looks, nodes_of}
 use Rattle.version_export.specs.Still.{Keeps}
 

@@ -18,17 +18,19 @@ use Rattle.version_dump.specs.Dump.{dump_of, end_line, head_line}
 use Rattle.version_rule.specs.Pass.{Pass}
 use Rattle.version_store.specs.Calls.{Holds, StaysKnown}
 use Rattle.version_store.specs.Lasts.{LastsAcross, marks}
-use Rattle.version_store.proofs.Going.{known_then, many_cells, many_held}
+use Rattle.held_places.proofs.Going.{known_then, many_cells, many_held}
 use Rattle.version_store.proofs.Lasting.{lasts_then}
 use Rattle.version_export.specs.Lines.{child_lines, line_of, lines_from, lines_of, path_behind}
 use Rattle.version_export.specs.Lines.{tree_lines, with_slash}
 use Rattle.version_export.specs.Looks.{looks, nodes_of}
 use Rattle.version_export.specs.Still.{Keeps}
 use Rattle.version_export.specs.Walks.{Walks}
-use Rattle.version_export.proofs.Keeping.{cut_cells, cut_length, keeps_cut, keeps_fewer, keeps_lasts}
+use Rattle.version_export.proofs.Keeping.{cut_cells, cut_length, keeps_cut, keeps_fewer}
+use Rattle.version_export.proofs.Keeping.{keeps_lasts}
 use Rattle.version_export.proofs.Keeping.{keeps_on, keeps_then}
 use Rattle.version_export.proofs.Looking.{looks_grown, looks_kept, next_looks}
 use Rattle.version_export.proofs.Listing.{all_names, one_more, whole_dump}
+use Rattle.version_rule.specs.Versions.{is_fixed}
 
 -- the next of the names
 pub next_name : (items : List (List ℕ)) (i : ℕ) (n : List ℕ) → i < length items
@@ -175,7 +177,7 @@ module _ (m a b c : Bound Pass) (cell places : ℕ) (f : Found) (root : Holds (c
       ∙ take_at (held_cells m) (cell ∷ []) places (many_cells m ∙ sym is)
 
   pub back_known : StaysKnown (length m.seat.me.own.held) m c
-  back_known = known_then (length m.seat.me.own.held) m a c root.known
+  back_known = known_then is_fixed (length m.seat.me.own.held) m a c root.known
       (subst (λ (k : ℕ). StaysKnown k a c) is back.known)
 
   pub back_looks : (nodes : ℕ) → LastsAcross m a

@@ -19,17 +19,20 @@ use Rattle.trails.specs.Asks.{nothing}
 use Rattle.version_rule.specs.Knowing.{IsVersionKnown, link_seen}
 use Rattle.version_rule.specs.Pass.{Pass, seeing}
 use Rattle.version_store.specs.declared.held.HeldVersion.{HeldVersion}
-use Rattle.version_store.specs.Calls.{Goes, Holds, IsIn, StaysKnown}
+use Rattle.held_places.specs.Calls.{Goes, IsIn}
+use Rattle.version_store.specs.Calls.{Holds, StaysKnown}
 use Rattle.version_store.specs.Commits.{FindsNewer}
 use Rattle.version_store.specs.Held.{GivesLatest, IsHeld}
 use Rattle.version_store.specs.Older.{GivesOlder}
 use Rattle.version_store.specs.Reads.{FindsNumber}
 use Rattle.version_store.specs.Walks.{EndsThere, FollowsLink, Stopped, Walked}
-use Rattle.version_store.proofs.Going.{cut_claims, cut_goes, cut_held, cut_known, cut_pass}
-use Rattle.version_store.proofs.Going.{in_still}
-use Rattle.version_store.proofs.Going.{goes_late, goes_none, goes_on, goes_then, goes_told}
-use Rattle.version_store.proofs.Going.{known_below, known_then, many_cells, many_held}
-use Rattle.version_store.proofs.Going.{still_same, version_still}
+use Rattle.held_places.proofs.Going.{cut_claims, cut_goes, cut_held, cut_known, cut_pass}
+use Rattle.held_places.proofs.Going.{in_still}
+use Rattle.held_places.proofs.Going.{goes_late, goes_none, goes_on, goes_then, goes_told}
+use Rattle.held_places.proofs.Going.{known_below, known_then, many_cells, many_held}
+use Rattle.held_places.proofs.Going.{still_same}
+use Rattle.version_store.proofs.Remaining.{version_still}
+use Rattle.version_rule.specs.Versions.{is_fixed}
 
 -- The steps.
 
@@ -70,8 +73,8 @@ walk_on a b c v at before steps walked step = record {
   few =
       let many = length-append walked.cells (step.cell ∷ []) in
       let few = walked.few in omega (arith, many, few);
-  known = known_then (length a.seat.me.own.held) a b c walked.known
-      (known_below (length b.seat.me.own.held) (length a.seat.me.own.held) b c
+  known = known_then is_fixed (length a.seat.me.own.held) a b c walked.known
+      (known_below is_fixed (length b.seat.me.own.held) (length a.seat.me.own.held) b c
       (let many = many_held a b walked.cells walked.held in omega (arith, many))
       step.holds.known);
   at_is = step.held;
@@ -93,8 +96,8 @@ walk_stops next a b c v at steps all lt walked end = record {
   cells = walked.cells;
   held = end.holds.held ∙ append-nil (held_cells b) ∙ walked.held;
   few = let few = walked.few in omega (arith, few, lt);
-  known = known_then (length a.seat.me.own.held) a b c walked.known
-      (known_below (length b.seat.me.own.held) (length a.seat.me.own.held) b c
+  known = known_then is_fixed (length a.seat.me.own.held) a b c walked.known
+      (known_below is_fixed (length b.seat.me.own.held) (length a.seat.me.own.held) b c
       (let many = many_held a b walked.cells walked.held in omega (arith, many))
       end.holds.known);
   number = at.number;
@@ -155,7 +158,7 @@ module _ (b c : Bound Pass) (n place : ℕ) (p : Found)
         ∙ get_or_append_left (take n b.seat.me.known) (known_of b.seat.me place ∷ [])
         knows.Nothing other (omega (arith, lt, front))
         ∙ get_or-take n b.seat.me.known other knows.Nothing lt))
-        (still_same (known_of b.seat.me other))
+        (still_same is_fixed (known_of b.seat.me other))
 
     -- and of the last
     keep_last : known_of c.seat.me n ≡ known_of b.seat.me place
@@ -183,7 +186,7 @@ gives_older a b c v at back n p is walked told =
       goes = goes_then walked.goes (keep_goes b c n at.place p told);
       holds = record {
         held = held;
-        known = known_then (length a.seat.me.own.held) a b c walked.known
+        known = known_then is_fixed (length a.seat.me.own.held) a b c walked.known
             (subst (λ (k : ℕ). StaysKnown k b c) is
             (keep_stays b c n at.place p told there some walked.many));
       };
@@ -239,12 +242,12 @@ cut_back a b c d v newest back n p is stopped latest told =
     ∙ append_assoc (held_cells a) stopped.cells (latest.cell ∷ []) in
     record {
       held = cut_held c d n p told a (stopped.cells ++ latest.cell ∷ []) is held;
-      known = known_then (length a.seat.me.own.held) a b d stopped.known
-          (known_then (length a.seat.me.own.held) b c d
-          (known_below (length b.seat.me.own.held) (length a.seat.me.own.held) b c
+      known = known_then is_fixed (length a.seat.me.own.held) a b d stopped.known
+          (known_then is_fixed (length a.seat.me.own.held) b c d
+          (known_below is_fixed (length b.seat.me.own.held) (length a.seat.me.own.held) b c
           (let many = many_held a b stopped.cells stopped.held in omega (arith, many))
           latest.holds.known)
-          (subst (λ (k : ℕ). StaysKnown k c d) is (cut_known c d n p told)));
+          (subst (λ (k : ℕ). StaysKnown k c d) is (cut_known is_fixed c d n p told)));
     }
 
 pub cut_back_claims : {next : Learned → Found → Pass → Pass} (a b c d : Bound Pass)

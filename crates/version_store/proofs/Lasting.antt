@@ -23,14 +23,15 @@ use Rattle.version_rule.specs.Pass.{Pass}
 use Rattle.version_rule.proofs.Trees.{committed_grows, cutting_grows, grows_still, reading_grows}
 use Rattle.version_rule.proofs.Trees.{seeing_grows}
 use Rattle.version_store.specs.declared.held.HeldVersion.{HeldVersion}
-use Rattle.version_store.specs.Calls.{Goes, Holds, version_asks}
+use Rattle.held_places.specs.Calls.{Goes}
+use Rattle.version_store.specs.Calls.{Holds, version_asks}
 use Rattle.version_store.specs.Commits.{Committed, FindsNewer, ShowsNewer}
 use Rattle.version_store.specs.Held.{GivesLatest, GivesRoot, IsRecord, root_at, term_at}
 use Rattle.version_store.specs.Held.{term_told}
 use Rattle.version_store.specs.Lasts.{IsSameMutator, Lasts, LastsAcross, marks}
 use Rattle.version_store.specs.Older.{GivesOlder, Trims}
-use Rattle.version_store.proofs.Going.{calm_goes, calm_trail, goes_none, many_held}
-use Rattle.version_store.proofs.Latest.{last_held}
+use Rattle.held_places.proofs.Going.{calm_goes, calm_trail, goes_none, many_held}
+use Rattle.held_places.proofs.ReadValues.{last_held}
 use Rattle.version_store.proofs.Putting.{record_still}
 
 -- One call after the other.

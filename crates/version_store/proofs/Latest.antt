@@ -1,7 +1,6 @@
 -- Reads of the anchor, of a version's number and of its root: what the calls that make them give.
-use Rattle.std.proofs.Common.{◌≡◌, ◌<◌, ◌≤◌, ℕ, List, [], ◌∷◌, ◌++◌, length, get_or}
-use Rattle.std.proofs.Common.{◌⊎◌, inl, inr, refl, sym, ◌∙◌, ap, subst, arith, max}
-use Rattle.std.proofs.lemmas.List.{get_or_push}
+use Rattle.std.proofs.Common.{◌≡◌, ◌<◌, ◌≤◌, ℕ, [], ◌∷◌, length}
+use Rattle.std.proofs.Common.{sym, ◌∙◌, ap, subst, arith, max}
 use Rattle.cell_words.specs.declared.fields.Field.{Field}
 use Rattle.cell_words.specs.declared.fields.Field.TheVariants as field
 use Rattle.cell_words.specs.Term.{IsFive, Term}
@@ -13,12 +12,10 @@ use Rattle.heap_rule.specs.declared.view.View.{View}
 use Rattle.heap_rule.specs.Asks.{known_of, target}
 use Rattle.heap_rule.specs.Boxes.{boxes_of}
 use Rattle.heap_rule.specs.Steps.{same_pass}
-use Rattle.heap_rule.proofs.Reading.{cell_there}
-use Rattle.mutator_events.specs.declared.values.Value.{Value}
 use Rattle.mutator_events.specs.declared.values.Value.TheVariants as values
 use Rattle.mutator_events.specs.Events.{AtEvent}
 use Rattle.mutator_events.specs.Values.{value_found}
-use Rattle.mutator_seat.specs.Bound.{Bound, held_cells}
+use Rattle.mutator_seat.specs.Bound.{Bound}
 use Rattle.trails.specs.Asks.{gave_at}
 use Rattle.version_rule.specs.Knowing.{KnowsVersion, latest_seen, tree_read}
 use Rattle.version_rule.specs.Pass.{Pass, reading, seeing}
@@ -27,39 +24,14 @@ use Rattle.version_rule.proofs.AfterSteps.{shows_latest, shows_number, shows_roo
 use Rattle.version_rule.proofs.Passing.{in_step_at}
 use Rattle.version_rule.proofs.Reading.{root_known}
 use Rattle.version_store.specs.declared.held.HeldVersion.{HeldVersion}
-use Rattle.version_store.specs.Calls.{Goes, IsIn, WasRead}
+use Rattle.held_places.specs.Calls.{Goes, IsIn}
+use Rattle.version_store.specs.Calls.{WasRead}
 use Rattle.version_store.specs.Held.{GivesLatest, GivesRoot, IsHeld, root_at}
 use Rattle.version_store.specs.Reads.{FindsLatest, FindsNumber}
-use Rattle.version_store.proofs.Going.{goes_then, holds_then, many_cells, version_still}
-use Rattle.version_store.proofs.Steps.{as_step, same_word, was_read}
-
--- Which field a value stands for.
-
-pub found_held : (many place : ℕ) (found : Field) → values.Held place ≡ value_found many found
-    → (cell : ℕ) × ((found ≡ field.Cell cell) × (place ≡ many))
-found_held many place field.Null is = absurd cc
-found_held many place (field.Num n) is = absurd cc
-found_held many place (field.Cell c) is = (c, (refl, cc))
-
-pub found_number : (many number : ℕ) (found : Field) → values.Num number ≡ value_found many found
-    → found ≡ field.Num number
-found_number many number field.Null is = absurd cc
-found_number many number (field.Num n) is = let same : n ≡ number = cc in ap field.Num same
-found_number many number (field.Cell c) is = absurd cc
-
-pub found_null : (many : ℕ) (found : Field) → values.Null ≡ value_found many found
-    → found ≡ field.Null
-found_null many field.Null is = refl
-found_null many (field.Num n) is = absurd cc
-found_null many (field.Cell c) is = absurd cc
-
--- the cell that was held last
-pub last_held : (a b : Bound Pass) (cell : ℕ) → held_cells b ≡ held_cells a ++ cell ∷ []
-    → target b.seat.me (length a.seat.me.own.held) ≡ cell
-last_held a b cell is =
-    sym (cell_there b.seat.me.own.held (length a.seat.me.own.held))
-    ∙ ap (λ (cs : List ℕ). get_or cs (length a.seat.me.own.held) 0) is
-    ∙ get_or_push (held_cells a) cell 0 (length a.seat.me.own.held) (many_cells a)
+use Rattle.held_places.proofs.Going.{goes_then, holds_then}
+use Rattle.version_store.proofs.Remaining.{version_still}
+use Rattle.held_places.proofs.ReadValues.{found_held, found_number, last_held}
+use Rattle.held_places.proofs.Steps.{as_step, same_word, was_read}
 
 module _ (is_tree : Term → Type 0) (tree_of : Term → DocTree)
     (is_record : (t : Term) → is_tree t → IsFive t) (a b : Bound Pass)
@@ -73,7 +45,7 @@ module _ (is_tree : Term → Type 0) (tree_of : Term → DocTree)
         (Rattle.cell_words.specs.Field.pack_field_of found)
     shows = shows_latest is_tree tree_of is_record a.seat.me b.seat.me 0
         (Rattle.cell_words.specs.Field.pack_field_of found) is.anchor
-        (as_step (HoldsVersions is_tree tree_of) latest_seen a.seat.me b.seat.me
+        (as_step is_fixed (HoldsVersions is_tree tree_of) latest_seen a.seat.me b.seat.me
         (event.Read a.seat.me.number 0 0) found step)
 
     pub anchor_cell : (cell : ℕ) × (found ≡ field.Cell cell)
@@ -88,8 +60,8 @@ module _ (is_tree : Term → Type 0) (tree_of : Term → DocTree)
         record {
           cell = shows.cell;
           read = subst (λ (x : Field). WasRead a b 0 0 x) (sym cell)
-              (was_read (HoldsVersions is_tree tree_of) latest_seen a b 0 0 found heap table
-              is.some step);
+              (was_read is_fixed (HoldsVersions is_tree tree_of) latest_seen a b 0 0 found heap
+              table is.some step);
           place_is = placed;
           number = shows.number;
           root = shows.root;
@@ -111,7 +83,7 @@ module _ (is_tree : Term → Type 0) (tree_of : Term → DocTree)
     number_is number root knows = sym (same_word (field.Num number) found
         (shows_number is_tree tree_of is_record a.seat.me b.seat.me place
         (Rattle.cell_words.specs.Field.pack_field_of found) number root knows
-        (as_step (HoldsVersions is_tree tree_of) same_pass a.seat.me b.seat.me
+        (as_step is_fixed (HoldsVersions is_tree tree_of) same_pass a.seat.me b.seat.me
         (event.Read a.seat.me.number place 0) found step)).read.word_is)
 
     pub finds_number : (number : ℕ)
@@ -124,8 +96,8 @@ module _ (is_tree : Term → Type 0) (tree_of : Term → DocTree)
         a.seat.me.number a.seat.me.pass step.pass in
         record {
           read = subst (λ (x : Field). WasRead a b place 0 x) word
-              (was_read (HoldsVersions is_tree tree_of) same_pass a b place 0 found heap table
-              there step);
+              (was_read is_fixed (HoldsVersions is_tree tree_of) same_pass a b place 0 found heap
+              table there step);
           is = λ known root knows.
               let e : field.Num number ≡ field.Num known = sym word
               ∙ number_is known root knows in cc;
@@ -144,7 +116,7 @@ module _ (is_tree : Term → Type 0) (tree_of : Term → DocTree)
           b.seat.me v.place (Rattle.cell_words.specs.Field.pack_field_of found) v.number is.root
       root_shown = shows_root is_tree tree_of is_record a.seat.me b.seat.me v.place
           (Rattle.cell_words.specs.Field.pack_field_of found) v.number is.root is.knows
-          (as_step (HoldsVersions is_tree tree_of) (tree_read tree_of) a.seat.me b.seat.me
+          (as_step is_fixed (HoldsVersions is_tree tree_of) (tree_read tree_of) a.seat.me b.seat.me
           (event.Read a.seat.me.number v.place 1) found step)
 
       pub root_cell : (cell : ℕ) × (found ≡ field.Cell cell)
@@ -162,7 +134,8 @@ module _ (is_tree : Term → Type 0) (tree_of : Term → DocTree)
           let root : root_at a v.place ≡ is.root =
           root_known (known_of a.seat.me v.place) v.number is.root is.knows.known in
           let read = subst (λ (x : Field). WasRead a b v.place 1 x) (sym cell)
-          (was_read (HoldsVersions is_tree tree_of) (tree_read tree_of) a b v.place 1 found heap
+          (was_read is_fixed (HoldsVersions is_tree tree_of)
+          (tree_read tree_of) a b v.place 1 found heap
           table is.knows.there step) in
           record {
             cell = root_shown.cell;
@@ -193,7 +166,7 @@ gives_latest a b c place number is first second =
           (subst (λ (x : ℕ). Goes (gave_at x 0 (field.Cell first.cell) ∷
           gave_at (target b.seat.me place) 0 (field.Num number) ∷ []) a c) is.anchor
           (goes_then first.read.goes second.read.goes));
-      holds = holds_then (first.cell ∷ []) [] a b c first.read.holds second.read.holds;
+      holds = holds_then is_fixed (first.cell ∷ []) [] a b c first.read.holds second.read.holds;
       place_is = first.place_is;
       held = record {
         root = first.root;
@@ -217,22 +190,3 @@ seen_is a c v gives =
     ap (λ (p : Pass). p.seen) gives.pass
     ∙ (let le = gives.not_below in let e : max a.seat.me.pass.seen v.number ≡ v.number =
     omega (arith, le) in e)
-
--- A value that is read of a field is of the field's kind.
-
-pub held_alone : (many cell : ℕ) (found : Field) (r : Value) → r ≡ value_found many found
-    → found ≡ field.Cell cell → (r ≡ values.Null) ⊎ ((n : ℕ) × (r ≡ values.Num n)) → ⊥
-held_alone many cell found r is word (inl none) =
-    let e : values.Held many ≡ values.Null = sym (ap (value_found many) word) ∙ sym is ∙ none in cc
-held_alone many cell found r is word (inr (n, other)) =
-    let e : values.Held many ≡ values.Num n = sym (ap (value_found many) word) ∙ sym is ∙ other in
-    cc
-
-pub number_alone : (many number : ℕ) (found : Field) (r : Value) → r ≡ value_found many found
-    → found ≡ field.Num number → (r ≡ values.Null) ⊎ ((p : ℕ) × (r ≡ values.Held p)) → ⊥
-number_alone many number found r is word (inl none) =
-    let e : values.Num number ≡ values.Null = sym (ap (value_found many) word) ∙ sym is ∙ none in
-    cc
-number_alone many number found r is word (inr (p, other)) =
-    let e : values.Num number ≡ values.Held p = sym (ap (value_found many) word) ∙ sym is ∙ other
-    in cc

@@ -34,7 +34,7 @@ use Rattle.version_rule.specs.Pass.{Pass}
 use Rattle.version_rule.specs.Versions.{is_fixed}
 use Rattle.version_store.specs.Writes.{EndsLink, LosesOnce, Writes, WritesLink, WritesNothing}
 use Rattle.version_store.specs.Writes.{WritesOnce, exchange, is_write, kept_if, writes_in}
-use Rattle.version_store.proofs.Going.{calm_trail}
+use Rattle.held_places.proofs.Going.{calm_trail}
 
 writes_append : (xs ys : List Taken) → writes_in (xs ++ ys) ≡ writes_in xs ++ writes_in ys
 writes_append [] ys = refl

@@ -1,15 +1,12 @@
 pub mod Backward
 pub mod Filling
-pub mod Going
-pub mod Knowns
 pub mod Lasting
 pub mod Latest
 pub mod Leaving
 pub mod Links
 pub mod Overwriting
 pub mod Putting
-pub mod Steps
+pub mod Remaining
 pub mod Taking
 pub mod Trimming
 pub mod Widening
-pub mod Writing

@@ -25,9 +25,9 @@ use Rattle.version_store.specs.declared.held.HeldVersion.{HeldVersion}
 use Rattle.version_store.specs.Calls.{WasRead}
 use Rattle.version_store.specs.Held.{IsHeld}
 use Rattle.version_store.specs.Walks.{EndsThere, FollowsLink, PicksLink}
-use Rattle.version_store.proofs.Going.{goes_none, goes_on}
-use Rattle.version_store.proofs.Latest.{found_held, found_null}
-use Rattle.version_store.proofs.Steps.{same_value, was_read}
+use Rattle.held_places.proofs.Going.{goes_none, goes_on}
+use Rattle.held_places.proofs.ReadValues.{found_held, found_null}
+use Rattle.held_places.proofs.Steps.{same_value, was_read}
 
 module _ (is_tree : Term → Type 0) (tree_of : Term → DocTree)
     (is_record : (t : Term) → is_tree t → IsFive t) (next : Learned → Found → Pass → Pass)
@@ -44,7 +44,7 @@ module _ (is_tree : Term → Type 0) (tree_of : Term → DocTree)
       step.kept step.pass v.place v.number is.root is.knows)
 
   read : WasRead a b v.place 2 found
-  read = was_read (HoldsVersions is_tree tree_of) next a b v.place 2 found heap table
+  read = was_read is_fixed (HoldsVersions is_tree tree_of) next a b v.place 2 found heap table
       is.knows.there step
 
   pub link_is_no_number : (n : ℕ) → values.Num n ≡ value_found (length a.seat.me.own.held) found

@@ -29,14 +29,15 @@ use Rattle.mutator_seat.proofs.Writes.{many_same}
 use Rattle.trails.specs.Asks.{nothing}
 use Rattle.version_rule.specs.Pass.{Pass}
 use Rattle.version_rule.specs.Versions.{is_fixed}
-use Rattle.version_store.specs.Calls.{Goes, StaysKnown, StillKnown, cells_found, known_fresh}
-use Rattle.version_store.proofs.Filling.{stored_still}
-use Rattle.version_store.proofs.Going.{calm_goes, cut_claims, cut_goes, cut_known, cut_pass}
-use Rattle.version_store.proofs.Going.{goes_late, goes_none, goes_then, goes_told, kept_known}
-use Rattle.version_store.proofs.Going.{many_cells, many_held, still_on, still_same, still_then}
-use Rattle.version_store.proofs.Going.{target_still}
-use Rattle.version_store.proofs.Steps.{found_claims, loaded_held, loaded_known, loaded_many}
-use Rattle.version_store.proofs.Steps.{was_read}
+use Rattle.held_places.specs.Calls.{Goes, cells_found, known_fresh}
+use Rattle.version_store.specs.Calls.{StaysKnown, StillKnown}
+use Rattle.held_places.proofs.Storing.{stored_still}
+use Rattle.held_places.proofs.Going.{calm_goes, cut_claims, cut_goes, cut_known, cut_pass}
+use Rattle.held_places.proofs.Going.{goes_late, goes_none, goes_then, goes_told, kept_known}
+use Rattle.held_places.proofs.Going.{many_cells, many_held, still_on, still_same, still_then}
+use Rattle.held_places.proofs.Going.{target_still}
+use Rattle.held_places.proofs.Steps.{found_claims, loaded_held, loaded_known, loaded_many}
+use Rattle.held_places.proofs.Steps.{was_read}
 
 -- What the fetch or the read leaves.
 pub record Loaded (old new : Bound Pass) (seen : Field) : Type 0 where
@@ -47,7 +48,8 @@ pub record Loaded (old new : Bound Pass) (seen : Field) : Type 0 where
   pub claims : new.seat.me.own.claims ≡ old.seat.me.own.claims
 
 module _ (holds : Map → List Pass → Type 0) (next : Learned → Found → Pass → Pass)
-    (a b : Bound Pass) (place f : ℕ) (seen : Field) (there : place < length a.seat.me.own.held) where
+    (a b : Bound Pass) (place f : ℕ) (seen : Field)
+    (there : place < length a.seat.me.own.held) where
   pub fetched : Stepped holds is_fixed (fetch_of a place f) next (finds.Field seen) a b
       → Loaded a b seen
   fetched step =
@@ -58,16 +60,20 @@ module _ (holds : Map → List Pass → Type 0) (next : Learned → Found → Pa
       record {
         goes = goes_told a b [] (fetch_of a place f) (finds.Field seen) tells
             (next tells (finds.Field seen) a.seat.me.pass) step.heap step.table e.new refl nothing;
-        held = loaded_held a b e.core e.lore e.mine place seen tells there refl known cells;
-        known = loaded_known a b e.core e.lore e.mine place seen tells there refl known cells;
-        many = loaded_many a b e.core e.lore e.mine place seen tells there refl known cells;
+        held = loaded_held is_fixed a b e.core e.lore e.mine place seen tells there refl known
+            cells;
+        known = loaded_known is_fixed a b e.core e.lore e.mine place seen tells there refl known
+            cells;
+        many = loaded_many is_fixed a b e.core e.lore e.mine place seen tells there refl known
+            cells;
         claims = ap (λ (u : View Pass). u.own.claims) e.new ∙ found_claims a.seat.me.own seen;
       }
 
   pub read_here : Stepped holds is_fixed (read_of a place f) next (finds.Field seen) a b
       → Loaded a b seen
   read_here step =
-      let read = was_read holds next a b place f seen step.heap step.table there step.event in
+      let read =
+      was_read is_fixed holds next a b place f seen step.heap step.table there step.event in
       record {
         goes = goes_late read.goes (goes_none b);
         held = read.holds.held;
@@ -102,8 +108,10 @@ null_still : (made : Bool) (cells : List ℕ) (known : List Known) (place f othe
     → StillKnown (known_at known other)
     (known_at (known_stored_if made cells known place f field.Null) other)
 null_still true cells known place f other many lt apart =
-    stored_still cells known place f field.Null many other lt apart (λ fresh c is. absurd cc)
-null_still false cells known place f other many lt apart = still_same (known_at known other)
+    stored_still is_fixed cells known place f field.Null many other lt apart
+    (λ fresh c is. absurd cc)
+null_still false cells known place f other many lt apart = still_same is_fixed
+    (known_at known other)
 
 -- Behind the load and the marks an event writes null, and the places from before are kept.
 module _ (holds : Map → List Pass → Type 0) (wanted : Barrier) (loads : Event)
@@ -170,14 +178,14 @@ module _ (holds : Map → List Pass → Type 0) (wanted : Barrier) (loads : Even
         is.replaced.write.heap is.replaced.write.table is.replaced.write.event.new presence nothing)
         (cut_goes is.written after (length old.seat.me.own.held) _ is.told)));
     known = λ other lt apart.
-        still_on (known_of old.seat.me other) (known_of at.seat.me other)
+        still_on is_fixed (known_of old.seat.me other) (known_of at.seat.me other)
         (known_of after.seat.me other)
-        (still_then (known_of old.seat.me other) (known_of loaded.seat.me other)
+        (still_then is_fixed (known_of old.seat.me other) (known_of loaded.seat.me other)
         (known_of at.seat.me other) (load.known other lt)
-        (kept_known (length old.seat.me.own.held) loaded at kept other lt))
-        (λ same. still_then (known_of at.seat.me other) (known_of is.written.seat.me other)
+        (kept_known is_fixed (length old.seat.me.own.held) loaded at kept other lt))
+        (λ same. still_then is_fixed (known_of at.seat.me other) (known_of is.written.seat.me other)
         (known_of after.seat.me other) (wrote other lt (λ fresh. apart (sym same ∙ fresh)))
-        (cut_known is.written after (length old.seat.me.own.held) _ is.told other lt));
+        (cut_known is_fixed is.written after (length old.seat.me.own.held) _ is.told other lt));
     pass_is = cut_pass is.written after (length old.seat.me.own.held) _ is.told
         ∙ ap (λ (u : View Pass). u.pass) is.replaced.write.event.new
         ∙ ap (λ (p : Pass). next tells found p) kept.pass;
@@ -201,7 +209,8 @@ module _ (holds : Map → List Pass → Type 0) (wanted : Barrier) (seen : Field
       let begun : begun_of at.seat.me ≡ record { place = place; f = f; found = seen } =
       ap pending_or_none is.replaced.marks.kept.pending
       ∙ fetch_begun holds reads old is.replaced.loaded place f seen is.replaced.load in
-      rewrote holds wanted (fetch_of old place f) reads seen (store_of values.Null) next finds.Stored
+      rewrote holds wanted (fetch_of old place f) reads seen
+      (store_of values.Null) next finds.Stored
       old after is (fetched holds reads old is.replaced.loaded place f seen there is.replaced.load)
       place f true there
       (ap (λ (u : View Pass). u.known) is.replaced.write.event.new
@@ -235,9 +244,9 @@ looked_first old looked after place pass goes kept there wrote =
     record {
       goes = goes_then goes wrote.goes;
       known = λ other lt apart.
-          still_on (known_of old.seat.me other) (known_of looked.seat.me other)
+          still_on is_fixed (known_of old.seat.me other) (known_of looked.seat.me other)
           (known_of after.seat.me other)
-          (kept_known (length old.seat.me.own.held) old looked kept other lt)
+          (kept_known is_fixed (length old.seat.me.own.held) old looked kept other lt)
           (λ same. wrote.known other
           (let long = many_same looked.seat.me.own.held
           old.seat.me.own.held kept.held in omega (arith, long, lt))

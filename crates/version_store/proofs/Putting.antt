@@ -32,18 +32,20 @@ use Rattle.version_rule.specs.Versions.{HoldsVersions, is_fixed}
 use Rattle.version_rule.proofs.Reading.{number_known, root_known}
 use Rattle.version_rule.proofs.Writing.{commit_picks}
 use Rattle.version_store.specs.declared.held.HeldVersion.{HeldVersion}
-use Rattle.version_store.specs.Calls.{Goes, IsCoherent, IsIn, StaysKnown, StillKnown}
-use Rattle.version_store.specs.Calls.{known_fresh, settled}
+use Rattle.held_places.specs.Calls.{Goes, IsCoherent, IsIn}
+use Rattle.version_store.specs.Calls.{StaysKnown, StillKnown}
+use Rattle.held_places.specs.Calls.{known_fresh, settled}
 use Rattle.version_store.specs.Commits.{Committed, FindsNewer, write_over}
 use Rattle.version_store.specs.Held.{GivesLatest, IsHeld, root_at, term_at, term_told}
 use Rattle.version_store.specs.Makes.{Behind, IsClaimed, IsSpared, Makes, MayMake}
-use Rattle.version_store.proofs.Going.{calm_goes, goes_late, goes_none, goes_on, goes_then}
-use Rattle.version_store.proofs.Going.{in_still}
-use Rattle.version_store.proofs.Going.{known_below, known_then, many_cells, many_held}
-use Rattle.version_store.proofs.Going.{settled_lasts, still_on, target_still, version_known}
-use Rattle.version_store.proofs.Knowns.{fresh_apart, sealed_at}
-use Rattle.version_store.proofs.Writing.{wrote_claims, wrote_goes, wrote_known}
-use Rattle.version_store.proofs.Writing.{wrote_pass}
+use Rattle.held_places.proofs.Going.{calm_goes, goes_late, goes_none, goes_on, goes_then}
+use Rattle.held_places.proofs.Going.{in_still}
+use Rattle.held_places.proofs.Going.{known_below, known_then, many_cells, many_held}
+use Rattle.held_places.proofs.Going.{settled_lasts, still_on, target_still}
+use Rattle.version_store.proofs.Remaining.{version_known}
+use Rattle.held_places.proofs.Knowns.{fresh_apart, sealed_at}
+use Rattle.held_places.proofs.Writing.{wrote_claims, wrote_goes, wrote_known}
+use Rattle.held_places.proofs.Writing.{wrote_pass}
 
 -- what a record is known to be stays
 pub record_still : (j k : Known) (t : Term) → j ≡ knows.Record t → StillKnown j k
@@ -112,7 +114,7 @@ module _ (a b : Bound Pass) (v newest : HeldVersion) (fresh tree : ℕ)
   behind_first = record {
     cells = latest.cell ∷ [];
     held = latest.holds.held;
-    known = known_below (fresh + 1) fresh a b (omega arith) first_known;
+    known = known_below is_fixed (fresh + 1) fresh a b (omega arith) first_known;
     claims = latest.claims;
   }
 
@@ -145,9 +147,10 @@ module _ (a b : Bound Pass) (v newest : HeldVersion) (fresh tree : ℕ)
         raw = subst (λ (k : Known). StillKnown k (known_of b.seat.me fresh))
             (claimed_raw a fresh v.place tree claimed coherent)
             (first_known fresh (omega arith));
-        latest_is = settled_lasts (known_of a.seat.me v.place) (known_of b.seat.me v.place) first
+        latest_is = settled_lasts is_fixed (known_of a.seat.me v.place)
+            (known_of b.seat.me v.place) first
             (first_known v.place (omega (arith, before)));
-        tree_is = settled_lasts (known_of a.seat.me tree) (known_of b.seat.me tree) second
+        tree_is = settled_lasts is_fixed (known_of a.seat.me tree) (known_of b.seat.me tree) second
             (first_known tree (omega (arith, other)));
         latest_apart = apart v.place before;
         tree_apart = apart tree other;
@@ -193,7 +196,8 @@ module _ (is_tree : Term → Type 0) (tree_of : Term → DocTree)
 
   pub known_made : StaysKnown fresh a c
   known_made place lt =
-      still_on (known_of a.seat.me place) (known_of b.seat.me place) (known_of c.seat.me place)
+      still_on is_fixed (known_of a.seat.me place) (known_of b.seat.me place)
+      (known_of c.seat.me place)
       (first_known a b v newest fresh tree claimed held latest coherent place (omega (arith, lt)))
       (λ same. made.known place lt
       (spared a b v newest fresh tree claimed held latest coherent place lt
@@ -334,21 +338,23 @@ module _ (is_tree : Term → Type 0) (tree_of : Term → DocTree)
         cells = latest.cell ∷ [];
         held = wrote.held ∙ made.held ∙ latest.holds.held;
         known = λ place lt.
-            still_on (known_of a.seat.me place) (known_of c.seat.me place)
+            still_on is_fixed (known_of a.seat.me place) (known_of c.seat.me place)
             (known_of d.seat.me place) (known_made place lt)
-            (λ alike. wrote_known (HoldsVersions is_tree tree_of)
+            (λ alike. wrote_known is_fixed (HoldsVersions is_tree tree_of)
             (picks_made tree_of c v.place tree) c d 0 0 (values.Held v.place) (values.Held fresh)
             found wrote made.many place
             (omega (arith, lt, long)) (λ is. not_anchor place lt (sym alike ∙ is))
             (λ is other named on. not_box place lt other named on));
-        claims = wrote_claims (HoldsVersions is_tree tree_of) (picks_made tree_of c v.place tree) c
+        claims = wrote_claims is_fixed (HoldsVersions is_tree tree_of)
+            (picks_made tree_of c v.place tree) c
             d 0 0 (values.Held v.place) (values.Held fresh) found wrote ∙ made.claims
             ∙ latest.claims;
       }
 
       goes_all : Goes [] a d
       goes_all = goes_on (goes_none a) (goes_then latest.goes (goes_then made.goes
-          (wrote_goes (HoldsVersions is_tree tree_of) (picks_made tree_of c v.place tree) c d 0 0
+          (wrote_goes is_fixed (HoldsVersions is_tree tree_of)
+          (picks_made tree_of c v.place tree) c d 0 0
           (values.Held v.place) (values.Held fresh) found wrote)))
 
       pub in_write : IsIn d
@@ -369,7 +375,8 @@ module _ (is_tree : Term → Type 0) (tree_of : Term → DocTree)
       module _ (other : same_field found (field.Cell from) ≡ false) where
         lost_pass : d.seat.me.pass ≡ seeing (v.number + 1) (seeing v.number a.seat.me.pass)
         lost_pass =
-            wrote_pass (HoldsVersions is_tree tree_of) (picks_made tree_of c v.place tree) c d 0 0
+            wrote_pass is_fixed (HoldsVersions is_tree tree_of)
+            (picks_made tree_of c v.place tree) c d 0 0
             (values.Held v.place) (values.Held fresh) found wrote
             ∙ ap (λ (is : Bool). made_or_seen is (number_told (known_of c.seat.me v.place) + 1)
             (tree_of (root_at c v.place)) (tree_of (term_at c tree)) c.seat.me.pass) other
@@ -403,8 +410,8 @@ module _ (is_tree : Term → Type 0) (tree_of : Term → DocTree)
             cells = latest.cell ∷ last.cell ∷ [];
             held = last.holds.held ∙ ap (λ (cs : List ℕ). cs ++ last.cell ∷ []) behind_write.held
                 ∙ append_assoc (held_cells a) (latest.cell ∷ []) (last.cell ∷ []);
-            known = known_then fresh a d e behind_write.known
-                (known_below (length d.seat.me.own.held) fresh d e
+            known = known_then is_fixed fresh a d e behind_write.known
+                (known_below is_fixed (length d.seat.me.own.held) fresh d e
                 (let more = many_held a d (latest.cell ∷ []) behind_write.held in
                 let all = claimed.last in omega (arith, more, all)) last.holds.known);
             claims = last.claims ∙ behind_write.claims;
@@ -444,7 +451,7 @@ module _ (is_tree : Term → Type 0) (tree_of : Term → DocTree)
 
     pub committed_is : Committed is_tree tree_of a d v tree
     committed_is = record {
-      goes = goes_then goes_at (Rattle.version_store.proofs.Going.goes_told at d []
+      goes = goes_then goes_at (Rattle.held_places.proofs.Going.goes_told at d []
           (write_of at 0 0 (values.Held v.place) (values.Held fresh))
           (finds.Field (field.Cell from))
           (Rattle.heap_rule.specs.Lore.learned wrote.event.core wrote.event.lore
@@ -476,7 +483,8 @@ module _ (is_tree : Term → Type 0) (tree_of : Term → DocTree)
           (finds.Field (field.Cell from)) d.seat.me) picked_is wrote.event);
       after = [];
       trail_after = sym (append-nil d.seat.me.trail);
-      pass = wrote_pass (HoldsVersions is_tree tree_of) (picks_made tree_of c v.place tree) c d 0
+      pass = wrote_pass is_fixed (HoldsVersions is_tree tree_of)
+          (picks_made tree_of c v.place tree) c d 0
           0 (values.Held v.place) (values.Held fresh) (field.Cell from) wrote
           ∙ ap (λ (is : Bool). made_or_seen is (number_told (known_of c.seat.me v.place) + 1)
           (tree_of (root_at c v.place)) (tree_of (term_at c tree)) c.seat.me.pass)

@@ -38,11 +38,12 @@ use Rattle.version_rule.specs.Versions.{HoldsVersions, is_fixed}
 use Rattle.version_rule.proofs.Reading.{link_cut_picks, number_known}
 use Rattle.version_rule.proofs.Writing.{cut_picks, exchange_picks}
 use Rattle.version_store.specs.declared.held.HeldVersion.{HeldVersion}
-use Rattle.version_store.specs.Calls.{IsIn, cells_found}
+use Rattle.held_places.specs.Calls.{IsIn, cells_found}
 use Rattle.version_store.specs.Held.{IsHeld}
 use Rattle.version_store.specs.Walks.{LinkTaken}
 use Rattle.version_store.specs.Writes.{EndsLink, Writes, WritesLink}
-use Rattle.version_store.proofs.Going.{calm_goes, many_cells, target_still, version_still}
+use Rattle.held_places.proofs.Going.{calm_goes, many_cells, target_still}
+use Rattle.version_store.proofs.Remaining.{version_still}
 use Rattle.version_store.proofs.Leaving.{looks_writes, nothing_then, rewrites}
 use Rattle.version_store.proofs.Links.{ends, follows, link_is_no_number}
 use Rattle.version_store.proofs.Overwriting.{Loaded, Overwrote, exchanged, fetch_begun, fetched}

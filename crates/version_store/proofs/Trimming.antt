@@ -14,18 +14,19 @@ use Rattle.mutator_seat.specs.Stretches.{Kept}
 use Rattle.mutator_seat.proofs.Writes.{many_same}
 use Rattle.version_rule.specs.Knowing.{IsVersionKnown, KnowsVersion, link_cut, link_seen}
 use Rattle.version_rule.specs.Pass.{Pass, cutting}
-use Rattle.version_rule.specs.Versions.{HoldsVersions}
+use Rattle.version_rule.specs.Versions.{is_fixed, HoldsVersions}
 use Rattle.version_rule.proofs.Reading.{link_cut_picks, link_seen_picks}
 use Rattle.version_store.specs.declared.held.HeldVersion.{HeldVersion}
-use Rattle.version_store.specs.Calls.{StaysKnown, settled}
+use Rattle.version_store.specs.Calls.{StaysKnown}
+use Rattle.held_places.specs.Calls.{settled}
 use Rattle.version_store.specs.Held.{IsHeld}
 use Rattle.version_store.specs.Older.{Trims}
 use Rattle.version_store.specs.Walks.{CutsOff, EndsThere, FollowsLink, LinkIsNull, LinkTaken}
 use Rattle.version_store.specs.Walks.{PicksLink, Stopped, Walked}
-use Rattle.version_store.proofs.Going.{cut_claims, cut_goes, cut_held, cut_known, cut_pass}
-use Rattle.version_store.proofs.Going.{goes_then, known_below, known_then, many_held, still_on}
-use Rattle.version_store.proofs.Going.{target_still}
-use Rattle.version_store.proofs.Knowns.{fresh_apart}
+use Rattle.held_places.proofs.Going.{cut_claims, cut_goes, cut_held, cut_known, cut_pass}
+use Rattle.held_places.proofs.Going.{goes_then, known_below, known_then, many_held, still_on}
+use Rattle.held_places.proofs.Going.{target_still}
+use Rattle.held_places.proofs.Knowns.{fresh_apart}
 
 -- the passes that are picked at reads of links
 
@@ -69,7 +70,8 @@ link_taken_on a b c v before is step cut =
       held = cut.held ∙ ap (λ (cs : List ℕ). cs ++ []) step.holds.held
           ∙ append_assoc (held_cells a) (step.cell ∷ []) [];
       known = λ place lt.
-          still_on (known_of a.seat.me place) (known_of b.seat.me place) (known_of c.seat.me place)
+          still_on is_fixed (known_of a.seat.me place) (known_of b.seat.me place)
+          (known_of c.seat.me place)
           (step.holds.known place lt)
           (λ alike. cut.known place (omega (arith, many, lt))
           (λ fresh on. fresh_apart (known_of a.seat.me place) (known_of a.seat.me v.place)
@@ -101,8 +103,8 @@ cuts_walked a b c v oldest keep is walked cut = record {
   cells = walked.cells ++ cut.cells;
   held = cut.held ∙ ap (λ (cs : List ℕ). cs ++ cut.cells) walked.held
       ∙ append_assoc (held_cells a) walked.cells cut.cells;
-  known = known_then (length a.seat.me.own.held) a b c walked.known
-      (known_below (length b.seat.me.own.held) (length a.seat.me.own.held) b c
+  known = known_then is_fixed (length a.seat.me.own.held) a b c walked.known
+      (known_below is_fixed (length b.seat.me.own.held) (length a.seat.me.own.held) b c
       (let many = many_held a b walked.cells walked.held in omega (arith, many)) cut.known);
   cut = oldest.number;
   within = let at = walked.number_is in omega (arith, at);
@@ -134,8 +136,8 @@ trims a b c v keep n p is cuts told = record {
   goes = goes_then cuts.goes (cut_goes b c n p told);
   holds = record {
     held = cut_held b c n p told a cuts.cells is cuts.held;
-    known = known_then (length a.seat.me.own.held) a b c cuts.known
-        (subst (λ (k : ℕ). StaysKnown k b c) is (cut_known b c n p told));
+    known = known_then is_fixed (length a.seat.me.own.held) a b c cuts.known
+        (subst (λ (k : ℕ). StaysKnown k b c) is (cut_known is_fixed b c n p told));
   };
   cut = cuts.cut;
   within = cuts.within;

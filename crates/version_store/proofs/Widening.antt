@@ -27,16 +27,17 @@ use Rattle.version_rule.specs.Pass.{Pass, committed, seeing}
 use Rattle.version_rule.specs.Versions.{HoldsVersions, is_fixed}
 use Rattle.version_rule.proofs.Reading.{root_known}
 use Rattle.version_store.specs.declared.held.HeldVersion.{HeldVersion}
-use Rattle.version_store.specs.Calls.{Goes, Holds, IsIn, StaysKnown, StillKnown}
+use Rattle.held_places.specs.Calls.{Goes, IsIn}
+use Rattle.version_store.specs.Calls.{Holds, StaysKnown, StillKnown}
 use Rattle.version_store.specs.Commits.{Committed, FindsNewer, write_over}
 use Rattle.version_store.specs.Held.{IsHeld, IsRecord, root_at, term_at, term_told}
 use Rattle.version_store.specs.Makes.{Behind, IsClaimed}
-use Rattle.version_store.proofs.Going.{calm_goes, cut_claims, cut_goes, cut_held, cut_known}
-use Rattle.version_store.proofs.Going.{cut_pass, goes_late, goes_on, goes_then, goes_told, in_still}
-use Rattle.version_store.proofs.Going.{known_then, many_cells, many_held, target_still}
-use Rattle.version_store.proofs.Going.{version_still}
-use Rattle.version_store.proofs.Knowns.{pushed_still}
-use Rattle.version_store.proofs.Latest.{last_held}
+use Rattle.held_places.proofs.Going.{calm_goes, cut_claims, cut_goes, cut_held, cut_known}
+use Rattle.held_places.proofs.Going.{cut_pass, goes_late, goes_on, goes_then, goes_told, in_still}
+use Rattle.held_places.proofs.Going.{known_then, many_cells, many_held, target_still}
+use Rattle.version_store.proofs.Remaining.{version_still}
+use Rattle.held_places.proofs.Knowns.{pushed_still}
+use Rattle.held_places.proofs.ReadValues.{last_held}
 use Rattle.version_store.proofs.Putting.{record_still}
 
 pushed_anyway : (known : List Known) (k : Known) (place : ℕ)
@@ -45,7 +46,7 @@ pushed_anyway known k place = by_length (cases_lt place (length known))
   where
     by_length : (place < length known) ⊎ (length known ≤ place)
         → StillKnown (known_at known place) (known_at (known ++ k ∷ []) place)
-    by_length (inl lt) = pushed_still known k place lt
+    by_length (inl lt) = pushed_still is_fixed known k place lt
     by_length (inr le) = subst (λ (j : Known). StillKnown j (known_at (known ++ k ∷ []) place))
         (sym (get_or_past known place knows.Nothing le)) tt
 
@@ -160,10 +161,10 @@ module _ (a b : Bound Pass) (fresh : ℕ) (got : Claimed a fresh b) where
     pub holds_all : Holds [] a d
     holds_all = record {
       held = cut_held c d n p told a ((got.cell ∷ []) ++ behind.cells) is all_held;
-      known = known_then (length a.seat.me.own.held) a b d claimed_known
-          (known_then (length a.seat.me.own.held) b c d
+      known = known_then is_fixed (length a.seat.me.own.held) a b d claimed_known
+          (known_then is_fixed (length a.seat.me.own.held) b c d
           (subst (λ (k : ℕ). StaysKnown k b c) got.place_is behind.known)
-          (subst (λ (k : ℕ). StaysKnown k c d) is (cut_known c d n p told)));
+          (subst (λ (k : ℕ). StaysKnown k c d) is (cut_known is_fixed c d n p told)));
     }
 
     pub claims_all : d.seat.me.own.claims ≡ a.seat.me.own.claims + 1

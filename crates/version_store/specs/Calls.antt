@@ -1,121 +1,32 @@
--- What a call leaves of a mutator, and what it puts into the trail.
+-- What a call leaves of a mutator of versions, whose fixed fields are those of a version; and the
+-- reads that give the latest one.
 -- Source: this project's.
-use Rattle.std.specs.Prelude.{ℕ, ◌≡◌, ◌<◌, ◌≤◌, ◌++◌, Bool, true, false, List, [], ◌∷◌, length}
-use Rattle.std.specs.Prelude.{Option, Some, None, slice_index_or}
-use Rattle.cell_words.specs.Term.{Term}
+use Rattle.std.specs.Prelude.{ℕ, List, [], ◌∷◌}
 use Rattle.cell_words.specs.declared.fields.Field.{Field}
 use Rattle.cell_words.specs.declared.fields.Field.TheVariants as field
-use Rattle.core_machine.specs.declared.events.Taken.{Taken}
-use Rattle.core_machine.specs.Trail.{own_along}
 use Rattle.heap_rule.specs.declared.known.Known.{Known}
-use Rattle.heap_rule.specs.declared.known.Known.TheVariants as knows
-use Rattle.heap_rule.specs.declared.view.View.{View}
-use Rattle.heap_rule.specs.Asks.{known_of, target}
-use Rattle.mutator_seat.specs.Bound.{Bound, held_cells}
-use Rattle.trails.specs.Asks.{Ask, InOrder, gave_at}
-use Rattle.trails.specs.Marks.{marks_from}
+use Rattle.held_places.specs.Calls as places
+use Rattle.mutator_seat.specs.Bound.{Bound}
+use Rattle.trails.specs.Asks.{Ask, gave_at}
 use Rattle.version_rule.specs.Pass.{Pass}
 use Rattle.version_rule.specs.Versions.{is_fixed}
 
--- The same mutator of the same heap, in or out as it was: its trail grew by events that show these
--- reads in order, and its own part is what they left of it.
-pub record Goes (asks : List Ask) (old new : Bound Pass) : Type 0 where
-  pub heap : new.heap ≡ old.heap
-  pub table : new.seat.table ≡ old.seat.table
-  pub shape : new.seat.me.shape ≡ old.seat.me.shape
-  pub role : new.seat.me.role ≡ old.seat.me.role
-  pub number : new.seat.me.number ≡ old.seat.me.number
-  pub room : new.seat.me.room ≡ old.seat.me.room
-  pub inside : new.seat.me.presence.inside ≡ old.seat.me.presence.inside
-  pub over : new.seat.me.presence.over ≡ old.seat.me.presence.over
-  pub added : List Taken
-  pub trail : new.seat.me.trail ≡ old.seat.me.trail ++ added
-  pub own : new.seat.me.own ≡ own_along old.seat.me.own added
-  pub shown : InOrder asks (marks_from old.seat.me.own added)
-
--- What was known of a cell is known of it still. Of a box the terms of its fixed fields.
+-- what was known of a cell is known of it still
 abbrev pub StillKnown : Known → Known → Type 0
-StillKnown knows.Nothing new = Unit {0}
-StillKnown (knows.Raw fields) new = new ≡ knows.Raw fields
-StillKnown (knows.Fresh fields) new = new ≡ knows.Fresh fields
-StillKnown (knows.Record t) new = new ≡ knows.Record t
-StillKnown (knows.Boxed told) new =
-    (terms : List (Option Term)) × ((new ≡ knows.Boxed terms)
-    × ((f : ℕ) (t : Term) → f < 5 → is_fixed f ≡ true → slice_index_or told f None ≡ Some t
-    → slice_index_or terms f None ≡ Some t))
-
--- it is known as a record, or as a box that others may know
-abbrev pub settled : Known → Bool
-settled knows.Nothing = false
-settled (knows.Raw fields) = false
-settled (knows.Fresh fields) = false
-settled (knows.Record t) = true
-settled (knows.Boxed told) = true
-
--- it is known as fresh: a raw cell, or a box that nothing names yet
-abbrev pub known_fresh : Known → Bool
-known_fresh knows.Nothing = false
-known_fresh (knows.Raw fields) = true
-known_fresh (knows.Fresh fields) = true
-known_fresh (knows.Record t) = false
-known_fresh (knows.Boxed told) = false
+StillKnown old new = places.StillKnown is_fixed old new
 
 -- what was known at each place below an end is known there still
 abbrev pub StaysKnown : ℕ → Bound Pass → Bound Pass → Type 0
-StaysKnown end old new = (place : ℕ) → place < end
-    → StillKnown (known_of old.seat.me place) (known_of new.seat.me place)
+StaysKnown end old new = places.StaysKnown is_fixed end old new
 
--- The held list is as it was, with these cells behind it, and what was known of the old places is
--- known still.
-pub record Holds (cells : List ℕ) (old new : Bound Pass) : Type 0 where
-  pub held : held_cells new ≡ held_cells old ++ cells
-  pub known : StaysKnown (length old.seat.me.own.held) old new
+-- the held list is as it was, with these cells behind it, and all is known still
+abbrev pub Holds : List ℕ → Bound Pass → Bound Pass → Type 0
+Holds cells old new = places.Holds is_fixed cells old new
 
--- the mutator is in, and the first of its places is the anchor
-pub record IsIn (m : Bound Pass) : Type 0 where
-  pub inside : m.seat.me.presence.inside ≡ true
-  pub some : 1 ≤ length m.seat.me.own.held
-  pub anchor : target m.seat.me 0 ≡ 0
-
--- what is known of one cell at two places is of one kind
-abbrev pub one_kind : Known → Known → Bool
-one_kind knows.Nothing k = true
-one_kind (knows.Raw fields) knows.Nothing = true
-one_kind (knows.Raw fields) (knows.Raw others) = true
-one_kind (knows.Raw fields) _ = false
-one_kind (knows.Fresh fields) knows.Nothing = true
-one_kind (knows.Fresh fields) (knows.Fresh others) = true
-one_kind (knows.Fresh fields) _ = false
-one_kind (knows.Record t) knows.Nothing = true
-one_kind (knows.Record t) (knows.Record other) = true
-one_kind (knows.Record t) _ = false
-one_kind (knows.Boxed told) knows.Nothing = true
-one_kind (knows.Boxed told) (knows.Boxed others) = true
-one_kind (knows.Boxed told) _ = false
-
--- As a read shows: as much is known as there are places, what is known fits together, and the
--- anchor is not fresh.
-pub record IsCoherent (v : View Pass) : Type 0 where
-  pub many : length v.known ≡ length v.own.held
-  pub kinds : (one other : ℕ) → one < length v.own.held → other < length v.own.held
-      → target v one ≡ target v other → one_kind (known_of v one) (known_of v other) ≡ true
-  pub anchor : (place : ℕ) → place < length v.own.held → target v place ≡ 0
-      → known_fresh (known_of v place) ≡ false
+-- one read of this field of the cell at a place, which gave this
+abbrev pub WasRead : Bound Pass → Bound Pass → ℕ → ℕ → Field → Type 0
+WasRead old new place f found = places.WasRead is_fixed old new place f found
 
 -- a read of the anchor's field gave a cell, and a later one of this cell's field 0 gave a number
 abbrev pub version_asks : ℕ → ℕ → List Ask
 version_asks cell number = gave_at 0 0 (field.Cell cell) ∷ gave_at cell 0 (field.Num number) ∷ []
-
--- the cell that a field names is held behind it
-abbrev pub cells_found : Field → List ℕ
-cells_found field.Null = []
-cells_found (field.Num n) = []
-cells_found (field.Cell c) = c ∷ []
-
--- One read of this field of the cell at a place, which gave this.
-pub record WasRead (old new : Bound Pass) (place f : ℕ) (found : Field) : Type 0 where
-  pub goes : Goes (gave_at (target old.seat.me place) f found ∷ []) old new
-  pub holds : Holds (cells_found found) old new
-  pub claims : new.seat.me.own.claims ≡ old.seat.me.own.claims
-  pub coherent : IsCoherent old.seat.me
-  pub many : length new.seat.me.known ≡ length new.seat.me.own.held

@@ -8,7 +8,8 @@ use Rattle.heap_rule.specs.Asks.{known_of, target}
 use Rattle.heap_rule.specs.Lore.{five_nulls}
 use Rattle.mutator_seat.specs.Bound.{Bound, held_cells}
 use Rattle.version_rule.specs.Pass.{Pass}
-use Rattle.version_store.specs.Calls.{Goes, StaysKnown, StillKnown, known_fresh, settled}
+use Rattle.held_places.specs.Calls.{Goes, known_fresh, settled}
+use Rattle.version_store.specs.Calls.{StaysKnown, StillKnown}
 
 -- the cell at the last place was just claimed, and the version and the tree stand before it
 pub record IsClaimed (m : Bound Pass) (fresh latest tree : ℕ) : Type 0 where

@@ -4,7 +4,8 @@ use Rattle.std.specs.Prelude.{ℕ, ◌≡◌, ◌≤◌, ◌+◌, [], ◌∷◌,
 use Rattle.mutator_seat.specs.Bound.{Bound}
 use Rattle.version_rule.specs.Pass.{Pass, cutting}
 use Rattle.version_store.specs.declared.held.HeldVersion.{HeldVersion}
-use Rattle.version_store.specs.Calls.{Goes, Holds}
+use Rattle.held_places.specs.Calls.{Goes}
+use Rattle.version_store.specs.Calls.{Holds}
 use Rattle.version_store.specs.Held.{IsHeld}
 
 -- The version so many below is held at the next place. The pass is as it was.

@@ -16,8 +16,9 @@ use Rattle.version_rule.specs.Knowing.{KnowsVersion, number_told}
 use Rattle.version_rule.specs.Pass.{Pass, cutting}
 use Rattle.version_rule.specs.Versions.{is_fixed}
 use Rattle.version_store.specs.declared.held.HeldVersion.{HeldVersion}
-use Rattle.version_store.specs.Calls.{Goes, Holds, IsCoherent, StaysKnown, StillKnown}
-use Rattle.version_store.specs.Calls.{known_fresh}
+use Rattle.held_places.specs.Calls.{Goes, IsCoherent}
+use Rattle.version_store.specs.Calls.{Holds, StaysKnown, StillKnown}
+use Rattle.held_places.specs.Calls.{known_fresh}
 use Rattle.version_store.specs.Held.{IsHeld}
 
 -- The pass that is picked at a read of a link stands, and stays where the link is there.

@@ -3,7 +3,8 @@
 ghost use Rattle.std.specs.Prelude.{◌≡◌, ◌<◌, ◌≤◌, ◌+◌, ◌⊎◌, IfErr, IfNone, IfOk, IfSome, OnErr};
 ghost use Rattle.std.specs.Prelude.{[], length, true};
 ghost use Rattle.version_rule.specs.Versions.{HoldsVersions};
-ghost use Rattle.version_store.specs.Calls.{Holds, IsIn};
+ghost use Rattle.version_store.specs.Calls.{Holds};
+ghost use Rattle.held_places.specs.Calls.{IsIn};
 ghost use Rattle.version_store.specs.Commits.{FindsNewer, ShowsNewer};
 ghost use Rattle.version_store.specs.Held.{IsHeld};
 ghost use Rattle.version_store.specs.Lasts.{IsSameMutator, LastsAcross};

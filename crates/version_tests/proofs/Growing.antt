@@ -24,7 +24,8 @@ use Rattle.version_store.specs.Commits.{Committed, Refused}
 use Rattle.version_store.specs.Held.{GivesLatest, GivesRoot, IsHeld, root_at, term_at}
 use Rattle.version_store.specs.Lasts.{IsSameMutator, LastsAcross}
 use Rattle.version_store.specs.Older.{Trims}
-use Rattle.version_store.proofs.Going.{calm_goes, cut_goes, many_held, version_still}
+use Rattle.held_places.proofs.Going.{calm_goes, cut_goes, many_held}
+use Rattle.version_store.proofs.Remaining.{version_still}
 use Rattle.version_store.proofs.Lasting.{goes_same, same_still, same_then}
 use Rattle.version_tests.specs.Grows.{Grows, IsOf, IsOver, Works}
 

@@ -13,7 +13,7 @@ use Rattle.version_rule.specs.Opening.{first_rows, first_terms}
 use Rattle.version_rule.specs.Pass.{Commit, Pass, opening_pass}
 use Rattle.version_rule.specs.Versions.{HoldsVersions}
 use Rattle.version_rule.proofs.Openings.{firsts, opened}
-use Rattle.version_store.proofs.Going.{many_cells}
+use Rattle.held_places.proofs.Going.{many_cells}
 use Rattle.version_tests.specs.Grows.{IsNew, IsOf, Works}
 
 pub opens : (cells mutators keep : ℕ) (rows : List (List Field)) → rows ≡ first_rows

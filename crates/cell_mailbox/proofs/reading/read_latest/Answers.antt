@@ -2,7 +2,7 @@ use Rattle.std.proofs.Common.{sym, ◌∙◌}
 use Rattle.heap_rule.proofs.Picking.{read_picks}
 use Rattle.mail_rule.specs.Mail.{HoldsMail, is_fixed}
 use Rattle.cell_mailbox.proofs.Finding.{finds_latest, latest_cell}
-use Rattle.cell_mailbox.proofs.Stub.{held_alone}
+use Rattle.held_places.proofs.ReadValues.{held_alone}
 use Rattle.cell_mailbox.proofs.reading.read_latest.Goals as goal
 
 pub read-requires-clause-rule : goal.read-requires-clause-rule

@@ -1,6 +1,6 @@
 use Rattle.std.proofs.Common.{◌∙◌, ap, arith, sym}
 use Rattle.cell_words.specs.declared.controls.Control.{Control}
-use Rattle.closed_store.proofs.Counting.{free_and_used}
+use Rattle.closed_heap.proofs.Counting.{free_and_used}
 use Rattle.store_run.proofs.totals.totals_of.Goals as goal
 
 pub returns-clause-totals : goal.returns-clause-totals

@@ -1,21 +1,23 @@
 use Rattle.std.proofs.Common.{◌<◌, length, refl, sym, subst, arith}
 use Rattle.mutator_seat.proofs.Calm.{kept_same}
 use Rattle.version_rule.specs.Pass.{Pass}
-use Rattle.version_store.proofs.Going.{comes_in, kept_holds}
+use Rattle.held_places.proofs.Going.{comes_in, kept_holds}
 use Rattle.version_store.proofs.Lasting.{full_lasts, full_shows, goes_same, lasts_still, made_lasts}
 use Rattle.version_store.proofs.Lasting.{newer_lasts, newer_shows, same_still}
 use Rattle.version_store.proofs.Leaving.{claimed_writes, left_around, once_around, writes_told}
-use Rattle.version_store.proofs.Widening.{claimed_goes, claimed_held, claimed_in, claimed_is, claimed_pass}
+use Rattle.version_store.proofs.Widening.{claimed_goes, claimed_held, claimed_in, claimed_is}
+use Rattle.version_store.proofs.Widening.{claimed_pass}
 use Rattle.version_store.proofs.Widening.{claimed_record, claimed_room, claimed_term, claims_all}
 use Rattle.version_store.proofs.Widening.{committed_all, holds_all, kept_some, newer_all}
 use Rattle.version_store.proofs.committing.commit.Goals as goal
+use Rattle.version_rule.specs.Versions.{is_fixed}
 
 pub returns-then-v-versions-clause-refused : goal.returns-then-v-versions-clause-refused
 returns-then-v-versions-clause-refused g c = refl
 
 pub returns-then-v-versions-clause-held : goal.returns-then-v-versions-clause-held
 returns-then-v-versions-clause-held g c =
-    kept_holds c.args.m.now c.args.m.now (kept_same c.args.m.now)
+    kept_holds is_fixed c.args.m.now c.args.m.now (kept_same c.args.m.now)
 
 pub returns-then-v-versions-clause-lasts : goal.returns-then-v-versions-clause-lasts
 returns-then-v-versions-clause-lasts g c = lasts_still c.args.m.now

@@ -3,7 +3,7 @@ use Rattle.version_rule.specs.Pass.{Pass}
 use Rattle.version_store.proofs.Putting.{behind_first, behind_last, behind_write, committed_is}
 use Rattle.version_store.proofs.Putting.{in_write, may_make, may_pick, may_publish, newer_first}
 use Rattle.version_store.proofs.Putting.{newer_last, room_write}
-use Rattle.version_store.proofs.Going.{goes_then}
+use Rattle.held_places.proofs.Going.{goes_then}
 use Rattle.version_store.proofs.Leaving.{lost_around, loses_once, nothing_then, once_around}
 use Rattle.version_store.proofs.Leaving.{writes_none, writes_once}
 use Rattle.version_store.proofs.committing.put_version.Goals as goal

@@ -1,4 +1,4 @@
-use Rattle.version_store.proofs.Going.{comes_in}
+use Rattle.held_places.proofs.Going.{comes_in}
 use Rattle.version_store.proofs.Lasting.{goes_same, latest_lasts, latest_shows}
 use Rattle.version_store.proofs.reading.current.Goals as goal
 

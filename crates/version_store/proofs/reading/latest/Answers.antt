@@ -1,5 +1,5 @@
 use Rattle.std.proofs.Common.{[], ◌∷◌, arith}
-use Rattle.version_store.proofs.Going.{in_still, many_held}
+use Rattle.held_places.proofs.Going.{in_still, many_held}
 use Rattle.version_store.proofs.Latest.{gives_latest, seen_is}
 use Rattle.version_store.proofs.Leaving.{nothing_then}
 use Rattle.version_store.proofs.reading.latest.Goals as goal

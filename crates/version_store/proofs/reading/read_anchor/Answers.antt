@@ -1,7 +1,8 @@
 use Rattle.std.proofs.Common.{sym, ◌∙◌}
 use Rattle.version_rule.proofs.Reading.{latest_picks}
 use Rattle.version_store.proofs.Leaving.{read_writes}
-use Rattle.version_store.proofs.Latest.{anchor_cell, finds_latest, held_alone}
+use Rattle.version_store.proofs.Latest.{anchor_cell, finds_latest}
+use Rattle.held_places.proofs.ReadValues.{held_alone}
 use Rattle.version_store.proofs.reading.read_anchor.Goals as goal
 
 pub read-requires-clause-rule : goal.read-requires-clause-rule

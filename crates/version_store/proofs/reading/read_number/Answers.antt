@@ -2,7 +2,8 @@ use Rattle.std.proofs.Common.{sym, ◌∙◌}
 use Rattle.heap_rule.proofs.Picking.{read_picks}
 use Rattle.version_rule.specs.Versions.{HoldsVersions, is_fixed}
 use Rattle.version_store.proofs.Leaving.{read_writes}
-use Rattle.version_store.proofs.Latest.{finds_number, number_alone, number_is}
+use Rattle.version_store.proofs.Latest.{finds_number, number_is}
+use Rattle.held_places.proofs.ReadValues.{number_alone}
 use Rattle.version_store.proofs.reading.read_number.Goals as goal
 
 pub read-requires-clause-rule : goal.read-requires-clause-rule

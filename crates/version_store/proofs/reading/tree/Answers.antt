@@ -2,7 +2,8 @@ use Rattle.std.proofs.Common.{sym, ◌∙◌}
 use Rattle.version_rule.proofs.Reading.{tree_picks}
 use Rattle.version_store.proofs.Lasting.{goes_same, root_lasts, root_shows}
 use Rattle.version_store.proofs.Leaving.{read_writes}
-use Rattle.version_store.proofs.Latest.{gives_root, held_alone, root_cell}
+use Rattle.version_store.proofs.Latest.{gives_root, root_cell}
+use Rattle.held_places.proofs.ReadValues.{held_alone}
 use Rattle.version_store.proofs.reading.tree.Goals as goal
 
 pub read-requires-clause-rule : goal.read-requires-clause-rule

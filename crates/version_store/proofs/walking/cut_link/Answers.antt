@@ -1,7 +1,7 @@
 use Rattle.std.proofs.Common.{◌∷◌, [], ap, arith, inl, inr}
 use Rattle.version_rule.specs.Pass.{Pass}
 use Rattle.version_store.proofs.Backward.{held_on}
-use Rattle.version_store.proofs.Going.{in_still, many_held}
+use Rattle.held_places.proofs.Going.{in_still, many_held}
 use Rattle.version_store.proofs.Leaving.{at_most_behind}
 use Rattle.version_store.proofs.Trimming.{link_taken_on, link_was_null, picks_cut}
 use Rattle.version_store.proofs.walking.cut_link.Goals as goal

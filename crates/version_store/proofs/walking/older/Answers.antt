@@ -1,7 +1,7 @@
 use Rattle.std.proofs.Common.{[], arith}
 use Rattle.version_store.proofs.Backward.{cut_back, cut_back_claims, cut_newer, gives_older}
 use Rattle.version_store.proofs.Backward.{may_keep, stopped_in, stopped_room}
-use Rattle.version_store.proofs.Going.{comes_in}
+use Rattle.held_places.proofs.Going.{comes_in}
 use Rattle.version_store.proofs.Leaving.{nothing_then, writes_told}
 use Rattle.version_store.proofs.Lasting.{goes_same, newer_lasts, newer_shows, older_lasts}
 use Rattle.version_store.proofs.Trimming.{picks_seen}

@@ -1,5 +1,5 @@
 use Rattle.std.proofs.Common.{inl}
-use Rattle.version_store.proofs.Going.{comes_in}
+use Rattle.held_places.proofs.Going.{comes_in}
 use Rattle.version_store.proofs.Lasting.{goes_same, trim_lasts}
 use Rattle.version_store.proofs.Leaving.{at_most_before, writes_none, writes_told}
 use Rattle.version_store.proofs.Trimming.{trims}

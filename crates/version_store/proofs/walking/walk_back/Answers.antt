@@ -1,6 +1,6 @@
 use Rattle.std.proofs.Common.{arith, []}
 use Rattle.version_store.proofs.Backward.{walk_on, walk_starts, walk_stops, walked_room}
-use Rattle.version_store.proofs.Going.{in_still}
+use Rattle.held_places.proofs.Going.{in_still}
 use Rattle.version_store.proofs.Leaving.{nothing_then}
 use Rattle.version_store.proofs.walking.walk_back.Goals as goal
 

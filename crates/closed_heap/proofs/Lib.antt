@@ -1,0 +1,4 @@
+pub mod Claiming
+pub mod Counting
+pub mod Getting
+pub mod Out

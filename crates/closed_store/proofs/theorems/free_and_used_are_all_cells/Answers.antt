@@ -1,5 +1,0 @@
-use Rattle.closed_store.proofs.Counting.{free_and_used}
-use Rattle.closed_store.proofs.theorems.free_and_used_are_all_cells.Goals as goal
-
-pub returns : goal.returns
-returns c = free_and_used

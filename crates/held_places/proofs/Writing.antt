@@ -1,0 +1,126 @@
+-- What a write leaves that a picked pass goes with: the trail, the held list, and what is known.
+use Rattle.std.proofs.Common.{◌≡◌, ◌≢◌, ◌<◌, ℕ, Bool, true, false, List, [], ◌∷◌, ◌++◌, get_or}
+use Rattle.std.proofs.Common.{length, Result, Ok, Err, OnOk, IfErr, refl, sym, ◌∙◌, ap, subst}
+use Rattle.std.proofs.Common.{arith}
+use Rattle.std.proofs.lemmas.List.{append-nil}
+use Rattle.cell_words.specs.declared.fields.Field.{Field}
+use Rattle.cell_words.specs.declared.fields.Field.TheVariants as field
+use Rattle.core_machine.specs.declared.events.Event.{Event}
+use Rattle.core_machine.specs.declared.events.Found.{Found}
+use Rattle.core_machine.specs.declared.events.Found.TheVariants as finds
+use Rattle.core_machine.specs.Words.{same_field}
+use Rattle.heap_rule.specs.declared.known.Known.{Known}
+use Rattle.heap_rule.specs.declared.known.Learned.{Learned}
+use Rattle.heap_rule.specs.declared.view.View.{View}
+use Rattle.heap_rule.specs.Asks.{known_of, target}
+use Rattle.heap_rule.specs.Boxes.{Map}
+use Rattle.heap_rule.specs.Lore.{known_at, known_stored_if, learned, was_made}
+use Rattle.heap_rule.proofs.Reading.{cell_there}
+use Rattle.mutator_events.specs.declared.values.Value.{Value}
+use Rattle.mutator_events.specs.Values.{field_at}
+use Rattle.mutator_seat.specs.Bound.{Bound, held_cells}
+use Rattle.mutator_seat.specs.Writes.{LookAndMarks, Updated, write_of}
+use Rattle.mutator_seat.proofs.Writes.{cell_same, field_same, many_same}
+use Rattle.trails.specs.Asks.{here, nothing, wrote_at}
+use Rattle.held_places.specs.Calls.{Goes, StillKnown, known_fresh}
+use Rattle.held_places.proofs.Storing.{stored_still}
+use Rattle.held_places.proofs.Going.{calm_goes, goes_none, goes_on, goes_then, goes_told}
+use Rattle.held_places.proofs.Going.{many_cells, still_same}
+
+-- whichever way the write ended
+pub either_way : {U : Field → Type 0} {M : Type 0} (found : M → Field) (expected : Field)
+    (r : Result (Unit {0}) M) → OnOk r (U expected)
+    → IfErr r (λ m. (same_field (found m) expected ≡ false) × U (found m)) → (x : Field) × U x
+either_way found expected (Ok u) made moved = (expected, made)
+either_way found expected (Err m) made moved = (found m, moved.1)
+
+module _ {P : Type 0} (fixed : ℕ → Bool) (holds : Map → List P → Type 0)
+    (next : Learned → Found → P → P)
+    (a b : Bound P) (place f : ℕ) (old new : Value) (found : Field)
+    (wrote : Updated holds fixed next a place f old new found b) where
+  abbrev at : Bound P
+  at = wrote.at
+
+  abbrev write : Event
+  write = write_of at place f old new
+
+  abbrev tells : Learned
+  tells = learned wrote.event.core wrote.event.lore write
+
+  -- the trail shows the write, with the values that stood for the fields before it
+  pub wrote_shown : Goes (wrote_at (target a.seat.me place) f (field_at a.seat.me.own.held old)
+      (field_at a.seat.me.own.held new) found ∷ []) a b
+  wrote_shown =
+      let same = wrote.calm.kept.held in
+      goes_then
+      (calm_goes (LookAndMarks a.seat.me.number a.seat.me.presence.status old new) a at wrote.calm)
+      (goes_told at b (wrote_at (target a.seat.me place) f (field_at a.seat.me.own.held old)
+      (field_at a.seat.me.own.held new) found ∷ []) write (finds.Field found) tells
+      (next tells (finds.Field found) at.seat.me.pass) (wrote.heap ∙ sym wrote.calm.kept.heap)
+      (wrote.table ∙ sym wrote.calm.kept.table) wrote.event.new refl
+      (here (
+        cell_same at.seat.me.own.held a.seat.me.own.held same place,
+        refl,
+        field_same at.seat.me.own.held a.seat.me.own.held same old,
+        field_same at.seat.me.own.held a.seat.me.own.held same new,
+        refl,
+      ) nothing))
+
+  pub wrote_goes : Goes [] a b
+  wrote_goes = goes_on (goes_none a) wrote_shown
+
+  pub wrote_held : held_cells b ≡ held_cells a ++ []
+  wrote_held = wrote.held ∙ sym (append-nil (held_cells a))
+
+  pub wrote_pass : b.seat.me.pass ≡ next tells (finds.Field found) a.seat.me.pass
+  wrote_pass = ap (λ (u : View P). u.pass) wrote.event.new
+      ∙ ap (λ (p : P). next tells (finds.Field found) p) wrote.calm.kept.pass
+
+  pub wrote_claims : b.seat.me.own.claims ≡ a.seat.me.own.claims
+  wrote_claims = ap (λ (u : View P). u.own.claims) wrote.event.new ∙ wrote.calm.kept.claims
+
+  abbrev cells : List ℕ
+  cells = held_cells at
+
+  stored_if : (made : Bool) (other : ℕ) → length at.seat.me.known ≡ length cells
+      → other < length cells
+      → (known_fresh (known_of at.seat.me other) ≡ true
+      → get_or cells other 0 ≢ get_or cells place 0)
+      → (known_fresh (known_of at.seat.me other) ≡ true
+      → (c : ℕ) → field_at at.seat.me.own.held new ≡ field.Cell c → get_or cells other 0 ≢ c)
+      → StillKnown fixed (known_of at.seat.me other)
+      (known_at (known_stored_if made cells at.seat.me.known place f
+      (field_at at.seat.me.own.held new)) other)
+  stored_if true other many lt apart unnamed = stored_still fixed cells at.seat.me.known place f
+      (field_at at.seat.me.own.held new) many other lt apart unnamed
+  stored_if false other many lt apart unnamed = still_same fixed (known_of at.seat.me other)
+
+  cell_at_is : (other : ℕ) → get_or cells other 0 ≡ target a.seat.me other
+  cell_at_is other = ap (λ (cs : List ℕ). get_or cs other 0) wrote.calm.kept.held
+      ∙ cell_there a.seat.me.own.held other
+
+  -- What was known at a place, which if it is fresh has another cell than the one that is written
+  -- and the one that the value names.
+  pub wrote_known : length a.seat.me.known ≡ length a.seat.me.own.held → (other : ℕ)
+      → other < length a.seat.me.own.held
+      → (known_fresh (known_of a.seat.me other) ≡ true
+      → target a.seat.me other ≢ target a.seat.me place)
+      → (known_fresh (known_of a.seat.me other) ≡ true
+      → (c : ℕ) → field_at a.seat.me.own.held new ≡ field.Cell c → target a.seat.me other ≢ c)
+      → StillKnown fixed (known_of a.seat.me other) (known_of b.seat.me other)
+  wrote_known many other lt apart unnamed =
+      let same = many_same at.seat.me.own.held a.seat.me.own.held wrote.calm.kept.held in
+      let long = many_cells at in
+      let known = ap (λ (ks : List Known). length ks) wrote.calm.kept.known in
+      let here : known_of at.seat.me other ≡ known_of a.seat.me other =
+      ap (λ (ks : List Known). known_at ks other) wrote.calm.kept.known in
+      subst (λ (k : Known). StillKnown fixed k (known_of b.seat.me other)) here
+      (subst (λ (k : Known). StillKnown fixed (known_of at.seat.me other) k)
+      (sym (ap (λ (u : View P). known_of u other) wrote.event.new))
+      (stored_if (was_made (field_at at.seat.me.own.held old) (finds.Field found)) other
+      (omega (arith, known, many, long, same)) (omega (arith, lt, long, same))
+      (λ is on. apart (sym (ap known_fresh here) ∙ is)
+      (sym (cell_at_is other) ∙ on ∙ cell_at_is place))
+      (λ is c named on. unnamed (sym (ap known_fresh here) ∙ is) c
+      (sym (field_same at.seat.me.own.held a.seat.me.own.held wrote.calm.kept.held new) ∙ named)
+      (sym (cell_at_is other) ∙ on))))
