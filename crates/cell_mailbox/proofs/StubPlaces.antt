@@ -61,18 +61,7 @@ module _ (b c : Bound MailPass) (n place : ℕ) (p : Found)
     front : length (take n b.seat.me.known) ≡ n
     front = length-take-le n b.seat.me.known (omega (arith, some, many))
 
-    -- what is known of the first places
-    pub keep_stays : StaysKnown is_fixed n b c
-    keep_stays other lt =
-        subst (λ (k : Known). Rattle.held_places.specs.Calls.StillKnown
-        (known_of b.seat.me other) k)
-        (sym (ap (λ (ks : List Known). known_at ks other) keep_known
-        ∙ get_or_append_left (take n b.seat.me.known) (known_of b.seat.me place ∷ [])
-        knows.Nothing other (omega (arith, lt, front))
-        ∙ get_or-take n b.seat.me.known other knows.Nothing lt))
-        (still_same is_fixed (known_of b.seat.me other))
-
-    -- and of the last
+    -- what is known of the last
     pub keep_last : known_of c.seat.me n ≡ known_of b.seat.me place
     keep_last =
         ap (λ (ks : List Known). known_at ks n) keep_known

@@ -114,11 +114,12 @@ fn find_last<R: Wait>(rt: &R, m: &mut Mutator<'_, MailPass>, held: usize) -> u64
 fn make_item(m: &mut Mutator<'_, MailPass>, fresh: usize, item: Item)
     requires may { MayMake m.old fresh }
     requires position { item.position ≤ 6400001 }
+    requires sender { item.sender < 2 ^ 32 }
     requires value { item.value < 2 ^ 32 }
     ensures makes { Makes m.old m.new fresh item }
 {
     m.fill::<Brand>(fresh, 0, Value::Num(item.position));
-    m.fill::<Brand>(fresh, 1, Value::Num(u64::from(item.sender)));
+    m.fill::<Brand>(fresh, 1, Value::Num(item.sender as u64));
     m.fill::<Brand>(fresh, 2, Value::Num(item.value));
     m.seal_box(fresh);
 }
