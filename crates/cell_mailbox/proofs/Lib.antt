@@ -2,7 +2,7 @@ mod Boxing
 mod Calling
 mod Finding
 mod Linking
-mod StubPlaces
+mod Places
 mod Trying
 mod Turning
 mod Walking

@@ -38,8 +38,8 @@ use Rattle.cell_mailbox.specs.Ends.{FullTry, LostTry, SentTry}
 use Rattle.cell_mailbox.specs.Makes.{Makes, MayMake}
 use Rattle.cell_mailbox.specs.Walks.{EndsAt}
 use Rattle.cell_mailbox.proofs.Finding.{item_known, item_still}
-use Rattle.cell_mailbox.proofs.StubPlaces.{claimed_goes, claimed_known, claimed_pass}
-use Rattle.cell_mailbox.proofs.StubPlaces.{stood_nowhere}
+use Rattle.cell_mailbox.proofs.Places.{claimed_goes, claimed_known, claimed_pass}
+use Rattle.cell_mailbox.proofs.Places.{stood_nowhere}
 use Rattle.cell_mailbox.proofs.Trying.{item_kept, sealed_value}
 
 -- a claim that found the heap full

@@ -28,7 +28,7 @@ use Rattle.mutator_seat.specs.Bound.{Bound, held_cells}
 use Rattle.mutator_seat.specs.Stretches.{Kept}
 use Rattle.mutator_seat.specs.Writes.{LookAndMarks, MayUpdate, PicksUpdate, Updated, write_of}
 use Rattle.mutator_seat.proofs.Writes.{cell_same}
-use Rattle.trails.specs.Asks.{gave_at}
+use Rattle.trails.specs.Asks.{gave_at, wrote_at}
 use Rattle.held_places.specs.Calls.{Goes, IsIn}
 use Rattle.cell_mailbox.specs.Ends.{AtOneWrite, EmptyTry, LostTry, TookOnce, TookTry}
 use Rattle.cell_mailbox.specs.Finds.{FindsItem, FindsLast, FindsNext, FindsWhole}
@@ -37,7 +37,7 @@ use Rattle.cell_mailbox.proofs.Finding.{item_still}
 use Rattle.held_places.proofs.Going.{calm_trail, goes_then, kept_known, many_cells}
 use Rattle.held_places.proofs.Knowns.{sealed_at}
 use Rattle.held_places.proofs.ReadValues.{last_held}
-use Rattle.held_places.proofs.Writing.{wrote_goes, wrote_pass}
+use Rattle.held_places.proofs.Writing.{wrote_goes, wrote_pass, wrote_shown}
 
 -- a stretch that kept all keeps what is known of items
 pub item_kept : (a b : Bound MailPass) → Kept a b → (place : ℕ) (item : Item)
@@ -188,7 +188,15 @@ module _ (a b c d : Bound MailPass) (latest next : ℕ) (item : Item) (is : IsIn
       let from = target d.seat.me latest in
       let box = target d.seat.me next in
       record {
-        leaves = record { goes = goes e old wrote; cells = cells; held = held e old wrote };
+        leaves = record {
+          goes = subst (λ (x : ℕ). Goes (wrote_at x 0 old (field.Cell box) old ∷ []) a e)
+              in_d.anchor
+              (goes_then all_reads.goes
+              (wrote_shown is_fixed HoldsMail (next_taken old item) d e 0 0
+              (values.Held latest) (values.Held next) old wrote));
+          cells = cells;
+          held = held e old wrote;
+        };
         took = record {
           from = from;
           box = box;

@@ -19,7 +19,7 @@ use Rattle.trails.specs.Asks.{Ask}
 use Rattle.held_places.specs.Calls.{Goes, IsIn}
 use Rattle.cell_mailbox.specs.Ends.{AtOneWrite, EmptyTry, FindsEmpty, Leaves, LostTry, Rests}
 use Rattle.cell_mailbox.specs.Ends.{FindsFullHeap, FullTry, PostEnds, Returns, Sends, SentTry}
-use Rattle.cell_mailbox.specs.Ends.{Takes, TookTry, TurnEnds}
+use Rattle.cell_mailbox.specs.Ends.{Takes, TookTry, TurnEnds, take_asks}
 use Rattle.cell_mailbox.specs.declared.turns.Post.{Post}
 use Rattle.cell_mailbox.specs.declared.turns.Post.TheVariants as posts
 use Rattle.cell_mailbox.specs.declared.turns.Turn.{Turn}
@@ -71,7 +71,7 @@ module _ (a c : Bound MailPass) (came : Rests a c) where
 
   pub cut_turn : (d : Bound MailPass) (n : ℕ) → n ≡ length a.seat.me.own.held → (turn : Turn)
       → TurnEnds c d turn → n ≤ length d.seat.me.own.held
-  cut_turn d n is (turns.Took item) ends = cut_kept [] d n is ends.leaves
+  cut_turn d n is (turns.Took item) ends = cut_kept _ d n is ends.leaves
   cut_turn d n is turns.Empty ends = cut_kept _ d n is ends.leaves
   cut_turn d n is turns.Lost ends = cut_kept [] d n is ends.leaves
 
@@ -111,7 +111,7 @@ module _ (a c : Bound MailPass) (came : Rests a c) where
 
     pub takes_all : (item : Item) → TookTry c d item → Takes a e item
     takes_all item try = record {
-      returns = returns_all [] try.leaves;
+      returns = returns_all (take_asks try.took.from try.took.box) try.leaves;
       took = record {
         from = try.took.from;
         box = try.took.box;

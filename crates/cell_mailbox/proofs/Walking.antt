@@ -18,7 +18,7 @@ use Rattle.cell_mailbox.specs.Walks.{EndsAt, Stands}
 use Rattle.cell_mailbox.proofs.Calling.{reads_in, reads_still, reads_unasked}
 use Rattle.held_places.proofs.Going.{calm_goes, goes_late, goes_none, goes_then, in_still, many_cells}
 use Rattle.held_places.proofs.Going.{many_held}
-use Rattle.cell_mailbox.proofs.StubPlaces.{keep_cells, keep_goes, keep_known, keep_last}
+use Rattle.cell_mailbox.proofs.Places.{keep_cells, keep_goes, keep_known, keep_last}
 use Rattle.cell_mailbox.proofs.Trying.{item_kept}
 
 pub stands_first : (a b : Bound MailPass) (latest held : ℕ) → held ≡ length a.seat.me.own.held

@@ -20,7 +20,7 @@ use Rattle.mutator_events.specs.Events.{AtEvent}
 use Rattle.mutator_seat.specs.Bound.{Bound, held_cells}
 use Rattle.mutator_seat.specs.Stretches.{Calm}
 use Rattle.mutator_seat.specs.declared.full.HeapFull.{HeapFull}
-use Rattle.trails.specs.Asks.{Ask, gave_at}
+use Rattle.trails.specs.Asks.{Ask, gave_at, wrote_at}
 use Rattle.trails.specs.Claims.{FindsFull}
 use Rattle.held_places.specs.Calls.{Goes}
 use Rattle.cell_mailbox.specs.declared.turns.Post.{Post}
@@ -73,9 +73,13 @@ pub record SentOnce (old new : Bound MailPass) (sent : Sent) : Type 0 where
 
 -- What a call answers.
 
+-- the trail shows the write of a take: of the anchor's field, and made
+abbrev pub take_asks : ℕ → ℕ → List Ask
+take_asks from box = wrote_at 0 0 (field.Cell from) (field.Cell box) (field.Cell from) ∷ []
+
 pub record Takes (old new : Bound MailPass) (item : Item) : Type 0 where
-  pub returns : Returns [] old new
   pub took : TookOnce old new item
+  pub returns : Returns (take_asks took.from took.box) old new
 
 -- the box that a read found at the anchor had null in its next field at a later read
 pub record FindsEmpty (old new : Bound MailPass) : Type 0 where
@@ -113,8 +117,8 @@ pub record LostTry (old new : Bound MailPass) : Type 0 where
   pub pass : new.seat.me.pass ≡ old.seat.me.pass
 
 pub record TookTry (old new : Bound MailPass) (item : Item) : Type 0 where
-  pub leaves : Leaves [] old new
   pub took : TookOnce old new item
+  pub leaves : Leaves (take_asks took.from took.box) old new
 
 pub record EmptyTry (old new : Bound MailPass) : Type 0 where
   pub cell : ℕ
