@@ -2,7 +2,6 @@
 use Rattle.std.proofs.Common.{◌≡◌, ◌<◌, ◌≤◌, ◌+◌, ◌⊎◌, ℕ, zero, suc, List, [], ◌∷◌, ◌++◌, length}
 use Rattle.std.proofs.Common.{Option, Some, None, inl, inr, refl, sym, ◌∙◌, ap, subst, arith}
 use Rattle.std.proofs.Common.{slice_index_or}
-use Rattle.std.proofs.lemmas.List.{append-nil}
 use Rattle.cell_words.specs.declared.fields.Field.{Field}
 use Rattle.cell_words.specs.declared.fields.Field.TheVariants as field
 use Rattle.cell_words.specs.Term.{Term, num}
@@ -15,24 +14,22 @@ use Rattle.heap_rule.specs.declared.known.Known.TheVariants as knows
 use Rattle.heap_rule.specs.declared.known.Learned.{Learned}
 use Rattle.heap_rule.specs.declared.view.View.{View}
 use Rattle.heap_rule.specs.Asks.{known_of, target}
-use Rattle.heap_rule.specs.Boxes.{boxes_of}
 use Rattle.heap_rule.specs.Lore.{Lore, learned}
-use Rattle.heap_rule.specs.Steps.{Mine, same_pass}
+use Rattle.heap_rule.specs.Steps.{same_pass}
 use Rattle.heap_rule.proofs.AfterReads.{found_known}
 use Rattle.mail_rule.specs.Knowing.{IsItemKnown, KnowsItem}
 use Rattle.mail_rule.specs.Mail.{HoldsMail, is_fixed}
-use Rattle.mail_rule.specs.Told.{IsSmall, TellsFollowing, TellsItem}
+use Rattle.mail_rule.specs.Told.{TellsFollowing, TellsItem}
 use Rattle.mail_rule.specs.declared.items.Item.{Item}
 use Rattle.mail_rule.specs.declared.mail_pass.MailPass.{MailPass}
 use Rattle.mail_rule.proofs.Seen.{item_small, tells_latest, tells_next, tells_position}
 use Rattle.mail_rule.proofs.Seen.{tells_sender, tells_value}
-use Rattle.mutator_events.specs.declared.values.Value.{Value}
 use Rattle.mutator_events.specs.declared.values.Value.TheVariants as values
 use Rattle.mutator_events.specs.Events.{AtEvent}
 use Rattle.mutator_events.specs.Values.{value_found}
 use Rattle.mutator_seat.specs.Bound.{Bound, held_cells}
-use Rattle.trails.specs.Asks.{Ask, gave_at}
-use Rattle.held_places.specs.Calls.{Goes, Holds, IsIn, StaysKnown, StillKnown, WasRead, cells_found}
+use Rattle.trails.specs.Asks.{gave_at}
+use Rattle.held_places.specs.Calls.{IsIn, StaysKnown, StillKnown, cells_found}
 use Rattle.cell_mailbox.specs.Finds.{FindsItem, FindsLast, FindsNext, FindsPart, Reads, part_of}
 use Rattle.held_places.proofs.Going.{many_held}
 use Rattle.held_places.proofs.Steps.{same_value, was_read}

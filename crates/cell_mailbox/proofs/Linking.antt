@@ -1,5 +1,5 @@
 -- One try of a send: the claimed box behind the last item.
-use Rattle.std.proofs.Common.{◌≡◌, ◌≢◌, ◌<◌, ◌≤◌, ◌+◌, ℕ, Bool, true, false, List, [], ◌∷◌, ◌++◌}
+use Rattle.std.proofs.Common.{◌≡◌, ◌≢◌, ◌<◌, ◌+◌, ℕ, Bool, true, false, List, [], ◌∷◌, ◌++◌}
 use Rattle.std.proofs.Common.{length, refl, sym, ◌∙◌, ap, subst, arith}
 use Rattle.std.proofs.lemmas.List.{append_assoc, append-nil, get_or_push, length_push}
 use Rattle.cell_words.specs.declared.fields.Field.{Field}
@@ -14,14 +14,13 @@ use Rattle.heap_rule.specs.Asks.{IsBox, is_sealed, known_of, target}
 use Rattle.heap_rule.specs.Lore.{five_nulls, known_at}
 use Rattle.mail_rule.specs.Knowing.{KnowsItem, MaySend, item_fields, next_sent}
 use Rattle.mail_rule.specs.Mail.{HoldsMail, is_fixed}
-use Rattle.mail_rule.specs.Passes.{having_sent, sent_if}
+use Rattle.mail_rule.specs.Passes.{sent_if}
 use Rattle.mail_rule.specs.declared.items.Item.{Item}
 use Rattle.mail_rule.specs.declared.items.Sent.{Sent}
 use Rattle.mail_rule.specs.declared.mail_pass.MailPass.{MailPass}
 use Rattle.mail_rule.proofs.Picking.{send_picks}
 use Rattle.mutator_events.specs.declared.values.Value.TheVariants as values
 use Rattle.mutator_events.specs.Events.{AtEvent}
-use Rattle.mutator_events.specs.Values.{field_at}
 use Rattle.mutator_seat.specs.Bound.{Bound, held_cells}
 use Rattle.mutator_seat.specs.Claims.{Claimed}
 use Rattle.mutator_seat.specs.Stretches.{Calm, Kept}

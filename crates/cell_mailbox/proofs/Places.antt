@@ -20,7 +20,7 @@ use Rattle.mutator_seat.specs.Bound.{Bound, held_cells, takes}
 use Rattle.mutator_seat.specs.Claims.{Claimed, Seeking}
 use Rattle.trails.specs.Asks.{nothing}
 use Rattle.held_places.specs.Calls.{Goes, StaysKnown, StillKnown}
-use Rattle.held_places.proofs.Going.{calm_goes, goes_then, goes_told, many_cells, still_same}
+use Rattle.held_places.proofs.Going.{calm_goes, goes_then, goes_told, many_cells}
 use Rattle.held_places.proofs.Knowns.{pushed_still}
 use Rattle.mail_rule.specs.Mail.{is_fixed}
 
@@ -109,4 +109,3 @@ module _ (a b : Bound MailPass) (fresh : ℕ) (got : Claimed a fresh b) where
       (cell_there a.seat.me.own.held place ∙ same)
       (has_at (held_cells a) place (let many = many_cells a in omega (arith, many, lt))) in
       let none : false ≡ true = sym got.is_new.apart ∙ there in absurd cc
-

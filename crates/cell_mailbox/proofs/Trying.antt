@@ -1,5 +1,5 @@
 -- One try of a take: its reads, and the exchange of the anchor's field.
-use Rattle.std.proofs.Common.{◌≡◌, ◌<◌, ◌≤◌, ◌+◌, ◌==◌, ℕ, Bool, true, false, List, [], ◌∷◌, ◌++◌}
+use Rattle.std.proofs.Common.{◌≡◌, ◌<◌, ◌+◌, ◌==◌, ℕ, Bool, true, false, List, [], ◌∷◌, ◌++◌}
 use Rattle.std.proofs.Common.{length, refl, sym, ◌∙◌, ap, subst, arith}
 use Rattle.std.proofs.lemmas.List.{append-nil, append_assoc}
 use Rattle.cell_words.specs.declared.fields.Field.{Field}
@@ -15,9 +15,9 @@ use Rattle.heap_rule.specs.Asks.{IsBox, IsSealedValue, is_sealed, known_of, know
 use Rattle.heap_rule.specs.Steps.{Picks}
 use Rattle.heap_rule.proofs.Reading.{cell_there}
 use Rattle.heap_rule.proofs.SameFields.{same_value}
-use Rattle.mail_rule.specs.Knowing.{KnowsItem, MayTake, next_taken}
+use Rattle.mail_rule.specs.Knowing.{KnowsItem, next_taken}
 use Rattle.mail_rule.specs.Mail.{HoldsMail, is_fixed}
-use Rattle.mail_rule.specs.Passes.{having_taken, taken_if}
+use Rattle.mail_rule.specs.Passes.{taken_if}
 use Rattle.mail_rule.specs.declared.items.Item.{Item}
 use Rattle.mail_rule.specs.declared.mail_pass.MailPass.{MailPass}
 use Rattle.mail_rule.proofs.Picking.{take_picks}
@@ -30,7 +30,7 @@ use Rattle.mutator_seat.specs.Writes.{LookAndMarks, MayUpdate, PicksUpdate, Upda
 use Rattle.mutator_seat.proofs.Writes.{cell_same}
 use Rattle.trails.specs.Asks.{gave_at, wrote_at}
 use Rattle.held_places.specs.Calls.{Goes, IsIn}
-use Rattle.cell_mailbox.specs.Ends.{AtOneWrite, EmptyTry, LostTry, TookOnce, TookTry}
+use Rattle.cell_mailbox.specs.Ends.{EmptyTry, LostTry, TookTry}
 use Rattle.cell_mailbox.specs.Finds.{FindsItem, FindsLast, FindsNext, FindsWhole}
 use Rattle.cell_mailbox.proofs.Calling.{reads_in, reads_still, reads_then, reads_unasked}
 use Rattle.cell_mailbox.proofs.Finding.{item_still}

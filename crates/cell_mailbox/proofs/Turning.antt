@@ -1,6 +1,6 @@
 -- A try between an answer and the cut of its places: what the call comes to.
-use Rattle.std.proofs.Common.{◌≡◌, ◌<◌, ◌≤◌, ◌+◌, ℕ, true, List, [], ◌∷◌, ◌++◌, length, refl, sym}
-use Rattle.std.proofs.Common.{◌∙◌, ap, subst, arith}
+use Rattle.std.proofs.Common.{◌≡◌, ◌≤◌, ◌+◌, ℕ, List, [], ◌++◌, length, refl, sym}
+use Rattle.std.proofs.Common.{◌∙◌, ap, arith}
 use Rattle.std.proofs.lemmas.List.{append-nil, append_assoc}
 use Rattle.core_machine.specs.declared.events.Event.{Event}
 use Rattle.core_machine.specs.declared.events.Event.TheVariants as event
@@ -16,7 +16,7 @@ use Rattle.mail_rule.specs.declared.mail_pass.MailPass.{MailPass}
 use Rattle.mutator_seat.specs.Bound.{Bound, held_cells, takes}
 use Rattle.mutator_seat.specs.Stretches.{Calm}
 use Rattle.trails.specs.Asks.{Ask}
-use Rattle.held_places.specs.Calls.{Goes, IsIn}
+use Rattle.held_places.specs.Calls.{IsIn}
 use Rattle.cell_mailbox.specs.Ends.{AtOneWrite, EmptyTry, FindsEmpty, Leaves, LostTry, Rests}
 use Rattle.cell_mailbox.specs.Ends.{FindsFullHeap, FullTry, PostEnds, Returns, Sends, SentTry}
 use Rattle.cell_mailbox.specs.Ends.{Takes, TookTry, TurnEnds, take_asks}

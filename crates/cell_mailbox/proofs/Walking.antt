@@ -1,6 +1,6 @@
 -- The walk to the last item.
 use Rattle.std.proofs.Common.{◌≡◌, ◌<◌, ◌≤◌, ◌+◌, ℕ, List, [], ◌∷◌, ◌++◌, length, get_or, take}
-use Rattle.std.proofs.Common.{refl, sym, ◌∙◌, ap, subst, arith}
+use Rattle.std.proofs.Common.{sym, ◌∙◌, ap, subst, arith}
 use Rattle.std.proofs.lemmas.List.{append-nil, append_assoc, take_at}
 use Rattle.core_machine.specs.declared.events.Event.TheVariants as event
 use Rattle.core_machine.specs.declared.events.Found.{Found}
@@ -16,7 +16,7 @@ use Rattle.held_places.specs.Calls.{IsIn}
 use Rattle.cell_mailbox.specs.Finds.{FindsItem, FindsLast, FindsNext, FindsPart}
 use Rattle.cell_mailbox.specs.Walks.{EndsAt, Stands}
 use Rattle.cell_mailbox.proofs.Calling.{reads_in, reads_still, reads_unasked}
-use Rattle.held_places.proofs.Going.{calm_goes, goes_late, goes_none, goes_then, in_still, many_cells}
+use Rattle.held_places.proofs.Going.{calm_goes, goes_then, in_still, many_cells}
 use Rattle.held_places.proofs.Going.{many_held}
 use Rattle.cell_mailbox.proofs.Places.{keep_cells, keep_goes, keep_known, keep_last}
 use Rattle.cell_mailbox.proofs.Trying.{item_kept}

@@ -1,6 +1,6 @@
 -- The walk to the last item: how far it is, and where it ends.
 -- Source: this project's.
-use Rattle.std.specs.Prelude.{ℕ, ◌≡◌, ◌++◌, List, [], ◌∷◌, length}
+use Rattle.std.specs.Prelude.{ℕ, ◌≡◌, ◌++◌, [], ◌∷◌, length}
 use Rattle.mail_rule.specs.Knowing.{KnowsItem}
 use Rattle.mail_rule.specs.Told.{IsSmall}
 use Rattle.mail_rule.specs.declared.items.Item.{Item}

@@ -2,9 +2,10 @@
 ghost use Rattle.std.specs.Prelude.{◌≤◌};
 ghost use Rattle.mailbox_tests.specs.Ready.{IsReady};
 
+use crate::calling::{get, put};
 use crate::opening::{Opened, come_in, open_mailbox};
 use cell_heap::NoMemory;
-use cell_mailbox::{HeapFull, Item, MailPass, send, take};
+use cell_mailbox::{HeapFull, Item, MailPass};
 use free_cells::{FreeQueue, Hints};
 use mutator_seat::Mutator;
 use std::alloc::Global;
@@ -58,7 +59,7 @@ impl Row for TakeFirst {
         first: &mut Mutator<'_, MailPass>,
         _second: &mut Mutator<'_, MailPass>,
     ) -> Option<Item> {
-        take(rt, first)
+        get(rt, first, 0, 0)
     }
 }
 
@@ -83,13 +84,13 @@ impl Row for SendBoth {
         first: &mut Mutator<'_, MailPass>,
         second: &mut Mutator<'_, MailPass>,
     ) -> ([Result<u64, HeapFull>; 3], [Option<Item>; 4]) {
-        let one = send(rt, hints, first, 1, 5);
-        let two = send(rt, hints, second, 2, 7);
-        let early = take(rt, second);
-        let three = send(rt, hints, first, 1, 9);
-        let next = take(rt, first);
-        let last = take(rt, second);
-        let none = take(rt, first);
+        let one = put(rt, hints, first, 0, 0, 5);
+        let two = put(rt, hints, second, 1, 0, 7);
+        let early = get(rt, second, 1, 1);
+        let three = put(rt, hints, first, 0, 1, 9);
+        let next = get(rt, first, 0, 2);
+        let last = get(rt, second, 1, 1);
+        let none = get(rt, first, 0, 2);
         ([one, two, three], [early, next, last, none])
     }
 }
@@ -131,9 +132,9 @@ impl Row for SendTwo {
         first: &mut Mutator<'_, MailPass>,
         second: &mut Mutator<'_, MailPass>,
     ) -> (Result<u64, HeapFull>, Result<u64, HeapFull>, Option<Item>) {
-        let one = send(rt, hints, first, 1, 1);
-        let full = send(rt, hints, second, 2, 2);
-        (one, full, take(rt, second))
+        let one = put(rt, hints, first, 0, 0, 1);
+        let full = put(rt, hints, second, 1, 0, 2);
+        (one, full, get(rt, second, 1, 1))
     }
 }
 

@@ -4,4 +4,5 @@
 
 #[cfg(test)]
 mod by_turns;
+mod calling;
 mod opening;

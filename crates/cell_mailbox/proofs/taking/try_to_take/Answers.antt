@@ -1,6 +1,3 @@
-use Rattle.std.proofs.Common.{[], ◌∷◌, arith}
-use Rattle.cell_mailbox.proofs.Calling.{reads_in}
-use Rattle.held_places.proofs.Going.{many_held}
 use Rattle.cell_mailbox.proofs.Trying.{empty_try, lost_try, may_go_on, picks_go_on, took_try}
 use Rattle.cell_mailbox.proofs.taking.try_to_take.Goals as goal
 
