@@ -1,6 +1,7 @@
 -- What a claim leaves, and a keep of the first places with one of the others behind them.
 use Rattle.std.proofs.Common.{◌≡◌, ◌≢◌, ◌<◌, ◌≤◌, ◌+◌, ◌⊎◌, ℕ, true, false, List, [], ◌∷◌, ◌++◌}
-use Rattle.std.proofs.Common.{length, get_or, take, drop, inl, inr, refl, sym, ◌∙◌, ap, subst, arith}
+use Rattle.std.proofs.Common.{length, get_or, take, drop, inl, inr, refl, sym, ◌∙◌, ap, subst}
+use Rattle.std.proofs.Common.{arith}
 use Rattle.std.proofs.lemmas.Bool.{cases_lt}
 use Rattle.std.proofs.lemmas.List.{drop_more, get_or-take, get_or_append_left, get_or_past}
 use Rattle.std.proofs.lemmas.List.{length-take-le, map-append, take-map}
@@ -30,8 +31,8 @@ module _ (b c : Bound MailPass) (n place : ℕ) (p : Found)
   pub keep_goes : Goes [] b c
   keep_goes = goes_told b c [] (event.Keep b.seat.me.number n place 1) p nothing_learned
       b.seat.me.pass (ap (λ (m : Bound MailPass). m.heap) told)
-      (ap (λ (m : Bound MailPass). m.seat.table) told) (ap (λ (m : Bound MailPass). m.seat.me) told) refl
-      nothing
+      (ap (λ (m : Bound MailPass). m.seat.table) told)
+      (ap (λ (m : Bound MailPass). m.seat.me) told) refl nothing
 
   one_more : {A : Type 0} (xs : List A) (i : ℕ) (d : A) → i < length xs
       → take 1 (drop i xs) ≡ get_or xs i d ∷ []
@@ -75,7 +76,8 @@ pushed_anyway known k place = by_length (cases_lt place (length known))
     by_length : (place < length known) ⊎ (length known ≤ place)
         → StillKnown is_fixed (known_at known place) (known_at (known ++ k ∷ []) place)
     by_length (inl lt) = pushed_still is_fixed known k place lt
-    by_length (inr le) = subst (λ (j : Known). StillKnown is_fixed j (known_at (known ++ k ∷ []) place))
+    by_length (inr le) =
+        subst (λ (j : Known). StillKnown is_fixed j (known_at (known ++ k ∷ []) place))
         (sym (get_or_past known place knows.Nothing le)) tt
 
 module _ (a b : Bound MailPass) (fresh : ℕ) (got : Claimed a fresh b) where

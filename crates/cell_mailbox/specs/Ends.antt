@@ -101,8 +101,8 @@ pub record FindsFullHeap (old new : Bound MailPass) (full : HeapFull) : Type 0 w
   pub before : Goes [] old from
   pub number_is : from.seat.me.number ≡ old.seat.me.number
   pub shape_is : from.seat.me.shape ≡ old.seat.me.shape
-  pub stretch : Calm (FindsFull from.seat.me.number from.seat.me.shape.cells full.off_duty full.began
-      full.ended) from to
+  pub stretch : Calm (FindsFull from.seat.me.number from.seat.me.shape.cells full.off_duty
+      full.began full.ended) from to
   pub after : Goes [] to new
 
 -- nothing was done yet
@@ -142,8 +142,8 @@ pub record FullTry (old new : Bound MailPass) (full : HeapFull) : Type 0 where
   pub before : Goes [] old from
   pub number_is : from.seat.me.number ≡ old.seat.me.number
   pub shape_is : from.seat.me.shape ≡ old.seat.me.shape
-  pub stretch : Calm (FindsFull from.seat.me.number from.seat.me.shape.cells full.off_duty full.began
-      full.ended) from to
+  pub stretch : Calm (FindsFull from.seat.me.number from.seat.me.shape.cells full.off_duty
+      full.began full.ended) from to
   pub after : Goes [] to new
 
 abbrev pub PostEnds : Bound MailPass → Bound MailPass → ℕ → Post → Type 0

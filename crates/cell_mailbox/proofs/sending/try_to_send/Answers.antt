@@ -4,8 +4,8 @@ use Rattle.cell_mailbox.proofs.sending.try_to_send.Goals as goal
 
 pub link-requires-clause-may : goal.link-requires-clause-may
 link-requires-clause-may g c =
-    may_link c.args.m.now c.find_last-before.new.m c.claim.new.self c.args.held c.find_last-before.result
-    c.in-Ok.fresh c.requires.inside c.requires.held c.find_last-before.ensures.last
+    may_link c.args.m.now c.find_last-before.new.m c.claim.new.self c.args.held
+    c.find_last-before.result c.in-Ok.fresh c.requires.inside c.requires.held c.find_last-before.ensures.last
     c.in-Ok.ensures.got c.make_item.new.m
     (record {
       position = c.find_last-before.result + 1;
@@ -15,8 +15,8 @@ link-requires-clause-may g c =
 
 pub link-requires-clause-rule : goal.link-requires-clause-rule
 link-requires-clause-rule g c =
-    picks_link c.args.m.now c.find_last-before.new.m c.claim.new.self c.args.held c.find_last-before.result
-    c.in-Ok.fresh c.requires.inside c.requires.held c.find_last-before.ensures.last
+    picks_link c.args.m.now c.find_last-before.new.m c.claim.new.self c.args.held
+    c.find_last-before.result c.in-Ok.fresh c.requires.inside c.requires.held c.find_last-before.ensures.last
     c.in-Ok.ensures.got c.make_item.new.m
     (record {
       position = c.find_last-before.result + 1;
@@ -26,8 +26,8 @@ link-requires-clause-rule g c =
 
 pub returns-in-Ok-link-clause-ends : goal.returns-in-Ok-link-clause-ends
 returns-in-Ok-link-clause-ends g c =
-    sent_post c.args.m.now c.find_last-before.new.m c.claim.new.self c.args.held c.find_last-before.result
-    c.in-Ok.fresh c.requires.inside c.requires.held c.find_last-before.ensures.last
+    sent_post c.args.m.now c.find_last-before.new.m c.claim.new.self c.args.held
+    c.find_last-before.result c.in-Ok.fresh c.requires.inside c.requires.held c.find_last-before.ensures.last
     c.in-Ok.ensures.got c.make_item.new.m
     (record {
       position = c.find_last-before.result + 1;
@@ -38,8 +38,8 @@ returns-in-Ok-link-clause-ends g c =
 
 pub returns-in-Err-link-clause-ends : goal.returns-in-Err-link-clause-ends
 returns-in-Err-link-clause-ends g c =
-    lost_post c.args.m.now c.find_last-before.new.m c.claim.new.self c.args.held c.find_last-before.result
-    c.in-Ok.fresh c.requires.inside c.requires.held c.find_last-before.ensures.last
+    lost_post c.args.m.now c.find_last-before.new.m c.claim.new.self c.args.held
+    c.find_last-before.result c.in-Ok.fresh c.requires.inside c.requires.held c.find_last-before.ensures.last
     c.in-Ok.ensures.got c.make_item.new.m
     (record {
       position = c.find_last-before.result + 1;
