@@ -34,17 +34,20 @@ opens cells mutators setting rows is some =
           record { first = refl; few = some },
     )
 
-pub ready_first : (heap : HeapId) (seat : SeatView MailPass) (number : ℕ) (found : Found)
-    (b : Bound MailPass) → IsNew heap number seat
-    → b ≡ takes (record { heap = heap; seat = seat }) (event.Begin seat.me.number) found
+pub ready_first : (heap : HeapId) (seat : SeatView MailPass) (number : ℕ) (a b : Bound MailPass)
+    (found : Found) → IsNew heap number seat → a ≡ record { heap = heap; seat = seat }
+    → b ≡ takes a (event.Begin a.seat.me.number) found
     → b.seat.me.presence.inside ≡ true → held_cells b ≡ 0 ∷ [] → IsReady number 0 b
-ready_first heap seat number found b new told inside held = record {
+ready_first heap seat number a b found new is told inside held = record {
   inside = inside;
   held = held;
-  room = ap (λ (m : Bound MailPass). m.seat.me.room) told ∙ new.room;
-  number_is = ap (λ (m : Bound MailPass). m.seat.me.number) told ∙ new.number_is;
+  room = ap (λ (m : Bound MailPass). m.seat.me.room) told
+      ∙ ap (λ (m : Bound MailPass). m.seat.me.room) is ∙ new.room;
+  number_is = ap (λ (m : Bound MailPass). m.seat.me.number) told
+      ∙ ap (λ (m : Bound MailPass). m.seat.me.number) is ∙ new.number_is;
   few =
       let none = ap (λ (m : Bound MailPass). length m.seat.me.pass.sends) told
+      ∙ ap (λ (m : Bound MailPass). length m.seat.me.pass.sends) is
       ∙ ap (λ (ss : List Sent). length ss) new.nothing_sent in omega (arith, none);
 }
 

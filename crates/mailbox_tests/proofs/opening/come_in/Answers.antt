@@ -5,6 +5,6 @@ pub returns : goal.returns
 returns c =
     let told = c.begin.ensures.told in
     record {
-      ready = ready_first c.args.heap.now c.args.seat c.args.number _ c.begin.new.self
-          c.requires.new told.1 c.begin.ensures.inside c.begin.ensures.held;
+      ready = ready_first c.args.heap.now c.args.seat c.args.number c.new-m.result
+          c.begin.new.self _ c.requires.new c.new-m.ensures.mutator told.1 c.begin.ensures.inside c.begin.ensures.held;
     }
