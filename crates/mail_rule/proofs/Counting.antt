@@ -1,5 +1,5 @@
--- Each position of a list is one number's: so the positions of all senders are those of the letters,
--- each once, and those of all takers those of the takes.
+-- Each position of a list is one number's: so the positions of all senders are those of the
+-- letters, each once, and those of all takers those of the takes.
 use Rattle.std.proofs.Common.{◌≡◌, ◌≢◌, ℕ, zero, suc, ◌+◌, ◌<◌, ◌≤◌, ◌==◌, Bool, true, false}
 use Rattle.std.proofs.Common.{List, [], ◌∷◌, ◌++◌, flat_map, length, get_or, Contains, All}
 use Rattle.std.proofs.Common.{inl, inr, refl, sym, ◌∙◌, ap, subst, arith, if◌then◌else◌}

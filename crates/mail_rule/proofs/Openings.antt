@@ -130,7 +130,8 @@ module _ (cells : ℕ) (rooms : List ℕ) (known : ℕ) where
 
 -- what is asked of the client of a heap that is made
 pub opened : (h : Shape) → OpensMail h
-    → HoldsMail (boxes_of (start h (opening_rooms h.mutators)) (opening_lore first_terms h.mutators))
+    → HoldsMail
+    (boxes_of (start h (opening_rooms h.mutators)) (opening_lore first_terms h.mutators))
     (opening_passes opening_pass h)
 opened h opens =
     subst (λ (first : List (List Field)). HoldsMail

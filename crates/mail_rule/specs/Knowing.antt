@@ -1,4 +1,5 @@
--- What a mutator is told of items, what it needs for a send and a take, and the passes that it picks.
+-- What a mutator is told of items, what it needs for a send and a take, and the passes that it
+-- picks.
 -- Source: this project's.
 use Rattle.std.specs.Prelude.{ℕ, ◌≡◌, ◌<◌, ◌+◌, List, [], ◌∷◌, length, Option, Some, None}
 use Rattle.std.specs.Prelude.{slice_index_or}
@@ -46,8 +47,8 @@ item_fields item =
     field.Num item.position ∷ field.Num item.sender ∷ field.Num item.value ∷ field.Null ∷
     field.Null ∷ []
 
--- What a mutator needs for a send: the place of the item that this one is to follow, and a fresh box
--- for it. Whether that item is still the last one the write itself asks.
+-- What a mutator needs for a send: the place of the item that this one is to follow, and a fresh
+-- box for it. Whether that item is still the last one the write itself asks.
 pub record MaySend (v : View MailPass) (place box : ℕ) (sent : Sent) : Type 0 where
   pub last : Item
   pub held : KnowsItem v place last

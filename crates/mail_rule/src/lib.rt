@@ -1,5 +1,5 @@
-//! A mailbox in the boxes of a collected heap, as a client's rule: what stands of it between any two
-//! steps, whatever the mutators and the collector do.
+//! A mailbox in the boxes of a collected heap, as a client's rule: what stands of it between any
+//! two steps, whatever the mutators and the collector do.
 //!
 //! Items stand in one chain of boxes, in the order in which they were sent. An item's box has its
 //! position, its sender, its value and the box of the next item, which is null at the last one. The

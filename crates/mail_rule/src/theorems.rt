@@ -15,7 +15,8 @@ ghost use Rattle.heap_rule.specs.Shape.{Shape, start};
 ghost use Rattle.heap_rule.specs.Steps.{AtStep, Picks, same_pass};
 ghost use Rattle.heap_rule.specs.declared.view.View.{View};
 ghost use Rattle.mail_rule.specs.Chains.{Behind};
-ghost use Rattle.mail_rule.specs.Counted.{EachOnce, WasSent, all_sent, all_taken, sent_in, taken_in};
+ghost use Rattle.mail_rule.specs.Counted.{EachOnce, WasSent, all_sent, all_taken, sent_in};
+ghost use Rattle.mail_rule.specs.Counted.{taken_in};
 ghost use Rattle.mail_rule.specs.Items.{item_at};
 ghost use Rattle.mail_rule.specs.Knowing.{KnowsItem, MaySend, MayTake, next_sent, next_taken};
 ghost use Rattle.mail_rule.specs.Mail.{HasPosition, HoldsMail, is_fixed};
@@ -44,8 +45,8 @@ pub fn a_send_keeps_mail()
         (event.Write v.number place 3 field.Null (field.Cell (target v box))) }
 {}
 
-/// A take is one write of the anchor's field, from the box of an item to the box behind it. The rule
-/// stands whether the write was made or not; made, the pass has the item of that box.
+/// A take is one write of the anchor's field, from the box of an item to the box behind it. The
+/// rule stands whether the write was made or not; made, the pass has the item of that box.
 pub fn a_take_keeps_mail()
     ensures { (v : View MailPass) (place latest next : ℕ) (item : Item)
         → MayTake v place latest next item
@@ -96,8 +97,8 @@ pub fn items_are_few()
         → position ≤ length (all_sent passes) }
 {}
 
-/// From each box on the items that were sent behind it follow, each box naming the next, down to the
-/// last one.
+/// From each box on the items that were sent behind it follow, each box naming the next, down to
+/// the last one.
 pub fn items_follow()
     ensures { (map : Map) (passes : List MailPass) (h : HoldsMail map passes)
         (cell position : ℕ) → HasPosition map cell position

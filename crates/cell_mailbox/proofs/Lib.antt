@@ -1,0 +1,8 @@
+mod Boxing
+mod Calling
+mod Finding
+mod Linking
+mod Places
+mod Trying
+mod Turning
+mod Walking

@@ -1,0 +1,229 @@
+-- One try of a send: the claimed box behind the last item.
+use Rattle.std.proofs.Common.{◌≡◌, ◌≢◌, ◌<◌, ◌+◌, ℕ, Bool, true, false, List, [], ◌∷◌, ◌++◌}
+use Rattle.std.proofs.Common.{length, refl, sym, ◌∙◌, ap, subst, arith}
+use Rattle.std.proofs.lemmas.List.{append_assoc, append-nil, get_or_push, length_push}
+use Rattle.cell_words.specs.declared.fields.Field.{Field}
+use Rattle.cell_words.specs.declared.fields.Field.TheVariants as field
+use Rattle.core_machine.specs.declared.events.Event.TheVariants as event
+use Rattle.core_machine.specs.declared.events.Found.TheVariants as finds
+use Rattle.core_machine.specs.declared.events.Taken.{Taken}
+use Rattle.core_machine.specs.Words.{same_field}
+use Rattle.heap_rule.specs.declared.known.Known.{Known}
+use Rattle.heap_rule.specs.declared.known.Known.TheVariants as knows
+use Rattle.heap_rule.specs.Asks.{IsBox, is_sealed, known_of, target}
+use Rattle.heap_rule.specs.Lore.{five_nulls, known_at}
+use Rattle.mail_rule.specs.Knowing.{KnowsItem, MaySend, item_fields, next_sent}
+use Rattle.mail_rule.specs.Mail.{HoldsMail, is_fixed}
+use Rattle.mail_rule.specs.Passes.{sent_if}
+use Rattle.mail_rule.specs.declared.items.Item.{Item}
+use Rattle.mail_rule.specs.declared.items.Sent.{Sent}
+use Rattle.mail_rule.specs.declared.mail_pass.MailPass.{MailPass}
+use Rattle.mail_rule.proofs.Picking.{send_picks}
+use Rattle.mutator_events.specs.declared.values.Value.TheVariants as values
+use Rattle.mutator_events.specs.Events.{AtEvent}
+use Rattle.mutator_seat.specs.Bound.{Bound, held_cells}
+use Rattle.mutator_seat.specs.Claims.{Claimed}
+use Rattle.mutator_seat.specs.Stretches.{Calm, Kept}
+use Rattle.mutator_seat.specs.Writes.{LookAndMarks, MayUpdate, PicksUpdate, Updated}
+use Rattle.mutator_seat.specs.declared.full.HeapFull.{HeapFull}
+use Rattle.mutator_seat.proofs.Writes.{cell_same, many_same}
+use Rattle.trails.specs.Claims.{FindsFull}
+use Rattle.held_places.specs.Calls.{Goes, IsIn}
+use Rattle.held_places.proofs.Going.{calm_goes, calm_trail, goes_none, goes_then, many_held}
+use Rattle.held_places.proofs.Going.{target_still}
+use Rattle.held_places.proofs.ReadValues.{last_held}
+use Rattle.held_places.proofs.Writing.{wrote_goes, wrote_pass}
+use Rattle.cell_mailbox.specs.Ends.{FullTry, LostTry, SentTry}
+use Rattle.cell_mailbox.specs.Makes.{Makes, MayMake}
+use Rattle.cell_mailbox.specs.Walks.{EndsAt}
+use Rattle.cell_mailbox.proofs.Finding.{item_known, item_still}
+use Rattle.cell_mailbox.proofs.Places.{claimed_goes, claimed_known, claimed_pass}
+use Rattle.cell_mailbox.proofs.Places.{stood_nowhere}
+use Rattle.cell_mailbox.proofs.Trying.{item_kept, sealed_value}
+
+-- a claim that found the heap full
+pub full_try : (a b c : Bound MailPass) (held position : ℕ) → EndsAt a b held position
+    → (full : HeapFull) → Calm (FindsFull b.seat.me.number b.seat.me.shape.cells full.off_duty
+    full.began full.ended) b c
+    → FullTry a c full
+full_try a b c held position ends full calm = record {
+  leaves = record {
+    goes = goes_then ends.stands.goes (calm_goes _ b c calm);
+    cells = ends.stands.cell ∷ [];
+    held = calm.kept.held ∙ ends.stands.cells;
+  };
+  pass = calm.kept.pass ∙ ends.stands.pass;
+  from = b;
+  to = c;
+  before = ends.stands.goes;
+  number_is = ends.stands.goes.number;
+  shape_is = ends.stands.goes.shape;
+  stretch = calm;
+  after = goes_none c;
+}
+
+module _ (a b c : Bound MailPass) (held position fresh : ℕ) (inside : IsIn a)
+    (is : held ≡ length a.seat.me.own.held) (ends : EndsAt a b held position)
+    (got : Claimed b fresh c) where
+  behind_one : length b.seat.me.own.held ≡ length a.seat.me.own.held + 1
+  behind_one = many_held a b (ends.stands.cell ∷ []) ends.stands.cells
+
+  behind_two : length c.seat.me.own.held ≡ length b.seat.me.own.held + 1
+  behind_two = many_held b c (got.cell ∷ []) got.held
+
+  last_there : held < length b.seat.me.own.held
+  last_there = let one = behind_one in omega (arith, is, one)
+
+  pub may_make : MayMake c fresh
+  may_make = record {
+    inside = (claimed_goes b c fresh got).inside ∙ ends.stands.goes.inside ∙ inside.inside;
+    there = let two = behind_two in let placed = got.place_is in omega (arith, two, placed);
+    many =
+        let known = ap (λ (ks : List Known). length ks) got.known
+        ∙ length_push b.seat.me.known (knows.Raw five_nulls) in
+        let many = ends.stands.many in
+        let two = behind_two in
+        omega (arith, known, many, two);
+    raw = ap (λ (ks : List Known). known_at ks fresh) got.known
+        ∙ get_or_push b.seat.me.known (knows.Raw five_nulls) knows.Nothing fresh
+        (ends.stands.many ∙ sym got.place_is);
+  }
+
+  last_claimed : KnowsItem c.seat.me held ends.stands.item
+  last_claimed = item_still b c (got.cell ∷ []) got.held (claimed_known b c fresh got) held
+      ends.stands.item ends.stands.knows
+
+  apart : target c.seat.me held ≢ target c.seat.me fresh
+  apart same = stood_nowhere b c fresh got held last_there
+      (sym (target_still b c (got.cell ∷ []) got.held held last_there) ∙ same
+      ∙ ap (λ (n : ℕ). target c.seat.me n) got.place_is ∙ last_held b c got.cell got.held)
+
+  module _ (d : Bound MailPass) (item : Item) (made : Makes c d fresh item)
+      (position_is : item.position ≡ position + 1)
+      (sender_is : item.sender ≡ a.seat.me.number + 1)
+      (few : length a.seat.me.pass.sends < 100_000) where
+    abbrev sent : Sent
+    sent = record { position = item.position; value = item.value }
+
+    many_d : length d.seat.me.own.held ≡ length c.seat.me.own.held
+    many_d = many_same d.seat.me.own.held c.seat.me.own.held made.held
+
+    last_knows : KnowsItem d.seat.me held ends.stands.item
+    last_knows = record {
+      there = let there = last_claimed.there in let many = many_d in omega (arith, there, many);
+      known = item_known (known_of c.seat.me held) (known_of d.seat.me held) ends.stands.item
+          (made.known held last_claimed.there apart) last_claimed.known;
+    }
+
+    fresh_there : fresh < length d.seat.me.own.held
+    fresh_there = let there = may_make.there in let many = many_d in omega (arith, there, many)
+
+    goes_d : Goes [] a d
+    goes_d = goes_then (goes_then ends.stands.goes (claimed_goes b c fresh got)) made.goes
+
+    pass_d : d.seat.me.pass ≡ a.seat.me.pass
+    pass_d = made.pass ∙ claimed_pass b c fresh got ∙ ends.stands.pass
+
+    pub may_link : MayUpdate is_fixed d.seat.me held 3 values.Null (values.Held fresh)
+    may_link = record {
+      inside = goes_d.inside ∙ inside.inside;
+      there = last_knows.there;
+      payload = omega arith;
+      box = subst (λ (k : Known). IsBox (target d.seat.me held) k) (sym last_knows.known.is) tt;
+      old_named = tt;
+      new_named = fresh_there;
+      sealed = sealed_value d fresh fresh_there (ap is_sealed made.box);
+      spares = λ fixed. absurd cc;
+    }
+
+    may_send : (m : Bound MailPass) → Kept d m → MaySend m.seat.me held fresh sent
+    may_send m kept = record {
+      last = ends.stands.item;
+      held = item_kept d m kept held ends.stands.item last_knows;
+      follows = position_is ∙ ap (λ (n : ℕ). n + 1) ends.position_is;
+      box_there = subst (λ (n : ℕ). fresh < n)
+          (sym (many_same m.seat.me.own.held d.seat.me.own.held kept.held)) fresh_there;
+      box_is = ap (λ (ks : List Known). known_at ks fresh) kept.known ∙ made.box
+          ∙ ap (λ (n : ℕ). knows.Fresh (item_fields record {
+            position = item.position;
+            sender = n;
+            value = item.value;
+          }))
+          (sender_is
+          ∙ ap (λ (n : ℕ). n + 1) (sym goes_d.number ∙ sym kept.number));
+      few = subst (λ (p : MailPass). length p.sends < 100_000)
+          (sym (kept.pass ∙ pass_d)) few;
+    }
+
+    pub picks_link : PicksUpdate HoldsMail is_fixed (next_sent sent) d held 3 values.Null
+        (values.Held fresh)
+    picks_link m kept presence = send_picks m.seat.me held fresh sent (may_send m kept)
+
+    module _ (e : Bound MailPass) (found : Field)
+        (wrote : Updated HoldsMail is_fixed (next_sent sent) d held 3 values.Null
+        (values.Held fresh) found e) where
+      goes : Goes [] a e
+      goes = goes_then goes_d
+          (wrote_goes is_fixed HoldsMail (next_sent sent) d e held 3 values.Null
+          (values.Held fresh) found wrote)
+
+      abbrev cells : List ℕ
+      cells = (ends.stands.cell ∷ []) ++ got.cell ∷ []
+
+      held_is : held_cells e ≡ held_cells a ++ cells
+      held_is = wrote.held ∙ made.held ∙ got.held
+          ∙ ap (λ (cs : List ℕ). cs ++ got.cell ∷ []) ends.stands.cells
+          ∙ append_assoc (held_cells a) (ends.stands.cell ∷ []) (got.cell ∷ [])
+
+      pass_is : (made_it : Bool) → same_field found field.Null ≡ made_it
+          → e.seat.me.pass ≡ sent_if made_it sent a.seat.me.pass
+      pass_is made_it how =
+          wrote_pass is_fixed HoldsMail (next_sent sent) d e held 3 values.Null
+          (values.Held fresh) found wrote
+          ∙ ap (λ (x : Bool). sent_if x sent d.seat.me.pass) how
+          ∙ ap (sent_if made_it sent) pass_d
+
+      pub lost_post : same_field found field.Null ≡ false → LostTry a e
+      lost_post other = record {
+        leaves = record { goes = goes; cells = cells; held = held_is };
+        pass = pass_is false other;
+      }
+
+    pub sent_post : (e : Bound MailPass)
+        → Updated HoldsMail is_fixed (next_sent sent) d held 3 values.Null (values.Held fresh)
+        field.Null e
+        → SentTry a e sent
+    sent_post e wrote =
+        let at = wrote.at in
+        let calm = wrote.calm in
+        record {
+          leaves = record {
+            goes = goes e field.Null wrote;
+            cells = cells e field.Null wrote;
+            held = held_is e field.Null wrote;
+          };
+          sent_once = record {
+            place = held;
+            box = target d.seat.me fresh;
+            write = record {
+              at = at.seat.me;
+              before = goes_d.added ++ calm.added;
+              trail_before =
+                  calm_trail (LookAndMarks d.seat.me.number d.seat.me.presence.status
+                  values.Null (values.Held fresh)) d at calm
+                  ∙ ap (λ (ts : List Taken). ts ++ calm.added) goes_d.trail
+                  ∙ append_assoc a.seat.me.trail goes_d.added calm.added;
+              number_before = calm.kept.number ∙ goes_d.number;
+              pass_before = calm.kept.pass ∙ pass_d;
+              behind = e.seat.me;
+              step = subst (λ (x : ℕ). AtEvent HoldsMail is_fixed at.seat.me
+                  (event.Write at.seat.me.number held 3 field.Null (field.Cell x))
+                  (next_sent sent) (finds.Field field.Null) e.seat.me)
+                  (cell_same at.seat.me.own.held d.seat.me.own.held calm.kept.held fresh)
+                  wrote.event;
+              after = [];
+              trail_after = sym (append-nil e.seat.me.trail);
+            };
+            pass = pass_is e field.Null wrote true refl;
+          };
+        }

@@ -1,0 +1,229 @@
+-- One try of a take: its reads, and the exchange of the anchor's field.
+use Rattle.std.proofs.Common.{◌≡◌, ◌<◌, ◌+◌, ◌==◌, ℕ, Bool, true, false, List, [], ◌∷◌, ◌++◌}
+use Rattle.std.proofs.Common.{length, refl, sym, ◌∙◌, ap, subst, arith}
+use Rattle.std.proofs.lemmas.List.{append-nil, append_assoc}
+use Rattle.cell_words.specs.declared.fields.Field.{Field}
+use Rattle.cell_words.specs.declared.fields.Field.TheVariants as field
+use Rattle.core_machine.specs.declared.events.Event.TheVariants as event
+use Rattle.core_machine.specs.declared.events.Found.TheVariants as finds
+use Rattle.core_machine.specs.declared.events.Taken.{Taken}
+use Rattle.core_machine.specs.Words.{same_field}
+use Rattle.dlg_core.proofs.Truths.{or_later}
+use Rattle.heap_rule.specs.declared.known.Known.{Known}
+use Rattle.heap_rule.specs.declared.known.Known.TheVariants as knows
+use Rattle.heap_rule.specs.Asks.{IsBox, IsSealedValue, is_sealed, known_of, knows_sealed, target}
+use Rattle.heap_rule.specs.Steps.{Picks}
+use Rattle.heap_rule.proofs.Reading.{cell_there}
+use Rattle.heap_rule.proofs.SameFields.{same_value}
+use Rattle.mail_rule.specs.Knowing.{KnowsItem, next_taken}
+use Rattle.mail_rule.specs.Mail.{HoldsMail, is_fixed}
+use Rattle.mail_rule.specs.Passes.{taken_if}
+use Rattle.mail_rule.specs.declared.items.Item.{Item}
+use Rattle.mail_rule.specs.declared.mail_pass.MailPass.{MailPass}
+use Rattle.mail_rule.proofs.Picking.{take_picks}
+use Rattle.mutator_events.specs.declared.values.Value.TheVariants as values
+use Rattle.mutator_events.specs.Events.{AtEvent}
+use Rattle.mutator_events.specs.Values.{field_at}
+use Rattle.mutator_seat.specs.Bound.{Bound, held_cells}
+use Rattle.mutator_seat.specs.Stretches.{Kept}
+use Rattle.mutator_seat.specs.Writes.{LookAndMarks, MayUpdate, PicksUpdate, Updated, write_of}
+use Rattle.mutator_seat.proofs.Writes.{cell_same}
+use Rattle.trails.specs.Asks.{gave_at, wrote_at}
+use Rattle.held_places.specs.Calls.{Goes, IsIn}
+use Rattle.cell_mailbox.specs.Ends.{EmptyTry, LostTry, TookTry}
+use Rattle.cell_mailbox.specs.Finds.{FindsItem, FindsLast, FindsNext, FindsWhole}
+use Rattle.cell_mailbox.proofs.Calling.{reads_in, reads_still, reads_then, reads_unasked}
+use Rattle.cell_mailbox.proofs.Finding.{item_still}
+use Rattle.held_places.proofs.Going.{calm_trail, goes_then, kept_known, many_cells}
+use Rattle.held_places.proofs.Knowns.{sealed_at}
+use Rattle.held_places.proofs.ReadValues.{last_held}
+use Rattle.held_places.proofs.Writing.{wrote_goes, wrote_pass, wrote_shown}
+
+-- a stretch that kept all keeps what is known of items
+pub item_kept : (a b : Bound MailPass) → Kept a b → (place : ℕ) (item : Item)
+    → KnowsItem a.seat.me place item → KnowsItem b.seat.me place item
+item_kept a b kept place item knows =
+    item_still a b [] (kept.held ∙ sym (append-nil (held_cells a)))
+    (kept_known is_fixed (length a.seat.me.own.held) a b kept) place item knows
+
+-- a cell that is 0 is the anchor
+pub is_box_of : (cell : ℕ) (k : Known) → cell ≡ 0 → IsBox cell k
+is_box_of cell knows.Nothing is = is
+is_box_of cell (knows.Raw fields) is = is
+is_box_of cell (knows.Fresh fields) is = tt
+is_box_of cell (knows.Record t) is = is
+is_box_of cell (knows.Boxed terms) is = tt
+
+-- what is known to be sealed may be named
+pub sealed_value : (m : Bound MailPass) (place : ℕ) → place < length m.seat.me.own.held
+    → is_sealed (known_of m.seat.me place) ≡ true
+    → IsSealedValue (held_cells m) m.seat.me.known
+    (field_at m.seat.me.own.held (values.Held place))
+sealed_value m place lt sealed =
+    let c = target m.seat.me place in
+    or_later (c == 0) (knows_sealed (held_cells m) m.seat.me.known c)
+    (sealed_at (held_cells m) m.seat.me.known place c
+    (subst (λ (n : ℕ). place < n) (sym (many_cells m)) lt)
+    (cell_there m.seat.me.own.held place) sealed)
+
+-- The anchor names an item that no item follows.
+
+pub empty_try : (a b c : Bound MailPass) (latest : ℕ) → IsIn a → FindsItem a b 0 0 latest
+    → FindsLast b c latest → EmptyTry a c
+empty_try a b c latest is first none =
+    let box : target b.seat.me latest ≡ first.cell =
+    ap (λ (p : ℕ). target b.seat.me p) first.found_is
+    ∙ last_held a b first.cell first.reads.holds.held in
+    let both = reads_then _ _ (first.cell ∷ []) [] a b c first.reads none.reads in
+    record {
+      cell = first.cell;
+      leaves = record {
+        goes = subst (λ (x : ℕ). Goes (gave_at 0 0 (field.Cell first.cell) ∷
+            gave_at x 3 field.Null ∷ []) a c) box
+            (subst (λ (x : ℕ). Goes (gave_at x 0 (field.Cell first.cell) ∷
+            gave_at (target b.seat.me latest) 3 field.Null ∷ []) a c) is.anchor both.goes);
+        cells = first.cell ∷ [];
+        held = both.holds.held;
+      };
+      pass = both.pass;
+    }
+
+module _ (a b c d : Bound MailPass) (latest next : ℕ) (item : Item) (is : IsIn a)
+    (first : FindsItem a b 0 0 latest) (second : FindsNext b c latest next)
+    (third : FindsWhole c d next item) where
+  in_b : IsIn b
+  in_b = reads_in _ (first.cell ∷ []) a b is first.reads
+
+  in_c : IsIn c
+  in_c = reads_in _ (second.finds.cell ∷ []) b c in_b second.finds.reads
+
+  in_d : IsIn d
+  in_d = reads_in [] [] c d in_c third.reads
+
+  latest_knows : KnowsItem d.seat.me latest first.item
+  latest_knows = reads_still [] [] c d third.reads latest first.item
+      (reads_still _ (second.finds.cell ∷ []) b c second.finds.reads latest first.item first.knows)
+
+  item_is : item ≡ second.finds.item
+  item_is = third.is second.finds.item second.finds.knows
+
+  next_knows : KnowsItem d.seat.me next item
+  next_knows = subst (λ (i : Item). KnowsItem d.seat.me next i) (sym item_is)
+      (reads_still [] [] c d third.reads next second.finds.item second.finds.knows)
+
+  follows : item.position ≡ first.item.position + 1
+  follows = ap (λ (i : Item). i.position) item_is ∙ second.follows first.item first.knows
+
+  abbrev cells : List ℕ
+  cells = first.cell ∷ second.finds.cell ∷ []
+
+  all_reads : Rattle.cell_mailbox.specs.Finds.Reads [] cells a d
+  all_reads = reads_unasked _ cells a d
+      (reads_then _ [] cells [] a c d
+      (reads_then _ _ (first.cell ∷ []) (second.finds.cell ∷ []) a b c first.reads
+      second.finds.reads) third.reads)
+
+  pub may_go_on : MayUpdate is_fixed d.seat.me 0 0 (values.Held latest) (values.Held next)
+  may_go_on = record {
+    inside = in_d.inside;
+    there = in_d.some;
+    payload = omega arith;
+    box = is_box_of (target d.seat.me 0) (known_of d.seat.me 0) in_d.anchor;
+    old_named = latest_knows.there;
+    new_named = next_knows.there;
+    sealed = sealed_value d next next_knows.there
+        (ap is_sealed next_knows.known.is);
+    spares = λ fixed. in_d.anchor;
+  }
+
+  abbrev old : Field
+  old = field.Cell (target d.seat.me latest)
+
+  pub picks_go_on : PicksUpdate HoldsMail is_fixed (next_taken old item) d 0 0
+      (values.Held latest) (values.Held next)
+  picks_go_on m kept presence =
+      subst (λ (x : ℕ). Picks HoldsMail is_fixed (next_taken (field.Cell x) item) m.seat.me
+      (write_of m 0 0 (values.Held latest) (values.Held next)))
+      (cell_same m.seat.me.own.held d.seat.me.own.held kept.held latest)
+      (take_picks m.seat.me 0 latest next item record {
+        anchor = cell_same m.seat.me.own.held d.seat.me.own.held kept.held 0 ∙ in_d.anchor;
+        last = first.item;
+        held = item_kept d m kept latest first.item latest_knows;
+        follows = follows;
+        next_held = item_kept d m kept next item next_knows;
+      })
+
+  module _ (e : Bound MailPass) (found : Field)
+      (wrote : Updated HoldsMail is_fixed (next_taken old item) d 0 0 (values.Held latest)
+      (values.Held next) found e) where
+    goes : Goes [] a e
+    goes = goes_then all_reads.goes
+        (wrote_goes is_fixed HoldsMail (next_taken old item) d e 0 0 (values.Held latest)
+        (values.Held next) found wrote)
+
+    held : held_cells e ≡ held_cells a ++ cells
+    held = wrote.held ∙ all_reads.holds.held
+
+    pass_is : (made : Bool) → same_field found old ≡ made
+        → e.seat.me.pass ≡ taken_if made item a.seat.me.pass
+    pass_is made is_made =
+        wrote_pass is_fixed HoldsMail (next_taken old item) d e 0 0 (values.Held latest)
+        (values.Held next) found wrote
+        ∙ ap (λ (b : Bool). taken_if b item d.seat.me.pass) is_made
+        ∙ ap (taken_if made item) all_reads.pass
+
+    pub lost_try : same_field found old ≡ false → LostTry a e
+    lost_try other = record {
+      leaves = record { goes = goes; cells = cells; held = held };
+      pass = pass_is false other;
+    }
+
+  pub took_try : (e : Bound MailPass)
+      → Updated HoldsMail is_fixed (next_taken old item) d 0 0 (values.Held latest)
+      (values.Held next) old e
+      → TookTry a e item
+  took_try e wrote =
+      let at = wrote.at in
+      let calm = wrote.calm in
+      let from = target d.seat.me latest in
+      let box = target d.seat.me next in
+      record {
+        leaves = record {
+          goes = subst (λ (x : ℕ). Goes (wrote_at x 0 old (field.Cell box) old ∷ []) a e)
+              in_d.anchor
+              (goes_then all_reads.goes
+              (wrote_shown is_fixed HoldsMail (next_taken old item) d e 0 0
+              (values.Held latest) (values.Held next) old wrote));
+          cells = cells;
+          held = held e old wrote;
+        };
+        took = record {
+          from = from;
+          box = box;
+          write = record {
+            at = at.seat.me;
+            before = all_reads.goes.added ++ calm.added;
+            trail_before =
+                calm_trail (LookAndMarks d.seat.me.number d.seat.me.presence.status
+                (values.Held latest) (values.Held next)) d at calm
+                ∙ ap (λ (ts : List Taken). ts ++ calm.added) all_reads.goes.trail
+                ∙ append_assoc a.seat.me.trail all_reads.goes.added calm.added;
+            number_before = calm.kept.number ∙ all_reads.goes.number;
+            pass_before = calm.kept.pass ∙ all_reads.pass;
+            behind = e.seat.me;
+            step = subst (λ (x : ℕ). AtEvent HoldsMail is_fixed at.seat.me
+                (event.Write at.seat.me.number 0 0 (field.Cell x) (field.Cell box))
+                (next_taken old item) (finds.Field old) e.seat.me)
+                (cell_same at.seat.me.own.held d.seat.me.own.held calm.kept.held latest)
+                (subst (λ (x : ℕ). AtEvent HoldsMail is_fixed at.seat.me
+                (event.Write at.seat.me.number 0 0
+                (field_at at.seat.me.own.held (values.Held latest)) (field.Cell x))
+                (next_taken old item) (finds.Field old) e.seat.me)
+                (cell_same at.seat.me.own.held d.seat.me.own.held calm.kept.held next)
+                wrote.event);
+            after = [];
+            trail_after = sym (append-nil e.seat.me.trail);
+          };
+          pass = pass_is e old wrote true (same_value old old refl);
+        };
+      }

@@ -1,0 +1,6 @@
+-- the item is sent, where null is still behind the last one
+use Rattle.mail_rule.specs.Knowing.{next_sent}
+use Rattle.cell_mailbox.proofs.sending.try_to_send.Given as goal
+
+abbrev pub ghosts-link : goal.ghosts-link
+ghosts-link g a = record { next = next_sent a.sent }

@@ -1,0 +1,4 @@
+pub mod Ends
+pub mod Finds
+pub mod Makes
+pub mod Walks

@@ -1,0 +1,25 @@
+-- The walk to the last item: how far it is, and where it ends.
+-- Source: this project's.
+use Rattle.std.specs.Prelude.{ℕ, ◌≡◌, ◌++◌, [], ◌∷◌, length}
+use Rattle.mail_rule.specs.Knowing.{KnowsItem}
+use Rattle.mail_rule.specs.Told.{IsSmall}
+use Rattle.mail_rule.specs.declared.items.Item.{Item}
+use Rattle.mail_rule.specs.declared.mail_pass.MailPass.{MailPass}
+use Rattle.mutator_seat.specs.Bound.{Bound, held_cells}
+use Rattle.held_places.specs.Calls.{Goes}
+
+-- one item is held behind all that was held before
+pub record Stands (old new : Bound MailPass) (held : ℕ) : Type 0 where
+  pub goes : Goes [] old new
+  pub cell : ℕ
+  pub cells : held_cells new ≡ held_cells old ++ cell ∷ []
+  pub item : Item
+  pub knows : KnowsItem new.seat.me held item
+  pub small : IsSmall item
+  pub pass : new.seat.me.pass ≡ old.seat.me.pass
+  pub many : length new.seat.me.known ≡ length new.seat.me.own.held
+
+-- and this is its position
+pub record EndsAt (old new : Bound MailPass) (held position : ℕ) : Type 0 where
+  pub stands : Stands old new held
+  pub position_is : position ≡ stands.item.position

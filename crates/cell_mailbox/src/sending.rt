@@ -1,0 +1,147 @@
+//! Sending an item: a new box, and one exchange of null in the last one.
+ghost use Rattle.std.specs.Prelude.{ℕ, ◌≡◌, ◌<◌, ◌≤◌, ◌+◌, ◌^◌, IfErr, IfOk, OnOk, false, length};
+ghost use Rattle.std.specs.Prelude.{true};
+ghost use Rattle.cell_words.specs.declared.fields.Field.TheVariants as field;
+ghost use Rattle.core_machine.specs.Words.{same_field};
+ghost use Rattle.free_cells.specs.Hints.{queue_of};
+ghost use Rattle.mail_rule.specs.Mail.{HoldsMail, is_fixed};
+ghost use Rattle.mutator_events.specs.declared.values.Value.TheVariants as values;
+ghost use Rattle.mutator_seat.specs.Writes.{MayUpdate, PicksUpdate, Updated};
+ghost use Rattle.held_places.specs.Calls.{IsIn};
+ghost use Rattle.cell_mailbox.specs.Ends.{FindsFullHeap, PostEnds, Sends};
+ghost use Rattle.cell_mailbox.specs.Makes.{Makes, MayMake};
+ghost use Rattle.cell_mailbox.specs.Walks.{EndsAt};
+
+use crate::reading::{read_latest, read_next, read_part};
+use crate::turns::Post;
+use free_cells::Hints;
+use mail_rule::{Item, MailPass, Sent};
+use mutator_seat::{Choice, HeapFull, Moved, Mutator, Value};
+use std::marker::Brand;
+use std::sync::Wait;
+
+/// Sends a value, and tells its position. The box is claimed behind a walk to the last item. Where
+/// another mutator sends first, the box is given up, and a new one is claimed for the new position.
+pub fn send<R: Wait>(
+    rt: &R,
+    hints: &mut Hints<'_>,
+    m: &mut Mutator<'_, MailPass>,
+    sender: u32,
+    value: u64,
+) -> Result<u64, HeapFull>
+    requires inside { m.old.seat.me.presence.inside ≡ true }
+    requires room { length m.old.seat.me.own.held + 8 ≤ m.old.seat.me.room }
+    requires sender { sender ≡ m.old.seat.me.number + 1 }
+    requires value { value < 2 ^ 32 }
+    requires few { length m.old.seat.me.pass.sends < 100000 }
+    ensures sent { IfOk result (λ position. Sends m.old m.new
+        (record { position = position; value = value })) }
+    ensures full { IfErr result (λ full. FindsFullHeap m.old m.new full) }
+    ensures queue { queue_of hints.new ≡ queue_of hints.old }
+{
+    let held = m.held_len();
+    for _ in rt.forever() {
+        let post = try_to_send(rt, hints, m, held, sender, value);
+        m.cut(held);
+        match post {
+            Post::Sent(position) => return Ok(position),
+            Post::Full(full) => return Err(full),
+            Post::Lost => (),
+        }
+    }
+    unreachable!()
+}
+
+/// Tries once to put a new box behind the last one.
+fn try_to_send<R: Wait>(
+    rt: &R,
+    hints: &mut Hints<'_>,
+    m: &mut Mutator<'_, MailPass>,
+    held: usize,
+    sender: u32,
+    value: u64,
+) -> Post
+    requires inside { IsIn m.old }
+    requires held { held ≡ length m.old.seat.me.own.held }
+    requires room { length m.old.seat.me.own.held + 8 ≤ m.old.seat.me.room }
+    requires sender { sender ≡ m.old.seat.me.number + 1 }
+    requires value { value < 2 ^ 32 }
+    requires few { length m.old.seat.me.pass.sends < 100000 }
+    ensures ends { PostEnds m.old m.new value result }
+    ensures queue { queue_of hints.new ≡ queue_of hints.old }
+{
+    let before = find_last(rt, m, held);
+    match m.claim(rt, hints) {
+        Ok(fresh) => {
+            let item = Item {
+                position: before + 1,
+                sender,
+                value,
+            };
+            make_item(m, fresh, item);
+            let sent = Sent {
+                position: item.position,
+                value,
+            };
+            match link::<Brand>(m, held, fresh, sent) {
+                Ok(()) => Post::Sent(item.position),
+                Err(_) => Post::Lost,
+            }
+        }
+        Err(full) => Post::Full(full),
+    }
+}
+
+/// Walks to the last item, which is then held behind all that was held before. Its position is
+/// told.
+fn find_last<R: Wait>(rt: &R, m: &mut Mutator<'_, MailPass>, held: usize) -> u64
+    requires inside { IsIn m.old }
+    requires held { held ≡ length m.old.seat.me.own.held }
+    requires room { length m.old.seat.me.own.held + 1 < m.old.seat.me.room }
+    ensures last { EndsAt m.old m.new held result }
+{
+    let _latest = read_latest(m);
+    for _ in rt.forever() {
+        let _ = m.answer();
+        match read_next(m, held) {
+            Some(next) => m.keep(held, next, 1),
+            None => return read_part(m, held, 0),
+        }
+    }
+    unreachable!()
+}
+
+/// Fills the claimed cell with an item, and makes it a box.
+fn make_item(m: &mut Mutator<'_, MailPass>, fresh: usize, item: Item)
+    requires may { MayMake m.old fresh }
+    requires position { item.position ≤ 6400001 }
+    requires sender { item.sender < 2 ^ 32 }
+    requires value { item.value < 2 ^ 32 }
+    ensures makes { Makes m.old m.new fresh item }
+{
+    m.fill::<Brand>(fresh, 0, Value::Num(item.position));
+    m.fill::<Brand>(fresh, 1, Value::Num(item.sender as u64));
+    m.fill::<Brand>(fresh, 2, Value::Num(item.value));
+    m.seal_box(fresh);
+}
+
+/// Exchanges null in the box of an item for the fresh box. What is sent serves the pass that the
+/// caller picks, and nothing at run time.
+fn link<C: Choice<MailPass>>(
+    m: &mut Mutator<'_, MailPass>,
+    last: usize,
+    fresh: usize,
+    sent: Sent,
+) -> Result<(), Moved>
+    requires may { MayUpdate is_fixed m.old.seat.me last 3 values.Null (values.Held fresh) }
+    requires rule { PicksUpdate HoldsMail is_fixed C.next m.old last 3 values.Null
+        (values.Held fresh) }
+    ensures made { OnOk result (Updated HoldsMail is_fixed C.next m.old last 3 values.Null
+        (values.Held fresh) field.Null m.new) }
+    ensures moved { IfErr result (λ moved. (same_field moved.found field.Null ≡ false)
+        × Updated HoldsMail is_fixed C.next m.old last 3 values.Null (values.Held fresh)
+        moved.found m.new) }
+{
+    let _ = sent;
+    m.update::<C>(last, 3, Value::Null, Value::Held(fresh))
+}
