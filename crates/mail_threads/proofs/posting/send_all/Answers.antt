@@ -1,0 +1,25 @@
+use Rattle.std.proofs.Common.{◌≡◌, ◌∙◌, ◌+◌, ℕ, List, [], ap, arith, length, Option, refl, subst, sym}
+use Rattle.std.proofs.Common.{take}
+use Rattle.mail_threads.specs.Calls.{Posted}
+use Rattle.mail_threads.proofs.Going.{still_room}
+use Rattle.mail_threads.proofs.Lines.{posted_few, posted_first, posted_next, small_at}
+use Rattle.mail_threads.proofs.posting.send_all.Goals as goal
+
+pub send_line-answer-requires-clause-inside : goal.send_line-answer-requires-clause-inside
+send_line-answer-requires-clause-inside g c =
+    c.loop-index.invariant.posted.returns.goes.inside ∙ c.requires.fresh.inside
+
+pub send_line-answer-requires-clause-room : goal.send_line-answer-requires-clause-room
+send_line-answer-requires-clause-room g c =
+    still_room c.args.m.now c.loop-index.m c.loop-index.invariant.posted.returns
+    c.requires.fresh.room
+
+pub send_line-answer-requires-clause-sender : goal.send_line-answer-requires-clause-sender
+send_line-answer-requires-clause-sender g c =
+    c.requires.sender
+    ∙ ap (λ (n : ℕ). n + 1) (sym c.loop-index.invariant.posted.returns.goes.number)
+
+pub send_line-answer-requires-clause-few : goal.send_line-answer-requires-clause-few
+send_line-answer-requires-clause-few g c =
+    posted_few c.args.script.now c.loop-index.index c.loop-index.sent.items c.args.m.now
+    c.loop-index.m c.loop-index-test.true c.requires.short c.loop-index.invariant.posted

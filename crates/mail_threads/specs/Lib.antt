@@ -1,0 +1,4 @@
+pub mod Calls
+pub mod Posts
+pub mod Receipts
+pub mod Workers
