@@ -1,4 +1,6 @@
 pub mod Coming
 pub mod Going
+pub mod Leaving
 pub mod Lines
+pub mod Places
 pub mod Turns

@@ -84,3 +84,14 @@ pub record Left (m : Bound MailPass) (seat : SeatView MailPass) : Type 0 where
   pub pass : seat.me.pass ≡ m.seat.me.pass
   pub marks_are : marks_of seat.me.trail ≡ marks m
   pub over : seat.me.presence.over ≡ true
+
+-- It is the same mutator, in or out: its pass is as it was, and its trail shows no more than before.
+pub record IsSame (old new : Bound MailPass) : Type 0 where
+  pub heap : new.heap ≡ old.heap
+  pub table : new.seat.table ≡ old.seat.table
+  pub shape : new.seat.me.shape ≡ old.seat.me.shape
+  pub number : new.seat.me.number ≡ old.seat.me.number
+  pub room : new.seat.me.room ≡ old.seat.me.room
+  pub pass : new.seat.me.pass ≡ old.seat.me.pass
+  pub over : new.seat.me.presence.over ≡ old.seat.me.presence.over
+  pub marks_are : marks new ≡ marks old

@@ -1,12 +1,14 @@
 -- What a sender and the receiver have before they begin, and what they leave.
 -- Source: this project's.
-use Rattle.std.specs.Prelude.{ℕ, zero, suc, ◌≡◌, ◌≤◌, ◌<◌, ◌+◌, ◌^◌, true, false, All}
+use Rattle.std.specs.Prelude.{ℕ, zero, suc, ◌≡◌, ◌≤◌, ◌<◌, ◌+◌, ◌^◌, Bool, true, false, All}
 use Rattle.std.specs.Prelude.{List, [], ◌∷◌, length, Vec, vec_capacity}
 use Rattle.std.specs.declared.alloc.Global.{Global}
 use Rattle.free_cells.specs.Passes.{IsHintPass}
 use Rattle.free_cells.specs.declared.queue.FreeQueue.{FreeQueue}
 use Rattle.heap_table.specs.Seats.{HeapId, IsSeatOf, SeatView}
+use Rattle.mail_rule.specs.declared.items.Item.{Item}
 use Rattle.mail_rule.specs.declared.mail_pass.MailPass.{MailPass}
+use Rattle.mutator_seat.specs.Bound.{Bound}
 use Rattle.trails.specs.Marks.{marks_of}
 use Rattle.mail_threads.specs.Posts.{Posts}
 use Rattle.mail_threads.specs.Receipts.{Receives}
@@ -71,6 +73,17 @@ AllDone heap scripts senders =
 pub record IsWaiting (heap : HeapId) (place : ℕ) (receiver : Receiver) : Type 0 where
   pub seat : IsNewSeat heap place receiver.seat
   pub none : receiver.items.items ≡ []
+
+-- The receiver's mutator is out. Unless memory was wanting, it took a turn for each line, and has
+-- what it took.
+pub record IsHalfway (heap : HeapId) (place lines : ℕ) (m : Bound MailPass) (items : List Item)
+    (failed : Bool) : Type 0 where
+  pub table : m.seat.table ≡ heap.table
+  pub shape : m.seat.me.shape ≡ heap.shape
+  pub number_is : m.seat.me.number ≡ place
+  pub room : m.seat.me.room ≡ places_held
+  pub out : m.seat.me.presence.inside ≡ false
+  pub received : failed ≡ false → Receives lines items m.seat.me.pass (marks_of m.seat.me.trail)
 
 -- The receiver is through: its mutator is over. Unless memory was wanting, it took a turn for each
 -- line, and it has what it took.

@@ -10,10 +10,12 @@
 //! specs/Workers, `running`.
 #![tactic(auto)]
 
+mod joining;
 mod posting;
 mod receiving;
 mod running;
 mod workers;
 
+pub use joining::run_all;
 pub use running::{come_in, leave, run_each};
 pub use workers::{Receiver, Sender};

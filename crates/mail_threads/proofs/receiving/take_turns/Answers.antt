@@ -1,4 +1,4 @@
-use Rattle.std.proofs.Common.{◌∙◌, [], ap, subst, sym, List}
+use Rattle.std.proofs.Common.{◌+◌, ◌∙◌, [], ap, subst, sym, List}
 use Rattle.mail_rule.specs.declared.items.Item.{Item}
 use Rattle.mail_threads.specs.Calls.{Received}
 use Rattle.mail_threads.proofs.Going.{still_room, returns_then}
