@@ -13,9 +13,9 @@ use Rattle.mutator_events.specs.Events.{tells}
 use Rattle.mutator_seat.specs.Bound.{Bound, takes}
 use Rattle.trails.specs.Marks.{Mark, mark_of, marks_of}
 use Rattle.trails.proofs.Marks.{marks_push}
-use Rattle.mail_threads.specs.Calls.{Left}
+use Rattle.mail_threads.specs.Calls.{IsSame, Left, marks}
 
-quiet : (ts : List Taken) (t : Taken)
+pub quiet : (ts : List Taken) (t : Taken)
     → mark_of (own_along no_own ts) t.event t.found ≡ []
     → marks_of (ts ++ t ∷ []) ≡ marks_of ts
 quiet ts t none =
@@ -40,3 +40,28 @@ module _ (a b : Bound MailPass) (i j : ℕ) (out over : Found) (seat : SeatView 
             ∙ quiet a.seat.me.trail (took (event.End i) out) refl;
         over = ap (λ (s : SeatView MailPass). s.me.presence.over) is;
       }
+
+-- Between the two.
+
+module _ (a b : Bound MailPass) (i : ℕ) (found : Found) where
+  pub same_in : b ≡ takes a (event.Begin i) found → IsSame a b
+  same_in is = record {
+    heap = ap (λ (m : Bound MailPass). m.heap) is;
+    table = ap (λ (m : Bound MailPass). m.seat.table) is;
+    shape = ap (λ (m : Bound MailPass). m.seat.me.shape) is;
+    number = ap (λ (m : Bound MailPass). m.seat.me.number) is;
+    room = ap (λ (m : Bound MailPass). m.seat.me.room) is;
+    pass = ap (λ (m : Bound MailPass). m.seat.me.pass) is;
+    marks_are = ap marks is ∙ quiet a.seat.me.trail (took (event.Begin i) found) refl;
+  }
+
+  pub same_out : b ≡ takes a (event.End i) found → IsSame a b
+  same_out is = record {
+    heap = ap (λ (m : Bound MailPass). m.heap) is;
+    table = ap (λ (m : Bound MailPass). m.seat.table) is;
+    shape = ap (λ (m : Bound MailPass). m.seat.me.shape) is;
+    number = ap (λ (m : Bound MailPass). m.seat.me.number) is;
+    room = ap (λ (m : Bound MailPass). m.seat.me.room) is;
+    pass = ap (λ (m : Bound MailPass). m.seat.me.pass) is;
+    marks_are = ap marks is ∙ quiet a.seat.me.trail (took (event.End i) found) refl;
+  }

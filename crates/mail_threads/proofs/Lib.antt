@@ -3,4 +3,5 @@ pub mod Going
 pub mod Leaving
 pub mod Lines
 pub mod Places
+pub mod Splitting
 pub mod Turns

@@ -93,5 +93,4 @@ pub record IsSame (old new : Bound MailPass) : Type 0 where
   pub number : new.seat.me.number ≡ old.seat.me.number
   pub room : new.seat.me.room ≡ old.seat.me.room
   pub pass : new.seat.me.pass ≡ old.seat.me.pass
-  pub over : new.seat.me.presence.over ≡ old.seat.me.presence.over
   pub marks_are : marks new ≡ marks old

@@ -25,6 +25,10 @@ script_of [] place = []
 script_of (script ∷ scripts) zero = script.items
 script_of (script ∷ scripts) (suc place) = script_of scripts place
 
+-- each value of a line is below 2^32
+abbrev pub AreSmall : List ℕ → Type 0
+AreSmall script = All (λ (value : ℕ). value < 2 ^ 32) script
+
 -- The seat is the one of the mutator with this number, as it was split off.
 pub record IsNewSeat (heap : HeapId) (place : ℕ) (seat : SeatView MailPass) : Type 0 where
   pub seat_is : IsSeatOf heap seat
@@ -45,7 +49,7 @@ pub record IsReady (heap : HeapId) (queue : FreeQueue) (script : List ℕ) (plac
   pub none : sender.sent.items ≡ []
   pub room : length script ≤ vec_capacity sender.sent
   pub short : length script ≤ 100_000
-  pub small : All (λ (value : ℕ). value < 2 ^ 32) script
+  pub small : AreSmall script
 
 -- The sender is through: its mutator is over, and has sent the lines that have a position.
 pub record IsDone (heap : HeapId) (script : List ℕ) (place : ℕ) (sender : Sender) : Type 0 where

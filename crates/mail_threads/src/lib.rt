@@ -11,11 +11,15 @@
 #![tactic(auto)]
 
 mod joining;
+mod opened;
+mod opening;
 mod posting;
 mod receiving;
 mod running;
 mod workers;
 
 pub use joining::run_all;
+pub use opened::OpenMail;
+pub use opening::open_mail;
 pub use running::{come_in, leave, run_each};
 pub use workers::{Receiver, Sender};

@@ -40,7 +40,7 @@ pub fn leave(m: Mutator<'_, MailPass>) -> MutSeat<MailPass>
 }
 
 /// The script of this place.
-fn script_at(scripts: &[Vec<u64>], place: u32) -> &[u64]
+pub(crate) fn script_at(scripts: &[Vec<u64>], place: u32) -> &[u64]
     ensures script { result.now ≡ script_of scripts.now place }
 {
     match scripts.get(place as usize) {

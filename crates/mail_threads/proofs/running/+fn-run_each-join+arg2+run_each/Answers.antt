@@ -30,7 +30,7 @@ join-senders-requires-after_bounds g t c κs within =
           (λ a h. h),
           (
             (search rules, others),
-            (search rules, search rules),
+            search rules,
           ),
         ),
       ),
