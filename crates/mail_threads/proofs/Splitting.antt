@@ -10,6 +10,7 @@ use lib.ListN.{get_elem?}
 use Rattle.cell_words.specs.declared.fields.Field.{Field}
 use Rattle.free_cells.specs.declared.queue.FreeQueue.{FreeQueue}
 use Rattle.heap_rule.specs.Moves.{split_view}
+use Rattle.heap_rule.specs.Shape.{Shape}
 use Rattle.heap_rule.specs.declared.view.Place.{Place}
 use Rattle.heap_rule.specs.declared.view.Place.TheVariants as places
 use Rattle.heap_table.specs.Opening.{Opens}
@@ -19,7 +20,7 @@ use Rattle.mail_rule.specs.Opening.{first_rows, first_terms}
 use Rattle.mail_rule.specs.Passes.{opening_pass}
 use Rattle.mail_rule.specs.declared.mail_pass.MailPass.{MailPass}
 use Rattle.mail_rule.proofs.Openings.{firsts, opened}
-use Rattle.mail_threads.specs.Opened.{IsStill}
+use Rattle.mail_threads.specs.Opened.{IsStill, mail_shape}
 use Rattle.mail_threads.specs.Workers.{AllFrom, AllReady, AreSmall, IsReady, script_of}
 use Rattle.mail_threads.specs.declared.workers.Sender.{Sender}
 
@@ -27,13 +28,13 @@ pub opens : (cells mutators setting : ℕ) (rows : List (List Field)) → rows �
     → mutators ≤ 64
     → Opens opening_pass HoldsMail
     record { cells = cells; mutators = mutators; setting = setting; first = rows }
-opens cells mutators setting rows is some =
+opens cells mutators setting rows is most =
     subst (λ (first : List (List Field)). Opens opening_pass HoldsMail
     record { cells = cells; mutators = mutators; setting = setting; first = first }) (sym is) (
       first_terms,
       firsts,
       opened record { cells = cells; mutators = mutators; setting = setting; first = first_rows }
-          record { first = refl; few = some },
+          record { first = refl; few = most },
     )
 
 -- every one of so many is unsplit at the opening
@@ -106,3 +107,11 @@ ready_push heap queue scripts senders sender place all many is =
     let here : place ≡ 0 + length senders = omega (arith, many) in
     all_from_push (λ at c. IsReady heap queue (script_of scripts at) at c) 0 senders sender all
     (subst (λ (at : ℕ). IsReady heap queue (script_of scripts at) at sender) here is)
+
+-- the shape of the heap that is opened is that of a mailbox
+pub opened_shape : (cells senders : ℕ) (h : Shape) (rows : List (List Field))
+    → h ≡ record { cells = cells; mutators = senders + 1; setting = 0; first = rows }
+    → rows ≡ first_rows → h ≡ mail_shape cells senders
+opened_shape cells senders h rows is are =
+    subst (λ (first : List (List Field)). h
+    ≡ record { cells = cells; mutators = senders + 1; setting = 0; first = first }) are is

@@ -31,12 +31,12 @@ loop-place-init c =
       pass = c.requires.pass;
     }
 
-pub new_sender-sender-requires-clause-small : goal.new_sender-sender-requires-clause-small
-new_sender-sender-requires-clause-small c =
+pub new_sender-requires-clause-small : goal.new_sender-requires-clause-small
+new_sender-requires-clause-small c =
     script_small c.args.scripts.now c.loop-place.place c.requires.small
 
-pub new_sender-sender-requires-clause-short : goal.new_sender-sender-requires-clause-short
-new_sender-sender-requires-clause-short c =
+pub new_sender-requires-clause-short : goal.new_sender-requires-clause-short
+new_sender-requires-clause-short c =
     script_short c.args.scripts.now c.loop-place.place c.requires.short
 
 pub loop-place-preserved : goal.loop-place-preserved
