@@ -1,5 +1,5 @@
 -- A mutator that comes in, and one that goes out and is over.
-use Rattle.std.proofs.Common.{◌≡◌, ℕ, true, List, [], ◌∷◌, ◌++◌, length, refl, sym, ◌∙◌, ap}
+use Rattle.std.proofs.Common.{◌≡◌, ℕ, List, [], ◌∷◌, ◌++◌, refl, ◌∙◌, ap}
 use Rattle.std.proofs.lemmas.List.{append-nil}
 use Rattle.core_machine.specs.Own.{no_own}
 use Rattle.core_machine.specs.Trail.{own_along}

@@ -1,11 +1,10 @@
 -- Calls one after the other: what the mutator keeps, and how its marks grow.
-use Rattle.std.proofs.Common.{◌≡◌, ◌≤◌, ◌+◌, ℕ, List, [], ◌∷◌, ◌++◌, length, refl, sym, ◌∙◌, ap}
+use Rattle.std.proofs.Common.{◌≡◌, ◌≤◌, ◌+◌, ℕ, List, [], length, refl, sym, ◌∙◌, ap}
 use Rattle.std.proofs.Common.{subst, arith}
-use Rattle.std.proofs.lemmas.List.{append-nil}
 use Rattle.core_machine.specs.Own.{Own, no_own}
 use Rattle.core_machine.specs.Trail.{own_along}
 use Rattle.mail_rule.specs.declared.mail_pass.MailPass.{MailPass}
-use Rattle.mutator_seat.specs.Bound.{Bound, held_cells}
+use Rattle.mutator_seat.specs.Bound.{Bound}
 use Rattle.mutator_seat.specs.Stretches.{Calm}
 use Rattle.mutator_seat.specs.declared.full.HeapFull.{HeapFull}
 use Rattle.trails.specs.Asks.{Ask, Grown, InOrder}

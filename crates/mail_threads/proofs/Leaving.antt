@@ -1,5 +1,5 @@
 -- A sender and the receiver, each from its beginning to its end.
-use Rattle.std.proofs.Common.{◌≡◌, ◌≤◌, ℕ, Bool, true, false, ◌||◌, not, List, [], ◌++◌, refl, sym, ◌∙◌, ap, subst}
+use Rattle.std.proofs.Common.{◌≡◌, ℕ, Bool, true, false, ◌||◌, not, List, [], ◌++◌, refl, sym, ◌∙◌, ap, subst}
 use Rattle.std.specs.Bool.{OnTrue}
 use Rattle.cell_mailbox.specs.Ends.{Returns}
 use Rattle.core_machine.specs.declared.events.Event.TheVariants as event
@@ -67,46 +67,46 @@ module _ (heap : HeapId) (place lines : ℕ) (a b c d : Bound MailPass) (before 
     (returns : Returns [] b c) (drained : OnTrue whole (Drained before items b c))
     (slept : IsSame c d) (j : ℕ) (over : Found) (new : Receiver)
     (finished : new.seat ≡ tells d.seat (event.Over j) over) (items_are : new.items.items ≡ items)
-    where
-      marks_over : marks_of new.seat.me.trail ≡ marks c
-      marks_over =
-          ap (λ (s : SeatView MailPass). marks_of s.me.trail) finished
-          ∙ quiet d.seat.me.trail (took (event.Over j) over) refl ∙ slept.marks_are
+  where
+    marks_over : marks_of new.seat.me.trail ≡ marks c
+    marks_over =
+        ap (λ (s : SeatView MailPass). marks_of s.me.trail) finished
+        ∙ quiet d.seat.me.trail (took (event.Over j) over) refl ∙ slept.marks_are
 
-      pass_over : new.seat.me.pass ≡ c.seat.me.pass
-      pass_over = ap (λ (s : SeatView MailPass). s.me.pass) finished ∙ slept.pass
+    pass_over : new.seat.me.pass ≡ c.seat.me.pass
+    pass_over = ap (λ (s : SeatView MailPass). s.me.pass) finished ∙ slept.pass
 
-      more_received : Receives lines before a.seat.me.pass (marks a) → Drained before items b c
-          → Receives lines new.items.items new.seat.me.pass (marks_of new.seat.me.trail)
-      more_received first rest = record {
-        sends = ap (λ (p : MailPass). p.sends) pass_over ∙ rest.sends
-            ∙ ap (λ (p : MailPass). p.sends) woke.pass ∙ first.sends;
-        takes = ap (λ (p : MailPass). p.takes) pass_over ∙ rest.takes
-            ∙ ap (λ (p : MailPass). p.takes ++ rest.more) woke.pass
-            ∙ ap (λ (ts : List Item). ts ++ rest.more) first.takes ∙ sym rest.items_are
-            ∙ sym items_are;
-        turns = first.turns;
-        many = first.many;
-        shown = subst (λ (ms : List Mark). InTurn TurnShows first.turns ms) (sym marks_over)
-            (turns_grown TurnShows first.turns (marks b)
-            (subst (λ (ms : List Mark). InTurn TurnShows first.turns ms) (sym woke.marks_are)
-            first.shown) (goes_grown b c returns.goes));
-      }
+    more_received : Receives lines before a.seat.me.pass (marks a) → Drained before items b c
+        → Receives lines new.items.items new.seat.me.pass (marks_of new.seat.me.trail)
+    more_received first rest = record {
+      sends = ap (λ (p : MailPass). p.sends) pass_over ∙ rest.sends
+          ∙ ap (λ (p : MailPass). p.sends) woke.pass ∙ first.sends;
+      takes = ap (λ (p : MailPass). p.takes) pass_over ∙ rest.takes
+          ∙ ap (λ (p : MailPass). p.takes ++ rest.more) woke.pass
+          ∙ ap (λ (ts : List Item). ts ++ rest.more) first.takes ∙ sym rest.items_are
+          ∙ sym items_are;
+      turns = first.turns;
+      many = first.many;
+      shown = subst (λ (ms : List Mark). InTurn TurnShows first.turns ms) (sym marks_over)
+          (turns_grown TurnShows first.turns (marks b)
+          (subst (λ (ms : List Mark). InTurn TurnShows first.turns ms) (sym woke.marks_are)
+          first.shown) (goes_grown b c returns.goes));
+    }
 
-      pub has_received : new.seat.me.presence.over ≡ true
-          → new.failed ≡ (failed || not whole) → HasReceived heap place lines new
-      has_received is_over fails = record {
-        seat_is = (
-          ap (λ (s : SeatView MailPass). s.table) finished ∙ slept.table ∙ returns.goes.table
-              ∙ woke.table ∙ half.table,
-          ap (λ (s : SeatView MailPass). s.me.shape) finished ∙ slept.shape ∙ returns.goes.shape
-              ∙ woke.shape ∙ half.shape,
-        );
-        number_is = ap (λ (s : SeatView MailPass). s.me.number) finished ∙ slept.number
-            ∙ returns.goes.number ∙ woke.number ∙ half.number_is;
-        over = is_over;
-        received = λ fine.
-            let both = not_or failed (not whole) (sym fails ∙ fine) in
-            more_received (half.received both.0)
-            (on_true whole (Drained before items b c) (was_whole whole both.1) drained);
-      }
+    pub has_received : new.seat.me.presence.over ≡ true
+        → new.failed ≡ (failed || not whole) → HasReceived heap place lines new
+    has_received is_over fails = record {
+      seat_is = (
+        ap (λ (s : SeatView MailPass). s.table) finished ∙ slept.table ∙ returns.goes.table
+            ∙ woke.table ∙ half.table,
+        ap (λ (s : SeatView MailPass). s.me.shape) finished ∙ slept.shape ∙ returns.goes.shape
+            ∙ woke.shape ∙ half.shape,
+      );
+      number_is = ap (λ (s : SeatView MailPass). s.me.number) finished ∙ slept.number
+          ∙ returns.goes.number ∙ woke.number ∙ half.number_is;
+      over = is_over;
+      received = λ fine.
+          let both = not_or failed (not whole) (sym fails ∙ fine) in
+          more_received (half.received both.0)
+          (on_true whole (Drained before items b c) (was_whole whole both.1) drained);
+    }

@@ -11,14 +11,12 @@ use Rattle.mail_rule.specs.declared.items.Sent.{Sent}
 use Rattle.mail_rule.specs.declared.mail_pass.MailPass.{MailPass}
 use Rattle.mutator_seat.specs.Bound.{Bound}
 use Rattle.mutator_seat.specs.declared.full.HeapFull.{HeapFull}
-use Rattle.trails.specs.Asks.{InOrder}
 use Rattle.trails.specs.Claims.{IsFull}
-use Rattle.trails.specs.Marks.{Mark}
 use Rattle.trails.specs.Stretches.{Had}
 use Rattle.trails.proofs.Stretches.{had_late, had_on, turns_had}
 use Rattle.cell_mailbox.specs.Ends.{FindsFullHeap, Sends}
 use Rattle.mail_threads.specs.Calls.{IsFresh, Posted, PostsOne, marks, with_line}
-use Rattle.mail_threads.specs.Posts.{AnswerShows, Posts, sends_in}
+use Rattle.mail_threads.specs.Posts.{AnswerShows, sends_in}
 use Rattle.mail_threads.proofs.Going.{full_had, goes_grown, goes_had, returns_none, returns_then}
 
 -- One line.

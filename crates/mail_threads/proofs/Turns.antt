@@ -1,19 +1,18 @@
 -- The turns of the receiver, one after the other.
-use Rattle.std.proofs.Common.{◌≡◌, ◌+◌, ℕ, List, [], ◌∷◌, ◌++◌, length, Option, Some, None}
-use Rattle.std.proofs.Common.{refl, sym, ◌∙◌, ap, subst, arith}
+use Rattle.std.proofs.Common.{◌≡◌, ◌+◌, ℕ, List, [], ◌∷◌, ◌++◌, Option, Some, None}
+use Rattle.std.proofs.Common.{refl, sym, ◌∙◌, ap, arith}
 use Rattle.std.proofs.lemmas.List.{append-nil, append_assoc, length_push}
 use Rattle.cell_words.specs.declared.fields.Field.TheVariants as field
 use Rattle.core_machine.specs.Own.{no_own}
 use Rattle.core_machine.specs.Trail.{own_along}
 use Rattle.mail_rule.specs.declared.items.Item.{Item}
-use Rattle.mail_rule.specs.declared.items.Sent.{Sent}
 use Rattle.mail_rule.specs.declared.mail_pass.MailPass.{MailPass}
 use Rattle.mutator_seat.specs.Bound.{Bound}
 use Rattle.trails.specs.Asks.{gave_at}
 use Rattle.trails.proofs.Stretches.{turns_had}
 use Rattle.cell_mailbox.specs.Ends.{FindsEmpty, Takes, take_asks}
 use Rattle.mail_threads.specs.Calls.{Drained, IsFresh, Received, TakesOne, marks, with_item}
-use Rattle.mail_threads.specs.Receipts.{Receives, TurnShows}
+use Rattle.mail_threads.specs.Receipts.{TurnShows}
 use Rattle.mail_threads.proofs.Going.{goes_had, returns_calm, returns_none, returns_then}
 
 -- One turn.

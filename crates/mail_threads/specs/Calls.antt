@@ -1,6 +1,6 @@
 -- What one line and one turn come to, and several of them.
 -- Source: this project's.
-use Rattle.std.specs.Prelude.{ℕ, ◌≡◌, ◌≤◌, ◌+◌, ◌++◌, true, List, [], ◌∷◌, length}
+use Rattle.std.specs.Prelude.{ℕ, ◌≡◌, ◌≤◌, ◌+◌, ◌++◌, true, List, [], length}
 use Rattle.std.specs.Prelude.{Option, Some, None}
 use Rattle.cell_mailbox.specs.Ends.{Returns}
 use Rattle.heap_table.specs.Seats.{HeapId, SeatView}

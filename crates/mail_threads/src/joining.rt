@@ -118,5 +118,8 @@ pub fn run_all<R: Threads + Wait + Sync>(
         { receive_lines(rt, heap, receiver, lines) },
     );
     let (m, items, failed) = half;
-    (senders, receive_rest(rt, heap, number, lines, m, items, failed))
+    (
+        senders,
+        receive_rest(rt, heap, number, lines, m, items, failed),
+    )
 }

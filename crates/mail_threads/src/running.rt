@@ -16,10 +16,7 @@ use std::sync::Wait;
 use std::thread::{Threads, join};
 
 /// The mutator of the seat, in.
-pub fn come_in<'a>(
-    heap: &'a CellHeap<MailPass>,
-    seat: MutSeat<MailPass>,
-) -> Mutator<'a, MailPass>
+pub fn come_in<'a>(heap: &'a CellHeap<MailPass>, seat: MutSeat<MailPass>) -> Mutator<'a, MailPass>
     requires seat { IsSeatOf heap.now seat }
     requires out { MayComeIn seat.me }
     ensures entered { Entered heap.now seat result }

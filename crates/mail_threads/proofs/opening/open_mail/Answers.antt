@@ -1,13 +1,9 @@
-use Rattle.std.proofs.Common.{rules, ◌≡◌, ◌∙◌, ◌++◌, ◌+◌, ℕ, List, ap, arith, length, refl, subst, sym}
+use Rattle.std.proofs.Common.{rules, ◌∙◌, ◌++◌, List, ap, arith, length}
 use Rattle.cell_words.specs.declared.controls.Control.{Control}
-use Rattle.cell_words.specs.declared.fields.Field.{Field}
 use Rattle.core_machine.specs.declared.events.Taken.{Taken}
 use Rattle.beside_collector.specs.Duty.{duty_on}
-use Rattle.heap_rule.specs.Shape.{Shape}
-use Rattle.heap_rule.specs.declared.view.Place.{Place}
 use Rattle.heap_table.specs.Seats.{SeatView}
 use Rattle.mail_rule.specs.declared.mail_pass.MailPass.{MailPass}
-use Rattle.mail_threads.specs.Opened.{mail_shape}
 use Rattle.mail_threads.proofs.Splitting.{opened_shape, opens}
 use Rattle.mail_threads.proofs.opening.open_mail.Goals as goal
 

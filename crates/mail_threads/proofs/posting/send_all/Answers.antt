@@ -1,8 +1,8 @@
-use Rattle.std.proofs.Common.{◌≡◌, ◌∙◌, ◌+◌, ℕ, List, [], ap, arith, length, Option, refl, subst, sym}
+use Rattle.std.proofs.Common.{◌∙◌, ◌+◌, ℕ, List, ap, arith, Option, refl, subst, sym}
 use Rattle.std.proofs.Common.{rules, take}
 use Rattle.mail_threads.specs.Calls.{Posted}
 use Rattle.mail_threads.proofs.Going.{still_room}
-use Rattle.mail_threads.proofs.Lines.{posted_few, posted_first, posted_next, small_at}
+use Rattle.mail_threads.proofs.Lines.{posted_few, posted_first, posted_next}
 use Rattle.mail_threads.proofs.posting.send_all.Goals as goal
 
 pub send_line-answer-requires-clause-inside : goal.send_line-answer-requires-clause-inside

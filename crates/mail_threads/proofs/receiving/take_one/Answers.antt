@@ -1,4 +1,4 @@
-use Rattle.std.proofs.Common.{◌≡◌, Option, Some, None, IfNone, IfSome, subst}
+use Rattle.std.proofs.Common.{Option, IfNone, IfSome, subst}
 use Rattle.cell_mailbox.specs.Ends.{FindsEmpty, Takes}
 use Rattle.mail_rule.specs.declared.items.Item.{Item}
 use Rattle.mail_threads.proofs.Turns.{turn_all}

@@ -26,12 +26,12 @@ returns-then-not-keep-clause-returns g c =
 pub loop-line-preserved : goal.loop-line-preserved
 loop-line-preserved g c = elim c.match-take_one.branch [
   | in-Some+else-not-keep w ↦
-  received_item c.loop-line._line c.loop-line.items.items c.match-take_one.items.items
-  w.in-Some.item c.args.m.now c.loop-line.m c.take_one.new.m c.loop-line.invariant
-  w.in-Some.ensures.takes (ap (λ v. v.items) w.items-is ∙ w.if-not-keep.ensures.kept)
+      received_item c.loop-line._line c.loop-line.items.items c.match-take_one.items.items
+      w.in-Some.item c.args.m.now c.loop-line.m c.take_one.new.m c.loop-line.invariant
+      w.in-Some.ensures.takes (ap (λ v. v.items) w.items-is ∙ w.if-not-keep.ensures.kept)
   | in-None w ↦
-  subst (λ (xs : List Item). Received (c.loop-line._line + 1) xs c.args.m.now c.take_one.new.m)
-  (sym (ap (λ v. v.items) w.items-is))
-  (received_none c.loop-line._line c.loop-line.items.items c.args.m.now c.loop-line.m
-  c.take_one.new.m c.loop-line.invariant w.in-None.ensures.takes)
+      subst (λ (xs : List Item). Received (c.loop-line._line + 1) xs c.args.m.now c.take_one.new.m)
+      (sym (ap (λ v. v.items) w.items-is))
+      (received_none c.loop-line._line c.loop-line.items.items c.args.m.now c.loop-line.m
+      c.take_one.new.m c.loop-line.invariant w.in-None.ensures.takes)
 ]

@@ -1,4 +1,4 @@
-use Rattle.std.proofs.Common.{List, refl, subst, ℕ, sym}
+use Rattle.std.proofs.Common.{List, refl, subst, ℕ}
 use Rattle.mail_threads.specs.Calls.{Posted}
 use Rattle.mail_threads.specs.Workers.{script_of}
 use Rattle.mail_threads.proofs.Leaving.{sender_done}
