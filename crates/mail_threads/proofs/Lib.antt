@@ -1,0 +1,7 @@
+pub mod Coming
+pub mod Going
+pub mod Leaving
+pub mod Lines
+pub mod Places
+pub mod Splitting
+pub mod Turns

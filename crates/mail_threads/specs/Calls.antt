@@ -1,0 +1,96 @@
+-- What one line and one turn come to, and several of them.
+-- Source: this project's.
+use Rattle.std.specs.Prelude.{ℕ, ◌≡◌, ◌≤◌, ◌+◌, ◌++◌, true, List, [], length}
+use Rattle.std.specs.Prelude.{Option, Some, None}
+use Rattle.cell_mailbox.specs.Ends.{Returns}
+use Rattle.heap_table.specs.Seats.{HeapId, SeatView}
+use Rattle.mail_rule.specs.Passes.{having_sent, having_taken}
+use Rattle.mail_rule.specs.declared.items.Item.{Item}
+use Rattle.mail_rule.specs.declared.mail_pass.MailPass.{MailPass}
+use Rattle.mutator_seat.specs.Bound.{Bound}
+use Rattle.trails.specs.Marks.{Mark, marks_of}
+use Rattle.trails.specs.Stretches.{Had}
+use Rattle.mail_threads.specs.Posts.{AnswerShows, Posts}
+use Rattle.mail_threads.specs.Receipts.{Receives, TurnShows}
+
+-- what the trail of a mutator shows
+abbrev pub marks : Bound MailPass → List Mark
+marks m = marks_of m.seat.me.trail
+
+-- it is in, with room for a call, and neither sent nor took anything
+pub record IsFresh (m : Bound MailPass) : Type 0 where
+  pub inside : m.seat.me.presence.inside ≡ true
+  pub room : length m.seat.me.own.held + 8 ≤ m.seat.me.room
+  pub sends : m.seat.me.pass.sends ≡ []
+  pub takes : m.seat.me.pass.takes ≡ []
+
+-- the pass with a line that has this position, or none
+abbrev pub with_line : ℕ → Option ℕ → MailPass → MailPass
+with_line value (Some position) pass =
+    having_sent (record { position = position; value = value }) pass
+with_line value None pass = pass
+
+abbrev pub with_item : Option Item → MailPass → MailPass
+with_item (Some item) pass = having_taken item pass
+with_item None pass = pass
+
+-- one line
+pub record PostsOne (value : ℕ) (answer : Option ℕ) (old new : Bound MailPass) : Type 0 where
+  pub returns : Returns [] old new
+  pub pass : new.seat.me.pass ≡ with_line value answer old.seat.me.pass
+  pub shows : Had (AnswerShows old.seat.me.shape.cells answer) (marks old) (marks new)
+
+-- and one turn
+pub record TakesOne (answer : Option Item) (old new : Bound MailPass) : Type 0 where
+  pub returns : Returns [] old new
+  pub pass : new.seat.me.pass ≡ with_item answer old.seat.me.pass
+  pub shows : Had (TurnShows answer) (marks old) (marks new)
+
+-- these lines were sent, of a mutator that had sent nothing
+pub record Posted (lines : List ℕ) (answers : List (Option ℕ)) (old new : Bound MailPass)
+    : Type 0 where
+  pub returns : Returns [] old new
+  pub posts : Posts old.seat.me.shape.cells lines answers new.seat.me.pass (marks new)
+
+-- so many turns were taken, by a mutator that had taken nothing
+pub record Received (lines : ℕ) (items : List Item) (old new : Bound MailPass) : Type 0 where
+  pub returns : Returns [] old new
+  pub receives : Receives lines items new.seat.me.pass (marks new)
+
+-- more items were taken: the list gained just what the pass did
+pub record Drained (before items : List Item) (old new : Bound MailPass) : Type 0 where
+  pub more : List Item
+  pub items_are : items ≡ before ++ more
+  pub takes : new.seat.me.pass.takes ≡ old.seat.me.pass.takes ++ more
+  pub sends : new.seat.me.pass.sends ≡ old.seat.me.pass.sends
+
+-- The mutator of this seat came in, and holds the anchor alone.
+pub record Entered (heap : HeapId) (seat : SeatView MailPass) (m : Bound MailPass) : Type 0 where
+  pub heap_is : m.heap ≡ heap
+  pub table : m.seat.table ≡ seat.table
+  pub shape : m.seat.me.shape ≡ seat.me.shape
+  pub number : m.seat.me.number ≡ seat.me.number
+  pub room : m.seat.me.room ≡ seat.me.room
+  pub pass : m.seat.me.pass ≡ seat.me.pass
+  pub inside : m.seat.me.presence.inside ≡ true
+  pub one : length m.seat.me.own.held ≡ 1
+
+-- The mutator went out, and this is its seat: its trail shows no more than before.
+pub record Left (m : Bound MailPass) (seat : SeatView MailPass) : Type 0 where
+  pub table : seat.table ≡ m.seat.table
+  pub shape : seat.me.shape ≡ m.seat.me.shape
+  pub number : seat.me.number ≡ m.seat.me.number
+  pub room : seat.me.room ≡ m.seat.me.room
+  pub pass : seat.me.pass ≡ m.seat.me.pass
+  pub marks_are : marks_of seat.me.trail ≡ marks m
+  pub over : seat.me.presence.over ≡ true
+
+-- It is the same mutator, in or out: its pass is as it was, and its trail shows no more than before.
+pub record IsSame (old new : Bound MailPass) : Type 0 where
+  pub heap : new.heap ≡ old.heap
+  pub table : new.seat.table ≡ old.seat.table
+  pub shape : new.seat.me.shape ≡ old.seat.me.shape
+  pub number : new.seat.me.number ≡ old.seat.me.number
+  pub room : new.seat.me.room ≡ old.seat.me.room
+  pub pass : new.seat.me.pass ≡ old.seat.me.pass
+  pub marks_are : marks new ≡ marks old

@@ -1,0 +1,5 @@
+pub mod Calls
+pub mod Opened
+pub mod Posts
+pub mod Receipts
+pub mod Workers

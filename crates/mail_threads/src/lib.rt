@@ -1,0 +1,25 @@
+//! The senders of a mailbox and its receiver, in threads of their own on a heap that is opened for
+//! them.
+//!
+//! A sender sends the lines of its script by a mutator of its own; what each line was answered is
+//! kept. The receiver takes once for each line that anybody sends, beside the senders, and behind
+//! them until it finds nothing more. That anything runs beside anything else is claimed by no
+//! clause.
+//!
+//! Reading order: specs/Posts, Receipts; specs/Calls, `posting`, `receiving`; `workers`,
+//! specs/Workers, `running`.
+#![tactic(auto)]
+
+mod joining;
+mod opened;
+mod opening;
+mod posting;
+mod receiving;
+mod running;
+mod workers;
+
+pub use joining::run_all;
+pub use opened::OpenMail;
+pub use opening::open_mail;
+pub use running::{come_in, leave, run_each};
+pub use workers::{Receiver, Sender};
