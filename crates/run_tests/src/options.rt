@@ -79,9 +79,9 @@ fn name_shown<R: Threads + Wait + Sync>(
 }
 
 // The empty draft is one record, the first put makes five, and each further one four. Records age
-// before an edit for which fewer than 2,285 are free: in a room for 4,096 before put 454, when 1,814
-// have been made. Five are left, those of the draft. Before put 906 they and what was made since are
-// 1,813, and since they have aged, they are collected: the draft then takes five cells.
+// before an edit for which fewer than 2,285 are free: in a room for 4,096 before put 454, when
+// 1,814 have been made. Five are left, those of the draft. Before put 906 they and what was made
+// since are 1,813, and since they have aged, they are collected: the draft then takes five cells.
 #[test]
 fn records_are_collected_by_the_room_that_was_asked_for(rt: HostRuntime) -> Result<(), Fail> {
     let table = [

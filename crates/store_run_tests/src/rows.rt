@@ -114,8 +114,8 @@ fn drafts_alone<R: Threads + Wait + Sync>(
     Ok((totals.claimed, replies.as_slice() == wanted.as_slice()))
 }
 
-// Five hundred edits make more private records than there is room for, and their draft is three of
-// these: it ages again and again within the private heap, and no collection copies it out of there.
+// Five hundred edits make more private records than there is room for. The five of the draft age,
+// the others are let go of, and no collection copies these five into the shared heap.
 #[test]
 fn a_draft_that_ages_claims_no_cell(rt: HostRuntime) -> Result<(), Fail> {
     assert_eq!(rt; drafts_alone(rt.alloc(), &rt, 500)?, (0, true));
