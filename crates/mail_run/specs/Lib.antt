@@ -1,0 +1,4 @@
+pub mod Comes
+pub mod Parts
+pub mod Rest
+pub mod Service
