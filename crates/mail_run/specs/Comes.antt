@@ -59,6 +59,11 @@ pub record HasPosted (cells : ℕ) (scripts : List (List ℕ)) (sent : List (Lis
   pub share : Share MailPass
   pub share_at : get_elem? joined i ≡ some (places.Joined share)
   pub posts : Posts cells lines answers share.pass (marks_of share.trail)
+
+-- and its positions rise
+pub record HasRisen (sent : List (List (Option ℕ))) (i : ℕ) : Type 0 where
+  pub answers : List (Option ℕ)
+  pub answers_at : get_elem? sent i ≡ some answers
   pub rise : IsStrictlyIncreasing (positions_in answers)
 
 -- the item is the line that has its position
@@ -93,6 +98,7 @@ pub record ComesMail (cells cycles : ℕ) (scripts : List (List ℕ))
   pub many : length sent ≡ length scripts
   pub posted : (i : ℕ) → i < length scripts
       → HasPosted cells scripts (answers_of sent) passes.places i
+  pub rise : (i : ℕ) → i < length scripts → HasRisen (answers_of sent) i
   pub once : EachOnce (flat_map positions_in (answers_of sent))
   -- the items have the positions from 1 to how many they are, in order, and each is the line that
   -- has its position
