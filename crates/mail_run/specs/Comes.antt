@@ -24,17 +24,10 @@ use Rattle.mail_rule.specs.Passes.{opening_pass}
 use Rattle.mail_rule.specs.declared.items.Item.{Item}
 use Rattle.mail_rule.specs.declared.mail_pass.MailPass.{MailPass}
 use Rattle.mail_threads.specs.Opened.{mail_shape}
-use Rattle.mail_threads.specs.Posts.{Posts}
 use Rattle.mail_threads.specs.Receipts.{Receives}
+use Rattle.mail_threads.specs.Taken.{HasPosted, answers_of}
 use Rattle.mail_run.specs.Service.{IsService}
 use Rattle.trails.specs.Marks.{marks_of}
-
--- scripts and answers as lists
-abbrev pub lists_of : List (Vec ℕ Global) → List (List ℕ)
-lists_of scripts = map (λ script. script.items) scripts
-
-abbrev pub answers_of : List (Vec (Option ℕ) Global) → List (List (Option ℕ))
-answers_of sent = map (λ answers. answers.items) sent
 
 -- how many lines there are
 abbrev pub lines_in : List (List ℕ) → ℕ
@@ -47,20 +40,7 @@ positions_in [] = []
 positions_in (Some position ∷ answers) = position ∷ positions_in answers
 positions_in (None ∷ answers) = positions_in answers
 
--- Sender i has an answer for each of its lines. Its seat was joined: the sends of the pass are the
--- positions and values of the lines that have a position, in order, and for the lines without one
--- the trail has stretches of a full heap, one after the other.
-pub record HasPosted (cells : ℕ) (scripts : List (List ℕ)) (sent : List (List (Option ℕ)))
-    (joined : List (Place MailPass)) (i : ℕ) : Type 0 where
-  pub lines : List ℕ
-  pub lines_at : get_elem? scripts i ≡ some lines
-  pub answers : List (Option ℕ)
-  pub answers_at : get_elem? sent i ≡ some answers
-  pub share : Share MailPass
-  pub share_at : get_elem? joined i ≡ some (places.Joined share)
-  pub posts : Posts cells lines answers share.pass (marks_of share.trail)
-
--- and its positions rise
+-- the positions of sender i rise
 pub record HasRisen (sent : List (List (Option ℕ))) (i : ℕ) : Type 0 where
   pub answers : List (Option ℕ)
   pub answers_at : get_elem? sent i ≡ some answers

@@ -1,4 +1,3 @@
 pub mod Comes
-pub mod Parts
 pub mod Rest
 pub mod Service

@@ -5,14 +5,13 @@
 //! have the positions from 1 on in order, and the item at a position is the line that has it. Items
 //! that nobody took are read off the closed heap.
 //!
-//! Reading order: `finished`, specs/Comes; `at_work`, `taking_back`, `following`, `running`.
+//! Reading order: `finished`, specs/Comes; `at_work`, `following`, `running`.
 #![tactic(auto)]
 
 mod at_work;
 mod finished;
 mod following;
 mod running;
-mod taking_back;
 
 pub use cell_mailbox::{Item, MailPass};
 pub use collector::NoMemory;

@@ -2,15 +2,15 @@
 ghost use Rattle.std.specs.Prelude.{◌≡◌, ◌≤◌, ◌+◌, All, IfOk, [], length, vec_capacity};
 ghost use Rattle.mail_threads.specs.Opened.{IsOpenMail};
 ghost use Rattle.mail_threads.specs.Workers.{AllDone, AllReady, AreSmall, HasReceived, IsWaiting};
-ghost use Rattle.mail_run.specs.Comes.{ComesMail, lines_in, lists_of};
+ghost use Rattle.mail_threads.specs.Taken.{lists_of};
+ghost use Rattle.mail_run.specs.Comes.{ComesMail, lines_in};
 
 use crate::at_work::MailAtWork;
 use crate::finished::MailRun;
 use crate::following::append_rest;
-use crate::taking_back::take_back;
 use beside_collector::{run_beside, serve_after};
 use collector::NoMemory;
-use mail_threads::{OpenMail, Receiver, Sender, open_mail, run_all};
+use mail_threads::{OpenMail, Receiver, Sender, open_mail, run_all, take_back};
 use std::alloc::Global;
 use std::sync::Wait;
 use std::thread::Threads;

@@ -1,5 +1,6 @@
 -- A sender and the receiver, each from its beginning to its end.
-use Rattle.std.proofs.Common.{◌≡◌, ℕ, Bool, true, false, ◌||◌, not, List, [], ◌++◌, refl, sym, ◌∙◌, ap, subst}
+use Rattle.std.proofs.Common.{◌≡◌, ℕ, Bool, true, false, ◌||◌, not, List, [], ◌++◌, refl, sym, ◌∙◌}
+use Rattle.std.proofs.Common.{ap, subst}
 use Rattle.std.specs.Bool.{OnTrue}
 use Rattle.cell_mailbox.specs.Ends.{Returns}
 use Rattle.core_machine.specs.declared.events.Event.TheVariants as event

@@ -4,4 +4,5 @@ pub mod Leaving
 pub mod Lines
 pub mod Places
 pub mod Splitting
+pub mod TakingBack
 pub mod Turns

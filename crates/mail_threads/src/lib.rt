@@ -7,7 +7,8 @@
 //! clause.
 //!
 //! Reading order: specs/Posts, Receipts; specs/Calls, `posting`, `receiving`; `workers`,
-//! specs/Workers, `running`.
+//! specs/Workers, `running`, `joining`; specs/Opened, `opened`, `opening`; specs/Taken,
+//! `taking_back`.
 #![tactic(auto)]
 
 mod joining;
@@ -16,10 +17,12 @@ mod opening;
 mod posting;
 mod receiving;
 mod running;
+mod taking_back;
 mod workers;
 
 pub use joining::run_all;
 pub use opened::OpenMail;
 pub use opening::open_mail;
 pub use running::{come_in, leave, run_each};
+pub use taking_back::take_back;
 pub use workers::{Receiver, Sender};

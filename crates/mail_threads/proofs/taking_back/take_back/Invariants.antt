@@ -1,8 +1,8 @@
 use Rattle.std.proofs.Common.{◌≡◌, ◌≤◌, ◌+◌, length}
 use Rattle.std.specs.Vec.{vec_capacity, vec_len}
 use Rattle.std.specs.Vec.Iter.{into_iter_items, into_iter_len}
-use Rattle.mail_run.proofs.TakingBack.{Taking}
-use Rattle.mail_run.proofs.taking_back.take_back.Given as goal
+use Rattle.mail_threads.proofs.TakingBack.{Taking}
+use Rattle.mail_threads.proofs.taking_back.take_back.Given as goal
 
 abbrev pub invariant-loop-sender : goal.invariant-loop-sender
 invariant-loop-sender l = record {

@@ -3,16 +3,16 @@ ghost use Rattle.std.specs.Prelude.{◌≡◌, ◌≤◌, ◌<◌, [], length, t
 ghost use Rattle.heap_rule.specs.Moves.{joined_view};
 ghost use Rattle.heap_table.specs.Seats.{IsSeatOf};
 ghost use Rattle.mail_threads.specs.Workers.{AllDone};
-ghost use Rattle.mail_run.specs.Parts.{AreTaken};
+ghost use Rattle.mail_threads.specs.Taken.{AreTaken};
 
+use crate::workers::Sender;
 use cell_heap::ColSeat;
 use cell_mailbox::MailPass;
 use heap_table::CellHeap;
-use mail_threads::Sender;
 
 /// Joins the seats of all senders, and puts what their lines were answered into the list, in which
 /// there is room for them. The scripts are those of the run: contracts alone read them.
-pub(crate) fn take_back(
+pub fn take_back(
     heap: &CellHeap<MailPass>,
     scripts: &[Vec<u64>],
     senders: Vec<Sender>,

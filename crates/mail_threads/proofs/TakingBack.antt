@@ -17,8 +17,7 @@ use Rattle.mail_rule.specs.declared.mail_pass.MailPass.{MailPass}
 use Rattle.mail_threads.specs.Opened.{IsStill}
 use Rattle.mail_threads.specs.Workers.{AllDone, AllFrom, IsDone, script_of}
 use Rattle.mail_threads.specs.declared.workers.Sender.{Sender}
-use Rattle.mail_run.specs.Comes.{HasPosted, answers_of, lists_of}
-use Rattle.mail_run.specs.Parts.{AreTaken}
+use Rattle.mail_threads.specs.Taken.{AreTaken, HasPosted, answers_of, lists_of}
 
 -- the script of a place is the list that stands there
 list_there : (scripts : List (Vec ℕ Global)) (i : ℕ) → i < length scripts
@@ -112,21 +111,21 @@ module _ (heap : HeapId) (scripts : List (Vec ℕ Global)) where
                 posts = was.posts;
               }
               | inr behind ↦ let same : i ≡ length sent = omega (arith, below, behind, one) in
-              record {
-                lines = script_of scripts (length sent);
-                lines_at = subst (λ (n : ℕ). get_elem? (lists_of scripts) n
-                    ≡ some (script_of scripts (length sent))) (sym same)
-                    (list_there scripts (length sent) lt);
-                answers = sender.sent.items;
-                answers_at = at_last (answers_of sent) (answers.items) i
-                    (omega (arith, few, same))
-                    ∙ ap (λ (xs : Vec (Option ℕ) Global). some xs.items) is;
-                share = share_of sender.seat.me;
-                share_at = subst (λ (n : ℕ). get_elem?
-                    (slice_set mid.me.places (length sent) joined) n ≡ some joined) (sym same)
-                    (set_here mid.me.places (length sent) joined there);
-                posts = done.posts;
-              }
+                  record {
+                    lines = script_of scripts (length sent);
+                    lines_at = subst (λ (n : ℕ). get_elem? (lists_of scripts) n
+                        ≡ some (script_of scripts (length sent))) (sym same)
+                        (list_there scripts (length sent) lt);
+                    answers = sender.sent.items;
+                    answers_at = at_last (answers_of sent) (answers.items) i
+                        (omega (arith, few, same))
+                        ∙ ap (λ (xs : Vec (Option ℕ) Global). some xs.items) is;
+                    share = share_of sender.seat.me;
+                    share_at = subst (λ (n : ℕ). get_elem?
+                        (slice_set mid.me.places (length sent) joined) n ≡ some joined) (sym same)
+                        (set_here mid.me.places (length sent) joined there);
+                    posts = done.posts;
+                  }
             ]));
       }
 

@@ -1,0 +1,44 @@
+-- The senders behind their run: what their lines were answered, and the collector's seat with theirs
+-- joined.
+-- Source: this project's.
+use Rattle.std.specs.Prelude.{ℕ, ◌≡◌, ◌<◌, List, length, map, Option, Vec}
+use Rattle.std.specs.declared.alloc.Global.{Global}
+use mathlib.Core.Option.{some}
+use lib.ListN.{get_elem?}
+use Rattle.heap_rule.specs.declared.view.Place.{Place}
+use Rattle.heap_rule.specs.declared.view.Place.TheVariants as places
+use Rattle.heap_rule.specs.declared.view.Share.{Share}
+use Rattle.heap_table.specs.Seats.{SeatView}
+use Rattle.mail_rule.specs.declared.mail_pass.MailPass.{MailPass}
+use Rattle.mail_threads.specs.Opened.{IsStill}
+use Rattle.mail_threads.specs.Posts.{Posts}
+use Rattle.trails.specs.Marks.{marks_of}
+
+-- scripts and answers as lists
+abbrev pub lists_of : List (Vec ℕ Global) → List (List ℕ)
+lists_of scripts = map (λ script. script.items) scripts
+
+abbrev pub answers_of : List (Vec (Option ℕ) Global) → List (List (Option ℕ))
+answers_of sent = map (λ answers. answers.items) sent
+
+-- Sender i has an answer for each of its lines. Its seat was joined: the sends of the pass are the
+-- positions and values of the lines that have a position, in order, and for the lines without one
+-- the trail has stretches of a full heap, one after the other.
+pub record HasPosted (cells : ℕ) (scripts : List (List ℕ)) (sent : List (List (Option ℕ)))
+    (joined : List (Place MailPass)) (i : ℕ) : Type 0 where
+  pub lines : List ℕ
+  pub lines_at : get_elem? scripts i ≡ some lines
+  pub answers : List (Option ℕ)
+  pub answers_at : get_elem? sent i ≡ some answers
+  pub share : Share MailPass
+  pub share_at : get_elem? joined i ≡ some (places.Joined share)
+  pub posts : Posts cells lines answers share.pass (marks_of share.trail)
+
+-- So it is of each sender; the collector's seat is as it was but for where the parts of its mutators
+-- are.
+pub record AreTaken (cells : ℕ) (scripts : List (Vec ℕ Global))
+    (sent : List (Vec (Option ℕ) Global)) (old new : SeatView MailPass) : Type 0 where
+  pub still : IsStill old new
+  pub many : length sent ≡ length scripts
+  pub posted : (i : ℕ) → i < length scripts
+      → HasPosted cells (lists_of scripts) (answers_of sent) new.me.places i
