@@ -1,5 +1,5 @@
--- The senders behind their run: what their lines were answered, and the collector's seat with theirs
--- joined.
+-- The senders behind their run: what their lines were answered, and the collector's seat, to which
+-- theirs are joined.
 -- Source: this project's.
 use Rattle.std.specs.Prelude.{ℕ, ◌≡◌, ◌<◌, List, length, map, Option, Vec}
 use Rattle.std.specs.declared.alloc.Global.{Global}
@@ -34,8 +34,8 @@ pub record HasPosted (cells : ℕ) (scripts : List (List ℕ)) (sent : List (Lis
   pub share_at : get_elem? joined i ≡ some (places.Joined share)
   pub posts : Posts cells lines answers share.pass (marks_of share.trail)
 
--- So it is of each sender; the collector's seat is as it was but for where the parts of its mutators
--- are.
+-- So it is of each sender; the collector's seat is as it was, but for where the parts of its
+-- mutators are.
 pub record AreTaken (cells : ℕ) (scripts : List (Vec ℕ Global))
     (sent : List (Vec (Option ℕ) Global)) (old new : SeatView MailPass) : Type 0 where
   pub still : IsStill old new

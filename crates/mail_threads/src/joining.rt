@@ -85,8 +85,8 @@ fn receive_rest<R: Wait>(
     }
 }
 
-/// Runs the senders, each on a thread of its own, and the receiver beside all of them: it takes once
-/// for each line. Behind them it takes until nothing is left.
+/// Runs the senders, each on a thread of its own, and the receiver beside them: it takes once for
+/// each line. Behind them it takes until nothing is left.
 pub fn run_all<R: Threads + Wait + Sync>(
     rt: &R,
     heap: &CellHeap<MailPass>,

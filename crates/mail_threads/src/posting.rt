@@ -1,5 +1,6 @@
 //! A sender's lines on its mutator, one after the other.
-ghost use Rattle.std.specs.Prelude.{◌≡◌, ◌≤◌, ◌<◌, ◌+◌, ◌^◌, All, ℕ, [], length, true, vec_capacity};
+ghost use Rattle.std.specs.Prelude.{◌≡◌, ◌≤◌, ◌<◌, ◌+◌, ◌^◌, All, ℕ, [], length, true};
+ghost use Rattle.std.specs.Prelude.{vec_capacity};
 ghost use Rattle.free_cells.specs.Hints.{queue_of};
 ghost use Rattle.mail_threads.specs.Calls.{IsFresh, PostsOne, Posted};
 
@@ -32,7 +33,7 @@ fn send_line<R: Wait>(
     }
 }
 
-/// Sends the lines of a script by a mutator that has sent nothing, and keeps what each was answered.
+/// Sends the lines of a script by a mutator that sent nothing yet, and keeps what each was answered.
 /// The list has room for that.
 pub(crate) fn send_all<R: Wait>(
     rt: &R,
