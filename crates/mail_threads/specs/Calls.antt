@@ -85,11 +85,7 @@ pub record Left (m : Bound MailPass) (seat : SeatView MailPass) : Type 0 where
   pub marks_are : marks_of seat.me.trail ≡ marks m
   pub over : seat.me.presence.over ≡ true
 
-<<<<<<< HEAD
--- It is the same mutator, in or out: its pass is as it was, and its trail shows no more than it did.
-=======
 -- It is the same mutator, in or out: its pass is as it was, and its trail shows nothing more.
->>>>>>> main
 pub record IsSame (old new : Bound MailPass) : Type 0 where
   pub heap : new.heap ≡ old.heap
   pub table : new.seat.table ≡ old.seat.table

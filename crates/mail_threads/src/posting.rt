@@ -33,11 +33,7 @@ fn send_line<R: Wait>(
     }
 }
 
-<<<<<<< HEAD
-/// Sends the lines of a script by a mutator that sent nothing yet, and keeps what each was answered.
-=======
 /// Sends the lines of a script by a mutator that has sent nothing, and keeps each line's answer.
->>>>>>> main
 /// The list has room for that.
 pub(crate) fn send_all<R: Wait>(
     rt: &R,
