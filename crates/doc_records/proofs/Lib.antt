@@ -2,6 +2,7 @@ pub mod Bytewise
 pub mod Cells
 pub mod Chains
 pub mod Fields
+pub mod Heads
 pub mod Letters
 pub mod Makings
 pub mod Rows

@@ -9,11 +9,13 @@ ghost use Rattle.doc_records.specs.Pool.{is_shared, places_found};
 ghost use Rattle.doc_records.specs.Texts.{text_of};
 ghost use Rattle.doc_records.specs.Trees.{AreEntries, IsNodeAt, IsTreeNode, entries_of};
 ghost use Rattle.doc_records.specs.Trees.{tree_of};
+ghost use Rattle.doc_records.specs.Words.{head_of};
 
 use crate::layout::{ENTRY_CHILD, ENTRY_LEFT, ENTRY_NAME, ENTRY_RIGHT, NODE_ENTRIES};
-use crate::orders::order_text;
+use crate::orders::order_name;
 use crate::pool::{Part, RecordPool};
 use crate::reads::read_part;
+use crate::words::head;
 use doc_tree::Name;
 use std::cmp::Ordering;
 
@@ -29,8 +31,29 @@ pub fn order_entry<R: RecordPool>(records: &mut R, at: R::At, name: &Name) -> Or
     ensures held { (R.shown records.new).held ≤ (R.shown records.old).held + 4 }
     ensures records { (R.shown records.new).records ≡ (R.shown records.old).records }
 {
+    order_by_head(records, at, name, head(name.bytes()))
+}
+
+/// The same by the head of the name.
+#[tactic(auto, using(crate::proofs::Rows::entry_name, crate::proofs::Rows::name_chain, crate::proofs::Rows::name_cells))]
+pub(crate) fn order_by_head<R: RecordPool>(
+    records: &mut R,
+    at: R::At,
+    name: &Name,
+    head: u64,
+) -> Ordering
+    requires stands { (R.shown records.old).stands (R.shown records.old).held at }
+    requires five { IsFive ((R.shown records.old).term at) }
+    requires entry { AreEntries ((R.shown records.old).term at) }
+    requires places { (R.shown records.old).held + 5 ≤ (R.shown records.old).room }
+    requires head { head ≡ head_of name.now }
+    ensures order { result ≡ name_cmp name.now (text_of (part 0 ((R.shown records.old).term at))) }
+    ensures later { Later (R.shown records.old) (R.shown records.new) }
+    ensures held { (R.shown records.new).held ≤ (R.shown records.old).held + 4 }
+    ensures records { (R.shown records.new).records ≡ (R.shown records.old).records }
+{
     let written = read_part(records, at, ENTRY_NAME);
-    order_text(records, name.bytes(), written)
+    order_name(records, name.bytes(), head, written)
 }
 
 /// The child of an entry.
@@ -59,12 +82,18 @@ pub fn entry_child<R: RecordPool>(records: &mut R, at: R::At) -> R::At
 
 // The child of that name under an entry, or none. Each level takes five places at most.
 #[tactic(auto, using(crate::proofs::Rows::finding, crate::proofs::Rows::entry_left, crate::proofs::Rows::entry_right))]
-fn find_under<R: RecordPool>(records: &mut R, top: Part<R::At>, name: &Name) -> Option<R::At>
+fn find_under<R: RecordPool>(
+    records: &mut R,
+    top: Part<R::At>,
+    name: &Name,
+    head: u64,
+) -> Option<R::At>
     requires stands { Stands (R.shown records.old) top }
     requires entries { AreEntries (part_term (R.shown records.old).term top) }
     requires rising { IsRising (kids_of (entries_of (part_term (R.shown records.old).term top))) }
     requires places { (R.shown records.old).held + 5 * height_of (entries_of
         (part_term (R.shown records.old).term top)) + 1 ≤ (R.shown records.old).room }
+    requires head { head ≡ head_of name.now }
     ensures child { option_map (λ at. tree_of ((R.shown records.new).term at)) result
         ≡ child_of_name name.now (kids_of (entries_of (part_term (R.shown records.old).term top))) }
     ensures stands { ForSome result (IsNodeAt (R.shown records.new)) }
@@ -81,15 +110,15 @@ fn find_under<R: RecordPool>(records: &mut R, top: Part<R::At>, name: &Name) -> 
     let Part::Record(at) = top else {
         return None;
     };
-    match order_entry(records, at, name) {
+    match order_by_head(records, at, name, head) {
         Ordering::Less => {
             let left = read_part(records, at, ENTRY_LEFT);
-            find_under(records, left, name)
+            find_under(records, left, name, head)
         }
         Ordering::Equal => Some(entry_child(records, at)),
         Ordering::Greater => {
             let right = read_part(records, at, ENTRY_RIGHT);
-            find_under(records, right, name)
+            find_under(records, right, name, head)
         }
     }
 }
@@ -112,7 +141,7 @@ pub fn find_child<R: RecordPool>(records: &mut R, at: R::At, name: &Name) -> Opt
     ensures records { (R.shown records.new).records ≡ (R.shown records.old).records }
 {
     let top = read_part(records, at, NODE_ENTRIES);
-    find_under(records, top, name)
+    find_under(records, top, name, head(name.bytes()))
 }
 
 /// The child of that name, if there is one. Of what was read, a shared child alone keeps a place.

@@ -30,5 +30,8 @@ pub const ENTRY_HEIGHT: usize = 4;
 /// How many bytes of a text there are from this record on.
 pub const TEXT_LENGTH: usize = 0;
 
+/// Its first seven bytes as a word.
+pub const TEXT_FIRST: usize = 1;
+
 /// The rest of a text, or null.
 pub const TEXT_REST: usize = 4;

@@ -1,16 +1,18 @@
 //! The order of a name against one that is written as a text, cell by cell.
-ghost use Rattle.std.specs.Prelude.{◌≡◌, ◌+◌, ◌-◌, ◌≤◌, ◌++◌, ℕ, List, []};
+ghost use Rattle.std.specs.Prelude.{◌≡◌, ◌+◌, ◌-◌, ◌≤◌, ◌++◌, ℕ, List, [], IsTrue};
 ghost use Rattle.doc_tree.specs.Tree.{name_cmp};
+ghost use Rattle.doc_tree.specs.Words.{is_name};
 ghost use Rattle.doc_records.specs.Pool.{Later, Stands, part_term};
 ghost use Rattle.doc_records.specs.Shapes.{IsChain, cells_of};
-ghost use Rattle.doc_records.specs.Texts.{text_of, bytes_here};
-ghost use Rattle.doc_records.specs.Words.{bytes_of};
+ghost use Rattle.doc_records.specs.Texts.{IsName, text_of, bytes_here};
+ghost use Rattle.doc_records.specs.Words.{bytes_of, head_of};
 ghost use Rattle.doc_records.specs.Orders.{order_then};
 
-use crate::layout::TEXT_REST;
+use crate::layout::{TEXT_FIRST, TEXT_REST};
 use crate::pool::{Part, RecordPool};
-use crate::reads::read_part;
+use crate::reads::{read_number, read_part};
 use crate::texts::{Cell, bytes_in, read_cell};
+use crate::words::SEVENTH;
 use std::cmp::Ordering;
 
 // What is known of a name after some bytes: its order, or that it begins with them, and the rest.
@@ -86,5 +88,42 @@ pub(crate) fn order_text<R: RecordPool>(records: &mut R, name: &[u8], top: Part<
             let next = read_part(records, at, TEXT_REST);
             order_text(records, rest, next)
         }
+    }
+}
+
+/// The order of the name, of which this is the head, against one that is written as a text. Where
+/// names differ in their first seven bytes, or have no more, the first word tells it.
+#[tactic(auto, using(crate::proofs::Rows::name_chain))]
+pub(crate) fn order_name<R: RecordPool>(
+    records: &mut R,
+    name: &[u8],
+    head: u64,
+    top: Part<R::At>,
+) -> Ordering
+    requires stands { Stands (R.shown records.old) top }
+    requires name { IsTrue (is_name name.now) }
+    requires head { head ≡ head_of name.now }
+    requires written { IsName (part_term (R.shown records.old).term top) }
+    requires places { (R.shown records.old).held
+        + cells_of (part_term (R.shown records.old).term top) ≤ (R.shown records.old).room }
+    ensures order { result
+        ≡ name_cmp name.now (text_of (part_term (R.shown records.old).term top)) }
+    ensures later { Later (R.shown records.old) (R.shown records.new) }
+    ensures held { (R.shown records.new).held ≤ (R.shown records.old).held
+        + (cells_of (part_term (R.shown records.old).term top) - 1) }
+    ensures records { (R.shown records.new).records ≡ (R.shown records.old).records }
+{
+    let Part::Record(at) = top else {
+        return order_end(name);
+    };
+    let theirs = read_number(records, at, TEXT_FIRST).swap_bytes();
+    if head < theirs {
+        Ordering::Less
+    } else if head > theirs {
+        Ordering::Greater
+    } else if head % SEVENTH == 0 {
+        Ordering::Equal
+    } else {
+        order_text(records, name, Part::Record(at))
     }
 }

@@ -1,11 +1,14 @@
 //! Seven bytes as one number, and back.
 ghost use Rattle.std.specs.Prelude.{◌≡◌, ◌++◌, ◌<◌, ◌≤◌, ◌^◌, IfOk, OnOk, length, drop};
-ghost use Rattle.doc_records.specs.Words.{bytes_of, word_of};
+ghost use Rattle.doc_records.specs.Words.{bytes_of, head_of, word_of};
 
 use doc_tree::NoMemory;
 
 /// How many bytes a word has.
 pub(crate) const WORD: usize = 7;
+
+/// The seventh byte of a head is that of the head by this, which no byte is below.
+pub(crate) const SEVENTH: u64 = 0x1_0000;
 
 /// The word of the first seven bytes; what is past the end counts as 0.
 pub(crate) fn word(bytes: &[u8]) -> u64
@@ -28,6 +31,13 @@ fn word_from(bytes: &[u8], count: usize) -> u64
         [] => 0,
         [first, rest @ ..] => u64::from(*first) + 256 * word_from(rest, count - 1),
     }
+}
+
+/// The head of a name.
+pub(crate) fn head(bytes: &[u8]) -> u64
+    ensures { result ≡ head_of bytes.now }
+{
+    word(bytes).swap_bytes()
 }
 
 /// Adds the first so many bytes of a word.
