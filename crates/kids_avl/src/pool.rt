@@ -151,6 +151,7 @@ pub trait KidPool {
 }
 
 /// The height of an entry over those on both sides.
+#[inline(always)]
 pub fn height_above(left: u64, right: u64) -> u64
     requires { max left right + 1 < 2 ^ 64 }
     ensures { result ≡ max left right + 1 }
@@ -159,6 +160,7 @@ pub fn height_above(left: u64, right: u64) -> u64
 }
 
 /// The height under one, or 0 of none.
+#[inline(always)]
 pub fn height_under<K: KidPool>(pool: &mut K, top: Option<K::At>) -> u64
     requires { Stand K.stands pool.old top }
     ensures height { result ≡ height_of (under K.entries pool.old top) }
@@ -182,6 +184,7 @@ pub(crate) struct Opened<At, Child> {
 }
 
 // Reads the child and both sides.
+#[inline(always)]
 pub(crate) fn read_entry<K: KidPool>(pool: &mut K, at: K::At) -> Opened<K::At, K::Child>
     requires stands { K.stands pool.old at }
     requires places { 3 ≤ K.places pool.old }
