@@ -113,3 +113,7 @@ none_owed (Err e) P is = tt
 pub none_given : {T E : Type 0} (r : Result T E) (P : T → Type 0) → IsErr r → IfOk r P
 none_given (Ok x) P is = absurd (cc is)
 none_given (Err e) P is = tt
+
+pub owed : {T E : Type 0} (r : Result T E) (P : Type 0) → P → OnOk r P
+owed (Ok x) P p = p
+owed (Err e) P p = tt

@@ -21,6 +21,7 @@ use std::cmp::Ordering;
 
 /// The order of the name against an entry's.
 #[tactic(auto, using(crate::proofs::Rows::entry_name, crate::proofs::Rows::name_chain, crate::proofs::Rows::name_cells))]
+#[inline(always)]
 pub fn order_entry<R: RecordPool>(records: &mut R, at: R::At, name: &Name) -> Ordering
     requires stands { (R.shown records.old).stands (R.shown records.old).held at }
     requires five { IsFive ((R.shown records.old).term at) }
@@ -36,6 +37,7 @@ pub fn order_entry<R: RecordPool>(records: &mut R, at: R::At, name: &Name) -> Or
 
 /// The same by the head of the name.
 #[tactic(auto, using(crate::proofs::Rows::entry_name, crate::proofs::Rows::name_chain, crate::proofs::Rows::name_cells))]
+#[inline(always)]
 pub(crate) fn order_by_head<R: RecordPool>(
     records: &mut R,
     at: R::At,
@@ -58,6 +60,7 @@ pub(crate) fn order_by_head<R: RecordPool>(
 
 /// The child of an entry.
 #[tactic(auto, using(crate::proofs::Rows::entry_child, crate::proofs::Rows::no_child, crate::proofs::Rows::num_child))]
+#[inline(always)]
 pub fn entry_child<R: RecordPool>(records: &mut R, at: R::At) -> R::At
     requires stands { (R.shown records.old).stands (R.shown records.old).held at }
     requires five { IsFive ((R.shown records.old).term at) }
@@ -125,6 +128,7 @@ fn find_under<R: RecordPool>(
 
 /// The child of that name, if there is one. The places that were taken on the way are kept.
 #[tactic(auto, using(crate::proofs::Rows::node_entries, crate::proofs::Rows::node_kids, crate::proofs::Rows::node_rising, crate::proofs::Rows::node_high))]
+#[inline(always)]
 pub fn find_child<R: RecordPool>(records: &mut R, at: R::At, name: &Name) -> Option<R::At>
     requires stands { (R.shown records.old).stands (R.shown records.old).held at }
     requires node { IsTreeNode ((R.shown records.old).term at) }

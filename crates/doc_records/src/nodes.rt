@@ -1,5 +1,5 @@
 //! Reading a node: its text, and how many nodes and levels there are.
-ghost use Rattle.std.specs.Prelude.{◌≡◌, ◌+◌, ◌≤◌, [], ◌∷◌, true, IfOk, OnOk};
+ghost use Rattle.std.specs.Prelude.{◌≡◌, ◌+◌, ◌≤◌, [], ◌∷◌, true, IfOk, IsTrue, OnOk};
 ghost use Rattle.cell_words.specs.Term.{part};
 ghost use Rattle.cell_words.specs.declared.fields.Field.TheVariants as field;
 ghost use Rattle.doc_tree.specs.Tree.{count, empty, height};
@@ -7,15 +7,32 @@ ghost use Rattle.trails.specs.Asks.{Shows, gave};
 ghost use Rattle.trails.specs.Telling.{Tells};
 ghost use Rattle.doc_records.specs.Pool.{Later, part_term};
 ghost use Rattle.doc_records.specs.Shapes.{ask_text};
-ghost use Rattle.doc_records.specs.Texts.{text_asks};
+ghost use Rattle.doc_records.specs.Texts.{bytes_here, text_asks};
+ghost use Rattle.doc_tree.specs.Words.{is_text};
 ghost use Rattle.doc_records.specs.Trees.{IsNode, IsTreeNode, Spells, tree_of};
 
 use crate::layout::{NODE_COUNT, NODE_HEIGHT, NODE_TEXT};
 use crate::pool::{Part, RecordPool};
 use crate::reads::{read_number, read_part};
-use crate::texts::push_text;
+use crate::texts::{CELL, Cell, push_text, read_cell};
+use crate::words::letters;
 use doc_tree::{NoMemory, Text};
 use std::alloc::Global;
+
+// A text that is one cell.
+fn short_text(alloc: Global, cell: Cell) -> Result<Text, NoMemory>
+    requires short { cell.count ≤ 21 }
+    requires text { IsTrue (is_text
+        (bytes_here cell.count cell.first cell.second cell.third)) }
+    ensures { IfOk result
+        (λ text. text ≡ bytes_here cell.count cell.first cell.second cell.third) }
+{
+    let letters = letters(cell.first, cell.second, cell.third);
+    match Text::read(alloc, &letters[..cell.count as usize])? {
+        Some(text) => Ok(text),
+        None => unreachable!(),
+    }
+}
 
 // The text of a node, and the places of its cells but the first.
 #[tactic(auto, using(crate::proofs::Spellings::node_text, crate::proofs::Spellings::node_five, crate::proofs::Spellings::text_chain, crate::proofs::Spellings::text_cells))]
@@ -32,8 +49,15 @@ fn read_text<R: RecordPool>(alloc: Global, records: &mut R, at: R::At) -> Result
         (R.shown records.old).marks (R.shown records.new).marks) }
 {
     let top = read_part(records, at, NODE_TEXT);
+    let Part::Record(first) = top else {
+        return Ok(Text::empty());
+    };
+    let cell = read_cell(records, first);
+    if cell.count <= CELL {
+        return short_text(alloc, cell);
+    }
     let mut bytes = Vec::new(alloc);
-    push_text(records, top, &mut bytes)?;
+    push_text(records, Part::Record(first), &mut bytes)?;
     match Text::read(alloc, &bytes)? {
         Some(text) => Ok(text),
         None => unreachable!(),

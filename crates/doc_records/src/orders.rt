@@ -94,6 +94,7 @@ pub(crate) fn order_text<R: RecordPool>(records: &mut R, name: &[u8], top: Part<
 /// The order of the name, of which this is the head, against one that is written as a text. Where
 /// names differ in their first seven bytes, or have no more, the first word tells it.
 #[tactic(auto, using(crate::proofs::Rows::name_chain))]
+#[inline(always)]
 pub(crate) fn order_name<R: RecordPool>(
     records: &mut R,
     name: &[u8],

@@ -12,6 +12,7 @@ use crate::pool::{Part, RecordPool};
 
 /// A word of a text. It takes no place.
 #[tactic(auto, using(crate::proofs::Fields::not_null, crate::proofs::Fields::not_record))]
+#[inline(always)]
 pub(crate) fn read_word<R: RecordPool>(records: &mut R, at: R::At, index: usize) -> u64
     requires stands { (R.shown records.old).stands (R.shown records.old).held at }
     requires range { index < 5 }
@@ -34,6 +35,7 @@ pub(crate) fn read_word<R: RecordPool>(records: &mut R, at: R::At, index: usize)
 
 /// A number that nothing is told of.
 #[tactic(auto, using(crate::proofs::Fields::untold))]
+#[inline(always)]
 pub fn read_number<R: RecordPool>(records: &mut R, at: R::At, index: usize) -> u64
     requires stands { (R.shown records.old).stands (R.shown records.old).held at }
     requires range { index < 5 }
@@ -52,6 +54,7 @@ pub fn read_number<R: RecordPool>(records: &mut R, at: R::At, index: usize) -> u
 
 /// A field that nothing is told of.
 #[tactic(auto, using(crate::proofs::Fields::untold))]
+#[inline(always)]
 pub fn read_part<R: RecordPool>(records: &mut R, at: R::At, index: usize) -> Part<R::At>
     requires stands { (R.shown records.old).stands (R.shown records.old).held at }
     requires range { index < 5 }

@@ -1,6 +1,6 @@
 //! Reading texts: chains of cells with 21 bytes each.
 ghost use Rattle.std.specs.Prelude.{◌≡◌, ◌+◌, ◌-◌, ◌≤◌, ◌<◌, ◌++◌, true, min, OnOk, IfOk};
-ghost use Rattle.cell_words.specs.Term.{part, IsFive};
+ghost use Rattle.cell_words.specs.Term.{number, part, IsFive};
 ghost use Rattle.trails.specs.Telling.{Tells};
 ghost use Rattle.doc_records.specs.Pool.{Later, Stands, part_term, is_shared};
 ghost use Rattle.doc_records.specs.Shapes.{IsChain, cells_of, ask_cell, ask_text};
@@ -11,6 +11,9 @@ use crate::pool::{Part, RecordPool};
 use crate::reads::{read_number, read_part, read_word};
 use crate::words::push_bytes;
 use doc_tree::NoMemory;
+
+/// How many bytes of a text a cell has.
+pub(crate) const CELL: u64 = 21;
 
 // The numbers in a cell: how many bytes there are from it on, and three words.
 #[derive(Clone, Copy)]
@@ -27,6 +30,7 @@ pub(crate) fn read_cell<R: RecordPool>(records: &mut R, at: R::At) -> Cell
     requires five { IsFive ((R.shown records.old).term at) }
     requires place { (R.shown records.old).held < (R.shown records.old).room }
     requires chain { IsChain ((R.shown records.old).term at) }
+    ensures count { result.count ≡ number (part 0 ((R.shown records.old).term at)) }
     ensures text { text_of ((R.shown records.old).term at)
         ≡ bytes_here result.count result.first result.second result.third
         ++ text_of (part 4 ((R.shown records.old).term at)) }
