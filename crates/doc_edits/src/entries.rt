@@ -28,6 +28,7 @@ pub(crate) struct EntryPool<'a, R> {
 }
 
 /// The top of the entries that a part is.
+#[inline(always)]
 pub(crate) fn top_of<At: Copy>(part: Part<At>) -> Option<At>
     ensures { result ≡ top_of part }
 {
@@ -39,6 +40,7 @@ pub(crate) fn top_of<At: Copy>(part: Part<At>) -> Option<At>
 }
 
 /// The part that names these entries.
+#[inline(always)]
 pub(crate) fn part_of<At: Copy>(top: Option<At>) -> Part<At>
     ensures { result ≡ part_of top }
 {
@@ -50,6 +52,7 @@ pub(crate) fn part_of<At: Copy>(top: Option<At>) -> Part<At>
 
 /// The height of the entries on one side.
 #[tactic(auto, using(crate::proofs::Fields::fields))]
+#[inline(always)]
 pub(crate) fn side_height<R: RecordPool>(records: &mut R, side: Part<R::At>) -> u64
     requires stands { Stands (R.shown records.old) side }
     requires entries { AreEntries (part_term (R.shown records.old).term side) }
@@ -69,6 +72,7 @@ pub(crate) fn side_height<R: RecordPool>(records: &mut R, side: Part<R::At>) -> 
 impl<'a, R: RecordPool> EntryPool<'a, R> {
     // A new entry, whose name is written.
     #[tactic(auto, using(crate::proofs::Fields::sides, crate::proofs::Fields::new_entry))]
+    #[inline(always)]
     fn make_entry(
         &mut self,
         written: Part<R::At>,
@@ -136,31 +140,37 @@ impl<'a, R: RecordPool> KidPool for EntryPool<'a, R> {
     ghost made = { made_in };
 
     #[tactic(auto, using(crate::proofs::Fields::fields))]
+    #[inline(always)]
     fn order(&mut self, at: R::At, name: &Name) -> Ordering {
         order_entry(self.records, at, name)
     }
 
     #[tactic(auto, using(crate::proofs::Fields::fields))]
+    #[inline(always)]
     fn child(&mut self, at: R::At) -> R::At {
         entry_child(self.records, at)
     }
 
     #[tactic(auto, using(crate::proofs::Fields::fields))]
+    #[inline(always)]
     fn left(&mut self, at: R::At) -> Option<R::At> {
         top_of(read_part(self.records, at, ENTRY_LEFT))
     }
 
     #[tactic(auto, using(crate::proofs::Fields::fields))]
+    #[inline(always)]
     fn right(&mut self, at: R::At) -> Option<R::At> {
         top_of(read_part(self.records, at, ENTRY_RIGHT))
     }
 
     #[tactic(auto, using(crate::proofs::Fields::fields))]
+    #[inline(always)]
     fn height(&mut self, at: R::At) -> u64 {
         read_number(self.records, at, ENTRY_HEIGHT)
     }
 
     #[tactic(auto, using(crate::proofs::Fields::written))]
+    #[inline(always)]
     fn make(
         &mut self,
         name: &Name,
@@ -194,6 +204,7 @@ impl<'a, R: RecordPool> KidPool for EntryPool<'a, R> {
     }
 
     #[tactic(auto, using(crate::proofs::Fields::fields))]
+    #[inline(always)]
     fn make_like(
         &mut self,
         like: R::At,

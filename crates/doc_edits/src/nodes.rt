@@ -24,6 +24,7 @@ pub(crate) struct Opened<At> {
 
 /// The text and the children of a node, or of none.
 #[tactic(auto, using(crate::proofs::Makings::opened))]
+#[inline(always)]
 pub(crate) fn open<R: RecordPool>(records: &mut R, at: Option<R::At>) -> Opened<R::At>
     requires top { IsTop (R.shown records.old) at }
     requires places { (R.shown records.old).held + 2 ≤ (R.shown records.old).room }
@@ -53,6 +54,7 @@ pub(crate) fn open<R: RecordPool>(records: &mut R, at: Option<R::At>) -> Opened<
 
 // A node of a text that is written and of these children, by what changed with them.
 #[tactic(auto, using(crate::proofs::Makings::made))]
+#[inline(always)]
 fn make_node<R: RecordPool>(
     records: &mut R,
     text: Part<R::At>,

@@ -33,6 +33,7 @@ pub(crate) struct Change {
 
 // The nodes of a tree, and its levels.
 #[tactic(auto, using(crate::proofs::Sized::child_fields))]
+#[inline(always)]
 fn node_sizes<R: RecordPool>(records: &mut R, at: R::At) -> Sizes
     requires node { IsNodeAt (R.shown records.old) at }
     requires places { (R.shown records.old).held + 1 ≤ (R.shown records.old).room }
@@ -95,6 +96,7 @@ fn child_sizes<R: RecordPool>(records: &mut R, child: Option<R::At>) -> Sizes
 }
 
 /// The sizes of a node, and of a child that goes and one that comes.
+#[inline(always)]
 pub(crate) fn change_of<R: RecordPool>(
     records: &mut R,
     at: Option<R::At>,
@@ -182,6 +184,7 @@ fn levels_of<R: RecordPool>(records: &mut R, top: Part<R::At>, most: u64) -> u64
 }
 
 /// The sizes of a node with the changed children.
+#[inline(always)]
 pub(crate) fn sizes_after<R: RecordPool>(records: &mut R, change: Change, top: Part<R::At>) -> Sizes
     requires row { IsRowAt (R.shown records.old) top }
     requires change { Changes change (row_of (R.shown records.old) top) }
