@@ -22,6 +22,7 @@ impl<'a, M: ClientSeat> RecordPool for ClientRecords<'a, M> {
 
     ghost shared = { is_shared };
 
+    #[inline(always)]
     fn read(&mut self, at: NodeAt, index: usize) -> Part<NodeAt> {
         // So many places are known of as are held, and a record names older ones.
         let _held = self.mutator.held_count();
@@ -32,6 +33,7 @@ impl<'a, M: ClientSeat> RecordPool for ClientRecords<'a, M> {
         }
     }
 
+    #[inline(always)]
     fn make(
         &mut self,
         first: Part<NodeAt>,
@@ -77,17 +79,20 @@ impl<'a, M: ClientSeat> RecordPool for ClientRecords<'a, M> {
         }
     }
 
+    #[inline(always)]
     fn held(&self) -> usize {
         let _spare = self.minor.spare();
         self.mutator.held_count()
     }
 
+    #[inline(always)]
     fn cut(&mut self, places: usize) {
         let _held = self.mutator.held_count();
         let _records = self.minor.len();
         self.mutator.cut_to(places);
     }
 
+    #[inline(always)]
     fn keep(&mut self, places: usize, at: NodeAt) -> NodeAt {
         let _held = self.mutator.held_count();
         let _records = self.minor.len();
@@ -105,6 +110,7 @@ impl<'a, M: ClientSeat> RecordPool for ClientRecords<'a, M> {
 }
 
 /// What a field of a private record gave.
+#[inline(always)]
 fn part_read(field: MinorField) -> Part<NodeAt>
     ensures { result ≡ part_read field }
 {
@@ -117,6 +123,7 @@ fn part_read(field: MinorField) -> Part<NodeAt>
 }
 
 /// A part as a field of a private record.
+#[inline(always)]
 fn field_of(part: Part<NodeAt>) -> MinorField
     ensures { result ≡ field_of part }
 {

@@ -65,24 +65,29 @@ impl<'h, P: Keeping> ClientSeat for Mutator<'h, P> {
 
     ghost bound = { λ m. m };
 
+    #[inline(always)]
     fn held_count(&self) -> usize {
         self.held_len()
     }
 
+    #[inline(always)]
     fn read_part(&mut self, place: usize, index: usize) -> Part<NodeAt> {
         part_held(self.read::<Brand>(place, index))
     }
 
+    #[inline(always)]
     fn cut_to(&mut self, n: usize) {
         self.cut(n);
     }
 
+    #[inline(always)]
     fn keep_one(&mut self, n: usize, place: usize) {
         self.keep(n, place, 1);
     }
 }
 
 /// What a read of a held cell gave.
+#[inline(always)]
 fn part_held(value: Value) -> Part<NodeAt>
     ensures { result ≡ part_held value }
 {
