@@ -84,7 +84,8 @@ pub cell_taken : (count first second third : ℕ)
 cell_taken count first second third =
     let past : count - 7 - 7 ≡ count - 14 = omega arith in
     let last : take (count - 14) (bytes_of 7 third) ≡ bytes_of (min 7 (count - 14)) third =
-    taken (count - 14) 7 third [] ∙ ap (λ (bytes : List ℕ). bytes_of (min 7 (count - 14)) third ++ bytes)
+    taken (count - 14) 7 third []
+    ∙ ap (λ (bytes : List ℕ). bytes_of (min 7 (count - 14)) third ++ bytes)
     (take_none (count - 14 - 7)) ∙ append-nil (bytes_of (min 7 (count - 14)) third) in
     taken count 7 first (bytes_of 7 second ++ bytes_of 7 third)
     ∙ ap (λ (bytes : List ℕ). bytes_of (min 7 count) first ++ bytes)

@@ -1,6 +1,7 @@
 pub mod Bytewise
 pub mod Cells
 pub mod Chains
+pub mod Descents
 pub mod Fields
 pub mod Heads
 pub mod Letters

@@ -110,20 +110,15 @@ fn find_under<R: RecordPool>(
         (entries_of (part_term (R.shown records.old).term top)) }
     ensures records { (R.shown records.new).records ≡ (R.shown records.old).records }
 {
-    let Part::Record(at) = top else {
-        return None;
-    };
-    match order_by_head(records, at, name, head) {
-        Ordering::Less => {
-            let left = read_part(records, at, ENTRY_LEFT);
-            find_under(records, left, name, head)
-        }
-        Ordering::Equal => Some(entry_child(records, at)),
-        Ordering::Greater => {
-            let right = read_part(records, at, ENTRY_RIGHT);
-            find_under(records, right, name, head)
+    let mut side = top;
+    while let Part::Record(at) = side {
+        match order_by_head(records, at, name, head) {
+            Ordering::Less => side = read_part(records, at, ENTRY_LEFT),
+            Ordering::Equal => return Some(entry_child(records, at)),
+            Ordering::Greater => side = read_part(records, at, ENTRY_RIGHT),
         }
     }
+    None
 }
 
 /// The child of that name, if there is one. The places that were taken on the way are kept.

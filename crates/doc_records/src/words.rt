@@ -4,7 +4,7 @@ ghost use Rattle.doc_records.specs.Words.{bytes_of, head_of, word_of};
 
 use doc_tree::NoMemory;
 
-/// The seventh byte of a head is that of the head by this, which no byte is below.
+/// A head is a multiple of this where its name has no seventh byte: one more byte lies below it.
 pub(crate) const SEVENTH: u64 = 0x1_0000;
 
 /// The word of the first seven bytes; what is past the end counts as 0.
