@@ -13,6 +13,7 @@ use Rattle.heap_rule.specs.declared.known.Known.TheVariants as knows
 use Rattle.heap_rule.specs.Asks.{IsRaw, MayFill, MaySeal, known_of, raw_fields, target}
 use Rattle.heap_rule.specs.Lore.{at_cell, five_nulls, known_at, known_sealed, known_set}
 use Rattle.heap_rule.specs.Lore.{nothing_learned}
+use Rattle.heap_rule.proofs.Many.{at_cell_many}
 use Rattle.heap_rule.proofs.Reading.{cell_there}
 use Rattle.mail_rule.specs.Knowing.{item_fields}
 use Rattle.mail_rule.specs.Mail.{is_fixed}
@@ -23,7 +24,7 @@ use Rattle.mutator_seat.proofs.Writes.{many_same}
 use Rattle.trails.specs.Asks.{nothing}
 use Rattle.held_places.specs.Calls.{Goes, StillKnown}
 use Rattle.held_places.proofs.Going.{goes_none, goes_then, goes_told, many_cells, still_same}
-use Rattle.held_places.proofs.Knowns.{changed_else, changed_here, changed_many}
+use Rattle.held_places.proofs.Knowns.{changed_else, changed_here}
 use Rattle.cell_mailbox.specs.Makes.{Makes, MayMake}
 
 -- The cell as far as it is filled.
@@ -125,7 +126,7 @@ module _ (old a : Bound MailPass) (fresh : ℕ) (fields : List Field) (may : May
             (ap (λ (m : Bound MailPass). m.seat.me) told) refl nothing);
         held = ap (λ (m : Bound MailPass). held_cells m) told ∙ filled.held;
         many = ap (λ (m : Bound MailPass). length m.seat.me.known) told
-            ∙ changed_many change c cells known many_now ∙ filled.many
+            ∙ at_cell_many change c cells known many_now ∙ filled.many
             ∙ sym (ap (λ (m : Bound MailPass). length m.seat.me.own.held) told);
         raw = ap (λ (m : Bound MailPass). known_of m.seat.me fresh) told
             ∙ changed_here change c cells known fresh within many_now refl
@@ -150,7 +151,7 @@ module _ (old a : Bound MailPass) (fresh : ℕ) (fields : List Field) (may : May
             (ap (λ (m : Bound MailPass). m.seat.me) told) refl nothing);
         held = ap (λ (m : Bound MailPass). held_cells m) told ∙ filled.held;
         many = ap (λ (m : Bound MailPass). length m.seat.me.known) told
-            ∙ changed_many change c cells known many_now ∙ filled.many
+            ∙ at_cell_many change c cells known many_now ∙ filled.many
             ∙ sym (ap (λ (m : Bound MailPass). length m.seat.me.own.held) told);
         box = ap (λ (m : Bound MailPass). known_of m.seat.me fresh) told
             ∙ changed_here change c cells known fresh within many_now refl

@@ -1,11 +1,15 @@
 -- Reads that follow one another.
-use Rattle.std.proofs.Common.{◌≡◌, ℕ, List, [], ◌++◌, ◌∙◌}
+use Rattle.std.proofs.Common.{◌≡◌, ◌≢◌, ◌<◌, ℕ, true, List, [], ◌++◌, length, ◌∙◌, ap, subst}
+use Rattle.heap_rule.specs.declared.known.Known.{Known}
+use Rattle.heap_rule.specs.declared.known.Known.TheVariants as knows
+use Rattle.heap_rule.specs.declared.view.View.{View}
+use Rattle.heap_rule.specs.Asks.{known_of, target}
 use Rattle.mail_rule.specs.Knowing.{KnowsItem}
 use Rattle.mail_rule.specs.declared.items.Item.{Item}
 use Rattle.mail_rule.specs.declared.mail_pass.MailPass.{MailPass}
 use Rattle.mutator_seat.specs.Bound.{Bound}
 use Rattle.trails.specs.Asks.{Ask}
-use Rattle.held_places.specs.Calls.{IsIn}
+use Rattle.held_places.specs.Calls.{IsCoherent, IsIn, StillKnown, known_fresh, one_kind}
 use Rattle.cell_mailbox.specs.Finds.{FindsPart, FindsWhole, Reads}
 use Rattle.cell_mailbox.proofs.Finding.{item_still}
 use Rattle.held_places.proofs.Going.{goes_late, goes_none, goes_then, holds_then, in_still}
@@ -17,6 +21,7 @@ reads_then xs ys cs ds a b c first second = record {
   goes = goes_then first.goes second.goes;
   holds = holds_then is_fixed cs ds a b c first.holds second.holds;
   pass = second.pass ∙ first.pass;
+  coherent = first.coherent;
   many = second.many;
 }
 
@@ -27,6 +32,7 @@ reads_unasked xs cs a b reads = record {
   goes = goes_late reads.goes (goes_none b);
   holds = reads.holds;
   pass = reads.pass;
+  coherent = reads.coherent;
   many = reads.many;
 }
 
@@ -61,3 +67,29 @@ module _ (a b c d : Bound MailPass) (place p s v : ℕ) (first : FindsPart a b p
         sender = two t;
         value = three t;
       }
+
+-- a fresh cell is none that is known as an item, where what is known fits together
+pub fresh_apart : (v : View MailPass) → IsCoherent v → (place at : ℕ) (item : Item)
+    → place < length v.own.held → KnowsItem v at item
+    → known_fresh (known_of v place) ≡ true → target v place ≢ target v at
+fresh_apart v coherent place at item lt has fresh same =
+    boxed (known_of v place) fresh
+    (subst (λ (k : Known). one_kind (known_of v place) k ≡ true) has.known.is
+    (coherent.kinds place at lt has.there same))
+  where
+    boxed : (k : Known) → known_fresh k ≡ true → one_kind k (knows.Boxed has.known.told) ≡ true
+        → ⊥
+    boxed knows.Nothing fresh kind = absurd cc
+    boxed (knows.Raw fields) fresh kind = absurd cc
+    boxed (knows.Fresh fields) fresh kind = absurd cc
+    boxed (knows.Record t) fresh kind = absurd cc
+    boxed (knows.Boxed terms) fresh kind = absurd cc
+
+-- and stays so
+pub fresh_still : (k l : Known) → StillKnown is_fixed k l → known_fresh k ≡ true
+    → known_fresh l ≡ true
+fresh_still knows.Nothing l still fresh = absurd cc
+fresh_still (knows.Raw fields) l still fresh = ap known_fresh still
+fresh_still (knows.Fresh fields) l still fresh = ap known_fresh still
+fresh_still (knows.Record t) l still fresh = absurd cc
+fresh_still (knows.Boxed terms) l still fresh = absurd cc

@@ -105,6 +105,7 @@ module _ (a b : Bound MailPass) (heap : b.heap ≡ a.heap) (table : b.seat.table
         goes = read.goes;
         holds = read.holds;
         pass = ap (λ (v : View MailPass). v.pass) step.new;
+        coherent = read.coherent;
         many = read.many;
       }
 

@@ -1,7 +1,7 @@
 -- One try of a send: the claimed box behind the last item.
 use Rattle.std.proofs.Common.{◌≡◌, ◌≢◌, ◌<◌, ◌+◌, ℕ, Bool, true, false, List, [], ◌∷◌, ◌++◌}
 use Rattle.std.proofs.Common.{length, refl, sym, ◌∙◌, ap, subst, arith}
-use Rattle.std.proofs.lemmas.List.{append_assoc, append-nil, get_or_push, length_push}
+use Rattle.std.proofs.lemmas.List.{append_assoc, append-nil}
 use Rattle.cell_words.specs.declared.fields.Field.{Field}
 use Rattle.cell_words.specs.declared.fields.Field.TheVariants as field
 use Rattle.core_machine.specs.declared.events.Event.TheVariants as event
@@ -11,7 +11,7 @@ use Rattle.core_machine.specs.Words.{same_field}
 use Rattle.heap_rule.specs.declared.known.Known.{Known}
 use Rattle.heap_rule.specs.declared.known.Known.TheVariants as knows
 use Rattle.heap_rule.specs.Asks.{IsBox, is_sealed, known_of, target}
-use Rattle.heap_rule.specs.Lore.{five_nulls, known_at}
+use Rattle.heap_rule.specs.Lore.{known_at}
 use Rattle.mail_rule.specs.Knowing.{KnowsItem, MaySend, item_fields, next_sent}
 use Rattle.mail_rule.specs.Mail.{HoldsMail, is_fixed}
 use Rattle.mail_rule.specs.Passes.{sent_if}
@@ -28,17 +28,17 @@ use Rattle.mutator_seat.specs.Writes.{LookAndMarks, MayUpdate, PicksUpdate, Upda
 use Rattle.mutator_seat.specs.declared.full.HeapFull.{HeapFull}
 use Rattle.mutator_seat.proofs.Writes.{cell_same, many_same}
 use Rattle.trails.specs.Claims.{FindsFull}
-use Rattle.held_places.specs.Calls.{Goes, IsIn}
-use Rattle.held_places.proofs.Going.{calm_goes, calm_trail, goes_none, goes_then, many_held}
-use Rattle.held_places.proofs.Going.{target_still}
-use Rattle.held_places.proofs.ReadValues.{last_held}
-use Rattle.held_places.proofs.Writing.{wrote_goes, wrote_pass}
-use Rattle.cell_mailbox.specs.Ends.{FullTry, LostTry, SentTry}
+use Rattle.held_places.specs.Calls.{Goes, IsIn, known_fresh}
+use Rattle.held_places.proofs.Claiming.{claimed_apart, claimed_fits, claimed_goes, claimed_known}
+use Rattle.held_places.proofs.Claiming.{claimed_pass, claimed_raw, claimed_there}
+use Rattle.held_places.proofs.Claiming.{claimed_longer}
+use Rattle.held_places.proofs.Going.{calm_goes, calm_trail, goes_none, goes_then, kept_known}
+use Rattle.held_places.proofs.Going.{known_then, many_held, still_on, still_then, target_still}
+use Rattle.held_places.proofs.Writing.{wrote_goes, wrote_known, wrote_shown}
+use Rattle.cell_mailbox.specs.Ends.{AllKnown, FullTry, LostTry, SentTry}
 use Rattle.cell_mailbox.specs.Makes.{Makes, MayMake}
 use Rattle.cell_mailbox.specs.Walks.{EndsAt}
 use Rattle.cell_mailbox.proofs.Finding.{item_known, item_still}
-use Rattle.cell_mailbox.proofs.Places.{claimed_goes, claimed_known, claimed_pass}
-use Rattle.cell_mailbox.proofs.Places.{stood_nowhere}
 use Rattle.cell_mailbox.proofs.Trying.{item_kept, sealed_value}
 
 -- a claim that found the heap full
@@ -51,6 +51,8 @@ full_try a b c held position ends full calm = record {
     goes = goes_then ends.stands.goes (calm_goes _ b c calm);
     cells = ends.stands.cell ∷ [];
     held = calm.kept.held ∙ ends.stands.cells;
+    known = known_then is_fixed (length a.seat.me.own.held) a b c ends.stands.known
+        (kept_known is_fixed (length a.seat.me.own.held) b c calm.kept);
   };
   pass = calm.kept.pass ∙ ends.stands.pass;
   from = b;
@@ -65,38 +67,29 @@ full_try a b c held position ends full calm = record {
 module _ (a b c : Bound MailPass) (held position fresh : ℕ) (inside : IsIn a)
     (is : held ≡ length a.seat.me.own.held) (ends : EndsAt a b held position)
     (got : Claimed b fresh c) where
-  behind_one : length b.seat.me.own.held ≡ length a.seat.me.own.held + 1
-  behind_one = many_held a b (ends.stands.cell ∷ []) ends.stands.cells
-
-  behind_two : length c.seat.me.own.held ≡ length b.seat.me.own.held + 1
-  behind_two = many_held b c (got.cell ∷ []) got.held
-
   last_there : held < length b.seat.me.own.held
-  last_there = let one = behind_one in omega (arith, is, one)
+  last_there =
+      let one = many_held a b (ends.stands.cell ∷ []) ends.stands.cells in omega (arith, is, one)
 
   pub may_make : MayMake c fresh
   may_make = record {
     inside = (claimed_goes b c fresh got).inside ∙ ends.stands.goes.inside ∙ inside.inside;
-    there = let two = behind_two in let placed = got.place_is in omega (arith, two, placed);
-    many =
-        let known = ap (λ (ks : List Known). length ks) got.known
-        ∙ length_push b.seat.me.known (knows.Raw five_nulls) in
-        let many = ends.stands.many in
-        let two = behind_two in
-        omega (arith, known, many, two);
-    raw = ap (λ (ks : List Known). known_at ks fresh) got.known
-        ∙ get_or_push b.seat.me.known (knows.Raw five_nulls) knows.Nothing fresh
-        (ends.stands.many ∙ sym got.place_is);
+    there = claimed_there b c fresh got;
+    many = claimed_fits b c fresh got;
+    raw = claimed_raw b c fresh got;
   }
 
   last_claimed : KnowsItem c.seat.me held ends.stands.item
-  last_claimed = item_still b c (got.cell ∷ []) got.held (claimed_known b c fresh got) held
+  last_claimed = item_still b c (got.cell ∷ []) got.held (claimed_known b c fresh got is_fixed) held
       ends.stands.item ends.stands.knows
 
   apart : target c.seat.me held ≢ target c.seat.me fresh
-  apart same = stood_nowhere b c fresh got held last_there
-      (sym (target_still b c (got.cell ∷ []) got.held held last_there) ∙ same
-      ∙ ap (λ (n : ℕ). target c.seat.me n) got.place_is ∙ last_held b c got.cell got.held)
+  apart = claimed_apart b c fresh got held last_there
+
+  -- a place of before is one of those before the claim
+  before : (place : ℕ) → place < length a.seat.me.own.held → place < length b.seat.me.own.held
+  before place lt =
+      let many = many_held a b (ends.stands.cell ∷ []) ends.stands.cells in omega (arith, many, lt)
 
   module _ (d : Bound MailPass) (item : Item) (made : Makes c d fresh item)
       (position_is : item.position ≡ position + 1)
@@ -123,6 +116,41 @@ module _ (a b c : Bound MailPass) (held position fresh : ℕ) (inside : IsIn a)
 
     pass_d : d.seat.me.pass ≡ a.seat.me.pass
     pass_d = made.pass ∙ claimed_pass b c fresh got ∙ ends.stands.pass
+
+    abbrev cells : List ℕ
+    cells = (ends.stands.cell ∷ []) ++ got.cell ∷ []
+
+    held_d : held_cells d ≡ held_cells a ++ cells
+    held_d = made.held ∙ got.held
+        ∙ ap (λ (cs : List ℕ). cs ++ got.cell ∷ []) ends.stands.cells
+        ∙ append_assoc (held_cells a) (ends.stands.cell ∷ []) (got.cell ∷ [])
+
+    known_d : AllKnown a d
+    known_d place lt =
+        let lt_b = before place lt in
+        still_then is_fixed (known_of a.seat.me place) (known_of b.seat.me place)
+        (known_of d.seat.me place) (ends.stands.known place lt)
+        (still_then is_fixed (known_of b.seat.me place) (known_of c.seat.me place)
+        (known_of d.seat.me place) (claimed_known b c fresh got is_fixed place lt_b)
+        (made.known place (let more = claimed_longer b c fresh got in omega (arith, more, lt_b))
+        (claimed_apart b c fresh got place lt_b)))
+
+    -- A cell that was fresh before is neither the last item nor the new box.
+
+    not_last : (place : ℕ) → place < length a.seat.me.own.held
+        → known_fresh (known_of a.seat.me place) ≡ true
+        → target d.seat.me place ≢ target d.seat.me held
+    not_last place lt is_fresh same =
+        ends.apart place lt is_fresh
+        (sym (target_still a d cells held_d place lt) ∙ same
+        ∙ target_still b d (got.cell ∷ []) (made.held ∙ got.held) held last_there)
+
+    not_box : (place : ℕ) → place < length a.seat.me.own.held
+        → target d.seat.me place ≢ target d.seat.me fresh
+    not_box place lt same =
+        let still = cell_same d.seat.me.own.held c.seat.me.own.held made.held in
+        claimed_apart b c fresh got place (before place lt)
+        (sym (still place) ∙ same ∙ still fresh)
 
     pub may_link : MayUpdate is_fixed d.seat.me held 3 values.Null (values.Held fresh)
     may_link = record {
@@ -167,25 +195,31 @@ module _ (a b c : Bound MailPass) (held position fresh : ℕ) (inside : IsIn a)
           (wrote_goes is_fixed HoldsMail (next_sent sent) d e held 3 values.Null
           (values.Held fresh) found wrote)
 
-      abbrev cells : List ℕ
-      cells = (ends.stands.cell ∷ []) ++ got.cell ∷ []
-
-      held_is : held_cells e ≡ held_cells a ++ cells
-      held_is = wrote.held ∙ made.held ∙ got.held
-          ∙ ap (λ (cs : List ℕ). cs ++ got.cell ∷ []) ends.stands.cells
-          ∙ append_assoc (held_cells a) (ends.stands.cell ∷ []) (got.cell ∷ [])
+      known_is : AllKnown a e
+      known_is place lt =
+          still_on is_fixed (known_of a.seat.me place) (known_of d.seat.me place)
+          (known_of e.seat.me place) (known_d place lt)
+          (λ alike. wrote_known is_fixed HoldsMail (next_sent sent) d e held 3 values.Null
+          (values.Held fresh) found wrote made.many place
+          (let many = many_held a d cells held_d in omega (arith, many, lt))
+          (λ is_fresh. not_last place lt (sym alike ∙ is_fresh))
+          (λ is_fresh other names same. not_box place lt
+          (let box : target d.seat.me fresh ≡ other = cc in same ∙ sym box)))
 
       pass_is : (made_it : Bool) → same_field found field.Null ≡ made_it
           → e.seat.me.pass ≡ sent_if made_it sent a.seat.me.pass
       pass_is made_it how =
-          wrote_pass is_fixed HoldsMail (next_sent sent) d e held 3 values.Null
-          (values.Held fresh) found wrote
-          ∙ ap (λ (x : Bool). sent_if x sent d.seat.me.pass) how
+          wrote.pass ∙ ap (λ (x : Bool). sent_if x sent d.seat.me.pass) how
           ∙ ap (sent_if made_it sent) pass_d
 
       pub lost_post : same_field found field.Null ≡ false → LostTry a e
       lost_post other = record {
-        leaves = record { goes = goes; cells = cells; held = held_is };
+        leaves = record {
+          goes = goes;
+          cells = cells;
+          held = wrote.held ∙ held_d;
+          known = known_is;
+        };
         pass = pass_is false other;
       }
 
@@ -197,10 +231,14 @@ module _ (a b c : Bound MailPass) (held position fresh : ℕ) (inside : IsIn a)
         let at = wrote.at in
         let calm = wrote.calm in
         record {
+          last = target d.seat.me held;
           leaves = record {
-            goes = goes e field.Null wrote;
-            cells = cells e field.Null wrote;
-            held = held_is e field.Null wrote;
+            goes = goes_then goes_d
+                (wrote_shown is_fixed HoldsMail (next_sent sent) d e held 3 values.Null
+                (values.Held fresh) field.Null wrote);
+            cells = cells;
+            held = wrote.held ∙ held_d;
+            known = known_is e field.Null wrote;
           };
           sent_once = record {
             place = held;

@@ -1,5 +1,5 @@
 -- One try of a take: its reads, and the exchange of the anchor's field.
-use Rattle.std.proofs.Common.{◌≡◌, ◌<◌, ◌+◌, ◌==◌, ℕ, Bool, true, false, List, [], ◌∷◌, ◌++◌}
+use Rattle.std.proofs.Common.{◌≡◌, ◌≢◌, ◌<◌, ◌+◌, ◌==◌, ℕ, Bool, true, false, List, [], ◌∷◌, ◌++◌}
 use Rattle.std.proofs.Common.{length, refl, sym, ◌∙◌, ap, subst, arith}
 use Rattle.std.proofs.lemmas.List.{append-nil, append_assoc}
 use Rattle.cell_words.specs.declared.fields.Field.{Field}
@@ -29,15 +29,17 @@ use Rattle.mutator_seat.specs.Stretches.{Kept}
 use Rattle.mutator_seat.specs.Writes.{LookAndMarks, MayUpdate, PicksUpdate, Updated, write_of}
 use Rattle.mutator_seat.proofs.Writes.{cell_same}
 use Rattle.trails.specs.Asks.{gave_at, wrote_at}
-use Rattle.held_places.specs.Calls.{Goes, IsIn}
-use Rattle.cell_mailbox.specs.Ends.{EmptyTry, LostTry, TookTry}
-use Rattle.cell_mailbox.specs.Finds.{FindsItem, FindsLast, FindsNext, FindsWhole}
-use Rattle.cell_mailbox.proofs.Calling.{reads_in, reads_still, reads_then, reads_unasked}
+use Rattle.held_places.specs.Calls.{Goes, IsIn, known_fresh}
+use Rattle.cell_mailbox.specs.Ends.{AllKnown, EmptyTry, LostTry, TookTry}
+use Rattle.cell_mailbox.specs.Finds.{FindsItem, FindsLast, FindsNext, FindsWhole, Reads}
+use Rattle.cell_mailbox.proofs.Calling.{fresh_apart, fresh_still, reads_in, reads_still}
+use Rattle.cell_mailbox.proofs.Calling.{reads_then, reads_unasked}
 use Rattle.cell_mailbox.proofs.Finding.{item_still}
-use Rattle.held_places.proofs.Going.{calm_trail, goes_then, kept_known, many_cells}
+use Rattle.held_places.proofs.Going.{calm_trail, goes_then, kept_known, many_cells, many_held}
+use Rattle.held_places.proofs.Going.{still_on, target_still}
 use Rattle.held_places.proofs.Knowns.{sealed_at}
 use Rattle.held_places.proofs.ReadValues.{last_held}
-use Rattle.held_places.proofs.Writing.{wrote_goes, wrote_pass, wrote_shown}
+use Rattle.held_places.proofs.Writing.{wrote_goes, wrote_known, wrote_shown}
 
 -- a stretch that kept all keeps what is known of items
 pub item_kept : (a b : Bound MailPass) → Kept a b → (place : ℕ) (item : Item)
@@ -84,6 +86,7 @@ empty_try a b c latest is first none =
             gave_at (target b.seat.me latest) 3 field.Null ∷ []) a c) is.anchor both.goes);
         cells = first.cell ∷ [];
         held = both.holds.held;
+        known = both.holds.known;
       };
       pass = both.pass;
     }
@@ -117,11 +120,42 @@ module _ (a b c d : Bound MailPass) (latest next : ℕ) (item : Item) (is : IsIn
   abbrev cells : List ℕ
   cells = first.cell ∷ second.finds.cell ∷ []
 
-  all_reads : Rattle.cell_mailbox.specs.Finds.Reads [] cells a d
+  all_reads : Reads [] cells a d
   all_reads = reads_unasked _ cells a d
       (reads_then _ [] cells [] a c d
       (reads_then _ _ (first.cell ∷ []) (second.finds.cell ∷ []) a b c first.reads
       second.finds.reads) third.reads)
+
+  -- A cell that was fresh before is neither the anchor nor the next item.
+
+  to_c : Reads [] cells a c
+  to_c = reads_unasked _ cells a c
+      (reads_then _ _ (first.cell ∷ []) (second.finds.cell ∷ []) a b c first.reads
+      second.finds.reads)
+
+  same_target : (place : ℕ) → place < length a.seat.me.own.held
+      → target d.seat.me place ≡ target a.seat.me place
+  same_target place lt = target_still a d cells all_reads.holds.held place lt
+
+  not_anchor : (place : ℕ) → place < length a.seat.me.own.held
+      → known_fresh (known_of a.seat.me place) ≡ true
+      → target d.seat.me place ≢ target d.seat.me 0
+  not_anchor place lt fresh same =
+      let none : false ≡ true =
+      sym (first.reads.coherent.anchor place lt (sym (same_target place lt) ∙ same ∙ in_d.anchor))
+      ∙ fresh in absurd cc
+
+  not_next : (place : ℕ) → place < length a.seat.me.own.held
+      → known_fresh (known_of a.seat.me place) ≡ true
+      → target d.seat.me place ≢ target d.seat.me next
+  not_next place lt fresh same =
+      fresh_apart c.seat.me third.reads.coherent place next second.finds.item
+      (let many = many_held a c cells to_c.holds.held in omega (arith, many, lt))
+      second.finds.knows
+      (fresh_still (known_of a.seat.me place) (known_of c.seat.me place)
+      (to_c.holds.known place lt) fresh)
+      (target_still a c cells to_c.holds.held place lt ∙ sym (same_target place lt) ∙ same
+      ∙ target_still c d [] third.reads.holds.held next second.finds.knows.there)
 
   pub may_go_on : MayUpdate is_fixed d.seat.me 0 0 (values.Held latest) (values.Held next)
   may_go_on = record {
@@ -164,17 +198,26 @@ module _ (a b c d : Bound MailPass) (latest next : ℕ) (item : Item) (is : IsIn
     held : held_cells e ≡ held_cells a ++ cells
     held = wrote.held ∙ all_reads.holds.held
 
+    known : AllKnown a e
+    known place lt =
+        still_on is_fixed (known_of a.seat.me place) (known_of d.seat.me place)
+        (known_of e.seat.me place) (all_reads.holds.known place lt)
+        (λ alike. wrote_known is_fixed HoldsMail (next_taken old item) d e 0 0
+        (values.Held latest) (values.Held next) found wrote all_reads.many place
+        (let many = many_held a d cells all_reads.holds.held in omega (arith, many, lt))
+        (λ fresh. not_anchor place lt (sym alike ∙ fresh))
+        (λ fresh other names same. not_next place lt (sym alike ∙ fresh)
+        (let is : target d.seat.me next ≡ other = cc in same ∙ sym is)))
+
     pass_is : (made : Bool) → same_field found old ≡ made
         → e.seat.me.pass ≡ taken_if made item a.seat.me.pass
     pass_is made is_made =
-        wrote_pass is_fixed HoldsMail (next_taken old item) d e 0 0 (values.Held latest)
-        (values.Held next) found wrote
-        ∙ ap (λ (b : Bool). taken_if b item d.seat.me.pass) is_made
+        wrote.pass ∙ ap (λ (b : Bool). taken_if b item d.seat.me.pass) is_made
         ∙ ap (taken_if made item) all_reads.pass
 
     pub lost_try : same_field found old ≡ false → LostTry a e
     lost_try other = record {
-      leaves = record { goes = goes; cells = cells; held = held };
+      leaves = record { goes = goes; cells = cells; held = held; known = known };
       pass = pass_is false other;
     }
 
@@ -196,6 +239,7 @@ module _ (a b c d : Bound MailPass) (latest next : ℕ) (item : Item) (is : IsIn
               (values.Held latest) (values.Held next) old wrote));
           cells = cells;
           held = held e old wrote;
+          known = known e old wrote;
         };
         took = record {
           from = from;

@@ -1,6 +1,6 @@
 -- A try between an answer and the cut of its places: what the call comes to.
 use Rattle.std.proofs.Common.{◌≡◌, ◌≤◌, ◌+◌, ℕ, List, [], ◌++◌, length, refl, sym}
-use Rattle.std.proofs.Common.{◌∙◌, ap, arith}
+use Rattle.std.proofs.Common.{◌∙◌, ap, arith, subst}
 use Rattle.std.proofs.lemmas.List.{append-nil, append_assoc}
 use Rattle.core_machine.specs.declared.events.Event.{Event}
 use Rattle.core_machine.specs.declared.events.Event.TheVariants as event
@@ -16,22 +16,26 @@ use Rattle.mail_rule.specs.declared.mail_pass.MailPass.{MailPass}
 use Rattle.mutator_seat.specs.Bound.{Bound, held_cells, takes}
 use Rattle.mutator_seat.specs.Stretches.{Calm}
 use Rattle.trails.specs.Asks.{Ask}
-use Rattle.held_places.specs.Calls.{IsIn}
-use Rattle.cell_mailbox.specs.Ends.{AtOneWrite, EmptyTry, FindsEmpty, Leaves, LostTry, Rests}
+use Rattle.held_places.specs.Calls.{IsIn, StaysKnown}
+use Rattle.heap_rule.specs.Asks.{known_of}
+use Rattle.mail_rule.specs.Mail.{is_fixed}
+use Rattle.cell_mailbox.specs.Ends.{AllKnown, AtOneWrite, EmptyTry, FindsEmpty, Leaves, LostTry}
 use Rattle.cell_mailbox.specs.Ends.{FindsFullHeap, FullTry, PostEnds, Returns, Sends, SentTry}
-use Rattle.cell_mailbox.specs.Ends.{Takes, TookTry, TurnEnds, take_asks}
+use Rattle.cell_mailbox.specs.Ends.{Rests, Takes, TookTry, TurnEnds, send_asks, take_asks}
 use Rattle.cell_mailbox.specs.declared.turns.Post.{Post}
 use Rattle.cell_mailbox.specs.declared.turns.Post.TheVariants as posts
 use Rattle.cell_mailbox.specs.declared.turns.Turn.{Turn}
 use Rattle.cell_mailbox.specs.declared.turns.Turn.TheVariants as turns
 use Rattle.mutator_seat.specs.declared.full.HeapFull.{HeapFull}
-use Rattle.held_places.proofs.Going.{calm_goes, cut_goes, cut_held, cut_pass, goes_late, goes_none}
-use Rattle.held_places.proofs.Going.{goes_on, goes_then, in_still, many_held}
+use Rattle.held_places.proofs.Going.{calm_goes, cut_goes, cut_held, cut_known, cut_pass}
+use Rattle.held_places.proofs.Going.{goes_late, goes_none, goes_on, goes_then, in_still}
+use Rattle.held_places.proofs.Going.{kept_known, known_then, many_held, still_same}
 
 pub rests_first : (a : Bound MailPass) → Rests a a
 rests_first a = record {
   returns = record { goes = goes_none a; held = refl };
   pass = refl;
+  known = λ place lt. still_same is_fixed (known_of a.seat.me place);
 }
 
 -- an answer is no more than that
@@ -43,6 +47,8 @@ rests_calm F a b c rests calm = record {
     held = calm.kept.held ∙ rests.returns.held;
   };
   pass = calm.kept.pass ∙ rests.pass;
+  known = known_then is_fixed (length a.seat.me.own.held) a b c rests.known
+      (kept_known is_fixed (length a.seat.me.own.held) b c calm.kept);
 }
 
 module _ (a c : Bound MailPass) (came : Rests a c) where
@@ -77,7 +83,7 @@ module _ (a c : Bound MailPass) (came : Rests a c) where
 
   pub cut_post : (d : Bound MailPass) (n value : ℕ) → n ≡ length a.seat.me.own.held
       → (post : Post) → PostEnds c d value post → n ≤ length d.seat.me.own.held
-  cut_post d n value is (posts.Sent position) ends = cut_kept [] d n is ends.leaves
+  cut_post d n value is (posts.Sent position) ends = cut_kept _ d n is ends.leaves
   cut_post d n value is (posts.Full full) ends = cut_kept [] d n is ends.leaves
   cut_post d n value is posts.Lost ends = cut_kept [] d n is ends.leaves
 
@@ -89,6 +95,13 @@ module _ (a c : Bound MailPass) (came : Rests a c) where
       held = cut_held d e n p told c leaves.cells (is ∙ sym same_many) leaves.held
           ∙ append-nil (held_cells c) ∙ came.returns.held;
     }
+
+    known_all : (asks : List Ask) → Leaves asks c d → AllKnown a e
+    known_all asks leaves =
+        known_then is_fixed (length a.seat.me.own.held) a c e came.known
+        (known_then is_fixed (length a.seat.me.own.held) c d e
+        (subst (λ (k : ℕ). StaysKnown is_fixed k c d) same_many leaves.known)
+        (subst (λ (k : ℕ). StaysKnown is_fixed k d e) is (cut_known is_fixed d e n p told)))
 
     at_one_all : (writes : View MailPass → Event) (next : Learned → Found → MailPass → MailPass)
         (found : Field) → AtOneWrite c d writes next found → AtOneWrite a e writes next found
@@ -118,11 +131,22 @@ module _ (a c : Bound MailPass) (came : Rests a c) where
         write = at_one_all _ _ _ try.took.write;
         pass = cut_pass d e n p told ∙ try.took.pass ∙ ap (having_taken item) came.pass;
       };
+      known = known_all (take_asks try.took.from try.took.box) try.leaves;
     }
+
+    shown_all : (sent : Sent) (try : SentTry c d sent)
+        → Returns (send_asks try.last try.sent_once.box) a e
+    shown_all sent try = returns_all (send_asks try.last try.sent_once.box) try.leaves
 
     pub sends_all : (sent : Sent) → SentTry c d sent → Sends a e sent
     sends_all sent try = record {
-      returns = returns_all [] try.leaves;
+      returns = record {
+        goes = goes_late (shown_all sent try).goes (goes_none e);
+        held = (shown_all sent try).held;
+      };
+      last = try.last;
+      shown = (shown_all sent try).goes;
+      known = known_all (send_asks try.last try.sent_once.box) try.leaves;
       sent_once = record {
         place = try.sent_once.place;
         box = try.sent_once.box;
@@ -136,18 +160,21 @@ module _ (a c : Bound MailPass) (came : Rests a c) where
       cell = try.cell;
       returns = returns_all _ try.leaves;
       pass = cut_pass d e n p told ∙ try.pass ∙ came.pass;
+      known = known_all _ try.leaves;
     }
 
     pub rests_all : LostTry c d → Rests a e
     rests_all try = record {
       returns = returns_all [] try.leaves;
       pass = cut_pass d e n p told ∙ try.pass ∙ came.pass;
+      known = known_all [] try.leaves;
     }
 
     pub full_all : (full : HeapFull) → FullTry c d full → FindsFullHeap a e full
     full_all full try = record {
       returns = returns_all [] try.leaves;
       pass = cut_pass d e n p told ∙ try.pass ∙ came.pass;
+      known = known_all [] try.leaves;
       from = try.from;
       to = try.to;
       before = goes_then came.returns.goes try.before;

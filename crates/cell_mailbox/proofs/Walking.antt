@@ -12,13 +12,18 @@ use Rattle.mail_rule.specs.declared.items.Item.{Item}
 use Rattle.mail_rule.specs.declared.mail_pass.MailPass.{MailPass}
 use Rattle.mutator_seat.specs.Bound.{Bound, held_cells, takes}
 use Rattle.mutator_seat.specs.Stretches.{Calm}
-use Rattle.held_places.specs.Calls.{IsIn}
-use Rattle.cell_mailbox.specs.Finds.{FindsItem, FindsLast, FindsNext, FindsPart}
+use Rattle.held_places.specs.Calls.{IsIn, StaysKnown}
+use Rattle.trails.specs.Asks.{Ask}
+use Rattle.mail_rule.specs.Mail.{is_fixed}
+use Rattle.cell_mailbox.specs.Ends.{AllKnown}
+use Rattle.cell_mailbox.specs.Finds.{FindsItem, FindsLast, FindsNext, FindsPart, Reads}
 use Rattle.cell_mailbox.specs.Walks.{EndsAt, Stands}
-use Rattle.cell_mailbox.proofs.Calling.{reads_in, reads_still, reads_unasked}
+use Rattle.cell_mailbox.proofs.Calling.{fresh_apart, fresh_still, reads_in, reads_still}
+use Rattle.cell_mailbox.proofs.Calling.{reads_unasked}
 use Rattle.held_places.proofs.Going.{calm_goes, goes_then, in_still, many_cells}
-use Rattle.held_places.proofs.Going.{many_held}
-use Rattle.cell_mailbox.proofs.Places.{keep_cells, keep_goes, keep_known, keep_last}
+use Rattle.held_places.proofs.Going.{kept_known, known_below, known_then, many_held}
+use Rattle.held_places.proofs.Going.{target_still}
+use Rattle.held_places.proofs.Narrowing.{keep_cells, keep_goes, keep_last, keep_many, keep_stays}
 use Rattle.cell_mailbox.proofs.Trying.{item_kept}
 
 pub stands_first : (a b : Bound MailPass) (latest held : ℕ) → held ≡ length a.seat.me.own.held
@@ -30,6 +35,7 @@ stands_first a b latest held is first = record {
   item = first.item;
   knows = subst (λ (p : ℕ). KnowsItem b.seat.me p first.item) (first.found_is ∙ sym is)
       first.knows;
+  known = first.reads.holds.known;
   small = first.small;
   pass = first.reads.pass;
   many = first.reads.many;
@@ -46,6 +52,8 @@ module _ (a b : Bound MailPass) (held : ℕ) (is : held ≡ length a.seat.me.own
     cells = calm.kept.held ∙ stands.cells;
     item = stands.item;
     knows = item_kept b c calm.kept held stands.item stands.knows;
+    known = known_then is_fixed (length a.seat.me.own.held) a b c stands.known
+        (kept_known is_fixed (length a.seat.me.own.held) b c calm.kept);
     small = stands.small;
     pass = calm.kept.pass ∙ stands.pass;
     many = ap (λ (ks : List Known). length ks) calm.kept.known ∙ stands.many
@@ -64,6 +72,14 @@ module _ (a b : Bound MailPass) (held : ℕ) (is : held ≡ length a.seat.me.own
       → length b.seat.me.own.held < b.seat.me.room
   stands_room room =
       let many = stands_many in let same = stands.goes.room in omega (arith, room, many, same)
+
+  -- what was known before is known behind a read
+  known_behind : (c : Bound MailPass) (asks : List Ask) (cells : List ℕ) → Reads asks cells b c
+      → AllKnown a c
+  known_behind c asks cells reads =
+      known_then is_fixed (length a.seat.me.own.held) a b c stands.known
+      (known_below is_fixed (length b.seat.me.own.held) (length a.seat.me.own.held) b c
+      (let many = stands_many in omega (arith, many)) reads.holds.known)
 
   -- The item behind it.
 
@@ -106,7 +122,6 @@ module _ (a b : Bound MailPass) (held : ℕ) (is : held ≡ length a.seat.me.own
         let there : next < length c.seat.me.own.held = omega (arith, at, long) in
         let front : held ≤ length c.seat.me.own.held = omega (arith, is, long) in
         let cells = keep_cells c d held next p told there front finds.finds.reads.many in
-        let known = keep_known c d held next p told there front finds.finds.reads.many in
         let last = get_or (held_cells c) next 0 in
         let now : held_cells d ≡ held_cells a ++ last ∷ [] =
         cells ∙ ap (λ (cs : List ℕ). cs ++ last ∷ [])
@@ -127,33 +142,15 @@ module _ (a b : Bound MailPass) (held : ℕ) (is : held ≡ length a.seat.me.own
                 (sym (keep_last c d held next p told there front finds.finds.reads.many))
                 finds.finds.knows.known;
           };
+          known = known_then is_fixed (length a.seat.me.own.held) a c d
+              (known_behind c _ _ finds.finds.reads)
+              (subst (λ (k : ℕ). StaysKnown is_fixed k c d) is
+              (keep_stays c d held next p told there front finds.finds.reads.many is_fixed));
           small = finds.finds.small;
           pass = ap (λ (m : Bound MailPass). m.seat.me.pass) told ∙ finds.finds.reads.pass
               ∙ stands.pass;
-          many = keep_many c d held next p told there front finds.finds.reads.many now;
+          many = keep_many c d held next p told there front finds.finds.reads.many;
         }
-      where
-        keep_many : (c d : Bound MailPass) (held next : ℕ) (p : Found)
-            → d ≡ takes c (event.Keep c.seat.me.number held next 1) p
-            → next < length c.seat.me.own.held → held ≤ length c.seat.me.own.held
-            → length c.seat.me.known ≡ length c.seat.me.own.held
-            → held_cells d ≡ held_cells a ++ get_or (held_cells c) next 0 ∷ []
-            → length d.seat.me.known ≡ length d.seat.me.own.held
-        keep_many c d held next p told there front many now =
-            let known = ap (λ (ks : List Known). length ks)
-            (keep_known c d held next p told there front many) in
-            let lengths = Rattle.std.proofs.lemmas.List.length-take-le held c.seat.me.known
-            (omega (arith, front, many)) in
-            let pushed = Rattle.std.proofs.lemmas.List.length_push (take held c.seat.me.known)
-            (known_of c.seat.me next) in
-            let cells = ap (λ (cs : List ℕ). length cs)
-            (keep_cells c d held next p told there front many) in
-            let firsts = Rattle.std.proofs.lemmas.List.length-take-le held (held_cells c)
-            (let m = many_cells c in omega (arith, front, m)) in
-            let pushed_cell = Rattle.std.proofs.lemmas.List.length_push (take held (held_cells c))
-            (get_or (held_cells c) next 0) in
-            let here = many_cells d in
-            omega (arith, known, lengths, pushed, cells, firsts, pushed_cell, here)
 
   -- No item is behind it.
 
@@ -161,6 +158,12 @@ module _ (a b : Bound MailPass) (held : ℕ) (is : held ≡ length a.seat.me.own
       (part : FindsPart c d held 0 position) where
     last_knows : KnowsItem c.seat.me held stands.item
     last_knows = reads_still _ [] b c last.reads held stands.item stands.knows
+
+    known_c : AllKnown a c
+    known_c = known_behind c _ [] last.reads
+
+    held_c : held_cells c ≡ held_cells a ++ stands.cell ∷ []
+    held_c = last.reads.holds.held ∙ append-nil (held_cells b) ∙ stands.cells
 
     pub ends_at : EndsAt a d held position
     ends_at = record {
@@ -172,11 +175,23 @@ module _ (a b : Bound MailPass) (held : ℕ) (is : held ≡ length a.seat.me.own
             ∙ append-nil (held_cells b) ∙ stands.cells;
         item = stands.item;
         knows = reads_still _ [] c d part.reads held stands.item last_knows;
+        known = known_then is_fixed (length a.seat.me.own.held) a c d known_c
+            (known_below is_fixed (length c.seat.me.own.held) (length a.seat.me.own.held) c d
+            (let many = many_held a c (stands.cell ∷ []) held_c in omega (arith, many))
+            part.reads.holds.known);
         small = stands.small;
         pass = part.reads.pass ∙ last.reads.pass ∙ stands.pass;
         many = part.reads.many;
       };
       position_is = part.is stands.item last_knows;
+      apart = λ place lt fresh same.
+          fresh_apart c.seat.me part.reads.coherent place held stands.item
+          (let many = many_held a c (stands.cell ∷ []) held_c in omega (arith, many, lt))
+          last_knows
+          (fresh_still (known_of a.seat.me place) (known_of c.seat.me place) (known_c place lt)
+          fresh)
+          (target_still a c (stands.cell ∷ []) held_c place lt ∙ same
+          ∙ target_still c d [] part.reads.holds.held held last_knows.there);
     }
 
   pub last_item : (c : Bound MailPass) (last : FindsLast b c held)

@@ -1,6 +1,6 @@
 -- How a take and a send end: the one write that did it, or why there was none.
 -- Source: this project's.
-use Rattle.std.specs.Prelude.{ℕ, ◌≡◌, ◌++◌, List, [], ◌∷◌}
+use Rattle.std.specs.Prelude.{ℕ, ◌≡◌, ◌++◌, List, [], ◌∷◌, length}
 use Rattle.cell_words.specs.declared.fields.Field.TheVariants as field
 use Rattle.core_machine.specs.declared.events.Event.{Event}
 use Rattle.core_machine.specs.declared.events.Event.TheVariants as event
@@ -22,17 +22,22 @@ use Rattle.mutator_seat.specs.Stretches.{Calm}
 use Rattle.mutator_seat.specs.declared.full.HeapFull.{HeapFull}
 use Rattle.trails.specs.Asks.{Ask, gave_at, wrote_at}
 use Rattle.trails.specs.Claims.{FindsFull}
-use Rattle.held_places.specs.Calls.{Goes}
+use Rattle.held_places.specs.Calls.{Goes, StaysKnown}
 use Rattle.cell_mailbox.specs.declared.turns.Post.{Post}
 use Rattle.cell_mailbox.specs.declared.turns.Post.TheVariants as posts
 use Rattle.cell_mailbox.specs.declared.turns.Turn.{Turn}
 use Rattle.cell_mailbox.specs.declared.turns.Turn.TheVariants as turns
+
+-- what was known of the places that were held is known of them still
+abbrev pub AllKnown : Bound MailPass → Bound MailPass → Type 0
+AllKnown old new = StaysKnown is_fixed (length old.seat.me.own.held) old new
 
 -- The trail grew by events that show these, and of the places before it only more may follow.
 pub record Leaves (asks : List Ask) (old new : Bound MailPass) : Type 0 where
   pub goes : Goes asks old new
   pub cells : List ℕ
   pub held : held_cells new ≡ held_cells old ++ cells
+  pub known : AllKnown old new
 
 -- the held list is as it was
 pub record Returns (asks : List Ask) (old new : Bound MailPass) : Type 0 where
@@ -80,6 +85,7 @@ take_asks from box = wrote_at 0 0 (field.Cell from) (field.Cell box) (field.Cell
 pub record Takes (old new : Bound MailPass) (item : Item) : Type 0 where
   pub took : TookOnce old new item
   pub returns : Returns (take_asks took.from took.box) old new
+  pub known : AllKnown old new
 
 -- the box that a read found at the anchor had null in its next field at a later read
 pub record FindsEmpty (old new : Bound MailPass) : Type 0 where
@@ -87,15 +93,24 @@ pub record FindsEmpty (old new : Bound MailPass) : Type 0 where
   pub returns : Returns
       (gave_at 0 0 (field.Cell cell) ∷ gave_at cell 3 field.Null ∷ []) old new
   pub pass : new.seat.me.pass ≡ old.seat.me.pass
+  pub known : AllKnown old new
+
+-- the trail shows the write of a send: of the next field of the box that was last, and made
+abbrev pub send_asks : ℕ → ℕ → List Ask
+send_asks last box = wrote_at last 3 field.Null (field.Cell box) field.Null ∷ []
 
 pub record Sends (old new : Bound MailPass) (sent : Sent) : Type 0 where
   pub returns : Returns [] old new
   pub sent_once : SentOnce old new sent
+  pub last : ℕ
+  pub shown : Goes (send_asks last sent_once.box) old new
+  pub known : AllKnown old new
 
 -- Among the events of this call is a stretch that found the heap full, as a claim tells it.
 pub record FindsFullHeap (old new : Bound MailPass) (full : HeapFull) : Type 0 where
   pub returns : Returns [] old new
   pub pass : new.seat.me.pass ≡ old.seat.me.pass
+  pub known : AllKnown old new
   pub from : Bound MailPass
   pub to : Bound MailPass
   pub before : Goes [] old from
@@ -109,6 +124,7 @@ pub record FindsFullHeap (old new : Bound MailPass) (full : HeapFull) : Type 0 w
 pub record Rests (old new : Bound MailPass) : Type 0 where
   pub returns : Returns [] old new
   pub pass : new.seat.me.pass ≡ old.seat.me.pass
+  pub known : AllKnown old new
 
 -- What a try ends with, before places are given back.
 
@@ -131,8 +147,9 @@ TurnEnds old new turns.Empty = EmptyTry old new
 TurnEnds old new turns.Lost = LostTry old new
 
 pub record SentTry (old new : Bound MailPass) (sent : Sent) : Type 0 where
-  pub leaves : Leaves [] old new
   pub sent_once : SentOnce old new sent
+  pub last : ℕ
+  pub leaves : Leaves (send_asks last sent_once.box) old new
 
 pub record FullTry (old new : Bound MailPass) (full : HeapFull) : Type 0 where
   pub leaves : Leaves [] old new

@@ -8,7 +8,7 @@ use Rattle.mail_rule.specs.Told.{IsSmall}
 use Rattle.mail_rule.specs.declared.items.Item.{Item}
 use Rattle.mutator_seat.specs.Bound.{Bound}
 use Rattle.trails.specs.Asks.{Ask, gave_at}
-use Rattle.held_places.specs.Calls.{Goes, Holds}
+use Rattle.held_places.specs.Calls.{Goes, Holds, IsCoherent}
 use Rattle.mail_rule.specs.declared.mail_pass.MailPass.{MailPass}
 use Rattle.mail_rule.specs.Mail.{is_fixed}
 
@@ -18,6 +18,7 @@ pub record Reads (asks : List Ask) (cells : List ℕ) (old new : Bound MailPass)
   pub goes : Goes asks old new
   pub holds : Holds is_fixed cells old new
   pub pass : new.seat.me.pass ≡ old.seat.me.pass
+  pub coherent : IsCoherent old.seat.me
   pub many : length new.seat.me.known ≡ length new.seat.me.own.held
 
 -- This field of the cell at a place is the box of an item, which is held at the next place.

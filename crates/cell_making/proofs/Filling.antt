@@ -19,10 +19,11 @@ use Rattle.heap_rule.specs.Asks.{target}
 use Rattle.heap_rule.specs.Lore.{at_cell, five_nulls, known_at, known_named, known_revealed}
 use Rattle.heap_rule.specs.Lore.{known_set, known_stored, nothing_learned}
 use Rattle.heap_rule.specs.Settled.{NamesSettled}
+use Rattle.heap_rule.proofs.Many.{at_cell_many}
 use Rattle.heap_rule.proofs.Reading.{cell_there}
 use Rattle.held_places.specs.Calls.{known_fresh, settled}
 use Rattle.held_places.proofs.Going.{goes_none, goes_then, goes_told, many_cells}
-use Rattle.held_places.proofs.Knowns.{changed_else, changed_here, changed_many, sealed_at}
+use Rattle.held_places.proofs.Knowns.{changed_else, changed_here, sealed_at}
 use Rattle.held_places.proofs.Storing.{named_not, settled_is, settled_sealed, stored_many}
 use Rattle.mutator_events.specs.declared.values.Value.{Value}
 use Rattle.mutator_events.specs.declared.values.Value.TheVariants as values
@@ -64,7 +65,7 @@ stored_same cells known place f value many other lt apart unnamed =
     let c = get_or cells place 0 in
     let next = at_cell (known_set f value) c cells known in
     let first = changed_else (known_set f value) c cells known other lt apart in
-    named_same cells next (changed_many (known_set f value) c cells known many ∙ many) value other
+    named_same cells next (at_cell_many (known_set f value) c cells known many ∙ many) value other
     lt (λ fresh. unnamed (sym (ap known_fresh first) ∙ fresh)) ∙ first
 
 -- what is settled is not fresh
@@ -244,7 +245,7 @@ module _ {P : Type 0} (old : Bound P) (fresh : ℕ) (given : List Value)
           let c = get_or cells fresh 0 in
           stored_known fresh
           ∙ named_not cells (at_cell change c cells known)
-          (changed_many change c cells known many_now ∙ many_now) word fresh within
+          (at_cell_many change c cells known many_now ∙ many_now) word fresh within
           (λ d is same. named_apart n lt d is (sym cell_is ∙ same))
           ∙ changed_here change c cells known fresh within many_now refl
           ∙ ap change filled.raw

@@ -11,9 +11,12 @@ use Rattle.heap_rule.specs.declared.known.Known.{Known}
 use Rattle.heap_rule.specs.declared.known.Known.TheVariants as knows
 use Rattle.heap_rule.specs.Asks.{IsRaw, MaySeal, known_of, target}
 use Rattle.heap_rule.specs.Lore.{known_sealed, nothing_learned}
+use Rattle.heap_rule.proofs.Many.{at_cell_many}
 use Rattle.heap_rule.proofs.Reading.{cell_there}
+use Rattle.held_places.proofs.Claiming.{claimed_claims, claimed_goes, claimed_pass, claimed_same}
+use Rattle.held_places.proofs.Claiming.{stood_nowhere}
 use Rattle.held_places.proofs.Going.{goes_then, goes_told, many_cells}
-use Rattle.held_places.proofs.Knowns.{changed_else, changed_here, changed_many}
+use Rattle.held_places.proofs.Knowns.{changed_else, changed_here}
 use Rattle.mutator_events.specs.declared.values.Value.{Value}
 use Rattle.mutator_events.specs.Values.{field_at}
 use Rattle.mutator_seat.specs.Bound.{Bound, held_cells, takes}
@@ -21,9 +24,7 @@ use Rattle.mutator_seat.specs.Claims.{Claimed}
 use Rattle.mutator_seat.proofs.Writes.{many_same}
 use Rattle.trails.specs.Asks.{nothing}
 use Rattle.cell_making.specs.Makes.{Filled, MakesBox, MayName, five_fields, value_at}
-use Rattle.cell_making.proofs.Claiming.{claimed_claims, claimed_goes, claimed_known}
-use Rattle.cell_making.proofs.Claiming.{claimed_pass, field_still, fills_all}
-use Rattle.cell_making.proofs.Claiming.{stood_nowhere, unnamed_still}
+use Rattle.cell_making.proofs.Claiming.{field_still, fills_all, unnamed_still}
 
 -- five fields are these
 five_are : (ws : List Field) (w : ℕ → Field) → length ws ≡ 5
@@ -104,7 +105,7 @@ module _ {P : Type 0} (a b m : Bound P) (fresh : ℕ) (given : List Value)
       held = ap (λ (k : Bound P). held_cells k) told ∙ filled.held ∙ got.held;
       is_new = stood_nowhere a b fresh got;
       many = ap (λ (k : Bound P). length k.seat.me.known) told
-          ∙ changed_many change (get_or cells fresh 0) cells known many_now ∙ filled.many
+          ∙ at_cell_many change (get_or cells fresh 0) cells known many_now ∙ filled.many
           ∙ sym (ap (λ (k : Bound P). length k.seat.me.own.held) told);
       box = ap (λ (k : Bound P). known_of k.seat.me fresh) told
           ∙ changed_here change (get_or cells fresh 0) cells known fresh within many_now refl
@@ -118,7 +119,7 @@ module _ {P : Type 0} (a b m : Bound P) (fresh : ℕ) (given : List Value)
           (sym (cell_at_is other) ∙ here ∙ cell_at_is fresh))
           ∙ filled.known other (before_is other lt)
           (unnamed_still a b fresh got given other lt named spared)
-          ∙ claimed_known a b fresh got other lt;
+          ∙ claimed_same a b fresh got other lt;
       pass = ap (λ (k : Bound P). k.seat.me.pass) told ∙ filled.pass
           ∙ claimed_pass a b fresh got;
       claims = ap (λ (k : Bound P). k.seat.me.own.claims) told ∙ filled.claims

@@ -30,14 +30,6 @@ use Rattle.held_places.proofs.Going.{still_same}
 
 -- Changes of what is known of one cell.
 
-pub changed_many : (change : Known → Known) (c : ℕ) (cells : List ℕ) (known : List Known)
-    → length known ≡ length cells → length (at_cell change c cells known) ≡ length known
-changed_many change c [] known same = refl
-changed_many change c (d ∷ cells) [] same = refl
-changed_many change c (d ∷ cells) (k ∷ known) same =
-    ap suc (changed_many change c cells known (let e : length known ≡ length cells =
-    omega (arith, same) in e))
-
 -- at a place of this cell
 pub changed_here : (change : Known → Known) (c : ℕ) (cells : List ℕ) (known : List Known)
     (place : ℕ) → place < length cells → length known ≡ length cells → get_or cells place 0 ≡ c

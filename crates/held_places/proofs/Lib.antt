@@ -1,5 +1,8 @@
+pub mod Claiming
 pub mod Going
 pub mod Knowns
+pub mod Narrowing
+pub mod Overwriting
 pub mod ReadValues
 pub mod Steps
 pub mod Storing

@@ -31,14 +31,14 @@ use Rattle.heap_rule.specs.Steps.{AtStep, Mine}
 use Rattle.heap_rule.proofs.Reading.{cell_there, cells_more}
 use Rattle.mutator_events.specs.Events.{AtEvent}
 use Rattle.mutator_seat.specs.Bound.{Bound, held_cells}
+use Rattle.mutator_seat.proofs.Stores.{found_claims}
 use Rattle.trails.specs.Asks.{gave_at, here, nothing}
-use Rattle.heap_rule.proofs.Many.{known_many}
+use Rattle.heap_rule.proofs.Many.{at_cell_many, known_many}
 use Rattle.heap_rule.proofs.Seats.{knows_place, reached_place, target_now}
 use Rattle.held_places.specs.Calls.{IsCoherent, StaysKnown, StillKnown, WasRead}
 use Rattle.held_places.specs.Calls.{cells_found}
 use Rattle.held_places.proofs.Going.{goes_told, many_held, still_same, still_then}
-use Rattle.held_places.proofs.Knowns.{changed_many, changed_still, fit, not_fresh}
-use Rattle.held_places.proofs.Knowns.{pushed_still, told_still}
+use Rattle.held_places.proofs.Knowns.{changed_still, fit, not_fresh, pushed_still, told_still}
 
 -- The word that a field is packed into is that of no other field.
 pub same_word : (a b : Field) → pack_field_of a ≡ pack_field_of b → a ≡ b
@@ -81,11 +81,6 @@ found_cells : (own : Own) (found : Field)
 found_cells own field.Null = sym (append-nil (cells_in own.held))
 found_cells own (field.Num n) = sym (append-nil (cells_in own.held))
 found_cells own (field.Cell c) = cells_more own.held c
-
-pub found_claims : (own : Own) (found : Field) → (having_read own found).claims ≡ own.claims
-found_claims own field.Null = refl
-found_claims own (field.Num n) = refl
-found_claims own (field.Cell c) = refl
 
 found_still : (fixed : ℕ → Bool) (known : List Known) (k : Known) (found : Field) (place : ℕ)
     → place < length known
@@ -142,7 +137,7 @@ module _ {P : Type 0} (fixed : ℕ → Bool) (a b : Bound P) (s : State) (l : Lo
   loaded_known other lt =
       let within : other < length cells =
       let many = length-map v.own.held (λ (p : Held). p.cell) in omega (arith, many, lt) in
-      let longer = changed_many (told_more tells.here) (get_or cells place 0) cells v.known many in
+      let longer = at_cell_many (told_more tells.here) (get_or cells place 0) cells v.known many in
       subst (λ (k : Known). StillKnown fixed (known_of v other) k)
       (sym (ap (λ (ks : List Known). known_at ks other) known_is))
       (still_then fixed (known_of v other) (known_at known_told other)
@@ -159,7 +154,7 @@ module _ {P : Type 0} (fixed : ℕ → Bool) (a b : Bound P) (s : State) (l : Lo
   loaded_many =
       let known = ap (λ (ks : List Known). length ks) known_is
       ∙ found_many known_told tells.found found in
-      let changed = changed_many (told_more tells.here) (get_or cells place 0) cells v.known many
+      let changed = at_cell_many (told_more tells.here) (get_or cells place 0) cells v.known many
       in
       let held = many_held a b (cells_found found) loaded_held in
       let before = known_many fixed v s l mine in

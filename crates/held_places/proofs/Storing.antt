@@ -1,6 +1,6 @@
 -- What is known at the places of a held list where a field of one cell is stored: of that cell, and
 -- of the one that the value names.
-use Rattle.std.proofs.Common.{◌≡◌, ◌≢◌, ◌<◌, ℕ, Bool, true, List, length, get_or}
+use Rattle.std.proofs.Common.{◌≡◌, ◌≢◌, ◌<◌, ℕ, Bool, true, false, List, length, get_or}
 use Rattle.std.proofs.Common.{refl, sym, ◌∙◌}
 use Rattle.cell_words.specs.declared.fields.Field.{Field}
 use Rattle.cell_words.specs.declared.fields.Field.TheVariants as field
@@ -8,11 +8,12 @@ use Rattle.heap_rule.specs.declared.known.Known.{Known}
 use Rattle.heap_rule.specs.declared.known.Known.TheVariants as knows
 use Rattle.heap_rule.specs.Asks.{is_sealed}
 use Rattle.heap_rule.specs.Lore.{at_cell, known_at, known_named}
-use Rattle.heap_rule.specs.Lore.{known_revealed, known_set, known_stored}
+use Rattle.heap_rule.specs.Lore.{known_revealed, known_set, known_stored, known_stored_if}
 use Rattle.heap_rule.specs.Settled.{IsSettled}
+use Rattle.heap_rule.proofs.Many.{at_cell_many}
 use Rattle.held_places.specs.Calls.{StillKnown, known_fresh, settled}
 use Rattle.held_places.proofs.Going.{still_same, still_then}
-use Rattle.held_places.proofs.Knowns.{changed_else, changed_fresh, changed_many, changed_still}
+use Rattle.held_places.proofs.Knowns.{changed_else, changed_fresh, changed_still}
 
 -- What is not fresh stays so where fields are stored and cells are named.
 
@@ -58,7 +59,7 @@ module _ (cells : List ℕ) (known : List Known) (many : length known ≡ length
   named_many : (value : Field) → length (known_named cells known value) ≡ length known
   named_many field.Null = refl
   named_many (field.Num n) = refl
-  named_many (field.Cell c) = changed_many known_revealed c cells known many
+  named_many (field.Cell c) = at_cell_many known_revealed c cells known many
 
   named_still : (fixed : ℕ → Bool) (value : Field) (place : ℕ) → place < length cells
       → (known_fresh (known_at known place) ≡ true
@@ -86,7 +87,7 @@ pub stored_many : (cells : List ℕ) (known : List Known) (place f : ℕ) (value
     → length known ≡ length cells
     → length (known_stored cells known place f value) ≡ length known
 stored_many cells known place f value many =
-    let set = changed_many (known_set f value) (get_or cells place 0) cells known many in
+    let set = at_cell_many (known_set f value) (get_or cells place 0) cells known many in
     named_many cells (at_cell (known_set f value) (get_or cells place 0) cells known) (set ∙ many)
     value ∙ set
 
@@ -108,5 +109,19 @@ stored_still fixed cells known place f value many other lt apart unnamed =
     let same = changed_fresh change (set_fresh f value) c cells known other lt many in
     still_then fixed (known_at known other) (known_at next other)
     (known_at (known_stored cells known place f value) other) first
-    (named_still cells next (changed_many change c cells known many ∙ many) fixed value other lt
+    (named_still cells next (at_cell_many change c cells known many ∙ many) fixed value other lt
     (λ fresh. unnamed (sym same ∙ fresh)))
+
+-- whether it is stored, or it is not
+pub stored_if_still : (fixed : ℕ → Bool) (made : Bool) (cells : List ℕ) (known : List Known)
+    (place f : ℕ) (value : Field) → length known ≡ length cells → (other : ℕ)
+    → other < length cells
+    → (known_fresh (known_at known other) ≡ true → get_or cells other 0 ≢ get_or cells place 0)
+    → (known_fresh (known_at known other) ≡ true
+    → (c : ℕ) → value ≡ field.Cell c → get_or cells other 0 ≢ c)
+    → StillKnown fixed (known_at known other)
+    (known_at (known_stored_if made cells known place f value) other)
+stored_if_still fixed true cells known place f value many other lt apart unnamed =
+    stored_still fixed cells known place f value many other lt apart unnamed
+stored_if_still fixed false cells known place f value many other lt apart unnamed =
+    still_same fixed (known_at known other)

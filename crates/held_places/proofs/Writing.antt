@@ -1,8 +1,7 @@
 -- What a write leaves that a picked pass goes with: the trail, the held list, and what is known.
-use Rattle.std.proofs.Common.{◌≡◌, ◌≢◌, ◌<◌, ℕ, Bool, true, false, List, [], ◌∷◌, ◌++◌, get_or}
+use Rattle.std.proofs.Common.{◌≡◌, ◌≢◌, ◌<◌, ℕ, Bool, true, false, List, [], ◌∷◌, get_or}
 use Rattle.std.proofs.Common.{length, Result, Ok, Err, OnOk, IfErr, refl, sym, ◌∙◌, ap, subst}
 use Rattle.std.proofs.Common.{arith}
-use Rattle.std.proofs.lemmas.List.{append-nil}
 use Rattle.cell_words.specs.declared.fields.Field.{Field}
 use Rattle.cell_words.specs.declared.fields.Field.TheVariants as field
 use Rattle.core_machine.specs.declared.events.Event.{Event}
@@ -14,7 +13,7 @@ use Rattle.heap_rule.specs.declared.known.Learned.{Learned}
 use Rattle.heap_rule.specs.declared.view.View.{View}
 use Rattle.heap_rule.specs.Asks.{known_of, target}
 use Rattle.heap_rule.specs.Boxes.{Map}
-use Rattle.heap_rule.specs.Lore.{known_at, known_stored_if, learned, was_made}
+use Rattle.heap_rule.specs.Lore.{known_at, learned, was_made}
 use Rattle.heap_rule.proofs.Reading.{cell_there}
 use Rattle.mutator_events.specs.declared.values.Value.{Value}
 use Rattle.mutator_events.specs.Values.{field_at}
@@ -23,9 +22,9 @@ use Rattle.mutator_seat.specs.Writes.{LookAndMarks, Updated, write_of}
 use Rattle.mutator_seat.proofs.Writes.{cell_same, field_same, many_same}
 use Rattle.trails.specs.Asks.{here, nothing, wrote_at}
 use Rattle.held_places.specs.Calls.{Goes, StillKnown, known_fresh}
-use Rattle.held_places.proofs.Storing.{stored_still}
+use Rattle.held_places.proofs.Storing.{stored_if_still}
 use Rattle.held_places.proofs.Going.{calm_goes, goes_none, goes_on, goes_then, goes_told}
-use Rattle.held_places.proofs.Going.{many_cells, still_same}
+use Rattle.held_places.proofs.Going.{many_cells}
 
 -- whichever way the write ended
 pub either_way : {U : Field → Type 0} {M : Type 0} (found : M → Field) (expected : Field)
@@ -69,31 +68,8 @@ module _ {P : Type 0} (fixed : ℕ → Bool) (holds : Map → List P → Type 0)
   pub wrote_goes : Goes [] a b
   wrote_goes = goes_on (goes_none a) wrote_shown
 
-  pub wrote_held : held_cells b ≡ held_cells a ++ []
-  wrote_held = wrote.held ∙ sym (append-nil (held_cells a))
-
-  pub wrote_pass : b.seat.me.pass ≡ next tells (finds.Field found) a.seat.me.pass
-  wrote_pass = ap (λ (u : View P). u.pass) wrote.event.new
-      ∙ ap (λ (p : P). next tells (finds.Field found) p) wrote.calm.kept.pass
-
-  pub wrote_claims : b.seat.me.own.claims ≡ a.seat.me.own.claims
-  wrote_claims = ap (λ (u : View P). u.own.claims) wrote.event.new ∙ wrote.calm.kept.claims
-
   abbrev cells : List ℕ
   cells = held_cells at
-
-  stored_if : (made : Bool) (other : ℕ) → length at.seat.me.known ≡ length cells
-      → other < length cells
-      → (known_fresh (known_of at.seat.me other) ≡ true
-      → get_or cells other 0 ≢ get_or cells place 0)
-      → (known_fresh (known_of at.seat.me other) ≡ true
-      → (c : ℕ) → field_at at.seat.me.own.held new ≡ field.Cell c → get_or cells other 0 ≢ c)
-      → StillKnown fixed (known_of at.seat.me other)
-      (known_at (known_stored_if made cells at.seat.me.known place f
-      (field_at at.seat.me.own.held new)) other)
-  stored_if true other many lt apart unnamed = stored_still fixed cells at.seat.me.known place f
-      (field_at at.seat.me.own.held new) many other lt apart unnamed
-  stored_if false other many lt apart unnamed = still_same fixed (known_of at.seat.me other)
 
   cell_at_is : (other : ℕ) → get_or cells other 0 ≡ target a.seat.me other
   cell_at_is other = ap (λ (cs : List ℕ). get_or cs other 0) wrote.calm.kept.held
@@ -117,8 +93,9 @@ module _ {P : Type 0} (fixed : ℕ → Bool) (holds : Map → List P → Type 0)
       subst (λ (k : Known). StillKnown fixed k (known_of b.seat.me other)) here
       (subst (λ (k : Known). StillKnown fixed (known_of at.seat.me other) k)
       (sym (ap (λ (u : View P). known_of u other) wrote.event.new))
-      (stored_if (was_made (field_at at.seat.me.own.held old) (finds.Field found)) other
-      (omega (arith, known, many, long, same)) (omega (arith, lt, long, same))
+      (stored_if_still fixed (was_made (field_at at.seat.me.own.held old) (finds.Field found)) cells
+      at.seat.me.known place f (field_at at.seat.me.own.held new)
+      (omega (arith, known, many, long, same)) other (omega (arith, lt, long, same))
       (λ is on. apart (sym (ap known_fresh here) ∙ is)
       (sym (cell_at_is other) ∙ on ∙ cell_at_is place))
       (λ is c named on. unnamed (sym (ap known_fresh here) ∙ is) c

@@ -1,7 +1,7 @@
 -- What a call leaves of a mutator under any rule, and what it puts into the trail. A rule is here
 -- its fixed fields alone.
 -- Source: this project's.
-use Rattle.std.specs.Prelude.{ℕ, ◌≡◌, ◌<◌, ◌≤◌, ◌++◌, Bool, true, false, List, [], ◌∷◌, length}
+use Rattle.std.specs.Prelude.{ℕ, ◌≡◌, ◌≢◌, ◌<◌, ◌≤◌, ◌++◌, Bool, true, false, List, [], ◌∷◌, length}
 use Rattle.std.specs.Prelude.{Option, Some, None, slice_index_or}
 use Rattle.cell_words.specs.Term.{Term}
 use Rattle.cell_words.specs.declared.fields.Field.{Field}
@@ -12,6 +12,8 @@ use Rattle.heap_rule.specs.declared.known.Known.{Known}
 use Rattle.heap_rule.specs.declared.known.Known.TheVariants as knows
 use Rattle.heap_rule.specs.declared.view.View.{View}
 use Rattle.heap_rule.specs.Asks.{known_of, target}
+use Rattle.mutator_events.specs.declared.values.Value.{Value}
+use Rattle.mutator_events.specs.Values.{field_at}
 use Rattle.mutator_seat.specs.Bound.{Bound, held_cells}
 use Rattle.trails.specs.Asks.{Ask, InOrder, gave_at}
 use Rattle.trails.specs.Marks.{marks_from}
@@ -116,3 +118,20 @@ pub record WasRead {P : Type 0} (fixed : ℕ → Bool) (old new : Bound P) (plac
   pub claims : new.seat.me.own.claims ≡ old.seat.me.own.claims
   pub coherent : IsCoherent old.seat.me
   pub many : length new.seat.me.known ≡ length new.seat.me.own.held
+
+-- What was known of the places is known still where a field of one cell is written: a cell that is
+-- fresh is another than that one and than the one that the value names.
+abbrev pub KnownBehind : {P : Type 0} → (ℕ → Bool) → Bound P → Bound P → ℕ → Value → Type 0
+KnownBehind fixed old new place value =
+    (other : ℕ) → other < length old.seat.me.own.held
+    → (known_fresh (known_of old.seat.me other) ≡ true
+    → target old.seat.me other ≢ target old.seat.me place)
+    → (known_fresh (known_of old.seat.me other) ≡ true → (c : ℕ)
+    → field_at old.seat.me.own.held value ≡ field.Cell c → target old.seat.me other ≢ c)
+    → StillKnown fixed (known_of old.seat.me other) (known_of new.seat.me other)
+
+-- A store over whatever the field held, or a read and an exchange of what it found.
+pub record Overwrote {P : Type 0} (fixed : ℕ → Bool) (old new : Bound P) (place : ℕ)
+    (value : Value) : Type 0 where
+  pub goes : Goes [] old new
+  pub known : KnownBehind fixed old new place value

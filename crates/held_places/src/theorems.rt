@@ -1,19 +1,19 @@
 //! Laws on what calls leave of held places: the contracts of functions that do nothing.
-ghost use Rattle.std.specs.Prelude.{◌≡◌, ◌≢◌, ◌<◌, ◌∷◌, ◌++◌, [], length, List, true, ℕ};
+ghost use Rattle.std.specs.Prelude.{◌≡◌, ◌≢◌, ◌<◌, ◌≤◌, ◌∷◌, ◌++◌, [], length, List, take, ℕ};
 ghost use Rattle.cell_words.specs.declared.fields.Field.{Field};
-ghost use Rattle.cell_words.specs.declared.fields.Field.TheVariants as field;
 ghost use Rattle.core_machine.specs.declared.events.Event.TheVariants as event;
 ghost use Rattle.core_machine.specs.declared.events.Found.{Found};
 ghost use Rattle.core_machine.specs.declared.events.Found.TheVariants as finds;
 ghost use Rattle.heap_rule.specs.declared.known.Learned.{Learned};
 ghost use Rattle.heap_rule.specs.Asks.{known_of, target};
-ghost use Rattle.held_places.specs.Calls.{Goes, Holds, StaysKnown, StillKnown, WasRead};
-ghost use Rattle.held_places.specs.Calls.{known_fresh};
+ghost use Rattle.held_places.specs.Calls.{Goes, Holds, KnownBehind, Overwrote, StaysKnown, WasRead};
 ghost use Rattle.mutator_events.specs.declared.values.Value.{Value};
 ghost use Rattle.mutator_events.specs.Events.{AtEvent};
 ghost use Rattle.mutator_events.specs.Values.{field_at};
-ghost use Rattle.mutator_seat.specs.Bound.{Bound, takes};
-ghost use Rattle.mutator_seat.specs.Writes.{Updated};
+ghost use Rattle.mutator_seat.specs.Bound.{Bound, held_cells, takes};
+ghost use Rattle.mutator_seat.specs.Claims.{Claimed};
+ghost use Rattle.mutator_seat.specs.Stores.{Exchanged, Overwritten};
+ghost use Rattle.mutator_seat.specs.Writes.{IsNamed, Updated};
 ghost use Rattle.trails.specs.Asks.{Ask, wrote_at};
 
 use heap_rule::Keeping;
@@ -43,13 +43,8 @@ pub fn a_write_is_shown<P: Keeping>()
         (field_at a.seat.me.own.held new) found ∷ []) a b }
     ensures places { (next : Learned → Found → P → P) (a b : Bound P) (place f : ℕ)
         (old new : Value) (found : Field) → Updated P.holds P.fixed next a place f old new found b
-        → length a.seat.me.known ≡ length a.seat.me.own.held → (other : ℕ)
-        → other < length a.seat.me.own.held
-        → (known_fresh (known_of a.seat.me other) ≡ true
-        → target a.seat.me other ≢ target a.seat.me place)
-        → (known_fresh (known_of a.seat.me other) ≡ true → (c : ℕ)
-        → field_at a.seat.me.own.held new ≡ field.Cell c → target a.seat.me other ≢ c)
-        → StillKnown P.fixed (known_of a.seat.me other) (known_of b.seat.me other) }
+        → length a.seat.me.known ≡ length a.seat.me.own.held
+        → KnownBehind P.fixed a b place new }
 {}
 
 /// A cut keeps what is known of the places that are left.
@@ -58,4 +53,42 @@ pub fn a_cut_keeps_the_first_places<P: Keeping>()
         → c ≡ takes b (event.Keep b.seat.me.number n 0 0) p → Goes [] b c }
     ensures places { (b c : Bound P) (n : ℕ) (p : Found)
         → c ≡ takes b (event.Keep b.seat.me.number n 0 0) p → StaysKnown P.fixed n b c }
+{}
+
+/// So does a store, or the read and the exchange in its place.
+pub fn a_store_keeps_places<P: Keeping>()
+    ensures stored { (next : Learned → Found → P → P) (a b : Bound P) (place f : ℕ) (new : Value)
+        → place < length a.seat.me.own.held → IsNamed a.seat.me.own.held new
+        → Overwritten P.holds P.fixed next a place f new b → Overwrote P.fixed a b place new }
+    ensures exchanged { (reads next : Learned → Found → P → P) (a b : Bound P) (place f : ℕ)
+        (new : Value) (seen found : Field) → place < length a.seat.me.own.held
+        → IsNamed a.seat.me.own.held new
+        → Exchanged P.holds P.fixed reads next a place f new seen found b
+        → Overwrote P.fixed a b place new }
+{}
+
+/// A claim holds a cell that stood at no place, behind all others. What was known is known still.
+pub fn a_claim_holds_a_new_cell<P: Keeping>()
+    ensures trail { (a b : Bound P) (fresh : ℕ) → Claimed a fresh b → Goes [] a b }
+    ensures places { (a b : Bound P) (fresh : ℕ) → Claimed a fresh b
+        → StaysKnown P.fixed (length a.seat.me.own.held) a b }
+    ensures apart { (a b : Bound P) (fresh : ℕ) → Claimed a fresh b → (place : ℕ)
+        → place < length a.seat.me.own.held → target b.seat.me place ≢ target b.seat.me fresh }
+{}
+
+/// A keep of the first places with one more holds that one's cell behind them, and what is known of
+/// each is known still.
+pub fn a_keep_moves_one_place<P: Keeping>()
+    ensures trail { (b c : Bound P) (n place : ℕ) (p : Found)
+        → c ≡ takes b (event.Keep b.seat.me.number n place 1) p → Goes [] b c }
+    ensures places { (b c : Bound P) (n place : ℕ) (p : Found)
+        → c ≡ takes b (event.Keep b.seat.me.number n place 1) p
+        → place < length b.seat.me.own.held → n ≤ length b.seat.me.own.held
+        → length b.seat.me.known ≡ length b.seat.me.own.held
+        → held_cells c ≡ take n (held_cells b) ++ target b.seat.me place ∷ [] }
+    ensures known { (b c : Bound P) (n place : ℕ) (p : Found)
+        → c ≡ takes b (event.Keep b.seat.me.number n place 1) p
+        → place < length b.seat.me.own.held → n ≤ length b.seat.me.own.held
+        → length b.seat.me.known ≡ length b.seat.me.own.held
+        → StaysKnown P.fixed n b c × (known_of c.seat.me n ≡ known_of b.seat.me place) }
 {}

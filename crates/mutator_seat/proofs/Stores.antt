@@ -1,7 +1,7 @@
 -- A store of a field: what it needs stands behind its look, its load and its marks, and what it
 -- leaves.
-use Rattle.std.proofs.Common.{◌≡◌, ◌<◌, ◌≤◌, ◌+◌, ℕ, Bool, true, false, List, [], ◌∷◌, ◌++◌, length}
-use Rattle.std.proofs.Common.{take, drop, map, refl, sym, ◌∙◌, ap, subst, arith, Option, Some, None}
+use Rattle.std.proofs.Common.{◌≡◌, ◌<◌, ◌≤◌, ℕ, Bool, true, false, List, [], ◌∷◌, ◌++◌, length}
+use Rattle.std.proofs.Common.{take, refl, sym, ◌∙◌, ap, subst, arith, Option, Some, None}
 use Rattle.std.proofs.Common.{is_some, Result, Ok, Err, OnOk, IfErr}
 use Rattle.std.proofs.lemmas.List.{append-nil}
 use Rattle.cell_words.specs.Field.{IsValidField}
@@ -36,15 +36,16 @@ use Rattle.heap_rule.proofs.Quiet.{cells_unmarked}
 use Rattle.heap_rule.proofs.Reading.{cells_more}
 use Rattle.mutator_events.specs.declared.values.Value.{Value}
 use Rattle.mutator_events.specs.Events.{AtEvent}
-use Rattle.mutator_events.specs.Values.{cells_kept, field_at, value_found}
+use Rattle.mutator_events.specs.Values.{field_at, value_found}
 use Rattle.mutator_events.proofs.Begun.{read_long}
 use Rattle.mutator_events.proofs.HeldCells.{cells_kept_are, cells_many}
 use Rattle.heap_table.specs.Seats.{HeapId, SeatView}
 use Rattle.mutator_seat.specs.Bound.{Bound, IsBound, bound, held_cells, takes}
-use Rattle.mutator_seat.specs.Stores.{MayOverwrite, Replaced, Stepped, exchange_of, fetch_of}
-use Rattle.mutator_seat.specs.Stores.{read_of, store_of}
-use Rattle.mutator_seat.specs.Stretches.{Calm, Kept, MarksOf}
-use Rattle.mutator_seat.specs.Writes.{MayUpdate, wanted_by}
+use Rattle.mutator_seat.specs.Stores.{Exchanged, Looks, MayOverwrite, Overwritten, Replaced}
+use Rattle.mutator_seat.specs.Stores.{Rewritten, exchange_of, fetch_of, read_of, store_of}
+use Rattle.mutator_seat.specs.Stores.{told_by}
+use Rattle.mutator_seat.specs.Stretches.{Kept, SamePlaces}
+use Rattle.mutator_seat.specs.Writes.{MayUpdate}
 use Rattle.mutator_seat.proofs.Loads.{box_read, cell_more, field_more, field_seen, mode_more}
 use Rattle.mutator_seat.proofs.Loads.{named_more, named_seen, value_sealed}
 use Rattle.mutator_seat.proofs.Writes.{cell_same, field_same, many_same, named_same}
@@ -165,13 +166,21 @@ barrier_still v w presence mode is =
     ap (λ (p : Presence). barrier_in p.status w.own.mode) presence
     ∙ ap (λ (m : Option Control). barrier_in v.presence.status m) mode ∙ is
 
+-- a load claims nothing
+pub found_claims : (own : Own) (found : Field) → (having_read own found).claims ≡ own.claims
+found_claims own field.Null = refl
+found_claims own (field.Num n) = refl
+found_claims own (field.Cell c) = refl
+
 -- What is left behind the write: the cells that were held, and then what was found.
 pub record Leaves {P : Type 0} (old after : Bound P) (seen : Field) : Type 0 where
   pub heap : after.heap ≡ old.heap
   pub table : after.seat.table ≡ old.seat.table
   pub shape : after.seat.me.shape ≡ old.seat.me.shape
+  pub role : after.seat.me.role ≡ old.seat.me.role
   pub number : after.seat.me.number ≡ old.seat.me.number
   pub room : after.seat.me.room ≡ old.seat.me.room
+  pub claims : after.seat.me.own.claims ≡ old.seat.me.own.claims
   pub presence : after.seat.me.presence ≡ old.seat.me.presence
   pub settled : after.seat.me.own.pending ≡ None
   pub held : held_cells after ≡ cells_in (having_read old.seat.me.own seen).held
@@ -188,10 +197,14 @@ module _ {P : Type 0} {holds : Map → List P → Type 0} {fixed : ℕ → Bool}
         table = r.write.table ∙ r.marks.kept.table ∙ r.load.table;
         shape = ap (λ (u : View P). u.shape) write ∙ r.marks.kept.shape
             ∙ ap (λ (u : View P). u.shape) load;
+        role = ap (λ (u : View P). u.role) write ∙ r.marks.kept.role
+            ∙ ap (λ (u : View P). u.role) load;
         number = ap (λ (u : View P). u.number) write ∙ r.marks.kept.number
             ∙ ap (λ (u : View P). u.number) load;
         room = ap (λ (u : View P). u.room) write ∙ r.marks.kept.room
             ∙ ap (λ (u : View P). u.room) load;
+        claims = ap (λ (u : View P). u.own.claims) write ∙ r.marks.kept.claims
+            ∙ ap (λ (u : View P). u.own.claims) load ∙ found_claims old.seat.me.own seen;
         presence = ap (λ (u : View P). u.presence) write ∙ r.presence
             ∙ ap (λ (u : View P). u.presence) load;
         settled = ap (λ (u : View P). u.own.pending) write;
@@ -210,10 +223,14 @@ module _ {P : Type 0} {holds : Map → List P → Type 0} {fixed : ℕ → Bool}
         table = r.write.table ∙ r.marks.kept.table ∙ r.load.table;
         shape = ap (λ (u : View P). u.shape) write ∙ r.marks.kept.shape
             ∙ ap (λ (u : View P). u.shape) load;
+        role = ap (λ (u : View P). u.role) write ∙ r.marks.kept.role
+            ∙ ap (λ (u : View P). u.role) load;
         number = ap (λ (u : View P). u.number) write ∙ r.marks.kept.number
             ∙ ap (λ (u : View P). u.number) load;
         room = ap (λ (u : View P). u.room) write ∙ r.marks.kept.room
             ∙ ap (λ (u : View P). u.room) load;
+        claims = ap (λ (u : View P). u.own.claims) write ∙ r.marks.kept.claims
+            ∙ ap (λ (u : View P). u.own.claims) load ∙ found_claims old.seat.me.own seen;
         presence = ap (λ (u : View P). u.presence) write ∙ r.presence
             ∙ ap (λ (u : View P). u.presence) load;
         settled = ap (λ (u : View P). u.own.pending) write;
@@ -275,6 +292,57 @@ module _ {P : Type 0} (old after : Bound P) (seen : Field) (left : Leaves old af
       ∙ ap (λ (k : ℕ). take k (cells_in (having_read old.seat.me.own seen).held))
       (sym (cells_many old.seat.me.own.held))
       ∙ front_more old.seat.me.own seen
+
+  -- the places are as they were before the load
+  pub places_left : (cut : Bound P)
+      → cut ≡ takes after (event.Keep after.seat.me.number (length old.seat.me.own.held) 0 0)
+      (finds.Presence after.seat.me.presence)
+      → SamePlaces old cut
+  places_left cut is = record {
+    heap = heap_left cut (length old.seat.me.own.held) is;
+    table = table_left cut (length old.seat.me.own.held) is;
+    shape = ap (λ (m : Bound P). m.seat.me.shape) is ∙ left.shape;
+    role = ap (λ (m : Bound P). m.seat.me.role) is ∙ left.role;
+    number = ap (λ (m : Bound P). m.seat.me.number) is ∙ left.number;
+    room = ap (λ (m : Bound P). m.seat.me.room) is ∙ left.room;
+    held = held_left cut is;
+    claims = ap (λ (m : Bound P). m.seat.me.own.claims) is ∙ left.claims;
+    inside = ap (λ (m : Bound P). m.seat.me.presence.inside) is
+        ∙ ap (λ (p : Presence). p.inside) left.presence;
+    over = ap (λ (m : Bound P). m.seat.me.presence.over) is
+        ∙ ap (λ (p : Presence). p.over) left.presence;
+  }
+
+-- The pass that was picked at the load, and then at the write.
+module _ {P : Type 0} {holds : Map → List P → Type 0} {fixed : ℕ → Bool} {wanted : Barrier}
+    {loads : Event} {reads next : Learned → Found → P → P} {writes : Bound P → Event}
+    {found : Found} (seen : Field) (new : Value) (old after : Bound P) where
+  pub pass_left : (r : Replaced holds fixed wanted loads reads seen writes next found new old after)
+      (cut : Bound P) (n : ℕ)
+      → cut ≡ takes after (event.Keep after.seat.me.number n 0 0)
+      (finds.Presence after.seat.me.presence)
+      → cut.seat.me.pass
+      ≡ next (told_by r.write) found (reads (told_by r.load) (finds.Field seen) old.seat.me.pass)
+  pass_left r cut n is =
+      ap (λ (m : Bound P). m.seat.me.pass) is
+      ∙ ap (λ (u : View P). u.pass) r.write.event.new
+      ∙ ap (next (told_by r.write) found)
+      (r.marks.kept.pass ∙ ap (λ (u : View P). u.pass) r.load.event.new)
+
+-- behind a stretch that kept them
+pub places_then : {P : Type 0} {a b c : Bound P} → Kept a b → SamePlaces b c → SamePlaces a c
+places_then kept same = record {
+  heap = same.heap ∙ kept.heap;
+  table = same.table ∙ kept.table;
+  shape = same.shape ∙ kept.shape;
+  role = same.role ∙ kept.role;
+  number = same.number ∙ kept.number;
+  room = same.room ∙ kept.room;
+  held = same.held ∙ kept.held;
+  claims = same.claims ∙ kept.claims;
+  inside = same.inside ∙ kept.inside;
+  over = same.over ∙ kept.over;
+}
 
 -- what it needs stands behind the look
 pub may_still : {P : Type 0} (fixed : ℕ → Bool) (m at : Bound P) (place f : ℕ) (new : Value)
@@ -355,3 +423,64 @@ module _ {P : Type 0} (m looked : Bound P) (control : Control) (own : Status)
 
   pub presence_there : looked.seat.me.presence ≡ m.seat.me.presence
   presence_there = ap (λ (b : Bound P). b.seat.me.presence) told
+
+-- What is left behind the look and all that came after it. The barrier is given by what it is.
+module _ {P : Type 0} {holds : Map → List P → Type 0} {fixed : ℕ → Bool}
+    {next : Learned → Found → P → P} (m looked after : Bound P) (control : Control) (place f : ℕ)
+    (new : Value) (wanted : Barrier) (is : wanted ≡ barrier_of m.seat.me.presence.status control)
+    (look : Looks control m looked) (presence : looked.seat.me.presence ≡ m.seat.me.presence)
+  where
+    pub overwritten : (seen : Field)
+        → lets_store m.seat.me.presence.status (Some control) ≡ true
+        → Rewritten holds fixed wanted (fetch_of looked place f) same_pass seen (store_of new)
+        next finds.Stored new looked after
+        → Overwritten holds fixed next m place f new after
+    overwritten seen lets one =
+        let both = subst (λ (b : Barrier). (r : Rewritten holds fixed b (fetch_of looked place f)
+        same_pass seen (store_of new) next finds.Stored new looked after)
+        × (after.seat.me.pass ≡ next (told_by r.replaced.write) finds.Stored m.seat.me.pass)) is (
+          one,
+          one.pass ∙ ap (next (told_by one.replaced.write) finds.Stored) look.kept.pass,
+        ) in
+        record {
+          control = control;
+          lets = lets;
+          looked = looked;
+          look = look;
+          presence = presence;
+          seen = seen;
+          rewritten = both.0;
+          heap = one.heap ∙ look.kept.heap;
+          table = one.table ∙ look.kept.table;
+          held = one.held ∙ look.kept.held;
+          places = places_then look.kept one.places;
+          pass = both.1;
+        }
+
+    pub exchanged : {reads : Learned → Found → P → P} (seen found : Field)
+        → lets_store m.seat.me.presence.status (Some control) ≡ false
+        → Rewritten holds fixed wanted (read_of looked place f) reads seen
+        (exchange_of place f seen new) next (finds.Field found) new looked after
+        → Exchanged holds fixed reads next m place f new seen found after
+    exchanged {reads} seen found lets one =
+        let both = subst (λ (b : Barrier). (r : Rewritten holds fixed b (read_of looked place f)
+        reads seen (exchange_of place f seen new) next (finds.Field found) new looked after)
+        × (after.seat.me.pass ≡ next (told_by r.replaced.write) (finds.Field found)
+        (reads (told_by r.replaced.load) (finds.Field seen) m.seat.me.pass))) is (
+          one,
+          one.pass ∙ ap (λ (p : P). next (told_by one.replaced.write) (finds.Field found)
+              (reads (told_by one.replaced.load) (finds.Field seen) p)) look.kept.pass,
+        ) in
+        record {
+          control = control;
+          lets = lets;
+          looked = looked;
+          look = look;
+          presence = presence;
+          rewritten = both.0;
+          heap = one.heap ∙ look.kept.heap;
+          table = one.table ∙ look.kept.table;
+          held = one.held ∙ look.kept.held;
+          places = places_then look.kept one.places;
+          pass = both.1;
+        }

@@ -13,14 +13,14 @@ use Rattle.core_machine.specs.Words.{same_field}
 use Rattle.heap_rule.specs.declared.known.Learned.{Learned}
 use Rattle.heap_rule.specs.declared.view.View.{View}
 use Rattle.heap_rule.specs.Boxes.{Map}
-use Rattle.heap_rule.specs.Lore.{cells_in}
+use Rattle.heap_rule.specs.Lore.{cells_in, learned}
 use Rattle.heap_rule.proofs.Quiet.{cells_unmarked}
 use Rattle.heap_table.specs.Seats.{SeatView}
 use Rattle.mutator_events.specs.declared.values.Value.{Value}
 use Rattle.mutator_events.specs.Events.{AtEvent}
 use Rattle.mutator_events.specs.Values.{field_at}
 use Rattle.trails.specs.Claims.{look_of}
-use Rattle.mutator_seat.specs.Bound.{Bound, takes}
+use Rattle.mutator_seat.specs.Bound.{Bound, held_cells, takes}
 use Rattle.mutator_seat.specs.Stretches.{Calm, MarksOf}
 use Rattle.mutator_seat.specs.Writes.{LookAndMarks, Updated, wanted_by, write_of}
 use Rattle.mutator_seat.proofs.Calm.{calm_then}
@@ -82,9 +82,27 @@ module _ {P : Type 0} (holds : Map → List P → Type 0) (fixed : ℕ → Bool)
     event = step;
     heap = calm.kept.heap;
     table = table ∙ calm.kept.table;
-    held = ap (λ (v : View P). cells_in v.own.held) step.new
-        ∙ cells_unmarked at.seat.me.own.held ∙ calm.kept.held;
+    held = held_same;
+    places = record {
+      heap = calm.kept.heap;
+      table = table ∙ calm.kept.table;
+      shape = ap (λ (v : View P). v.shape) step.new ∙ calm.kept.shape;
+      role = ap (λ (v : View P). v.role) step.new ∙ calm.kept.role;
+      number = ap (λ (v : View P). v.number) step.new ∙ calm.kept.number;
+      room = ap (λ (v : View P). v.room) step.new ∙ calm.kept.room;
+      held = held_same;
+      claims = ap (λ (v : View P). v.own.claims) step.new ∙ calm.kept.claims;
+      inside = ap (λ (v : View P). v.presence.inside) step.new ∙ calm.kept.inside;
+      over = ap (λ (v : View P). v.presence.over) step.new ∙ calm.kept.over;
+    };
+    pass = ap (λ (v : View P). v.pass) step.new
+        ∙ ap (next (learned step.core step.lore (write_of at place f old new)) (finds.Field found))
+        calm.kept.pass;
   }
+    where
+      held_same : cells_in seat.me.own.held ≡ held_cells m
+      held_same = ap (λ (v : View P). cells_in v.own.held) step.new
+          ∙ cells_unmarked at.seat.me.own.held ∙ calm.kept.held
 
   -- a write that was made found what it expected
   pub updated_as : AtEvent holds fixed at.seat.me (write_of at place f old new) next

@@ -12,19 +12,18 @@ use Rattle.core_machine.specs.declared.events.Event.{Event}
 use Rattle.core_machine.specs.declared.events.Event.TheVariants as event
 use Rattle.core_machine.specs.declared.events.Found.{Found}
 use Rattle.core_machine.specs.declared.events.Found.TheVariants as finds
-use Rattle.core_machine.specs.declared.events.Taken.{Taken}
 use Rattle.core_machine.specs.Words.{lets_store}
 use Rattle.heap_rule.specs.declared.known.Learned.{Learned}
 use Rattle.heap_rule.specs.declared.view.View.{View}
 use Rattle.heap_rule.specs.Asks.{IsBox, IsSealedValue, known_of, target}
 use Rattle.heap_rule.specs.Boxes.{Map}
-use Rattle.heap_rule.specs.Lore.{cells_in}
+use Rattle.heap_rule.specs.Lore.{cells_in, learned}
 use Rattle.heap_rule.specs.Steps.{Picks, same_pass}
 use Rattle.mutator_events.specs.declared.values.Value.{Value}
 use Rattle.mutator_events.specs.Events.{AtEvent}
 use Rattle.mutator_events.specs.Values.{field_at, value_found}
 use Rattle.mutator_seat.specs.Bound.{Bound, held_cells, takes}
-use Rattle.mutator_seat.specs.Stretches.{Calm, Kept, MarksOf}
+use Rattle.mutator_seat.specs.Stretches.{Calm, Kept, MarksOf, SamePlaces}
 use Rattle.mutator_seat.specs.Writes.{IsNamed, wanted_by}
 use Rattle.trails.specs.Claims.{look_of}
 
@@ -64,6 +63,12 @@ module _ {P : Type 0} where
     pub heap : new.heap ≡ old.heap
     pub table : new.seat.table ≡ old.seat.table
 
+  -- what it told
+  abbrev pub told_by : {holds : Map → List P → Type 0} {fixed : ℕ → Bool} {e : Event}
+      {next : Learned → Found → P → P} {found : Found} {old new : Bound P}
+      → Stepped holds fixed e next found old new → Learned
+  told_by {e = e} step = learned step.event.core step.event.lore e
+
   -- An event loaded the field and found this, what the barrier asks for was marked, and an event
   -- wrote the field.
   pub record Replaced (holds : Map → List P → Type 0) (fixed : ℕ → Bool) (wanted : Barrier)
@@ -92,6 +97,10 @@ module _ {P : Type 0} where
     pub heap : after.heap ≡ old.heap
     pub table : after.seat.table ≡ old.seat.table
     pub held : held_cells after ≡ held_cells old
+    pub places : SamePlaces old after
+    -- what is picked at the load, and of that what is picked at the write
+    pub pass : after.seat.me.pass ≡ next (told_by replaced.write) found
+        (reads (told_by replaced.load) (finds.Field seen) old.seat.me.pass)
 
   -- one look that found this
   abbrev pub Looks : Control → Bound P → Bound P → Type 0
@@ -113,6 +122,10 @@ module _ {P : Type 0} where
     pub heap : after.heap ≡ m.heap
     pub table : after.seat.table ≡ m.seat.table
     pub held : held_cells after ≡ held_cells m
+    pub places : SamePlaces m after
+    -- what is picked of the pass before the call, at the store
+    pub pass : after.seat.me.pass
+        ≡ next (told_by rewritten.replaced.write) finds.Stored m.seat.me.pass
 
   -- One look that does not, a read that found this, the marks of the barrier, and the exchange of
   -- it for the new value, which found that; and the places from before are kept.
@@ -130,6 +143,11 @@ module _ {P : Type 0} where
     pub heap : after.heap ≡ m.heap
     pub table : after.seat.table ≡ m.seat.table
     pub held : held_cells after ≡ held_cells m
+    pub places : SamePlaces m after
+    -- what is picked of the pass before the call, at the read and then at the exchange
+    pub pass : after.seat.me.pass
+        ≡ next (told_by rewritten.replaced.write) (finds.Field found)
+        (reads (told_by rewritten.replaced.load) (finds.Field seen) m.seat.me.pass)
 
   -- The pass that is picked stands at the store, whatever the fetch finds and whatever is marked.
   abbrev pub PicksStore : (Map → List P → Type 0) → (ℕ → Bool) → (Learned → Found → P → P)

@@ -37,6 +37,20 @@ module _ {P : Type 0} where
     pub inside : new.seat.me.presence.inside ≡ old.seat.me.presence.inside
     pub over : new.seat.me.presence.over ≡ old.seat.me.presence.over
 
+  -- The same mutator of the same heap, in or out as it was: it holds the same cells at the same
+  -- places. What it knows of them, its pass and what it has begun may be others.
+  pub record SamePlaces (old new : Bound P) : Type 0 where
+    pub heap : new.heap ≡ old.heap
+    pub table : new.seat.table ≡ old.seat.table
+    pub shape : new.seat.me.shape ≡ old.seat.me.shape
+    pub role : new.seat.me.role ≡ old.seat.me.role
+    pub number : new.seat.me.number ≡ old.seat.me.number
+    pub room : new.seat.me.room ≡ old.seat.me.room
+    pub held : held_cells new ≡ held_cells old
+    pub claims : new.seat.me.own.claims ≡ old.seat.me.own.claims
+    pub inside : new.seat.me.presence.inside ≡ old.seat.me.presence.inside
+    pub over : new.seat.me.presence.over ≡ old.seat.me.presence.over
+
   -- the mutator took events of which this holds, and kept what it holds and knows
   pub record Calm (F : List Taken → Type 0) (old new : Bound P) : Type 0 where
     pub added : List Taken

@@ -18,14 +18,14 @@ use Rattle.heap_rule.specs.declared.known.Learned.{Learned}
 use Rattle.heap_rule.specs.declared.view.View.{View}
 use Rattle.heap_rule.specs.Asks.{IsBox, IsSealedValue, known_of, target}
 use Rattle.heap_rule.specs.Boxes.{Map}
-use Rattle.heap_rule.specs.Lore.{cells_in}
+use Rattle.heap_rule.specs.Lore.{cells_in, learned}
 use Rattle.heap_rule.specs.Steps.{Picks}
 use Rattle.mutator_events.specs.declared.values.Value.{Value}
 use Rattle.mutator_events.specs.declared.values.Value.TheVariants as values
 use Rattle.mutator_events.specs.Events.{AtEvent}
 use Rattle.mutator_events.specs.Values.{field_at}
 use Rattle.mutator_seat.specs.Bound.{Bound, held_cells}
-use Rattle.mutator_seat.specs.Stretches.{Calm, Kept, MarksOf}
+use Rattle.mutator_seat.specs.Stretches.{Calm, Kept, MarksOf, SamePlaces}
 use Rattle.trails.specs.Claims.{look_of}
 
 -- null, a number below 2^62, or a place in range
@@ -91,3 +91,8 @@ module _ {P : Type 0} where
     pub heap : after.heap ≡ m.heap
     pub table : after.seat.table ≡ m.seat.table
     pub held : held_cells after ≡ held_cells m
+    pub places : SamePlaces m after
+    -- what is picked of the pass before the call, by what the write told and found
+    pub pass : after.seat.me.pass
+        ≡ next (learned event.core event.lore (write_of at place f old new)) (finds.Field found)
+        m.seat.me.pass

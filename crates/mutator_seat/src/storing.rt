@@ -14,6 +14,7 @@ ghost use Rattle.mutator_seat.specs.Bound.{bound};
 ghost use Rattle.mutator_seat.specs.Stores.{Exchanged, MayOverwrite, Overwritten, PicksExchange};
 ghost use Rattle.mutator_seat.specs.Stores.{PicksOverwrite, PicksStore, Replaced, Rewritten};
 ghost use Rattle.mutator_seat.specs.Stores.{exchange_of, fetch_of, read_of, store_of};
+ghost use Rattle.mutator_seat.specs.Stretches.{SamePlaces};
 
 use crate::mutator::Mutator;
 use crate::writing::mark_wanted;
@@ -55,6 +56,7 @@ impl<'a, P: Keeping> Mutator<'a, P> {
             × (same_field moved.found seen ≡ false)
             × Exchanged P.holds P.fixed R.next C.next self.old place field new seen moved.found
             self.new) }
+        ensures places { SamePlaces self.old self.new }
     {
         let control = self.look_once();
         let own = self.status();

@@ -10,7 +10,7 @@ ghost use Rattle.core_machine.specs.Words.{barrier_in, marks_some, same_field};
 ghost use Rattle.heap_table.specs.Seats.{IsSeatOf};
 ghost use Rattle.mutator_events.specs.Values.{field_at};
 ghost use Rattle.mutator_seat.specs.Bound.{bound};
-ghost use Rattle.mutator_seat.specs.Stretches.{Calm, MarksOf};
+ghost use Rattle.mutator_seat.specs.Stretches.{Calm, MarksOf, SamePlaces};
 ghost use Rattle.mutator_seat.specs.Writes.{IsNamed, LookAndMarks, MayUpdate, PicksUpdate, Updated};
 ghost use Rattle.mutator_seat.specs.Writes.{places_in, wanted_by};
 
@@ -38,6 +38,7 @@ impl<'a, P: Keeping> Mutator<'a, P> {
         ensures moved { IfErr result (λ moved.
             (same_field moved.found (field_at self.old.seat.me.own.held old) ≡ false)
             × Updated P.holds P.fixed C.next self.old place field old new moved.found self.new) }
+        ensures places { SamePlaces self.old self.new }
     {
         self.look_and_mark(old, new);
         self.seat.write::<C>(self.heap, place, field, old, new)

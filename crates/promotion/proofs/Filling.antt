@@ -269,6 +269,20 @@ module _ {P : Type 0} (old m : Bound P) (place : ℕ) (fields : List Field)
         ),
       )
 
+  -- a field that gets null is null as it is
+  pub filled_null : (given : ℕ → Value) (i : ℕ) → i < 5 → given i ≡ values.Null
+      → AreFilled (held_cells old) given i fields → AreFilled (held_cells old) given (i + 1) fields
+  filled_null given i lt none filled = record {
+    five = filled.five;
+    done = λ j below. ⊎_elim (filled.done j)
+        (λ (same : j ≡ i). subst (λ (k : ℕ). slice_index_or fields k word.Null
+        ≡ field_among (held_cells old) (given k)) (sym same)
+        (filled.rest i (omega arith) lt
+        ∙ ap (λ (v : Value). field_among (held_cells old) v) (sym none)))
+        (up_to j i below);
+    rest = λ j above under. filled.rest j (omega (arith, above)) under;
+  }
+
   -- What the seal needs, where all five are filled, and what it leaves.
 
   field_is : (given : ℕ → Value) → AreFilled (held_cells old) given 5 fields

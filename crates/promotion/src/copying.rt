@@ -11,6 +11,7 @@ ghost use Rattle.minor_heap.specs.Spans.{AreWithin, NoneMarked};
 ghost use Rattle.minor_heap.specs.Terms.{terms_of};
 ghost use Rattle.minor_heap.specs.declared.fields.MinorField.TheVariants as field;
 ghost use Rattle.minor_heap.specs.declared.fields.MinorRef.{MinorRef};
+ghost use Rattle.mutator_events.specs.declared.values.Value.TheVariants as values;
 ghost use Rattle.mutator_seat.specs.Bound.{held_cells, takes};
 ghost use Rattle.mutator_seat.specs.Claims.{anything};
 ghost use Rattle.mutator_seat.specs.Stretches.{Calm};
@@ -41,6 +42,16 @@ fn value_of(minor: &MinorHeap, places: &[usize], r: MinorRef, i: usize) -> Value
         MinorField::Num(number) => Value::Num(number),
         MinorField::Minor(older) => Value::Held(places[older.number as usize]),
         MinorField::Shared(place) => Value::Held(place),
+    }
+}
+
+/// Whether a raw cell gets this value by a fill. Its fields are null as they are.
+fn is_filled_in(value: Value) -> bool
+    ensures null { (result ≡ false) → value ≡ values.Null }
+{
+    match value {
+        Value::Null => false,
+        Value::Num(_) | Value::Held(_) => true,
     }
 }
 
@@ -75,7 +86,9 @@ fn copy_record<P: Keeping, R: Wait>(
         Ok(place) => {
             for i in 0..5 {
                 let value = value_of(minor, places, r, i);
-                m.fill::<Brand>(place, i, value);
+                if is_filled_in(value) {
+                    m.fill::<Brand>(place, i, value);
+                }
             }
             m.seal_record(place);
             Ok(place)

@@ -19,7 +19,7 @@ use Rattle.heap_rule.specs.declared.view.Place.{Place}
 use Rattle.heap_rule.specs.declared.view.Place.TheVariants as places
 use Rattle.heap_rule.specs.declared.view.View.{View}
 use Rattle.heap_table.specs.Images.{ImageView, Shows}
-use Rattle.shared_counter.specs.Counting.{Counts, counter_in, number_behind, number_in, number_record}
+use Rattle.shared_counter.specs.Counting.{Counts, number_behind, number_in, number_record}
 use Rattle.shared_counter.specs.Counting.{sum_of}
 use Rattle.shared_counter.specs.Leaving.{Leaves}
 use Rattle.shared_counter.specs.Serving.{freed_by}

@@ -156,39 +156,26 @@ module _ (count : ℕ) (a : Bound Added) (at : HoldsNext count a) where
           cells = c ∷ d ∷ [];
           more = front.more;
           holds = record {
-            inside = ap (λ (v : View Added). v.presence.inside) done.event.new
-                ∙ done.calm.kept.inside ∙ at.holds.inside;
+            inside = done.places.inside ∙ at.holds.inside;
             held = done.held ∙ at.holds.held;
             first = front.first;
             known = known_b ∙ front.is;
-            room = ap (λ (v : View Added). v.room) done.event.new ∙ done.calm.kept.room
-                ∙ at.holds.room;
+            room = done.places.room ∙ at.holds.room;
           };
         }
-
-    pass_b : b.seat.me.pass
-        ≡ one_more (was_made (field_at a.seat.me.own.held (values.Held 1)) (finds.Field found))
-        a.seat.me.pass
-    pass_b =
-        ap (λ (v : View Added). v.pass) done.event.new
-        ∙ ap (one_more (was_made (field_at a.seat.me.own.held (values.Held 1))
-        (finds.Field found))) done.calm.kept.pass
-
-    number_b : b.seat.me.number ≡ a.seat.me.number
-    number_b = ap (λ (v : View Added). v.number) done.event.new ∙ done.calm.kept.number
 
     pub adds_if : (how : Bool)
         → same_field found (field_at a.seat.me.own.held (values.Held 1)) ≡ how
         → Adds (if how then 1 else 0) a b
     adds_if true is = record {
       heap = done.heap;
-      number = number_b;
-      pass = pass_b ∙ ap (λ (k : Bool). one_more k a.seat.me.pass) is;
+      number = done.places.number;
+      pass = done.pass ∙ ap (λ (k : Bool). one_more k a.seat.me.pass) is;
     }
     adds_if false is = record {
       heap = done.heap;
-      number = number_b;
-      pass = pass_b ∙ ap (λ (k : Bool). one_more k a.seat.me.pass) is
+      number = done.places.number;
+      pass = done.pass ∙ ap (λ (k : Bool). one_more k a.seat.me.pass) is
           ∙ (λ i. record {
             sum = (let e : a.seat.me.pass.sum ≡ a.seat.me.pass.sum + 0 =
                 omega arith in e) i;

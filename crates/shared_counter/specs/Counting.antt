@@ -7,12 +7,10 @@ use Rattle.cell_words.specs.Term.{Term, five, null, num}
 use Rattle.cell_words.specs.declared.fields.Field.{Field}
 use Rattle.cell_words.specs.declared.fields.Field.TheVariants as field
 use Rattle.core_machine.specs.State.{State, field_of}
-use Rattle.core_machine.specs.Table.{words_of}
 use Rattle.core_machine.specs.declared.events.Found.{Found}
 use Rattle.heap_rule.specs.Boxes.{Map, Payload, Smaller}
 use Rattle.heap_rule.specs.Lore.{Plain, was_made}
 use Rattle.heap_rule.specs.declared.known.Learned.{Learned}
-use Rattle.heap_table.specs.Images.{ImageView, Shows}
 use Rattle.shared_counter.specs.declared.counter.Added.{Added}
 
 -- the record of a number

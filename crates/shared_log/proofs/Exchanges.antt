@@ -31,7 +31,7 @@ use Rattle.held_places.proofs.Going.{calm_goes, cut_goes, cut_pass, in_still, ke
 use Rattle.held_places.proofs.Going.{many_cells}
 use Rattle.held_places.proofs.Going.{many_held, target_still}
 use Rattle.held_places.proofs.Knowns.{sealed_at}
-use Rattle.held_places.proofs.Writing.{wrote_goes, wrote_held, wrote_pass}
+use Rattle.held_places.proofs.Writing.{wrote_goes}
 use Rattle.promotion.proofs.Holding.{held_kept}
 use Rattle.shared_log.specs.Appending.{Appends, HoldsEntry, HoldsNext, Loose, Rests}
 use Rattle.shared_log.specs.Logging.{KeepsLog, MayAppend, appending, entry_fields}
@@ -239,12 +239,10 @@ module _ (number : ℕ) (a : Bound Appended) (at : HoldsNext number a) where
 
     pub loose_after : Loose b
     loose_after = loose_goes a b [] goes
-        (wrote_held is_fixed KeepsLog (appending old) a b 0 0 (values.Held 1) (values.Held 2)
-        found wrote) at.loose
+        (wrote.held ∙ sym (append-nil (held_cells a))) at.loose
 
     pass_b : b.seat.me.pass ≡ one_more (same_field found old) a.seat.me.pass
-    pass_b = wrote_pass is_fixed KeepsLog (appending old) a b 0 0 (values.Held 1) (values.Held 2)
-        found wrote
+    pass_b = wrote.pass
 
     pub appends_if : (how : Bool) → same_field found old ≡ how
         → Appends (if how then 1 else 0) a b

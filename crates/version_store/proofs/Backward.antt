@@ -1,25 +1,21 @@
 -- The walk back along links, and what is made of it.
 use Rattle.std.proofs.Common.{◌≡◌, ◌<◌, ◌≤◌, ◌+◌, ◌-◌, ℕ, List, [], ◌∷◌, ◌++◌, length, max}
-use Rattle.std.proofs.Common.{get_or, take, drop, refl, sym, ◌∙◌, ap, subst, arith}
-use Rattle.std.proofs.lemmas.List.{append-nil, append_assoc, get_or-take, get_or_append_left}
-use Rattle.std.proofs.lemmas.List.{get_or-append-add, length-append, length-map, length-take-le}
-use Rattle.std.proofs.lemmas.List.{map-append, take-map, take_at, drop_more}
+use Rattle.std.proofs.Common.{get_or, take, sym, ◌∙◌, ap, subst, arith}
+use Rattle.std.proofs.lemmas.List.{append-nil, append_assoc}
+use Rattle.std.proofs.lemmas.List.{length-append}
+use Rattle.std.proofs.lemmas.List.{take_at}
 use Rattle.cell_words.specs.declared.fields.Field.TheVariants as field
 use Rattle.core_machine.specs.declared.events.Event.TheVariants as event
 use Rattle.core_machine.specs.declared.events.Found.{Found}
 use Rattle.core_machine.specs.declared.events.Found.TheVariants as finds
-use Rattle.core_machine.specs.declared.places.Held.{Held}
 use Rattle.heap_rule.specs.declared.known.Known.{Known}
-use Rattle.heap_rule.specs.declared.known.Known.TheVariants as knows
 use Rattle.heap_rule.specs.declared.known.Learned.{Learned}
-use Rattle.heap_rule.specs.Asks.{MayKeep, known_of}
-use Rattle.heap_rule.specs.Lore.{cells_in, known_at, nothing_learned}
+use Rattle.heap_rule.specs.Asks.{MayKeep}
 use Rattle.mutator_seat.specs.Bound.{Bound, held_cells, takes}
-use Rattle.trails.specs.Asks.{nothing}
 use Rattle.version_rule.specs.Knowing.{IsVersionKnown, link_seen}
 use Rattle.version_rule.specs.Pass.{Pass, seeing}
 use Rattle.version_store.specs.declared.held.HeldVersion.{HeldVersion}
-use Rattle.held_places.specs.Calls.{Goes, IsIn}
+use Rattle.held_places.specs.Calls.{IsIn}
 use Rattle.version_store.specs.Calls.{Holds, StaysKnown}
 use Rattle.version_store.specs.Commits.{FindsNewer}
 use Rattle.version_store.specs.Held.{GivesLatest, IsHeld}
@@ -28,9 +24,9 @@ use Rattle.version_store.specs.Reads.{FindsNumber}
 use Rattle.version_store.specs.Walks.{EndsThere, FollowsLink, Stopped, Walked}
 use Rattle.held_places.proofs.Going.{cut_claims, cut_goes, cut_held, cut_known, cut_pass}
 use Rattle.held_places.proofs.Going.{in_still}
-use Rattle.held_places.proofs.Going.{goes_late, goes_none, goes_on, goes_then, goes_told}
+use Rattle.held_places.proofs.Going.{goes_late, goes_none, goes_on, goes_then}
 use Rattle.held_places.proofs.Going.{known_below, known_then, many_cells, many_held}
-use Rattle.held_places.proofs.Going.{still_same}
+use Rattle.held_places.proofs.Narrowing.{keep_cells, keep_goes, keep_last, keep_stays}
 use Rattle.version_store.proofs.Remaining.{version_still}
 use Rattle.version_rule.specs.Versions.{is_fixed}
 
@@ -112,61 +108,6 @@ walk_stops next a b c v at steps all lt walked end = record {
 
 -- The older version.
 
--- the first places, and behind them the cell of one of the others
-module _ (b c : Bound Pass) (n place : ℕ) (p : Found)
-    (told : c ≡ takes b (event.Keep b.seat.me.number n place 1) p) where
-  keep_goes : Goes [] b c
-  keep_goes = goes_told b c [] (event.Keep b.seat.me.number n place 1) p nothing_learned
-      b.seat.me.pass (ap (λ (m : Bound Pass). m.heap) told)
-      (ap (λ (m : Bound Pass). m.seat.table) told) (ap (λ (m : Bound Pass). m.seat.me) told) refl
-      nothing
-
-  one_more : {A : Type 0} (xs : List A) (i : ℕ) (d : A) → i < length xs
-      → take 1 (drop i xs) ≡ get_or xs i d ∷ []
-  one_more xs i d lt = ap (take 1) (drop_more xs i d lt)
-
-  module _ (there : place < length b.seat.me.own.held) (some : n ≤ length b.seat.me.own.held)
-      (many : length b.seat.me.known ≡ length b.seat.me.own.held) where
-    keep_cells : held_cells c ≡ take n (held_cells b) ++ get_or (held_cells b) place 0 ∷ []
-    keep_cells =
-        ap (λ (m : Bound Pass). held_cells m) told
-        ∙ map-append (λ (h : Held). h.cell) (take n b.seat.me.own.held)
-        (take 1 (drop place b.seat.me.own.held))
-        ∙ ap (λ (cs : List ℕ). cs ++ cells_in (take 1 (drop place b.seat.me.own.held)))
-        (sym (take-map (λ (h : Held). h.cell) n b.seat.me.own.held))
-        ∙ ap (λ (hs : List Held). take n (held_cells b) ++ cells_in hs)
-        (one_more b.seat.me.own.held place Rattle.core_machine.specs.Places.no_place there)
-        ∙ ap (λ (x : ℕ). take n (held_cells b) ++ x ∷ [])
-        (sym (Rattle.heap_rule.proofs.Reading.cell_there b.seat.me.own.held place))
-
-    keep_known : c.seat.me.known ≡ take n b.seat.me.known ++ known_of b.seat.me place ∷ []
-    keep_known =
-        ap (λ (m : Bound Pass). m.seat.me.known) told
-        ∙ ap (λ (ks : List Known). take n b.seat.me.known ++ ks)
-        (one_more b.seat.me.known place knows.Nothing
-        (subst (λ (k : ℕ). place < k) (sym many) there))
-
-    front : length (take n b.seat.me.known) ≡ n
-    front = length-take-le n b.seat.me.known (omega (arith, some, many))
-
-    -- what is known of the first places
-    keep_stays : StaysKnown n b c
-    keep_stays other lt =
-        subst (λ (k : Known). Rattle.version_store.specs.Calls.StillKnown
-        (known_of b.seat.me other) k)
-        (sym (ap (λ (ks : List Known). known_at ks other) keep_known
-        ∙ get_or_append_left (take n b.seat.me.known) (known_of b.seat.me place ∷ [])
-        knows.Nothing other (omega (arith, lt, front))
-        ∙ get_or-take n b.seat.me.known other knows.Nothing lt))
-        (still_same is_fixed (known_of b.seat.me other))
-
-    -- and of the last
-    keep_last : known_of c.seat.me n ≡ known_of b.seat.me place
-    keep_last =
-        ap (λ (ks : List Known). known_at ks n) keep_known
-        ∙ Rattle.std.proofs.lemmas.List.get_or_push (take n b.seat.me.known)
-        (known_of b.seat.me place) knows.Nothing n front
-
 pub gives_older : (a b c : Bound Pass) (v at : HeldVersion) (back n : ℕ) (p : Found)
     → n ≡ length a.seat.me.own.held → Walked a b v at back
     → c ≡ takes b (event.Keep b.seat.me.number n at.place 1) p
@@ -188,7 +129,7 @@ gives_older a b c v at back n p is walked told =
         held = held;
         known = known_then is_fixed (length a.seat.me.own.held) a b c walked.known
             (subst (λ (k : ℕ). StaysKnown k b c) is
-            (keep_stays b c n at.place p told there some walked.many));
+            (keep_stays b c n at.place p told there some walked.many is_fixed));
       };
       place_is = is;
       number_is = walked.number_is;

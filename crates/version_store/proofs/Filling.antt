@@ -17,6 +17,7 @@ use Rattle.heap_rule.specs.Asks.{knows_sealed, raw_fields, target}
 use Rattle.heap_rule.specs.Lore.{at_cell, five_nulls, known_at}
 use Rattle.heap_rule.specs.Lore.{known_sealed, known_set, known_stored}
 use Rattle.heap_rule.specs.Lore.{nothing_learned}
+use Rattle.heap_rule.proofs.Many.{at_cell_many}
 use Rattle.heap_rule.proofs.Reading.{cell_there}
 use Rattle.mutator_events.specs.declared.values.Value.TheVariants as values
 use Rattle.mutator_events.specs.Values.{field_at}
@@ -33,7 +34,7 @@ use Rattle.held_places.proofs.Going.{settled_lasts, still_on}
 use Rattle.held_places.proofs.Storing.{named_not, settled_is, settled_sealed}
 use Rattle.held_places.proofs.Storing.{stored_many}
 use Rattle.held_places.proofs.Storing.{stored_still}
-use Rattle.held_places.proofs.Knowns.{changed_else, changed_here, changed_many}
+use Rattle.held_places.proofs.Knowns.{changed_else, changed_here}
 use Rattle.held_places.proofs.Knowns.{sealed_at}
 use Rattle.version_rule.specs.Versions.{is_fixed}
 
@@ -123,7 +124,7 @@ module _ (old a b : Bound Pass) (fresh latest tree f : ℕ) (fields : List Field
         let c = get_or cells fresh 0 in
         stored_known fresh
         ∙ named_not cells (at_cell change c cells known)
-        (changed_many change c cells known many_now ∙ many_now) value fresh within
+        (at_cell_many change c cells known many_now ∙ many_now) value fresh within
         (λ d is same. other d is (sym cell_is ∙ same))
         ∙ changed_here change c cells known fresh within many_now refl
         ∙ ap change filled.raw;
@@ -238,7 +239,7 @@ makes old a b fresh number latest tree filled there told =
           refl nothing);
       held = ap (λ (m : Bound Pass). held_cells m) told ∙ filled.held;
       many = ap (λ (m : Bound Pass). length m.seat.me.known) told
-          ∙ changed_many change c cells known many_now ∙ filled.many
+          ∙ at_cell_many change c cells known many_now ∙ filled.many
           ∙ sym (ap (λ (m : Bound Pass). length m.seat.me.own.held) told);
       box = ap (λ (m : Bound Pass). known_of m.seat.me fresh) told
           ∙ changed_here change c cells known fresh within many_now refl

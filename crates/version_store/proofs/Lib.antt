@@ -4,7 +4,6 @@ pub mod Lasting
 pub mod Latest
 pub mod Leaving
 pub mod Links
-pub mod Overwriting
 pub mod Putting
 pub mod Remaining
 pub mod Taking

@@ -44,8 +44,7 @@ use Rattle.held_places.proofs.Going.{known_below, known_then, many_cells, many_h
 use Rattle.held_places.proofs.Going.{settled_lasts, still_on, target_still}
 use Rattle.version_store.proofs.Remaining.{version_known}
 use Rattle.held_places.proofs.Knowns.{fresh_apart, sealed_at}
-use Rattle.held_places.proofs.Writing.{wrote_claims, wrote_goes, wrote_known}
-use Rattle.held_places.proofs.Writing.{wrote_pass}
+use Rattle.held_places.proofs.Writing.{wrote_goes, wrote_known}
 
 -- what a record is known to be stays
 pub record_still : (j k : Known) (t : Term) → j ≡ knows.Record t → StillKnown j k
@@ -345,10 +344,7 @@ module _ (is_tree : Term → Type 0) (tree_of : Term → DocTree)
             found wrote made.many place
             (omega (arith, lt, long)) (λ is. not_anchor place lt (sym alike ∙ is))
             (λ is other named on. not_box place lt other named on));
-        claims = wrote_claims is_fixed (HoldsVersions is_tree tree_of)
-            (picks_made tree_of c v.place tree) c
-            d 0 0 (values.Held v.place) (values.Held fresh) found wrote ∙ made.claims
-            ∙ latest.claims;
+        claims = wrote.places.claims ∙ made.claims ∙ latest.claims;
       }
 
       goes_all : Goes [] a d
@@ -375,9 +371,7 @@ module _ (is_tree : Term → Type 0) (tree_of : Term → DocTree)
       module _ (other : same_field found (field.Cell from) ≡ false) where
         lost_pass : d.seat.me.pass ≡ seeing (v.number + 1) (seeing v.number a.seat.me.pass)
         lost_pass =
-            wrote_pass is_fixed (HoldsVersions is_tree tree_of)
-            (picks_made tree_of c v.place tree) c d 0 0
-            (values.Held v.place) (values.Held fresh) found wrote
+            wrote.pass
             ∙ ap (λ (is : Bool). made_or_seen is (number_told (known_of c.seat.me v.place) + 1)
             (tree_of (root_at c v.place)) (tree_of (term_at c tree)) c.seat.me.pass) other
             ∙ ap (λ (n : ℕ). seeing (n + 1) c.seat.me.pass) number_is
@@ -483,9 +477,7 @@ module _ (is_tree : Term → Type 0) (tree_of : Term → DocTree)
           (finds.Field (field.Cell from)) d.seat.me) picked_is wrote.event);
       after = [];
       trail_after = sym (append-nil d.seat.me.trail);
-      pass = wrote_pass is_fixed (HoldsVersions is_tree tree_of)
-          (picks_made tree_of c v.place tree) c d 0
-          0 (values.Held v.place) (values.Held fresh) (field.Cell from) wrote
+      pass = wrote.pass
           ∙ ap (λ (is : Bool). made_or_seen is (number_told (known_of c.seat.me v.place) + 1)
           (tree_of (root_at c v.place)) (tree_of (term_at c tree)) c.seat.me.pass)
           (eq-eqb from from refl)

@@ -29,8 +29,8 @@ use Rattle.mutator_events.specs.Values.{value_found}
 use Rattle.mutator_seat.specs.Bound.{Bound, held_cells}
 use Rattle.mutator_seat.specs.Stores.{Exchanged, Looks, MayOverwrite, Overwritten, PicksExchange}
 use Rattle.mutator_seat.specs.Stores.{PicksOverwrite, PicksStore, Stepped, exchange_of, fetch_of}
-use Rattle.mutator_seat.specs.Stores.{read_of, store_of}
-use Rattle.mutator_seat.specs.Stretches.{Kept}
+use Rattle.mutator_seat.specs.Stores.{read_of, store_of, told_by}
+use Rattle.mutator_seat.specs.Stretches.{Kept, SamePlaces}
 use Rattle.version_rule.specs.Knowing.{HasReadLink, KnowsVersion, MayCut, link_cut, link_taken}
 use Rattle.version_rule.specs.Knowing.{number_told}
 use Rattle.version_rule.specs.Pass.{Pass, cutting}
@@ -38,16 +38,16 @@ use Rattle.version_rule.specs.Versions.{HoldsVersions, is_fixed}
 use Rattle.version_rule.proofs.Reading.{link_cut_picks, number_known}
 use Rattle.version_rule.proofs.Writing.{cut_picks, exchange_picks}
 use Rattle.version_store.specs.declared.held.HeldVersion.{HeldVersion}
-use Rattle.held_places.specs.Calls.{IsIn, cells_found}
+use Rattle.held_places.specs.Calls.{IsIn, Overwrote, cells_found}
 use Rattle.version_store.specs.Held.{IsHeld}
 use Rattle.version_store.specs.Walks.{LinkTaken}
 use Rattle.version_store.specs.Writes.{EndsLink, Writes, WritesLink}
-use Rattle.held_places.proofs.Going.{calm_goes, many_cells, target_still}
+use Rattle.held_places.proofs.Going.{many_cells, target_still}
+use Rattle.held_places.proofs.Overwriting.{Loaded, exchanged, fetch_begun, fetched}
+use Rattle.held_places.proofs.Overwriting.{overwrote, read_here}
 use Rattle.version_store.proofs.Remaining.{version_still}
 use Rattle.version_store.proofs.Leaving.{looks_writes, nothing_then, rewrites}
 use Rattle.version_store.proofs.Links.{ends, follows, link_is_no_number}
-use Rattle.version_store.proofs.Overwriting.{Loaded, Overwrote, exchanged, fetch_begun, fetched}
-use Rattle.version_store.proofs.Overwriting.{looked_first, read_here, stored}
 use Rattle.version_store.proofs.Trimming.{picks_cut, version_kept}
 
 -- What the read of the link says to the exchange behind it, and that the pass knows no more of it
@@ -103,8 +103,7 @@ module _ (is_tree : Term → Type 0) (tree_of : Term → DocTree)
   was_cell c word =
       let next = follows is_tree tree_of is_record link_cut a b step.heap step.table v is seen
       step.event many (picks_cut is_tree tree_of is_record) (sym (ap (value_found many) word)) in
-      let read = read_here (HoldsVersions is_tree tree_of) link_cut a b v.place 2 seen
-      is.knows.there step in
+      let read = read_here a b v.place 2 seen is.knows.there step in
       record {
         link = record {
           place = many;
@@ -157,7 +156,7 @@ module _ (a : Bound Pass) (newest oldest : HeldVersion) (is : IsIn a) (first : I
 
   -- behind the look, the load and the marks
   held_behind : (v : HeldVersion) (looked loaded at : Bound Pass) (seen : Field)
-      → (held : IsHeld a v) → Kept a looked → Loaded looked loaded seen → Kept loaded at
+      → (held : IsHeld a v) → Kept a looked → Loaded is_fixed looked loaded seen → Kept loaded at
       → KnowsVersion at.seat.me v.place v.number held.root
   held_behind v looked loaded at seen held look load marks =
       let now = version_kept a looked look v.place v.number held.root held.knows in
@@ -166,7 +165,7 @@ module _ (a : Bound Pass) (newest oldest : HeldVersion) (is : IsIn a) (first : I
       load.held v.place v.number held.root now.there now)
 
   may_cut : (looked loaded at : Bound Pass) (seen : Field) → Kept a looked
-      → Loaded looked loaded seen → Kept loaded at
+      → Loaded is_fixed looked loaded seen → Kept loaded at
       → loaded.seat.me.pass.keep ≡ looked.seat.me.pass.keep
       → MayCut at.seat.me oldest.place newest.place number newest.number last.root first.root
   may_cut looked loaded at seen look load marks same = record {
@@ -191,13 +190,13 @@ module _ (a : Bound Pass) (newest oldest : HeldVersion) (is : IsIn a) (first : I
         let there = version_kept a looked look oldest.place oldest.number last.root last.knows in
         let begun : begun_of at.seat.me ≡ record { place = oldest.place; f = 2; found = seen } =
         ap pending_or_none marks.pending
-        ∙ fetch_begun Rule same_pass looked fetch oldest.place 2 seen step in
+        ∙ fetch_begun looked fetch oldest.place 2 seen step in
         cut_picks is_tree tree_of is_record at.seat.me newest.place number newest.number last.root
         first.root
         (subst (λ (w : Pending). MayCut at.seat.me w.place newest.place number newest.number
         last.root first.root) (sym begun)
         (may_cut looked fetch at seen look
-        (fetched Rule same_pass looked fetch oldest.place 2 seen there.there step) marks
+        (fetched looked fetch oldest.place 2 seen there.there step) marks
         (ap (λ (u : View Pass). u.pass.keep) step.event.new)))
         (ap (λ (w : Pending). w.f) begun)
 
@@ -211,7 +210,7 @@ module _ (a : Bound Pass) (newest oldest : HeldVersion) (is : IsIn a) (first : I
         exchange_picks is_tree tree_of is_record at.seat.me oldest.place newest.place number
         newest.number last.root first.root seen
         (may_cut looked read at seen look
-        (read_here Rule link_cut looked read oldest.place 2 seen now.there step) marks
+        (read_here looked read oldest.place 2 seen now.there step) marks
         (ap (λ (p : Pass). p.keep) link.pass))
         (link_kept read at marks number seen
         (subst (λ (n : ℕ). HasReadLink read.seat.me n seen) (sym number_is) link.link))
@@ -228,76 +227,44 @@ module _ (a : Bound Pass) (newest oldest : HeldVersion) (is : IsIn a) (first : I
 
     -- What it left.
 
-    taken_by : (b : Bound Pass) → held_cells b ≡ held_cells a
-        → Overwrote a b oldest.place (cutting oldest.number a.seat.me.pass)
+    taken_by : (b : Bound Pass) → SamePlaces a b → Overwrote is_fixed a b oldest.place values.Null
+        → b.seat.me.pass ≡ cutting oldest.number a.seat.me.pass
         → LinkTaken a b oldest
-    taken_by b held wrote = record {
+    taken_by b same wrote pass = record {
       goes = wrote.goes;
-      held = held ∙ sym (append-nil (held_cells a));
-      known = wrote.known;
-      pass = wrote.pass_is;
-      claims = wrote.claims;
+      held = same.held ∙ sym (append-nil (held_cells a));
+      known = λ place lt apart. wrote.known place lt apart (λ fresh c is. absurd cc);
+      pass = pass;
+      claims = same.claims;
     }
 
     -- One way or the other: what was loaded is `loaded`, and the write was made at `at`.
-    module _ (b looked loaded at : Bound Pass) (control : Control) (e : Event) (found : Found)
-        (held : held_cells b ≡ held_cells a) (look : Looks control a looked)
-        (number_loaded : loaded.seat.me.number ≡ looked.seat.me.number) (marks : Kept loaded at)
-        (pass : cutting oldest.number loaded.seat.me.pass
-        ≡ cutting oldest.number looked.seat.me.pass)
-        (wrote : Overwrote looked b oldest.place (cutting number loaded.seat.me.pass))
-        (writes : Writes (took e found ∷ []) looked b) where
-      number_at : at.seat.me.number ≡ a.seat.me.number
-      number_at = marks.number ∙ number_loaded ∙ look.kept.number
-
-      whole_pass : cutting number loaded.seat.me.pass ≡ cutting oldest.number a.seat.me.pass
-      whole_pass =
-          ap (λ (n : ℕ). cutting n loaded.seat.me.pass) number_is ∙ pass
-          ∙ ap (cutting oldest.number) look.kept.pass
-
-      taken_so : LinkTaken a b oldest
-      taken_so =
-          taken_by b held
-          (looked_first a looked b oldest.place (cutting oldest.number a.seat.me.pass)
-          (calm_goes _ a looked look) look.kept last.knows.there
-          (subst (λ (p : Pass). Overwrote looked b oldest.place p) whole_pass wrote))
-
-      writes_so : EndsLink a.seat.me.number e → WritesLink a b
-      writes_so ends = record {
-        taken = took e found;
-        ends = ends;
-        writes = nothing_then (took e found ∷ []) a looked b (looks_writes control a looked look)
-            writes;
-      }
+    writes_by : (b looked loaded at : Bound Pass) (control : Control) (e : Event) (found : Found)
+        → Looks control a looked → loaded.seat.me.number ≡ looked.seat.me.number → Kept loaded at
+        → Writes (took e found ∷ []) looked b
+        → (at.seat.me.number ≡ a.seat.me.number → EndsLink a.seat.me.number e) → WritesLink a b
+    writes_by b looked loaded at control e found look number_loaded marks writes ends = record {
+      taken = took e found;
+      ends = ends (marks.number ∙ number_loaded ∙ look.kept.number);
+      writes = nothing_then (took e found ∷ []) a looked b (looks_writes control a looked look)
+          writes;
+    }
 
     stored_link : (b : Bound Pass)
         → Overwritten Rule is_fixed (link_taken number) a oldest.place 2 values.Null b
         → LinkTaken a b oldest × WritesLink a b
     stored_link b is =
         let looked = is.looked in
-        let loaded = is.rewritten.replaced.loaded in
-        let at = is.rewritten.replaced.at in
-        let marks = is.rewritten.replaced.marks.kept in
-        let load = is.rewritten.replaced.load.event in
-        let wanted = barrier_of a.seat.me.presence.status is.control in
-        let now = version_kept a looked is.look.kept oldest.place oldest.number last.root
-        last.knows in
-        let e = store_of values.Null at in
-        let number_loaded = ap (λ (u : View Pass). u.number) load.new in
-        let pass = ap (cutting oldest.number) (ap (λ (u : View Pass). u.pass) load.new) in
-        let wrote = stored Rule wanted is.seen (link_taken number) looked b oldest.place 2 now.there
-        same_pass is.rewritten in
-        let writes = rewrites Rule wanted (fetch_of looked oldest.place 2) same_pass is.seen
-        (store_of values.Null) (link_taken number) finds.Stored values.Null looked b is.rewritten
-        refl refl in (
-          taken_so b looked loaded at is.control e finds.Stored is.held is.look number_loaded marks
-              pass wrote writes,
-          writes_so b looked loaded at is.control e finds.Stored is.held is.look number_loaded marks
-              pass wrote writes (
-                number_at b looked loaded at is.control e finds.Stored is.held is.look number_loaded
-                    marks pass wrote writes,
-                refl,
-              ),
+        let done = is.rewritten.replaced in
+        let wanted = barrier_of a.seat.me.presence.status is.control in (
+          taken_by b is.places (overwrote a b oldest.place 2 values.Null last.knows.there tt is)
+              (is.pass ∙ ap (λ (n : ℕ). cutting n a.seat.me.pass) number_is),
+          writes_by b looked done.loaded done.at is.control (store_of values.Null done.at)
+              finds.Stored is.look (ap (λ (u : View Pass). u.number) done.load.event.new)
+              done.marks.kept
+              (rewrites Rule wanted (fetch_of looked oldest.place 2) same_pass is.seen
+              (store_of values.Null) (link_taken number) finds.Stored values.Null looked b
+              is.rewritten refl refl) (λ same. (same, refl)),
         )
 
     exchanged_link : (b : Bound Pass) (seen found : Field)
@@ -306,31 +273,29 @@ module _ (a : Bound Pass) (newest oldest : HeldVersion) (is : IsIn a) (first : I
         → LinkTaken a b oldest × WritesLink a b
     exchanged_link b seen found is =
         let looked = is.looked in
-        let loaded = is.rewritten.replaced.loaded in
-        let at = is.rewritten.replaced.at in
-        let marks = is.rewritten.replaced.marks.kept in
-        let load = is.rewritten.replaced.load in
+        let done = is.rewritten.replaced in
+        let load = done.load in
         let wanted = barrier_of a.seat.me.presence.status is.control in
         let now = version_kept a looked is.look.kept oldest.place oldest.number last.root
         last.knows in
-        let e = exchange_of oldest.place 2 seen values.Null at in
-        let number_loaded = ap (λ (u : View Pass). u.number) load.event.new in
-        let link = link_was_read is_tree tree_of is_record looked loaded oldest
+        let link = link_was_read is_tree tree_of is_record looked done.loaded oldest
         record { root = last.root; knows = now } seen load in
-        let wrote = exchanged Rule wanted seen (link_taken number) looked b oldest.place 2 now.there
-        link_cut found is.rewritten in
-        let writes = rewrites Rule wanted (read_of looked oldest.place 2) link_cut seen
-        (exchange_of oldest.place 2 seen values.Null) (link_taken number) (finds.Field found)
-        values.Null looked b is.rewritten refl refl in (
-          taken_so b looked loaded at is.control e (finds.Field found) is.held is.look number_loaded
-              marks link.pass wrote writes,
-          writes_so b looked loaded at is.control e (finds.Field found) is.held is.look
-              number_loaded marks link.pass wrote writes (
-                number_at b looked loaded at is.control e (finds.Field found) is.held is.look
-                    number_loaded marks link.pass wrote writes,
-                refl,
-                refl,
-              ),
+        let looked_pass = is.look.kept.pass in (
+          taken_by b is.places
+              (exchanged a b oldest.place 2 values.Null last.knows.there tt seen found is)
+              (is.pass
+              ∙ ap (λ (p : Pass). cutting number (link_cut (told_by load) (finds.Field seen) p))
+              (sym looked_pass)
+              ∙ ap (cutting number) (sym (ap (λ (u : View Pass). u.pass) load.event.new))
+              ∙ ap (λ (n : ℕ). cutting n done.loaded.seat.me.pass) number_is ∙ link.pass
+              ∙ ap (cutting oldest.number) looked_pass),
+          writes_by b looked done.loaded done.at is.control
+              (exchange_of oldest.place 2 seen values.Null done.at) (finds.Field found) is.look
+              (ap (λ (u : View Pass). u.number) load.event.new) done.marks.kept
+              (rewrites Rule wanted (read_of looked oldest.place 2) link_cut seen
+              (exchange_of oldest.place 2 seen values.Null) (link_taken number)
+              (finds.Field found) values.Null looked b is.rewritten refl refl)
+              (λ same. (same, refl, refl)),
         )
 
     pub was_taken : (b : Bound Pass) (r : Result (Unit {0}) Moved)

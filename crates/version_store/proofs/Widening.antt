@@ -1,10 +1,8 @@
 -- The commit with its claim before it and the cut of its places behind it.
-use Rattle.std.proofs.Common.{◌≡◌, ◌≢◌, ◌<◌, ◌≤◌, ◌+◌, ◌⊎◌, ℕ, true, false, List, [], ◌∷◌, ◌++◌}
+use Rattle.std.proofs.Common.{◌≡◌, ◌≤◌, ◌+◌, ℕ, List, [], ◌∷◌, ◌++◌}
 use Rattle.std.proofs.Common.{length}
-use Rattle.std.proofs.Common.{inl, inr, refl, sym, ◌∙◌, ap, subst, arith}
-use Rattle.std.proofs.lemmas.Bool.{cases_lt}
-use Rattle.std.proofs.lemmas.List.{append_assoc, get_or_past}
-use Rattle.cell_words.specs.declared.colours.Colour.TheVariants as colour
+use Rattle.std.proofs.Common.{sym, ◌∙◌, ap, subst, arith}
+use Rattle.std.proofs.lemmas.List.{append_assoc}
 use Rattle.cell_words.specs.declared.fields.Field.TheVariants as field
 use Rattle.cell_words.specs.Term.{Term}
 use Rattle.core_machine.specs.declared.events.Event.TheVariants as event
@@ -12,81 +10,42 @@ use Rattle.core_machine.specs.declared.events.Found.{Found}
 use Rattle.core_machine.specs.declared.events.Found.TheVariants as finds
 use Rattle.core_machine.specs.declared.events.Taken.{Taken}
 use Rattle.doc_tree.specs.Tree.{DocTree}
-use Rattle.heap_rule.specs.declared.known.Known.{Known}
 use Rattle.heap_rule.specs.declared.known.Known.TheVariants as knows
 use Rattle.heap_rule.specs.Asks.{known_of, target}
-use Rattle.heap_rule.specs.Lore.{five_nulls, has, known_at, nothing_learned}
-use Rattle.heap_rule.proofs.Lists.{has_at}
-use Rattle.heap_rule.proofs.Reading.{cell_there}
 use Rattle.mutator_events.specs.Events.{AtEvent}
 use Rattle.mutator_seat.specs.Bound.{Bound, held_cells, takes}
-use Rattle.mutator_seat.specs.Claims.{Claimed, Seeking}
-use Rattle.trails.specs.Asks.{nothing}
+use Rattle.mutator_seat.specs.Claims.{Claimed}
 use Rattle.version_rule.specs.Knowing.{next_made}
 use Rattle.version_rule.specs.Pass.{Pass, committed, seeing}
 use Rattle.version_rule.specs.Versions.{HoldsVersions, is_fixed}
 use Rattle.version_rule.proofs.Reading.{root_known}
 use Rattle.version_store.specs.declared.held.HeldVersion.{HeldVersion}
-use Rattle.held_places.specs.Calls.{Goes, IsIn}
-use Rattle.version_store.specs.Calls.{Holds, StaysKnown, StillKnown}
+use Rattle.version_store.specs.Calls.{Holds, StaysKnown}
 use Rattle.version_store.specs.Commits.{Committed, FindsNewer, write_over}
 use Rattle.version_store.specs.Held.{IsHeld, IsRecord, root_at, term_at, term_told}
 use Rattle.version_store.specs.Makes.{Behind, IsClaimed}
-use Rattle.held_places.proofs.Going.{calm_goes, cut_claims, cut_goes, cut_held, cut_known}
-use Rattle.held_places.proofs.Going.{cut_pass, goes_late, goes_on, goes_then, goes_told, in_still}
-use Rattle.held_places.proofs.Going.{known_then, many_cells, many_held, target_still}
+use Rattle.held_places.proofs.Claiming.{claimed_apart, claimed_claims, claimed_goes, claimed_known}
+use Rattle.held_places.proofs.Claiming.{claimed_longer, claimed_pass}
+use Rattle.held_places.proofs.Going.{cut_claims, cut_goes, cut_held, cut_known}
+use Rattle.held_places.proofs.Going.{cut_pass, goes_late, goes_on, goes_then}
+use Rattle.held_places.proofs.Going.{known_then, many_held, target_still}
 use Rattle.version_store.proofs.Remaining.{version_still}
-use Rattle.held_places.proofs.Knowns.{pushed_still}
-use Rattle.held_places.proofs.ReadValues.{last_held}
 use Rattle.version_store.proofs.Putting.{record_still}
 
-pushed_anyway : (known : List Known) (k : Known) (place : ℕ)
-    → StillKnown (known_at known place) (known_at (known ++ k ∷ []) place)
-pushed_anyway known k place = by_length (cases_lt place (length known))
-  where
-    by_length : (place < length known) ⊎ (length known ≤ place)
-        → StillKnown (known_at known place) (known_at (known ++ k ∷ []) place)
-    by_length (inl lt) = pushed_still is_fixed known k place lt
-    by_length (inr le) = subst (λ (j : Known). StillKnown j (known_at (known ++ k ∷ []) place))
-        (sym (get_or_past known place knows.Nothing le)) tt
-
 module _ (a b : Bound Pass) (fresh : ℕ) (got : Claimed a fresh b) where
-  pub claimed_goes : Goes [] a b
-  claimed_goes = goes_then (calm_goes Seeking a got.at got.calm)
-      (goes_told got.at b [] (event.Claim got.at.seat.me.number got.cell)
-      (finds.Colour colour.Blue) nothing_learned got.at.seat.me.pass
-      (ap (λ (m : Bound Pass). m.heap) got.told)
-      (ap (λ (m : Bound Pass). m.seat.table) got.told)
-      (ap (λ (m : Bound Pass). m.seat.me) got.told) refl nothing)
-
-  pub claimed_pass : b.seat.me.pass ≡ a.seat.me.pass
-  claimed_pass = ap (λ (m : Bound Pass). m.seat.me.pass) got.told ∙ got.calm.kept.pass
-
-  pub claimed_claims : b.seat.me.own.claims ≡ a.seat.me.own.claims + 1
-  claimed_claims = ap (λ (m : Bound Pass). m.seat.me.own.claims) got.told
-      ∙ ap (λ (n : ℕ). n + 1) got.calm.kept.claims
-
-  pub claimed_known : StaysKnown (length a.seat.me.own.held) a b
-  claimed_known place lt =
-      subst (λ (k : Known). StillKnown (known_of a.seat.me place) k)
-      (sym (ap (λ (ks : List Known). known_at ks place) got.known))
-      (pushed_anyway a.seat.me.known (knows.Raw five_nulls) place)
-
-  pub claimed_in : IsIn a → IsIn b
-  claimed_in is = in_still a b (got.cell ∷ []) [] is claimed_goes got.held
-
   pub claimed_held : (v : HeldVersion) → IsHeld a v → IsHeld b v
   claimed_held v is = record {
     root = is.root;
-    knows = version_still (length a.seat.me.own.held) (got.cell ∷ []) a b claimed_known got.held
-        v.place v.number is.root is.knows.there is.knows;
+    knows = version_still (length a.seat.me.own.held) (got.cell ∷ []) a b
+        (claimed_known a b fresh got is_fixed) got.held v.place v.number is.root is.knows.there
+        is.knows;
   }
 
   known_record : (tree : ℕ) → IsRecord a tree
       → known_of b.seat.me tree ≡ knows.Record (term_at a tree)
   known_record tree is =
       record_still (known_of a.seat.me tree) (known_of b.seat.me tree) (term_at a tree) is.known
-      (claimed_known tree is.there)
+      (claimed_known a b fresh got is_fixed tree is.there)
 
   pub claimed_term : (tree : ℕ) → IsRecord a tree → term_at b tree ≡ term_at a tree
   claimed_term tree is = ap term_told (known_record tree is)
@@ -94,7 +53,7 @@ module _ (a b : Bound Pass) (fresh : ℕ) (got : Claimed a fresh b) where
   pub claimed_record : (tree : ℕ) → IsRecord a tree → IsRecord b tree
   claimed_record tree is = record {
     there =
-        let longer = many_held a b (got.cell ∷ []) got.held in
+        let longer = claimed_longer a b fresh got in
         let there = is.there in omega (arith, longer, there);
     known = known_record tree is ∙ ap knows.Record (sym (claimed_term tree is));
   }
@@ -102,19 +61,10 @@ module _ (a b : Bound Pass) (fresh : ℕ) (got : Claimed a fresh b) where
   pub claimed_root : (v : HeldVersion) → IsHeld a v → root_at b v.place ≡ root_at a v.place
   claimed_root v is =
       root_known (known_of b.seat.me v.place) v.number is.root
-      (version_still (length a.seat.me.own.held) (got.cell ∷ []) a b claimed_known got.held
-      v.place v.number is.root is.knows.there is.knows).known
+      (version_still (length a.seat.me.own.held) (got.cell ∷ []) a b
+      (claimed_known a b fresh got is_fixed) got.held v.place v.number is.root is.knows.there
+      is.knows).known
       ∙ sym (root_known (known_of a.seat.me v.place) v.number is.root is.knows.known)
-
-  -- the claimed cell stood at no place
-  stood_nowhere : (place : ℕ) → place < length a.seat.me.own.held
-      → target a.seat.me place ≢ got.cell
-  stood_nowhere place lt same =
-      let there : has (held_cells a) got.cell ≡ true =
-      subst (λ (c : ℕ). has (held_cells a) c ≡ true)
-      (cell_there a.seat.me.own.held place ∙ same)
-      (has_at (held_cells a) place (let many = many_cells a in omega (arith, many, lt))) in
-      let none : false ≡ true = sym got.is_new.apart ∙ there in absurd cc
 
   pub claimed_is : (v : HeldVersion) (tree : ℕ) → IsHeld a v → IsRecord a tree
       → IsClaimed b fresh v.place tree
@@ -122,7 +72,7 @@ module _ (a b : Bound Pass) (fresh : ℕ) (got : Claimed a fresh b) where
     others = a.seat.me.known;
     known_is = got.known;
     last =
-        let longer = many_held a b (got.cell ∷ []) got.held in
+        let longer = claimed_longer a b fresh got in
         let placed = got.place_is in omega (arith, longer, placed);
     latest_before =
         let there = is.knows.there in
@@ -130,26 +80,22 @@ module _ (a b : Bound Pass) (fresh : ℕ) (got : Claimed a fresh b) where
     tree_before =
         let there = root.there in
         let placed = got.place_is in omega (arith, there, placed);
-    apart = λ place lt same.
-        let before : place < length a.seat.me.own.held =
-        let placed = got.place_is in omega (arith, lt, placed) in
-        stood_nowhere place before
-        (sym (target_still a b (got.cell ∷ []) got.held place before) ∙ same
-        ∙ ap (λ (n : ℕ). target b.seat.me n) got.place_is ∙ last_held a b got.cell got.held);
+    apart = λ place lt. claimed_apart a b fresh got place
+        (let placed = got.place_is in omega (arith, lt, placed));
   }
 
   pub claimed_room : (more : ℕ) → length a.seat.me.own.held + 128 ≤ a.seat.me.room → more ≤ 100
       → length b.seat.me.own.held + more ≤ b.seat.me.room
   claimed_room more room few =
-      let longer = many_held a b (got.cell ∷ []) got.held in
-      let same = claimed_goes.room in omega (arith, longer, same, room, few)
+      let longer = claimed_longer a b fresh got in
+      let same = (claimed_goes a b fresh got).room in omega (arith, longer, same, room, few)
 
   -- Behind the write and the cut.
 
   pub kept_some : (c : Bound Pass) (n : ℕ) → n ≡ length a.seat.me.own.held → Behind fresh b c
       → n ≤ length c.seat.me.own.held
   kept_some c n is behind =
-      let first = many_held a b (got.cell ∷ []) got.held in
+      let first = claimed_longer a b fresh got in
       let more = many_held b c behind.cells behind.held in omega (arith, first, more, is)
 
   module _ (c d : Bound Pass) (n : ℕ) (p : Found) (is : n ≡ length a.seat.me.own.held)
@@ -161,24 +107,26 @@ module _ (a b : Bound Pass) (fresh : ℕ) (got : Claimed a fresh b) where
     pub holds_all : Holds [] a d
     holds_all = record {
       held = cut_held c d n p told a ((got.cell ∷ []) ++ behind.cells) is all_held;
-      known = known_then is_fixed (length a.seat.me.own.held) a b d claimed_known
+      known = known_then is_fixed (length a.seat.me.own.held) a b d
+          (claimed_known a b fresh got is_fixed)
           (known_then is_fixed (length a.seat.me.own.held) b c d
           (subst (λ (k : ℕ). StaysKnown k b c) got.place_is behind.known)
           (subst (λ (k : ℕ). StaysKnown k c d) is (cut_known is_fixed c d n p told)));
     }
 
     pub claims_all : d.seat.me.own.claims ≡ a.seat.me.own.claims + 1
-    claims_all = cut_claims c d n p told ∙ behind.claims ∙ claimed_claims
+    claims_all = cut_claims c d n p told ∙ behind.claims ∙ claimed_claims a b fresh got
 
     pub newer_all : (v : HeldVersion) (newer : ℕ) → FindsNewer b c v newer
         → FindsNewer a d v newer
     newer_all v newer finds = record {
       cell = finds.cell;
-      goes = goes_on (goes_late claimed_goes finds.goes) (cut_goes c d n p told);
+      goes = goes_on (goes_late (claimed_goes a b fresh got) finds.goes) (cut_goes c d n p told);
       is_newer = finds.is_newer;
-      not_below = subst (λ (q : Pass). q.seen ≤ newer) claimed_pass finds.not_below;
+      not_below = subst (λ (q : Pass). q.seen ≤ newer) (claimed_pass a b fresh got)
+          finds.not_below;
       pass = cut_pass c d n p told ∙ finds.pass
-          ∙ ap (λ (q : Pass). seeing newer q) claimed_pass;
+          ∙ ap (λ (q : Pass). seeing newer q) (claimed_pass a b fresh got);
     }
 
     pub committed_all : (is_tree : Term → Type 0) (tree_of : Term → DocTree) (v : HeldVersion)
@@ -186,16 +134,18 @@ module _ (a b : Bound Pass) (fresh : ℕ) (got : Claimed a fresh b) where
         → Committed is_tree tree_of a d v tree
     committed_all is_tree tree_of v tree held root made =
         let cut = cut_goes c d n p told in
-        let from = claimed_goes in
+        let from = claimed_goes a b fresh got in
         record {
           goes = goes_then (goes_then from made.goes) cut;
-          not_below = subst (λ (q : Pass). q.seen ≤ v.number) claimed_pass made.not_below;
+          not_below = subst (λ (q : Pass). q.seen ≤ v.number) (claimed_pass a b fresh got)
+              made.not_below;
           box = made.box;
           at = made.at;
           before = from.added ++ made.before;
           trail_before = made.trail_before ∙ ap (λ (ts : List Taken). ts ++ made.before) from.trail
               ∙ append_assoc a.seat.me.trail from.added made.before;
-          pass_before = made.pass_before ∙ ap (λ (q : Pass). seeing v.number q) claimed_pass;
+          pass_before = made.pass_before ∙ ap (λ (q : Pass). seeing v.number q)
+              (claimed_pass a b fresh got);
           latest_is = made.latest_is
               ∙ target_still a b (got.cell ∷ []) got.held v.place held.knows.there;
           behind = made.behind;
@@ -219,5 +169,5 @@ module _ (a b : Bound Pass) (fresh : ℕ) (got : Claimed a fresh b) where
               ∙ ap (λ (t : Term). committed (v.number + 1) (tree_of (root_at a v.place))
               (tree_of t) b.seat.me.pass) (claimed_term tree root)
               ∙ ap (λ (q : Pass). committed (v.number + 1) (tree_of (root_at a v.place))
-              (tree_of (term_at a tree)) q) claimed_pass;
+              (tree_of (term_at a tree)) q) (claimed_pass a b fresh got);
         }

@@ -1,15 +1,12 @@
 use Rattle.std.proofs.Common.{◌≡◌, ℕ, true, length, refl, sym, ◌∙◌, ap, subst}
-use Rattle.core_machine.specs.declared.events.Found.TheVariants as finds
 use Rattle.core_machine.specs.Places.{marks_stand}
 use Rattle.cell_words.specs.declared.write_barrier.Barrier.{Barrier}
 use Rattle.heap_rule.specs.declared.view.View.{View}
-use Rattle.heap_rule.specs.Steps.{same_pass}
 use Rattle.mutator_events.specs.declared.values.Value.{Value}
 use Rattle.mutator_events.specs.Values.{field_at, value_found}
 use Rattle.mutator_seat.specs.Bound.{bound}
-use Rattle.mutator_seat.specs.Stores.{Stepped, fetch_of}
 use Rattle.mutator_seat.specs.Stretches.{Calm, MarksOf}
-use Rattle.mutator_seat.specs.Writes.{IsNamed, wanted_by}
+use Rattle.mutator_seat.specs.Writes.{wanted_by}
 use Rattle.mutator_seat.proofs.Stores.{barrier_still, fetch_loads}
 use Rattle.mutator_seat.proofs.Writes.{field_same, may_store}
 use Rattle.mutator_seat.proofs.storing.store_fetched.Goals as goal

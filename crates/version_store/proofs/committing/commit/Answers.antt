@@ -1,14 +1,14 @@
 use Rattle.std.proofs.Common.{◌<◌, length, refl, sym, subst, arith}
 use Rattle.mutator_seat.proofs.Calm.{kept_same}
 use Rattle.version_rule.specs.Pass.{Pass}
+use Rattle.held_places.proofs.Claiming.{claimed_goes, claimed_in, claimed_pass}
 use Rattle.held_places.proofs.Going.{comes_in, kept_holds}
 use Rattle.version_store.proofs.Lasting.{full_lasts, full_shows, goes_same, lasts_still, made_lasts}
 use Rattle.version_store.proofs.Lasting.{newer_lasts, newer_shows, same_still}
 use Rattle.version_store.proofs.Leaving.{claimed_writes, left_around, once_around, writes_told}
-use Rattle.version_store.proofs.Widening.{claimed_goes, claimed_held, claimed_in, claimed_is}
-use Rattle.version_store.proofs.Widening.{claimed_pass}
-use Rattle.version_store.proofs.Widening.{claimed_record, claimed_room, claimed_term, claims_all}
-use Rattle.version_store.proofs.Widening.{committed_all, holds_all, kept_some, newer_all}
+use Rattle.version_store.proofs.Widening.{claimed_held, claimed_is, claimed_record, claimed_room}
+use Rattle.version_store.proofs.Widening.{claimed_term, claims_all, committed_all, holds_all}
+use Rattle.version_store.proofs.Widening.{kept_some, newer_all}
 use Rattle.version_store.proofs.committing.commit.Goals as goal
 use Rattle.version_rule.specs.Versions.{is_fixed}
 

@@ -1,14 +1,13 @@
-use Rattle.std.proofs.Common.{◌≡◌, ◌≤◌, ℕ, false, length, is_some, refl, sym, ◌∙◌, ap, subst, arith}
-use Rattle.cell_words.specs.declared.fields.Field.{Field}
+use Rattle.std.proofs.Common.{◌≡◌, ◌≤◌, ℕ, length, is_some, sym, ◌∙◌, ap, subst, arith}
 use Rattle.core_machine.specs.declared.events.Event.TheVariants as event
 use Rattle.core_machine.specs.declared.events.Found.TheVariants as finds
 use Rattle.core_machine.specs.Words.{barrier_in}
 use Rattle.heap_rule.specs.Steps.{Picks}
 use Rattle.mutator_seat.specs.Bound.{Bound, bound, takes}
-use Rattle.mutator_seat.specs.Stores.{MayOverwrite, PicksExchange, Replaced, Rewritten, exchange_of}
+use Rattle.mutator_seat.specs.Stores.{MayOverwrite, PicksExchange, Replaced, exchange_of}
 use Rattle.mutator_seat.specs.Stores.{read_of}
 use Rattle.mutator_seat.proofs.Stores.{bound_left, either_of, exchange_leaves, heap_left}
-use Rattle.mutator_seat.proofs.Stores.{held_left, many_left, table_left}
+use Rattle.mutator_seat.proofs.Stores.{held_left, many_left, pass_left, places_left, table_left}
 use Rattle.mutator_seat.proofs.Updates.{err_then, ok_then}
 use Rattle.mutator_seat.proofs.mutator.Mutator.exchange.Goals as goal
 
@@ -112,6 +111,8 @@ returns-clause-made g c =
         heap = heap_left was after one.0 left c.cut.new.self many told;
         table = table_left was after one.0 left c.cut.new.self many told;
         held = held_left was after one.0 left c.cut.new.self told;
+        places = places_left was after one.0 left c.cut.new.self told;
+        pass = pass_left one.0 c.args.new was after replaced c.cut.new.self many told;
       },
     ))
 
@@ -141,5 +142,7 @@ returns-clause-moved g c =
         heap = heap_left was after one.0 left c.cut.new.self many told;
         table = table_left was after one.0 left c.cut.new.self many told;
         held = held_left was after one.0 left c.cut.new.self told;
+        places = places_left was after one.0 left c.cut.new.self told;
+        pass = pass_left one.0 c.args.new was after replaced c.cut.new.self many told;
       },
     ))

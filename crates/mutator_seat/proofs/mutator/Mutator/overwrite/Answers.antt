@@ -1,12 +1,12 @@
-use Rattle.std.proofs.Common.{◌≡◌, ◌≤◌, ℕ, length, sym, ◌∙◌, ap, subst, arith}
+use Rattle.std.proofs.Common.{◌≡◌, ℕ, length, sym, ◌∙◌, ap, subst, arith}
 use Rattle.core_machine.specs.declared.events.Event.TheVariants as event
 use Rattle.core_machine.specs.declared.events.Found.TheVariants as finds
 use Rattle.core_machine.specs.Words.{barrier_in, lets_store}
 use Rattle.heap_rule.specs.Steps.{same_pass}
 use Rattle.mutator_seat.specs.Bound.{Bound, bound, takes}
 use Rattle.mutator_seat.specs.Stores.{MayOverwrite, PicksStore, Replaced, fetch_of, store_of}
-use Rattle.mutator_seat.proofs.Stores.{bound_left, heap_left, held_left, many_left, store_leaves}
-use Rattle.mutator_seat.proofs.Stores.{table_left}
+use Rattle.mutator_seat.proofs.Stores.{bound_left, heap_left, held_left, many_left, pass_left}
+use Rattle.mutator_seat.proofs.Stores.{places_left, store_leaves, table_left}
 use Rattle.mutator_seat.proofs.mutator.Mutator.overwrite.Goals as goal
 
 pub store_fetched-requires-clause-seat : goal.store_fetched-requires-clause-seat
@@ -92,6 +92,8 @@ returns g c =
           heap = heap_left was after one.0 left c.cut.new.self many told;
           table = table_left was after one.0 left c.cut.new.self many told;
           held = held_left was after one.0 left c.cut.new.self told;
+          places = places_left was after one.0 left c.cut.new.self told;
+          pass = pass_left one.0 c.args.new was after replaced c.cut.new.self many told;
         },
       );
     }

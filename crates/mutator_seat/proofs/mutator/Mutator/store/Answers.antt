@@ -1,11 +1,8 @@
-use Rattle.std.proofs.Common.{◌≡◌, true, false, inl, inr, sym, ◌∙◌, ap, subst}
-use Rattle.cell_words.specs.declared.write_barrier.Barrier.{Barrier}
-use Rattle.core_machine.specs.declared.events.Found.TheVariants as finds
-use Rattle.heap_rule.specs.Steps.{same_pass}
-use Rattle.mutator_seat.specs.Stores.{Rewritten, exchange_of, fetch_of, read_of, store_of}
+use Rattle.std.proofs.Common.{true, false, inl, inr, ◌∙◌}
 use Rattle.mutator_seat.proofs.Handshakes.{looked_at}
-use Rattle.mutator_seat.proofs.Stores.{lets_looked, lets_there, may_still, mode_there}
-use Rattle.mutator_seat.proofs.Stores.{presence_there, wanted_looked, wanted_there}
+use Rattle.mutator_seat.proofs.Stores.{either_of, exchanged, lets_looked, lets_there, may_still}
+use Rattle.mutator_seat.proofs.Stores.{mode_there, overwritten, places_then, presence_there}
+use Rattle.mutator_seat.proofs.Stores.{wanted_looked, wanted_there}
 use Rattle.mutator_seat.proofs.Updates.{err_then, ok_then}
 use Rattle.mutator_seat.proofs.mutator.Mutator.store.Goals as goal
 
@@ -84,56 +81,33 @@ returns-then-lets_store-clause-made g c =
     let was = c.args.self.now in
     let looked = c.look_once-control in
     let own = c.status-own.ensures.status in
-    let calm = looked_at was looked.new.self looked.result looked.ensures.told in
     let one = c.overwrite.ensures.rewritten in
-    inl (record {
-      control = looked.result;
-      lets = lets_looked was looked.new.self looked.result c.status-own.result looked.ensures.told
-          own true c.if-lets_store.ensures.lets;
-      looked = looked.new.self;
-      look = calm;
-      presence = presence_there was looked.new.self looked.result c.status-own.result
-          looked.ensures.told own;
-      seen = one.0;
-      rewritten = subst (λ (b : Barrier). Rewritten g.P.Keeping.holds g.P.Keeping.fixed b
-          (fetch_of looked.new.self c.args.place c.args.field) same_pass one.0
-          (store_of c.args.new) g.C.Choice.next finds.Stored c.args.new looked.new.self
-          c.overwrite.new.self)
-          (wanted_looked was looked.new.self looked.result c.status-own.result
-          looked.ensures.told own c.barrier-wanted.result c.barrier-wanted.ensures.barrier)
-          one.1;
-      heap = one.1.heap ∙ calm.kept.heap;
-      table = one.1.table ∙ calm.kept.table;
-      held = one.1.held ∙ calm.kept.held;
-    })
+    inl (overwritten was looked.new.self c.overwrite.new.self looked.result c.args.place
+    c.args.field c.args.new c.barrier-wanted.result
+    (wanted_looked was looked.new.self looked.result c.status-own.result
+    looked.ensures.told own c.barrier-wanted.result c.barrier-wanted.ensures.barrier)
+    (looked_at was looked.new.self looked.result looked.ensures.told)
+    (presence_there was looked.new.self looked.result c.status-own.result looked.ensures.told own)
+    one.0
+    (lets_looked was looked.new.self looked.result c.status-own.result looked.ensures.told
+    own true c.if-lets_store.ensures.lets) one.1)
 
 pub returns-else-lets_store-clause-made : goal.returns-else-lets_store-clause-made
 returns-else-lets_store-clause-made g c =
     let was = c.args.self.now in
     let looked = c.look_once-control in
     let own = c.status-own.ensures.status in
-    let calm = looked_at was looked.new.self looked.result looked.ensures.told in
     ok_then c.exchange.result c.exchange.ensures.made (λ one. inr (
       one.0,
-      record {
-        control = looked.result;
-        lets = lets_looked was looked.new.self looked.result c.status-own.result
-            looked.ensures.told own false c.if-lets_store.ensures.lets;
-        looked = looked.new.self;
-        look = calm;
-        presence = presence_there was looked.new.self looked.result c.status-own.result
-            looked.ensures.told own;
-        rewritten = subst (λ (b : Barrier). Rewritten g.P.Keeping.holds g.P.Keeping.fixed b
-            (read_of looked.new.self c.args.place c.args.field) g.R.Choice.next one.0
-            (exchange_of c.args.place c.args.field one.0 c.args.new) g.C.Choice.next
-            (finds.Field one.0) c.args.new looked.new.self c.exchange.new.self)
-            (wanted_looked was looked.new.self looked.result c.status-own.result
-            looked.ensures.told own c.barrier-wanted.result c.barrier-wanted.ensures.barrier)
-            one.1;
-        heap = one.1.heap ∙ calm.kept.heap;
-        table = one.1.table ∙ calm.kept.table;
-        held = one.1.held ∙ calm.kept.held;
-      },
+      exchanged was looked.new.self c.exchange.new.self looked.result c.args.place c.args.field
+          c.args.new c.barrier-wanted.result
+          (wanted_looked was looked.new.self looked.result c.status-own.result
+          looked.ensures.told own c.barrier-wanted.result c.barrier-wanted.ensures.barrier)
+          (looked_at was looked.new.self looked.result looked.ensures.told)
+          (presence_there was looked.new.self looked.result c.status-own.result
+          looked.ensures.told own) one.0 one.0
+          (lets_looked was looked.new.self looked.result c.status-own.result looked.ensures.told
+          own false c.if-lets_store.ensures.lets) one.1,
     ))
 
 pub returns-else-lets_store-clause-moved : goal.returns-else-lets_store-clause-moved
@@ -141,27 +115,32 @@ returns-else-lets_store-clause-moved g c =
     let was = c.args.self.now in
     let looked = c.look_once-control in
     let own = c.status-own.ensures.status in
-    let calm = looked_at was looked.new.self looked.result looked.ensures.told in
     err_then c.exchange.result c.exchange.ensures.moved (λ moved one. (
       one.0,
       one.1,
-      record {
-        control = looked.result;
-        lets = lets_looked was looked.new.self looked.result c.status-own.result
-            looked.ensures.told own false c.if-lets_store.ensures.lets;
-        looked = looked.new.self;
-        look = calm;
-        presence = presence_there was looked.new.self looked.result c.status-own.result
-            looked.ensures.told own;
-        rewritten = subst (λ (b : Barrier). Rewritten g.P.Keeping.holds g.P.Keeping.fixed b
-            (read_of looked.new.self c.args.place c.args.field) g.R.Choice.next one.0
-            (exchange_of c.args.place c.args.field one.0 c.args.new) g.C.Choice.next
-            (finds.Field moved.found) c.args.new looked.new.self c.exchange.new.self)
-            (wanted_looked was looked.new.self looked.result c.status-own.result
-            looked.ensures.told own c.barrier-wanted.result c.barrier-wanted.ensures.barrier)
-            one.2;
-        heap = one.2.heap ∙ calm.kept.heap;
-        table = one.2.table ∙ calm.kept.table;
-        held = one.2.held ∙ calm.kept.held;
-      },
+      exchanged was looked.new.self c.exchange.new.self looked.result c.args.place c.args.field
+          c.args.new c.barrier-wanted.result
+          (wanted_looked was looked.new.self looked.result c.status-own.result
+          looked.ensures.told own c.barrier-wanted.result c.barrier-wanted.ensures.barrier)
+          (looked_at was looked.new.self looked.result looked.ensures.told)
+          (presence_there was looked.new.self looked.result c.status-own.result
+          looked.ensures.told own) one.0 moved.found
+          (lets_looked was looked.new.self looked.result c.status-own.result looked.ensures.told
+          own false c.if-lets_store.ensures.lets) one.2,
     ))
+
+pub returns-then-lets_store-clause-places : goal.returns-then-lets_store-clause-places
+returns-then-lets_store-clause-places g c =
+    let was = c.args.self.now in
+    let looked = c.look_once-control in
+    let calm = looked_at was looked.new.self looked.result looked.ensures.told in
+    places_then calm.kept c.overwrite.ensures.rewritten.1.places
+
+pub returns-else-lets_store-clause-places : goal.returns-else-lets_store-clause-places
+returns-else-lets_store-clause-places g c =
+    let was = c.args.self.now in
+    let looked = c.look_once-control in
+    let calm = looked_at was looked.new.self looked.result looked.ensures.told in
+    places_then calm.kept
+    (either_of c.exchange.result c.exchange.ensures.made c.exchange.ensures.moved
+    (λ one. one.1.places) (λ moved one. one.2.places))

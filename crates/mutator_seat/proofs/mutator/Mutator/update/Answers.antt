@@ -5,6 +5,7 @@ use Rattle.mutator_events.specs.Values.{field_at}
 use Rattle.mutator_seat.specs.Bound.{Bound}
 use Rattle.mutator_seat.specs.Stretches.{Calm}
 use Rattle.mutator_seat.specs.Writes.{LookAndMarks, write_of}
+use Rattle.mutator_seat.proofs.Stores.{either_of}
 use Rattle.mutator_seat.proofs.Updates.{err_then, ok_then, other_as, updated, updated_as}
 use Rattle.mutator_seat.proofs.Writes.{may_write}
 use Rattle.mutator_seat.proofs.mutator.Mutator.update.Goals as goal
@@ -49,3 +50,17 @@ returns-clause-moved g c =
           c.write.new.self c.args.place c.args.field c.args.old c.args.new calm moved.found both.1
           c.write.ensures.table,
     ))
+
+pub returns-clause-places : goal.returns-clause-places
+returns-clause-places g c =
+    let was = c.args.self.now in
+    let marks = LookAndMarks was.seat.me.number was.seat.me.presence.status c.args.old c.args.new in
+    let calm = subst (λ (m : Bound _). Calm marks was m) (sym c.self.view_is)
+    c.look_and_mark.ensures.calm in
+    either_of c.write.result c.write.ensures.made c.write.ensures.moved
+    (λ at. (updated_as g.P.Keeping.holds g.P.Keeping.fixed g.C.Choice.next c.args.self.now _
+    c.write.new.self c.args.place c.args.field c.args.old c.args.new calm at
+    c.write.ensures.table).places)
+    (λ moved both. (updated g.P.Keeping.holds g.P.Keeping.fixed g.C.Choice.next c.args.self.now _
+    c.write.new.self c.args.place c.args.field c.args.old c.args.new calm moved.found both.1
+    c.write.ensures.table).places)
