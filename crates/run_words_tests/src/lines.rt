@@ -198,8 +198,8 @@ fn a_dump_names_a_file_or_more(rt: HostRuntime) -> Result<(), Fail> {
     Ok(())
 }
 
-/// Of a line that has a mailbox run: its cells, its cycles, how many files there are, and whether the
-/// last has a given name.
+/// Of a line that has a mailbox run: its cells, its cycles, how many files there are, and whether
+/// the last has a given name.
 type MailAsked = (u32, u32, usize, bool);
 
 fn mail_of(alloc: Global, line: &str, last: &str) -> Result<Option<MailAsked>, WordsFault> {

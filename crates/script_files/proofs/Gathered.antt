@@ -81,8 +81,8 @@ turn_gathered {A} {N} grammar parse note text (one ∷ names) otherwise bytes ho
     next_gathered grammar parse note file before (holds (text one)) told list is.0 result old new
     old_notes new_notes
     (subst (λ (b : List ℕ). IfSome (holds b) (λ all. is.0 ≡ all)) first is.1) is.2.1
-    (subst (λ (notes : List N). GathersFrom grammar parse note (file + 1) (before + length list) told
-    result (old ++ list ∷ []) new notes new_notes) is.2.4
+    (subst (λ (notes : List N). GathersFrom grammar parse note (file + 1)
+    (before + length list) told result (old ++ list ∷ []) new notes new_notes) is.2.4
     (subst (λ (lists : List (List A)). GathersFrom grammar parse note (file + 1)
     (before + length list) told result lists new middle_notes new_notes) is.2.3
     (subst (λ n. GathersFrom grammar parse note (file + 1) (before + n) told result middle new

@@ -48,8 +48,8 @@ lists_more parse file before (suc count) one told list lists is others =
     let same : suc count - 1 ≡ count = omega arith in (
       list ∷ lists,
       after_first parse file before one (take count told) list (Ok lists) is
-          (subst (λ n. AreListsFrom parse (file + 1) (before + length list) (take n told) (Ok lists))
-          same others),
+          (subst (λ n. AreListsFrom parse (file + 1) (before + length list) (take n told)
+          (Ok lists)) same others),
     )
 
 -- the first file is a list, and then others were opened

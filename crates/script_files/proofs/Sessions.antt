@@ -83,7 +83,8 @@ pub added_file : {A N : Type 0} (grammar : Grammar) (parse : Parse A) (note : Li
     → AddsList grammar (list_in parse file before front) (note front) answer old new old_notes
     new_notes
     → AddsFile grammar parse note file before told answer old new old_notes new_notes
-added_file grammar parse note file before None front (Ok count) old new old_notes new_notes read is =
+added_file grammar parse note file before None front (Ok count) old new old_notes new_notes read
+    is =
     (front, tt, is)
 added_file grammar parse note file before (Some all) front (Ok count) old new old_notes new_notes
     read is =

@@ -44,10 +44,12 @@ turn_stops grammar parse note text (one ∷ names) otherwise bytes holds later f
     list
     (subst (λ b. IsListIn parse file before (holds b) (Ok list)) first (is.0, is.1, is.2.1))
     opened_first
-    (subst (λ n. StopsIn parse (file + 1) (before + n) (map holds (map text names)) between now) is.2.2
-    (subst (λ h. StopsIn parse (file + 1) (before + count) (map h (map text names)) between now) same
-    (subst (λ rest. StopsIn parse (file + 1) (before + count) (map later (map text rest)) between now)
-    all others)))
+    (subst (λ n. StopsIn parse (file + 1) (before + n) (map holds (map text names)) between now)
+    is.2.2
+    (subst (λ h. StopsIn parse (file + 1) (before + count) (map h (map text names)) between now)
+    same
+    (subst (λ rest. StopsIn parse (file + 1) (before + count) (map later (map text rest)) between
+    now) all others)))
 
 -- the first one alone was opened
 pub turn_stopped : {A B : Type 0} (parse : Parse A) (text : B → List ℕ) (names : List B)

@@ -92,7 +92,8 @@ StopsIn {A} parse file before told old new =
     × (lists : List (List A))
     × AreListsFrom parse file before (take (count - 1) told) (Ok lists)
 
--- How files are gone over in turn. Beside the list of a file stands what else is noted of its bytes.
+-- How files are gone over in turn. Beside the list of a file stands what else is noted of its
+-- bytes.
 
 -- the answer is how many items the list has that was added, with its note, or why there is none
 abbrev pub AddsList : {A N : Type 0} → Grammar → Result (List A) Fault → N → Result ℕ Fault

@@ -58,8 +58,8 @@ pub(crate) trait Gathering {
         ensures fits { fits self.new };
 }
 
-/// Gathers from the files of these names. The first of them has this number, and so many items stand
-/// in the files before it.
+/// Gathers from the files of these names. The first of them has this number, and so many items
+/// stand in the files before it.
 #[tactic(auto, using(crate::proofs::Gathered::in_turn, crate::proofs::Opens::openings, crate::proofs::Turns::turn_stopped))]
 pub(crate) fn gather<H: Shelf, G: Gathering>(
     alloc: Global,

@@ -17,7 +17,8 @@ returns-in-Err-clause-lists g t c =
     c.args.names.now _ _ (g.H.Shelf.holds c.args.shelf.now) c.args.file c.args.before c.in-Err.fault
     (g.G.Gathering.lists c.args.gathered.now) (g.G.Gathering.lists c.gather_file.new.gathered)
     (g.G.Gathering.notes c.args.gathered.now) (g.G.Gathering.notes c.gather_file.new.gathered)
-    (g.G.Gathering.lists c.gather_file.new.gathered) (g.G.Gathering.notes c.gather_file.new.gathered)
+    (g.G.Gathering.lists c.gather_file.new.gathered)
+    (g.G.Gathering.notes c.gather_file.new.gathered)
     c.in-len1-up.len_at_least refl c.in-Err.ensures.added
 
 pub returns-in-Err-clause-read_file : goal.returns-in-Err-clause-read_file
@@ -46,7 +47,8 @@ returns-clause-stops g t c =
     turn_stops g.G.Gathering.grammar g.G.Gathering.parse g.G.Gathering.note (λ name. name.now) _ _ _
     _ _ _ _ (g.G.Gathering.lists c.args.gathered.now)
     (g.G.Gathering.lists c.gather_file.new.gathered) (g.G.Gathering.notes c.args.gathered.now)
-    (g.G.Gathering.notes c.gather_file.new.gathered) _ _ _ c.in-Ok.count c.in-len1-up.len_at_least refl c.in-Ok.ensures.held
+    (g.G.Gathering.notes c.gather_file.new.gathered) _ _ _ c.in-Ok.count
+    c.in-len1-up.len_at_least refl c.in-Ok.ensures.held
     c.in-Ok.ensures.added c.in-Ok.ensures.opens c.gather.ensures.stops
 
 pub returns-clause-opens : goal.returns-clause-opens

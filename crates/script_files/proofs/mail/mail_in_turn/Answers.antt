@@ -1,4 +1,4 @@
-use Rattle.std.proofs.Common.{ℕ, [], ap, arith, map}
+use Rattle.std.proofs.Common.{ℕ, ap, arith, map}
 use Rattle.std.specs.Prelude.{Vec}
 use Rattle.std.specs.declared.alloc.Global.{Global}
 use Rattle.script_files.proofs.Files.{one_refused, told_names}
