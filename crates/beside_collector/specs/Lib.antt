@@ -1,2 +1,3 @@
 pub mod Duty
+pub mod Service
 pub mod Serving
