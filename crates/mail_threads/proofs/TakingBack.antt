@@ -14,7 +14,7 @@ use Rattle.heap_rule.specs.declared.view.Place.{Place}
 use Rattle.heap_rule.specs.declared.view.Place.TheVariants as places
 use Rattle.heap_table.specs.Seats.{HeapId, IsSeatOf, SeatView}
 use Rattle.mail_rule.specs.declared.mail_pass.MailPass.{MailPass}
-use Rattle.mail_threads.specs.Opened.{IsStill}
+use Rattle.beside_collector.specs.Serving.{IsStill}
 use Rattle.mail_threads.specs.Workers.{AllDone, AllFrom, IsDone, script_of}
 use Rattle.mail_threads.specs.declared.workers.Sender.{Sender}
 use Rattle.mail_threads.specs.Taken.{AreTaken, HasPosted, answers_of, lists_of}
