@@ -1,2 +1,4 @@
 pub mod Duty
+pub mod Places
+pub mod Service
 pub mod Serving

@@ -28,6 +28,13 @@ off_first true = took (event.Duty false) finds.Stored ∷ []
 off_first false = []
 
 module _ {P : Type 0} where
+  -- The collector's seat is as it was but for where the parts of its mutators are.
+  pub record IsStill (old new : SeatView P) : Type 0 where
+    pub table : new.table ≡ old.table
+    pub shape : new.me.shape ≡ old.me.shape
+    pub control : new.me.control ≡ old.me.control
+    pub trail : new.me.trail ≡ old.me.trail
+
   -- The collector's seat of this heap, between two cycles, which may make so many more; with a pass
   -- of the hints of the heap's cells.
   pub record IsKeeper (heap : HeapId) (queue : FreeQueue) (cycles : ℕ) (seat : SeatView P)

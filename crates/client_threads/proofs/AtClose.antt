@@ -5,27 +5,25 @@
 -- tied     each log is tied to what its mutator left
 -- tidy     fewer cycles than the collector may make leave no garbage
 -- service  the collector's trail
-use Rattle.std.proofs.Common.{◌≡◌, ◌≤◌, ◌<◌, ◌+◌, ◌++◌, ◌⊎◌, ℕ, zero, suc, Bool, true, false}
-use Rattle.std.proofs.Common.{List, [], ◌∷◌, length, Option, inl, inr, refl, sym, ◌∙◌, ap, subst, arith}
-use Rattle.std.proofs.lemmas.List.{append_assoc}
+use Rattle.std.proofs.Common.{◌≡◌, ◌≤◌, ◌<◌, ◌+◌, ◌++◌, ℕ, zero, suc, Bool, true}
+use Rattle.std.proofs.Common.{List, length, Option, refl, sym, ◌∙◌, ap, subst, arith}
 use Rattle.beside_collector.specs.Duty.{duty_on}
-use Rattle.beside_collector.specs.Serving.{ServesLate, Stands, off_first}
+use Rattle.beside_collector.specs.Service.{HasServed, IsService}
+use Rattle.beside_collector.specs.Serving.{IsStill, ServesLate, Stands, off_first}
 use Rattle.beside_collector.specs.declared.keeper.Standby.{Standby}
+use Rattle.beside_collector.proofs.Closing.{cycles_made as made_here, few_cycles as few_here}
+use Rattle.beside_collector.proofs.Closing.{service as service_here, stands_seat, still_seat}
+use Rattle.beside_collector.proofs.Closing.{tidy as tidy_here, worked}
 use Rattle.cell_heap.specs.Telling.{AreJoined}
-use Rattle.cell_words.specs.declared.controls.Control.{Control}
 use Rattle.client_run.specs.Options.{IsWithin, limits_of, shape_of}
 use Rattle.client_run.specs.declared.options.Options.{Options}
 use Rattle.collector.specs.Cycles.{Served}
 use Rattle.collector.specs.Over.{MeetOver}
-use Rattle.collector.proofs.Leaving.{tidy_at_close}
-use Rattle.core_machine.specs.declared.events.Event.TheVariants as event
-use Rattle.core_machine.specs.declared.events.Found.TheVariants as finds
 use Rattle.core_machine.specs.declared.events.Taken.{Taken}
 use Rattle.dlg_core.specs.Collects.{IsTidy}
 use Rattle.dlg_core.specs.FirstRows.{AreRows}
 use Rattle.doc_model.specs.ClientLog.{ClientLog}
 use Rattle.free_cells.specs.declared.queue.FreeQueue.{FreeQueue}
-use Rattle.heap_rule.specs.Rule.{took}
 use Rattle.heap_rule.specs.Shape.{IsSound, Shape}
 use Rattle.heap_rule.specs.declared.view.Place.{Place}
 use Rattle.heap_rule.specs.declared.view.Place.TheVariants as places
@@ -38,10 +36,8 @@ use Rattle.run_history.proofs.Indices.{at_once}
 use Rattle.version_rule.specs.Opening.{first_rows}
 use Rattle.version_rule.specs.Pass.{Pass}
 use Rattle.client_threads.specs.Clients.{places_for}
-use Rattle.client_threads.specs.Ends.{IsService, IsTiedTo}
-use Rattle.client_threads.specs.Opened.{IsStill}
+use Rattle.client_threads.specs.Ends.{IsTiedTo}
 use Rattle.client_threads.specs.Taken.{AllHadRoom}
-use Rattle.client_threads.proofs.Serving.{stands_seat, still_seat, worked}
 
 rows_are : AreRows first_rows
 rows_are zero lt = refl
@@ -56,16 +52,6 @@ sound o mutators within = record {
   fit = let least = within.cells.0 in omega (arith, least);
   few = within.cells.1;
 }
-
-off_or_not : (held : Bool) → (off_first held ≡ []) ⊎ (off_first held
-    ≡ took (event.Duty false) finds.Stored ∷ [])
-off_or_not true = inr refl
-off_or_not false = inl refl
-
-off_was : (held : Bool) → off_first held ≡ took (event.Duty false) finds.Stored ∷ []
-    → held ≡ true
-off_was true is = refl
-off_was false is = absurd cc
 
 -- how many places a joined mutator had
 abbrev pub room_in : Place Pass → ℕ
@@ -117,35 +103,31 @@ module _ (o : Options) (clients mutators : ℕ) (logs : List ClientLog) (words :
         shows = its.shows;
       }
 
-  pub cycles_made : ended.shows.core.control.cycles ≡ at.made
-  cycles_made = ap (λ (c : Control). c.cycles) ended.collector.control ∙ at.cycles
-
-  tidy_by : at.made < o.cycles → IsTidy ended.shows.core
-  tidy_by fewer =
-      let on = duty_on o.cycles in
-      let off = off_first at.held_back in
-      let last = took (event.Duty false) finds.Stored ∷ [] in
-      tidy_at_close (shape_of o mutators) words v o.cycles at.made at.freed
-      (on ++ off) at.served.made last (sound o mutators at.within) ended
-      (at.trail ∙ ap (λ (ts : List Taken). on ++ (off ++ ts)) at.served.split
-      ∙ sym (append_assoc on off (at.served.made ++ last))) at.served.cycles fewer
-
-  pub tidy : (count : ℕ) → count ≡ at.made → count < o.cycles → IsTidy ended.shows.core
-  tidy count is fewer = tidy_by (omega (arith, is, fewer))
-
-  pub service : (count : ℕ) → count ≡ at.made → IsService o.cycles mutators count v.trail
-  service count is = record {
-    off = off_first at.held_back;
-    off_is = off_or_not at.held_back;
-    served = at.added;
-    trail_is = at.trail;
+  -- what the collector's seat has of it
+  abbrev worked_here : HasServed o.cycles mutators v
+  worked_here = record {
+    held_back = at.held_back;
+    made = at.made;
     freed = at.freed;
-    serves = subst (λ (n : ℕ). Served mutators o.cycles n at.freed at.added) (sym is) at.served;
-    late = λ off. at.late (off_was at.held_back off);
+    added = at.added;
+    trail = at.trail;
+    served = at.served;
+    late = at.late;
+    cycles = at.cycles;
   }
 
+  pub cycles_made : ended.shows.core.control.cycles ≡ at.made
+  cycles_made = made_here (shape_of o mutators) words v ended o.cycles worked_here
+
+  pub tidy : (count : ℕ) → count ≡ at.made → count < o.cycles → IsTidy ended.shows.core
+  tidy count is fewer = tidy_here (shape_of o mutators) words v ended o.cycles worked_here
+      (sound o mutators at.within) (omega (arith, is, fewer))
+
+  pub service : (count : ℕ) → count ≡ at.made → IsService o.cycles mutators count v.trail
+  service count is = service_here o.cycles mutators v worked_here count is
+
   pub few_cycles : (count : ℕ) → count ≡ at.made → count ≤ o.cycles
-  few_cycles count is = let most = at.served.cycles.most_are in omega (arith, most, is)
+  few_cycles count is = few_here o.cycles mutators v worked_here count is
 
 -- From the opening on: the clients' and all other seats are joined before the late service.
 pub at_close : (o : Options) (clients mutators : ℕ) (heap : HeapId) (queue : FreeQueue)

@@ -10,7 +10,8 @@ use Rattle.atomic_table.proofs.Lists.{at_last, at_longer, set_else, set_here}
 use mathlib.Core.Option.{some}
 use lib.ListN.{get_elem?}
 use Rattle.client_run.specs.declared.session.Limits.{Limits as ClientLimits}
-use Rattle.client_threads.specs.Clients.{AllFrom, AllReady, IsReady, script_of}
+use Rattle.beside_collector.specs.Places.{AllFrom}
+use Rattle.client_threads.specs.Clients.{AllReady, IsReady, script_of}
 use Rattle.client_threads.specs.declared.clients.Client.{Client}
 use Rattle.doc_model.specs.Answers.{Limits}
 use Rattle.doc_model.specs.ClientLog.{ClientLog}

@@ -11,7 +11,8 @@ use Rattle.heap_rule.specs.Moves.{split_view}
 use Rattle.heap_rule.specs.Shape.{Shape}
 use Rattle.heap_table.specs.Opening.{Opens}
 use Rattle.heap_table.specs.Seats.{SeatView}
-use Rattle.client_threads.specs.Opened.{IsStill, store_shape}
+use Rattle.beside_collector.specs.Serving.{IsStill}
+use Rattle.client_threads.specs.Opened.{store_shape}
 use Rattle.version_rule.specs.Opening.{first_rows, first_terms}
 use Rattle.version_rule.specs.Pass.{Pass, opening_pass}
 use Rattle.version_rule.specs.Versions.{HoldsVersions}

@@ -7,7 +7,7 @@ use Rattle.std.specs.Prelude.{Vec}
 use Rattle.std.specs.declared.alloc.Global.{Global}
 use Rattle.std.proofs.lemmas.List.{length-append, length-map, length-set, map-append, take_all}
 use Rattle.client_run.specs.declared.session.Limits.{Limits as ClientLimits}
-use Rattle.client_threads.specs.Clients.{AllDone, AllFrom, IsDone, places_for, script_of}
+use Rattle.client_threads.specs.Clients.{AllDone, IsDone, places_for, script_of}
 use Rattle.client_threads.specs.Clients.{store_limits}
 use Rattle.client_threads.specs.declared.clients.Client.{Client}
 use Rattle.doc_model.specs.ClientLog.{ClientLog}
@@ -19,7 +19,8 @@ use Rattle.heap_rule.specs.declared.view.Place.TheVariants as places
 use Rattle.heap_table.specs.Seats.{HeapId, IsSeatOf, SeatView}
 use Rattle.run_history.specs.Left.{AreLeft, IsLeft}
 use Rattle.doc_model.specs.declared.command.Entry.{Entry}
-use Rattle.client_threads.specs.Opened.{IsStill}
+use Rattle.beside_collector.specs.Places.{AllFrom}
+use Rattle.beside_collector.specs.Serving.{IsStill}
 use Rattle.client_threads.specs.Taken.{AllHadRoom, AreFronts, AreTaken, commands_in, lists_of}
 use Rattle.version_rule.specs.Pass.{Pass}
 use Rattle.client_threads.proofs.OneMore.{left_push, rooms_push, scripts_more}

@@ -3,6 +3,7 @@
 use Rattle.std.specs.Prelude.{ℕ, zero, suc, ◌≡◌, ◌≤◌, ◌+◌, ◌*◌, true, false, List, []}
 use Rattle.std.specs.Prelude.{◌∷◌, length, map, take, Vec}
 use Rattle.std.specs.declared.alloc.Global.{Global}
+use Rattle.beside_collector.specs.Places.{AllFrom}
 use Rattle.client_run.specs.Own.{MayAnswer}
 use Rattle.client_run.specs.declared.session.Limits.{Limits}
 use Rattle.client_run.specs.declared.session.Session.{Session}
@@ -88,11 +89,6 @@ pub record IsDone (heap : HeapId) (l : Limits) (script : List Command) (place : 
   pub front : commands_of client.session.journal.log.entries
       ≡ take (length client.session.journal.log.entries) script
   pub whole : client.failed ≡ false → commands_of client.session.journal.log.entries ≡ script
-
--- this holds of each client and its place, where the first one has this place
-abbrev pub AllFrom : (ℕ → Client → Type 0) → ℕ → List Client → Type 0
-AllFrom holds place [] = Unit {0}
-AllFrom holds place (client ∷ clients) = holds place client × AllFrom holds (place + 1) clients
 
 abbrev pub AllReady : HeapId → FreeQueue → Limits → List (Vec Command Global) → List Client
     → Type 0

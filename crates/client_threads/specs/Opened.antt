@@ -6,6 +6,7 @@ use Rattle.std.specs.declared.alloc.Global.{Global}
 use mathlib.Core.Option.{some}
 use lib.ListN.{get_elem?}
 use Rattle.beside_collector.specs.Duty.{duty_on}
+pub use Rattle.beside_collector.specs.Serving.{IsStill}
 use Rattle.cell_words.specs.declared.controls.Stage.TheVariants as stage
 use Rattle.client_run.specs.declared.session.Limits.{Limits}
 use Rattle.client_threads.specs.Clients.{AllReady}
@@ -29,13 +30,6 @@ store_shape cells mutators keep = record {
   setting = keep;
   first = first_rows;
 }
-
--- The collector's seat is as it was but for where the parts of its mutators are.
-pub record IsStill (old new : SeatView Pass) : Type 0 where
-  pub table : new.table ≡ old.table
-  pub shape : new.me.shape ≡ old.me.shape
-  pub control : new.me.control ≡ old.me.control
-  pub trail : new.me.trail ≡ old.me.trail
 
 -- the mutators from one place on are not split off yet
 abbrev pub AreUnsplit : ℕ → ℕ → List (Place Pass) → Type 0

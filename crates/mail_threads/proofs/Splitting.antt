@@ -21,8 +21,10 @@ use Rattle.mail_rule.specs.Opening.{first_rows, first_terms}
 use Rattle.mail_rule.specs.Passes.{opening_pass}
 use Rattle.mail_rule.specs.declared.mail_pass.MailPass.{MailPass}
 use Rattle.mail_rule.proofs.Openings.{firsts, opened}
-use Rattle.mail_threads.specs.Opened.{IsStill, mail_shape}
-use Rattle.mail_threads.specs.Workers.{AllFrom, AllReady, AreSmall, IsReady, script_of}
+use Rattle.beside_collector.specs.Places.{AllFrom}
+use Rattle.beside_collector.specs.Serving.{IsStill}
+use Rattle.mail_threads.specs.Opened.{mail_shape}
+use Rattle.mail_threads.specs.Workers.{AllReady, AreSmall, IsReady, script_of}
 use Rattle.mail_threads.specs.declared.workers.Sender.{Sender}
 
 pub opens : (cells mutators setting : ℕ) (rows : List (List Field)) → rows ≡ first_rows

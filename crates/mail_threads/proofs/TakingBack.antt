@@ -1,5 +1,5 @@
 -- How far the senders are taken back, one after the other.
-use Rattle.std.proofs.Common.{◌≡◌, ◌≤◌, ◌<◌, ◌+◌, ◌++◌, ℕ, zero, suc, List, [], ◌∷◌, length, map}
+use Rattle.std.proofs.Common.{◌≡◌, ◌<◌, ◌+◌, ◌++◌, ℕ, zero, suc, List, [], ◌∷◌, length}
 use Rattle.std.proofs.Common.{Option, inl, inr, refl, sym, ◌∙◌, ap, subst, arith, slice_set}
 use Rattle.std.specs.Prelude.{Vec}
 use Rattle.std.specs.declared.alloc.Global.{Global}
@@ -14,8 +14,9 @@ use Rattle.heap_rule.specs.declared.view.Place.{Place}
 use Rattle.heap_rule.specs.declared.view.Place.TheVariants as places
 use Rattle.heap_table.specs.Seats.{HeapId, IsSeatOf, SeatView}
 use Rattle.mail_rule.specs.declared.mail_pass.MailPass.{MailPass}
-use Rattle.mail_threads.specs.Opened.{IsStill}
-use Rattle.mail_threads.specs.Workers.{AllDone, AllFrom, IsDone, script_of}
+use Rattle.beside_collector.specs.Places.{AllFrom}
+use Rattle.beside_collector.specs.Serving.{IsStill}
+use Rattle.mail_threads.specs.Workers.{AllDone, IsDone, script_of}
 use Rattle.mail_threads.specs.declared.workers.Sender.{Sender}
 use Rattle.mail_threads.specs.Taken.{AreTaken, HasPosted, answers_of, lists_of}
 

@@ -5,6 +5,7 @@ use Rattle.std.specs.declared.alloc.Global.{Global}
 use mathlib.Core.Option.{some}
 use lib.ListN.{get_elem?}
 use Rattle.beside_collector.specs.Duty.{duty_on}
+use Rattle.beside_collector.specs.Serving.{IsStill}
 use Rattle.cell_words.specs.declared.controls.Stage.TheVariants as stage
 use Rattle.free_cells.specs.Hints.{cells_of as hinted_of}
 use Rattle.free_cells.specs.Passes.{IsHintPass}
@@ -25,13 +26,6 @@ mail_shape cells senders = record {
   setting = 0;
   first = first_rows;
 }
-
--- The collector's seat is as it was but for where the parts of its mutators are.
-pub record IsStill (old new : SeatView MailPass) : Type 0 where
-  pub table : new.table ≡ old.table
-  pub shape : new.me.shape ≡ old.me.shape
-  pub control : new.me.control ≡ old.me.control
-  pub trail : new.me.trail ≡ old.me.trail
 
 -- the mutators from one place on are not split off yet
 abbrev pub AreUnsplit : ℕ → ℕ → List (Place MailPass) → Type 0

@@ -10,7 +10,7 @@ use Rattle.heap_rule.specs.declared.view.Place.TheVariants as places
 use Rattle.heap_rule.specs.declared.view.Share.{Share}
 use Rattle.heap_table.specs.Seats.{SeatView}
 use Rattle.mail_rule.specs.declared.mail_pass.MailPass.{MailPass}
-use Rattle.mail_threads.specs.Opened.{IsStill}
+use Rattle.beside_collector.specs.Serving.{IsStill}
 use Rattle.mail_threads.specs.Posts.{Posts}
 use Rattle.trails.specs.Marks.{marks_of}
 

@@ -1,8 +1,9 @@
 -- What a sender and the receiver have before they begin, and what they leave.
 -- Source: this project's.
-use Rattle.std.specs.Prelude.{ℕ, zero, suc, ◌≡◌, ◌≤◌, ◌<◌, ◌+◌, ◌^◌, Bool, true, false, All}
+use Rattle.std.specs.Prelude.{ℕ, zero, suc, ◌≡◌, ◌≤◌, ◌<◌, ◌^◌, Bool, true, false, All}
 use Rattle.std.specs.Prelude.{List, [], ◌∷◌, length, Vec, vec_capacity}
 use Rattle.std.specs.declared.alloc.Global.{Global}
+use Rattle.beside_collector.specs.Places.{AllFrom}
 use Rattle.free_cells.specs.Passes.{IsHintPass}
 use Rattle.free_cells.specs.declared.queue.FreeQueue.{FreeQueue}
 use Rattle.heap_table.specs.Seats.{HeapId, IsSeatOf, SeatView}
@@ -59,11 +60,6 @@ pub record IsDone (heap : HeapId) (script : List ℕ) (place : ℕ) (sender : Se
   pub over : sender.seat.me.presence.over ≡ true
   pub posts : Posts heap.shape.cells script sender.sent.items sender.seat.me.pass
       (marks_of sender.seat.me.trail)
-
--- this holds of each sender and its place, where the first one has this place
-abbrev pub AllFrom : (ℕ → Sender → Type 0) → ℕ → List Sender → Type 0
-AllFrom holds place [] = Unit {0}
-AllFrom holds place (sender ∷ senders) = holds place sender × AllFrom holds (place + 1) senders
 
 abbrev pub AllReady : HeapId → FreeQueue → List (Vec ℕ Global) → List Sender → Type 0
 AllReady heap queue scripts senders =

@@ -3,7 +3,8 @@ use Rattle.std.specs.Vec.{vec_capacity, vec_len}
 use Rattle.client_threads.specs.Clients.{AllReady}
 use Rattle.free_cells.specs.Passes.{IsHintPass}
 use Rattle.heap_table.specs.Seats.{IsSeatOf}
-use Rattle.client_threads.specs.Opened.{AreUnsplit, IsStill}
+use Rattle.beside_collector.specs.Serving.{IsStill}
+use Rattle.client_threads.specs.Opened.{AreUnsplit}
 use Rattle.client_threads.proofs.opening.split_clients.Given as goal
 
 abbrev pub invariant-loop-place : goal.invariant-loop-place

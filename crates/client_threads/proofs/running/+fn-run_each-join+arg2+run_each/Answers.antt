@@ -1,7 +1,8 @@
 use Rattle.std.proofs.Common.{rules, ◌≡◌, List, [], ◌∷◌, ◌++◌, sym, subst}
 use Rattle.client_threads.specs.Clients.{AllDone, AllReady, IsReady, script_of}
 use Rattle.client_threads.specs.declared.clients.Client.{Client}
-use Rattle.client_threads.proofs.Places.{ReadyAt, all_front, done_last, ready_last}
+use Rattle.beside_collector.proofs.Places.{all_front}
+use Rattle.client_threads.proofs.Places.{ReadyAt, done_last, ready_last}
 use Rattle.client_threads.proofs.running.+fn-run_each-join+arg2+run_each.Goals as goal
 
 pub join+arg2-run_each-requires-sync-R : goal.join+arg2-run_each-requires-sync-R

@@ -2,7 +2,8 @@ use Rattle.std.proofs.Common.{◌≡◌, length}
 use Rattle.std.specs.Vec.{vec_capacity, vec_len}
 use Rattle.free_cells.specs.Passes.{IsHintPass}
 use Rattle.heap_table.specs.Seats.{IsSeatOf}
-use Rattle.mail_threads.specs.Opened.{AreUnsplit, IsStill}
+use Rattle.beside_collector.specs.Serving.{IsStill}
+use Rattle.mail_threads.specs.Opened.{AreUnsplit}
 use Rattle.mail_threads.specs.Workers.{AllReady}
 use Rattle.mail_threads.proofs.opening.split_senders.Given as goal
 

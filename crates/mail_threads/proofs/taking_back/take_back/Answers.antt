@@ -1,7 +1,7 @@
-use Rattle.std.proofs.Common.{List, ap, arith, length, subst, sym}
+use Rattle.std.proofs.Common.{List, ap, arith, length, subst}
 use Rattle.std.specs.Vec.Iter.{into_iter_items}
 use Rattle.mail_threads.specs.declared.workers.Sender.{Sender}
-use Rattle.mail_threads.proofs.TakingBack.{Taking, still_of, taking_next}
+use Rattle.mail_threads.proofs.TakingBack.{Taking, taking_next}
 use Rattle.mail_threads.proofs.taking_back.take_back.Goals as goal
 
 pub loop-sender-preserved : goal.loop-sender-preserved

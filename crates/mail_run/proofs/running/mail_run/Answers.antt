@@ -1,0 +1,5 @@
+use Rattle.mail_run.proofs.Lines.{each_short}
+use Rattle.mail_run.proofs.running.mail_run.Goals as goal
+
+pub open_mail-requires-clause-short : goal.open_mail-requires-clause-short
+open_mail-requires-clause-short g c = each_short c.args.scripts.now 100_000 c.requires.lines

@@ -1,0 +1,59 @@
+-- What stands where the heap of a run is closed, before its image is read.
+-- Source: this project's.
+use Rattle.std.specs.Prelude.{ℕ, ◌≡◌, ◌<◌, ◌+◌, Bool, false, List, length, Vec, Option}
+use Rattle.std.specs.declared.alloc.Global.{Global}
+use mathlib.Core.Option.{some}
+use lib.ListN.{get_elem?}
+use Rattle.beside_collector.specs.Service.{HasServed}
+use Rattle.beside_collector.specs.Serving.{IsStill}
+use Rattle.heap_rule.specs.Laws.{Ended}
+use Rattle.heap_rule.specs.declared.view.Place.{Place}
+use Rattle.heap_rule.specs.declared.view.Place.TheVariants as places
+use Rattle.heap_rule.specs.declared.view.Share.{Share}
+use Rattle.heap_table.specs.Images.{Shows}
+use Rattle.heap_table.specs.Seats.{SeatView}
+use Rattle.mail_rule.specs.Mail.{HoldsMail, is_fixed}
+use Rattle.mail_rule.specs.Passes.{opening_pass}
+use Rattle.mail_rule.specs.declared.items.Item.{Item}
+use Rattle.mail_rule.specs.declared.mail_pass.MailPass.{MailPass}
+use Rattle.mail_threads.specs.Opened.{mail_shape}
+use Rattle.mail_threads.specs.Receipts.{Receives}
+use Rattle.mail_threads.specs.Taken.{HasPosted, answers_of}
+use Rattle.mail_run.specs.Comes.{lines_in}
+use Rattle.mail_run.specs.declared.closed.Closed.{Closed}
+use Rattle.trails.specs.Marks.{marks_of}
+
+-- The receiver's seat was joined. Unless memory was wanting, it took a turn for each of so many
+-- lines, and took these items.
+pub record HasDrained (lines : ℕ) (items : List Item) (failed : Bool)
+    (joined : List (Place MailPass)) (i : ℕ) : Type 0 where
+  pub share : Share MailPass
+  pub share_at : get_elem? joined i ≡ some (places.Joined share)
+  pub receives : failed ≡ false → Receives lines items share.pass (marks_of share.trail)
+
+-- Each sender has sent its script, and the receiver, which has the last mutator, is through.
+pub record AreThrough (cells : ℕ) (scripts : List (List ℕ))
+    (sent : List (Vec (Option ℕ) Global)) (items : List Item) (failed : Bool)
+    (joined : List (Place MailPass)) : Type 0 where
+  pub many : length sent ≡ length scripts
+  pub posted : (i : ℕ) → i < length scripts
+      → HasPosted cells scripts (answers_of sent) joined i
+  pub drained : HasDrained (lines_in scripts) items failed joined (length scripts)
+
+-- So it is behind the joins; the collector's seat is as it was, but for where the parts of its
+-- mutators are.
+pub record AreBack (cells : ℕ) (scripts : List (List ℕ))
+    (sent : List (Vec (Option ℕ) Global)) (items : List Item) (failed : Bool)
+    (old new : SeatView MailPass) : Type 0 where
+  pub still : IsStill old new
+  pub through : AreThrough cells scripts sent items failed new.me.places
+
+-- And so it is at the close, where the image shows a mailbox's heap, and the collector has served.
+pub record IsClosed (cells cycles : ℕ) (scripts : List (List ℕ)) (closed : Closed)
+    : Type 0 where
+  pub ended : Ended opening_pass HoldsMail is_fixed (mail_shape cells (length scripts)) (Unit {0})
+      closed.image.words closed.passes
+  pub shown : Shows closed.image ended.shows.core
+  pub through : AreThrough cells scripts closed.sent.items closed.items.items closed.failed
+      closed.passes.places
+  pub served : HasServed cycles (length scripts + 1) closed.passes

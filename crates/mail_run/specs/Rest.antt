@@ -1,0 +1,48 @@
+-- The items behind a box, as the fields of a state have them.
+-- Source: this project's.
+use Rattle.std.specs.Prelude.{ℕ, zero, suc, nat_le, if◌then◌else◌, List, [], ◌∷◌, Option, Some, None}
+use Rattle.cell_words.specs.declared.fields.Field.{Field}
+use Rattle.cell_words.specs.declared.fields.Field.TheVariants as field
+use Rattle.core_machine.specs.State.{State, field_of}
+use Rattle.mail_rule.specs.declared.items.Item.{Item}
+
+-- the number that a field is, and 0 where it is none
+abbrev pub number_in : Field → ℕ
+number_in field.Null = 0
+number_in (field.Num n) = n
+number_in (field.Cell c) = 0
+
+-- the cell that a field names
+abbrev pub cell_in : Field → Option ℕ
+cell_in field.Null = None
+cell_in (field.Num n) = None
+cell_in (field.Cell c) = Some c
+
+-- a number as that of a sender, of which there are at most 64; 0 is nobody's
+abbrev pub sender_of : ℕ → ℕ
+sender_of n = if nat_le n 64 then n else 0
+
+abbrev pub item_of : State → ℕ → Item
+item_of s cell = record {
+  position = number_in (field_of s cell 0);
+  sender = sender_of (number_in (field_of s cell 1));
+  value = number_in (field_of s cell 2);
+}
+
+-- at most so many items, from this box on
+abbrev pub rest_of : State → ℕ → Option ℕ → List Item
+rest_of s zero at = []
+rest_of s (suc n) None = []
+rest_of s (suc n) (Some cell) = item_of s cell ∷ rest_of s n (cell_in (field_of s cell 3))
+
+-- a mailbox has at most so many items: each of 64 mutators sends at most 100,000
+abbrev pub most_items : ℕ
+most_items = 6_400_000
+
+-- those behind the box that the anchor names
+abbrev pub behind_named : State → Option ℕ → List Item
+behind_named s None = []
+behind_named s (Some taken) = rest_of s most_items (cell_in (field_of s taken 3))
+
+abbrev pub rest_in : State → List Item
+rest_in s = behind_named s (cell_in (field_of s 0 0))

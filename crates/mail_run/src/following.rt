@@ -1,0 +1,98 @@
+//! The items that nobody took, read off the closed heap: their boxes follow the one that the anchor
+//! names.
+ghost use Rattle.std.specs.Prelude.{◌≡◌, ◌<◌, ◌++◌, ◌∷◌, [], IfNone, IfSome};
+ghost use Rattle.std.specs.Bool.{OnTrue};
+ghost use Rattle.core_machine.specs.State.{State, field_of};
+ghost use Rattle.heap_table.specs.Images.{Shows};
+ghost use Rattle.mail_run.specs.Rest.{cell_in, item_of, most_items, number_in, rest_in, rest_of};
+ghost use Rattle.mail_run.specs.Rest.{sender_of};
+
+use cell_heap::Image;
+use cell_mailbox::Item;
+use cell_words::Field;
+
+/// How many items a mailbox has at most: each of 64 mutators sends at most 100,000.
+const MOST: u32 = 6_400_000;
+
+/// A field of a cell, and null where there is no such cell.
+fn field_at(image: &Image, cell: u32, i: usize) -> Field
+    requires { i < 6 }
+    ensures field { (s : State) → Shows image.now s → result ≡ field_of s cell i }
+{
+    if cell < image.cells() {
+        image.field(cell, i)
+    } else {
+        Field::Null
+    }
+}
+
+/// The number that a field is, and 0 where it is none.
+fn number_at(image: &Image, cell: u32, i: usize) -> u64
+    requires { i < 6 }
+    ensures number { (s : State) → Shows image.now s → result ≡ number_in (field_of s cell i) }
+{
+    match field_at(image, cell, i) {
+        Field::Num(number) => number,
+        Field::Null | Field::Cell(_) => 0,
+    }
+}
+
+/// The cell that a field names.
+fn cell_at(image: &Image, cell: u32, i: usize) -> Option<u32>
+    requires { i < 6 }
+    ensures named { (s : State) → Shows image.now s → result ≡ cell_in (field_of s cell i) }
+{
+    match field_at(image, cell, i) {
+        Field::Cell(named) => Some(named),
+        Field::Null | Field::Num(_) => None,
+    }
+}
+
+/// The number as that of a sender, of which there are at most 64. 0 is nobody's.
+fn sender(number: u64) -> u32
+    ensures sender { result ≡ sender_of number }
+{
+    if number <= 64 { number as u32 } else { 0 }
+}
+
+/// The item of a box.
+fn item_at(image: &Image, cell: u32) -> Item
+    ensures item { (s : State) → Shows image.now s → result ≡ item_of s cell }
+{
+    Item {
+        position: number_at(image, cell, 0),
+        sender: sender(number_at(image, cell, 1)),
+        value: number_at(image, cell, 2),
+    }
+}
+
+/// Puts the items of a box and of those behind it to the others, unless memory is wanting.
+fn follow(image: &Image, first: Option<u32>, items: &mut Vec<Item>) -> bool
+    ensures rest { OnTrue result ((s : State) → Shows image.now s
+        → items.new.items ≡ items.old.items ++ rest_of s most_items first) }
+{
+    let mut at = first;
+    for _box in 0..MOST {
+        match at {
+            Some(cell) => {
+                if items.push(item_at(image, cell)).is_err() {
+                    return false;
+                }
+                at = cell_at(image, cell, 3);
+            }
+            None => return true,
+        }
+    }
+    true
+}
+
+/// Puts the items that nobody took to the others, unless memory is wanting.
+pub(crate) fn append_rest(image: &Image, items: &mut Vec<Item>) -> bool
+    ensures rest { OnTrue result ((s : State) → Shows image.now s
+        → items.new.items ≡ items.old.items ++ rest_in s) }
+{
+    match cell_at(image, 0, 0) {
+        Some(taken) => follow(image, cell_at(image, taken, 3), items),
+        None => true,
+    }
+}
