@@ -4,10 +4,15 @@ use Rattle.std.proofs.Common.{map}
 use Rattle.std.proofs.Common.{inl, inr, refl, sym, subst, arith}
 use Rattle.std.specs.Prelude.{◌⊎◌, ◌↔◌, ◌≢◌, IfSome}
 use Rattle.outside.specs.Causes.{next_count}
-use Rattle.run_words.specs.Requests.{Asked, Run, Replay, Gen, Load, Image, Dump, Census, RunAsked}
+use Rattle.run_words.specs.Requests.{Asked, Run, Replay, Gen, Load, Image, Dump, Census, Mail}
+use Rattle.run_words.specs.Requests.{MailAsked, RunAsked}
 use Rattle.run_words.specs.declared.request.GenWords.{GenWords}
 use Rattle.script_files.specs.Files.{OpensInTurn}
-use Rattle.script_files.specs.Scripts.{IsDue, IsDueFor, most_commands}
+use Rattle.script_files.specs.InTurn.{most_commands}
+use Rattle.script_files.specs.Due.{IsDueIn}
+use Rattle.script_files.specs.Mail.{IsMailDueFor, StopsAtMail, parse_mail}
+use Rattle.script_files.specs.Scripts.{IsDueFor, parse_script, scripts_of}
+use Rattle.script_files.specs.Sorts.{OfMail, OfScripts}
 use Rattle.script_files.proofs.Opens.{stops_none}
 use Rattle.doc_run.proofs.Due.{run_due, wanting_due}
 use Rattle.script_files.specs.Fault.{status_of}
@@ -15,13 +20,14 @@ use Rattle.script_files.specs.Scripts.{AreScripts, StopsBehind}
 use Rattle.script_files.specs.declared.fault.Fault.{Fault}
 use Rattle.script_files.specs.declared.fault.Fault.TheVariants.{Memory, Usage}
 use Rattle.store_run.specs.declared.finished.Finished.{Finished}
-use Rattle.doc_run.specs.Clients.{options_of}
+use Rattle.doc_run.specs.Clients.{ComesBy, options_of}
 use Rattle.doc_run.specs.Ending.{Explains}
 use Rattle.doc_run.specs.Asked.{IsFaultOf, WritesPartOf}
 use Rattle.doc_run.specs.Ending.{OpensFiles}
 use Rattle.doc_run.specs.Guested.{IsDumpDueFor}
 use Rattle.doc_run.specs.Reading.{IsFileDue, Reading, Schedules, Dumps, Images}
-use Rattle.doc_run.specs.Request.{ByPrint, IfDump, IfGen, IfRead, IfRun, IfScripts, asked_for}
+use Rattle.doc_run.specs.Request.{ByPrint, IfDump, IfGen, IfMail, IfRead, IfRun, IfScripts}
+use Rattle.doc_run.specs.Request.{asked_for}
 use Rattle.doc_run.specs.Request.{asked_of, files_of}
 use Rattle.doc_run.proofs.Guesting.{beside_wanting}
 use Rattle.doc_run.proofs.Readings.{wanting}
@@ -39,6 +45,7 @@ if_run (Some (Load name)) Fact all = tt
 if_run (Some (Image run)) Fact all = all Heap run
 if_run (Some (Dump names)) Fact all = tt
 if_run (Some (Census name)) Fact all = tt
+if_run (Some (Mail mail)) Fact all = tt
 
 if_read : (asked : Option Asked) (Fact : Reading → List ℕ → Type 0)
     → ((reading : Reading) (name : List ℕ) → Fact reading name) → IfRead asked Fact
@@ -50,6 +57,7 @@ if_read (Some (Load name)) Fact all = all Dumps name
 if_read (Some (Image run)) Fact all = tt
 if_read (Some (Dump names)) Fact all = tt
 if_read (Some (Census name)) Fact all = all Images name
+if_read (Some (Mail mail)) Fact all = tt
 
 if_gen : (asked : Option Asked) (Fact : GenWords → Type 0) → ((made : GenWords) → Fact made)
     → IfGen asked Fact
@@ -61,6 +69,7 @@ if_gen (Some (Load name)) Fact all = tt
 if_gen (Some (Image run)) Fact all = tt
 if_gen (Some (Dump names)) Fact all = tt
 if_gen (Some (Census name)) Fact all = tt
+if_gen (Some (Mail mail)) Fact all = tt
 
 if_dump : (asked : Option Asked) (Fact : List (List ℕ) → Type 0)
     → ((names : List (List ℕ)) → Fact names) → IfDump asked Fact
@@ -72,6 +81,7 @@ if_dump (Some (Load name)) Fact all = tt
 if_dump (Some (Image run)) Fact all = tt
 if_dump (Some (Dump names)) Fact all = all names
 if_dump (Some (Census name)) Fact all = tt
+if_dump (Some (Mail mail)) Fact all = tt
 
 if_scripts : (asked : Option Asked) (Fact : List (List ℕ) → Type 0)
     → ((names : List (List ℕ)) → Fact names) → IfScripts asked Fact
@@ -83,6 +93,19 @@ if_scripts (Some (Load name)) Fact all = tt
 if_scripts (Some (Image run)) Fact all = all run.files
 if_scripts (Some (Dump names)) Fact all = all names
 if_scripts (Some (Census name)) Fact all = tt
+if_scripts (Some (Mail mail)) Fact all = tt
+
+if_mail : (asked : Option Asked) (Fact : MailAsked → Type 0) → ((mail : MailAsked) → Fact mail)
+    → IfMail asked Fact
+if_mail None Fact all = tt
+if_mail (Some (Run run)) Fact all = tt
+if_mail (Some (Replay name)) Fact all = tt
+if_mail (Some (Gen made)) Fact all = tt
+if_mail (Some (Load name)) Fact all = tt
+if_mail (Some (Image run)) Fact all = tt
+if_mail (Some (Dump names)) Fact all = tt
+if_mail (Some (Census name)) Fact all = tt
+if_mail (Some (Mail mail)) Fact all = all mail
 
 if_some : (told : Option (List ℕ)) (Fact : List ℕ → Type 0)
     → ((bytes : List ℕ) → Fact bytes) → IfSome told Fact
@@ -93,7 +116,13 @@ pub unread_scripts : (asked : Option Asked) (holds : List ℕ → Option (List �
     → status ≡ 5 → IfRun asked (λ report run. IsDueFor (map holds run.files) status)
 unread_scripts asked holds status is =
     if_run asked _ (λ report run scripts decided.
-    subst (IsDue scripts) (sym is) (wanting_due scripts))
+    subst (λ n. IsDueIn OfScripts scripts n) (sym is) (wanting_due OfScripts scripts))
+
+pub unread_mail : (asked : Option Asked) (holds : List ℕ → Option (List ℕ)) (status : ℕ)
+    → status ≡ 5 → IfMail asked (λ mail. IsMailDueFor (map holds mail.files) status)
+unread_mail asked holds status is =
+    if_mail asked _ (λ mail scripts decided.
+    subst (λ n. IsDueIn OfMail scripts n) (sym is) (wanting_due OfMail scripts))
 
 pub unread_large_made : (asked : Option Asked) (status : ℕ) → status ≡ 5
     → IfGen asked (λ made. (status ≡ 6)
@@ -132,6 +161,7 @@ unread_memory (Some (Load name)) holds dumped = tt
 unread_memory (Some (Image run)) holds dumped = tt
 unread_memory (Some (Dump names)) holds dumped = tt
 unread_memory (Some (Census name)) holds dumped = tt
+unread_memory (Some (Mail mail)) holds dumped = tt
 
 pub unread_fault : (asked : Option Asked) (holds : List ℕ → Option (List ℕ))
     (dumped : Option Dumped) (found : Option Fault) (fault : Fault) → found ≡ Some Memory
@@ -165,6 +195,7 @@ unwritten_part (Some (Load name)) holds old new is = inl is
 unwritten_part (Some (Image run)) holds old new is = inl is
 unwritten_part (Some (Dump names)) holds old new is = inl is
 unwritten_part (Some (Census name)) holds old new is = inl is
+unwritten_part (Some (Mail mail)) holds old new is = inl is
 
 -- no file was opened
 pub opens_nothing : (status before files : ℕ) → status ≡ 5
@@ -201,7 +232,9 @@ pub due_asked : (asked : Option Asked) (report : Report) (run : RunAsked)
 due_asked asked report run holds fault finished status is same explained =
     subst (λ a. IfRun a (λ told these. IsDueFor (map holds these.files) status)) (sym is)
     (of_run report run (λ told these. IsDueFor (map holds these.files) status)
-    (run_due (map holds run.files) (options_of run) fault finished status same explained))
+    (run_due OfScripts (λ contents. scripts_of contents) (map holds run.files)
+    (λ f. ComesBy (AreScripts (map holds run.files)) (options_of run) f) fault finished status
+    (λ f comes. (comes.0, comes.1)) same explained))
 
 -- which files it opened at most
 of_run_scripts : (report : Report) (run : RunAsked) (Fact : List (List ℕ) → Type 0)
@@ -230,7 +263,12 @@ stops_beside asked names holds before now is stops =
 pub unread_stops : (asked : Option Asked) (holds : List ℕ → Option (List ℕ)) (opens : ℕ)
     → IfScripts asked (λ names. StopsBehind 1 0 (map holds names) opens opens)
 unread_stops asked holds opens =
-    if_scripts asked _ (λ names. stops_none 1 0 opens (map holds names))
+    if_scripts asked _ (λ names. stops_none parse_script 1 0 opens (map holds names))
+
+pub unread_stops_mail : (asked : Option Asked) (holds : List ℕ → Option (List ℕ)) (opens : ℕ)
+    → IfMail asked (λ mail. StopsAtMail (map holds mail.files) opens opens)
+unread_stops_mail asked holds opens =
+    if_mail asked _ (λ mail. stops_none parse_mail 1 0 opens (map holds mail.files))
 
 -- the only file of a request
 one_file : (reading : Reading) (name : List ℕ) → files_of (Some (asked_of reading name)) ≡ 1
@@ -251,6 +289,7 @@ pub ruleset asking = (
   unread_large_made,
   unread_complete_made,
   unread_file,
+  unread_mail,
   unread_dump,
   unread_fault,
   usage_fault,

@@ -3,10 +3,12 @@ use Rattle.std.proofs.Common.{◌≡◌, ℕ, ◌<◌, ◌*◌, List, Option, So
 use Rattle.std.proofs.Common.{subst, inl, inr}
 use Rattle.std.specs.Prelude.{IsNone, IsSomeAnd, ◌⊎◌}
 use Rattle.doc_export.specs.declared.dumped.Dumped.{Dumped}
-use Rattle.run_words.specs.Requests.{Asked, Dump, Gen, RunAsked}
+use Rattle.run_words.specs.Requests.{Asked, Dump, Gen, Mail, MailAsked, RunAsked}
 use Rattle.run_words.specs.declared.request.GenWords.{GenWords}
-use Rattle.script_files.specs.Scripts.{AreScripts, most_commands}
-use Rattle.script_files.specs.Sorts.{Grammar, OfScripts, Refused, Sort, sort_of}
+use Rattle.script_files.specs.InTurn.{most_commands}
+use Rattle.script_files.specs.Scripts.{AreScripts}
+use Rattle.script_files.specs.Mail.{IsMail}
+use Rattle.script_files.specs.Sorts.{Grammar, OfMail, OfScripts, Refused, Sort, sort_of}
 use Rattle.script_files.specs.Sorts.{OfWords, OfLine, OfReading, OfWriting, OfMemory, OfSize}
 use Rattle.script_files.specs.declared.fault.Fault.{Fault}
 use Rattle.script_files.specs.declared.fault.Fault.TheVariants.{TooLarge}
@@ -16,6 +18,8 @@ use Rattle.doc_run.specs.Clients.{options_of}
 use Rattle.doc_run.specs.Ending.{Explains, ExplainsMade, IsMadeRun}
 use Rattle.doc_run.specs.Faults.{ByContents, BySort, ByScripts}
 use Rattle.doc_run.specs.Guested.{AreFewScripts, DumpsBy, ExplainsDump, IsTooLarge}
+use Rattle.mail_run.specs.declared.finished.MailRun.{MailRun}
+use Rattle.doc_run.specs.Mailed.{ExplainsMail}
 use Rattle.doc_run.specs.Reading.{ByReading, Decides, ExplainsFile, Reading, Schedules, Dumps}
 use Rattle.doc_run.specs.Reading.{Images, grammar_of}
 use Rattle.doc_run.specs.Request.{asked_for, asked_of}
@@ -142,3 +146,14 @@ fault_of_dump asked names holds dumped found fault is explained one =
     explained in
     subst (λ a. IsFaultOf holds a dumped fault) (sym is)
     (beside_fault (map holds names) dumped fault (sort_of fault) _ _ refl these)
+
+pub fault_of_mail : (asked : Option Asked) (mail : MailAsked) (holds : List ℕ → Option (List ℕ))
+    (dumped : Option Dumped) (found : Option Fault) (mailed : Option MailRun) (fault : Fault)
+    → asked ≡ Some (Mail mail) → ExplainsMail mail (map holds mail.files) found mailed
+    → found ≡ Some fault → IsFaultOf holds asked dumped fault
+fault_of_mail asked mail holds dumped found mailed fault is explained one =
+    let these = subst (λ (f : Option Fault). ExplainsMail mail (map holds mail.files) f mailed) one
+    explained in
+    subst (λ a. IsFaultOf holds a dumped fault) (sym is)
+    (of_refused OfMail (sort_of fault) (IsMail (map holds mail.files) (Err fault)) _ _ _
+    (with_none (sort_of fault) _ _ _ _ these))

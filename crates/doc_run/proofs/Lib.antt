@@ -8,6 +8,7 @@ pub mod HandedBack
 pub mod Endings
 pub mod Asking
 pub mod Faulting
+pub mod Mailboxes
 pub mod Writing
 pub mod Summaries
 pub mod Deciding

@@ -4,7 +4,7 @@ use Rattle.std.proofs.Common.{◌≡◌, ◌∙◌, ℕ, ◌<◌, ◌≤◌, Lis
 use Rattle.std.proofs.Common.{true, false, length, inl, inr, refl, sym, subst}
 use Rattle.std.specs.Prelude.{◌⊎◌, IsErr, IsOk, nat_lt}
 use Rattle.std.proofs.lemmas.Bool.{le-ltb, lt-ltb, ltb-false, ltb-true}
-use Rattle.script_files.specs.Scripts.{within_size}
+use Rattle.script_files.specs.InTurn.{within_size}
 use Rattle.script_files.specs.Sorts.{Grammar, OfLine, OfSize, sort_of}
 use Rattle.script_files.specs.declared.fault.Fault.{Fault}
 use Rattle.script_files.specs.declared.fault.Fault.TheVariants.{TooLarge}

@@ -3,15 +3,17 @@
 -- Source: this project's own.
 use Rattle.std.specs.Prelude.{◌≡◌, ℕ, List, Option, None, Some, Err, ◌⊎◌, map}
 use Rattle.doc_export.specs.declared.dumped.Dumped.{Dumped}
-use Rattle.run_words.specs.Requests.{Asked, Run, Replay, Gen, Load, Image, Dump, Census}
+use Rattle.run_words.specs.Requests.{Asked, Run, Replay, Gen, Load, Image, Dump, Census, Mail}
+use Rattle.script_files.specs.Mail.{IsMail}
 use Rattle.script_files.specs.Scripts.{AreScripts}
-use Rattle.script_files.specs.Sorts.{OfScripts, sort_of}
+use Rattle.script_files.specs.Sorts.{OfMail, OfScripts, sort_of}
 use Rattle.script_files.specs.declared.fault.Fault.{Fault}
 use Rattle.script_files.specs.declared.fault.Fault.TheVariants.{TooLarge}
 use Rattle.doc_run.specs.Clients.{options_of}
 use Rattle.doc_run.specs.Ending.{WritesMadePart, WritesPart}
-use Rattle.doc_run.specs.Faults.{ByContents, ByScripts}
+use Rattle.doc_run.specs.Faults.{ByContents, ByGrammar, ByScripts}
 use Rattle.doc_run.specs.Guested.{AreFewScripts, IsTooLarge, WritesDumpPart}
+use Rattle.doc_run.specs.Mailed.{WritesMailPart}
 use Rattle.doc_run.specs.Reading.{ByReading, Decides, IsAnswerOf, Schedules, Dumps, Images}
 use Rattle.doc_run.specs.Reports.{IsReportOf}
 use Rattle.doc_run.specs.Texts.{WritesTextPart}
@@ -35,6 +37,7 @@ WritesPartOf holds (Some (Image run)) old new =
 WritesPartOf holds (Some (Dump names)) old new = WritesDumpPart (map holds names) old new
 WritesPartOf holds (Some (Census name)) old new =
     WritesTextPart (IsAnswerOf Images (holds name)) old new
+WritesPartOf holds (Some (Mail mail)) old new = WritesMailPart mail (map holds mail.files) old new
 
 -- What a fault says of what the request names, where something was refused for what it holds.
 abbrev pub IsFaultOf : (List ℕ → Option (List ℕ)) → Option Asked → Option Dumped → Fault → Type 0
@@ -55,3 +58,5 @@ IsFaultOf holds (Some (Dump names)) dumped fault =
     (AreFewScripts (map holds names) (Err fault) ⊎ ((fault ≡ TooLarge 0) × IsTooLarge dumped))
 IsFaultOf holds (Some (Census name)) dumped fault =
     ByReading Images (sort_of fault) (Decides Images (holds name) fault)
+IsFaultOf holds (Some (Mail mail)) dumped fault =
+    ByGrammar OfMail (sort_of fault) (IsMail (map holds mail.files) (Err fault))

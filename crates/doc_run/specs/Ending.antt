@@ -14,8 +14,8 @@ use Rattle.run_output.specs.Summary.{summary_text_of}
 use Rattle.run_output.specs.declared.summary.Made.{Made}
 use Rattle.run_words.specs.declared.request.GenWords.{GenWords}
 use Rattle.script_files.specs.Files.{opened}
-use Rattle.script_files.specs.Scripts.{most_commands}
-use Rattle.script_files.specs.Sorts.{OfScripts, Refused, sort_of}
+use Rattle.script_files.specs.InTurn.{most_commands}
+use Rattle.script_files.specs.Sorts.{Grammar, OfScripts, Refused, sort_of}
 use Rattle.script_files.specs.declared.fault.Fault.{Fault}
 use Rattle.script_files.specs.declared.fault.Fault.TheVariants.{TooLarge}
 use Rattle.script_generator.specs.Generated.{generated_of}
@@ -53,12 +53,17 @@ IsSummaryOf made f text =
 abbrev pub printed_of : GenWords → ℕ → List ℕ
 printed_of made client = generated_of made.start client made.commands
 
--- nothing was written, or a front of what a run of the given scripts comes to
+-- nothing was written, or a front of the text of what a run comes to
+abbrev pub WritesRunPart : {F : Type 0} → (F → Type 0) → (F → List ℕ → Type 0) → Option (List ℕ)
+    → Option (List ℕ) → Type 0
+WritesRunPart {F} Comes IsText old new =
+    (new ≡ old) ⊎ ((f : F) × Comes f × WritesFront (IsText f) old new)
+
+-- the same of a run of the given scripts
 abbrev pub WritesPart : (Result (List (List Command)) Fault → Type 0) → Options
     → (Finished → List ℕ → Type 0) → Option (List ℕ) → Option (List ℕ) → Type 0
 WritesPart Given options IsText old new =
-    (new ≡ old)
-    ⊎ ((f : Finished) × ComesBy Given options f × WritesFront (IsText f) old new)
+    WritesRunPart (λ f. ComesBy Given options f) IsText old new
 
 -- nothing was written, or a front of what generated scripts come to, or of the one that is printed
 abbrev pub WritesMadePart : GenWords → Option (List ℕ) → Option (List ℕ) → Type 0
@@ -66,26 +71,41 @@ WritesMadePart made old new =
     ByPrint made.print (WritesPart (IsMade made) default_options (IsSummaryOf made) old new)
     (λ client. (new ≡ old) ⊎ AppendsPart old new (printed_of made client))
 
+-- By the fault of a run.
+
+-- What an ending says of files of this grammar, which are refused by such a fault where they decide
+-- it, and of what the run came to.
+abbrev pub ExplainsRun : {F : Type 0} → Grammar → (Fault → Type 0) → (F → Type 0) → Option Fault
+    → Option F → Type 0
+ExplainsRun grammar Refuses Comes None finished = IsSomeAnd finished Comes
+ExplainsRun grammar Refuses Comes (Some fault) finished =
+    BySort (sort_of fault)
+    (Refused grammar (sort_of fault) (Refuses fault) (Unit {0}) × IsNone finished)
+    (IsSomeAnd finished Comes) (IsNone finished)
+
+-- what an ending says of what was written
+abbrev pub WritesRun : {F : Type 0} → (F → Type 0) → (F → List ℕ → Type 0) → Option (List ℕ)
+    → Option (List ℕ) → Option Fault → Option F → Type 0
+WritesRun Comes IsText old new None finished =
+    IsSomeAnd finished (λ f. WritesAll (IsText f) old new)
+WritesRun Comes IsText old new (Some fault) finished =
+    BySort (sort_of fault) (new ≡ old) (IsSomeAnd finished (λ f. WritesFront (IsText f) old new))
+    (WritesRunPart Comes IsText old new)
+
 -- By the fault of a run of clients.
 
 -- what an ending says of the scripts that are given, and of what the run came to
 abbrev pub Explains : (Result (List (List Command)) Fault → Type 0) → Options → Option Fault
     → Option Finished → Type 0
-Explains Given options None finished = IsSomeAnd finished (λ f. ComesBy Given options f)
-Explains Given options (Some fault) finished =
-    BySort (sort_of fault)
-    (Refused OfScripts (sort_of fault) (Given (Err fault)) (Unit {0}) × IsNone finished)
-    (IsSomeAnd finished (λ f. ComesBy Given options f)) (IsNone finished)
+Explains Given options fault finished =
+    ExplainsRun OfScripts (λ one. Given (Err one)) (λ f. ComesBy Given options f) fault finished
 
 -- what an ending says of what was written
 abbrev pub Writes : (Result (List (List Command)) Fault → Type 0) → Options
     → (Finished → List ℕ → Type 0) → Option (List ℕ) → Option (List ℕ)
     → Option Fault → Option Finished → Type 0
-Writes Given options IsText old new None finished =
-    IsSomeAnd finished (λ f. WritesAll (IsText f) old new)
-Writes Given options IsText old new (Some fault) finished =
-    BySort (sort_of fault) (new ≡ old) (IsSomeAnd finished (λ f. WritesFront (IsText f) old new))
-    (WritesPart Given options IsText old new)
+Writes Given options IsText old new fault finished =
+    WritesRun (λ f. ComesBy Given options f) IsText old new fault finished
 
 -- By the fault of generated scripts.
 

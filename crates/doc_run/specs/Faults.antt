@@ -24,7 +24,11 @@ ByContents OfWriting Line Size = Unit {0}
 ByContents OfMemory Line Size = Unit {0}
 ByContents OfSize Line Size = Size
 
+-- a fault of this sort decides, and one of a line is of this grammar
+abbrev pub ByGrammar : Grammar → Sort → Type 0 → Type 0
+ByGrammar one sort Decided =
+    ByContents sort (λ grammar. (grammar ≡ one) × Decided) Decided
+
 -- a fault of this sort is that of scripts, and one of a line is of their grammar
 abbrev pub ByScripts : Sort → Type 0 → Type 0
-ByScripts sort Decided =
-    ByContents sort (λ grammar. (grammar ≡ OfScripts) × Decided) Decided
+ByScripts sort Decided = ByGrammar OfScripts sort Decided

@@ -9,7 +9,8 @@ use Rattle.doc_export.specs.Dumps.{Dumps}
 use Rattle.doc_export.specs.declared.dumped.Dumped.{Dumped}
 use Rattle.doc_model.specs.declared.command.Command.{Command}
 use Rattle.script_files.specs.Files.{AreTold}
-use Rattle.script_files.specs.Scripts.{IsFaultyLine, IsLarge, IsUnhindered, scripts_of}
+use Rattle.script_files.specs.Due.{IsLarge, IsUnhindered}
+use Rattle.script_files.specs.Scripts.{IsFaultyLine, scripts_of}
 use Rattle.script_files.specs.Sorts.{OfScripts, Refused, sort_of}
 use Rattle.script_files.specs.declared.fault.Fault.{Fault}
 use Rattle.script_files.specs.declared.fault.Fault.TheVariants.{Memory, TooLarge}

@@ -6,5 +6,6 @@ pub mod Reading
 pub mod Guested
 pub mod Request
 pub mod Ending
+pub mod Mailed
 pub mod Asked
 pub mod Written

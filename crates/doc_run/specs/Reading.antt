@@ -12,7 +12,8 @@ use Rattle.script_files.specs.Counted.{HoldsImage, IsFaultyImage, IsImageFile, O
 use Rattle.script_files.specs.Counted.{RefusesBytes}
 use Rattle.script_files.specs.Loaded.{HoldsDump, IsDumpFile, IsDumpRead, IsFaultyDump}
 use Rattle.script_files.specs.Replayed.{IsFaultySchedule, IsReading, IsSchedule, IsTextOf}
-use Rattle.script_files.specs.Scripts.{IsUnhindered, largest_file}
+use Rattle.script_files.specs.InTurn.{largest_file}
+use Rattle.script_files.specs.Due.{IsUnhindered}
 use Rattle.script_files.specs.Sorts.{Grammar, OfSchedules, OfDumps, OfImages, Refused, Sort}
 use Rattle.script_files.specs.Sorts.{sort_of}
 use Rattle.script_files.specs.declared.fault.Fault.{Fault}

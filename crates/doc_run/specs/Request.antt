@@ -1,9 +1,11 @@
 -- What is so by what the words of a command line ask for.
 -- Source: this project's own.
 use Rattle.std.specs.Prelude.{ℕ, List, [], ◌∷◌, length, Option, None, Some, IsNone}
-use Rattle.run_words.specs.Requests.{Asked, Run, Replay, Gen, Load, Image, Dump, Census, RunAsked}
+use Rattle.run_words.specs.Requests.{Asked, Run, Replay, Gen, Load, Image, Dump, Census, Mail}
+use Rattle.run_words.specs.Requests.{MailAsked, RunAsked}
 use Rattle.run_words.specs.declared.request.GenWords.{GenWords}
 use Rattle.script_files.specs.Files.{files_read}
+use Rattle.script_files.specs.Mail.{senders_read}
 use Rattle.doc_run.specs.Guested.{few_read}
 use Rattle.doc_run.specs.Reading.{Reading, Schedules, Dumps, Images}
 use Rattle.doc_run.specs.declared.report.Report.{Report}
@@ -19,6 +21,7 @@ names_of (Some (Load name)) = name ∷ []
 names_of (Some (Image run)) = run.files
 names_of (Some (Dump names)) = names
 names_of (Some (Census name)) = name ∷ []
+names_of (Some (Mail mail)) = mail.files
 
 -- how many of them are read: none where they are too many
 abbrev pub files_of : Option Asked → ℕ
@@ -30,6 +33,7 @@ files_of (Some (Load name)) = 1
 files_of (Some (Image run)) = files_read (length run.files)
 files_of (Some (Dump names)) = few_read (length names)
 files_of (Some (Census name)) = 1
+files_of (Some (Mail mail)) = senders_read (length mail.files)
 
 -- the request is a run of clients that is told of, with scripts of files or generated ones
 abbrev pub RunsClients : Option Asked → Type 0
@@ -41,6 +45,7 @@ RunsClients (Some (Load name)) = ⊥
 RunsClients (Some (Image run)) = Unit {0}
 RunsClients (Some (Dump names)) = ⊥
 RunsClients (Some (Census name)) = ⊥
+RunsClients (Some (Mail mail)) = ⊥
 
 -- the request that has the scripts of files run by these words, and this report of it written
 abbrev pub asked_for : Report → RunAsked → Asked
@@ -63,6 +68,7 @@ IfRun (Some (Load name)) Fact = Unit {0}
 IfRun (Some (Image run)) Fact = Fact Heap run
 IfRun (Some (Dump names)) Fact = Unit {0}
 IfRun (Some (Census name)) Fact = Unit {0}
+IfRun (Some (Mail mail)) Fact = Unit {0}
 
 -- the fact holds of the names, if the request is to dump a version beside the scripts of files
 abbrev pub IfDump : Option Asked → (List (List ℕ) → Type 0) → Type 0
@@ -74,6 +80,7 @@ IfDump (Some (Load name)) Fact = Unit {0}
 IfDump (Some (Image run)) Fact = Unit {0}
 IfDump (Some (Dump names)) Fact = Fact names
 IfDump (Some (Census name)) Fact = Unit {0}
+IfDump (Some (Mail mail)) Fact = Unit {0}
 
 -- the request is for that
 abbrev pub AsksDump : Option Asked → Type 0
@@ -85,6 +92,7 @@ AsksDump (Some (Load name)) = ⊥
 AsksDump (Some (Image run)) = ⊥
 AsksDump (Some (Dump names)) = Unit {0}
 AsksDump (Some (Census name)) = ⊥
+AsksDump (Some (Mail mail)) = ⊥
 
 -- the fact holds of the names, if scripts of files are run
 abbrev pub IfScripts : Option Asked → (List (List ℕ) → Type 0) → Type 0
@@ -96,6 +104,7 @@ IfScripts (Some (Load name)) Fact = Unit {0}
 IfScripts (Some (Image run)) Fact = Fact run.files
 IfScripts (Some (Dump names)) Fact = Fact names
 IfScripts (Some (Census name)) Fact = Unit {0}
+IfScripts (Some (Mail mail)) Fact = Unit {0}
 
 -- the fact holds of the name, and of what the file is read as, if the request is for one file
 abbrev pub IfRead : Option Asked → (Reading → List ℕ → Type 0) → Type 0
@@ -107,6 +116,7 @@ IfRead (Some (Load name)) Fact = Fact Dumps name
 IfRead (Some (Image run)) Fact = Unit {0}
 IfRead (Some (Dump names)) Fact = Unit {0}
 IfRead (Some (Census name)) Fact = Fact Images name
+IfRead (Some (Mail mail)) Fact = Unit {0}
 
 -- the fact holds of the words, if the request is for generated scripts
 abbrev pub IfGen : Option Asked → (GenWords → Type 0) → Type 0
@@ -118,6 +128,31 @@ IfGen (Some (Load name)) Fact = Unit {0}
 IfGen (Some (Image run)) Fact = Unit {0}
 IfGen (Some (Dump names)) Fact = Unit {0}
 IfGen (Some (Census name)) Fact = Unit {0}
+IfGen (Some (Mail mail)) Fact = Unit {0}
+
+-- the fact holds of the words, if the request is for a run of a mailbox
+abbrev pub IfMail : Option Asked → (MailAsked → Type 0) → Type 0
+IfMail None Fact = Unit {0}
+IfMail (Some (Run run)) Fact = Unit {0}
+IfMail (Some (Replay name)) Fact = Unit {0}
+IfMail (Some (Gen made)) Fact = Unit {0}
+IfMail (Some (Load name)) Fact = Unit {0}
+IfMail (Some (Image run)) Fact = Unit {0}
+IfMail (Some (Dump names)) Fact = Unit {0}
+IfMail (Some (Census name)) Fact = Unit {0}
+IfMail (Some (Mail mail)) Fact = Fact mail
+
+-- the request is for that
+abbrev pub AsksMail : Option Asked → Type 0
+AsksMail None = ⊥
+AsksMail (Some (Run run)) = ⊥
+AsksMail (Some (Replay name)) = ⊥
+AsksMail (Some (Gen made)) = ⊥
+AsksMail (Some (Load name)) = ⊥
+AsksMail (Some (Image run)) = ⊥
+AsksMail (Some (Dump names)) = ⊥
+AsksMail (Some (Census name)) = ⊥
+AsksMail (Some (Mail mail)) = Unit {0}
 
 -- the one fact where no script is printed, else the other of the client whose script it is
 abbrev pub ByPrint : Option ℕ → Type 0 → (ℕ → Type 0) → Type 0

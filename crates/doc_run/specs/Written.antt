@@ -4,6 +4,7 @@ use Rattle.std.specs.Prelude.{Option, None, Some, Result, Ok, Err}
 use Rattle.outside.specs.declared.fault.OutFault.{OutFault}
 use Rattle.outside.specs.declared.fault.OutFault.TheVariants.{Failed, NoMemory}
 use Rattle.doc_export.specs.declared.dumped.Dumped.{Dumped}
+use Rattle.mail_run.specs.declared.finished.MailRun.{MailRun}
 use Rattle.script_files.specs.declared.fault.Fault.{Fault}
 use Rattle.script_files.specs.declared.fault.Fault.TheVariants.{WriteFault, Memory}
 use Rattle.store_run.specs.declared.finished.Finished.{Finished}
@@ -25,3 +26,9 @@ abbrev pub kept_dump : Result (Unit {0}) OutFault → Dumped → Option Dumped
 kept_dump (Ok taken) dumped = Some dumped
 kept_dump (Err Failed) dumped = Some dumped
 kept_dump (Err NoMemory) dumped = None
+
+-- and what a run of a mailbox came to
+abbrev pub kept_mail : Result (Unit {0}) OutFault → MailRun → Option MailRun
+kept_mail (Ok taken) mailed = Some mailed
+kept_mail (Err Failed) mailed = Some mailed
+kept_mail (Err NoMemory) mailed = None

@@ -35,6 +35,7 @@ pub fn dump_beside<R: Threads + Wait + Sync, H: Shelf, S: Sink, G: Gate + Sync>(
     requires some { 1 ≤ length names.now.items }
     ensures status { result.status ≡ status_of result.fault }
     ensures finished { result.finished ≡ None }
+    ensures mailed { result.mailed ≡ None }
     ensures explained { ExplainsDump (map (H.holds shelf.old) (names_by names.now)) result.fault
         result.dumped }
     ensures written { WritesDump (map (H.holds shelf.old) (names_by names.now))
@@ -74,6 +75,7 @@ pub fn dump_beside<R: Threads + Wait + Sync, H: Shelf, S: Sink, G: Gate + Sync>(
 fn write_dump<S: Sink>(sink: &mut S, dumped: Dumped) -> Outcome
     ensures status { result.status ≡ status_of result.fault }
     ensures finished { result.finished ≡ None }
+    ensures mailed { result.mailed ≡ None }
     ensures explained { (told : List (Option (List ℕ))) → DumpsBy told dumped
         → ExplainsDump told result.fault result.dumped }
     ensures written { (told : List (Option (List ℕ))) → DumpsBy told dumped

@@ -21,6 +21,7 @@ pub fn load_dump<H: Shelf, S: Sink>(
     ensures status { result.status ≡ status_of result.fault }
     ensures finished { result.finished ≡ None }
     ensures dumped { result.dumped ≡ None }
+    ensures mailed { result.mailed ≡ None }
     ensures explained { ExplainsFile Dumps (H.holds shelf.old name.now) result.fault }
     ensures written { WritesFile Dumps (H.holds shelf.old name.now) (S.written sink.old)
         (S.written sink.new) result.fault }

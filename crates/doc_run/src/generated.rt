@@ -30,6 +30,7 @@ pub fn run_generated<R: Threads + Wait + Sync, S: Sink, G: Gate + Sync>(
     requires within { IsGenWithin made }
     ensures status { result.status ≡ status_of result.fault }
     ensures dumped { result.dumped ≡ None }
+    ensures mailed { result.mailed ≡ None }
     ensures explained { ExplainsMade made result.fault result.finished }
     ensures written { WritesMade made (S.written sink.old) (S.written sink.new) result.fault
         result.finished }
@@ -56,6 +57,7 @@ fn print_script<S: Sink>(alloc: Global, made: GenWords, client: u32, sink: &mut 
     ensures status { result.status ≡ status_of result.fault }
     ensures finished { result.finished ≡ None }
     ensures dumped { result.dumped ≡ None }
+    ensures mailed { result.mailed ≡ None }
     ensures printed { PrintsBy (printed_of made client) result.fault (S.written sink.old)
         (S.written sink.new) }
     ensures write { result.status ≡ 4 → Rose (S.faults sink.old) (S.faults sink.new) }
@@ -87,6 +89,7 @@ fn run_scripts<R: Threads + Wait + Sync, S: Sink, G: Gate + Sync>(
     requires few { made.clients * made.commands ≤ 100_000 }
     ensures status { result.status ≡ status_of result.fault }
     ensures dumped { result.dumped ≡ None }
+    ensures mailed { result.mailed ≡ None }
     ensures explained { Explains (IsMade made) default_options result.fault result.finished }
     ensures written { Writes (IsMade made) default_options (IsSummaryOf made) (S.written sink.old)
         (S.written sink.new) result.fault result.finished }

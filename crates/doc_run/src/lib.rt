@@ -3,15 +3,16 @@
 //! `run` is the whole program as one proved call over a shelf, which files come from, and a sink,
 //! which the output goes to: the scripts of several clients are answered from one store of
 //! documents on the collected heap, those of files or those of a generator. Of files the replies
-//! are written, or the heap that is left, or a version that was dumped beside the clients. Or one
-//! file is read: a schedule of the collector is replayed, a dump is loaded, or a heap counted. Its
-//! outcome has the fault that the program ends with, and of a run of clients all that it came to.
+//! are written, or the heap that is left, or a version that was dumped beside the clients. Or the
+//! values of files are sent through a mailbox on such a heap, and received. Or one file is read: a
+//! schedule of the collector is replayed, a dump is loaded, or a heap counted. Its outcome has the
+//! fault that the program ends with, and of a run of clients or of a mailbox all that it came to.
 //! The layer above hands `run` the real shelf and sink, a runtime with threads and a gate; what a
 //! file holds, and what became of standard output, no contract says.
 //!
 //! Reading order: `words`, `outcome`, `clients`, `report`, `summary`, then a file for each
-//! request's ending, `scripts`, `beside`, `generated`, `schedule`, `dump` and `census`, and
-//! `whole_run`.
+//! request's ending, `scripts`, `beside`, `generated`, `mailing`, `schedule`, `dump` and `census`,
+//! and `whole_run`.
 #![tactic(auto)]
 
 mod beside;
@@ -19,6 +20,7 @@ mod census;
 mod clients;
 mod dump;
 mod generated;
+mod mailing;
 mod outcome;
 mod report;
 mod schedule;

@@ -34,6 +34,7 @@ pub fn run_scripts<R: Threads + Wait + Sync, H: Shelf, S: Sink, G: Gate + Sync>(
     requires within { IsRunWithin run.now }
     ensures status { result.status ≡ status_of result.fault }
     ensures dumped { result.dumped ≡ None }
+    ensures mailed { result.mailed ≡ None }
     ensures explained { Explains
         (AreScripts (map (H.holds shelf.old) (run_asked_by run.now).files))
         (options_of (run_asked_by run.now)) result.fault result.finished }

@@ -13,20 +13,24 @@ ghost use Rattle.doc_run.specs.Asked.{IsFaultOf, WritesPartOf};
 ghost use Rattle.doc_run.specs.Clients.{ComesBy, IsMade, default_options, options_of};
 ghost use Rattle.doc_run.specs.Ending.{IsRefusal, IsSummaryOf, OpensFiles, printed_of};
 ghost use Rattle.doc_run.specs.Guested.{DumpsBy, IsDumpDueFor, IsDumpText, IsTooLarge};
+ghost use Rattle.doc_run.specs.Mailed.{IsMailedText, MailsBy};
 ghost use Rattle.doc_run.specs.Reading.{IsAnswerOf, IsFileDue};
 ghost use Rattle.doc_run.specs.Reports.{IsReportOf};
-ghost use Rattle.doc_run.specs.Request.{AsksDump, ByPrint, IfDump, IfGen, IfRead, IfRun, IfScripts};
-ghost use Rattle.doc_run.specs.Request.{RunsClients, files_of, names_of};
+ghost use Rattle.doc_run.specs.Request.{AsksDump, AsksMail, ByPrint, IfDump, IfGen, IfMail, IfRead};
+ghost use Rattle.doc_run.specs.Request.{IfRun, IfScripts, RunsClients, files_of, names_of};
 ghost use Rattle.doc_run.specs.Texts.{WritesAll, WritesFront};
 ghost use Rattle.run_words.specs.Requests.{request_of};
 ghost use Rattle.script_files.specs.Fault.{status_of};
 ghost use Rattle.script_files.specs.Files.{opened};
-ghost use Rattle.script_files.specs.Scripts.{AreScripts, IsDueFor, StopsBehind, most_commands};
+ghost use Rattle.script_files.specs.Mail.{IsMailDueFor, StopsAtMail};
+ghost use Rattle.script_files.specs.InTurn.{most_commands};
+ghost use Rattle.script_files.specs.Scripts.{AreScripts, IsDueFor, StopsBehind};
 
 use crate::beside::dump_beside;
 use crate::census::census_file;
 use crate::dump::load_dump;
 use crate::generated::run_generated;
+use crate::mailing::run_mail;
 use crate::outcome::Outcome;
 use crate::report::Report;
 use crate::schedule::run_schedule;
@@ -58,11 +62,14 @@ pub fn run<R: Threads + Wait + Sync, H: Shelf, S: Sink, G: Gate + Sync>(
         ↔ (AsksDump (request_of words.now)
         × ((result.status ≡ 0) ⊎ (result.status ≡ 4)
         ⊎ ((result.status ≡ 6) × IsTooLarge result.dumped))) }
+    ensures mailed { IsSome result.mailed
+        ↔ (AsksMail (request_of words.now)
+        × ((result.status ≡ 0) ⊎ (result.status ≡ 4))) }
 
     // Done: what the run of the files' scripts came to, and its report is all that was written; or
     // the same of generated scripts, and their summary; or the script that was asked for; or the
     // answer to the one file; or what the run came to beside which a version was dumped, and the
-    // dump.
+    // dump; or what a run of a mailbox came to, and its text.
     ensures done { result.status ≡ 0 → IfRun (request_of words.now) (λ report run.
         IsSomeAnd result.finished (λ f.
         ComesBy (AreScripts (map (H.holds shelf.old) run.files)) (options_of run) f
@@ -80,6 +87,10 @@ pub fn run<R: Threads + Wait + Sync, H: Shelf, S: Sink, G: Gate + Sync>(
         IsSomeAnd result.dumped (λ d. DumpsBy (map (H.holds shelf.old) names) d
         × WritesAll (IsDumpText d) (S.written sink.old) (S.written sink.new))) }
 
+    ensures sent { result.status ≡ 0 → IfMail (request_of words.now) (λ mail.
+        IsSomeAnd result.mailed (λ m. MailsBy mail (map (H.holds shelf.old) mail.files) m
+        × WritesAll (IsMailedText m) (S.written sink.old) (S.written sink.new))) }
+
     // Refused for its words, or for the files, where what the shelf tells of them decides that: the
     // status is that which is due, and with good files it is 0, or a device failed, or memory was
     // wanting. A version whose tree has too many nodes for a dump is refused behind the run.
@@ -96,6 +107,8 @@ pub fn run<R: Threads + Wait + Sync, H: Shelf, S: Sink, G: Gate + Sync>(
         IfSome (H.holds shelf.old name) (λ bytes. IsFileDue reading bytes result.status)) }
     ensures scripts_beside { IfDump (request_of words.now) (λ names.
         IsDumpDueFor (map (H.holds shelf.old) names) result.dumped result.status) }
+    ensures senders { IfMail (request_of words.now) (λ mail.
+        IsMailDueFor (map (H.holds shelf.old) mail.files) result.status) }
     ensures too_large { result.status ≡ 6 → IfSome result.dumped (λ d.
         IfDump (request_of words.now) (λ names.
         DumpsBy (map (H.holds shelf.old) names) d × IsNone d.bytes)) }
@@ -124,6 +137,9 @@ pub fn run<R: Threads + Wait + Sync, H: Shelf, S: Sink, G: Gate + Sync>(
     ensures write_dump { result.status ≡ 4 → IfDump (request_of words.now) (λ names.
         IsSomeAnd result.dumped (λ d. DumpsBy (map (H.holds shelf.old) names) d
         × WritesFront (IsDumpText d) (S.written sink.old) (S.written sink.new))) }
+    ensures write_sent { result.status ≡ 4 → IfMail (request_of words.now) (λ mail.
+        IsSomeAnd result.mailed (λ m. MailsBy mail (map (H.holds shelf.old) mail.files) m
+        × WritesFront (IsMailedText m) (S.written sink.old) (S.written sink.new))) }
     ensures memory { result.status ≡ 5 → (S.written sink.new ≡ S.written sink.old)
         ⊎ Rose (S.wants sink.old) (S.wants sink.new) }
     ensures memory_part { result.status ≡ 5 → WritesPartOf (H.holds shelf.old)
@@ -149,6 +165,9 @@ pub fn run<R: Threads + Wait + Sync, H: Shelf, S: Sink, G: Gate + Sync>(
     ensures stops { IfScripts (request_of words.now) (λ names.
         StopsBehind 1 0 (map (H.holds shelf.old) names)
         (H.opens shelf.old) (H.opens shelf.new)) }
+    ensures stops_mail { IfMail (request_of words.now) (λ mail.
+        StopsAtMail (map (H.holds shelf.old) mail.files)
+        (H.opens shelf.old) (H.opens shelf.new)) }
     ensures calls { H.calls shelf.new
         ≤ H.calls shelf.old + files_of (request_of words.now) * (READ_LIMIT + 1) }
 {
@@ -160,6 +179,7 @@ pub fn run<R: Threads + Wait + Sync, H: Shelf, S: Sink, G: Gate + Sync>(
         Ok(Request::Replay(name)) => run_schedule(alloc, name, shelf, sink),
         Ok(Request::Gen(made)) => run_generated(alloc, rt, made, sink, gate),
         Ok(Request::Load(name)) => load_dump(alloc, name, shelf, sink),
+        Ok(Request::Mail(mail)) => run_mail(alloc, rt, &mail, shelf, sink),
         Err(WordsFault::Usage) => Outcome::usage(),
         Err(WordsFault::NoMemory) => Outcome::refused(Fault::Memory),
     }

@@ -1,8 +1,8 @@
 -- Between which ends each number is that was found.
 use Rattle.std.proofs.Common.{List, refl, codes}
 use Rattle.clap.specs.Walk.{Row}
-use Rattle.run_words.specs.Commands.{gen_app, image_app, run_app}
-use Rattle.run_words.specs.Limits.{AreOptions}
+use Rattle.run_words.specs.Commands.{gen_app, image_app, mail_app, run_app}
+use Rattle.run_words.specs.Limits.{AreMailOptions, AreOptions}
 use Rattle.run_words.specs.Readings.{AreAccepted, IsNumberWithin}
 
 pub run_options : (rows : List Row) → AreAccepted run_app.top.rules rows → AreOptions rows
@@ -31,6 +31,14 @@ image_options rows accepted = record {
       (tt, (tt, (tt, (refl, (tt, (tt, tt))))));
   cycles = accepted.numbers (codes "cycles") 0 4_000_000_000 (refl, refl, refl)
       (tt, (tt, (tt, (tt, (refl, (tt, tt))))));
+}
+
+pub mail_options : (rows : List Row) → AreAccepted mail_app.top.rules rows → AreMailOptions rows
+mail_options rows accepted = record {
+  cells = accepted.numbers (codes "cells") 64 4_194_304 (refl, refl, refl)
+      (refl, (tt, (tt, tt)));
+  cycles = accepted.numbers (codes "cycles") 0 4_000_000_000 (refl, refl, refl)
+      (tt, (refl, (tt, tt)));
 }
 
 pub start : (rows : List Row) → AreAccepted gen_app.top.rules rows

@@ -81,6 +81,15 @@ image_app =
 abbrev pub dump_app : App
 dump_app = with_rules (bare (codes "dump")) (names_rule (codes "file") ∷ [])
 
+-- of a run of a mailbox: how many cells its heap has, how often the collector may go round, and
+-- which files are read
+abbrev pub mail_app : App
+mail_app = with_rules (bare (codes "mail")) (
+    option_rule (codes "cells") 64 4_194_304
+    ∷ option_rule (codes "cycles") 0 4_000_000_000
+    ∷ names_rule (codes "file")
+    ∷ [])
+
 -- of a subcommand of this name that takes one file
 abbrev pub file_app : Text → App
 file_app subcommand = with_rules (bare subcommand) (name_rule (codes "file") ∷ [])

@@ -4,6 +4,7 @@ use Rattle.std.specs.Prelude.{◌≤◌, ℕ, List, IfSome, codes, length}
 use Rattle.clap.specs.Words.{Row}
 use Rattle.run_words.specs.Readings.{IsNumberWithin}
 use Rattle.run_words.specs.declared.request.GenWords.{GenWords}
+use Rattle.run_words.specs.declared.request.MailWords.{MailWords}
 use Rattle.run_words.specs.declared.request.Request.{Request}
 use Rattle.run_words.specs.declared.request.Request.TheVariants as code
 use Rattle.run_words.specs.declared.request.RunWords.{RunWords}
@@ -33,6 +34,21 @@ pub record IsRunWithin (run : RunWords) : Type 0 where
   pub numbers : HasNumbersWithin run
   pub files : 1 ≤ length run.files.items
 
+-- what `clap` found for the options of a run of a mailbox are numbers in their ends
+pub record AreMailOptions (rows : List Row) : Type 0 where
+  pub cells : IsNumberWithin (codes "cells") 64 4_194_304 rows
+  pub cycles : IsNumberWithin (codes "cycles") 0 4_000_000_000 rows
+
+-- the numbers of a mailbox's options
+pub record HasMailNumbersWithin (mail : MailWords) : Type 0 where
+  pub cells : IsBetween 64 4_194_304 mail.cells
+  pub cycles : IsBetween 0 4_000_000_000 mail.cycles
+
+-- these, and a file or more
+pub record IsMailWithin (mail : MailWords) : Type 0 where
+  pub numbers : HasMailNumbersWithin mail
+  pub files : 1 ≤ length mail.files.items
+
 -- the numbers of generated scripts
 pub record HasGenNumbersWithin (words : GenWords) : Type 0 where
   pub start : IsBetween 0 2_147_483_647 words.start
@@ -54,3 +70,4 @@ IsWithin (code.Load name) = Unit {0}
 IsWithin (code.Image run) = IsRunWithin run
 IsWithin (code.Dump names) = 1 ≤ length names.items
 IsWithin (code.Census name) = Unit {0}
+IsWithin (code.Mail mail) = IsMailWithin mail

@@ -15,9 +15,10 @@ use Rattle.std.specs.Prelude.{option_and_then}
 use Rattle.std.specs.Prelude.{option_map, unwrap_or}
 use Rattle.clap.specs.Words.{App, Kinds, Row, Text, all_of, fault_of, first_of, matches_of}
 use Rattle.clap.specs.Words.{one_of}
-use Rattle.run_words.specs.Commands.{dump_app, file_app, gen_app, image_app, run_app}
+use Rattle.run_words.specs.Commands.{dump_app, file_app, gen_app, image_app, mail_app, run_app}
 use Rattle.run_words.specs.Readings.{flag_in, names_in, number_in}
 use Rattle.run_words.specs.declared.request.GenWords.{GenWords}
+use Rattle.run_words.specs.declared.request.MailWords.{MailWords}
 use Rattle.run_words.specs.declared.request.Request.{Request}
 use Rattle.run_words.specs.declared.request.Request.TheVariants as code
 use Rattle.run_words.specs.declared.request.RunWords.{RunWords}
@@ -35,6 +36,12 @@ pub record RunAsked : Type 0 where
   pub stats : Bool
   pub files : List Text
 
+-- the words of a run of a mailbox, with the names that they hold as bytes
+pub record MailAsked : Type 0 where
+  pub cells : ℕ
+  pub cycles : ℕ
+  pub files : List Text
+
 -- a request
 pub data Asked : Type 0 where
   Run : RunAsked → Asked
@@ -44,6 +51,7 @@ pub data Asked : Type 0 where
   Image : RunAsked → Asked
   Dump : List Text → Asked
   Census : Text → Asked
+  Mail : MailAsked → Asked
 
 -- what was found, where no step of the reading fails
 abbrev pub taken : {A : Type 0} → Kinds → Option A → Option A
@@ -73,6 +81,14 @@ run_found rows =
     run_with (flag_in (first_of (codes "history") rows)) (flag_in (first_of (codes "stats") rows))
     rows
 
+-- the run of a mailbox that was found
+abbrev pub mail_found : List Row → MailAsked
+mail_found rows = record {
+  cells = number_of (codes "cells") 65_536 rows;
+  cycles = number_of (codes "cycles") 4_000_000_000 rows;
+  files = names_in (all_of (codes "file") rows);
+}
+
 -- what is asked for, where it is of a file or more
 abbrev pub if_of_files : {A : Type 0} → List Text → A → Option A
 if_of_files [] asked = None
@@ -85,6 +101,10 @@ if_some_name names = if_of_files names names
 -- the run, where it has a file
 abbrev pub if_some_file : RunAsked → Option RunAsked
 if_some_file run = if_of_files run.files run
+
+-- the run of a mailbox, where it has a file
+abbrev pub if_some_mail : MailAsked → Option MailAsked
+if_some_mail mail = if_of_files mail.files mail
 
 -- what a command finds in words, as some reading of it has it, where it takes them
 abbrev pub read_by : {A : Type 0} → App → (List Row → Option A) → List Text → Option A
@@ -102,6 +122,10 @@ image_of words = read_by image_app (λ rows. if_some_file (run_with false false 
 abbrev pub dump_of : List Text → Option (List Text)
 dump_of words =
     read_by dump_app (λ rows. if_some_name (names_in (all_of (codes "file") rows))) words
+
+-- the words behind `mail`
+abbrev pub mail_of : List Text → Option MailAsked
+mail_of words = read_by mail_app (λ rows. if_some_mail (mail_found rows)) words
 
 -- the words behind a subcommand of this name that takes one file: the file's name
 abbrev pub file_of : Text → List Text → Option Text
@@ -146,7 +170,8 @@ request_behind word words =
     (cond (bytes_eq word (codes "image")) (option_map Image (image_of words))
     (cond (bytes_eq word (codes "dump")) (option_map Dump (dump_of words))
     (cond (bytes_eq word (codes "census")) (option_map Census (file_of (codes "census") words))
-    None))))))
+    (cond (bytes_eq word (codes "mail")) (option_map Mail (mail_of words))
+    None)))))))
 
 -- what the words ask for, or nothing where they are no command line
 abbrev pub request_of : List Text → Option Asked
@@ -170,6 +195,14 @@ run_asked_by run = record {
   files = names_by run.files;
 }
 
+-- the run of a mailbox that a value of the program is
+abbrev pub mail_asked_by : MailWords → MailAsked
+mail_asked_by mail = record {
+  cells = mail.cells;
+  cycles = mail.cycles;
+  files = names_by mail.files;
+}
+
 -- the request that a value of the program is
 abbrev pub asked_by : Request → Asked
 asked_by (code.Run run) = Run (run_asked_by run)
@@ -179,6 +212,7 @@ asked_by (code.Load name) = Load name.now
 asked_by (code.Image run) = Image (run_asked_by run)
 asked_by (code.Dump names) = Dump (names_by names)
 asked_by (code.Census name) = Census name.now
+asked_by (code.Mail mail) = Mail (mail_asked_by mail)
 
 -- an answer is what the words ask for, seen so, and usage exactly where that is nothing
 abbrev pub Gives : {V A : Type 0} → (V → A) → Result V WordsFault → Option A → Type 0

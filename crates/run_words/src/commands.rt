@@ -3,7 +3,7 @@
 //! None of them has subcommands, short options, or words for help and version.
 ghost use Rattle.clap.specs.Words.{app_of, rule_of};
 ghost use Rattle.run_words.specs.Commands.{bare, dump_app, file_app, flag_rule, gen_app};
-ghost use Rattle.run_words.specs.Commands.{image_app, shown_rules};
+ghost use Rattle.run_words.specs.Commands.{image_app, mail_app, shown_rules};
 ghost use Rattle.run_words.specs.Commands.{name_rule, names_rule, number_rule, option_rule};
 ghost use Rattle.run_words.specs.Commands.{room_rules, run_app, with_rules};
 ghost use Rattle.std.specs.Prelude.{IfOk, false, ◌≡◌};
@@ -32,6 +32,16 @@ pub(crate) fn dump_command<'a>(alloc: Global) -> Result<Command<'a>, AllocError>
     ensures { IfOk result (λ command. app_of command ≡ dump_app) }
 {
     bare_command(alloc, "dump").arg(names(alloc, "file"))
+}
+
+/// The command of `mail`.
+pub(crate) fn mail_command<'a>(alloc: Global) -> Result<Command<'a>, AllocError>
+    ensures { IfOk result (λ command. app_of command ≡ mail_app) }
+{
+    bare_command(alloc, "mail")
+        .arg(option(alloc, "cells", CELLS))?
+        .arg(option(alloc, "cycles", CYCLES))?
+        .arg(names(alloc, "file"))
 }
 
 // Adds the options for what a run may use, and for how often the collector may go round.

@@ -15,4 +15,4 @@ mod request;
 mod values;
 
 pub use crate::reading::read_words;
-pub use crate::request::{GenWords, Request, RunWords, WordsFault};
+pub use crate::request::{GenWords, MailWords, Request, RunWords, WordsFault};

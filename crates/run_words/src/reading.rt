@@ -1,11 +1,13 @@
 //! The words of a whole command line.
 ghost use Rattle.clap.specs.Words.{found_of, rows_of};
 ghost use Rattle.run_words.specs.Commands.{gen_app};
-ghost use Rattle.run_words.specs.Limits.{AreOptions, HasGenNumbersWithin, HasNumbersWithin};
+ghost use Rattle.run_words.specs.Limits.{AreMailOptions, AreOptions, HasGenNumbersWithin};
+ghost use Rattle.run_words.specs.Limits.{HasMailNumbersWithin, HasNumbersWithin, IsMailWithin};
 ghost use Rattle.run_words.specs.Limits.{IsGenWithin};
 ghost use Rattle.run_words.specs.Limits.{IsRunWithin, IsWithin};
 ghost use Rattle.run_words.specs.Readings.{AreAccepted};
-ghost use Rattle.run_words.specs.Requests.{Census, Dump, Gen, Gives, Image, Load, Replay, Run};
+ghost use Rattle.run_words.specs.Requests.{Census, Dump, Gen, Gives, Image, Load, Mail, Replay};
+ghost use Rattle.run_words.specs.Requests.{Run, if_some_mail, mail_asked_by, mail_found, mail_of};
 ghost use Rattle.run_words.specs.Requests.{asked_by, dump_of, file_of, gen_found, gen_of};
 ghost use Rattle.run_words.specs.Requests.{if_printable, if_some_file, if_some_name, image_of};
 ghost use Rattle.run_words.specs.Requests.{names_by, request_behind, request_of, run_asked_by};
@@ -14,9 +16,11 @@ ghost use Rattle.std.specs.Prelude.{IfOk, IfSome, codes, length, map, option_map
 ghost use Rattle.std.specs.Prelude.{◌≡◌};
 ghost use Rattle.std.specs.Prelude.{◌≤◌};
 
-use crate::commands::{dump_command, file_command, gen_command, image_command, run_command};
+use crate::commands::{
+    dump_command, file_command, gen_command, image_command, mail_command, run_command,
+};
 use crate::limits::{CELLS, CLIENTS, COMMANDS, CYCLES, KEEP, MINOR, START, VERSIONS};
-use crate::request::{GenWords, Request, RunWords, WordsFault};
+use crate::request::{GenWords, MailWords, Request, RunWords, WordsFault};
 use crate::values::{flag, matches_on, name, names, number, number_or};
 use clap::ArgMatches;
 use std::alloc::{AllocError, Global};
@@ -51,6 +55,7 @@ fn read_behind<'a>(
         "image" => image_request(alloc, words),
         "dump" => dump_request(alloc, words),
         "census" => census_request(alloc, words),
+        "mail" => mail_request(alloc, words),
         _ => Err(WordsFault::Usage),
     }
 }
@@ -117,6 +122,17 @@ fn census_request<'a>(alloc: Global, words: &'a [String]) -> Result<Request<'a>,
 {
     match file_words(alloc, "census", words) {
         Ok(name) => Ok(Request::Census(name)),
+        Err(fault) => Err(fault),
+    }
+}
+
+fn mail_request<'a>(alloc: Global, words: &'a [String]) -> Result<Request<'a>, WordsFault>
+    ensures request { Gives asked_by result
+        (option_map Mail (mail_of (map string_bytes words.entry.now))) }
+    ensures within { IfOk result IsWithin }
+{
+    match mail_words(alloc, words) {
+        Ok(mail) => Ok(Request::Mail(mail)),
         Err(fault) => Err(fault),
     }
 }
@@ -229,6 +245,49 @@ fn some_name(names: Vec<&str>) -> Result<Vec<&str>, WordsFault>
         return Err(WordsFault::Usage);
     }
     Ok(names)
+}
+
+// The words behind `mail`.
+#[tactic(auto, using(crate::proofs::Ends::mail_options))]
+fn mail_words<'a>(alloc: Global, words: &'a [String]) -> Result<MailWords<'a>, WordsFault>
+    ensures mail { Gives mail_asked_by result (mail_of (map string_bytes words.entry.now)) }
+    ensures within { IfOk result IsMailWithin }
+{
+    let command = mail_command(alloc)?;
+    match matches_on(command, words) {
+        Ok(matches) => {
+            let mail = mail_in(alloc, &matches)?;
+            some_sender(mail)
+        }
+        Err(fault) => Err(fault),
+    }
+}
+
+// What `clap` found for a run of a mailbox.
+fn mail_in<'a>(alloc: Global, matches: &ArgMatches<'a>) -> Result<MailWords<'a>, AllocError>
+    requires { AreMailOptions (rows_of (found_of matches.now)) }
+    ensures ok { IfOk result (λ mail. mail_asked_by mail
+        ≡ mail_found (rows_of (found_of matches.now))) }
+    ensures within { IfOk result HasMailNumbersWithin }
+{
+    let files = names(alloc, matches, "file")?;
+    Ok(MailWords {
+        cells: number_or(matches, "cells", CELLS, 65_536),
+        cycles: number_or(matches, "cycles", CYCLES, 4_000_000_000),
+        files,
+    })
+}
+
+// A mailbox has a sender or more.
+fn some_sender(mail: MailWords<'_>) -> Result<MailWords<'_>, WordsFault>
+    requires { HasMailNumbersWithin mail }
+    ensures mail { Gives mail_asked_by result (if_some_mail (mail_asked_by mail.entry)) }
+    ensures within { IfOk result IsMailWithin }
+{
+    if mail.files.is_empty() {
+        return Err(WordsFault::Usage);
+    }
+    Ok(mail)
 }
 
 // The words behind a subcommand that takes one file.

@@ -23,6 +23,9 @@ pub enum Request<'a> {
     Dump(Vec<&'a str>),
     /// The heap in the file of this name is counted.
     Census(&'a str),
+    /// The values of the scripts in these files are sent through a mailbox, by a sender each, and
+    /// received.
+    Mail(MailWords<'a>),
 }
 
 /// The words of a run.
@@ -57,6 +60,28 @@ impl<'a> Drop for RunWords<'a> {
             cycles: _,
             history: _,
             stats: _,
+            files: _files,
+        } = self;
+    }
+}
+
+/// The words of a run of a mailbox.
+#[derive(Debug)]
+pub struct MailWords<'a> {
+    /// cells of the heap
+    pub cells: u32,
+    /// cycles that the collector may make
+    pub cycles: u32,
+    /// names of the senders' files, in order
+    pub files: Vec<&'a str>,
+}
+
+// By hand, so that a proof above takes a drop as one call.
+impl<'a> Drop for MailWords<'a> {
+    fn drop(self) {
+        let MailWords {
+            cells: _,
+            cycles: _,
             files: _files,
         } = self;
     }

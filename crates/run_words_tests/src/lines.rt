@@ -198,6 +198,49 @@ fn a_dump_names_a_file_or_more(rt: HostRuntime) -> Result<(), Fail> {
     Ok(())
 }
 
+/// Of a line that has a mailbox run: its cells, its cycles, how many files there are, and whether
+/// the last has a given name.
+type MailAsked = (u32, u32, usize, bool);
+
+fn mail_of(alloc: Global, line: &str, last: &str) -> Result<Option<MailAsked>, WordsFault> {
+    let words = words_of(alloc, line)?;
+    Ok(match &read_words(alloc, &words)? {
+        Request::Mail(mail) => Some((
+            mail.cells,
+            mail.cycles,
+            mail.files.len(),
+            mail.files.last().copied() == Some(last),
+        )),
+        _ => None,
+    })
+}
+
+const MAILS: [(&str, u32, u32, usize, &str); 5] = [
+    ("mail a", 65_536, 4_000_000_000, 1, "a"),
+    ("mail --cells 64 --cycles 0 a", 64, 0, 1, "a"),
+    (
+        "mail a --cells=4194304 b --cycles 4000000000 a",
+        4_194_304,
+        4_000_000_000,
+        3,
+        "a",
+    ),
+    ("mail --cycles 1 -- -b", 65_536, 1, 1, "-b"),
+    ("mail mail", 65_536, 4_000_000_000, 1, "mail"),
+];
+
+#[test]
+fn a_mailbox_has_cells_cycles_and_a_file_or_more(rt: HostRuntime) -> Result<(), Fail> {
+    for (line, cells, cycles, files, last) in &MAILS {
+        assert_eq!(rt;
+            mail_of(rt.alloc(), line, last)?,
+            Some((*cells, *cycles, *files, true)),
+            "at {line:?}"
+        );
+    }
+    Ok(())
+}
+
 fn gen_of(alloc: Global, line: &str) -> Result<Option<GenWords>, WordsFault> {
     let words = words_of(alloc, line)?;
     Ok(match &read_words(alloc, &words)? {
@@ -243,7 +286,7 @@ fn fault_of(alloc: Global, line: &str) -> Result<Option<WordsFault>, AllocError>
     Ok(read_words(alloc, &words).err())
 }
 
-const REFUSED: [&str; 75] = [
+const REFUSED: [&str; 85] = [
     "''",
     "a",
     "Run a",
@@ -302,6 +345,16 @@ const REFUSED: [&str; 75] = [
     "census",
     "census a b",
     "census --cells 64 a",
+    "mail",
+    "mail --cells 64",
+    "mail --cells 63 a",
+    "mail --cells 4194305 a",
+    "mail --cycles 4000000001 a",
+    "mail --cells 64 --cells 64 a",
+    "mail --minor 4096 a",
+    "mail --keep 1 a",
+    "mail --stats a",
+    "Mail a",
     "gen",
     "gen 1 2",
     "gen 1 2 3 4",

@@ -9,8 +9,9 @@ use Rattle.doc_model.specs.declared.command.Command.{Command}
 use Rattle.cmd_text.specs.Whole.{script_of}
 use Rattle.cmd_text.specs.declared.fault.ScriptFault.{ScriptFault}
 use Rattle.script_files.specs.Made.{texts_from}
-use Rattle.script_files.specs.Scripts.{after_reading, counted, in_front, script_in, scripts_from}
-use Rattle.script_files.specs.Scripts.{with_first}
+use Rattle.script_files.specs.InTurn.{counted, in_front}
+use Rattle.script_files.specs.Scripts.{after_reading, script_in, scripts_from}
+use Rattle.script_files.specs.InTurn.{with_first}
 use Rattle.script_files.specs.declared.fault.Fault.{Fault}
 use Rattle.script_files.specs.declared.fault.Fault.TheVariants.{TooLarge}
 

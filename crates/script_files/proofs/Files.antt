@@ -1,4 +1,4 @@
--- The scripts of several files, read one after another.
+-- The lists of several files, read one after another.
 use Rattle.std.proofs.Common.{◌≡◌, ℕ, suc, ◌+◌, ◌<◌, ◌≤◌, arith, List, []}
 use Rattle.std.proofs.Common.{◌∷◌, ◌++◌, Option, None, Some}
 use Rattle.std.proofs.Common.{length, map}
@@ -7,12 +7,12 @@ use Rattle.std.proofs.lemmas.List.{append_assoc, append-nil, length-map}
 use Rattle.std.proofs.lemmas.Bool.{lt-ltb, le-ltb}
 use Rattle.doc_model.specs.declared.command.Command.{Command}
 use Rattle.script_files.specs.Files.{AreTold}
-use Rattle.script_files.specs.Formed.{DecidesFiles}
+use Rattle.script_files.specs.InTurn.{AreListsFrom, AreListsWithin, IsListIn, Parse, in_front}
+use Rattle.script_files.specs.InTurn.{lists_from, with_first}
 use Rattle.script_files.specs.Reading.{DecidesFile, DecidesFrom}
-use Rattle.script_files.specs.Scripts.{in_front, with_first, scripts_from}
-use Rattle.script_files.specs.Scripts.{IsScriptIn, AreScripts, AreScriptsFrom}
+use Rattle.script_files.specs.Scripts.{IsScriptIn, parse_script}
 use Rattle.script_files.proofs.Sorting.{refused_as}
-use Rattle.script_files.specs.Sorts.{OfScripts, sort_of}
+use Rattle.script_files.specs.Sorts.{Grammar, OfScripts, Refused, sort_of}
 use Rattle.script_files.specs.declared.fault.Fault.{Fault}
 use Rattle.script_files.specs.declared.fault.Fault.TheVariants.{TooLarge}
 
@@ -25,47 +25,48 @@ some_told (Some bytes ∷ told) =
     let others = some_told told in (bytes ∷ others.0, (refl, others.1))
 
 -- no file is left
-pub no_scripts : (file before : ℕ) → AreScriptsFrom file before [] (Ok [])
-no_scripts file before = ([], tt, refl)
+pub no_lists : {A : Type 0} (parse : Parse A) (file before : ℕ)
+    → AreListsFrom parse file before [] (Ok [])
+no_lists parse file before = ([], tt, refl)
 
 -- the first file is refused
-pub first_refused : (file before : ℕ) (one : Option (List ℕ)) (told : List (Option (List ℕ)))
-    (fault : Fault) → IsScriptIn file before one (Err fault)
-    → AreScriptsFrom file before (one ∷ told) (Err fault)
-first_refused file before one told fault is =
+pub first_refused : {A : Type 0} (parse : Parse A) (file before : ℕ) (one : Option (List ℕ))
+    (told : List (Option (List ℕ))) (fault : Fault) → IsListIn parse file before one (Err fault)
+    → AreListsFrom parse file before (one ∷ told) (Err fault)
+first_refused parse file before one told fault is =
     let others = some_told told in (
       is.0 ∷ others.0,
       (is.1, others.1),
-      ap (λ script. in_front script
-          (λ commands. scripts_from (file + 1) (before + length commands) others.0)) is.2,
+      ap (λ list. in_front list
+          (λ these. lists_from parse (file + 1) (before + length these) others.0)) is.2,
     )
 
--- the first file is a script, and so much is known of the others
-pub after_first : (file before : ℕ) (one : Option (List ℕ)) (told : List (Option (List ℕ)))
-    (commands : List Command) (outcome : Result (List (List Command)) Fault)
-    → IsScriptIn file before one (Ok commands)
-    → AreScriptsFrom (file + 1) (before + length commands) told outcome
-    → AreScriptsFrom file before (one ∷ told) (with_first commands outcome)
-after_first file before one told commands outcome is others = (
+-- the first file is a list, and so much is known of the others
+pub after_first : {A : Type 0} (parse : Parse A) (file before : ℕ) (one : Option (List ℕ))
+    (told : List (Option (List ℕ))) (list : List A) (outcome : Result (List (List A)) Fault)
+    → IsListIn parse file before one (Ok list)
+    → AreListsFrom parse (file + 1) (before + length list) told outcome
+    → AreListsFrom parse file before (one ∷ told) (with_first list outcome)
+after_first parse file before one told list outcome is others = (
   is.0 ∷ others.0,
   (is.1, others.1),
-  ap (λ script. in_front script
-      (λ these. scripts_from (file + 1) (before + length these) others.0)) is.2
-      ∙ ap (with_first commands) others.2,
+  ap (λ first. in_front first
+      (λ these. lists_from parse (file + 1) (before + length these) others.0)) is.2
+      ∙ ap (with_first list) others.2,
 )
 
 -- the scripts of no files
 pub none_decided : (file before : ℕ) (old : List (List Command))
     → DecidesFrom file before [] (Ok tt) old old
-none_decided file before old = ([], sym (append-nil old), no_scripts file before)
+none_decided file before old = ([], sym (append-nil old), no_lists parse_script file before)
 
 -- the first file could not be read, or is refused, or memory was wanting
 pub first_decided : (place before : ℕ) (one : Option (List ℕ)) (told : List (Option (List ℕ)))
     (fault : Fault) (old new : List (List Command)) → DecidesFile place before (Err fault) one
     → DecidesFrom place before (one ∷ told) (Err fault) old new
 first_decided place before one told fault old new is =
-    refused_as OfScripts (sort_of fault) _ _ _ _ (first_refused place before one told fault)
-    (λ unread. tt) is
+    refused_as OfScripts (sort_of fault) _ _ _ _
+    (first_refused parse_script place before one told fault) (λ unread. tt) is
 
 -- the first file is a script, which was added, and the others were gone over behind it
 pub next_decided : (place before : ℕ) (one : Option (List ℕ)) (told : List (Option (List ℕ)))
@@ -76,14 +77,11 @@ pub next_decided : (place before : ℕ) (one : Option (List ℕ)) (told : List (
 next_decided place before one told commands (Ok done) old new is others = (
   commands ∷ others.0,
   others.1 ∙ append_assoc old (commands ∷ []) others.0,
-  after_first place before one told commands (Ok others.0) is others.2,
+  after_first parse_script place before one told commands (Ok others.0) is others.2,
 )
 next_decided place before one told commands (Err fault) old new is others =
     refused_as OfScripts (sort_of fault) _ _ _ _
-    (after_first place before one told commands (Err fault) is) (λ unread. tt) others
-
--- one file more in front of the others
-pub ruleset in_turn = (none_decided, next_decided)
+    (after_first parse_script place before one told commands (Err fault) is) (λ unread. tt) others
 
 -- there is a content for each file
 pub told_length : (told : List (Option (List ℕ))) (contents : List (List ℕ))
@@ -100,25 +98,26 @@ pub told_names : {A : Type 0} (holds : List ℕ → Option (List ℕ)) (text : A
 told_names holds text names = length-map (map text names) holds ∙ length-map names text
 
 -- the files are not too many
-within_count : (told : List (Option (List ℕ))) (outcome : Result (List (List Command)) Fault)
-    → length told ≤ 64 → AreScriptsFrom 1 0 told outcome → AreScripts told outcome
-within_count told outcome few are =
-    let some : length are.0 ≤ 64 = omega (arith, told_length told are.0 are.1) in
-    (are.0, are.1, rw (le-ltb 64 (length are.0) some) are.2)
+pub within_count : {A : Type 0} (most : ℕ) (parse : Parse A) (told : List (Option (List ℕ)))
+    (outcome : Result (List (List A)) Fault) → length told ≤ most
+    → AreListsFrom parse 1 0 told outcome → AreListsWithin most parse told outcome
+within_count most parse told outcome few are =
+    let some : length are.0 ≤ most = omega (arith, few, told_length told are.0 are.1) in
+    (are.0, are.1, rw (le-ltb most (length are.0) some) are.2)
 
 -- the files are too many
-pub too_many_files : (told : List (Option (List ℕ))) → 64 < length told
-    → AreScripts told (Err (TooLarge 0))
-too_many_files told many =
+pub too_many_files : {A : Type 0} (most : ℕ) (parse : Parse A) (told : List (Option (List ℕ)))
+    → most < length told → AreListsWithin most parse told (Err (TooLarge 0))
+too_many_files most parse told many =
     let some = some_told told in
-    let more : 64 < length some.0 = omega (arith, told_length told some.0 some.1) in
-    (some.0, some.1, rw (lt-ltb 64 (length some.0) more))
+    let more : most < length some.0 = omega (arith, many, told_length told some.0 some.1) in
+    (some.0, some.1, rw (lt-ltb most (length some.0) more) refl)
 
 -- one of them was refused, or could not be read, or memory was wanting
-pub one_refused : (told : List (Option (List ℕ))) (fault : Fault)
-    (old new : List (List Command)) → length told ≤ 64
-    → DecidesFrom 1 0 told (Err fault) old new
-    → DecidesFiles told (Err fault)
-one_refused told fault old new few is =
-    refused_as OfScripts (sort_of fault) _ _ _ _ (within_count told (Err fault) few)
+pub one_refused : {A : Type 0} (most : ℕ) (grammar : Grammar) (parse : Parse A)
+    (told : List (Option (List ℕ))) (fault : Fault) → length told ≤ most
+    → Refused grammar (sort_of fault) (AreListsFrom parse 1 0 told (Err fault)) (Unit {0})
+    → Refused grammar (sort_of fault) (AreListsWithin most parse told (Err fault)) (Unit {0})
+one_refused most grammar parse told fault few is =
+    refused_as grammar (sort_of fault) _ _ _ _ (within_count most parse told (Err fault) few)
     (λ unread. tt) is

@@ -1,7 +1,7 @@
 pub mod Sorting
 mod Sessions
 pub mod Files
-pub mod Forms
+pub mod Gathered
 pub mod Images
 pub mod Opens
 mod Turns

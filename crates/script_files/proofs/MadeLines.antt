@@ -43,7 +43,8 @@ use Rattle.script_generator.specs.Generated.{copy_text_of, generated_of}
 use Rattle.script_generator.specs.Generated.{line_text_of, lines_from, path_text_of}
 use Rattle.script_generator.proofs.LineCases.{line_cases}
 use Rattle.script_files.specs.Made.{texts_from}
-use Rattle.script_files.specs.Scripts.{after_reading, in_front, script_in, scripts_from, with_first}
+use Rattle.script_files.specs.InTurn.{in_front, with_first}
+use Rattle.script_files.specs.Scripts.{after_reading, script_in, scripts_from}
 use Rattle.script_files.specs.declared.fault.Fault.TheVariants.{TooLarge}
 
 -- A byte of a word: a digit or a letter.

@@ -2,10 +2,9 @@
 use Rattle.std.proofs.Common.{◌≡◌, ℕ, zero, suc, ◌+◌, ◌-◌, ◌≤◌, List, [], ◌∷◌, Option}
 use Rattle.std.proofs.Common.{Ok, length, take, refl, sym, subst, arith}
 use Rattle.outside.specs.Causes.{next_count}
-use Rattle.doc_model.specs.declared.command.Command.{Command}
-use Rattle.script_files.proofs.Files.{after_first, no_scripts}
+use Rattle.script_files.proofs.Files.{after_first, no_lists}
 use Rattle.script_files.specs.Files.{OpensInTurn, opened}
-use Rattle.script_files.specs.Scripts.{AreScriptsFrom, IsScriptIn, StopsBehind}
+use Rattle.script_files.specs.InTurn.{AreListsFrom, IsListIn, Parse, StopsIn}
 
 -- no file
 pub opens_none : (before : ℕ) → OpensInTurn before before 0
@@ -22,47 +21,51 @@ pub opens_more : (before middle now others : ℕ) → middle ≡ next_count befo
 opens_more before middle now others is more =
     (suc more.0, omega (arith, more.1), (λ some. omega arith), rw (sym is) more.3)
 
--- Which files were opened: scripts, and one behind them.
+-- Which files were opened: lists, and one behind them.
 
 -- no file was opened
-pub stops_none : (file before opens : ℕ) (told : List (Option (List ℕ)))
-    → StopsBehind file before told opens opens
-stops_none file before opens told = (0, omega arith, refl, [], no_scripts file before)
+pub stops_none : {A : Type 0} (parse : Parse A) (file before opens : ℕ)
+    (told : List (Option (List ℕ))) → StopsIn parse file before told opens opens
+stops_none parse file before opens told =
+    (0, omega arith, refl, [], no_lists parse file before)
 
 -- the first file alone was opened
-pub stops_first : (file before opens now : ℕ) (told : List (Option (List ℕ)))
-    → 1 ≤ length told → now ≡ next_count opens → StopsBehind file before told opens now
-stops_first file before opens now told some is = (1, some, is, [], no_scripts file before)
+pub stops_first : {A : Type 0} (parse : Parse A) (file before opens now : ℕ)
+    (told : List (Option (List ℕ))) → 1 ≤ length told → now ≡ next_count opens
+    → StopsIn parse file before told opens now
+stops_first parse file before opens now told some is =
+    (1, some, is, [], no_lists parse file before)
 
--- a script in front of others, of which so many were opened
-scripts_more : (file before count : ℕ) (one : Option (List ℕ)) (told : List (Option (List ℕ)))
-    (commands : List Command) (scripts : List (List Command))
-    → IsScriptIn file before one (Ok commands)
-    → AreScriptsFrom (file + 1) (before + length commands) (take (count - 1) told) (Ok scripts)
-    → (all : List (List Command)) × AreScriptsFrom file before (take count (one ∷ told)) (Ok all)
-scripts_more file before zero one told commands scripts is others = ([], no_scripts file before)
-scripts_more file before (suc count) one told commands scripts is others =
+-- a list in front of others, of which so many were opened
+lists_more : {A : Type 0} (parse : Parse A) (file before count : ℕ) (one : Option (List ℕ))
+    (told : List (Option (List ℕ))) (list : List A) (lists : List (List A))
+    → IsListIn parse file before one (Ok list)
+    → AreListsFrom parse (file + 1) (before + length list) (take (count - 1) told) (Ok lists)
+    → (all : List (List A)) × AreListsFrom parse file before (take count (one ∷ told)) (Ok all)
+lists_more parse file before zero one told list lists is others =
+    ([], no_lists parse file before)
+lists_more parse file before (suc count) one told list lists is others =
     let same : suc count - 1 ≡ count = omega arith in (
-      commands ∷ scripts,
-      after_first file before one (take count told) commands (Ok scripts) is
-          (subst (λ n. AreScriptsFrom (file + 1) (before + length commands) (take n told) (Ok scripts))
-          same others),
+      list ∷ lists,
+      after_first parse file before one (take count told) list (Ok lists) is
+          (subst (λ n. AreListsFrom parse (file + 1) (before + length list) (take n told)
+          (Ok lists)) same others),
     )
 
--- the first file is a script, and then others were opened
-pub stops_more : (file before opens middle now : ℕ) (one : Option (List ℕ))
-    (told : List (Option (List ℕ))) (commands : List Command)
-    → IsScriptIn file before one (Ok commands) → middle ≡ next_count opens
-    → StopsBehind (file + 1) (before + length commands) told middle now
-    → StopsBehind file before (one ∷ told) opens now
-stops_more file before opens middle now one told commands is first more =
-    let all = scripts_more file before more.0 one told commands more.3 is more.4 in
+-- the first file is a list, and then others were opened
+pub stops_more : {A : Type 0} (parse : Parse A) (file before opens middle now : ℕ)
+    (one : Option (List ℕ)) (told : List (Option (List ℕ))) (list : List A)
+    → IsListIn parse file before one (Ok list) → middle ≡ next_count opens
+    → StopsIn parse (file + 1) (before + length list) told middle now
+    → StopsIn parse file before (one ∷ told) opens now
+stops_more parse file before opens middle now one told list is first more =
+    let all = lists_more parse file before more.0 one told list more.3 is more.4 in
     let same : more.0 ≡ suc more.0 - 1 = omega arith in (
       suc more.0,
       omega (arith, more.1),
       rw (sym first) more.2,
       all.0,
-      subst (λ n. AreScriptsFrom file before (take n (one ∷ told)) (Ok all.0)) same all.1,
+      subst (λ n. AreListsFrom parse file before (take n (one ∷ told)) (Ok all.0)) same all.1,
     )
 
 -- the first file, and then all of the others

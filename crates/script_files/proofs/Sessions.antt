@@ -9,24 +9,19 @@ use Rattle.std.specs.Prelude.{nat_lt, if◌then◌else◌, IfSome, Vec}
 use Rattle.std.proofs.lemmas.List.{length-take, take_all}
 use Rattle.std.proofs.lemmas.Bool.{lt-ltb, ltb-true, ltb-false}
 use Rattle.outside.specs.Pieces.{IsFrontOf}
-use Rattle.doc_model.specs.declared.command.Command.{Command}
 use Rattle.script_files.proofs.Sorting.{refused_as}
-use Rattle.script_files.specs.Sorts.{OfDumps, OfSchedules, OfScripts, sort_of}
+use Rattle.script_files.specs.InTurn.{AddsFile, AddsList, Parse, list_in}
+use Rattle.script_files.specs.Sorts.{Grammar, OfDumps, OfSchedules, sort_of}
 use Rattle.script_files.specs.declared.fault.Fault.{Fault}
 use Rattle.script_files.specs.declared.fault.Fault.TheVariants.{TooLarge}
-use Rattle.script_files.specs.Scripts.{after_reading, script_in, within_size, IsScriptIn}
+use Rattle.script_files.specs.InTurn.{within_size}
 use Rattle.script_files.specs.Loaded.{IsDumpFile, Loads, LoadsFile, after_dump, contents_by}
 use Rattle.script_files.specs.Replayed.{after_schedule, steps_of, IsReading, Replays, ReplaysFile}
-use Rattle.cmd_text.specs.Form.{form_of}
-use Rattle.cmd_text.specs.Whole.{script_of}
 use Rattle.version_dump.specs.Contents.{contents_of}
 use Rattle.version_dump.specs.declared.loader.Loaded.{Loaded}
 use Rattle.core_replay.specs.Schedule.{schedule_of}
 use Rattle.core_replay.specs.ScheduleValue.{ScheduleValue}
 use Rattle.std.specs.declared.alloc.Global.{Global}
-use Rattle.script_files.specs.Formed.{Forms, ReadsFile}
-use Rattle.script_files.specs.Reading.{Decides, DecidesFile}
-use Rattle.script_files.specs.declared.scripts.Script as one
 
 longer : (n : ℕ) → 1048576 < n → 1048576 < min 1048577 n
 longer n long = omega arith
@@ -60,25 +55,10 @@ of_file file reading None front outcome read is = (front, tt, is)
 of_file file reading (Some all) front outcome read is =
     (all, refl, within_front file reading all ∙ ap (within_size file reading) (sym read) ∙ is)
 
-script_of_file : (file before : ℕ) (told : Option (List ℕ)) (front : List ℕ)
-    (outcome : Result (List Command) Fault) → IsFrontOf told 1048577 front
-    → script_in file before front ≡ outcome → IsScriptIn file before told outcome
-script_of_file file before told front outcome read is =
-    of_file file (λ script. after_reading file before (script_of script)) told front outcome read is
-
 reading_of_file : (told : Option (List ℕ)) (front : List ℕ) (outcome : Result ScheduleValue Fault)
     → IsFrontOf told 1048577 front → steps_of front ≡ outcome → IsReading told outcome
 reading_of_file told front outcome read is =
     of_file 1 (λ schedule. after_schedule (schedule_of schedule)) told front outcome read is
-
-pub decided_file : (file before : ℕ) (told : Option (List ℕ)) (front : List ℕ)
-    (answer : Result (Vec Command Global) Fault) → IsFrontOf told 1048577 front
-    → Decides answer (script_in file before front) → DecidesFile file before answer told
-decided_file place before told front (Ok script) read is =
-    script_of_file place before told front (Ok script.items) read is
-decided_file place before told front (Err fault) read is =
-    refused_as OfScripts (sort_of fault) _ _ _ _
-    (script_of_file place before told front (Err fault) read) (λ never. absurd never) is
 
 -- a file that was read as something is no longer than what was read of it
 sized : {A : Type 0} (file : ℕ) (reading : List ℕ → Result A Fault) (bytes : List ℕ) (read : A)
@@ -96,19 +76,27 @@ all_read n all short =
     let few : length all ≤ n + 1 = omega (arith, length-take (n + 1) all) in
     take_all (n + 1) all few
 
-pub formed_file : (file before : ℕ) (told : Option (List ℕ)) (front : List ℕ)
-    (answer : Result one.Script Fault) → IsFrontOf told 1048577 front
-    → Forms answer (script_in file before front) (form_of front)
-    → ReadsFile file before answer told
-formed_file file before None front (Ok script) read is = (front, tt, is.0, is.1)
-formed_file file before (Some all) front (Ok script) read is =
-    let short = sized file (λ bytes. after_reading file before (script_of bytes)) front
-    script.commands.items is.0 in
+-- what was added of the bytes that were read is what the file holds
+pub added_file : {A N : Type 0} (grammar : Grammar) (parse : Parse A) (note : List ℕ → N)
+    (file before : ℕ) (told : Option (List ℕ)) (front : List ℕ) (answer : Result ℕ Fault)
+    (old new : List (List A)) (old_notes new_notes : List N) → IsFrontOf told 1048577 front
+    → AddsList grammar (list_in parse file before front) (note front) answer old new old_notes
+    new_notes
+    → AddsFile grammar parse note file before told answer old new old_notes new_notes
+added_file grammar parse note file before None front (Ok count) old new old_notes new_notes read
+    is =
+    (front, tt, is)
+added_file grammar parse note file before (Some all) front (Ok count) old new old_notes new_notes
+    read is =
+    let short = sized file (λ bytes. parse file before bytes) front is.0 is.1 in
     let whole : take 1048577 all ≡ all =
     all_read 1048576 all (subst (λ (f : List ℕ). length f ≤ 1048576) read short) in
-    (front, read ∙ whole, is.0, is.1)
-formed_file file before told front (Err fault) read is =
-    decided_file file before told front (Err fault) read is
+    (front, read ∙ whole, is)
+added_file grammar parse note file before told front (Err fault) old new old_notes new_notes read
+    is =
+    refused_as grammar (sort_of fault) _ _ _ _
+    (of_file file (λ bytes. parse file before bytes) told front (Err fault) read)
+    (λ never. absurd never) is
 
 pub replayed_file : (told : Option (List ℕ)) (front : List ℕ)
     (answer : Result (Vec ℕ Global) Fault) → IsFrontOf told 1048577 front

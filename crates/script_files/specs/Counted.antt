@@ -7,7 +7,7 @@ use Rattle.heap_census.specs.declared.numbers.Census.{Census}
 use Rattle.image_files.specs.Answers.{IsCensusIn, IsFaultIn, IsSafe}
 use Rattle.image_files.specs.Contents.{contents_of}
 use Rattle.image_files.specs.declared.fault.ImageFault.{ImageFault}
-use Rattle.script_files.specs.Scripts.{largest_file}
+use Rattle.script_files.specs.InTurn.{largest_file}
 use Rattle.script_files.specs.Sorts.{OfImages, Refused, sort_of}
 use Rattle.script_files.specs.declared.fault.Fault.{Fault}
 use Rattle.script_files.specs.declared.fault.Fault.TheVariants.{Image, ReadFault, TooLarge}

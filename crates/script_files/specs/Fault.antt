@@ -10,12 +10,14 @@ use Rattle.core_replay.specs.declared.fault.ScheduleKind.{ScheduleKind}
 use Rattle.core_replay.specs.declared.fault.ScheduleKind.TheVariants as schedule
 use Rattle.image_files.specs.declared.fault.ImageKind.{ImageKind}
 use Rattle.image_files.specs.declared.fault.ImageKind.TheVariants as image
+use Rattle.mail_text.specs.declared.fault.MailKind.{MailKind}
+use Rattle.mail_text.specs.declared.fault.MailKind.TheVariants as mail
 use Rattle.script_files.specs.Sorts.{Sort, OfWords, OfLine, OfReading, OfWriting, OfMemory, OfSize}
 use Rattle.script_files.specs.Sorts.{sort_of}
 use Rattle.script_files.specs.declared.fault.Fault.{Fault}
 use Rattle.script_files.specs.declared.fault.Fault.TheVariants.{Usage, Script, Schedule, Dump}
-use Rattle.script_files.specs.declared.fault.Fault.TheVariants.{Image, ReadFault, WriteFault}
-use Rattle.script_files.specs.declared.fault.Fault.TheVariants.{Memory, TooLarge}
+use Rattle.script_files.specs.declared.fault.Fault.TheVariants.{Image, Mail, ReadFault}
+use Rattle.script_files.specs.declared.fault.Fault.TheVariants.{WriteFault, Memory, TooLarge}
 use Rattle.version_dump.specs.declared.fault.LoadKind.{LoadKind}
 use Rattle.version_dump.specs.declared.fault.LoadKind.TheVariants as load
 
@@ -71,6 +73,13 @@ image_kind_text_of image.NoOrder = codes "NoOrder"
 image_kind_text_of image.Blue = codes "Blue"
 image_kind_text_of image.BadShape = codes "BadShape"
 
+-- the same for a line of a sender's script
+abbrev pub mail_kind_text_of : MailKind → List ℕ
+mail_kind_text_of mail.BadByte = codes "BadByte"
+mail_kind_text_of mail.NoCommand = codes "NoCommand"
+mail_kind_text_of mail.BadNumber = codes "BadNumber"
+mail_kind_text_of mail.Extra = codes "Extra"
+
 -- what is said of a file
 abbrev pub file_text_of : ℕ → List ℕ → List ℕ
 file_text_of file what = codes "docheap: file " ++ (decimal file ++ (codes ": " ++ what))
@@ -86,6 +95,8 @@ fault_text_of (Script file line kind) = file_text_of file (line_text_of line (ki
 fault_text_of (Schedule line kind) = file_text_of 1 (line_text_of line (schedule_kind_text_of kind))
 fault_text_of (Dump line kind) = file_text_of 1 (line_text_of line (load_kind_text_of kind))
 fault_text_of (Image line kind) = file_text_of 1 (line_text_of line (image_kind_text_of kind))
+fault_text_of (Mail file line kind) =
+    file_text_of file (line_text_of line (mail_kind_text_of kind))
 fault_text_of (ReadFault file) = file_text_of file (codes "read fault")
 fault_text_of WriteFault = codes "docheap: write fault"
 fault_text_of Memory = codes "docheap: out of memory"

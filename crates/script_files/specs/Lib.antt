@@ -2,9 +2,12 @@ pub mod Counted
 pub mod Fault
 pub mod Sorts
 pub mod Files
+pub mod InTurn
+pub mod Due
 pub mod Formed
 pub mod Scripts
 pub mod Reading
 pub mod Made
 pub mod Replayed
 pub mod Loaded
+pub mod Mail

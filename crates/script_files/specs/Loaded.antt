@@ -9,7 +9,7 @@ use Rattle.version_dump.specs.Laws.{IsDump}
 use Rattle.version_dump.specs.Listing.{listed}
 use Rattle.version_dump.specs.declared.fault.LoadFault.{LoadFault}
 use Rattle.version_dump.specs.declared.loader.Loaded.{Loaded}
-use Rattle.script_files.specs.Scripts.{largest_file, within_size}
+use Rattle.script_files.specs.InTurn.{largest_file, within_size}
 use Rattle.script_files.specs.Sorts.{OfDumps, Refused, sort_of}
 use Rattle.script_files.specs.declared.fault.Fault.{Fault}
 use Rattle.script_files.specs.declared.fault.Fault.TheVariants.{Dump, ReadFault}

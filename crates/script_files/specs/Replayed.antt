@@ -9,7 +9,7 @@ use Rattle.core_replay.specs.Replay.{IsReplayText}
 use Rattle.core_replay.specs.Schedule.{schedule_of}
 use Rattle.core_replay.specs.ScheduleValue.{ScheduleValue}
 use Rattle.core_replay.specs.declared.fault.ScheduleFault.{ScheduleFault}
-use Rattle.script_files.specs.Scripts.{largest_file, within_size}
+use Rattle.script_files.specs.InTurn.{largest_file, within_size}
 use Rattle.script_files.specs.Sorts.{OfSchedules, Refused, sort_of}
 use Rattle.script_files.specs.declared.fault.Fault.{Fault}
 use Rattle.script_files.specs.declared.fault.Fault.TheVariants.{Schedule, ReadFault}

@@ -6,8 +6,8 @@
 use Rattle.std.specs.Prelude.{◌≡◌}
 use Rattle.script_files.specs.declared.fault.Fault.{Fault}
 use Rattle.script_files.specs.declared.fault.Fault.TheVariants.{Usage, Script, Schedule, Dump}
-use Rattle.script_files.specs.declared.fault.Fault.TheVariants.{Image, ReadFault, WriteFault}
-use Rattle.script_files.specs.declared.fault.Fault.TheVariants.{Memory, TooLarge}
+use Rattle.script_files.specs.declared.fault.Fault.TheVariants.{Image, Mail, ReadFault}
+use Rattle.script_files.specs.declared.fault.Fault.TheVariants.{WriteFault, Memory, TooLarge}
 
 -- what a file is read as
 pub data Grammar : Type 0 where
@@ -15,6 +15,7 @@ pub data Grammar : Type 0 where
   OfSchedules : Grammar
   OfDumps : Grammar
   OfImages : Grammar
+  OfMail : Grammar
 
 -- what a fault lies in: the words of the command line, a line of a file, the reading of a file, the
 -- writing of the output, want of memory, or a size
@@ -33,6 +34,7 @@ sort_of (Script file line kind) = OfLine OfScripts
 sort_of (Schedule line kind) = OfLine OfSchedules
 sort_of (Dump line kind) = OfLine OfDumps
 sort_of (Image line kind) = OfLine OfImages
+sort_of (Mail file line kind) = OfLine OfMail
 sort_of (ReadFault file) = OfReading
 sort_of WriteFault = OfWriting
 sort_of Memory = OfMemory

@@ -8,7 +8,7 @@ ghost use Rattle.outside.specs.Causes.{Rose, next_count};
 ghost use Rattle.script_files.specs.Counted.{Counts, CountsFile};
 
 use crate::fault::Fault;
-use crate::scripts::LARGEST_FILE;
+use crate::in_turn::LARGEST_FILE;
 use image_files::{Census, ImageError, ImageFault, read_image};
 use outside::{OutFault, READ_LIMIT, Shelf, read_file};
 use std::alloc::Global;

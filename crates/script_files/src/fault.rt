@@ -1,12 +1,14 @@
 ghost use Rattle.std.specs.Prelude.{◌≡◌, IfOk, is_ok, string_bytes};
 ghost use Rattle.script_files.specs.Fault.{fault_text_of, file_text_of, final_fault_of};
 ghost use Rattle.script_files.specs.Fault.{image_kind_text_of, kind_text_of, line_text_of};
-ghost use Rattle.script_files.specs.Fault.{load_kind_text_of, schedule_kind_text_of, status_of};
+ghost use Rattle.script_files.specs.Fault.{load_kind_text_of, mail_kind_text_of};
+ghost use Rattle.script_files.specs.Fault.{schedule_kind_text_of, status_of};
 
 use cmd_text::ScriptKind;
 use core_replay::ScheduleKind;
 use doc_model::NoMemory;
 use image_files::ImageKind;
+use mail_text::MailKind;
 use outside::OutFault;
 use std::alloc::Global;
 use std::fmt::{self, Display, Formatter, Write};
@@ -44,6 +46,13 @@ pub enum Fault {
         line: u32,
         kind: ImageKind,
     },
+    /// A file is no script of a sender of a mailbox.
+    #[error("docheap: file {file}: line {line}: {kind:?}")]
+    Mail {
+        file: u32,
+        line: u32,
+        kind: MailKind,
+    },
     /// A file could not be opened or read.
     #[error("docheap: file {file}: read fault")]
     ReadFault {
@@ -55,7 +64,7 @@ pub enum Fault {
     /// Memory was wanting.
     #[error("docheap: out of memory")]
     Memory,
-    /// A file has too many bytes, or for file 0 the files have too many commands.
+    /// A file has too many bytes, or for file 0 there are too many files or commands.
     #[error("docheap: {place}too large", place = FilePlace(*.file))]
     TooLarge {
         file: u32,
@@ -102,6 +111,10 @@ fn said(alloc: Global, fault: &Fault) -> Result<String, NoMemory>
         Fault::Image { line, kind } => {
             let what = said_of_line(alloc, *line, image_kind_text(*kind))?;
             said_of_file(alloc, 1, what.as_str())
+        }
+        Fault::Mail { file, line, kind } => {
+            let what = said_of_line(alloc, *line, mail_kind_text(*kind))?;
+            said_of_file(alloc, *file, what.as_str())
         }
         Fault::ReadFault { file } => said_of_file(alloc, *file, "read fault"),
         Fault::WriteFault => String::from_str(alloc, "docheap: write fault"),
@@ -177,6 +190,17 @@ fn image_kind_text(kind: ImageKind) -> &'static str
     }
 }
 
+fn mail_kind_text(kind: MailKind) -> &'static str
+    ensures { result.now ≡ mail_kind_text_of kind }
+{
+    match kind {
+        MailKind::BadByte => "BadByte",
+        MailKind::NoCommand => "NoCommand",
+        MailKind::BadNumber => "BadNumber",
+        MailKind::Extra => "Extra",
+    }
+}
+
 /// The status that the program ends with.
 pub fn status(fault: Option<Fault>) -> u8
     ensures { result ≡ status_of fault }
@@ -185,7 +209,7 @@ pub fn status(fault: Option<Fault>) -> u8
         None => 0,
         Some(Fault::Usage) => 1,
         Some(Fault::Script { .. } | Fault::Schedule { .. }) => 2,
-        Some(Fault::Dump { .. } | Fault::Image { .. }) => 2,
+        Some(Fault::Dump { .. } | Fault::Image { .. } | Fault::Mail { .. }) => 2,
         Some(Fault::ReadFault { .. }) => 3,
         Some(Fault::WriteFault) => 4,
         Some(Fault::Memory) => 5,

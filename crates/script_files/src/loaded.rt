@@ -8,7 +8,7 @@ ghost use Rattle.outside.specs.Causes.{Rose, next_count};
 ghost use Rattle.script_files.specs.Loaded.{Loads, LoadsFile};
 
 use crate::fault::Fault;
-use crate::scripts::LARGEST_FILE;
+use crate::in_turn::LARGEST_FILE;
 use outside::{OutFault, READ_LIMIT, Shelf, read_file};
 use std::alloc::Global;
 use version_dump::{LoadError, LoadFault, Loaded, load};

@@ -8,7 +8,7 @@ ghost use Rattle.outside.specs.Causes.{Rose, next_count};
 ghost use Rattle.script_files.specs.Replayed.{Replays, ReplaysFile, steps_of};
 
 use crate::fault::Fault;
-use crate::scripts::LARGEST_FILE;
+use crate::in_turn::LARGEST_FILE;
 use core_replay::{ScheduleError, ScheduleFault, read_schedule, replay};
 use outside::{OutFault, READ_LIMIT, Shelf, read_file};
 use std::alloc::Global;

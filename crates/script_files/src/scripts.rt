@@ -1,33 +1,28 @@
 //! The scripts of several files, read one after another.
 //!
-//! Too many files are refused unread. The refusals of a file are looked for in the order of its
-//! reading: it could not be read, it is too long, it is no script, the files up to it have too many
-//! commands. The first file that is refused decides, and no further one is opened.
+//! Too many files are refused unread.
 ghost use Rattle.std.specs.Prelude.{◌≡◌, ℕ, ◌+◌, ◌*◌, ◌≤◌, [], ◌∷◌, ◌++◌, length, map, IfOk};
 ghost use Rattle.std.specs.Prelude.{OnOk, IsErrOf};
 ghost use Rattle.std.specs.Prelude.{sum_by};
 ghost use Rattle.outside.specs.Calls.{IsUnbroken, IsOrderly};
-ghost use Rattle.outside.specs.Causes.{Rose, next_count};
+ghost use Rattle.outside.specs.Causes.{Rose};
 ghost use Rattle.script_files.specs.Files.{OpensInTurn, files_read, opened};
 ghost use Rattle.cmd_text.specs.Form.{form_of};
-ghost use Rattle.script_files.specs.Formed.{DecidesFiles, Forms, ReadsFile, ReadsFrom};
-ghost use Rattle.script_files.specs.Reading.{Decides};
-ghost use Rattle.script_files.specs.Scripts.{StopsBehind, counted, script_in};
+ghost use Rattle.script_files.specs.Formed.{DecidesFiles};
+ghost use Rattle.script_files.specs.InTurn.{counted};
+ghost use Rattle.script_files.specs.Reading.{Decides, lists_of};
+ghost use Rattle.script_files.specs.Scripts.{StopsBehind, parse_script, script_in};
+ghost use Rattle.script_files.specs.Sorts.{OfScripts};
 
 use crate::fault::Fault;
+use crate::in_turn::{Gathering, LARGEST_FILE, MOST_COMMANDS, gather};
 use cmd_text::{Form, ScriptError, ScriptFault, read_script, script_form};
 use doc_model::{Command, NoMemory};
-use outside::{OutFault, READ_LIMIT, Shelf, read_file};
+use outside::{READ_LIMIT, Shelf};
 use std::alloc::Global;
-
-// How many bytes a file has at most.
-pub(crate) const LARGEST_FILE: usize = 1_048_576;
 
 // How many files there are at most.
 const MOST_FILES: usize = 64;
-
-// How many commands all scripts have at most.
-const MOST_COMMANDS: usize = 100_000;
 
 /// The scripts of several files, one of each.
 #[derive(Drop)]
@@ -37,29 +32,53 @@ pub struct Scripts {
     pub forms: Vec<Form>,
 }
 
-// The script of one file.
-#[derive(Drop)]
-struct Script {
-    commands: Vec<Command>,
-    form: Form,
-}
-
 impl Scripts {
-    fn push(&mut self, script: Script) -> Result<(), NoMemory>
+    fn push(&mut self, script: Vec<Command>, form: Form) -> Result<(), NoMemory>
         ensures commands { OnOk result (self.new.commands.items
-            ≡ self.old.commands.items ++ script.commands ∷ []) }
+            ≡ self.old.commands.items ++ script ∷ []) }
         ensures forms { OnOk result (self.new.forms.items
-            ≡ self.old.forms.items ++ script.form ∷ []) }
-        ensures count { OnOk result (length self.new.commands.items
-            ≡ length self.old.commands.items + 1) }
-        ensures sum { OnOk result (sum_by (λ each. length each.items) self.new.commands.items
-            ≡ sum_by (λ each. length each.items) self.old.commands.items
-            + length script.commands.items) }
+            ≡ self.old.forms.items ++ form ∷ []) }
     {
-        let Script { commands, form } = script;
-        self.commands.push(commands)?;
+        self.commands.push(script)?;
         self.forms.push(form)?;
         Ok(())
+    }
+}
+
+impl Gathering for Scripts {
+    type Each = Command;
+
+    type Note = Form;
+
+    ghost grammar = { OfScripts };
+
+    ghost parse = { parse_script };
+
+    ghost note = { form_of };
+
+    ghost lists = { λ s. lists_of s.commands.items };
+
+    ghost notes = { λ s. s.forms.items };
+
+    ghost fits = { λ s. Unit {0} };
+
+    fn add(
+        &mut self,
+        alloc: Global,
+        bytes: &[u8],
+        file: u32,
+        before: usize,
+    ) -> Result<usize, Fault> {
+        let form = script_form(bytes);
+        let commands = match script_in_bytes(alloc, bytes, file, before) {
+            Ok(commands) => commands,
+            Err(fault) => return Err(fault),
+        };
+        let count = commands.len();
+        match self.push(commands, form) {
+            Ok(()) => Ok(count),
+            Err(_) => Err(Fault::Memory),
+        }
     }
 }
 
@@ -128,102 +147,8 @@ fn scripts_in_turn<H: Shelf>(alloc: Global, names: &[&str], shelf: &mut H) -> Re
     let commands = Vec::new(alloc);
     let forms = Vec::new(alloc);
     let mut scripts = Scripts { commands, forms };
-    match add_scripts(alloc, names, 1, 0, shelf, &mut scripts) {
+    match gather(alloc, names, 1, 0, shelf, &mut scripts) {
         Ok(()) => Ok(scripts),
-        Err(fault) => Err(fault),
-    }
-}
-
-// Adds the scripts in the files of these names. The first of them has this number, and so many
-// commands stand in the files before it.
-#[tactic(auto, using(crate::proofs::Files::in_turn, crate::proofs::Opens::openings, crate::proofs::Turns::turn_stopped))]
-fn add_scripts<H: Shelf>(
-    alloc: Global,
-    names: &[&str],
-    file: u32,
-    before: usize,
-    shelf: &mut H,
-    scripts: &mut Scripts,
-) -> Result<(), Fault>
-    requires few { file + length names.now ≤ 65 }
-    requires before { before ≤ 100_000 }
-    requires all { sum_by (λ script. length script.items) scripts.old.commands.items ≡ before }
-    ensures scripts { ReadsFrom file before
-        (map (H.holds shelf.old) (map (λ name. name.now) names.now))
-        result scripts.old scripts.new }
-    ensures count { OnOk result (length scripts.new.commands.items
-        ≡ length scripts.old.commands.items + length names.now) }
-    ensures total { OnOk result (
-        sum_by (λ script. length script.items) scripts.new.commands.items ≤ 100_000) }
-    ensures read { (place : ℕ) → IsErrOf result (Fault.ReadFault place) →
-        Rose (H.faults shelf.old) (H.faults shelf.new) }
-    ensures read_file { (place : ℕ) → IsErrOf result (Fault.ReadFault place) → (more : ℕ)
-        × (file + more ≡ place + 1) × (H.opens shelf.new ≡ opened (H.opens shelf.old) more) }
-    ensures opens { OpensInTurn (H.opens shelf.old) (H.opens shelf.new) (length names.now) }
-    ensures all_opened { OnOk result (H.opens shelf.new
-        ≡ opened (H.opens shelf.old) (length names.now)) }
-    ensures stops { StopsBehind file before
-        (map (H.holds shelf.old) (map (λ name. name.now) names.now))
-        (H.opens shelf.old) (H.opens shelf.new) }
-    ensures calls { H.calls shelf.new
-        ≤ H.calls shelf.old + length names.now * (READ_LIMIT + 1) }
-    ensures unbroken { OnOk result (IsUnbroken (H.course shelf.old)
-        → IsUnbroken (H.course shelf.new)) }
-    ensures orderly { IsUnbroken (H.course shelf.old) → IsOrderly (H.course shelf.new) }
-    ensures faults { H.faults shelf.old ≤ H.faults shelf.new }
-{
-    let [name, others @ ..] = names else {
-        return Ok(());
-    };
-    let script = match script_in_file(alloc, name, file, before, shelf) {
-        Ok(script) => script,
-        Err(fault) => return Err(fault),
-    };
-    let before = before + script.commands.len();
-    match scripts.push(script) {
-        Ok(()) => {}
-        Err(_) => return Err(Fault::Memory),
-    }
-    add_scripts(alloc, others, file + 1, before, shelf, scripts)
-}
-
-// The script in the file of this name.
-#[tactic(auto, using(crate::proofs::Sessions::formed_file))]
-fn script_in_file<H: Shelf>(
-    alloc: Global,
-    name: &str,
-    file: u32,
-    before: usize,
-    shelf: &mut H,
-) -> Result<Script, Fault>
-    requires before { before ≤ 100_000 }
-    ensures script { ReadsFile file before result (H.holds shelf.old name.now) }
-    ensures few { IfOk result (λ script. before + length script.commands.items ≤ 100_000) }
-    ensures held { H.holds shelf.new ≡ H.holds shelf.old }
-    ensures read { (place : ℕ) → IsErrOf result (Fault.ReadFault place) →
-        Rose (H.faults shelf.old) (H.faults shelf.new) }
-    ensures opens { H.opens shelf.new ≡ next_count (H.opens shelf.old) }
-    ensures calls { H.calls shelf.new ≤ H.calls shelf.old + READ_LIMIT + 1 }
-    ensures unbroken { OnOk result (IsUnbroken (H.course shelf.old)
-        → IsUnbroken (H.course shelf.new)) }
-    ensures orderly { IsUnbroken (H.course shelf.old) → IsOrderly (H.course shelf.new) }
-    ensures faults { H.faults shelf.old ≤ H.faults shelf.new }
-{
-    match read_file(alloc, shelf, name) {
-        Ok(bytes) => formed_script(alloc, &bytes, file, before),
-        Err(OutFault::Failed) => Err(Fault::ReadFault { file }),
-        Err(OutFault::NoMemory) => Err(Fault::Memory),
-    }
-}
-
-fn formed_script(alloc: Global, bytes: &[u8], file: u32, before: usize) -> Result<Script, Fault>
-    requires before { before ≤ 100_000 }
-    ensures script { Forms result (script_in file before bytes.now) (form_of bytes.now) }
-    ensures few { IfOk result (λ script. before + length script.commands.items ≤ 100_000) }
-{
-    let form = script_form(bytes);
-    match script_in_bytes(alloc, bytes, file, before) {
-        Ok(commands) => Ok(Script { commands, form }),
         Err(fault) => Err(fault),
     }
 }

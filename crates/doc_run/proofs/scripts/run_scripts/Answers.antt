@@ -1,20 +1,25 @@
-use Rattle.std.proofs.Common.{map}
+use Rattle.std.proofs.Common.{Err, map}
 use Rattle.run_words.specs.Requests.{run_asked_by}
 use Rattle.script_files.specs.Scripts.{AreScripts}
-use Rattle.doc_run.specs.Clients.{options_of}
+use Rattle.script_files.specs.Sorts.{OfScripts}
+use Rattle.doc_run.specs.Clients.{ComesBy, options_of}
 use Rattle.doc_run.specs.Reports.{IsReportOf}
 use Rattle.doc_run.proofs.Deciding.{comes_by}
 use Rattle.doc_run.proofs.Writing.{by_done, by_explained, by_failed, by_no_file, by_no_read}
-use Rattle.doc_run.proofs.Writing.{by_wanting, by_written}
+use Rattle.doc_run.proofs.Writing.{by_wanting, by_written, kept_finished}
 use Rattle.doc_run.proofs.scripts.run_scripts.Goals as goal
 
 pub returns-clause-explained : goal.returns-clause-explained
 returns-clause-explained g c =
     let told = map (g.H.Shelf.holds c.args.shelf.now) (run_asked_by c.args.run.now).files in
     let f = c.in-Ok.ran.finished in
-    by_explained (AreScripts told) (options_of (run_asked_by c.args.run.now)) f
+    let asked = run_asked_by c.args.run.now in
+    by_explained OfScripts (λ one. AreScripts told (Err one))
+    (λ all. ComesBy (AreScripts told) (options_of asked) all) f
     c.write_lines.result c.by_writing.result.fault c.by_writing.result.finished
-    c.by_writing.ensures.fault c.by_writing.ensures.finished
+    c.by_writing.ensures.fault
+    (kept_finished c.write_lines.result f c.by_writing.result.finished
+    c.by_writing.ensures.finished)
     (comes_by told (options_of (run_asked_by c.args.run.now)) f c.in-Ok.ran.forms.items
     c.in-Ok.ensures.finished)
 
@@ -25,11 +30,14 @@ returns-clause-written g c =
     let f = c.in-Ok.ran.finished in
     let forms = c.in-Ok.ran.forms.items in
     let text = c.in-Ok-report_text.text.items in
-    by_written (AreScripts told) (options_of asked) (IsReportOf c.args.report told asked) f
+    by_written (λ all. ComesBy (AreScripts told) (options_of asked) all)
+    (IsReportOf c.args.report told asked) f
     text c.deref.result.now
     (g.S.Sink.written c.args.sink.now) (g.S.Sink.written c.write_lines.new.sink)
     c.write_lines.result c.by_writing.result.fault c.by_writing.result.finished
-    c.by_writing.ensures.fault c.by_writing.ensures.finished
+    c.by_writing.ensures.fault
+    (kept_finished c.write_lines.result f c.by_writing.result.finished
+    c.by_writing.ensures.finished)
     (comes_by told (options_of asked) f forms c.in-Ok.ensures.finished)
     (forms, c.in-Ok.ensures.finished, c.in-Ok-report_text.ensures)
     c.deref.ensures.value c.write_lines.ensures.ok c.write_lines.ensures.err

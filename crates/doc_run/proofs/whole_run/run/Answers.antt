@@ -1,13 +1,17 @@
-use Rattle.std.proofs.Common.{◌≡◌, ◌∙◌, Some, ap, subst}
-use Rattle.run_words.specs.Requests.{Run, Replay, Gen, Load, Image, Dump, Census, asked_by}
-use Rattle.run_words.specs.Requests.{names_by, request_of, run_asked_by}
+use Rattle.std.proofs.Common.{◌≡◌, ◌∙◌, Some, ap, map, subst, sym}
+use Rattle.run_words.specs.Requests.{Run, Replay, Gen, Load, Image, Dump, Census, Mail, asked_by}
+use Rattle.run_words.specs.Requests.{mail_asked_by, names_by, request_of, run_asked_by}
+use Rattle.doc_run.specs.Asked.{WritesPartOf}
 use Rattle.doc_run.specs.Reading.{Schedules, Dumps, Images}
 use Rattle.doc_run.specs.declared.report.Report.TheVariants.{Replies, Heap}
 use Rattle.doc_run.proofs.Asking.{due_asked, opens_file, stops_asked, stops_beside, unread_scripts}
-use Rattle.doc_run.proofs.Asking.{unread_stops}
-use Rattle.doc_run.proofs.Faulting.{fault_of_dump, fault_of_file, fault_of_made, fault_of_run}
+use Rattle.doc_run.proofs.Asking.{unread_stops, unread_stops_mail}
+use Rattle.doc_run.proofs.Faulting.{fault_of_dump, fault_of_file, fault_of_mail, fault_of_made}
+use Rattle.doc_run.proofs.Faulting.{fault_of_run}
 use Rattle.doc_run.proofs.Guesting.{dump_asked}
 use Rattle.doc_run.proofs.HandedBack.{handed_back, large_back}
+use Rattle.doc_run.proofs.Mailboxes.{mail_back, mail_done, mail_due, mail_failed, mail_stops}
+use Rattle.doc_run.proofs.Mailboxes.{wanting_of}
 use Rattle.doc_run.proofs.Readings.{file_asked}
 use Rattle.doc_run.proofs.whole_run.run.Goals as goal
 
@@ -234,6 +238,86 @@ returns-in-Ok-Dump-clause-stops g c =
     (g.H.Shelf.holds c.args.shelf.now) (g.H.Shelf.opens c.args.shelf.now)
     (g.H.Shelf.opens c.dump_beside.new.shelf) asked c.dump_beside.ensures.stops
 
+pub returns-in-Ok-Mail-clause-senders : goal.returns-in-Ok-Mail-clause-senders
+returns-in-Ok-Mail-clause-senders g c =
+    let asked : request_of c.args.words.now ≡ Some (Mail (mail_asked_by c.in-Ok-Mail.mail)) =
+    subst (λ words. request_of words ≡ Some (Mail (mail_asked_by c.in-Ok-Mail.mail)))
+    c.all.ensures (c.in-Ok-Mail.ensures.request
+    ∙ ap (λ request. Some (asked_by request)) c.in-Ok-Mail.field-0-is) in
+    mail_due (request_of c.args.words.now) (mail_asked_by c.in-Ok-Mail.mail)
+    (g.H.Shelf.holds c.args.shelf.now) c.run_mail.result.fault c.run_mail.result.mailed
+    c.run_mail.result.status asked c.run_mail.ensures.status c.run_mail.ensures.explained
+
+pub returns-in-Ok-Mail-clause-mailed : goal.returns-in-Ok-Mail-clause-mailed
+returns-in-Ok-Mail-clause-mailed g c =
+    let asked : request_of c.args.words.now ≡ Some (Mail (mail_asked_by c.in-Ok-Mail.mail)) =
+    subst (λ words. request_of words ≡ Some (Mail (mail_asked_by c.in-Ok-Mail.mail)))
+    c.all.ensures (c.in-Ok-Mail.ensures.request
+    ∙ ap (λ request. Some (asked_by request)) c.in-Ok-Mail.field-0-is) in
+    mail_back (request_of c.args.words.now) (mail_asked_by c.in-Ok-Mail.mail)
+    (g.H.Shelf.holds c.args.shelf.now) c.run_mail.result.fault c.run_mail.result.mailed
+    c.run_mail.result.status asked c.run_mail.ensures.status c.run_mail.ensures.explained
+
+pub returns-in-Ok-Mail-clause-sent : goal.returns-in-Ok-Mail-clause-sent
+returns-in-Ok-Mail-clause-sent g c =
+    let asked : request_of c.args.words.now ≡ Some (Mail (mail_asked_by c.in-Ok-Mail.mail)) =
+    subst (λ words. request_of words ≡ Some (Mail (mail_asked_by c.in-Ok-Mail.mail)))
+    c.all.ensures (c.in-Ok-Mail.ensures.request
+    ∙ ap (λ request. Some (asked_by request)) c.in-Ok-Mail.field-0-is) in
+    mail_done (request_of c.args.words.now) (mail_asked_by c.in-Ok-Mail.mail)
+    (g.H.Shelf.holds c.args.shelf.now) c.run_mail.result.fault c.run_mail.result.mailed
+    c.run_mail.result.status (g.S.Sink.written c.args.sink.now)
+    (g.S.Sink.written c.run_mail.new.sink)
+    asked c.run_mail.ensures.status c.run_mail.ensures.explained
+    c.run_mail.ensures.written
+
+pub returns-in-Ok-Mail-clause-write_sent : goal.returns-in-Ok-Mail-clause-write_sent
+returns-in-Ok-Mail-clause-write_sent g c =
+    let asked : request_of c.args.words.now ≡ Some (Mail (mail_asked_by c.in-Ok-Mail.mail)) =
+    subst (λ words. request_of words ≡ Some (Mail (mail_asked_by c.in-Ok-Mail.mail)))
+    c.all.ensures (c.in-Ok-Mail.ensures.request
+    ∙ ap (λ request. Some (asked_by request)) c.in-Ok-Mail.field-0-is) in
+    mail_failed (request_of c.args.words.now) (mail_asked_by c.in-Ok-Mail.mail)
+    (g.H.Shelf.holds c.args.shelf.now) c.run_mail.result.fault c.run_mail.result.mailed
+    c.run_mail.result.status (g.S.Sink.written c.args.sink.now)
+    (g.S.Sink.written c.run_mail.new.sink)
+    asked c.run_mail.ensures.status c.run_mail.ensures.explained
+    c.run_mail.ensures.written
+
+pub returns-in-Ok-Mail-clause-refused : goal.returns-in-Ok-Mail-clause-refused
+returns-in-Ok-Mail-clause-refused g c =
+    let asked : request_of c.args.words.now ≡ Some (Mail (mail_asked_by c.in-Ok-Mail.mail)) =
+    subst (λ words. request_of words ≡ Some (Mail (mail_asked_by c.in-Ok-Mail.mail)))
+    c.all.ensures (c.in-Ok-Mail.ensures.request
+    ∙ ap (λ request. Some (asked_by request)) c.in-Ok-Mail.field-0-is) in
+    λ fault. fault_of_mail (request_of c.args.words.now) (mail_asked_by c.in-Ok-Mail.mail)
+    (g.H.Shelf.holds c.args.shelf.now) c.run_mail.result.dumped
+    c.run_mail.result.fault c.run_mail.result.mailed fault asked c.run_mail.ensures.explained
+
+pub returns-in-Ok-Mail-clause-stops_mail : goal.returns-in-Ok-Mail-clause-stops_mail
+returns-in-Ok-Mail-clause-stops_mail g c =
+    let asked : request_of c.args.words.now ≡ Some (Mail (mail_asked_by c.in-Ok-Mail.mail)) =
+    subst (λ words. request_of words ≡ Some (Mail (mail_asked_by c.in-Ok-Mail.mail)))
+    c.all.ensures (c.in-Ok-Mail.ensures.request
+    ∙ ap (λ request. Some (asked_by request)) c.in-Ok-Mail.field-0-is) in
+    mail_stops (request_of c.args.words.now) (mail_asked_by c.in-Ok-Mail.mail)
+    (g.H.Shelf.holds c.args.shelf.now) (g.H.Shelf.opens c.args.shelf.now)
+    (g.H.Shelf.opens c.run_mail.new.shelf) asked c.run_mail.ensures.stops
+
+pub returns-in-Ok-Mail-clause-memory_part : goal.returns-in-Ok-Mail-clause-memory_part
+returns-in-Ok-Mail-clause-memory_part g c five =
+    let asked : request_of c.args.words.now ≡ Some (Mail (mail_asked_by c.in-Ok-Mail.mail)) =
+    subst (λ words. request_of words ≡ Some (Mail (mail_asked_by c.in-Ok-Mail.mail)))
+    c.all.ensures (c.in-Ok-Mail.ensures.request
+    ∙ ap (λ request. Some (asked_by request)) c.in-Ok-Mail.field-0-is) in
+    subst (λ request. WritesPartOf (g.H.Shelf.holds c.args.shelf.now) request
+    (g.S.Sink.written c.args.sink.now) (g.S.Sink.written c.run_mail.new.sink)) (sym asked)
+    (wanting_of (mail_asked_by c.in-Ok-Mail.mail)
+    (map (g.H.Shelf.holds c.args.shelf.now) (mail_asked_by c.in-Ok-Mail.mail).files)
+    (g.S.Sink.written c.args.sink.now) (g.S.Sink.written c.run_mail.new.sink)
+    c.run_mail.result.fault c.run_mail.result.mailed c.run_mail.ensures.written
+    (sym c.run_mail.ensures.status ∙ five))
+
 pub returns-in-Err-NoMemory-clause-scripts : goal.returns-in-Err-NoMemory-clause-scripts
 returns-in-Err-NoMemory-clause-scripts g c =
     unread_scripts (request_of c.args.words.now) (g.H.Shelf.holds c.args.shelf.now)
@@ -242,4 +326,9 @@ returns-in-Err-NoMemory-clause-scripts g c =
 pub returns-in-Err-NoMemory-clause-stops : goal.returns-in-Err-NoMemory-clause-stops
 returns-in-Err-NoMemory-clause-stops g c =
     unread_stops (request_of c.args.words.now) (g.H.Shelf.holds c.args.shelf.now)
+    (g.H.Shelf.opens c.args.shelf.now)
+
+pub returns-in-Err-NoMemory-clause-stops_mail : goal.returns-in-Err-NoMemory-clause-stops_mail
+returns-in-Err-NoMemory-clause-stops_mail g c =
+    unread_stops_mail (request_of c.args.words.now) (g.H.Shelf.holds c.args.shelf.now)
     (g.H.Shelf.opens c.args.shelf.now)
