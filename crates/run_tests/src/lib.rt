@@ -3,7 +3,7 @@
 //! text of each fault. And what heap_census says of the heaps that runs leave.
 //!
 //! Reading order: `outcomes`; `runs`, `batches`, `pieces`, `failing`, `options`, `totals`,
-//! `clients`, `census`, `heap_files`, `dumps`.
+//! `clients`, `census`, `heap_files`, `dumps`, `mail`.
 #![tactic(auto)]
 
 #[cfg(test)]
@@ -18,6 +18,8 @@ mod dumps;
 mod failing;
 #[cfg(test)]
 mod heap_files;
+#[cfg(test)]
+mod mail;
 #[cfg(test)]
 mod options;
 #[cfg(test)]
