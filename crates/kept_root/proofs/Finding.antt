@@ -1,0 +1,264 @@
+-- What the reads of a mutator find: the box, what is kept in it, and the number of that.
+use Rattle.std.proofs.Common.{◌≡◌, ◌<◌, ◌+◌, ◌∷◌, ◌++◌, ℕ, List, [], length, Some, Option}
+use Rattle.std.proofs.Common.{refl, sym, ◌∙◌, ap, subst, arith}
+use mathlib.Core.Option.{some}
+use lib.ListN.{get_elem?}
+use Rattle.cell_words.specs.declared.fields.Field.{Field}
+use Rattle.cell_words.specs.declared.fields.Field.TheVariants as field
+use Rattle.core_machine.specs.declared.events.Event.TheVariants as event
+use Rattle.core_machine.specs.declared.events.Found.TheVariants as finds
+use Rattle.core_machine.specs.State.{State, field_of, target_of}
+use Rattle.heap_rule.specs.declared.known.Known.{Known}
+use Rattle.heap_rule.specs.declared.known.Known.TheVariants as knows
+use Rattle.heap_rule.specs.declared.view.View.{View}
+use Rattle.heap_rule.specs.Asks.{MayRead, known_of, target}
+use Rattle.heap_rule.specs.Boxes.{payload_of}
+use Rattle.heap_rule.specs.Facts.{IsKnown}
+use Rattle.heap_rule.specs.Lore.{Lore, Plain, five_plain, learned, learned_from}
+use Rattle.heap_rule.specs.NoRule.{no_field_is_fixed}
+use Rattle.heap_rule.specs.Steps.{same_pass}
+use Rattle.heap_rule.proofs.AfterReads.{found_known}
+use Rattle.heap_rule.proofs.EntryWords.{learned_box, learned_record}
+use Rattle.heap_rule.proofs.Seats.{knows_place, reached_place, target_now}
+use Rattle.mutator_events.specs.Events.{AtEvent}
+use Rattle.mutator_seat.specs.Bound.{Bound, held_cells}
+use Rattle.held_places.specs.Calls.{StillKnown, WasRead, cells_found}
+use Rattle.held_places.proofs.Going.{in_still, many_held, target_still}
+use Rattle.held_places.proofs.ReadValues.{last_held}
+use Rattle.held_places.proofs.Steps.{same_value, was_read}
+use Rattle.kept_root.specs.Holding.{Has, HasBox, HoldsBox, HoldsRecord, HoldsSome, Loose, Rests}
+use Rattle.kept_root.specs.Rule.{HasKept, kept_term, number_record}
+use Rattle.kept_root.specs.declared.kept.Kept.{Kept}
+use Rattle.kept_root.proofs.Words.{anchor_word, box_in, kept_word, record_number}
+
+-- what was known of the box is known of it still
+pub box_still : (a b : Bound Kept) (cells : List ℕ) → held_cells b ≡ held_cells a ++ cells
+    → StillKnown no_field_is_fixed (known_of a.seat.me 1) (known_of b.seat.me 1)
+    → HasBox a → HasBox b
+box_still a b cells held still has =
+    let boxed = subst (λ (k : Known). StillKnown no_field_is_fixed k (known_of b.seat.me 1))
+    has.known still in
+    record {
+      there =
+          let many = many_held a b cells held in
+          let there = has.there in omega (arith, many, there);
+      cell = target_still a b cells held 1 has.there ∙ has.cell;
+      told = boxed.0;
+      known = boxed.1.0;
+    }
+
+-- One read.
+
+module _ (a b : Bound Kept) (heap : b.heap ≡ a.heap) (table : b.seat.table ≡ a.seat.table)
+    (place : ℕ) (there : place < length a.seat.me.own.held) (found : Field)
+    (step : AtEvent HasKept no_field_is_fixed a.seat.me (event.Read a.seat.me.number place 0)
+    same_pass (finds.Field found) b.seat.me) where
+  pub was : WasRead no_field_is_fixed a b place 0 found
+  was = was_read no_field_is_fixed HasKept same_pass a b place 0 found heap table there step
+
+  pub reads_none : Has a.seat.me.pass.number a b
+  reads_none = record {
+    heap = was.goes.heap;
+    number_is = was.goes.number;
+    kept = ap (λ (v : View Kept). v.pass.number) step.new;
+  }
+
+  pub stays_loose : Loose a → Loose b
+  stays_loose loose = record {
+    is_in = in_still a b (cells_found found) _ loose.is_in was.goes was.holds.held;
+    room = was.goes.room ∙ loose.room;
+  }
+
+  -- the cell that was found
+  module _ (c : ℕ) (is : found ≡ field.Cell c) where
+    pub held_more : held_cells b ≡ held_cells a ++ c ∷ []
+    held_more = was.holds.held ∙ ap (λ (w : Field). held_cells a ++ cells_found w) is
+
+    pub one_longer : length b.seat.me.own.held ≡ length a.seat.me.own.held + 1
+    one_longer = many_held a b (c ∷ []) held_more
+
+    pub newest_known : known_of b.seat.me (length a.seat.me.own.held)
+        ≡ learned_from step.core step.lore
+        (field_of step.core (target_of step.core a.seat.me.number place) 0)
+    newest_known =
+        found_known no_field_is_fixed a.seat.me b.seat.me step.core step.lore step.mine place 0
+        (finds.Field found)
+        (learned step.core step.lore (event.Read a.seat.me.number place 0)) a.seat.me.pass
+        step.new c (ap finds.Field is)
+
+  -- the word that was there
+  pub word_found : (x : ℕ) (w : Field) → target a.seat.me place ≡ x → field_of step.core x 0 ≡ w
+      → field_of step.core (target_of step.core a.seat.me.number place) 0 ≡ w
+  word_found x w at is =
+      ap (λ (y : ℕ). field_of step.core y 0)
+      (target_now a.seat.me step.core step.lore step.mine place ∙ at)
+      ∙ is
+
+  pub found_word : (x : ℕ) (w : Field) → target a.seat.me place ≡ x → field_of step.core x 0 ≡ w
+      → found ≡ w
+  found_word x w at is =
+      same_value found w (sym step.found_is ∙ ap finds.Field (word_found x w at is))
+
+-- The anchor.
+
+module _ (a b : Bound Kept) (heap : b.heap ≡ a.heap) (table : b.seat.table ≡ a.seat.table)
+    (at : Rests a) (found : Field)
+    (step : AtEvent HasKept no_field_is_fixed a.seat.me (event.Read a.seat.me.number 0 0)
+    same_pass (finds.Field found) b.seat.me) where
+  abbrev s : State
+  s = step.core
+
+  abbrev l : Lore
+  l = step.lore
+
+  abbrev first_there : 0 < length a.seat.me.own.held
+  first_there = at.loose.is_in.some
+
+  word : field_of s 0 0 ≡ field.Cell 1
+  word = anchor_word s l step.mine.shown.facts step.passes step.kept
+
+  found_is : found ≡ field.Cell 1
+  found_is = found_word a b heap table 0 first_there found step 0 (field.Cell 1)
+      at.loose.is_in.anchor word
+
+  pub holds_box : HoldsBox b
+  holds_box =
+      let long = one_longer a b heap table 0 first_there found step 1 found_is in
+      let one = at.alone in
+      let two : length b.seat.me.own.held ≡ 2 = omega (arith, long, one) in
+      record {
+        loose = stays_loose a b heap table 0 first_there found step at.loose;
+        two = two;
+        box = record {
+          there = omega (arith, two);
+          cell = ap (λ (n : ℕ). target b.seat.me n) (sym at.alone)
+              ∙ last_held a b 1 (held_more a b heap table 0 first_there found step 1 found_is);
+          told = five_plain (payload_of s l 1);
+          known = ap (λ (n : ℕ). known_of b.seat.me n) (sym at.alone)
+              ∙ newest_known a b heap table 0 first_there found step 1 found_is
+              ∙ ap (learned_from s l)
+              (word_found a b heap table 0 first_there found step 0 (field.Cell 1)
+              at.loose.is_in.anchor word)
+              ∙ learned_box no_field_is_fixed s l step.mine.shown.facts 1
+              (box_in s l step.mine.shown.facts step.passes step.kept) (λ e. absurd cc);
+        };
+      }
+
+pub may_read_anchor : (a : Bound Kept) → Rests a → MayRead a.seat.me 0 0
+may_read_anchor a at = record {
+  inside = at.loose.is_in.inside;
+  there = at.loose.is_in.some;
+  payload = omega arith;
+  room = let one = at.alone in let room = at.loose.room in omega (arith, one, room);
+}
+
+-- The box.
+
+module _ (a b : Bound Kept) (heap : b.heap ≡ a.heap) (table : b.seat.table ≡ a.seat.table)
+    (at : HoldsBox a) (found : Field)
+    (step : AtEvent HasKept no_field_is_fixed a.seat.me (event.Read a.seat.me.number 1 0)
+    same_pass (finds.Field found) b.seat.me) where
+  pub holds_kept : a.seat.me.number ≡ 0 → (n : ℕ) → a.seat.me.pass.number ≡ Some n
+      → HoldsRecord n b
+  holds_kept first n keeps =
+      let facts = step.mine.shown.facts in
+      let own : get_elem? step.passes 0 ≡ some a.seat.me.pass =
+      subst (λ (i : ℕ). get_elem? step.passes i ≡ some a.seat.me.pass) first step.pass in
+      let word = kept_word step.core step.lore facts step.passes step.kept n
+      (step.kept.kept a.seat.me.pass own
+      ∙ ap (λ (k : Option ℕ). Plain (kept_term k)) keeps) in
+      let c = word.0 in
+      let is = found_word a b heap table 1 at.box.there found step 1 (field.Cell c) at.box.cell
+      word.1.0 in
+      let held = held_more a b heap table 1 at.box.there found step c is in
+      let long = one_longer a b heap table 1 at.box.there found step c is in
+      let two = at.two in
+      record {
+        loose = stays_loose a b heap table 1 at.box.there found step at.loose;
+        three = omega (arith, long, two);
+        box = box_still a b (c ∷ []) held
+            ((was a b heap table 1 at.box.there found step).holds.known 1 at.box.there) at.box;
+        known = ap (λ (m : ℕ). known_of b.seat.me m) (sym at.two)
+            ∙ newest_known a b heap table 1 at.box.there found step c is
+            ∙ ap (learned_from step.core step.lore)
+            (word_found a b heap table 1 at.box.there found step 1 (field.Cell c) at.box.cell
+            word.1.0)
+            ∙ learned_record no_field_is_fixed step.core step.lore facts c (number_record n)
+            word.1.1;
+      }
+
+pub may_read_box : (a : Bound Kept) → HoldsBox a → MayRead a.seat.me 1 0
+may_read_box a at = record {
+  inside = at.loose.is_in.inside;
+  there = at.box.there;
+  payload = omega arith;
+  room = let two = at.two in let room = at.loose.room in omega (arith, two, room);
+}
+
+-- The record.
+
+pub record_there : (n : ℕ) (a : Bound Kept) → HoldsRecord n a → 2 < length a.seat.me.own.held
+record_there n a at = let three = at.three in omega (arith, three)
+
+module _ (a b : Bound Kept) (heap : b.heap ≡ a.heap) (table : b.seat.table ≡ a.seat.table)
+    (n : ℕ) (at : HoldsRecord n a) (found : Field)
+    (step : AtEvent HasKept no_field_is_fixed a.seat.me (event.Read a.seat.me.number 2 0)
+    same_pass (finds.Field found) b.seat.me) where
+  there : 2 < length a.seat.me.own.held
+  there = record_there n a at
+
+  pub number_found : found ≡ field.Num n
+  number_found =
+      let x = target a.seat.me 2 in
+      let is : IsKnown no_field_is_fixed step.core step.lore a.seat.me.number x
+      (knows.Record (number_record n)) =
+      subst (λ (k : Known). IsKnown no_field_is_fixed step.core step.lore a.seat.me.number x k)
+      at.known (knows_place a.seat.me step.core step.lore step.mine 2 there) in
+      found_word a b heap table 2 there found step x (field.Num n) refl
+      (record_number step.core step.lore step.mine.shown.facts x n
+      (reached_place a.seat.me step.core step.lore step.mine 2 there) is.1)
+
+  pub holds_still : HoldsRecord n b
+  holds_still =
+      let read = was a b heap table 2 there found step in
+      let held : held_cells b ≡ held_cells a ++ [] =
+      read.holds.held ∙ ap (λ (w : Field). held_cells a ++ cells_found w) number_found in
+      let many = many_held a b [] held in
+      let three = at.three in
+      record {
+        loose = stays_loose a b heap table 2 there found step at.loose;
+        three = omega (arith, many, three);
+        box = box_still a b [] held (read.holds.known 1 at.box.there) at.box;
+        known = subst (λ (k : Known). StillKnown no_field_is_fixed k (known_of b.seat.me 2))
+            at.known (read.holds.known 2 there);
+      }
+
+-- the number that was read is that of the record
+pub number_is : (a b : Bound Kept) (heap : b.heap ≡ a.heap)
+    (table : b.seat.table ≡ a.seat.table) (found : Field)
+    (step : AtEvent HasKept no_field_is_fixed a.seat.me (event.Read a.seat.me.number 2 0)
+    same_pass (finds.Field found) b.seat.me) (read n : ℕ) → found ≡ field.Num read
+    → HoldsRecord n a → read ≡ n
+number_is a b heap table found step read n is at =
+    let same : field.Num read ≡ field.Num n =
+    sym is ∙ number_found a b heap table n at found step in cc
+
+pub holds_read : (a b : Bound Kept) (heap : b.heap ≡ a.heap)
+    (table : b.seat.table ≡ a.seat.table) (has : HoldsSome a) (found : Field)
+    (step : AtEvent HasKept no_field_is_fixed a.seat.me (event.Read a.seat.me.number 2 0)
+    same_pass (finds.Field found) b.seat.me) (read : ℕ) → found ≡ field.Num read
+    → HoldsRecord read b
+holds_read a b heap table has found step read is =
+    subst (λ (n : ℕ). HoldsRecord n b)
+    (sym (number_is a b heap table found step read has.number is has.holds))
+    (holds_still a b heap table has.number has.holds found step)
+
+pub may_read_record : (a : Bound Kept) → HoldsSome a → MayRead a.seat.me 2 0
+may_read_record a has = record {
+  inside = has.holds.loose.is_in.inside;
+  there = record_there has.number a has.holds;
+  payload = omega arith;
+  room =
+      let three = has.holds.three in
+      let room = has.holds.loose.room in omega (arith, three, room);
+}

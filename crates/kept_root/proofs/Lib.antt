@@ -1,0 +1,7 @@
+pub mod Ending
+pub mod Finding
+pub mod Going
+pub mod Making
+pub mod Openings
+pub mod Putting
+pub mod Words

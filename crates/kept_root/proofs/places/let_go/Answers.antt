@@ -1,0 +1,15 @@
+use Rattle.kept_root.proofs.Going.{has_cut, rests_cut}
+use Rattle.kept_root.proofs.places.let_go.Goals as goal
+
+pub cut-requires-clause-inside : goal.cut-requires-clause-inside
+cut-requires-clause-inside c = c.requires.loose.is_in.inside
+
+pub cut-requires-clause-kept : goal.cut-requires-clause-kept
+cut-requires-clause-kept c = c.requires.loose.is_in.some
+
+pub returns-clause-rests : goal.returns-clause-rests
+returns-clause-rests c =
+    rests_cut c.args.m.now c.cut.new.self c.cut.ensures.told c.requires.loose
+
+pub returns-clause-same : goal.returns-clause-same
+returns-clause-same c = has_cut c.args.m.now c.cut.new.self c.cut.ensures.told

@@ -1,0 +1,36 @@
+use Rattle.std.proofs.Common.{None, true, false}
+use Rattle.mutator_events.specs.declared.values.Value.TheVariants as values
+use Rattle.mutator_events.specs.Values.{field_at}
+use Rattle.kept_root.proofs.Putting.{found_same, has_if, loose_same, may_forget, picks_forget}
+use Rattle.kept_root.proofs.storing.forget.Goals as goal
+
+pub update-requires-clause-may : goal.update-requires-clause-may
+update-requires-clause-may c =
+    may_forget c.requires.holds.number c.args.m.now c.requires.holds.holds
+
+pub update-requires-clause-rule : goal.update-requires-clause-rule
+update-requires-clause-rule c =
+    picks_forget c.requires.holds.number c.args.m.now c.requires.holds.holds c.requires.first
+
+pub returns-in-Ok-clause-loose : goal.returns-in-Ok-clause-loose
+returns-in-Ok-clause-loose c =
+    loose_same c.requires.holds.number c.args.m.now c.requires.holds.holds c.update.new.self
+    c.update.ensures.places
+
+pub returns-in-Ok-clause-gone : goal.returns-in-Ok-clause-gone
+returns-in-Ok-clause-gone c =
+    has_if c.requires.holds.number c.args.m.now c.requires.holds.holds c.update.new.self
+    (values.Held 2) values.Null None (field_at c.args.m.now.seat.me.own.held (values.Held 2))
+    c.update.ensures.places c.in-Ok.ensures.made true
+    (found_same c.requires.holds.number c.args.m.now c.requires.holds.holds)
+
+pub returns-in-Err-clause-loose : goal.returns-in-Err-clause-loose
+returns-in-Err-clause-loose c =
+    loose_same c.requires.holds.number c.args.m.now c.requires.holds.holds c.update.new.self
+    c.update.ensures.places
+
+pub returns-in-Err-clause-kept : goal.returns-in-Err-clause-kept
+returns-in-Err-clause-kept c =
+    has_if c.requires.holds.number c.args.m.now c.requires.holds.holds c.update.new.self
+    (values.Held 2) values.Null None c.in-Err.field-0.found
+    c.update.ensures.places c.in-Err.ensures.moved.1 false c.in-Err.ensures.moved.0

@@ -1,0 +1,9 @@
+-- the pass is that of the record that is put in, where it is
+use Rattle.mutator_events.specs.Values.{field_at}
+use Rattle.kept_root.specs.Rule.{number_of, putting}
+use Rattle.kept_root.proofs.storing.keep.Given as goal
+
+abbrev pub ghosts-update : goal.ghosts-update
+ghosts-update a = record {
+  next = putting (field_at a.self.now.seat.me.own.held a.old) (number_of a.self.now.seat.me a.new);
+}

@@ -1,0 +1,4 @@
+pub mod Holding
+pub mod Leaving
+pub mod Rule
+pub mod Working

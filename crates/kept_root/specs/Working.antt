@@ -1,0 +1,26 @@
+-- What the two mutators have before they begin, and what they come to.
+-- Source: this project's.
+use Rattle.std.specs.Prelude.{ℕ, ◌≡◌, ◌<◌, IfSome, None}
+use Rattle.free_cells.specs.Passes.{IsHintPass}
+use Rattle.free_cells.specs.declared.queue.FreeQueue.{FreeQueue}
+use Rattle.heap_table.specs.Seats.{HeapId}
+use Rattle.kept_root.specs.Holding.{IsDone, IsNew}
+use Rattle.kept_root.specs.declared.wasting.Worker.{Worker}
+use Rattle.kept_root.specs.declared.working.Blocking.{Blocking}
+use Rattle.kept_root.specs.declared.working.Report.{Report}
+
+pub record IsWorker (heap : HeapId) (queue : FreeQueue) (number : ℕ) (worker : Worker)
+    : Type 0 where
+  pub new : IsNew heap number worker.seat
+  pub pass : IsHintPass queue worker.pass
+
+pub record AreWorkers (heap : HeapId) (queue : FreeQueue) (work : Blocking) : Type 0 where
+  pub first : IsWorker heap queue 0 work.first
+  pub second : IsWorker heap queue 1 work.second
+  pub small : work.number < 1000000
+
+-- The seats are over. What was read behind the call, if a number was kept before, is that number.
+pub record Reports (heap : HeapId) (number : ℕ) (report : Report) : Type 0 where
+  pub first : IsDone heap 0 report.left report.first
+  pub second : IsDone heap 1 None report.second
+  pub found : IfSome report.found (λ read. read ≡ number)

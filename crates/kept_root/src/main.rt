@@ -1,0 +1,35 @@
+//! A small embedding of the heap that shows how a root outlives a call that blocks. `end` drops
+//! every root of a mutator, so before the call a record is stored in a box that the anchor names;
+//! behind it the mutator begins again, and reads the box.
+//!
+//! There are two mutators, beside the collector on a thread of its own. The first makes a record of
+//! a number, keeps it, and calls what blocks: the second makes many more records than there are
+//! cells, so that its claims wait until the collector has freed some. With the first still in they
+//! would wait for ever. What the first reads behind the call is proved to be the number that it
+//! kept. How a thread is made for the collector is told in shared_counter and beside_collector.
+//!
+//! Reading order: `kept`, specs/Rule, specs/Holding, `places`, `storing`, `wasting`, `working`,
+//! `closing`, specs/Leaving, `whole`, `main`.
+#![tactic(auto)]
+
+mod closing;
+mod kept;
+mod places;
+mod storing;
+mod wasting;
+mod whole;
+mod working;
+
+use std::io;
+
+fn main(rt: HostRuntime) -> io::Result<()> {
+    match whole::run(rt.alloc(), &rt) {
+        Ok(ran) => {
+            let same = ran.found == Some(whole::NUMBER);
+            let more = ran.made > whole::CELLS as u64;
+            println!(rt; "behind the call it reads the number that it kept: {same}")?;
+            println!(rt; "meanwhile more records were made than there are cells: {more}")
+        }
+        Err(_) => println!(rt; "there is no memory"),
+    }
+}

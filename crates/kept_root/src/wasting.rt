@@ -1,0 +1,67 @@
+//! The call that blocks: another mutator makes records that nothing names, many more than there are
+//! cells. Where no cell is free it waits for the collector.
+ghost use Rattle.std.specs.Prelude.{◌≡◌, ◌≤◌, ◌<◌, None};
+ghost use Rattle.kept_root.specs.Holding.{Has, IsDone, Rests};
+ghost use Rattle.kept_root.specs.Working.{IsWorker};
+
+use crate::kept::Kept;
+use crate::places::{come_in, leave, let_go};
+use cell_making::fill_record;
+use free_cells::{FreeQueue, HintPass, Hints};
+use heap_table::CellHeap;
+use mutator_seat::{MutSeat, Mutator, Value};
+use std::sync::Wait;
+
+/// How many records it makes.
+const RECORDS: u32 = 500;
+
+/// What a mutator's thread has of its own.
+#[derive(Drop)]
+pub(crate) struct Worker {
+    pub(crate) seat: MutSeat<Kept>,
+    pub(crate) pass: HintPass,
+}
+
+/// Comes to a safe point, makes a record, and lets it go. It tells how many it made.
+fn waste_one<R: Wait>(rt: &R, hints: &mut Hints<'_>, m: &mut Mutator<'_, Kept>, number: u32) -> u64
+    requires rests { Rests m.old }
+    requires small { number < 500 }
+    ensures rests { Rests m.new }
+    ensures same { Has m.old.seat.me.pass.number m.old m.new }
+    ensures one { result ≤ 1 }
+{
+    let _ = m.answer();
+    let fields = [
+        Value::Num(number as u64),
+        Value::Null,
+        Value::Null,
+        Value::Null,
+        Value::Null,
+    ];
+    let made = match fill_record(rt, hints, m, fields) {
+        Ok(_) => 1,
+        Err(_) => 0,
+    };
+    let_go(m);
+    made
+}
+
+/// Makes so many records and lets each go, by a mutator that comes in before and is over behind. It
+/// tells how many it made.
+pub(crate) fn waste<R: Wait>(
+    rt: &R,
+    heap: &CellHeap<Kept>,
+    queue: &FreeQueue,
+    worker: Worker,
+) -> (MutSeat<Kept>, u64)
+    requires worker { IsWorker heap.now queue.now 1 worker }
+    ensures done { IsDone heap.now 1 None result.0 }
+{
+    let mut hints = queue.hints(worker.pass);
+    let mut m = come_in(heap, worker.seat);
+    let mut made = 0;
+    for number in 0..RECORDS {
+        made += waste_one(rt, &mut hints, &mut m, number);
+    }
+    (leave(m), made)
+}

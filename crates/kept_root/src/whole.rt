@@ -1,0 +1,91 @@
+//! The whole run: a heap is opened, the mutators work beside the collector, and it is closed.
+ghost use Rattle.std.specs.Prelude.{◌≡◌, IfOk, IfSome};
+ghost use Rattle.kept_root.specs.Leaving.{Leaves};
+
+use crate::closing::{Opened, close_two, open_two};
+use crate::kept::Kept;
+use crate::wasting::Worker;
+use crate::working::{Blocking, Report};
+use beside_collector::{Keeper, begin_duty, run_beside};
+use cell_heap::{Image, NoMemory, Passes};
+use cell_words::GREATEST_CYCLES;
+use collector::MarkStack;
+use free_cells::FreeQueue;
+use std::alloc::Global;
+use std::sync::Wait;
+use std::thread::Threads;
+
+/// How many cells there are: far fewer than the records that are made.
+pub(crate) const CELLS: u32 = 32;
+
+/// The number that is kept.
+pub(crate) const NUMBER: u64 = 42;
+
+/// What a run came to.
+#[derive(Drop)]
+pub(crate) struct Ran {
+    /// the closed heap, and what its collector knew
+    pub(crate) image: Image,
+    pub(crate) passes: Passes<Kept>,
+    /// what was read behind the call, if a number was kept before
+    pub(crate) found: Option<u64>,
+    /// what is kept at the close
+    pub(crate) left: Option<u64>,
+    /// how many records were made during the call
+    pub(crate) made: u64,
+}
+
+/// A number is kept over a call that blocks, on a new heap beside its collector.
+pub(crate) fn run<R: Threads + Wait + Sync>(alloc: Global, rt: &R) -> Result<Ran, NoMemory>
+    ensures found { IfOk result (λ ran. IfSome ran.found (λ number. number ≡ 42)) }
+    ensures leaves { IfOk result (λ ran. Leaves 32 ran.left ran.image ran.passes) }
+{
+    let (queue, mut pass) = FreeQueue::open(alloc, rt, CELLS, 2)?;
+    let second_pass = queue.split(&mut pass)?;
+    let collector_pass = queue.split(&mut pass)?;
+    let stack = MarkStack::with_room(alloc, 8)?;
+    let Opened {
+        heap,
+        mut collector,
+        first,
+        second,
+    } = open_two(alloc, CELLS)?;
+    begin_duty(&heap, GREATEST_CYCLES, &mut collector);
+    let keeper = Keeper {
+        seat: collector,
+        stack,
+        pass: collector_pass,
+    };
+    let work = Blocking {
+        first: Worker { seat: first, pass },
+        second: Worker {
+            seat: second,
+            pass: second_pass,
+        },
+        number: NUMBER,
+    };
+    let (report, collector, _standby) = run_beside(
+        alloc,
+        rt,
+        &heap,
+        &queue,
+        keeper,
+        GREATEST_CYCLES,
+        work,
+    );
+    let Report {
+        first,
+        second,
+        found,
+        left,
+        made,
+    } = report;
+    let (image, passes) = close_two(heap, collector, first, second, left);
+    Ok(Ran {
+        image,
+        passes,
+        found,
+        left,
+        made,
+    })
+}
