@@ -39,7 +39,7 @@ fn each_item_of_two_senders_beside_the_collector_is_its_line(rt: HostRuntime) ->
         script(rt.alloc(), 500, 1000, true)?,
         script(rt.alloc(), 500, 2000, true)?,
     ];
-    let run = mail_run(rt.alloc(), &rt, &scripts, 64, 4_000_000_000)?;
+    let run = mail_run(rt.alloc(), &rt, &scripts, 64, 40)?;
     assert!(rt; are_sent(&scripts[0], &scripts[1], &run));
     Ok(())
 }
