@@ -125,7 +125,8 @@ def wrong_in(texts, data, cells, cycles, seen):
         return str(why)
     full = sum(own.count(None) for own in answers)
     for what, many in (("lines", sum(map(len, scripts))), ("items", len(received)), ("full", full),
-                       ("with a full heap", full > 0), ("without a cycle", cycles == 0)):
+                       ("with a full heap", full > 0), ("without a cycle", cycles == 0),
+                       ("with more items than cells", len(received) > cells)):
         seen[what] = seen.get(what, 0) + many
     return (wrong_in_order(scripts, answers, received)
             or wrong_in_cells(answers, len(received), cells, cycles))

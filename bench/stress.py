@@ -440,7 +440,7 @@ def damages_of(is_every, program, r, seen):
 
 @functools.cache
 def library():
-    """Builds what holds up the thread that dumps, and gives its path."""
+    """Builds what holds up the thread that dumps or receives, and gives its path."""
     here, folder = os.path.dirname(os.path.abspath(__file__)), tempfile.mkdtemp()
     atexit.register(shutil.rmtree, folder)
     source = os.path.join(here, "timing", "delay_threads.c")
@@ -470,11 +470,14 @@ def dump_of(program, r, seen):
 
 
 def mail_of(kind, program, r, seen):
-    """Values that senders put into one mailbox, beside a receiver."""
+    """Values that senders put into one mailbox, beside a receiver. It has but so many turns, and
+    takes them at once; so it is held up in some runs, until there is something to be taken."""
     scripts, cells = kind(r)
     cycles = r.choice((mailboxes.WHOLE, mailboxes.WHOLE, mailboxes.WHOLE, 0, 1, 3))
+    delay = str(r.choice((0, 1_000, 30_000, 30_000)))
+    held_up = {"LD_PRELOAD": library(), "DELAY_BEHIND": "2", "DELAY_FOR": delay}
     ran = program.run("mail", "--cells", str(cells), "--cycles", str(cycles),
-                      *program.files(scripts))
+                      *program.files(scripts), **held_up)
     if ran.returncode:
         return program.wrong_status()
     return mailboxes.wrong_in(scripts, ran.stdout, cells, cycles, seen)
@@ -483,7 +486,7 @@ def mail_of(kind, program, r, seen):
 # Kinds of mailboxes: the scripts of their senders, and the cells.
 MAILBOXES = {
     "a mailbox": lambda r: (
-        mailboxes.scripts_of(r, r.choice((1, 1, 2, r.randint(3, 63))), r.choice((5, 60, 400))),
+        mailboxes.scripts_of(r, r.choice((1, 1, 2, r.randint(3, 63))), r.choice((5, 20, 60))),
         r.choice((64, 64, 65, 100, 300, 2048, 65_536))),
     "63 senders on 64 cells": lambda r: (mailboxes.scripts_of(r, 63, 12), 64),
 }
@@ -536,7 +539,7 @@ def main():
         if word and not program.has(word):
             print(f"{name}: not run, as this program has no word '{word}'")
             continue
-        if names[name] is dump_of:
+        if word in ("dump", "mail"):
             library() # once, before any thread asks for it
         with concurrent.futures.ThreadPoolExecutor(args.jobs) as pool:
             seeds = range(args.seed, args.seed + args.runs)
