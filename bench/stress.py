@@ -19,8 +19,9 @@ In every fourth run `image` stands in the place of `run`, and the image has to b
 its versions, its trees and the counts of `census` (heaps.py); some of these have one client, and
 then the trees of all versions and the cells in use are known. Of images with a fault `census` has
 to name line and kind. A dump beside 16 clients has to be of a version that some history of their
-scripts has (dumps.py), and loading it has to say so. A program that has no word for a census or a
-dump yet is not asked for one.
+scripts has (dumps.py), and loading it has to say so. Of a mailbox each sender's values have to come
+in its order, each once, and be refused only where as many cells were claimed (mailboxes.py). A
+program that has no word for a census, a dump or a mailbox yet is not asked for one.
 
 It prints a line for each kind of run, and where one is wrong the folder that has its files. A run
 that has not ended within the limit is counted apart, as late, with its seed: each handshake waits
@@ -30,7 +31,7 @@ cycles takes minutes by `nice -n 10`, and under a second else.
 import argparse, atexit, concurrent.futures, functools, os, random, shutil, subprocess, sys
 import tempfile
 
-import dumps, heaps
+import dumps, heaps, mailboxes
 from documents import Store, is_second, plain, quoted, read
 
 
@@ -439,7 +440,7 @@ def damages_of(is_every, program, r, seen):
 
 @functools.cache
 def library():
-    """Builds what holds up the thread that dumps, and gives its path."""
+    """Builds what holds up the thread that dumps or receives, and gives its path."""
     here, folder = os.path.dirname(os.path.abspath(__file__)), tempfile.mkdtemp()
     atexit.register(shutil.rmtree, folder)
     source = os.path.join(here, "timing", "delay_threads.c")
@@ -468,15 +469,38 @@ def dump_of(program, r, seen):
     return None if found == wanted else f"loaded: {found!r} and not {wanted!r}"
 
 
+def mail_of(kind, program, r, seen):
+    """Values that senders put into one mailbox, beside a receiver. It has but so many turns, and
+    takes them at once; so it is held up in some runs, until there is something to be taken."""
+    scripts, cells = kind(r)
+    cycles = r.choice((mailboxes.WHOLE, mailboxes.WHOLE, mailboxes.WHOLE, 0, 1, 3))
+    delay = str(r.choice((0, 1_000, 30_000, 30_000)))
+    held_up = {"LD_PRELOAD": library(), "DELAY_BEHIND": "2", "DELAY_FOR": delay}
+    ran = program.run("mail", "--cells", str(cells), "--cycles", str(cycles),
+                      *program.files(scripts), **held_up)
+    if ran.returncode:
+        return program.wrong_status()
+    return mailboxes.wrong_in(scripts, ran.stdout, cells, cycles, seen)
+
+
+# Kinds of mailboxes: the scripts of their senders, and the cells.
+MAILBOXES = {
+    "a mailbox": lambda r: (
+        mailboxes.scripts_of(r, r.choice((1, 1, 2, r.randint(3, 63))), r.choice((5, 20, 60))),
+        r.choice((64, 64, 65, 100, 300, 2048, 65_536))),
+    "63 senders on 64 cells": lambda r: (mailboxes.scripts_of(r, 63, 12), 64),
+}
+
 # The kinds of runs that are made, and those that have to be named.
 WAYS = {name: functools.partial(run_of, kind) for name, kind in KINDS.items()}
 WAYS["small images with a fault"] = functools.partial(damages_of, False)
 WAYS["a dump beside 16 clients"] = dump_of
+WAYS.update((name, functools.partial(mail_of, kind)) for name, kind in MAILBOXES.items())
 NAMED = {name: functools.partial(run_of, kind) for name, kind in LONG.items()}
 NAMED["every damage of a small image"] = functools.partial(damages_of, True)
 # What a kind cannot do without, where a program may lack it.
 WANTED = {"small images with a fault": "census", "every damage of a small image": "census",
-          "a dump beside 16 clients": "dump"}
+          "a dump beside 16 clients": "dump", **dict.fromkeys(MAILBOXES, "mail")}
 
 
 def one(docheap, name, seed, limit):
@@ -515,7 +539,7 @@ def main():
         if word and not program.has(word):
             print(f"{name}: not run, as this program has no word '{word}'")
             continue
-        if names[name] is dump_of:
+        if word in ("dump", "mail"):
             library() # once, before any thread asks for it
         with concurrent.futures.ThreadPoolExecutor(args.jobs) as pool:
             seeds = range(args.seed, args.seed + args.runs)

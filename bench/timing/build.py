@@ -1,6 +1,6 @@
 #!/usr/bin/env python3
-"""Builds heap_timing, gate_wait, docheap or another program of the repository, for measuring, and
-plain_heap and the programs in Go and Java beside heap_timing.
+"""Builds heap_timing, gate_wait, mail_timing, docheap or another program of the repository, for
+measuring, and plain_heap and the programs in Go and Java beside heap_timing.
 
 build.py [--into FOLDER] [--program docheap_cli] [--hints N] [--count] [--repository FOLDER]
 
@@ -20,6 +20,7 @@ MEASURING = {
     "heap_timing": "mutator_seat collector cell_heap free_cells mutator_events heap_table "
                    "heap_rule trails dlg_core core_machine cell_words atomic_table crossbeam_queue",
     "gate_wait": "store_run cmd_text doc_model outside",
+    "mail_timing": "mail_run",
 }
 # Their further modules.
 PARTS = {"heap_timing": ["field_writes"]}
