@@ -4,7 +4,7 @@ ghost use Rattle.client_heap.specs.Shows.{state_of};
 ghost use Rattle.client_run.specs.Own.{MayAnswer};
 ghost use Rattle.client_run.specs.Places.{CollectsNone, HoldsNoMore};
 ghost use Rattle.client_session.specs.Turns.{Enters, IsPlain};
-ghost use Rattle.client_turns.specs.Demands.{is_keeping, is_reading};
+ghost use Rattle.client_turns.specs.Demands.{may_hold_more, is_reading};
 ghost use Rattle.client_turns.specs.Turns.{Lost};
 ghost use Rattle.version_store.specs.Lasts.{IsSameMutator};
 
@@ -38,7 +38,8 @@ pub(crate) fn answer_over<M: StoreSeat<Q>, Q, R: Wait>(
     ensures enters { IfOk result (λ reply. Enters journal.old journal.new command.now reply
         (state_of (M.bound m.old) nursery.old.heap draft.old base.old)
         (state_of (M.bound m.new) nursery.new.heap draft.new base.new)) }
-    ensures held { is_keeping command.now ≡ false → HoldsNoMore (M.bound m.old) (M.bound m.new) }
+    ensures held { may_hold_more command.now ≡ false
+        → HoldsNoMore (M.bound m.old) (M.bound m.new) }
     ensures reads { is_reading command.now ≡ true
         → CollectsNone (M.bound m.old) (M.bound m.new) nursery.old.heap nursery.new.heap }
     ensures plain { is_reading command.now ≡ true → IfOk result IsPlain }

@@ -5,7 +5,7 @@ ghost use Rattle.client_heap.specs.Shows.{state_of};
 ghost use Rattle.client_run.specs.Own.{MayAnswer};
 ghost use Rattle.client_run.specs.Places.{CollectsNone, HoldsNoMore};
 ghost use Rattle.client_session.specs.Turns.{Enters, IsPlain};
-ghost use Rattle.client_turns.specs.Demands.{is_keeping, is_reading};
+ghost use Rattle.client_turns.specs.Demands.{may_hold_more, is_reading};
 ghost use Rattle.client_turns.specs.Turns.{Lost};
 ghost use Rattle.free_cells.specs.Hints.{queue_of};
 ghost use Rattle.mutator_seat.specs.Bound.{Bound};
@@ -118,7 +118,7 @@ impl Session {
         ensures enters { IfOk result (λ reply. Enters self.old.journal self.new.journal command.now
             reply (state_of m.old self.old.nursery.heap self.old.draft self.old.base)
             (state_of m.new self.new.nursery.heap self.new.draft self.new.base)) }
-        ensures held { is_keeping command.now ≡ false → HoldsNoMore m.old m.new }
+        ensures held { may_hold_more command.now ≡ false → HoldsNoMore m.old m.new }
         ensures reads { is_reading command.now ≡ true
             → CollectsNone m.old m.new self.old.nursery.heap self.new.nursery.heap }
         ensures plain { is_reading command.now ≡ true → IfOk result IsPlain }

@@ -3,7 +3,7 @@ ghost use Rattle.std.specs.Prelude.{◌≡◌, ◌≤◌, ◌<◌, ◌+◌, IfOk
 ghost use Rattle.std.specs.Prelude.{[], ◌∷◌, ◌++◌, false, true};
 ghost use Rattle.client_session.specs.Turns.{Answered, Ends, EndsPlain, Enters, InStep, IsPlain};
 ghost use Rattle.client_session.specs.Turns.{MayTurn};
-ghost use Rattle.client_turns.specs.Demands.{is_keeping, is_reading};
+ghost use Rattle.client_turns.specs.Demands.{may_hold_more, is_reading};
 ghost use Rattle.client_turns.specs.State.{IsReady, IsSettled, OnlyReads, Rests, StaysSmall};
 ghost use Rattle.client_turns.specs.Turns.{Lost};
 
@@ -137,7 +137,7 @@ impl Journal {
         ensures entries { OnErr result (self.new.log.entries ≡ self.old.log.entries) }
         ensures lost { OnErr result (Lost (H.state heap.old) (H.state heap.new)) }
         ensures settled { IsSettled (H.state heap.old) → IsSettled (H.state heap.new) }
-        ensures small { is_keeping command.now ≡ false
+        ensures small { may_hold_more command.now ≡ false
             → StaysSmall (H.state heap.old) (H.state heap.new) }
         ensures reads { is_reading command.now ≡ true
             → OnlyReads (H.state heap.old) (H.state heap.new) }

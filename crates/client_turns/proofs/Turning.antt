@@ -21,7 +21,7 @@ use Rattle.trails.specs.Stretches.{Had}
 use Rattle.version_rule.specs.Fits.{Fits}
 use Rattle.version_rule.specs.Pass.{Pass, commit_numbers}
 use Rattle.version_rule.specs.Pass as pass
-use Rattle.client_turns.specs.Demands.{Demand, is_drafting, is_keeping, reply_asks, version_asks}
+use Rattle.client_turns.specs.Demands.{Demand, is_drafting, may_hold_more, reply_asks, version_asks}
 use Rattle.client_turns.specs.Progress.{Drafts, HasRead, IsAccount, Made, MakesNone}
 use Rattle.client_turns.specs.Progress.{runs_out}
 use Rattle.client_turns.specs.State.{ClientState, IsReady, Lasts, StaysSmall}
@@ -101,7 +101,7 @@ module _ (l : Limits) (client : ℕ) (m : Account) (c : Command) where
   -- no version was made
   unmade_turned : {s t : ClientState} (r : Reply) (place : ℕ) → is_ok r ≡ false → Lasts s t
       → commit_numbers t.pass ≡ commit_numbers s.pass → IsReady t
-      → (is_keeping c ≡ false → StaysSmall s t)
+      → (may_hold_more c ≡ false → StaysSmall s t)
       → Answers l t.pass client m c r place (tree_of t.draft)
       → Had (Demand s.cells (entry_for client m c r place)) s.marks t.marks
       → Turned l client m c s t r place
@@ -142,7 +142,7 @@ module _ (l : Limits) (client : ℕ) (m : Account) (c : Command) where
       (shown_met s.cells (entry_for client m c r v) read.cell spare (asked r v plain read))
 
   -- A version was read, and a node of it is the draft now.
-  pub taken_turned : {s t u : ClientState} (v : ℕ) (tree : DocTree) → is_keeping c ≡ true
+  pub taken_turned : {s t u : ClientState} (v : ℕ) (tree : DocTree) → may_hold_more c ≡ true
       → IsAccount m s → HasRead v [] s t → Drafts tree t u → IsReady u
       → ((trees : List DocTree) → Fits trees u.pass → answer l trees v m c ≡ draft_made v tree)
       → Turned l client m c s u (reply.Drafted v) v
@@ -175,7 +175,7 @@ module _ (l : Limits) (client : ℕ) (m : Account) (c : Command) where
 
   -- And one that changes it.
   pub drafted_turned : {s t : ClientState} (tree : DocTree) → is_drafting c ≡ true
-      → is_keeping c ≡ true → IsAccount m s → Drafts tree s t → IsReady t
+      → may_hold_more c ≡ true → IsAccount m s → Drafts tree s t → IsReady t
       → ((trees : List DocTree) → Fits trees t.pass
       → answer l trees m.last m c ≡ draft_made m.last tree)
       → Turned l client m c s t (reply.Drafted m.last) m.last

@@ -51,19 +51,19 @@ is_drafting (command.Publish path) = false
 is_drafting (command.Batch edits) = false
 
 -- the command may leave a draft that holds more places than before it
-abbrev pub is_keeping : Command → Bool
-is_keeping (command.Put path text) = false
-is_keeping (command.Del path) = false
-is_keeping (command.Copy «from» to) = false
-is_keeping (command.Get path) = false
-is_keeping (command.List path) = false
-is_keeping (command.Size path) = false
-is_keeping (command.Old back path) = false
-is_keeping (command.DraftPut path text) = true
-is_keeping (command.DraftGet path) = false
-is_keeping (command.Take path) = true
-is_keeping (command.Publish path) = false
-is_keeping (command.Batch edits) = false
+abbrev pub may_hold_more : Command → Bool
+may_hold_more (command.Put path text) = false
+may_hold_more (command.Del path) = false
+may_hold_more (command.Copy «from» to) = false
+may_hold_more (command.Get path) = false
+may_hold_more (command.List path) = false
+may_hold_more (command.Size path) = false
+may_hold_more (command.Old back path) = false
+may_hold_more (command.DraftPut path text) = true
+may_hold_more (command.DraftGet path) = false
+may_hold_more (command.Take path) = true
+may_hold_more (command.Publish path) = false
+may_hold_more (command.Batch edits) = false
 
 -- the command reads, and needs no cells
 abbrev pub is_reading : Command → Bool

@@ -19,7 +19,7 @@ use Rattle.std.specs.Prelude.{All}
 use Rattle.trails.specs.Stretches.{Had, InTurn}
 use Rattle.version_rule.specs.Fits.{Fits}
 use Rattle.version_rule.specs.Pass.{Pass, commit_numbers}
-use Rattle.client_turns.specs.Demands.{Demand, is_keeping}
+use Rattle.client_turns.specs.Demands.{Demand, may_hold_more}
 use Rattle.client_turns.specs.Progress.{HasRead, IsAccount, runs_out}
 use Rattle.client_turns.specs.State.{ClientState, IsReady, Lasts, StaysSmall}
 
@@ -68,7 +68,7 @@ pub record Turned (l : Limits) (client : ℕ) (m : Account) (c : Command) (s t :
   pub meets : Had (Demand s.cells (entry_for client m c reply place)) s.marks t.marks
   pub rose : is_ok reply ≡ true → s.claims < t.claims
   pub trimmed : is_ok reply ≡ true → l.keep ≤ place → place + 1 ≤ t.pass.cut + l.keep
-  pub small : is_keeping c ≡ false → StaysSmall s t
+  pub small : may_hold_more c ≡ false → StaysSmall s t
 
 -- It was not, and all is as before but for what the client saw.
 pub record Lost (s t : ClientState) : Type 0 where

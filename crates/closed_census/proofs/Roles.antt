@@ -112,7 +112,7 @@ module _ (s : State) (keep : ℕ) (trees : List DocTree) (bare : IsBare s)
   pub sound : IsSafe s → IsSound (heap_of s)
   sound safe = record {
     used = λ r c has. false_from_ne_true (is_blue (colour_of s c))
-        (λ blue. safe.in_use c (reached s r c has) (not_blue (colour_of s c) blue));
+        (λ blue. safe.reached c (reached s r c has) (not_blue (colour_of s c) blue));
     shaped = λ r c i has lt. shape_of r c has i lt;
     one_role = λ r q c has also.
         one_layout r q (field_of s c) (shape_of r c has) (shape_of q c also);

@@ -6,10 +6,10 @@ pub mod Computes
 pub mod CutOff
 pub mod Doubtful
 pub mod Each
+pub mod Events
 pub mod Finishing
 pub mod HeldLists
 pub mod Joins
-pub mod Keeps
 pub mod Longer
 pub mod Safety
 pub mod Searching

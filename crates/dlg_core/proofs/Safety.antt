@@ -30,7 +30,7 @@ reachable_live s k c r =
 
 pub consistent_safe : (s : State) → IsConsistent s → IsSafe s
 consistent_safe s k = record {
-  in_use = (λ c r. live_not_blue (colour_of s c) (unswept s.control s.collector.sweep c)
+  reached = (λ c r. live_not_blue (colour_of s c) (unswept s.control s.collector.sweep c)
       (reachable_live s k c r));
   wiped = (λ c f blue. k.cells.blue_null c f blue);
 }

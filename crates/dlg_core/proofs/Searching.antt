@@ -23,7 +23,7 @@ use Rattle.dlg_core.specs.Search.{FoundNamed, FoundHeld, IsSearch, HeldSoFar, Na
 use Rattle.dlg_core.specs.Search.{RootsSoFar}
 use Rattle.dlg_core.proofs.Each.{set_each}
 use Rattle.dlg_core.proofs.Computes.{into}
-use Rattle.dlg_core.proofs.Keeps.Blacken.{payload_names}
+use Rattle.dlg_core.proofs.Events.Blacken.{payload_names}
 use Rattle.dlg_core.proofs.Truths.{or_here, or_later}
 use Rattle.core_machine.proofs.OneOperation.{inside_there}
 

@@ -1,4 +1,4 @@
--- Every event keeps the invariant: a line a kind, each with its argument in Keeps.
+-- Every event keeps the invariant: a line a kind, each with its argument in Events.
 use Rattle.std.proofs.Common.{◌≡◌, true}
 use Rattle.core_machine.specs.declared.events.Event.{Event}
 use Rattle.core_machine.specs.declared.events.Event.TheVariants as event
@@ -6,20 +6,20 @@ use Rattle.core_machine.specs.State.{State}
 use Rattle.core_machine.specs.InRange.{IsShaped}
 use Rattle.core_machine.specs.Next.{can, after}
 use Rattle.dlg_core.specs.Consistent.{IsConsistent}
-use Rattle.dlg_core.proofs.Keeps.Answer.{answer_keeps}
-use Rattle.dlg_core.proofs.Keeps.Blacken.{blacken_keeps}
-use Rattle.dlg_core.proofs.Keeps.Claim.{claim_keeps}
-use Rattle.dlg_core.proofs.Keeps.Clear.{clear_keeps, anchor_keeps}
-use Rattle.dlg_core.proofs.Keeps.Holding.{look_keeps, read_keeps, fetch_keeps, keep_keeps}
-use Rattle.dlg_core.proofs.Keeps.Mark.{mark_keeps}
-use Rattle.dlg_core.proofs.Keeps.Post.{post_keeps}
-use Rattle.dlg_core.proofs.Keeps.Presence.{begin_keeps, end_keeps, over_keeps}
-use Rattle.dlg_core.proofs.Keeps.Seal.{seal_keeps}
-use Rattle.dlg_core.proofs.Keeps.Sweep.{sweep_look_keeps, wipe_keeps, free_keeps, whiten_keeps}
-use Rattle.dlg_core.proofs.Keeps.Sweep.{advance_keeps}
-use Rattle.dlg_core.proofs.Keeps.Trace.{see_keeps, scan_keeps, shade_keeps}
-use Rattle.dlg_core.proofs.Keeps.Waiting.{duty_keeps, poll_keeps, answer_out_keeps}
-use Rattle.dlg_core.proofs.Keeps.Write.{write_keeps, store_keeps, fill_keeps}
+use Rattle.dlg_core.proofs.Events.Answer.{answer_keeps}
+use Rattle.dlg_core.proofs.Events.Blacken.{blacken_keeps}
+use Rattle.dlg_core.proofs.Events.Claim.{claim_keeps}
+use Rattle.dlg_core.proofs.Events.Clear.{clear_keeps, anchor_keeps}
+use Rattle.dlg_core.proofs.Events.Holding.{look_keeps, read_keeps, fetch_keeps, keep_keeps}
+use Rattle.dlg_core.proofs.Events.Mark.{mark_keeps}
+use Rattle.dlg_core.proofs.Events.Post.{post_keeps}
+use Rattle.dlg_core.proofs.Events.Presence.{begin_keeps, end_keeps, over_keeps}
+use Rattle.dlg_core.proofs.Events.Seal.{seal_keeps}
+use Rattle.dlg_core.proofs.Events.Sweep.{sweep_look_keeps, wipe_keeps, free_keeps, whiten_keeps}
+use Rattle.dlg_core.proofs.Events.Sweep.{advance_keeps}
+use Rattle.dlg_core.proofs.Events.Trace.{see_keeps, scan_keeps, shade_keeps}
+use Rattle.dlg_core.proofs.Events.Waiting.{duty_keeps, poll_keeps, answer_out_keeps}
+use Rattle.dlg_core.proofs.Events.Write.{write_keeps, store_keeps, fill_keeps}
 
 pub consistent_after : (s : State) (e : Event) → IsShaped s → IsConsistent s → can s e ≡ true
     → IsConsistent (after s e)

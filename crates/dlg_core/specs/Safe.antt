@@ -9,9 +9,9 @@ use Rattle.core_machine.specs.State.{State, colour_of, field_of}
 use Rattle.dlg_core.specs.Reachable.{Reachable}
 use Rattle.dlg_core.specs.Runs.{LeadsTo}
 
--- no cell in use is free, and a free cell has nothing in it
+-- no reachable cell is free, and a free cell has nothing in it
 pub record IsSafe (s : State) : Type 0 where
-  pub in_use : (c : ℕ) → Reachable s c → colour_of s c ≢ Blue
+  pub reached : (c : ℕ) → Reachable s c → colour_of s c ≢ Blue
   pub wiped : (c f : ℕ) → colour_of s c ≡ Blue → field_of s c f ≡ Null
 
 -- every state that the events pass on their way is safe, as far as they can happen

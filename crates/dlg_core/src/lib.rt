@@ -10,7 +10,7 @@
 //! How the words of a heap are shared among threads is left to the layers above.
 //!
 //! Reading order: specs/Reachable, specs/Safe, specs/Collects, specs/Consistent; `machine`,
-//! `plain`, `cycle`, `reachability`; proofs/Safety, proofs/Step, and then proofs/Keeps, an event a
+//! `plain`, `cycle`, `reachability`; proofs/Safety, proofs/Step, and then proofs/Events, an event a
 //! file, proofs/Collects, from Followed on, and proofs/Finishing.
 #![tactic(auto)]
 

@@ -20,7 +20,7 @@ use Rattle.script_files.specs.Scripts.{AreScripts, StopsBehind}
 use Rattle.script_files.specs.declared.fault.Fault.{Fault}
 use Rattle.script_files.specs.declared.fault.Fault.TheVariants.{Memory, Usage}
 use Rattle.store_run.specs.declared.finished.Finished.{Finished}
-use Rattle.doc_run.specs.Clients.{ComesBy, options_of}
+use Rattle.doc_run.specs.Clients.{IsRunGiven, options_of}
 use Rattle.doc_run.specs.Ending.{Explains}
 use Rattle.doc_run.specs.Asked.{IsFaultOf, WritesPartOf}
 use Rattle.doc_run.specs.Ending.{OpensFiles}
@@ -233,7 +233,7 @@ due_asked asked report run holds fault finished status is same explained =
     subst (λ a. IfRun a (λ told these. IsDueFor (map holds these.files) status)) (sym is)
     (of_run report run (λ told these. IsDueFor (map holds these.files) status)
     (run_due OfScripts (λ contents. scripts_of contents) (map holds run.files)
-    (λ f. ComesBy (AreScripts (map holds run.files)) (options_of run) f) fault finished status
+    (λ f. IsRunGiven (AreScripts (map holds run.files)) (options_of run) f) fault finished status
     (λ f comes. (comes.0, comes.1)) same explained))
 
 -- which files it opened at most

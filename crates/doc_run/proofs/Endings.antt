@@ -11,7 +11,7 @@ use Rattle.script_files.specs.Sorts.{OfWords, OfLine, OfReading, OfWriting, OfMe
 use Rattle.script_files.specs.declared.fault.Fault.{Fault}
 use Rattle.script_files.specs.declared.fault.Fault.TheVariants.{TooLarge}
 use Rattle.doc_run.specs.Faults.{BySort}
-use Rattle.doc_run.specs.Guested.{AreFewScripts, DumpsBy, ExplainsDump, WritesDump}
+use Rattle.doc_run.specs.Guested.{AreFewScripts, IsDumpRunGiven, ExplainsDump, WritesDump}
 use Rattle.doc_run.proofs.Few.{many_scripts}
 
 refused_sort : (told : List (Option (List ℕ))) (fault : Fault) (sort : Sort)
@@ -71,7 +71,7 @@ many_written told found dumped old one =
 
 -- the tree of the version has too many nodes
 pub large_explained : (told : List (Option (List ℕ))) (d : Dumped) (found : Option Fault)
-    (dumped : Option Dumped) → DumpsBy told d → d.bytes ≡ None
+    (dumped : Option Dumped) → IsDumpRunGiven told d → d.bytes ≡ None
     → found ≡ Some (TooLarge 0) → dumped ≡ Some d → ExplainsDump told found dumped
 large_explained told d found dumped by none one some =
     subst (λ (f : Option Fault). ExplainsDump told f dumped) (sym one)

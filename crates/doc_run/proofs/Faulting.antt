@@ -17,7 +17,7 @@ use Rattle.doc_run.specs.Asked.{IsFaultOf}
 use Rattle.doc_run.specs.Clients.{options_of}
 use Rattle.doc_run.specs.Ending.{Explains, ExplainsMade, IsMadeRun}
 use Rattle.doc_run.specs.Faults.{ByContents, BySort, ByScripts}
-use Rattle.doc_run.specs.Guested.{AreFewScripts, DumpsBy, ExplainsDump, IsTooLarge}
+use Rattle.doc_run.specs.Guested.{AreFewScripts, IsDumpRunGiven, ExplainsDump, IsTooLarge}
 use Rattle.mail_run.specs.declared.finished.MailRun.{MailRun}
 use Rattle.doc_run.specs.Mailed.{ExplainsMail}
 use Rattle.doc_run.specs.Reading.{ByReading, Decides, ExplainsFile, Reading, Schedules, Dumps}
@@ -65,7 +65,7 @@ beside_fault : (told : List (Option (List ℕ))) (dumped : Option Dumped) (fault
     (sort : Sort) (Failed Wanting : Type 0) → sort_of fault ≡ sort
     → BySort sort
     ((Refused OfScripts sort (AreFewScripts told (Err fault)) (Unit {0}) × IsNone dumped)
-    ⊎ ((fault ≡ TooLarge 0) × IsSomeAnd dumped (λ d. DumpsBy told d × IsNone d.bytes)))
+    ⊎ ((fault ≡ TooLarge 0) × IsSomeAnd dumped (λ d. IsDumpRunGiven told d × IsNone d.bytes)))
     Failed Wanting
     → ByContents sort (λ g. (g ≡ OfScripts) × AreFewScripts told (Err fault))
     (AreFewScripts told (Err fault) ⊎ ((fault ≡ TooLarge 0) × IsTooLarge dumped))
@@ -82,7 +82,7 @@ beside_fault told dumped fault OfWriting Failed Wanting same is = tt
 beside_fault told dumped fault OfMemory Failed Wanting same is = tt
 beside_fault told dumped fault OfSize Failed Wanting same is = elim is [
   | inl refused ↦ inl refused.0
-  | inr large ↦ inr (large.0, too_large (DumpsBy told) dumped large.1)
+  | inr large ↦ inr (large.0, too_large (IsDumpRunGiven told) dumped large.1)
 ]
 
 -- by the request

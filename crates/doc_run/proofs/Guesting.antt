@@ -17,7 +17,8 @@ use Rattle.script_files.specs.Sorts.{OfWords, OfLine, OfReading, OfWriting, OfMe
 use Rattle.script_files.specs.declared.fault.Fault.{Fault}
 use Rattle.script_files.specs.declared.fault.Fault.TheVariants.{TooLarge}
 use Rattle.doc_run.specs.Faults.{BySort}
-use Rattle.doc_run.specs.Guested.{AreFewScripts, DecidesDump, DumpsBy, ExplainsDump, FinishesDump}
+use Rattle.doc_run.specs.Guested.{AreFewScripts, DecidesDump, ExplainsDump, FinishesDump}
+use Rattle.doc_run.specs.Guested.{IsDumpRunGiven}
 use Rattle.doc_run.specs.Guested.{IsDumpDue, IsDumpDueFor, IsDumpText, IsTooLarge, WritesDump}
 use Rattle.doc_run.specs.Guested.{WritesDumpPart}
 use Rattle.doc_run.specs.Request.{IfDump}
@@ -130,7 +131,7 @@ beside_wanting told dumped status is scripts decided = wanting_due scripts dumpe
 
 -- the run came to an end
 ended : (told : List (Option (List ℕ))) (dumped : Option Dumped) (status : ℕ)
-    → (status ≡ 0) ⊎ (status ≡ 4) → IsSomeAnd dumped (DumpsBy told) → (IsTooLarge dumped → ⊥)
+    → (status ≡ 0) ⊎ (status ≡ 4) → IsSomeAnd dumped (IsDumpRunGiven told) → (IsTooLarge dumped → ⊥)
     → IsDumpDueFor told dumped status
 ended told None status ends is fits = absurd is
 ended told (Some d) status ends is fits =
@@ -138,7 +139,7 @@ ended told (Some d) status ends is fits =
 
 -- with too large a tree
 many : (told : List (Option (List ℕ))) (dumped : Option Dumped)
-    → IsSomeAnd dumped (λ d. DumpsBy told d × IsNone d.bytes) → IsDumpDueFor told dumped 6
+    → IsSomeAnd dumped (λ d. IsDumpRunGiven told d × IsNone d.bytes) → IsDumpDueFor told dumped 6
 many told None is = absurd is
 many told (Some d) is =
     due_by told (Ok is.0.0) (Some d) 6 is.0.1 (many_due is.0.0 (Some d) is.1)
@@ -147,8 +148,8 @@ due_sort : (told : List (Option (List ℕ))) (fault : Fault) (dumped : Option Du
     (old new : Option (List ℕ)) → sort_of fault ≡ sort
     → BySort sort
     ((Refused OfScripts sort (AreFewScripts told (Err fault)) (Unit {0}) × IsNone dumped)
-    ⊎ ((fault ≡ TooLarge 0) × IsSomeAnd dumped (λ d. DumpsBy told d × IsNone d.bytes)))
-    (IsSomeAnd dumped (DumpsBy told)) (IsNone dumped)
+    ⊎ ((fault ≡ TooLarge 0) × IsSomeAnd dumped (λ d. IsDumpRunGiven told d × IsNone d.bytes)))
+    (IsSomeAnd dumped (IsDumpRunGiven told)) (IsNone dumped)
     → BySort sort (new ≡ old) (IsSomeAnd dumped (λ d. WritesFront (IsDumpText d) old new))
     (WritesDumpPart told old new)
     → IsDumpDueFor told dumped (status_by sort)
@@ -208,14 +209,14 @@ decided told scripts (Err fault) given wants =
     subst (λ (x : Fault). DecidesDump told (Err x)) (sym wants) tt
 
 offered : (told : List (Option (List ℕ))) (d : Dumped) (wrote : Result (Unit {0}) OutFault)
-    → DumpsBy told d → ExplainsDump told (fault_by wrote) (kept_dump wrote d)
+    → IsDumpRunGiven told d → ExplainsDump told (fault_by wrote) (kept_dump wrote d)
 offered told d (Ok taken) comes = comes
 offered told d (Err Failed) comes = comes
 offered told d (Err NoMemory) comes = refl
 
 pub by_offered : (told : List (Option (List ℕ))) (d : Dumped) (wrote : Result (Unit {0}) OutFault)
     (fault : Option Fault) (dumped : Option Dumped) → fault ≡ fault_by wrote
-    → dumped ≡ kept_dump wrote d → DumpsBy told d → ExplainsDump told fault dumped
+    → dumped ≡ kept_dump wrote d → IsDumpRunGiven told d → ExplainsDump told fault dumped
 by_offered told d wrote fault dumped is kept comes =
     subst (λ e. ExplainsDump told e dumped) (sym is)
     (subst (λ o. ExplainsDump told (fault_by wrote) o) (sym kept) (offered told d wrote comes))
@@ -226,7 +227,7 @@ some_bytes found bytes is =
     subst (λ (o : Option (Vec ℕ Global)). IsSomeAnd o (λ b. bytes.items ≡ b.items)) (sym is) refl
 
 written : (told : List (Option (List ℕ))) (d : Dumped) (text : List ℕ) (old new : Option (List ℕ))
-    (wrote : Result (Unit {0}) OutFault) → DumpsBy told d → IsDumpText d text
+    (wrote : Result (Unit {0}) OutFault) → IsDumpRunGiven told d → IsDumpText d text
     → OnOk wrote (Appends old new text) → OnErr wrote (AppendsPart old new text)
     → WritesDump told old new (fault_by wrote) (kept_dump wrote d)
 written told d text old new (Ok taken) comes is all part = (text, is, all)
@@ -237,7 +238,7 @@ written told d text old new (Err NoMemory) comes is all part =
 pub by_dumped : (told : List (Option (List ℕ))) (d : Dumped) (bytes : Vec ℕ Global)
     (lent : List ℕ) (old new : Option (List ℕ)) (wrote : Result (Unit {0}) OutFault)
     (fault : Option Fault) (dumped : Option Dumped) → fault ≡ fault_by wrote
-    → dumped ≡ kept_dump wrote d → DumpsBy told d → d.bytes ≡ Some bytes → lent ≡ bytes.items
+    → dumped ≡ kept_dump wrote d → IsDumpRunGiven told d → d.bytes ≡ Some bytes → lent ≡ bytes.items
     → OnOk wrote (Appends old new lent) → OnErr wrote (AppendsPart old new lent)
     → WritesDump told old new fault dumped
 by_dumped told d bytes lent old new wrote fault dumped is kept comes some same all part =

@@ -10,7 +10,7 @@ use Rattle.script_files.specs.Sorts.{OfWords, OfLine, OfReading, OfWriting, OfMe
 use Rattle.script_files.specs.declared.fault.Fault.{Fault}
 use Rattle.script_files.specs.declared.fault.Fault.TheVariants.{TooLarge}
 use Rattle.doc_run.specs.Faults.{BySort}
-use Rattle.doc_run.specs.Guested.{AreFewScripts, DumpsBy, ExplainsDump, IsTooLarge}
+use Rattle.doc_run.specs.Guested.{AreFewScripts, IsDumpRunGiven, ExplainsDump, IsTooLarge}
 use Rattle.doc_run.specs.Request.{AsksDump, IfDump}
 use Rattle.doc_run.proofs.Guesting.{none_small, too_large}
 
@@ -52,8 +52,8 @@ back_sort : (told : List (Option (List ℕ))) (fault : Fault) (dumped : Option D
     → sort_of fault ≡ sort
     → BySort sort
     ((Refused OfScripts sort (AreFewScripts told (Err fault)) (Unit {0}) × IsNone dumped)
-    ⊎ ((fault ≡ TooLarge 0) × IsSomeAnd dumped (λ d. DumpsBy told d × IsNone d.bytes)))
-    (IsSomeAnd dumped (DumpsBy told)) (IsNone dumped)
+    ⊎ ((fault ≡ TooLarge 0) × IsSomeAnd dumped (λ d. IsDumpRunGiven told d × IsNone d.bytes)))
+    (IsSomeAnd dumped (IsDumpRunGiven told)) (IsNone dumped)
     → IsSome dumped ↔ Ends dumped (status_by sort)
 back_sort told fault dumped OfWords same is = elim is [
   | inl refused ↦ absurd refused.0
@@ -70,22 +70,22 @@ back_sort told fault dumped OfReading same is = elim is [
   | inr large ↦ let size = of_size fault large.0 in absurd (cc)
 ]
 back_sort told fault dumped OfWriting same is =
-    ((λ some. inr (inl refl)), (λ ends. some_of (DumpsBy told) dumped is))
+    ((λ some. inr (inl refl)), (λ ends. some_of (IsDumpRunGiven told) dumped is))
 back_sort told fault dumped OfMemory same is =
     none_back dumped 5 is (λ e. omega (arith, e)) (λ e. omega (arith, e))
 back_sort told fault dumped OfSize same is = elim is [
   | inl refused ↦
       none_back dumped 6 refused.1 (λ e. omega (arith, e)) (λ e. omega (arith, e))
   | inr large ↦ (
-    (λ some. inr (inr (refl, too_large (DumpsBy told) dumped large.1))),
-    (λ ends. some_of (λ d. DumpsBy told d × IsNone d.bytes) dumped large.1),
+    (λ some. inr (inr (refl, too_large (IsDumpRunGiven told) dumped large.1))),
+    (λ ends. some_of (λ d. IsDumpRunGiven told d × IsNone d.bytes) dumped large.1),
   )
 ]
 
 back_of : (told : List (Option (List ℕ))) (fault : Option Fault) (dumped : Option Dumped)
     → ExplainsDump told fault dumped → IsSome dumped ↔ Ends dumped (status_of fault)
 back_of told None dumped is =
-    ((λ some. inl refl), (λ ends. some_of (DumpsBy told) dumped is))
+    ((λ some. inl refl), (λ ends. some_of (IsDumpRunGiven told) dumped is))
 back_of told (Some fault) dumped is = back_sort told fault dumped (sort_of fault) refl is
 
 -- the request is known
@@ -113,22 +113,22 @@ large_sort : (told : List (Option (List ℕ))) (fault : Fault) (dumped : Option 
     → sort_of fault ≡ sort
     → BySort sort
     ((Refused OfScripts sort (AreFewScripts told (Err fault)) (Unit {0}) × IsNone dumped)
-    ⊎ ((fault ≡ TooLarge 0) × IsSomeAnd dumped (λ d. DumpsBy told d × IsNone d.bytes)))
-    (IsSomeAnd dumped (DumpsBy told)) (IsNone dumped)
-    → status_by sort ≡ 6 → IfSome dumped (λ d. DumpsBy told d × IsNone d.bytes)
+    ⊎ ((fault ≡ TooLarge 0) × IsSomeAnd dumped (λ d. IsDumpRunGiven told d × IsNone d.bytes)))
+    (IsSomeAnd dumped (IsDumpRunGiven told)) (IsNone dumped)
+    → status_by sort ≡ 6 → IfSome dumped (λ d. IsDumpRunGiven told d × IsNone d.bytes)
 large_sort told fault dumped OfWords same is six = absurd (omega (arith, six))
 large_sort told fault dumped (OfLine grammar) same is six = absurd (omega (arith, six))
 large_sort told fault dumped OfReading same is six = absurd (omega (arith, six))
 large_sort told fault dumped OfWriting same is six = absurd (omega (arith, six))
 large_sort told fault dumped OfMemory same is six = absurd (omega (arith, six))
 large_sort told fault dumped OfSize same is six = elim is [
-  | inl refused ↦ if_none (λ d. DumpsBy told d × IsNone d.bytes) dumped refused.1
-  | inr large ↦ if_some (λ d. DumpsBy told d × IsNone d.bytes) dumped large.1
+  | inl refused ↦ if_none (λ d. IsDumpRunGiven told d × IsNone d.bytes) dumped refused.1
+  | inr large ↦ if_some (λ d. IsDumpRunGiven told d × IsNone d.bytes) dumped large.1
 ]
 
 large_of : (told : List (Option (List ℕ))) (fault : Option Fault) (dumped : Option Dumped)
     → ExplainsDump told fault dumped → status_of fault ≡ 6
-    → IfSome dumped (λ d. DumpsBy told d × IsNone d.bytes)
+    → IfSome dumped (λ d. IsDumpRunGiven told d × IsNone d.bytes)
 large_of told None dumped is six = absurd (omega (arith, six))
 large_of told (Some fault) dumped is six =
     large_sort told fault dumped (sort_of fault) refl is six
@@ -136,8 +136,10 @@ large_of told (Some fault) dumped is six =
 pub large_back : (asked : Option Asked) (names : List (List ℕ)) (holds : List ℕ → Option (List ℕ))
     (fault : Option Fault) (dumped : Option Dumped) (status : ℕ) → asked ≡ Some (Dump names)
     → status ≡ status_of fault → ExplainsDump (map holds names) fault dumped → status ≡ 6
-    → IfSome dumped (λ d. IfDump asked (λ these. DumpsBy (map holds these) d × IsNone d.bytes))
+    → IfSome dumped (λ d. IfDump asked (λ these.
+        IsDumpRunGiven (map holds these) d × IsNone d.bytes))
 large_back asked names holds fault dumped status is by explained six =
     subst
-    (λ a. IfSome dumped (λ d. IfDump a (λ these. DumpsBy (map holds these) d × IsNone d.bytes)))
+    (λ a. IfSome dumped (λ d. IfDump a (λ these.
+        IsDumpRunGiven (map holds these) d × IsNone d.bytes)))
     (sym is) (large_of (map holds names) fault dumped explained (sym by ∙ six))

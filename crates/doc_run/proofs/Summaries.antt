@@ -19,7 +19,7 @@ use Rattle.script_files.proofs.Counting.{scripts_few, scripts_length, texts_leng
 use Rattle.script_files.specs.Made.{texts_from}
 use Rattle.store_run.specs.Finished.{commands_of}
 use Rattle.store_run.specs.declared.finished.Finished.{Finished}
-use Rattle.doc_run.specs.Clients.{ComesBy, IsMade, default_options}
+use Rattle.doc_run.specs.Clients.{IsRunGiven, IsMade, default_options}
 use Rattle.doc_run.specs.Ending.{IsSummaryOf, numbers_of}
 
 each : (logs : List ClientLog)
@@ -45,7 +45,7 @@ entries_of_logs logs scripts is = subst
 
 -- a merged history is not too long to be looked at
 few_entries : (made : GenWords) (f : Finished) (merged : List Entry)
-    → ComesBy (IsMade made) default_options f → IsMerge f.logs.items merged
+    → IsRunGiven (IsMade made) default_options f → IsMerge f.logs.items merged
     → length merged ≤ 100000
 few_entries made f merged comes is =
     let logs = f.logs.items in
@@ -61,7 +61,7 @@ few_entries made f merged comes is =
     )
 
 -- there is a log for each client
-logs_many : (made : GenWords) (f : Finished) → ComesBy (IsMade made) default_options f
+logs_many : (made : GenWords) (f : Finished) → IsRunGiven (IsMade made) default_options f
     → length f.logs.items ≡ made.clients
 logs_many made f comes =
     let texts = texts_from made.start made.commands 1 made.clients in
@@ -71,7 +71,7 @@ logs_many made f comes =
 
 -- so the summary says that it is one of a store
 is_summary : (made : GenWords) (f : Finished) (merged : List Entry) (legal : Bool)
-    (numbers : Made) (text : List ℕ) → ComesBy (IsMade made) default_options f
+    (numbers : Made) (text : List ℕ) → IsRunGiven (IsMade made) default_options f
     → IsMerge f.logs.items merged
     → (IsTrue legal ↔ IsLegal (opening made.clients (record { keep = 8; versions = 1000000 }))
     merged) → numbers ≡ numbers_of made
@@ -89,7 +89,7 @@ is_summary made f merged legal numbers text comes is looked same said =
 
 -- the same in the terms of the code, which lends the logs and the history
 pub few_looked : (made : GenWords) (f : Finished) (logs : List ClientLog)
-    (merged looked : List Entry) → ComesBy (IsMade made) default_options f
+    (merged looked : List Entry) → IsRunGiven (IsMade made) default_options f
     → logs ≡ f.logs.items → IsMerge logs merged → looked ≡ merged
     → length looked ≤ 100000
 few_looked made f logs merged looked comes lent is same =
@@ -98,7 +98,7 @@ few_looked made f logs merged looked comes lent is same =
 
 pub summary_told : (made : GenWords) (f : Finished) (logs : List ClientLog)
     (merged looked written : List Entry) (legal : Bool) (numbers : Made) (text : List ℕ)
-    → ComesBy (IsMade made) default_options f → logs ≡ f.logs.items → IsMerge logs merged
+    → IsRunGiven (IsMade made) default_options f → logs ≡ f.logs.items → IsMerge logs merged
     → looked ≡ merged
     → (IsTrue legal ↔ IsLegal (opening made.clients (record { keep = 8; versions = 1000000 }))
     looked) → numbers ≡ numbers_of made → written ≡ merged

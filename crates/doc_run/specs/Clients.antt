@@ -40,8 +40,8 @@ default_options = record {
 }
 
 -- this is what a run of these scripts came to
-abbrev pub ComesOf : Options → List (List Command) → Finished → Type 0
-ComesOf options scripts f = Comes options scripts f.logs.items f.image f.passes f.totals
+abbrev pub IsRunOf : Options → List (List Command) → Finished → Type 0
+IsRunOf options scripts f = Comes options scripts f.logs.items f.image f.passes f.totals
 
 -- the scripts that the generator makes by these words, and no fault in their place
 abbrev pub IsMade : GenWords → Result (List (List Command)) Fault → Type 0
@@ -49,35 +49,35 @@ IsMade made (Ok scripts) = AreMade made.start made.clients made.commands scripts
 IsMade made (Err fault) = ⊥
 
 -- this is what a run of the scripts came to that are given
-abbrev pub ComesBy : (Result (List (List Command)) Fault → Type 0) → Options → Finished
+abbrev pub IsRunGiven : (Result (List (List Command)) Fault → Type 0) → Options → Finished
     → Type 0
-ComesBy Given options f =
-    (scripts : List (List Command)) × Given (Ok scripts) × ComesOf options scripts f
+IsRunGiven Given options f =
+    (scripts : List (List Command)) × Given (Ok scripts) × IsRunOf options scripts f
 
 -- the answer is what a run of these scripts came to, or memory was wanting
 abbrev pub Finishes : Options → List (List Command) → Result Finished Fault → Type 0
-Finishes options scripts (Ok f) = ComesOf options scripts f
+Finishes options scripts (Ok f) = IsRunOf options scripts f
 Finishes options scripts (Err fault) = fault ≡ Memory
 
 -- the same, with the forms of the scripts
 abbrev pub FinishesWith : Options → List (List Command) → List Form → Result Ran Fault → Type 0
 FinishesWith options scripts forms (Ok ran) =
-    ComesOf options scripts ran.finished × (ran.forms.items ≡ forms)
+    IsRunOf options scripts ran.finished × (ran.forms.items ≡ forms)
 FinishesWith options scripts forms (Err fault) = fault ≡ Memory
 
 -- this is what a run of the files' scripts came to, and these are the forms of the same scripts
-abbrev pub ComesFrom : List (Option (List ℕ)) → Options → Finished → List Form → Type 0
-ComesFrom told options f forms =
-    (scripts : List (List Command)) × AreRead told scripts forms × ComesOf options scripts f
+abbrev pub IsRunWithForms : List (Option (List ℕ)) → Options → Finished → List Form → Type 0
+IsRunWithForms told options f forms =
+    (scripts : List (List Command)) × AreRead told scripts forms × IsRunOf options scripts f
 
 -- the answer is what a run of the files' scripts came to, or the fault that decides, or a file
 -- could not be read, or memory was wanting
 abbrev pub DecidesRun : List (Option (List ℕ)) → Options → Result Ran Fault → Type 0
-DecidesRun told options (Ok ran) = ComesFrom told options ran.finished ran.forms.items
+DecidesRun told options (Ok ran) = IsRunWithForms told options ran.finished ran.forms.items
 DecidesRun told options (Err fault) =
     Refused OfScripts (sort_of fault) (AreScripts told (Err fault)) (Unit {0})
 
 -- the answer is what a run of generated scripts came to, or memory was wanting
 abbrev pub MakesRun : GenWords → Result Finished Fault → Type 0
-MakesRun made (Ok f) = ComesBy (IsMade made) default_options f
+MakesRun made (Ok f) = IsRunGiven (IsMade made) default_options f
 MakesRun made (Err fault) = fault ≡ Memory

@@ -20,7 +20,7 @@ use Rattle.script_files.specs.declared.fault.Fault.{Fault}
 use Rattle.script_files.specs.declared.fault.Fault.TheVariants.{TooLarge}
 use Rattle.script_generator.specs.Generated.{generated_of}
 use Rattle.store_run.specs.declared.finished.Finished.{Finished}
-use Rattle.doc_run.specs.Clients.{ComesBy, IsMade, default_options}
+use Rattle.doc_run.specs.Clients.{IsRunGiven, IsMade, default_options}
 use Rattle.doc_run.specs.Faults.{BySort}
 use Rattle.doc_run.specs.Request.{ByPrint}
 use Rattle.doc_run.specs.Texts.{WritesAll, WritesFront}
@@ -63,7 +63,7 @@ WritesRunPart {F} Comes IsText old new =
 abbrev pub WritesPart : (Result (List (List Command)) Fault → Type 0) → Options
     → (Finished → List ℕ → Type 0) → Option (List ℕ) → Option (List ℕ) → Type 0
 WritesPart Given options IsText old new =
-    WritesRunPart (λ f. ComesBy Given options f) IsText old new
+    WritesRunPart (λ f. IsRunGiven Given options f) IsText old new
 
 -- nothing was written, or a front of what generated scripts come to, or of the one that is printed
 abbrev pub WritesMadePart : GenWords → Option (List ℕ) → Option (List ℕ) → Type 0
@@ -98,14 +98,14 @@ WritesRun Comes IsText old new (Some fault) finished =
 abbrev pub Explains : (Result (List (List Command)) Fault → Type 0) → Options → Option Fault
     → Option Finished → Type 0
 Explains Given options fault finished =
-    ExplainsRun OfScripts (λ one. Given (Err one)) (λ f. ComesBy Given options f) fault finished
+    ExplainsRun OfScripts (λ one. Given (Err one)) (λ f. IsRunGiven Given options f) fault finished
 
 -- what an ending says of what was written
 abbrev pub Writes : (Result (List (List Command)) Fault → Type 0) → Options
     → (Finished → List ℕ → Type 0) → Option (List ℕ) → Option (List ℕ)
     → Option Fault → Option Finished → Type 0
 Writes Given options IsText old new fault finished =
-    WritesRun (λ f. ComesBy Given options f) IsText old new fault finished
+    WritesRun (λ f. IsRunGiven Given options f) IsText old new fault finished
 
 -- By the fault of generated scripts.
 
@@ -113,7 +113,7 @@ Writes Given options IsText old new fault finished =
 abbrev pub IsMadeRun : GenWords → Option Finished → Type 0
 IsMadeRun made finished =
     (made.clients * made.commands ≤ most_commands)
-    × ByPrint made.print (IsSomeAnd finished (λ f. ComesBy (IsMade made) default_options f))
+    × ByPrint made.print (IsSomeAnd finished (λ f. IsRunGiven (IsMade made) default_options f))
     (λ client. IsNone finished)
 
 -- what an ending says of the words, and of what the run came to

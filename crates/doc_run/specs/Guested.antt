@@ -8,7 +8,7 @@ use Rattle.std.specs.Prelude.{Result, Ok, Err, IsOk, IsErrAnd, ◌⊎◌, ◌↔
 use Rattle.doc_export.specs.Dumps.{Dumps}
 use Rattle.doc_export.specs.declared.dumped.Dumped.{Dumped}
 use Rattle.doc_model.specs.declared.command.Command.{Command}
-use Rattle.script_files.specs.Files.{AreTold}
+use Rattle.script_files.specs.Files.{Agree}
 use Rattle.script_files.specs.Due.{IsLarge, IsUnhindered}
 use Rattle.script_files.specs.Scripts.{IsFaultyLine, scripts_of}
 use Rattle.script_files.specs.Sorts.{OfScripts, Refused, sort_of}
@@ -34,17 +34,17 @@ few_scripts_of contents =
 -- the same of some contents, which are what the files hold where it is told
 abbrev pub AreFewScripts : List (Option (List ℕ)) → Result (List (List Command)) Fault → Type 0
 AreFewScripts told outcome =
-    (contents : List (List ℕ)) × AreTold told contents × (few_scripts_of contents ≡ outcome)
+    (contents : List (List ℕ)) × Agree told contents × (few_scripts_of contents ≡ outcome)
 
 -- this is what the run of these scripts came to, beside which a version was dumped
-abbrev pub DumpsOf : List (List Command) → Dumped → Type 0
-DumpsOf scripts d =
+abbrev pub IsDumpRunOf : List (List Command) → Dumped → Type 0
+IsDumpRunOf scripts d =
     Dumps default_options scripts d.logs.items d.passes d.version d.count d.bytes
 
 -- the same of the scripts of the files
-abbrev pub DumpsBy : List (Option (List ℕ)) → Dumped → Type 0
-DumpsBy told d =
-    (scripts : List (List Command)) × AreFewScripts told (Ok scripts) × DumpsOf scripts d
+abbrev pub IsDumpRunGiven : List (Option (List ℕ)) → Dumped → Type 0
+IsDumpRunGiven told d =
+    (scripts : List (List Command)) × AreFewScripts told (Ok scripts) × IsDumpRunOf scripts d
 
 -- a version was taken whose tree has too many nodes for a dump
 abbrev pub IsTooLarge : Option Dumped → Type 0
@@ -56,13 +56,13 @@ IsDumpText d text = IsSomeAnd d.bytes (λ bytes. text ≡ bytes.items)
 
 -- the answer is what the run of these scripts came to, or memory was wanting
 abbrev pub FinishesDump : List (List Command) → Result Dumped Fault → Type 0
-FinishesDump scripts (Ok d) = DumpsOf scripts d
+FinishesDump scripts (Ok d) = IsDumpRunOf scripts d
 FinishesDump scripts (Err fault) = fault ≡ Memory
 
 -- the answer is what the run of the files' scripts came to, or the fault that decides, or a file
 -- could not be read, or memory was wanting
 abbrev pub DecidesDump : List (Option (List ℕ)) → Result Dumped Fault → Type 0
-DecidesDump told (Ok d) = DumpsBy told d
+DecidesDump told (Ok d) = IsDumpRunGiven told d
 DecidesDump told (Err fault) =
     Refused OfScripts (sort_of fault) (AreFewScripts told (Err fault)) (Unit {0})
 
@@ -82,24 +82,24 @@ pub record IsDumpDue (scripts : Result (List (List Command)) Fault) (dumped : Op
 -- that agree with it give the same.
 abbrev pub IsDumpDueFor : List (Option (List ℕ)) → Option Dumped → ℕ → Type 0
 IsDumpDueFor told dumped status = (scripts : Result (List (List Command)) Fault)
-    → ((contents : List (List ℕ)) → AreTold told contents → few_scripts_of contents ≡ scripts)
+    → ((contents : List (List ℕ)) → Agree told contents → few_scripts_of contents ≡ scripts)
     → IsDumpDue scripts dumped status
 
 -- what an ending says of the files, and of what the run came to
 abbrev pub ExplainsDump : List (Option (List ℕ)) → Option Fault → Option Dumped → Type 0
-ExplainsDump told None dumped = IsSomeAnd dumped (DumpsBy told)
+ExplainsDump told None dumped = IsSomeAnd dumped (IsDumpRunGiven told)
 ExplainsDump told (Some fault) dumped =
     BySort (sort_of fault)
     ((Refused OfScripts (sort_of fault) (AreFewScripts told (Err fault)) (Unit {0})
     × IsNone dumped)
-    ⊎ ((fault ≡ TooLarge 0) × IsSomeAnd dumped (λ d. DumpsBy told d × IsNone d.bytes)))
-    (IsSomeAnd dumped (DumpsBy told)) (IsNone dumped)
+    ⊎ ((fault ≡ TooLarge 0) × IsSomeAnd dumped (λ d. IsDumpRunGiven told d × IsNone d.bytes)))
+    (IsSomeAnd dumped (IsDumpRunGiven told)) (IsNone dumped)
 
 -- nothing was written, or a front of the dump that a run of the files' scripts comes to
 abbrev pub WritesDumpPart : List (Option (List ℕ)) → Option (List ℕ) → Option (List ℕ) → Type 0
 WritesDumpPart told old new =
     (new ≡ old)
-    ⊎ ((d : Dumped) × DumpsBy told d × WritesFront (IsDumpText d) old new)
+    ⊎ ((d : Dumped) × IsDumpRunGiven told d × WritesFront (IsDumpText d) old new)
 
 -- what an ending says of what was written
 abbrev pub WritesDump : List (Option (List ℕ)) → Option (List ℕ) → Option (List ℕ) → Option Fault

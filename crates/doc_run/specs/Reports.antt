@@ -11,7 +11,7 @@ use Rattle.run_output.specs.Output.{IsOutput}
 use Rattle.run_output.specs.declared.output.Shown.{Shown}
 use Rattle.run_words.specs.Requests.{RunAsked}
 use Rattle.store_run.specs.declared.finished.Finished.{Finished}
-use Rattle.doc_run.specs.Clients.{ComesFrom, options_of}
+use Rattle.doc_run.specs.Clients.{IsRunWithForms, options_of}
 use Rattle.doc_run.specs.declared.report.Report.{Report}
 use Rattle.doc_run.specs.declared.report.Report.TheVariants.{Replies, Heap}
 
@@ -31,5 +31,5 @@ Tells Heap shown f forms text = IsHeapText f.image text
 -- the report of a run with these words, with the forms of the scripts that it was a run of
 abbrev pub IsReportOf : Report → List (Option (List ℕ)) → RunAsked → Finished → List ℕ → Type 0
 IsReportOf report told run f text =
-    (forms : List Form) × ComesFrom told (options_of run) f forms
+    (forms : List Form) × IsRunWithForms told (options_of run) f forms
     × Tells report (shown_of run) f forms text

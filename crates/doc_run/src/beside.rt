@@ -3,7 +3,7 @@ ghost use Rattle.std.specs.Prelude.{◌≡◌, ℕ, ◌+◌, ◌*◌, ◌≤◌,
 ghost use Rattle.std.specs.Prelude.{map};
 ghost use Rattle.outside.specs.Calls.{IsUnbroken, IsOrderly};
 ghost use Rattle.outside.specs.Causes.{Rose};
-ghost use Rattle.doc_run.specs.Guested.{DumpsBy, ExplainsDump, WritesDump, few_read};
+ghost use Rattle.doc_run.specs.Guested.{IsDumpRunGiven, ExplainsDump, WritesDump, few_read};
 ghost use Rattle.run_words.specs.Requests.{names_by};
 ghost use Rattle.script_files.specs.Fault.{status_of};
 ghost use Rattle.script_files.specs.Files.{OpensInTurn, opened};
@@ -76,9 +76,9 @@ fn write_dump<S: Sink>(sink: &mut S, dumped: Dumped) -> Outcome
     ensures status { result.status ≡ status_of result.fault }
     ensures finished { result.finished ≡ None }
     ensures mailed { result.mailed ≡ None }
-    ensures explained { (told : List (Option (List ℕ))) → DumpsBy told dumped
+    ensures explained { (told : List (Option (List ℕ))) → IsDumpRunGiven told dumped
         → ExplainsDump told result.fault result.dumped }
-    ensures written { (told : List (Option (List ℕ))) → DumpsBy told dumped
+    ensures written { (told : List (Option (List ℕ))) → IsDumpRunGiven told dumped
         → WritesDump told (S.written sink.old) (S.written sink.new) result.fault result.dumped }
     ensures read { result.status ≡ 3 → ⊥ }
     ensures read_file { (file : ℕ) → result.fault ≡ Some (Fault.ReadFault file) → ⊥ }

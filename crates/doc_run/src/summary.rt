@@ -1,6 +1,6 @@
 //! The summary of a run of generated scripts.
 ghost use Rattle.std.specs.Prelude.{◌≡◌, ◌*◌, ◌≤◌, IfOk};
-ghost use Rattle.doc_run.specs.Clients.{ComesBy, IsMade, default_options};
+ghost use Rattle.doc_run.specs.Clients.{IsRunGiven, IsMade, default_options};
 ghost use Rattle.doc_run.specs.Ending.{IsSummaryOf, numbers_of};
 ghost use Rattle.run_words.specs.Limits.{IsGenWithin};
 
@@ -19,7 +19,7 @@ const VERSIONS: u32 = 1_000_000;
 pub fn summary_of(alloc: Global, made: GenWords, finished: &Finished) -> Result<Vec<u8>, NoMemory>
     requires within { IsGenWithin made }
     requires few { made.clients * made.commands ≤ 100_000 }
-    requires comes { ComesBy (IsMade made) default_options finished.now }
+    requires comes { IsRunGiven (IsMade made) default_options finished.now }
     ensures text { IfOk result (λ text. IsSummaryOf made finished.now text.items) }
 {
     let merged = merge(alloc, &finished.logs)?;

@@ -10,9 +10,9 @@ ghost use Rattle.outside.specs.Calls.{IsUnbroken, IsOrderly};
 ghost use Rattle.outside.specs.Causes.{Rose};
 ghost use Rattle.outside.specs.Pieces.{AppendsPart};
 ghost use Rattle.doc_run.specs.Asked.{IsFaultOf, WritesPartOf};
-ghost use Rattle.doc_run.specs.Clients.{ComesBy, IsMade, default_options, options_of};
+ghost use Rattle.doc_run.specs.Clients.{IsRunGiven, IsMade, default_options, options_of};
 ghost use Rattle.doc_run.specs.Ending.{IsRefusal, IsSummaryOf, OpensFiles, printed_of};
-ghost use Rattle.doc_run.specs.Guested.{DumpsBy, IsDumpDueFor, IsDumpText, IsTooLarge};
+ghost use Rattle.doc_run.specs.Guested.{IsDumpRunGiven, IsDumpDueFor, IsDumpText, IsTooLarge};
 ghost use Rattle.doc_run.specs.Mailed.{IsMailedText, MailsBy};
 ghost use Rattle.doc_run.specs.Reading.{IsAnswerOf, IsFileDue};
 ghost use Rattle.doc_run.specs.Reports.{IsReportOf};
@@ -72,19 +72,19 @@ pub fn run<R: Threads + Wait + Sync, H: Shelf, S: Sink, G: Gate + Sync>(
     // dump; or what a run of a mailbox came to, and its text.
     ensures done { result.status ≡ 0 → IfRun (request_of words.now) (λ report run.
         IsSomeAnd result.finished (λ f.
-        ComesBy (AreScripts (map (H.holds shelf.old) run.files)) (options_of run) f
+        IsRunGiven (AreScripts (map (H.holds shelf.old) run.files)) (options_of run) f
         × WritesAll (IsReportOf report (map (H.holds shelf.old) run.files) run f)
         (S.written sink.old) (S.written sink.new))) }
     ensures made { result.status ≡ 0 → IfGen (request_of words.now) (λ made.
         ByPrint made.print (IsSomeAnd result.finished (λ f.
-        ComesBy (IsMade made) default_options f
+        IsRunGiven (IsMade made) default_options f
         × WritesAll (IsSummaryOf made f) (S.written sink.old) (S.written sink.new)))
         (λ client. Appends (S.written sink.old) (S.written sink.new) (printed_of made client))) }
     ensures answered { result.status ≡ 0 → IfRead (request_of words.now) (λ reading name.
         WritesAll (IsAnswerOf reading (H.holds shelf.old name)) (S.written sink.old)
         (S.written sink.new)) }
     ensures beside { result.status ≡ 0 → IfDump (request_of words.now) (λ names.
-        IsSomeAnd result.dumped (λ d. DumpsBy (map (H.holds shelf.old) names) d
+        IsSomeAnd result.dumped (λ d. IsDumpRunGiven (map (H.holds shelf.old) names) d
         × WritesAll (IsDumpText d) (S.written sink.old) (S.written sink.new))) }
 
     ensures sent { result.status ≡ 0 → IfMail (request_of words.now) (λ mail.
@@ -111,7 +111,7 @@ pub fn run<R: Threads + Wait + Sync, H: Shelf, S: Sink, G: Gate + Sync>(
         IsMailDueFor (map (H.holds shelf.old) mail.files) result.status) }
     ensures too_large { result.status ≡ 6 → IfSome result.dumped (λ d.
         IfDump (request_of words.now) (λ names.
-        DumpsBy (map (H.holds shelf.old) names) d × IsNone d.bytes)) }
+        IsDumpRunGiven (map (H.holds shelf.old) names) d × IsNone d.bytes)) }
     ensures refused { (fault : Fault) → result.fault ≡ Some fault →
         IsFaultOf (H.holds shelf.old) (request_of words.now) result.dumped fault }
 
@@ -122,12 +122,12 @@ pub fn run<R: Threads + Wait + Sync, H: Shelf, S: Sink, G: Gate + Sync>(
     ensures write { result.status ≡ 4 → Rose (S.faults sink.old) (S.faults sink.new) }
     ensures write_part { result.status ≡ 4 → IfRun (request_of words.now) (λ report run.
         IsSomeAnd result.finished (λ f.
-        ComesBy (AreScripts (map (H.holds shelf.old) run.files)) (options_of run) f
+        IsRunGiven (AreScripts (map (H.holds shelf.old) run.files)) (options_of run) f
         × WritesFront (IsReportOf report (map (H.holds shelf.old) run.files) run f)
         (S.written sink.old) (S.written sink.new))) }
     ensures write_made { result.status ≡ 4 → IfGen (request_of words.now) (λ made.
         ByPrint made.print (IsSomeAnd result.finished (λ f.
-        ComesBy (IsMade made) default_options f
+        IsRunGiven (IsMade made) default_options f
         × WritesFront (IsSummaryOf made f) (S.written sink.old) (S.written sink.new)))
         (λ client. AppendsPart (S.written sink.old) (S.written sink.new)
         (printed_of made client))) }
@@ -135,7 +135,7 @@ pub fn run<R: Threads + Wait + Sync, H: Shelf, S: Sink, G: Gate + Sync>(
         WritesFront (IsAnswerOf reading (H.holds shelf.old name)) (S.written sink.old)
         (S.written sink.new)) }
     ensures write_dump { result.status ≡ 4 → IfDump (request_of words.now) (λ names.
-        IsSomeAnd result.dumped (λ d. DumpsBy (map (H.holds shelf.old) names) d
+        IsSomeAnd result.dumped (λ d. IsDumpRunGiven (map (H.holds shelf.old) names) d
         × WritesFront (IsDumpText d) (S.written sink.old) (S.written sink.new))) }
     ensures write_sent { result.status ≡ 4 → IfMail (request_of words.now) (λ mail.
         IsSomeAnd result.mailed (λ m. MailsBy mail (map (H.holds shelf.old) mail.files) m

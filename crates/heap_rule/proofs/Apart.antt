@@ -50,7 +50,7 @@ module _ {P : Type 0} {fixed : ℕ → Bool} (v : View P) (s : State) (l : Lore)
   held_used : (c : ℕ) → colour_of s c ≡ colour.Blue → (b : Bool) → has cells c ≡ b → b ≡ false
   held_used c blue false is = refl
   held_used c blue true is =
-      absurd ((consistent_safe s mine.shown.consistent).in_use c
+      absurd ((consistent_safe s mine.shown.consistent).reached c
       (reached_held s v.number c mine.shown.consistent
       (subst (λ (o : Own). has (cells_in o.held) c ≡ true) (sym mine.own) is)) blue)
 

@@ -102,7 +102,7 @@ module _ (fixed : ℕ
 
   -- it was not reachable, and has null fields
   pub unreached : Reachable s c → ⊥
-  unreached r = (consistent_safe s k).in_use c r blue
+  unreached r = (consistent_safe s k).reached c r blue
 
   nulls : (f : ℕ) → field_of s c f ≡ field.Null
   nulls f = k.cells.blue_null c f blue

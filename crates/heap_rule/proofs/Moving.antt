@@ -125,7 +125,7 @@ opening_facts fixed h terms sound firsts =
       | inr past ↦
           (consistent_safe (start h (opening_rooms h.mutators))
           (opening_consistent h.cells
-          (opening_rooms h.mutators) h.first sound.fit sound.first)).in_use x r
+          (opening_rooms h.mutators) h.first sound.fit sound.first)).reached x r
           (back_of (replicate (length h.first) colour.White)
           (replicate (h.cells - length h.first) colour.Blue) x colour.Blue colour.Blue
           (let n = length-replicate (length h.first) colour.White in omega (arith, n, past))
@@ -133,7 +133,8 @@ opening_facts fixed h terms sound firsts =
     ]
 
 -- reading of lists by `get_elem?`
-some_below : {A : Type 0} (xs : List A) (i : ℕ) (a : A) → get_elem? xs i ≡ some a → i < length xs
+pub some_below : {A : Type 0} (xs : List A) (i : ℕ) (a : A) → get_elem? xs i ≡ some a
+    → i < length xs
 some_below [] i a h = absurd cc
 some_below (x ∷ xs) zero a h = omega arith
 some_below (x ∷ xs) (suc i) a h = let lt = some_below xs i a h in omega (arith, lt)

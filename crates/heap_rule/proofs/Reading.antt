@@ -27,7 +27,7 @@ use Rattle.dlg_core.specs.Consistent.{IsConsistent}
 use Rattle.dlg_core.specs.Reachable.{Reachable, named}
 use Rattle.core_machine.proofs.OneOperation.{inside_there}
 use Rattle.dlg_core.proofs.Changes.Own.{own_kept}
-use Rattle.dlg_core.proofs.Keeps.Holding.{read_fits}
+use Rattle.dlg_core.proofs.Events.Holding.{read_fits}
 use Rattle.dlg_core.proofs.Truths.{wipe_is}
 use Rattle.dlg_core.proofs.Step.{consistent_after}
 use Rattle.dlg_core.proofs.Truths.{or_here, or_later}

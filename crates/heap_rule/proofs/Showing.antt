@@ -36,7 +36,7 @@ use Rattle.heap_rule.specs.declared.view.Role.TheVariants as role
 use Rattle.heap_rule.specs.declared.view.View.{View}
 use Rattle.heap_rule.specs.Boxes.{Map}
 use Rattle.heap_rule.specs.Laws.{CollectorShows, Ended, FoundUsedWasClaimed, GarbageWasFreed}
-use Rattle.heap_rule.specs.Laws.{IsLastOf, NoneInUseIsFree, SeatShows, ShareShows, ShowsRun}
+use Rattle.heap_rule.specs.Laws.{IsLastOf, NoReachableIsFree, SeatShows, ShareShows, ShowsRun}
 use Rattle.heap_rule.specs.Laws.{UnsplitShows, UsedWasClaimed}
 use Rattle.heap_rule.specs.Rule.{CollectorFits, Kept, Ledger, MutatorFits, PlaceFits, SeatFits}
 use Rattle.heap_rule.specs.Rule.{ShareFits, Stands, unsplit}
@@ -164,11 +164,11 @@ module _ {P : Type 0} (opens : ℕ → ℕ → P) (holding : Map → List P → 
         (runs_consistent from before from_shaped from_consistent
         parts.0) inner.0 are two garbage)
 
-    pub none_free : (words : List ℕ) → words ≡ words_of l.core → NoneInUseIsFree words l.core
+    pub none_free : (words : List ℕ) → words ≡ words_of l.core → NoReachableIsFree words l.core
     none_free words words_are c lt r blue =
         let shaped = core_shaped holding fixed h l stands in
         let safe = consistent_safe l.core (core_consistent holding fixed h l stands) in
-        safe.in_use c r
+        safe.reached c r
         (blue_word (colour_of l.core c)
         (sym (word_read l.core shaped (ColourOf c) lt)
         ∙ sym (ap (λ (ws : List ℕ). slice_index ws (index_of l.core.mutators (ColourOf c)))

@@ -19,7 +19,7 @@ use Rattle.dlg_core.proofs.Each.{field_each}
 use Rattle.heap_rule.specs.declared.known.Known.{Known}
 use Rattle.heap_rule.specs.declared.known.Known.TheVariants as knows
 use Rattle.heap_rule.specs.Facts.{AllKnown, Facts, IsKnown, TermFits, is_record_kind}
-use Rattle.heap_rule.specs.Knowledge.{ArePayload, AreTold, KnownAt}
+use Rattle.heap_rule.specs.Knowledge.{ArePayload, FixedAreTold, KnownAt}
 use Rattle.heap_rule.specs.Lore.{Fresh, Lore, at_cell, cells_of, entry_of, has, known_in}
 use Rattle.heap_rule.specs.Lore.{known_named, known_revealed}
 use Rattle.heap_rule.specs.Lore.{known_set, known_stored, revealed}
@@ -136,7 +136,8 @@ module _ (fixed : ℕ
 
   -- what is told of fixed fields stays
   told_on : (y : ℕ) (told : List (Option _)) → y ≢ 0 → is_box_kind (field_of s y 5) ≡ true
-      → AreTold fixed told l.terms (field_of s y) → AreTold fixed told l.terms (field_of t y)
+      → FixedAreTold fixed told l.terms (field_of s y)
+      → FixedAreTold fixed told l.terms (field_of t y)
   told_on y told not_anchor box h g term lt is told_is =
       entries y g (λ same field_is. not_anchor (same ∙ stores.proper
       (subst (λ (n : ℕ). is_box_kind (field_of s n 5) ≡ true) same box)

@@ -17,8 +17,8 @@ pub record ArePayload (fields : List Field) (row : ℕ → Field) : Type 0 where
   pub each : (f : ℕ) → f < 5 → row f ≡ slice_index_or fields f field.Null
 
 -- the fixed fields of the payload have these terms, as far as they are told
-abbrev pub AreTold : (ℕ → Bool) → List (Option Term) → Terms → (ℕ → Field) → Type 0
-AreTold fixed told terms row = (f : ℕ) (t : Term) → f < 5 → fixed f ≡ true
+abbrev pub FixedAreTold : (ℕ → Bool) → List (Option Term) → Terms → (ℕ → Field) → Type 0
+FixedAreTold fixed told terms row = (f : ℕ) (t : Term) → f < 5 → fixed f ≡ true
     → slice_index_or told f None ≡ Some t → entry_of terms (row f) ≡ Plain t
 
 -- What is so where mutator i knows this of cell x, which has these fields and this term, and is
@@ -32,4 +32,4 @@ KnownAt fixed terms row term fresh i x (knows.Fresh fields) =
     (is_box_kind (row 5) ≡ true) × (fresh ≡ Some i) × ArePayload fields row
 KnownAt fixed terms row term fresh i x (knows.Record t) = (row 5 ≡ field.Num 1) × (term ≡ Some t)
 KnownAt fixed terms row term fresh i x (knows.Boxed told) =
-    (x ≢ 0) × (is_box_kind (row 5) ≡ true) × (fresh ≡ None) × AreTold fixed told terms row
+    (x ≢ 0) × (is_box_kind (row 5) ≡ true) × (fresh ≡ None) × FixedAreTold fixed told terms row

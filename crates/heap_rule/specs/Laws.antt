@@ -47,8 +47,8 @@ pub record IsLastOf (h : Shape) (words : List ℕ) (run : List Taken) (core : St
   pub mutators : core.mutators ≡ h.mutators
 
 -- the colour word of no reachable cell is that of a free one
-abbrev pub NoneInUseIsFree : List ℕ → State → Type 0
-NoneInUseIsFree words core = (c : ℕ) → c < core.cells → Reachable core c
+abbrev pub NoReachableIsFree : List ℕ → State → Type 0
+NoReachableIsFree words core = (c : ℕ) → c < core.cells → Reachable core c
     → slice_index words (index_of core.mutators (ColourOf c)) ≢ pack_colour_of colour.Blue
 
 -- a cell that is not free is one of the first rows, or was claimed in this run
@@ -134,7 +134,7 @@ module _ {P : Type 0} where
     pub facts : Facts fixed core lore
     -- the client's rule on the boxes and the passes
     pub kept : holding (boxes_of core lore) passes
-    pub not_free : NoneInUseIsFree s.words core
+    pub not_free : NoReachableIsFree s.words core
     -- first rows and claims are the cells that are not free and all that were freed
     pub balanced : IsBalanced (length h.first) core
     pub claimed : UsedWasClaimed h run core

@@ -13,7 +13,7 @@ ghost use Rattle.heap_rule.specs.Boxes.{boxes_by, boxes_of, Smaller};
 ghost use Rattle.heap_rule.specs.Facts.{Facts, Proper};
 ghost use Rattle.heap_rule.specs.Lore.{Lore, lore_after};
 ghost use Rattle.heap_rule.specs.Laws.{CollectorShows, FoundUsedWasClaimed, GarbageWasFreed};
-ghost use Rattle.heap_rule.specs.Laws.{IsLastOf, NoneInUseIsFree, SeatShows, ShowsRun};
+ghost use Rattle.heap_rule.specs.Laws.{IsLastOf, NoReachableIsFree, SeatShows, ShowsRun};
 ghost use Rattle.heap_rule.specs.Laws.{UsedWasClaimed};
 ghost use Rattle.heap_rule.specs.Rule.{Kept};
 ghost use Rattle.heap_rule.specs.Settled.{NamesSettled};
@@ -77,11 +77,11 @@ pub fn the_words_end_a_run<S, P: Keeping>()
 
 /// The state is safe, and the colour word of no cell that the anchor or a mutator reaches is that of
 /// a free one.
-pub fn no_cell_in_use_is_free<S, P: Keeping>()
+pub fn no_reachable_cell_is_free<S, P: Keeping>()
     ensures safe { (h : Shape) (s : TableState S (View P)) (k : Kept P.opening P.holds P.fixed h s)
         → IsSafe k.ledger.core }
     ensures words { (h : Shape) (s : TableState S (View P))
-        (k : Kept P.opening P.holds P.fixed h s) → NoneInUseIsFree s.words k.ledger.core }
+        (k : Kept P.opening P.holds P.fixed h s) → NoReachableIsFree s.words k.ledger.core }
 {}
 
 /// A mutator's seat has that one's room, own part, presence, knowledge and pass, and its trail is

@@ -1,7 +1,7 @@
 -- A look of the collector at a word tells too that mutators whose seats are joined are over: the
 -- ledger has of each what its seat left, and the words are those of the ledger's state.
-use Rattle.std.proofs.Common.{◌≡◌, ◌<◌, ◌≤◌, ℕ, zero, suc, Bool, List, [], ◌∷◌}
-use Rattle.std.proofs.Common.{None, length, slice_index, sym, ◌∙◌, ap, subst, arith}
+use Rattle.std.proofs.Common.{◌≡◌, ◌<◌, ◌≤◌, ℕ, Bool, List, None, slice_index, sym, ◌∙◌, ap}
+use Rattle.std.proofs.Common.{subst, arith}
 use mathlib.Core.Option.{some}
 use lib.ListN.{get_elem?}
 use Rattle.atomic_table.specs.Table as table
@@ -21,14 +21,9 @@ use Rattle.heap_rule.specs.declared.view.Place.TheVariants as places
 use Rattle.heap_rule.specs.declared.view.Role.{Role}
 use Rattle.heap_rule.specs.declared.view.Role.TheVariants as role
 use Rattle.heap_rule.specs.declared.view.View.{View}
+use Rattle.heap_rule.proofs.Moving.{some_below}
 use Rattle.heap_rule.proofs.Stepping.{collector_step, core_shaped, core_words}
 use Rattle.heap_table.specs.Joined.{JoinedIsOver}
-
-some_below : {A : Type 0} (xs : List A) (i : ℕ) (a : A) → get_elem? xs i ≡ some a
-    → i < length xs
-some_below [] i a h = absurd cc
-some_below (x ∷ xs) zero a h = omega arith
-some_below (x ∷ xs) (suc i) a h = let lt = some_below xs i a h in omega (arith, lt)
 
 module _ {P : Type 0} (opens : ℕ → ℕ → P) (holds : Map → List P → Type 0)
     (fixed : ℕ → Bool) (h : Shape) where

@@ -16,7 +16,7 @@ use Rattle.core_machine.specs.State.{State, target_of}
 use Rattle.core_machine.specs.WordOperations.{IsPackedAs}
 use Rattle.core_machine.proofs.WordOperations.{same_packed}
 use Rattle.dlg_core.specs.Reachable.{Reachable}
-use Rattle.dlg_core.proofs.Keeps.Write.{same_field_is}
+use Rattle.dlg_core.proofs.Events.Write.{same_field_is}
 use Rattle.heap_rule.specs.declared.known.Known.{Known}
 use Rattle.heap_rule.specs.declared.known.Learned.{Learned}
 use Rattle.heap_rule.specs.declared.view.View.{View}

@@ -13,6 +13,7 @@ use Rattle.heap_rule.specs.Boxes.{Map, Payload, written_map}
 use Rattle.heap_rule.specs.Lore.{Named, Plain, put}
 use Rattle.heap_rule.proofs.Claiming.{put_here, put_other}
 use Rattle.heap_rule.proofs.Entries.{some_is, written_else, written_here}
+use Rattle.heap_rule.proofs.Moving.{some_below}
 use Rattle.mail_rule.specs.Items.{Letter, letter_at, sends_of}
 use Rattle.mail_rule.specs.Mail.{HasItem, HasPosition, HasTaken, HoldsMail, IsItem}
 use Rattle.mail_rule.specs.Mail.{IsOwn, IsSigned}
@@ -20,7 +21,7 @@ use Rattle.mail_rule.specs.Passes.{having_sent}
 use Rattle.mail_rule.specs.declared.items.Sent.{Sent}
 use Rattle.mail_rule.specs.declared.mail_pass.MailPass.{MailPass}
 use Rattle.mail_rule.proofs.Letters.{letter_last, letter_still, sends_more, sends_same, takes_still}
-use Rattle.mail_rule.proofs.Standing.{At, is_at, item_of, not_anchor, one_position, some_below}
+use Rattle.mail_rule.proofs.Standing.{At, is_at, item_of, not_anchor, one_position}
 use Rattle.mail_rule.proofs.Standing.{taken_low}
 
 -- the box of an item that is to be sent

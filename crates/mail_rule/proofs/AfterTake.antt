@@ -11,6 +11,7 @@ use Rattle.heap_rule.specs.Boxes.{Map, written_map}
 use Rattle.heap_rule.specs.Lore.{Named, Plain, put}
 use Rattle.heap_rule.proofs.Claiming.{put_other}
 use Rattle.heap_rule.proofs.Entries.{named_inj, same_entry, written_else, written_here}
+use Rattle.heap_rule.proofs.Moving.{some_below}
 use Rattle.mail_rule.specs.Items.{item_at, takes_of}
 use Rattle.mail_rule.specs.Mail.{HasPosition, HasTaken, HoldsMail, IsOwn, IsSigned}
 use Rattle.mail_rule.specs.Passes.{having_taken}
@@ -18,7 +19,7 @@ use Rattle.mail_rule.specs.Shrinks.{item_on}
 use Rattle.mail_rule.specs.declared.items.Item.{Item}
 use Rattle.mail_rule.specs.declared.mail_pass.MailPass.{MailPass}
 use Rattle.mail_rule.proofs.Letters.{takes_more, takes_same}
-use Rattle.mail_rule.proofs.Standing.{not_anchor, one_position, some_below}
+use Rattle.mail_rule.proofs.Standing.{not_anchor, one_position}
 
 module _ (map : Map) (passes : List MailPass) (h : HoldsMail map passes) (c d u : ℕ)
     (named : h.latest.anchor 0 ≡ Named c) (before : HasPosition map c u)

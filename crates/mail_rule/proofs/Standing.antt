@@ -1,8 +1,5 @@
 -- What stands at a cell of a map with the rule.
-use Rattle.std.proofs.Common.{◌≡◌, ◌≢◌, ℕ, zero, suc, ◌<◌, ◌≤◌, ◌⊎◌, List, [], ◌∷◌, length, Some}
-use Rattle.std.proofs.Common.{sym, ◌∙◌, subst, arith}
-use mathlib.Core.Option.{some}
-use lib.ListN.{get_elem?}
+use Rattle.std.proofs.Common.{◌≡◌, ◌≢◌, ℕ, ◌≤◌, ◌⊎◌, List, length, Some, sym, ◌∙◌, subst}
 use Rattle.cell_words.specs.Term.{null, num}
 use Rattle.heap_rule.specs.Boxes.{Map, Payload}
 use Rattle.heap_rule.specs.Lore.{Named, Plain}
@@ -11,12 +8,6 @@ use Rattle.mail_rule.specs.Items.{Letter}
 use Rattle.mail_rule.specs.Mail.{HasItem, HasPosition, HasTaken, HoldsMail, IsFollowed, IsItem}
 use Rattle.mail_rule.specs.Mail.{IsLast}
 use Rattle.mail_rule.specs.declared.mail_pass.MailPass.{MailPass}
-
-pub some_below : {A : Type 0} (xs : List A) (i : ℕ) (x : A) → get_elem? xs i ≡ some x
-    → i < length xs
-some_below [] i x at = absurd cc
-some_below (y ∷ ys) zero x at = omega arith
-some_below (y ∷ ys) (suc i) x at = let lt = some_below ys i x at in omega (arith, lt)
 
 -- one box has one position
 pub one_position : (map : Map) (cell a b : ℕ) → HasPosition map cell a → HasPosition map cell b

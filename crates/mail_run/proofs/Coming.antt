@@ -22,6 +22,7 @@ use Rattle.heap_rule.specs.Shape.{IsSound}
 use Rattle.heap_rule.specs.declared.view.Place.TheVariants as places
 use Rattle.heap_rule.specs.declared.view.Share.{Share}
 use Rattle.heap_rule.specs.declared.view.View.{View}
+use Rattle.heap_rule.proofs.Moving.{some_below}
 use Rattle.mail_rule.specs.Counted.{EachOnce, WasSent, all_sent, sent_in}
 use Rattle.mail_rule.specs.Items.{item_at, positions_of}
 use Rattle.mail_rule.specs.Mail.{HoldsMail, is_fixed}
@@ -31,7 +32,7 @@ use Rattle.mail_rule.specs.declared.items.Item.{Item}
 use Rattle.mail_rule.specs.declared.items.Sent.{Sent}
 use Rattle.mail_rule.specs.declared.mail_pass.MailPass.{MailPass}
 use Rattle.mail_rule.proofs.Counts.{sends_many, sends_once, sends_rise, was_sent}
-use Rattle.mail_rule.proofs.Standing.{some_below, taken_low}
+use Rattle.mail_rule.proofs.Standing.{taken_low}
 use Rattle.mail_threads.specs.Opened.{mail_shape}
 use Rattle.mail_threads.specs.Taken.{HasPosted, answers_of}
 use Rattle.mail_run.specs.Closed.{AreThrough}

@@ -6,7 +6,7 @@ use Rattle.std.proofs.Common.{Result, Ok, Err, refl, sym, ap, ◌∙◌}
 use Rattle.std.proofs.lemmas.List.{append_assoc, append-nil, length-map}
 use Rattle.std.proofs.lemmas.Bool.{lt-ltb, le-ltb}
 use Rattle.doc_model.specs.declared.command.Command.{Command}
-use Rattle.script_files.specs.Files.{AreTold}
+use Rattle.script_files.specs.Files.{Agree}
 use Rattle.script_files.specs.InTurn.{AreListsFrom, AreListsWithin, IsListIn, Parse, in_front}
 use Rattle.script_files.specs.InTurn.{lists_from, with_first}
 use Rattle.script_files.specs.Reading.{DecidesFile, DecidesFrom}
@@ -18,7 +18,7 @@ use Rattle.script_files.specs.declared.fault.Fault.TheVariants.{TooLarge}
 
 -- some contents that are what is told
 pub some_told : (told : List (Option (List ℕ)))
-    → (contents : List (List ℕ)) × AreTold told contents
+    → (contents : List (List ℕ)) × Agree told contents
 some_told [] = ([], tt)
 some_told (None ∷ told) = let others = some_told told in ([] ∷ others.0, (tt, others.1))
 some_told (Some bytes ∷ told) =
@@ -85,7 +85,7 @@ next_decided place before one told commands (Err fault) old new is others =
 
 -- there is a content for each file
 pub told_length : (told : List (Option (List ℕ))) (contents : List (List ℕ))
-    → AreTold told contents
+    → Agree told contents
     → length contents ≡ length told
 told_length [] [] are = refl
 told_length [] (bytes ∷ contents) are = absurd are

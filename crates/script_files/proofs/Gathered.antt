@@ -6,7 +6,7 @@ use Rattle.std.specs.Prelude.{IfSome, sum_by}
 use Rattle.std.proofs.lemmas.Bool.{le-ltb}
 use Rattle.std.proofs.lemmas.List.Sums.{sum_by-cons}
 use Rattle.std.proofs.lemmas.List.{append_assoc, append-nil, length-map, take_all}
-use Rattle.script_files.specs.Files.{AreTold}
+use Rattle.script_files.specs.Files.{Agree}
 use Rattle.script_files.specs.InTurn.{AddsFile, AreGathered, GathersFrom, Parse, in_front, list_in}
 use Rattle.script_files.specs.InTurn.{lists_from, lists_within, with_first}
 use Rattle.script_files.specs.Sorts.{Grammar, sort_of}
@@ -117,7 +117,7 @@ pub all_gathered : {A N : Type 0} (most : ℕ) (parse : Parse A) (note : List �
     (told : List (Option (List ℕ))) (lists old : List (List A)) (notes old_notes : List N)
     → length told ≤ most → old ≡ [] → old_notes ≡ []
     → AreGathered parse note 1 0 told old lists old_notes notes
-    → (contents : List (List ℕ)) × AreTold told contents
+    → (contents : List (List ℕ)) × Agree told contents
     × (lists_within most parse contents ≡ Ok lists) × (notes ≡ map note contents)
 all_gathered {A} {N} most parse note told lists old notes old_notes few none no_notes is =
     let some : length is.0 ≤ most = omega (arith, few, told_length told is.0 is.1) in

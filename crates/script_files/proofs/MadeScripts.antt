@@ -10,7 +10,7 @@ use Rattle.doc_model.specs.declared.command.Command.{Command}
 use Rattle.script_generator.specs.Generated.{generated_of}
 use Rattle.script_files.proofs.Files.{first_decided, next_decided, none_decided}
 use Rattle.script_files.proofs.MadeLines.{made_scripts}
-use Rattle.script_files.specs.Files.{AreTold}
+use Rattle.script_files.specs.Files.{Agree}
 use Rattle.script_files.specs.Made.{DecidesMade, texts_from}
 use Rattle.script_files.specs.Reading.{Decides, DecidesFile, DecidesFrom, lists_of}
 use Rattle.script_files.specs.Scripts.{AreScriptsFrom, script_in, scripts_from}
@@ -75,7 +75,7 @@ made_more start commands client (suc more) before count script result old middle
     others)))
 
 -- where every file tells what it holds, that is what was read
-all_told : (texts contents : List (List ℕ)) → AreTold (map Some texts) contents
+all_told : (texts contents : List (List ℕ)) → Agree (map Some texts) contents
     → contents ≡ texts
 all_told [] [] are = refl
 all_told [] (bytes ∷ contents) are = absurd are

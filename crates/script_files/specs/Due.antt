@@ -1,7 +1,7 @@
 -- The status that the contents of several files call for, by the grammar that they are read by.
 -- Source: this project's own.
 use Rattle.std.specs.Prelude.{◌≡◌, ℕ, List, Option, Result, IsOk, IsErrAnd, ◌⊎◌, ◌↔◌, ◌≢◌}
-use Rattle.script_files.specs.Files.{AreTold}
+use Rattle.script_files.specs.Files.{Agree}
 use Rattle.script_files.specs.Sorts.{Grammar, OfLine, OfSize, sort_of}
 use Rattle.script_files.specs.declared.fault.Fault.{Fault}
 
@@ -32,12 +32,12 @@ pub record IsDueIn {A : Type 0} (grammar : Grammar) (reading : Result A Fault) (
 abbrev pub Reads : {A : Type 0} → (List (List ℕ) → Result A Fault) → List (Option (List ℕ))
     → Result A Fault → Type 0
 Reads reading told outcome =
-    (contents : List (List ℕ)) × AreTold told contents × (reading contents ≡ outcome)
+    (contents : List (List ℕ)) × Agree told contents × (reading contents ≡ outcome)
 
 -- The status is due by what the files hold, where what is told of them decides that: all contents
 -- that agree with it give the same.
 abbrev pub IsDueBy : {A : Type 0} → Grammar → (List (List ℕ) → Result A Fault)
     → List (Option (List ℕ)) → ℕ → Type 0
 IsDueBy {A} grammar reading told status = (outcome : Result A Fault)
-    → ((contents : List (List ℕ)) → AreTold told contents → reading contents ≡ outcome)
+    → ((contents : List (List ℕ)) → Agree told contents → reading contents ≡ outcome)
     → IsDueIn grammar outcome status

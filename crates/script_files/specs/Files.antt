@@ -6,12 +6,12 @@ use Rattle.std.specs.Prelude.{if◌then◌else◌, nat_lt}
 use Rattle.outside.specs.Causes.{next_count}
 
 -- these are contents of the files, and what is told of them
-abbrev pub AreTold : List (Option (List ℕ)) → List (List ℕ) → Type 0
-AreTold [] [] = Unit {0}
-AreTold [] (bytes ∷ contents) = ⊥
-AreTold (one ∷ told) [] = ⊥
-AreTold (one ∷ told) (bytes ∷ contents) =
-    IfSome one (λ all. bytes ≡ all) × AreTold told contents
+abbrev pub Agree : List (Option (List ℕ)) → List (List ℕ) → Type 0
+Agree [] [] = Unit {0}
+Agree [] (bytes ∷ contents) = ⊥
+Agree (one ∷ told) [] = ⊥
+Agree (one ∷ told) (bytes ∷ contents) =
+    IfSome one (λ all. bytes ≡ all) × Agree told contents
 
 -- the count of a shelf's openings after so many more
 abbrev pub opened : ℕ → ℕ → ℕ

@@ -4,7 +4,7 @@ use Rattle.std.specs.Prelude.{◌≡◌, ℕ, List, Option, Result, Ok, Err, map
 use Rattle.cmd_text.specs.Form.{form_of}
 use Rattle.cmd_text.specs.declared.form.Form.{Form}
 use Rattle.doc_model.specs.declared.command.Command.{Command}
-use Rattle.script_files.specs.Files.{AreTold}
+use Rattle.script_files.specs.Files.{Agree}
 use Rattle.script_files.specs.Reading.{lists_of}
 use Rattle.script_files.specs.Scripts.{AreScripts, scripts_of}
 use Rattle.script_files.specs.Sorts.{OfScripts, Refused, sort_of}
@@ -14,7 +14,7 @@ use Rattle.script_files.specs.declared.scripts.Scripts.{Scripts}
 -- the scripts and the forms of some contents, which are what the files hold where it is told
 abbrev pub AreRead : List (Option (List ℕ)) → List (List Command) → List Form → Type 0
 AreRead told scripts forms =
-    (contents : List (List ℕ)) × AreTold told contents × (scripts_of contents ≡ Ok scripts)
+    (contents : List (List ℕ)) × Agree told contents × (scripts_of contents ≡ Ok scripts)
     × (forms ≡ map form_of contents)
 
 -- the answer is the scripts of the files with their forms, or the fault that decides, or a file

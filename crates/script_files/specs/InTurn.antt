@@ -5,7 +5,7 @@
 -- Source: this project's own.
 use Rattle.std.specs.Prelude.{◌≡◌, ℕ, ◌+◌, ◌-◌, ◌≤◌, List, [], ◌∷◌, ◌++◌, length, take, map}
 use Rattle.std.specs.Prelude.{nat_lt, Option, IfSome, Result, Ok, Err, if◌then◌else◌}
-use Rattle.script_files.specs.Files.{AreTold, opened}
+use Rattle.script_files.specs.Files.{Agree, opened}
 use Rattle.script_files.specs.Sorts.{Grammar, Refused, sort_of}
 use Rattle.script_files.specs.declared.fault.Fault.{Fault}
 use Rattle.script_files.specs.declared.fault.Fault.TheVariants.{ReadFault, TooLarge}
@@ -74,14 +74,14 @@ IsListIn parse file before told outcome =
 abbrev pub AreListsFrom : {A : Type 0} → Parse A → ℕ → ℕ → List (Option (List ℕ))
     → Result (List (List A)) Fault → Type 0
 AreListsFrom parse file before told outcome =
-    (contents : List (List ℕ)) × AreTold told contents
+    (contents : List (List ℕ)) × Agree told contents
     × (lists_from parse file before contents ≡ outcome)
 
 -- the lists of all files, if these are not more than so many
 abbrev pub AreListsWithin : {A : Type 0} → ℕ → Parse A → List (Option (List ℕ))
     → Result (List (List A)) Fault → Type 0
 AreListsWithin most parse told outcome =
-    (contents : List (List ℕ)) × AreTold told contents
+    (contents : List (List ℕ)) × Agree told contents
     × (lists_within most parse contents ≡ outcome)
 
 -- So many of the files, from this one on, were opened, and those in front of the last of them are
@@ -120,7 +120,7 @@ AddsFile grammar parse note file before told (Err fault) old new old_notes new_n
 abbrev pub AreGathered : {A N : Type 0} → Parse A → (List ℕ → N) → ℕ → ℕ
     → List (Option (List ℕ)) → List (List A) → List (List A) → List N → List N → Type 0
 AreGathered {A} parse note file before told old new old_notes new_notes =
-    (contents : List (List ℕ)) × AreTold told contents × (lists : List (List A))
+    (contents : List (List ℕ)) × Agree told contents × (lists : List (List A))
     × (lists_from parse file before contents ≡ Ok lists) × (new ≡ old ++ lists)
     × (new_notes ≡ old_notes ++ map note contents)
 

@@ -11,7 +11,7 @@ use Rattle.core_machine.specs.State.{State, field_of, target_of}
 use Rattle.core_machine.specs.Words.{same_field}
 use Rattle.core_machine.specs.declared.events.Event.TheVariants as event
 use Rattle.dlg_core.specs.Reachable.{Reachable}
-use Rattle.dlg_core.proofs.Keeps.Write.{same_field_is}
+use Rattle.dlg_core.proofs.Events.Write.{same_field_is}
 use Rattle.heap_rule.specs.Asks.{target}
 use Rattle.heap_rule.specs.Boxes.{Map, boxes_of, payload_of, revealing, written_if, written_map}
 use Rattle.heap_rule.specs.Facts.{IsKnown}

@@ -33,7 +33,7 @@ use Rattle.held_places.proofs.Going.{calm_goes, cut_claims, cut_goes, cut_known,
 use Rattle.held_places.proofs.Going.{kept_known, known_below, known_then, many_cells, many_held}
 use Rattle.held_places.proofs.Going.{still_same}
 use Rattle.version_store.proofs.Lasting.{goes_same, lasts_by, same_then}
-use Rattle.version_export.specs.Still.{Keeps}
+use Rattle.version_export.specs.Still.{Stays}
 use Rattle.version_rule.specs.Versions.{is_fixed}
 
 -- One call after another.
@@ -45,8 +45,8 @@ grown_then {a = a} first second = record {
       ∙ append_assoc a first.added second.added;
 }
 
-pub keeps_then : {places : ℕ} {a b c : Bound Pass} → Keeps places a b → Keeps places b c
-    → Keeps places a c
+pub keeps_then : {places : ℕ} {a b c : Bound Pass} → Stays places a b → Stays places b c
+    → Stays places a c
 keeps_then {places = places} {a = a} {b = b} {c = c} first second = record {
   same = same_then a b c first.same second.same;
   longer = second.longer;
@@ -57,8 +57,8 @@ keeps_then {places = places} {a = a} {b = b} {c = c} first second = record {
   grown = grown_then first.grown second.grown;
 }
 
-pub keeps_fewer : {places : ℕ} {a b : Bound Pass} (few : ℕ) → few ≤ places → Keeps places a b
-    → Keeps few a b
+pub keeps_fewer : {places : ℕ} {a b : Bound Pass} (few : ℕ) → few ≤ places → Stays places a b
+    → Stays few a b
 keeps_fewer {places = places} {a = a} {b = b} few le keeps = record {
   same = keeps.same;
   longer = let long = keeps.longer in omega (arith, long, le);
@@ -72,7 +72,7 @@ keeps_fewer {places = places} {a = a} {b = b} few le keeps = record {
 }
 
 -- where as many are held, the held list is as it was
-pub held_again : (a b : Bound Pass) → Keeps (length a.seat.me.own.held) a b
+pub held_again : (a b : Bound Pass) → Stays (length a.seat.me.own.held) a b
     → length b.seat.me.own.held ≡ length a.seat.me.own.held → held_cells b ≡ held_cells a
 held_again a b keeps many =
     let places = length a.seat.me.own.held in
@@ -94,7 +94,7 @@ stays (knows.Boxed told) k same =
     (still_same is_fixed (knows.Boxed told))
 
 pub keeps_left : (m n : Bound Pass) (old new : Nursery) → Leaves m n old new
-    → Keeps (length m.seat.me.own.held) m n
+    → Stays (length m.seat.me.own.held) m n
 keeps_left m n old new left =
     let places = length m.seat.me.own.held in
     record {
@@ -131,7 +131,7 @@ grown_by a b goes pass claims =
     lasts.grown
 
 pub keeps_calm : (F : List Taken → Type 0) (a b : Bound Pass) → Calm F a b
-    → Keeps (length a.seat.me.own.held) a b
+    → Stays (length a.seat.me.own.held) a b
 keeps_calm F a b calm =
     let places = length a.seat.me.own.held in
     let goes = calm_goes F a b calm in
@@ -167,7 +167,7 @@ module _ (b c : Bound Pass) (n : ℕ) (p : Found)
       ∙ ap cells_in (append-nil (take n b.seat.me.own.held))
       ∙ sym (take-map (λ (h : Held). h.cell) n b.seat.me.own.held)
 
-  pub keeps_cut : Keeps n b c
+  pub keeps_cut : Stays n b c
   keeps_cut = record {
     same = goes_same b c (cut_goes b c n p told);
     longer = let is = cut_length in omega (arith, is);
@@ -187,7 +187,7 @@ record_same (knows.Fresh fields) k still is = absurd is
 record_same (knows.Record t) k still is = still
 record_same (knows.Boxed told) k still is = absurd is
 
-module _ {places : ℕ} (m n : Bound Pass) (old new : Nursery) (keeps : Keeps places m n)
+module _ {places : ℕ} (m n : Bound Pass) (old new : Nursery) (keeps : Stays places m n)
     (place : ℕ) (lt : place < places) (is : IsTreeAt m old (at.Shared place)) where
   same_known : known_of n.seat.me place ≡ known_of m.seat.me place
   same_known = record_same (known_of m.seat.me place) (known_of n.seat.me place)
@@ -205,12 +205,12 @@ module _ {places : ℕ} (m n : Bound Pass) (old new : Nursery) (keeps : Keeps pl
   pub tree_same : tree_at n new (at.Shared place) ≡ tree_at m old (at.Shared place)
   tree_same = ap (λ (k : Known). tree_of (known_term k)) same_known
 
-pub keeps_on : {places : ℕ} {a b c : Bound Pass} → Keeps places a b
-    → Keeps (length b.seat.me.own.held) b c → Keeps places a c
+pub keeps_on : {places : ℕ} {a b c : Bound Pass} → Stays places a b
+    → Stays (length b.seat.me.own.held) b c → Stays places a c
 keeps_on {places = places} first second =
     keeps_then first (keeps_fewer places first.longer second)
 
-pub keeps_lasts : (places : ℕ) (a b : Bound Pass) → Keeps places a b → LastsAcross a b
+pub keeps_lasts : (places : ℕ) (a b : Bound Pass) → Stays places a b → LastsAcross a b
 keeps_lasts places a b keeps =
     let grows : Grows a.seat.me.pass b.seat.me.pass =
     subst (λ (p : Pass). Grows a.seat.me.pass p) (sym keeps.pass) (grows_still a.seat.me.pass) in

@@ -22,7 +22,7 @@ use Rattle.version_rule.specs.Pass.{Pass}
 use Rattle.version_store.specs.Lasts.{marks}
 use Rattle.held_places.proofs.Going.{calm_trail}
 use Rattle.version_export.specs.Looks.{child_nodes, looks, nodes_of}
-use Rattle.version_export.specs.Still.{Keeps}
+use Rattle.version_export.specs.Still.{Stays}
 
 -- Trails.
 
@@ -38,7 +38,7 @@ looks_grown a b grown =
     let is = ap looks grown.is ∙ looks_append a grown.added in omega (arith, is)
 
 -- what a mutator that keeps its places looked before
-pub looks_kept : {places : ℕ} (a b : Bound Pass) → Keeps places a b
+pub looks_kept : {places : ℕ} (a b : Bound Pass) → Stays places a b
     → looks (marks a) ≤ looks (marks b)
 looks_kept a b keeps = looks_grown (marks a) (marks b) keeps.grown
 

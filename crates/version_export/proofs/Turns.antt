@@ -23,7 +23,7 @@ use Rattle.version_store.proofs.Lasting.{lasts_then}
 use Rattle.version_export.specs.Lines.{child_lines, line_of, lines_from, lines_of, path_behind}
 use Rattle.version_export.specs.Lines.{tree_lines, with_slash}
 use Rattle.version_export.specs.Looks.{looks, nodes_of}
-use Rattle.version_export.specs.Still.{Keeps}
+use Rattle.version_export.specs.Still.{Stays}
 use Rattle.version_export.specs.Walks.{Walks}
 use Rattle.version_export.proofs.Keeping.{cut_cells, cut_length, keeps_cut, keeps_fewer}
 use Rattle.version_export.proofs.Keeping.{keeps_lasts}
@@ -52,12 +52,12 @@ first_lines new out path before t items line names rising =
 
 -- To the child, over its tree, and back.
 module _ (m l a b c : Bound Pass) (places : ℕ) (f : Found)
-    (so_far : Keeps (length m.seat.me.own.held) m l)
+    (so_far : Stays (length m.seat.me.own.held) m l)
     (many : length l.seat.me.own.held ≡ length m.seat.me.own.held)
-    (down : Keeps (length l.seat.me.own.held) l a) (below : Keeps (length a.seat.me.own.held) a b)
+    (down : Stays (length l.seat.me.own.held) l a) (below : Stays (length a.seat.me.own.held) a b)
     (is : places ≡ length l.seat.me.own.held)
     (told : c ≡ takes b (event.Keep b.seat.me.number places 0 0) f) where
-  inner : Keeps (length l.seat.me.own.held) l b
+  inner : Stays (length l.seat.me.own.held) l b
   inner = keeps_on down below
 
   few : places ≤ length b.seat.me.own.held
@@ -66,10 +66,10 @@ module _ (m l a b c : Bound Pass) (places : ℕ) (f : Found)
   pub turn_length : length c.seat.me.own.held ≡ length m.seat.me.own.held
   turn_length = cut_length b c places f told few ∙ is ∙ many
 
-  pub turn_keeps : Keeps (length m.seat.me.own.held) m c
+  pub turn_keeps : Stays (length m.seat.me.own.held) m c
   turn_keeps =
-      let cut : Keeps (length l.seat.me.own.held) b c =
-      subst (λ (k : ℕ). Keeps k b c) is (keeps_cut b c places f told few) in
+      let cut : Stays (length l.seat.me.own.held) b c =
+      subst (λ (k : ℕ). Stays k b c) is (keeps_cut b c places f told few) in
       keeps_then so_far
       (keeps_fewer (length m.seat.me.own.held) (omega (arith, many)) (keeps_then inner cut))
 
@@ -109,7 +109,7 @@ module _ (m l a b c : Bound Pass) (places : ℕ) (f : Found)
 pub none_turn : (m l a : Bound Pass) (old lm new : Nursery) (t : DocTree)
     (path before out text name : List ℕ) (items : List (List ℕ)) (i : ℕ)
     → Walks m l old lm t path before out text (drop i items)
-    → Keeps (length l.seat.me.own.held) l a
+    → Stays (length l.seat.me.own.held) l a
     → length a.seat.me.own.held ≡ length l.seat.me.own.held
     → new ≡ lm → i < length items → name ≡ get_or items i name → child name t.kids ≡ None
     → Walks m a old new t path before out text (drop (i + 1) items)
@@ -160,15 +160,15 @@ dumped v n t d bytes more last all head lines same end nodes whole =
 
 -- To the root, over the tree, and back.
 module _ (m a b c : Bound Pass) (cell places : ℕ) (f : Found) (root : Holds (cell ∷ []) m a)
-    (below : Keeps (length a.seat.me.own.held) a b) (is : places ≡ length m.seat.me.own.held)
+    (below : Stays (length a.seat.me.own.held) a b) (is : places ≡ length m.seat.me.own.held)
     (told : c ≡ takes b (event.Keep b.seat.me.number places 0 0) f) where
   fewer : places ≤ length a.seat.me.own.held
   fewer = let more = many_held m a (cell ∷ []) root.held in omega (arith, more, is)
 
-  there : Keeps places a b
+  there : Stays places a b
   there = keeps_fewer places fewer below
 
-  back : Keeps places a c
+  back : Stays places a c
   back = keeps_then there (keeps_cut b c places f told there.longer)
 
   pub back_held : held_cells c ≡ held_cells m

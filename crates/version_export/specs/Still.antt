@@ -9,7 +9,7 @@ use Rattle.version_store.specs.Lasts.{IsSameMutator, marks}
 
 -- It is the same mutator, in or out as it was, with its pass and its claims. The first so many
 -- places hold what they held, what was known of them is known still, and the trail grew.
-pub record Keeps (places : ℕ) (m n : Bound Pass) : Type 0 where
+pub record Stays (places : ℕ) (m n : Bound Pass) : Type 0 where
   pub same : IsSameMutator m n
   pub longer : places ≤ length n.seat.me.own.held
   pub held : take places (held_cells n) ≡ take places (held_cells m)

@@ -8,13 +8,13 @@ use Rattle.version_rule.specs.Pass.{Pass}
 use Rattle.version_store.specs.Lasts.{marks}
 use Rattle.version_export.specs.Lines.{lines_of, tree_lines}
 use Rattle.version_export.specs.Looks.{looks, nodes_of}
-use Rattle.version_export.specs.Still.{Keeps}
+use Rattle.version_export.specs.Still.{Stays}
 
 -- From the start of the walk over a tree: as much is held and known, and with the lines of the
 -- children of these names all lines are written. There was a look for each other node.
 pub record Walks (m n : Bound Pass) (old new : Nursery) (t : DocTree) (path before : List ℕ)
     (out text : List ℕ) (names : List (List ℕ)) : Type 0 where
-  pub keeps : Keeps (length m.seat.me.own.held) m n
+  pub keeps : Stays (length m.seat.me.own.held) m n
   pub held : length n.seat.me.own.held ≡ length m.seat.me.own.held
   pub minor : new ≡ old
   pub lines : text ++ lines_of before t.kids names ≡ out ++ tree_lines path before t

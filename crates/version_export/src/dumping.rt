@@ -8,7 +8,7 @@ ghost use Rattle.mutator_seat.specs.Bound.{held_cells};
 ghost use Rattle.version_dump.specs.Dump.{dump_of};
 ghost use Rattle.version_export.specs.Looks.{looks};
 ghost use Rattle.version_export.specs.Outcome.{Refuses};
-ghost use Rattle.version_export.specs.Still.{Keeps};
+ghost use Rattle.version_export.specs.Still.{Stays};
 ghost use Rattle.version_rule.specs.Pass.{reading};
 ghost use Rattle.version_store.specs.Calls.{StaysKnown};
 ghost use Rattle.version_store.specs.Held.{IsHeld, root_at};
@@ -79,7 +79,7 @@ fn dump_tree(
         (Refuses (count (tree_at m.old minor.old (at.Shared root)))) }
     ensures looked { OnOk result (looks (marks m.old)
         + count (tree_at m.old minor.old (at.Shared root)) ≤ looks (marks m.new)) }
-    ensures keeps { Keeps (length m.old.seat.me.own.held) m.old m.new }
+    ensures keeps { Stays (length m.old.seat.me.own.held) m.old m.new }
     ensures minor { minor.new ≡ minor.old }
 {
     let nodes = count(m, minor, NodeAt::Shared(root));

@@ -6,7 +6,7 @@ ghost use Rattle.client_trees.specs.Nodes.{IsTreeAt, tree_at};
 ghost use Rattle.doc_tree.specs.Tree.{child as child_of_name, count, height};
 ghost use Rattle.version_export.specs.Lines.{line_of, tree_lines};
 ghost use Rattle.version_export.specs.Looks.{looks};
-ghost use Rattle.version_export.specs.Still.{Keeps};
+ghost use Rattle.version_export.specs.Still.{Stays};
 ghost use Rattle.version_store.specs.Lasts.{marks};
 
 use crate::lines::{path_behind, push_line, with_slash};
@@ -36,7 +36,7 @@ pub(crate) fn add_tree(
         ++ tree_lines path.now before.now (tree_at m.old minor.old (at.Shared place))) }
     ensures looked { OnOk result (looks (marks m.old)
         + count (tree_at m.old minor.old (at.Shared place)) ≤ looks (marks m.new)) }
-    ensures keeps { Keeps (length m.old.seat.me.own.held) m.old m.new }
+    ensures keeps { Stays (length m.old.seat.me.own.held) m.old m.new }
     ensures held { length m.new.seat.me.own.held ≡ length m.old.seat.me.own.held }
     ensures minor { minor.new ≡ minor.old }
 {
@@ -73,7 +73,7 @@ fn add_node(
     ensures line { OnOk result (out.new.items ≡ out.old.items
         ++ line_of path.now (tree_at m.old minor.old (at.Shared place)).text) }
     ensures looked { OnOk result (looks (marks m.old) + 1 ≤ looks (marks m.new)) }
-    ensures keeps { Keeps (length m.old.seat.me.own.held) m.old m.new }
+    ensures keeps { Stays (length m.old.seat.me.own.held) m.old m.new }
     ensures held { length m.new.seat.me.own.held ≡ length m.old.seat.me.own.held }
     ensures minor { minor.new ≡ minor.old }
 {
@@ -95,7 +95,7 @@ fn child_place(
     ensures child { option_map (λ p. tree_at m.new minor.new (at.Shared p)) result
         ≡ child_of_name name.now (tree_at m.old minor.old (at.Shared place)).kids }
     ensures node { ForSome result (λ p. IsTreeAt m.new minor.new (at.Shared p)) }
-    ensures keeps { Keeps (length m.old.seat.me.own.held) m.old m.new }
+    ensures keeps { Stays (length m.old.seat.me.own.held) m.old m.new }
     ensures held { MatchOption result
         (length m.new.seat.me.own.held ≡ length m.old.seat.me.own.held)
         (λ p. length m.new.seat.me.own.held ≡ length m.old.seat.me.own.held + 1) }

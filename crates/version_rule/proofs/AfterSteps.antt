@@ -20,7 +20,7 @@ use Rattle.core_machine.specs.Places.{found_at, no_place}
 use Rattle.core_machine.specs.State.{State, field_of, target_of}
 use Rattle.core_machine.specs.Words.{same_field}
 use Rattle.core_machine.proofs.WordOperations.{same_packed}
-use Rattle.dlg_core.proofs.Keeps.Write.{same_field_is}
+use Rattle.dlg_core.proofs.Events.Write.{same_field_is}
 use Rattle.doc_tree.specs.Tree.{DocTree}
 use Rattle.heap_rule.specs.Asks.{target}
 use Rattle.heap_rule.specs.Boxes.{Map}

@@ -15,7 +15,7 @@ use Rattle.core_machine.specs.Own.{Own, pending_or_none}
 use Rattle.core_machine.specs.State.{State, field_of, target_of}
 use Rattle.core_machine.specs.Words.{same_field}
 use Rattle.dlg_core.specs.Reachable.{Reachable}
-use Rattle.dlg_core.proofs.Keeps.Write.{same_field_is}
+use Rattle.dlg_core.proofs.Events.Write.{same_field_is}
 use Rattle.doc_model.specs.Store.{tree_at}
 use Rattle.doc_tree.specs.Tree.{DocTree}
 use Rattle.heap_rule.specs.Asks.{begun_of, target}

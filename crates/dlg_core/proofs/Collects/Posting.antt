@@ -27,7 +27,7 @@ use Rattle.dlg_core.specs.Facts.{child_in, unswept}
 use Rattle.dlg_core.proofs.Changes.Noted.{answered_each}
 use Rattle.dlg_core.proofs.Collects.Changes.{sweep_way}
 use Rattle.dlg_core.proofs.Collects.Followed.{Follows, IsLeftIn, IsFollowed}
-use Rattle.dlg_core.proofs.Keeps.Post.{all_ahead, none_ahead, no_scan, no_gray_at_end}
+use Rattle.dlg_core.proofs.Events.Post.{all_ahead, none_ahead, no_scan, no_gray_at_end}
 
 -- a colour that is neither blue nor gray
 pub white_or_black : (x : Colour) → x ≢ colour.Blue → x ≢ colour.Gray

@@ -34,7 +34,7 @@ use Rattle.dlg_core.proofs.Collects.Changes.{fewer_way}
 use Rattle.dlg_core.proofs.Collects.Followed.{Follows, IsLeft, IsLeftIn, IsFollowed}
 use Rattle.dlg_core.proofs.Collects.Mutating.{field_followed}
 use Rattle.dlg_core.proofs.Each.{set_each, null_beyond}
-use Rattle.dlg_core.proofs.Keeps.Sweep.{advance_unswept}
+use Rattle.dlg_core.proofs.Events.Sweep.{advance_unswept}
 use Rattle.dlg_core.proofs.Truths.{free_is, black_found_is, wipe_is}
 
 -- The word on the cell at the position changes, and what is still to be swept is.

@@ -1,6 +1,6 @@
 use Rattle.std.proofs.Common.{Err}
 use Rattle.script_files.specs.Sorts.{OfScripts}
-use Rattle.doc_run.specs.Clients.{ComesBy, IsMade, default_options}
+use Rattle.doc_run.specs.Clients.{IsRunGiven, IsMade, default_options}
 use Rattle.doc_run.specs.Ending.{IsSummaryOf}
 use Rattle.doc_run.proofs.Writing.{by_done, by_explained, by_failed, by_no_read, by_wanting}
 use Rattle.doc_run.proofs.Writing.{by_written, kept_finished}
@@ -9,7 +9,7 @@ use Rattle.doc_run.proofs.generated.run_scripts.Goals as goal
 pub returns-clause-explained : goal.returns-clause-explained
 returns-clause-explained g c =
     by_explained OfScripts (λ one. IsMade c.args.made (Err one))
-    (λ f. ComesBy (IsMade c.args.made) default_options f) c.in-Ok.finished c.write_lines.result
+    (λ f. IsRunGiven (IsMade c.args.made) default_options f) c.in-Ok.finished c.write_lines.result
     c.by_writing.result.fault c.by_writing.result.finished c.by_writing.ensures.fault
     (kept_finished c.write_lines.result c.in-Ok.finished c.by_writing.result.finished
     c.by_writing.ensures.finished)
@@ -17,7 +17,7 @@ returns-clause-explained g c =
 
 pub returns-clause-written : goal.returns-clause-written
 returns-clause-written g c =
-    by_written (λ f. ComesBy (IsMade c.args.made) default_options f) (IsSummaryOf c.args.made)
+    by_written (λ f. IsRunGiven (IsMade c.args.made) default_options f) (IsSummaryOf c.args.made)
     c.in-Ok.finished
     c.in-Ok-summary_of.text.items c.deref.result.now
     (g.S.Sink.written c.args.sink.now) (g.S.Sink.written c.write_lines.new.sink)

@@ -2,7 +2,7 @@ use Rattle.std.proofs.Common.{Err, map}
 use Rattle.run_words.specs.Requests.{run_asked_by}
 use Rattle.script_files.specs.Scripts.{AreScripts}
 use Rattle.script_files.specs.Sorts.{OfScripts}
-use Rattle.doc_run.specs.Clients.{ComesBy, options_of}
+use Rattle.doc_run.specs.Clients.{IsRunGiven, options_of}
 use Rattle.doc_run.specs.Reports.{IsReportOf}
 use Rattle.doc_run.proofs.Deciding.{comes_by}
 use Rattle.doc_run.proofs.Writing.{by_done, by_explained, by_failed, by_no_file, by_no_read}
@@ -15,7 +15,7 @@ returns-clause-explained g c =
     let f = c.in-Ok.ran.finished in
     let asked = run_asked_by c.args.run.now in
     by_explained OfScripts (λ one. AreScripts told (Err one))
-    (λ all. ComesBy (AreScripts told) (options_of asked) all) f
+    (λ all. IsRunGiven (AreScripts told) (options_of asked) all) f
     c.write_lines.result c.by_writing.result.fault c.by_writing.result.finished
     c.by_writing.ensures.fault
     (kept_finished c.write_lines.result f c.by_writing.result.finished
@@ -30,7 +30,7 @@ returns-clause-written g c =
     let f = c.in-Ok.ran.finished in
     let forms = c.in-Ok.ran.forms.items in
     let text = c.in-Ok-report_text.text.items in
-    by_written (λ all. ComesBy (AreScripts told) (options_of asked) all)
+    by_written (λ all. IsRunGiven (AreScripts told) (options_of asked) all)
     (IsReportOf c.args.report told asked) f
     text c.deref.result.now
     (g.S.Sink.written c.args.sink.now) (g.S.Sink.written c.write_lines.new.sink)

@@ -1,7 +1,7 @@
 use Rattle.dlg_core.proofs.Safety.{consistent_safe}
 use Rattle.heap_rule.proofs.Showing.{none_free}
 use Rattle.heap_rule.proofs.Stepping.{core_consistent}
-use Rattle.heap_rule.proofs.theorems.no_cell_in_use_is_free.Goals as goal
+use Rattle.heap_rule.proofs.theorems.no_reachable_cell_is_free.Goals as goal
 
 pub returns-clause-safe : goal.returns-clause-safe
 returns-clause-safe g c = λ h s k. consistent_safe k.ledger.core
