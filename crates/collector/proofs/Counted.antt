@@ -18,7 +18,7 @@ use Rattle.core_machine.specs.declared.events.Taken.{Taken}
 use Rattle.heap_rule.specs.Rule.{took}
 use Rattle.collector.specs.Answering.{AnswersNext, AnswersWhoIsOut, BeginWith, stage_after}
 use Rattle.collector.specs.Counting.{Comes, Counts, TracesAtMost, goes_on, is_blacken, is_free}
-use Rattle.collector.specs.Counting.{nothing, plus}
+use Rattle.collector.specs.Counting.{nothing, passes_one, plus, shades_one}
 use Rattle.collector.specs.Replay.{Work, count_along, ends_pass, is_shade, spills, stack_after}
 use Rattle.collector.specs.Replay.{stacks, strays, work_after, work_after_all}
 use Rattle.collector.specs.Stack.{Stack, has_room}
@@ -50,6 +50,12 @@ plus_none r =
     none : (n : ℕ) → n + 0 ≡ n
     none n = omega arith
 
+pub none_few : (n : ℕ) → TracesAtMost n nothing
+none_few n = record {
+  passes = omega arith; scanned = omega arith; stacked = omega arith; spilled = omega arith;
+  freed = refl;
+}
+
 pub at_most_more : (m n k : ℕ) (r q : CycleReport) → TracesAtMost m r → TracesAtMost n q
     → m + n ≤ k → TracesAtMost k (plus r q)
 at_most_more m n k r q first second le = record {
@@ -58,6 +64,25 @@ at_most_more m n k r q first second le = record {
   stacked = omega (arith, first.stacked, second.stacked, le);
   spilled = omega (arith, first.spilled, second.spilled, le);
   freed = omega (arith, first.freed, second.freed);
+}
+
+-- one of a kind, or none
+
+pub passes_few : (ends : Bool) → TracesAtMost 6 (passes_one ends)
+passes_few true = record {
+  passes = omega arith; scanned = omega arith; stacked = omega arith; spilled = omega arith;
+  freed = refl;
+}
+passes_few false = none_few 6
+
+pub shades_few : (pushed : Bool) → TracesAtMost 1 (shades_one pushed)
+shades_few true = record {
+  passes = omega arith; scanned = omega arith; stacked = omega arith; spilled = omega arith;
+  freed = refl;
+}
+shades_few false = record {
+  passes = omega arith; scanned = omega arith; stacked = omega arith; spilled = omega arith;
+  freed = refl;
 }
 
 pub at_most_of : (m n : ℕ) (r : CycleReport) → m ≤ n → TracesAtMost m r → TracesAtMost n r

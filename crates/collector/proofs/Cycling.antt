@@ -1,7 +1,7 @@
 -- The stages of a cycle, joined.
 use Rattle.std.proofs.Common.{◌≡◌, ◌<◌, ◌+◌, ℕ, is_some, length, Bool, true, IsTrue, List, [], ◌∷◌}
 use Rattle.std.proofs.Common.{◌++◌, replicate}
-use Rattle.std.proofs.Common.{refl, ◌∙◌, ap, subst}
+use Rattle.std.proofs.Common.{◌||◌, refl, sym, ◌∙◌, ap, subst}
 use Rattle.std.proofs.lemmas.List.{append_assoc}
 use Rattle.std.specs.List.{list_all}
 use Rattle.cell_heap.specs.Telling.{FindsKnown}
@@ -18,7 +18,7 @@ use Rattle.collector.specs.Bound.{Bound, HaveAnswered, control_of, mutators_of, 
 use Rattle.collector.specs.Bound.{takes}
 use Rattle.collector.specs.Counting.{Comes, Counts, Does, nothing, plus}
 use Rattle.collector.specs.Cycles.{Heard, IsAsked}
-use Rattle.collector.specs.Over.{AllOver, Hears}
+use Rattle.collector.specs.Over.{AllOver, Hears, HearsBeside}
 use Rattle.collector.specs.Replay.{Work, count_along, fresh_work_of, spills, work_after, work_of}
 use Rattle.collector.specs.Stack.{emptied}
 use Rattle.collector.specs.Stretches.{Stretch}
@@ -27,7 +27,7 @@ use Rattle.collector.proofs.Answered.{all_now}
 use Rattle.collector.proofs.Alone.{two_heard}
 use Rattle.collector.proofs.Counted.{all_shaded, comes_join, counts_join, none_plus, plus_none}
 use Rattle.collector.proofs.Counted.{still_comes, still_counts}
-use Rattle.collector.proofs.Hearing.{over_late, over_on}
+use Rattle.collector.proofs.Hearing.{HearsAs, over_late, over_of_two, over_on}
 use Rattle.collector.proofs.Joining.{counts_to, kept_then, stretch_one, stretch_then}
 use Rattle.collector.proofs.Joining.{took_append}
 
@@ -68,12 +68,13 @@ module _ {P : Type 0} where
       → mutators_of b ≡ mutators_of a
   mutators_from F a b stretch = ap (λ (h : Shape). h.mutators) stretch.kept.shape
 
-  cleared_then : (r : CycleReport) (b c d : Bound P)
+  cleared_then : (r : CycleReport) (over : Bool) (n : ℕ) (b c d : Bound P)
       → c ≡ takes b (event.Post stage.Clear) finds.Stored
-      → FindsKnown b.seat.me (event.Post stage.Clear) finds.Stored → Does r c d
-      → Stretch (BeginsWith (took (event.Post stage.Clear) finds.Stored) (work_of b) (work_of d) r)
-      b d
-  cleared_then r b c d posts known rest =
+      → FindsKnown b.seat.me (event.Post stage.Clear) finds.Stored → HearsBeside r over 0 n c d
+      → Stretch (λ xs.
+      BeginsWith (took (event.Post stage.Clear) finds.Stored) (work_of b) (work_of d) r xs
+      × (IsTrue over → AllOver 0 n xs)) b d
+  cleared_then r over n b c d posts known rest =
       let e = event.Post stage.Clear in
       let z = took e finds.Stored in
       let now = collector_state b.seat.me in
@@ -81,14 +82,15 @@ module _ {P : Type 0} where
       let stack = ap (λ (x : Bound P). x.stack) posts in
       stretch_then
       (λ (xs : List Taken). Counts (work_of b) (work_of c) nothing xs × (xs ≡ z ∷ []))
-      (Counts (work_of c) (work_of d) r)
-      (BeginsWith z (work_of b) (work_of d) r) b c d
-      (λ xs ys first second. (
+      (HearsAs r over 0 n (work_of c) (work_of d))
+      (λ (xs : List Taken). BeginsWith z (work_of b) (work_of d) r xs
+      × (IsTrue over → AllOver 0 n xs)) b c d
+      (λ xs ys first second. ((
         counts_as (work_of b) (work_of d) (plus nothing r) r (xs ++ ys) (none_plus r)
-            (counts_join (work_of b) (work_of c) (work_of d) nothing r xs ys first.0 second),
+            (counts_join (work_of b) (work_of c) (work_of d) nothing r xs ys first.0 second.0),
         ys,
         ap (λ (zs : List Taken). zs ++ ys) first.1,
-      ))
+      ), λ so. over_late 0 n xs ys (second.1 so)))
       (stretch_one (λ (xs : List Taken). Counts (work_of b) (work_of c) nothing xs × (xs ≡ z ∷ []))
       b c e finds.Stored now (ap (λ (x : Bound P). x.heap) posts) seat stack known (
         counts_to nothing b c e finds.Stored now seat stack
@@ -97,16 +99,17 @@ module _ {P : Type 0} where
       ))
       rest
 
-  pub made_of : (over : Bool) (n : ℕ) (r : CycleReport) (a b c d : Bound P)
-      → Hears over 0 n a b → c ≡ takes b (event.Post stage.Clear) finds.Stored
-      → FindsKnown b.seat.me (event.Post stage.Clear) finds.Stored → Does r c d
+  pub made_of : (first later over : Bool) (n : ℕ) (r : CycleReport) (a b c d : Bound P)
+      → over ≡ (first || later)
+      → Hears first 0 n a b → c ≡ takes b (event.Post stage.Clear) finds.Stored
+      → FindsKnown b.seat.me (event.Post stage.Clear) finds.Stored → HearsBeside r later 0 n c d
       → length b.seat.me.over ≡ n
       → (0 < n → list_all (λ found. found) b.seat.me.over ≡ true
       → is_some b.seat.me.alone ≡ true)
       → (control_of b).stage ≡ stage.Sync1 → (control_of d).stage ≡ stage.Sweep
       → Stretch (MadeBy (work_of a) (work_of d) r over n) a d
-  made_of over n r a b c d hears posts known does long knows sync1 sweep =
-      let rest = cleared_then r b c d posts known does in
+  made_of first later over n r a b c d either hears posts known beside long knows sync1 sweep =
+      let rest = cleared_then r later n b c d posts known beside in
       record {
         added = hears.added ++ rest.added;
         told = took_append a.seat b.seat d.seat hears.added rest.added hears.told rest.told;
@@ -118,14 +121,15 @@ module _ {P : Type 0} where
           counts_as (work_of a) (work_of d) (plus nothing r) r (hears.added ++ rest.added)
               (none_plus r)
               (counts_join (work_of a) (work_of b) (work_of d) nothing r hears.added rest.added
-              hears.fact.0 rest.fact.0),
-          λ so. over_on 0 n hears.added rest.added (hears.fact.1 so),
+              hears.fact.0 rest.fact.0.0),
+          λ so. over_of_two first later n hears.added rest.added (sym either ∙ so) hears.fact.1
+              rest.fact.1,
           record {
             asked = hears.added;
-            rest = rest.fact.1;
-            split = ap (λ (ys : List Taken). hears.added ++ ys) rest.fact.2;
+            rest = rest.fact.0.1;
+            split = ap (λ (ys : List Taken). hears.added ++ ys) rest.fact.0.2;
             two = λ some over none. two_heard n r a b d hears.added rest.added hears.told rest.told
-                long knows known rest.fact.0 sync1 sweep some over none;
+                long knows known rest.fact.0.0 sync1 sweep some over none;
           },
         );
       }

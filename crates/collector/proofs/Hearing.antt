@@ -1,5 +1,5 @@
 -- Handshakes: what the polls found, mutator by mutator.
-use Rattle.std.proofs.Common.{◌≡◌, ◌+◌, ◌&&◌, ◌||◌, ℕ, Bool, true, not, IsTrue}
+use Rattle.std.proofs.Common.{◌≡◌, ◌+◌, ◌&&◌, ◌||◌, ℕ, Bool, true, false, not, IsTrue}
 use Rattle.std.proofs.Common.{List, [], ◌∷◌, ◌++◌, inl, inr, refl, sym, ◌∙◌, ap, subst, arith}
 use Rattle.std.proofs.Common.{eq-eqb}
 use Rattle.std.proofs.lemmas.Bool.{and_parts, cases_lt, false≢true, or_left, or_right}
@@ -21,9 +21,10 @@ use Rattle.heap_rule.specs.Rule.{took}
 use Rattle.heap_rule.specs.declared.view.View.{View}
 use Rattle.collector.specs.Bound.{Bound, control_of, tells_at}
 use Rattle.collector.specs.Counting.{Counts, Does, nothing}
-use Rattle.collector.specs.Over.{AllOver, Hears, finds_over, was_over}
+use Rattle.collector.specs.Over.{AllOver, Hears, HearsBeside, finds_over, was_over}
 use Rattle.collector.specs.Replay.{Work, work_after, work_of}
-use Rattle.collector.proofs.Counted.{counts_join, poll_comes}
+use Rattle.collector.specs.declared.report.CycleReport.{CycleReport}
+use Rattle.collector.proofs.Counted.{counts_join, none_plus, poll_comes}
 use Rattle.collector.proofs.Joining.{counts_to, stretch_as, stretch_one, stretch_then, work_is}
 
 over_here : (m : ℕ) (found : Presence) → IsTrue found.over
@@ -53,9 +54,18 @@ over_more m xs ys first second k low high =
       | inr here ↦ over_late m (m + 1) xs ys second k here high
     ]
 
+-- one of two stretches found all over
+pub over_of_two : (one other : Bool) (n : ℕ) (xs ys : List Taken) → (one || other) ≡ true
+    → (IsTrue one → AllOver 0 n xs) → (IsTrue other → AllOver 0 n ys) → AllOver 0 n (xs ++ ys)
+over_of_two true other n xs ys so first second = over_on 0 n xs ys (first refl)
+over_of_two false other n xs ys so first second = over_late 0 n xs ys (second so)
+
+abbrev pub HearsAs : CycleReport → Bool → ℕ → ℕ → Work → Work → List Taken → Type 0
+HearsAs report over from end a b events =
+    Counts a b report events × (IsTrue over → AllOver from end events)
+
 abbrev HearsBy : Bool → ℕ → ℕ → Work → Work → List Taken → Type 0
-HearsBy over from end a b events =
-    Counts a b nothing events × (IsTrue over → AllOver from end events)
+HearsBy over from end a b events = HearsAs nothing over from end a b events
 
 module _ {P : Type 0} where
   pub hears_does : (over : Bool) (from end : ℕ) (a b : Bound P) → Hears over from end a b
@@ -63,6 +73,35 @@ module _ {P : Type 0} where
   hears_does over from end a b hears =
       stretch_as (HearsBy over from end (work_of a) (work_of b))
       (Counts (work_of a) (work_of b) nothing) a b (λ xs both. both.0) hears
+
+  pub beside_does : (r : CycleReport) (over : Bool) (n : ℕ) (a b : Bound P)
+      → HearsBeside r over 0 n a b → Does r a b
+  beside_does r over n a b hears =
+      stretch_as (HearsAs r over 0 n (work_of a) (work_of b)) (Counts (work_of a) (work_of b) r)
+      a b (λ xs both. both.0) hears
+
+  -- before events that come to something
+  pub hears_before : (r : CycleReport) (over : Bool) (n : ℕ) (a b c : Bound P)
+      → Hears over 0 n a b → Does r b c → HearsBeside r over 0 n a c
+  hears_before r over n a b c first second =
+      stretch_then (HearsBy over 0 n (work_of a) (work_of b)) (Counts (work_of b) (work_of c) r)
+      (HearsAs r over 0 n (work_of a) (work_of c)) a b c
+      (λ xs ys one two. (
+        subst (λ (x : CycleReport). Counts (work_of a) (work_of c) x (xs ++ ys)) (none_plus r)
+            (counts_join (work_of a) (work_of b) (work_of c) nothing r xs ys one.0 two),
+        λ so. over_on 0 n xs ys (one.1 so),
+      )) first second
+
+  -- two handshakes one after the other, of which one found all over
+  pub hears_either : (one other either : Bool) (n : ℕ) (a b c : Bound P)
+      → either ≡ (one || other) → Hears one 0 n a b → Hears other 0 n b c → Hears either 0 n a c
+  hears_either one other either n a b c is first second =
+      stretch_then (HearsBy one 0 n (work_of a) (work_of b))
+      (HearsBy other 0 n (work_of b) (work_of c)) (HearsBy either 0 n (work_of a) (work_of c)) a b c
+      (λ xs ys x y. (
+        counts_join (work_of a) (work_of b) (work_of c) nothing nothing xs ys x.0 y.0,
+        λ so. over_of_two one other n xs ys (sym is ∙ so) x.1 y.1,
+      )) first second
 
   -- behind events that count for nothing
   pub hears_after : (over : Bool) (from end : ℕ) (a b c : Bound P) → Does nothing a b

@@ -108,3 +108,11 @@ module _ {P : Type 0} where
   -- the collector took events that come to this
   abbrev pub Does : CycleReport → Bound P → Bound P → Type 0
   Does r old new = Stretch (Counts (work_of old) (work_of new) r) old new
+
+  -- It took events of tracing that come to what the later report has more than the earlier one: to
+  -- at most so much of each kind.
+  pub record CountsOn (n : ℕ) (so_far all : CycleReport) (old new : Bound P) : Type 0 where
+    pub more : CycleReport
+    pub few : TracesAtMost n more
+    pub all_are : all ≡ plus so_far more
+    pub does : Does more old new

@@ -11,6 +11,7 @@ use Rattle.collector.specs.Bound.{Bound}
 use Rattle.collector.specs.Counting.{Counts, nothing}
 use Rattle.collector.specs.Replay.{work_of}
 use Rattle.collector.specs.Stretches.{Stretch}
+use Rattle.collector.specs.declared.report.CycleReport.{CycleReport}
 
 -- a Poll or an AnswerOut of this mutator found it over
 abbrev pub finds_over : ℕ → Event → Found → Bool
@@ -36,8 +37,12 @@ abbrev pub MeetOver : List Taken → Type 0
 MeetOver events = list_all (λ (t : Taken). meets_over t.event t.found) events ≡ true
 
 module _ {P : Type 0} where
-  -- the collector took events that count for nothing, and found these over where the flag says so
-  abbrev pub Hears : Bool → ℕ → ℕ → Bound P → Bound P → Type 0
-  Hears over from end old new =
-      Stretch (λ (events : List Taken). Counts (work_of old) (work_of new) nothing events
+  -- the collector took events that come to this, and found these over where the flag says so
+  abbrev pub HearsBeside : CycleReport → Bool → ℕ → ℕ → Bound P → Bound P → Type 0
+  HearsBeside report over from end old new =
+      Stretch (λ (events : List Taken). Counts (work_of old) (work_of new) report events
       × (IsTrue over → AllOver from end events)) old new
+
+  -- events that count for nothing
+  abbrev pub Hears : Bool → ℕ → ℕ → Bound P → Bound P → Type 0
+  Hears over from end old new = HearsBeside nothing over from end old new

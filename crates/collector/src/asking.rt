@@ -1,5 +1,5 @@
 //! Handshakes: every mutator answers for itself, or is answered for while it is out.
-ghost use Rattle.std.specs.Prelude.{◌≡◌, ◌<◌, ◌+◌, ◌&&◌, replicate, slice_index_or, true, false};
+ghost use Rattle.std.specs.Prelude.{◌≡◌, ◌<◌, ◌+◌, ◌&&◌, ◌||◌, replicate, slice_index_or, true, false};
 ghost use Rattle.collector.specs.Bound.{control_of, mutators_of, part_of};
 ghost use Rattle.collector.specs.Over.{Hears};
 ghost use Rattle.core_machine.specs.Collector.{answered_by};
@@ -40,6 +40,13 @@ fn both(one: bool, other: bool) -> bool
     ensures both { result ≡ (one && other) }
 {
     one && other
+}
+
+/// Whether one of both is so.
+pub(crate) fn either(one: bool, other: bool) -> bool
+    ensures either { result ≡ (one || other) }
+{
+    one || other
 }
 
 impl<'a, P: Keeping> Collector<'a, P> {

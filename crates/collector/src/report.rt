@@ -30,30 +30,36 @@ impl CycleReport {
         }
     }
 
-    /// Of one pass, if it ended.
-    pub(crate) fn passed(ends: bool) -> CycleReport
-        ensures report { result ≡ passes_one ends }
+    /// Of one pass more, if it ended.
+    pub(crate) fn passed(self, ends: bool) -> CycleReport
+        requires few { self.passes < 2 ^ 63 }
+        ensures report { result ≡ plus self (passes_one ends) }
     {
-        let passes = if ends { 1 } else { 0 };
-        CycleReport {
-            passes,
-            ..CycleReport::nothing()
+        if ends {
+            CycleReport {
+                passes: self.passes + 1,
+                ..self
+            }
+        } else {
+            self
         }
     }
 
-    /// Of one shaded child, which was pushed or found the stack full.
-    pub(crate) fn shaded(pushed: bool) -> CycleReport
-        ensures report { result ≡ shades_one pushed }
+    /// Of one shaded child more, which was pushed or found the stack full.
+    pub(crate) fn shaded(self, pushed: bool) -> CycleReport
+        requires stacked { self.stacked < 2 ^ 63 }
+        requires spilled { self.spilled < 2 ^ 63 }
+        ensures report { result ≡ plus self (shades_one pushed) }
     {
         if pushed {
             CycleReport {
-                stacked: 1,
-                ..CycleReport::nothing()
+                stacked: self.stacked + 1,
+                ..self
             }
         } else {
             CycleReport {
-                spilled: 1,
-                ..CycleReport::nothing()
+                spilled: self.spilled + 1,
+                ..self
             }
         }
     }

@@ -6,7 +6,7 @@
 ghost use Rattle.std.specs.Prelude.{◌≡◌, ◌<◌, ◌≤◌, ◌+◌, ◌*◌, ◌^◌, ◌==◌, ◌&&◌, Some, None, true, false};
 ghost use Rattle.cell_words.specs.declared.controls.Stage.TheVariants as stage;
 ghost use Rattle.collector.specs.Bound.{HaveAnswered, KeepsTracing, cells_of, control_of, part_of, scan_at};
-ghost use Rattle.collector.specs.Counting.{Does, TracesAtMost, is_traced};
+ghost use Rattle.collector.specs.Counting.{CountsOn, Does, TracesAtMost, is_traced};
 ghost use Rattle.collector.specs.Looking.{counted, scan_of};
 ghost use Rattle.core_machine.specs.Collector.{restarted};
 
@@ -39,23 +39,24 @@ fn is_last(at: u32, cell: u32, cells: u32) -> bool
 }
 
 impl<'a, P: Keeping> Collector<'a, P> {
-    /// Loads the next field of the cell under scan. The cell that it names is shaded, and pushed.
-    fn scan_field(&mut self, cell: u32, field: usize) -> CycleReport
+    /// Loads the next field of the cell under scan. The cell that it names is shaded, and pushed,
+    /// which is counted beside what was traced so far.
+    fn scan_field(&mut self, cell: u32, field: usize, so_far: CycleReport) -> CycleReport
         requires scan { (part_of self.old).scan ≡ Some (scan_at cell field) }
         requires field { field < 5 }
-        ensures does { Does result self.old self.new }
-        ensures few { TracesAtMost 1 result }
+        requires few { TracesAtMost (2 ^ 62) so_far }
+        ensures counts { CountsOn 1 so_far result self.old self.new }
         ensures control { control_of self.new ≡ control_of self.old }
         ensures part { part_of self.new
             ≡ record (part_of self.old) { scan = Some (scan_at cell (field + 1)) } }
     {
         match self.scan_once() {
-            Field::Null => CycleReport::nothing(),
-            Field::Num(_) => CycleReport::nothing(),
+            Field::Null => so_far,
+            Field::Num(_) => so_far,
             Field::Cell(child) => {
                 self.shade_once();
                 let pushed = self.push(child);
-                CycleReport::shaded(pushed)
+                so_far.shaded(pushed)
             }
         }
     }
@@ -70,8 +71,7 @@ impl<'a, P: Keeping> Collector<'a, P> {
     {
         let mut report = CycleReport::nothing();
         for field in 0..5usize {
-            let more = self.scan_field(cell, field);
-            report = report.with(more);
+            report = self.scan_field(cell, field, report);
         }
         report
     }
@@ -127,24 +127,28 @@ impl<'a, P: Keeping> Collector<'a, P> {
         }
     }
 
-    /// Looks at the next cell, and scans it where it is gray.
-    fn trace_next(&mut self) -> CycleReport
+    /// Looks at the next cell, scans it where it is gray, and counts that beside what was traced so
+    /// far.
+    fn trace_next(&mut self, so_far: CycleReport) -> CycleReport
         requires stage { (control_of self.old).stage ≡ stage.Trace }
         requires answered { HaveAnswered self.old }
         requires some { 0 < cells_of self.old }
         requires within { (part_of self.old).cursor ≤ cells_of self.old }
         requires more { is_traced self.old ≡ false }
         requires scan { (part_of self.old).scan ≡ None }
-        ensures does { Does result self.old self.new }
-        ensures few { TracesAtMost 6 result }
+        requires few { TracesAtMost (2 ^ 62) so_far }
+        ensures counts { CountsOn 6 so_far result self.old self.new }
         ensures control { control_of self.new ≡ control_of self.old }
         ensures kept { KeepsTracing (part_of self.old) (part_of self.new) }
         ensures scan { (part_of self.new).scan ≡ None }
         ensures within { (part_of self.new).cursor ≤ cells_of self.new }
     {
         match self.look_next() {
-            Looked::Gray(cell) => self.scan_cell(cell),
-            Looked::Other(ends) => CycleReport::passed(ends),
+            Looked::Gray(cell) => {
+                let more = self.scan_cell(cell);
+                so_far.with(more)
+            }
+            Looked::Other(ends) => so_far.passed(ends),
         }
     }
 
@@ -174,8 +178,7 @@ impl<'a, P: Keeping> Collector<'a, P> {
             if self.is_traced() {
                 return report;
             }
-            let more = self.trace_next();
-            report = report.with(more);
+            report = self.trace_next(report);
         }
         for _ in rt.forever() {
             thread::yield_now();

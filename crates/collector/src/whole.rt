@@ -7,7 +7,7 @@ ghost use Rattle.collector.specs.Bound.{takes};
 ghost use Rattle.collector.specs.Counting.{Counts, Does, nothing};
 ghost use Rattle.collector.specs.Cycles.{Heard, IsAsked, Reported};
 ghost use Rattle.collector.specs.Offering.{OffersAll, freed_since};
-ghost use Rattle.collector.specs.Over.{AllOver};
+ghost use Rattle.collector.specs.Over.{AllOver, Hears, HearsBeside};
 ghost use Rattle.collector.specs.Replay.{fresh_work_of, work_of};
 ghost use Rattle.collector.specs.Stack.{emptied};
 ghost use Rattle.collector.specs.Stretches.{Stretch};
@@ -18,6 +18,7 @@ ghost use Rattle.core_machine.specs.declared.events.Found.TheVariants as finds;
 ghost use Rattle.core_machine.specs.declared.progress.Sweeping.TheVariants as sweeping;
 ghost use Rattle.free_cells.specs.Hints.{cells_of as hinted_of, counts_of, queue_of};
 
+use crate::asking::either;
 use crate::collecting::Collector;
 use crate::report::CycleReport;
 use cell_words::Stage;
@@ -25,7 +26,7 @@ use free_cells::Hints;
 use heap_rule::Keeping;
 use std::sync::Wait;
 
-/// A cycle that was made, and whether its first handshake found every mutator over.
+/// What a cycle came to, and whether one of its handshakes found every mutator over.
 #[derive(Clone, Copy)]
 pub(crate) struct Made {
     pub report: CycleReport,
@@ -47,21 +48,23 @@ impl<'a, P: Keeping> Collector<'a, P> {
         self.post_once(Stage::Sync2);
     }
 
-    /// The second handshake, the mark of the anchor, and the third handshake.
-    fn anchor_stage<R: Wait>(&mut self, rt: &R)
+    /// The second handshake, the mark of the anchor, and the third handshake. It gives whether one
+    /// of both found every mutator over.
+    fn anchor_stage<R: Wait>(&mut self, rt: &R) -> bool
         requires stage { (control_of self.old).stage ≡ stage.Sync2 }
         requires nobody { (part_of self.old).answered ≡ replicate (mutators_of self.old) false }
-        ensures does { Does nothing self.old self.new }
+        ensures hears { Hears result 0 (mutators_of self.old) self.old self.new }
         ensures control { control_of self.new
             ≡ record (control_of self.old) { stage = stage.Trace } }
         ensures all { (part_of self.new).answered ≡ replicate (mutators_of self.new) true }
         ensures first { (part_of self.new).cursor ≡ 0 }
         ensures work { KeepsWork (part_of self.old) (part_of self.new) }
     {
-        let _over = self.await_all(rt);
+        let over = self.await_all(rt);
         self.anchor_once();
         self.post_once(Stage::Trace);
-        let _again = self.await_all(rt);
+        let again = self.await_all(rt);
+        either(over, again)
     }
 
     /// Tracing and sweeping.
@@ -87,7 +90,7 @@ impl<'a, P: Keeping> Collector<'a, P> {
     }
 
     /// All of a cycle from clearing on, but its last event.
-    fn collect<R: Wait>(&mut self, rt: &R, hints: &mut Hints<'_>) -> CycleReport
+    fn collect<R: Wait>(&mut self, rt: &R, hints: &mut Hints<'_>) -> Made
         requires stage { (control_of self.old).stage ≡ stage.Clear }
         requires first { (part_of self.old).cursor ≡ 0 }
         requires some { 0 < cells_of self.old }
@@ -95,17 +98,21 @@ impl<'a, P: Keeping> Collector<'a, P> {
             ≡ replicate (mutators_of self.old) false }
         requires scan { (part_of self.old).scan ≡ None }
         requires hints { hinted_of (queue_of hints.old) ≡ cells_of self.old }
-        ensures does { Does result self.old self.new }
-        ensures few { result.freed < 2 ^ 32 }
+        ensures hears { HearsBeside result.report result.over 0 (mutators_of self.old)
+            self.old self.new }
+        ensures few { result.report.freed < 2 ^ 32 }
         ensures control { control_of self.new ≡ record (control_of self.old)
             { stage = stage.Sweep; position = cells_of self.old } }
         ensures queue { queue_of hints.new ≡ queue_of hints.old }
-        ensures offered { OffersAll (freed_since self.old self.new) (counts_of hints.old) (counts_of hints.new) }
-        ensures puts { (counts_of hints.new).puts ≡ (counts_of hints.old).puts + result.freed }
+        ensures offered { OffersAll (freed_since self.old self.new) (counts_of hints.old)
+            (counts_of hints.new) }
+        ensures puts { (counts_of hints.new).puts
+            ≡ (counts_of hints.old).puts + result.report.freed }
     {
         self.clear_stage();
-        self.anchor_stage(rt);
-        self.free_stage(rt, hints)
+        let over = self.anchor_stage(rt);
+        let report = self.free_stage(rt, hints);
+        Made { report, over }
     }
 
     /// All of a cycle but its first and its last event.
@@ -130,8 +137,11 @@ impl<'a, P: Keeping> Collector<'a, P> {
         let over = self.await_all(rt);
         let _mutators = self.mutators();
         self.post_once(Stage::Clear);
-        let report = self.collect(rt, hints);
-        Made { report, over }
+        let made = self.collect(rt, hints);
+        Made {
+            report: made.report,
+            over: either(over, made.over),
+        }
     }
 
     /// Begins a cycle: nothing is on the stack, no scan goes on, and nobody has answered.

@@ -1,4 +1,4 @@
-use Rattle.std.proofs.Common.{Bool, true, false, ℕ, replicate, refl, sym, ◌∙◌, ap}
+use Rattle.std.proofs.Common.{◌≡◌, Bool, true, false, ℕ, replicate, refl, sym, ◌∙◌, ap, subst}
 use Rattle.std.proofs.lemmas.Bool.{and_from}
 use Rattle.std.proofs.lemmas.List.{length-replicate}
 use Rattle.std.specs.List.{list_all}
@@ -12,9 +12,10 @@ use Rattle.core_machine.specs.declared.events.Found.TheVariants as finds
 use Rattle.collector.specs.Bound.{Bound, control_of, mutators_of, part_of}
 use Rattle.collector.proofs.Answered.{all_now, nobody_now}
 use Rattle.collector.specs.Counting.{nothing}
+use Rattle.collector.specs.Over.{Hears}
 use Rattle.heap_rule.specs.Shape.{Shape}
 use Rattle.collector.proofs.Cycling.{answered_all}
-use Rattle.collector.proofs.Hearing.{hears_does}
+use Rattle.collector.proofs.Hearing.{hears_after, hears_either}
 use Rattle.collector.proofs.Joining.{does_and, does_still}
 use Rattle.collector.proofs.collecting.Collector.anchor_stage.Goals as goal
 
@@ -56,19 +57,24 @@ await_all-again-requires-clause-nobody g c =
     ∙ ap (λ (x : Bound _). mutators_of x) c.anchor_once.ensures.told.1
     ∙ ap (λ (h : Shape). h.mutators) c.await_all-over.ensures.hears.kept.shape))
 
-pub returns-clause-does : goal.returns-clause-does
-returns-clause-does g c =
+pub returns-clause-hears : goal.returns-clause-hears
+returns-clause-hears g c =
     let n = mutators_of c.args.self.now in
-    let asked = hears_does c.await_all-over.result 0 n c.args.self.now c.await_all-over.new.self
-    c.await_all-over.ensures.hears in
+    let same : mutators_of c.post_once.new.self ≡ n =
+        ap (λ (x : Bound _). mutators_of x) c.post_once.ensures.told
+        ∙ ap (λ (x : Bound _). mutators_of x) c.anchor_once.ensures.told.1
+        ∙ ap (λ (h : Shape). h.mutators) c.await_all-over.ensures.hears.kept.shape in
     let anchored = does_still c.await_all-over.new.self c.anchor_once.new.self event.Anchor
     (finds.Colour c.anchor_once.ensures.told.0) refl refl c.anchor_once.ensures.told.1
     c.anchor_once.ensures.told.2 in
     let posted = does_still c.anchor_once.new.self c.post_once.new.self (event.Post stage.Trace)
     finds.Stored refl refl c.post_once.ensures.told c.post_once.ensures.known in
-    let again = hears_does c.await_all-again.result 0 (mutators_of c.post_once.new.self)
-    c.post_once.new.self c.await_all-again.new.self c.await_all-again.ensures.hears in
-    does_and nothing c.args.self.now c.post_once.new.self c.await_all-again.new.self
-    (does_and nothing c.args.self.now c.anchor_once.new.self c.post_once.new.self
-    (does_and nothing c.args.self.now c.await_all-over.new.self c.anchor_once.new.self
-    asked anchored) posted) again
+    let between = does_and nothing c.await_all-over.new.self c.anchor_once.new.self
+    c.post_once.new.self anchored posted in
+    let again = subst (λ (k : ℕ). Hears c.await_all-again.result 0 k c.post_once.new.self
+    c.await_all-again.new.self) same c.await_all-again.ensures.hears in
+    hears_either c.await_all-over.result c.await_all-again.result c.either.result n
+    c.args.self.now c.await_all-over.new.self c.await_all-again.new.self c.either.ensures.either
+    c.await_all-over.ensures.hears
+    (hears_after c.await_all-again.result 0 n c.await_all-over.new.self c.post_once.new.self
+    c.await_all-again.new.self between again)

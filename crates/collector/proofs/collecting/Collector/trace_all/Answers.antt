@@ -7,19 +7,20 @@ use Rattle.collector.proofs.collecting.Collector.trace_all.Goals as goal
 
 pub loop-turn-preserved : goal.loop-turn-preserved
 loop-turn-preserved g c = (
-  does_both c.loop-turn.report c.trace_next-more.result c.with-report.result c.args.self.now
-      c.loop-turn.self c.trace_next-more.new.self c.with-report.ensures.report
-      c.loop-turn.invariant.0 c.trace_next-more.ensures.does,
+  does_both c.loop-turn.report c.trace_next-report.ensures.counts.more c.trace_next-report.result
+      c.args.self.now c.loop-turn.self c.trace_next-report.new.self
+      c.trace_next-report.ensures.counts.all_are c.loop-turn.invariant.0
+      c.trace_next-report.ensures.counts.does,
   subst (λ (r : CycleReport). TracesAtMost (6 * (c.loop-turn._turn + 1)) r)
-      (sym c.with-report.ensures.report)
+      (sym c.trace_next-report.ensures.counts.all_are)
       (at_most_more (6 * c.loop-turn._turn) 6 (6 * (c.loop-turn._turn + 1)) c.loop-turn.report
-      c.trace_next-more.result c.loop-turn.invariant.1 c.trace_next-more.ensures.few
-      (omega arith)),
-  c.trace_next-more.ensures.control ∙ c.loop-turn.invariant.2,
+      c.trace_next-report.ensures.counts.more c.loop-turn.invariant.1
+      c.trace_next-report.ensures.counts.few (omega arith)),
+  c.trace_next-report.ensures.control ∙ c.loop-turn.invariant.2,
   record {
-    answered = c.trace_next-more.ensures.kept.answered ∙ c.loop-turn.invariant.3.answered;
-    sweep = c.trace_next-more.ensures.kept.sweep ∙ c.loop-turn.invariant.3.sweep;
+    answered = c.trace_next-report.ensures.kept.answered ∙ c.loop-turn.invariant.3.answered;
+    sweep = c.trace_next-report.ensures.kept.sweep ∙ c.loop-turn.invariant.3.sweep;
   },
-  c.trace_next-more.ensures.scan,
-  c.trace_next-more.ensures.within,
+  c.trace_next-report.ensures.scan,
+  c.trace_next-report.ensures.within,
 )
