@@ -1,5 +1,5 @@
 -- Stretches follow one another: their events go together, and their counts add up.
-use Rattle.std.proofs.Common.{◌≡◌, true, List, [], ◌∷◌, ◌++◌, refl, sym, ◌∙◌, ap, subst}
+use Rattle.std.proofs.Common.{◌≡◌, ℕ, true, List, [], ◌∷◌, ◌++◌, refl, sym, ◌∙◌, ap, subst}
 use Rattle.std.proofs.lemmas.List.{append_assoc, append-nil}
 use Rattle.cell_heap.specs.Telling.{FindsKnown}
 use Rattle.core_machine.specs.State.{State}

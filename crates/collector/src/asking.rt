@@ -1,5 +1,6 @@
 //! Handshakes: every mutator answers for itself, or is answered for while it is out.
-ghost use Rattle.std.specs.Prelude.{◌≡◌, ◌<◌, ◌+◌, ◌&&◌, ◌||◌, replicate, slice_index_or, true, false};
+ghost use Rattle.std.specs.Prelude.{◌≡◌, ◌<◌, ◌+◌, ◌&&◌, ◌||◌, replicate, slice_index_or};
+ghost use Rattle.std.specs.Prelude.{false, true};
 ghost use Rattle.collector.specs.Bound.{control_of, mutators_of, part_of};
 ghost use Rattle.collector.specs.Over.{Hears};
 ghost use Rattle.core_machine.specs.Collector.{answered_by};

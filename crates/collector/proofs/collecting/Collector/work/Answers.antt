@@ -48,10 +48,10 @@ returns-clause-made g c =
     let posted : mutators_of c.post_once.new.self ≡ n =
         ap (λ (x : Bound _). mutators_of x) c.post_once.ensures.told
         ∙ ap (λ (h : Shape). h.mutators) c.await_all-over.ensures.hears.kept.shape in
-    made_of c.await_all-over.result c.collect-made.result.over c.either-over.result n
+    made_of c.await_all-over.result c.collect-made.result.over c.either.result n
     c.collect-made.result.report c.args.self.now
     c.await_all-over.new.self c.post_once.new.self c.collect-made.new.self
-    c.either-over.ensures.either
+    c.either.ensures.either
     c.await_all-over.ensures.hears c.post_once.ensures.told c.post_once.ensures.known
     (subst (λ (k : ℕ). HearsBeside c.collect-made.result.report c.collect-made.result.over 0 k
     c.post_once.new.self c.collect-made.new.self) posted c.collect-made.ensures.hears)
