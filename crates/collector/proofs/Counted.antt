@@ -52,7 +52,10 @@ plus_none r =
 
 pub none_few : (n : ℕ) → TracesAtMost n nothing
 none_few n = record {
-  passes = omega arith; scanned = omega arith; stacked = omega arith; spilled = omega arith;
+  passes = omega arith;
+  scanned = omega arith;
+  stacked = omega arith;
+  spilled = omega arith;
   freed = refl;
 }
 
@@ -70,18 +73,27 @@ at_most_more m n k r q first second le = record {
 
 pub passes_few : (ends : Bool) → TracesAtMost 6 (passes_one ends)
 passes_few true = record {
-  passes = omega arith; scanned = omega arith; stacked = omega arith; spilled = omega arith;
+  passes = omega arith;
+  scanned = omega arith;
+  stacked = omega arith;
+  spilled = omega arith;
   freed = refl;
 }
 passes_few false = none_few 6
 
 pub shades_few : (pushed : Bool) → TracesAtMost 1 (shades_one pushed)
 shades_few true = record {
-  passes = omega arith; scanned = omega arith; stacked = omega arith; spilled = omega arith;
+  passes = omega arith;
+  scanned = omega arith;
+  stacked = omega arith;
+  spilled = omega arith;
   freed = refl;
 }
 shades_few false = record {
-  passes = omega arith; scanned = omega arith; stacked = omega arith; spilled = omega arith;
+  passes = omega arith;
+  scanned = omega arith;
+  stacked = omega arith;
+  spilled = omega arith;
   freed = refl;
 }
 

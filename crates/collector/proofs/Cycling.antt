@@ -85,12 +85,15 @@ module _ {P : Type 0} where
       (HearsAs r over 0 n (work_of c) (work_of d))
       (λ (xs : List Taken). BeginsWith z (work_of b) (work_of d) r xs
       × (IsTrue over → AllOver 0 n xs)) b c d
-      (λ xs ys first second. ((
-        counts_as (work_of b) (work_of d) (plus nothing r) r (xs ++ ys) (none_plus r)
-            (counts_join (work_of b) (work_of c) (work_of d) nothing r xs ys first.0 second.0),
-        ys,
-        ap (λ (zs : List Taken). zs ++ ys) first.1,
-      ), λ so. over_late 0 n xs ys (second.1 so)))
+      (λ xs ys first second. (
+        (
+          counts_as (work_of b) (work_of d) (plus nothing r) r (xs ++ ys) (none_plus r)
+              (counts_join (work_of b) (work_of c) (work_of d) nothing r xs ys first.0 second.0),
+          ys,
+          ap (λ (zs : List Taken). zs ++ ys) first.1,
+        ),
+        λ so. over_late 0 n xs ys (second.1 so),
+      ))
       (stretch_one (λ (xs : List Taken). Counts (work_of b) (work_of c) nothing xs × (xs ≡ z ∷ []))
       b c e finds.Stored now (ap (λ (x : Bound P). x.heap) posts) seat stack known (
         counts_to nothing b c e finds.Stored now seat stack

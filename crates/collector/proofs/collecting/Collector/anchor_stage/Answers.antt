@@ -61,9 +61,9 @@ pub returns-clause-hears : goal.returns-clause-hears
 returns-clause-hears g c =
     let n = mutators_of c.args.self.now in
     let same : mutators_of c.post_once.new.self ≡ n =
-        ap (λ (x : Bound _). mutators_of x) c.post_once.ensures.told
-        ∙ ap (λ (x : Bound _). mutators_of x) c.anchor_once.ensures.told.1
-        ∙ ap (λ (h : Shape). h.mutators) c.await_all-over.ensures.hears.kept.shape in
+    ap (λ (x : Bound _). mutators_of x) c.post_once.ensures.told
+    ∙ ap (λ (x : Bound _). mutators_of x) c.anchor_once.ensures.told.1
+    ∙ ap (λ (h : Shape). h.mutators) c.await_all-over.ensures.hears.kept.shape in
     let anchored = does_still c.await_all-over.new.self c.anchor_once.new.self event.Anchor
     (finds.Colour c.anchor_once.ensures.told.0) refl refl c.anchor_once.ensures.told.1
     c.anchor_once.ensures.told.2 in

@@ -19,7 +19,7 @@ pub returns-clause-hears : goal.returns-clause-hears
 returns-clause-hears g c =
     let n = mutators_of c.args.self.now in
     let same : mutators_of c.clear_stage.new.self ≡ n =
-        ap (λ (h : Shape). h.mutators) c.clear_stage.ensures.does.kept.shape in
+    ap (λ (h : Shape). h.mutators) c.clear_stage.ensures.does.kept.shape in
     hears_before c.free_stage-report.result c.anchor_stage-over.result n c.args.self.now
     c.anchor_stage-over.new.self c.free_stage-report.new.self
     (hears_after c.anchor_stage-over.result 0 n c.args.self.now c.clear_stage.new.self

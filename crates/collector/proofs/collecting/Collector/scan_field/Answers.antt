@@ -25,13 +25,13 @@ returns-in-Cell-clause-counts g c = record {
   few = shades_few c.push-pushed.result;
   all_are = c.shaded.ensures.report;
   does = does_after (shades_one c.push-pushed.result) c.args.self.now c.scan_once.new.self
-    c.push-pushed.new.self
-    (does_still c.args.self.now c.scan_once.new.self event.Scan
-    (finds.Field c.scan_once.result) refl refl c.scan_once.ensures.told c.scan_once.ensures.known)
-    (does_shade c.scan_once.new.self c.shade_once.new.self c.push-pushed.new.self c.in-Cell.child
-    c.push-pushed.result c.shade_once.ensures.told.0
-    (child_is c.args.self.now c.scan_once.new.self c.args.cell c.args.field c.in-Cell.child
-    c.requires.scan c.in-Cell.ensures.told)
-    c.shade_once.ensures.told.1 c.shade_once.ensures.told.2 c.push-pushed.ensures.room
-    c.push-pushed.ensures.pushed);
+      c.push-pushed.new.self
+      (does_still c.args.self.now c.scan_once.new.self event.Scan
+      (finds.Field c.scan_once.result) refl refl c.scan_once.ensures.told c.scan_once.ensures.known)
+      (does_shade c.scan_once.new.self c.shade_once.new.self c.push-pushed.new.self c.in-Cell.child
+      c.push-pushed.result c.shade_once.ensures.told.0
+      (child_is c.args.self.now c.scan_once.new.self c.args.cell c.args.field c.in-Cell.child
+      c.requires.scan c.in-Cell.ensures.told)
+      c.shade_once.ensures.told.1 c.shade_once.ensures.told.2 c.push-pushed.ensures.room
+      c.push-pushed.ensures.pushed);
 }

@@ -46,8 +46,8 @@ returns-clause-made g c =
     let same = c.mutators-mutators.ensures.mutators
     ∙ ap (λ (h : Shape). h.mutators) c.await_all-over.ensures.hears.kept.shape in
     let posted : mutators_of c.post_once.new.self ≡ n =
-        ap (λ (x : Bound _). mutators_of x) c.post_once.ensures.told
-        ∙ ap (λ (h : Shape). h.mutators) c.await_all-over.ensures.hears.kept.shape in
+    ap (λ (x : Bound _). mutators_of x) c.post_once.ensures.told
+    ∙ ap (λ (h : Shape). h.mutators) c.await_all-over.ensures.hears.kept.shape in
     made_of c.await_all-over.result c.collect-made.result.over c.either.result n
     c.collect-made.result.report c.args.self.now
     c.await_all-over.new.self c.post_once.new.self c.collect-made.new.self
