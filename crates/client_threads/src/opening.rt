@@ -98,8 +98,10 @@ fn open_heap(
     ensures shape { IfOk result (λ made. made.0.shape ≡ store_shape cells mutators keep) }
     ensures seat { IfOk result (λ made. IsOpenSeat made.0 made.1) }
 {
+    let keep = u64::from(keep);
     let rows = opening_rows();
-    ColSeat::<Documents>::open(alloc, cells, mutators, u64::from(keep), &rows)
+    let (heap, seat) = ColSeat::<Documents>::open(alloc, cells, mutators, keep, &rows)?;
+    Ok((heap, seat))
 }
 
 /// A client for each script: the first has the mutator with number 0.
