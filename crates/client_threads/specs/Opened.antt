@@ -1,7 +1,7 @@
 -- The heap of a store, opened for its clients and its collector.
 -- Source: this project's.
 use Rattle.std.specs.Prelude.{ℕ, ◌≡◌, ◌≤◌, ◌<◌, List, [], length}
-use Rattle.std.specs.Prelude.{Vec}
+use Rattle.std.specs.Prelude.{Vec, replicate}
 use Rattle.std.specs.declared.alloc.Global.{Global}
 use mathlib.Core.Option.{some}
 use lib.ListN.{get_elem?}
@@ -18,7 +18,7 @@ use Rattle.free_cells.specs.Passes.{IsHintPass}
 use Rattle.heap_rule.specs.Shape.{Shape}
 use Rattle.heap_rule.specs.declared.view.Place.{Place}
 use Rattle.heap_rule.specs.declared.view.Place.TheVariants as places
-use Rattle.heap_table.specs.Seats.{IsSeatOf, SeatView}
+use Rattle.heap_table.specs.Seats.{HeapId, IsSeatOf, SeatView}
 use Rattle.version_rule.specs.Opening.{first_rows}
 use Rattle.version_rule.specs.Pass.{Pass}
 
@@ -35,6 +35,15 @@ store_shape cells mutators keep = record {
 abbrev pub AreUnsplit : ℕ → ℕ → List (Place Pass) → Type 0
 AreUnsplit from mutators at =
     (i : ℕ) → from ≤ i → i < mutators → get_elem? at i ≡ some places.Unsplit
+
+-- The seat is the collector's of a heap that was just opened: no cycle began, and no mutator is split
+-- off.
+pub record IsOpenSeat (heap : HeapId) (seat : SeatView Pass) : Type 0 where
+  pub seat_is : IsSeatOf heap seat
+  pub idle : seat.me.control.stage ≡ stage.Idle
+  pub no_cycles : seat.me.control.cycles ≡ 0
+  pub trail : seat.me.trail ≡ []
+  pub unsplit : seat.me.places ≡ replicate heap.shape.mutators places.Unsplit
 
 -- The first mutators are split off, and so many there are still.
 pub record HasSplit (clients mutators : ℕ) (old new : SeatView Pass) : Type 0 where

@@ -5,12 +5,14 @@ ghost use Rattle.std.specs.Prelude.{replicate};
 ghost use mathlib.Core.Option.{some};
 ghost use lib.ListN.{get_elem?};
 ghost use Rattle.client_threads.specs.Clients.{AllReady, IsReady};
-ghost use Rattle.client_threads.specs.Opened.{HasSplit, IsOpenStore};
+ghost use Rattle.client_threads.specs.Opened.{HasSplit, IsOpenSeat, IsOpenStore, store_shape};
 ghost use Rattle.doc_model.specs.declared.command.Command.{Command as Asked};
+ghost use Rattle.free_cells.specs.Hints.{cells_of};
 ghost use Rattle.free_cells.specs.Passes.{IsHintPass};
 ghost use Rattle.heap_rule.specs.Moves.{split_view};
 ghost use Rattle.heap_rule.specs.declared.view.Place.TheVariants as places;
 ghost use Rattle.heap_table.specs.Seats.{IsSeatOf};
+ghost use Rattle.std.specs.Thread.{IsSync};
 
 use crate::clients::Client;
 use crate::opened::OpenStore;
@@ -24,6 +26,7 @@ use free_cells::{FreeQueue, HintPass};
 use heap_table::CellHeap;
 use std::alloc::Global;
 use std::sync::Wait;
+use std::thread::{Threads, join};
 use version_store::opening_rows;
 
 /// How many cells can wait for a look of the collector.
@@ -34,7 +37,9 @@ const FIRST: u32 = 3;
 
 /// Opens a heap with so many mutators, and a client for each script: theirs are the first mutators,
 /// and the others are still to be split off. The collector is on duty where it may make cycles.
-pub fn open_store<R: Wait>(
+///
+/// The queue of hints and the heap are made side by side.
+pub fn open_store<R: Threads + Wait + Sync>(
     alloc: Global,
     rt: &R,
     scripts: &[Vec<Command>],
@@ -53,11 +58,23 @@ pub fn open_store<R: Wait>(
     ensures opened { IfOk result (λ made.
         IsOpenStore cells cycles mutators limits scripts.now made) }
 {
-    let (queue, mut pass) = FreeQueue::open(alloc, rt, cells, FIRST)?;
+    let keep = limits.keep;
+    let (queue, heap) = join(
+        rt,
+        move || -> Result<(FreeQueue, HintPass), NoMemory>
+            requires { IsSync R.row × (64 ≤ cells) }
+            ensures { IfOk result (λ made. IsHintPass made.0 made.1 × (cells_of made.0 ≡ cells)) }
+        { FreeQueue::open(alloc, rt, cells, FIRST) },
+        move || -> Result<(CellHeap<Documents>, ColSeat<Documents>), NoMemory>
+            requires { (mutators ≤ 64) × (64 ≤ cells) × (cells ≤ 4_194_304)
+                × (1 ≤ keep) × (keep ≤ 100) }
+            ensures { IfOk result (λ made. (made.0.shape ≡ store_shape cells mutators keep)
+                × IsOpenSeat made.0 made.1) }
+        { open_heap(alloc, cells, mutators, keep) },
+    );
+    let (queue, mut pass) = queue?;
+    let (heap, mut seat) = heap?;
     let stack = MarkStack::with_room(alloc, MARKS)?;
-    let keep = u64::from(limits.keep);
-    let rows = opening_rows();
-    let (heap, mut seat) = ColSeat::<Documents>::open(alloc, cells, mutators, keep, &rows)?;
     let clients = split_clients(alloc, &heap, &queue, limits, scripts, &mut seat, &mut pass)?;
     begin_duty(&heap, cycles, &mut seat);
     Ok(OpenStore {
@@ -66,6 +83,25 @@ pub fn open_store<R: Wait>(
         keeper: Keeper { seat, stack, pass },
         clients,
     })
+}
+
+/// The heap of a store for so many mutators, where so many versions stay, and its collector's seat.
+fn open_heap(
+    alloc: Global,
+    cells: u32,
+    mutators: u32,
+    keep: u32,
+) -> Result<(CellHeap<Documents>, ColSeat<Documents>), NoMemory>
+    requires few { mutators ≤ 64 }
+    requires cells { (64 ≤ cells) × (cells ≤ 4_194_304) }
+    requires keep { (1 ≤ keep) × (keep ≤ 100) }
+    ensures shape { IfOk result (λ made. made.0.shape ≡ store_shape cells mutators keep) }
+    ensures seat { IfOk result (λ made. IsOpenSeat made.0 made.1) }
+{
+    let keep = u64::from(keep);
+    let rows = opening_rows();
+    let (heap, seat) = ColSeat::<Documents>::open(alloc, cells, mutators, keep, &rows)?;
+    Ok((heap, seat))
 }
 
 /// A client for each script: the first has the mutator with number 0.

@@ -112,6 +112,14 @@ pub fn run_each<R: Threads + Wait + Sync, G: Gate + Sync>(
     let Some(last) = clients.pop() else {
         return clients;
     };
+    // A client that is the only one needs no thread but this.
+    if clients.is_empty() {
+        let last = run_client(alloc, rt, gate, heap, queue, scripts, limits, last);
+        if clients.push(last).is_err() {
+            unreachable!();
+        }
+        return clients;
+    }
     let (mut clients, last) = join(
         rt,
         move || -> Vec<Client>

@@ -49,7 +49,7 @@ pub(crate) struct Closed {
 
 /// Opens the heap of a run, with a client for each script, and with a guest. The collector is on duty
 /// where it may make cycles.
-pub(crate) fn open_run<R: Wait>(
+pub(crate) fn open_run<R: Threads + Wait + Sync>(
     alloc: Global,
     rt: &R,
     scripts: &[Vec<Command>],

@@ -7,36 +7,26 @@ use Rattle.heap_table.specs.Seats.{SeatView}
 use Rattle.version_rule.specs.Pass.{Pass}
 use Rattle.beside_collector.specs.Duty.{duty_on}
 use Rattle.client_threads.specs.Opened.{AreUnsplit}
-use Rattle.client_threads.proofs.Splitting.{opened_shape, opens}
 use Rattle.client_threads.proofs.opening.open_store.Goals as goal
-
-pub open-requires-2-clause-rule : goal.open-requires-2-clause-rule
-open-requires-2-clause-rule g c =
-    let keep = c.from-keep.ensures in
-    let range = c.requires.keep in
-    opens c.args.cells _ c.from-keep.result _ c.opening_rows-rows.ensures.rows
-    (omega (arith, c.requires.few)) (omega (arith, keep, range.0)) (omega (arith, keep, range.1))
 
 pub returns : goal.returns
 returns g c =
-    let seat = c.in_ok-heap.ensures.seat in
+    let seat = c.in_ok-heap.ensures.1 in
     let duty = c.begin_duty.ensures.duty in
     let split = c.in_ok-clients.ensures.seat in
-    let shape = opened_shape c.args.cells c.args.limits.keep c.in_ok-heap.heap.shape
-    c.args.mutators c.from-keep.result c.opening_rows-rows.result c.in_ok-heap.ensures.heap
-    c.from-keep.ensures c.opening_rows-rows.ensures.rows in
+    let shape = c.in_ok-heap.ensures.0 in
     record {
       opened = record {
         shape = shape;
         seat = (
-          duty.table ∙ split.still.table ∙ ap (λ (s : SeatView Pass). s.table) seat,
-          duty.shape ∙ split.still.shape ∙ ap (λ (s : SeatView Pass). s.me.shape) seat,
+          duty.table ∙ split.still.table ∙ seat.seat_is.0,
+          duty.shape ∙ split.still.shape ∙ seat.seat_is.1,
         );
         idle = duty.idle;
         no_cycles = duty.ended ∙ ap (λ (k : Control). k.cycles) split.still.control
-            ∙ ap (λ (s : SeatView Pass). s.me.control.cycles) seat;
+            ∙ seat.no_cycles;
         trail = duty.trail ∙ ap (λ (events : List Taken). events ++ duty_on c.args.cycles)
-            (split.still.trail ∙ ap (λ (s : SeatView Pass). s.me.trail) seat);
+            (split.still.trail ∙ seat.trail);
         places = ap (λ (ps : List (Place Pass)). length ps) duty.places ∙ split.many
             ∙ ap (λ (h : Shape). h.mutators) shape;
         unsplit = subst (λ (ps : List (Place Pass)).
