@@ -2,7 +2,7 @@ use Rattle.std.proofs.Common.{List, ◌||◌, ap, arith, length, subst, sym}
 use Rattle.std.proofs.lemmas.Bool.{or_parts}
 use Rattle.client_threads.specs.declared.clients.Client.{Client}
 use Rattle.doc_model.specs.ClientLog.{ClientLog}
-use Rattle.client_threads.proofs.TakingBack.{Taking, taking_next}
+use Rattle.client_threads.proofs.TakingBack.{ClientsSoFar, client_taken}
 use Rattle.client_threads.proofs.taking_back.take_back.Goals as goal
 use Rattle.std.specs.Vec.Iter.{into_iter_items}
 
@@ -23,14 +23,15 @@ loop-client-preserved c =
     let old = c.args.seat.now in
     let mid = c.loop-client.seat in
     let new = c.joined.new.seat in
-    let now = subst (λ (cs : List Client). Taking heap limits scripts cs logs failed old mid)
+    let now = subst (λ (cs : List Client). ClientsSoFar heap limits scripts cs logs failed old mid)
     steps.0 k.taking in
-    let next = taking_next heap limits scripts c.in-Some.client rest logs failed after
+    let next = client_taken heap limits scripts c.in-Some.client rest logs failed after
     c.joined.result old mid new now c.joined.ensures.log c.joined.ensures.seat
     (λ so. or_parts failed c.in-Some.client.failed so) in
     record {
       left = omega (arith, one, steps.1, k.left);
       room = omega (arith, one, len, capacity, k.room);
-      taking = subst (λ (gs : List ClientLog). Taking heap limits scripts rest gs after old new)
+      taking = subst (λ (gs : List ClientLog).
+          ClientsSoFar heap limits scripts rest gs after old new)
           (sym c.push_reserved.ensures.items) next;
     }
