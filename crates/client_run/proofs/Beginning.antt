@@ -1,11 +1,12 @@
 -- The first draft: a private record of the empty tree.
-use Rattle.std.proofs.Common.{◌≡◌, ◌<◌, ◌≤◌, ◌+◌, ◌*◌, ℕ, zero, suc, true}
+use Rattle.std.proofs.Common.{◌≡◌, ◌<◌, ◌≤◌, ℕ, zero, suc}
 use Rattle.std.proofs.Common.{List, [], ◌∷◌, length, sym, ◌∙◌, ap, subst, arith}
 use Rattle.std.specs.Prelude.{slice_index_or}
 use Rattle.aged_nursery.specs.Aged.{Aged}
 use Rattle.cell_words.specs.Term.{null}
 use Rattle.client_heap.specs.Shows.{node_term, state_of}
 use Rattle.client_heap.specs.Sound.{IsSound}
+use Rattle.client_records.specs.declared.at.NodeAt.{NodeAt}
 use Rattle.client_records.specs.declared.at.NodeAt.TheVariants as at
 use Rattle.client_records.specs.Records.{IsAmong, Rests, rests, stands_on, term_at, terms_known}
 use Rattle.client_session.specs.declared.journal.Journal.{Journal}
@@ -23,7 +24,18 @@ use Rattle.minor_heap.specs.Terms.{term_of, terms_of}
 use Rattle.mutator_seat.specs.Bound.{Bound}
 use Rattle.version_rule.specs.Pass.{Pass}
 use Rattle.version_rule.specs.Spelling.{bare_root}
-use Rattle.client_run.specs.Own.{MayAnswer}
+use Rattle.client_run.specs.Own.{IsBegun, MayAnswer}
+use Rattle.client_run.specs.declared.session.Session.{Session}
+
+-- a session of these parts
+abbrev pub session_of : Journal → Aged → ℕ → NodeAt → ℕ → Session
+session_of j nursery copies draft base = record {
+  journal = j;
+  nursery = nursery;
+  promoter = copies;
+  draft = draft;
+  base = base;
+}
 
 abbrev pub first_record : List MinorField
 first_record = field.Null ∷ field.Null ∷ field.Num 1 ∷ field.Num 0 ∷ field.Null ∷ []
@@ -65,40 +77,40 @@ module _ (m : Bound Pass) (minor : Nursery) (r : MinorRef)
       ∙ ap (λ (n : ℕ).
       slice_index_or (terms_of (terms_known m.seat.me.known) (first_record ∷ [])) n null) number
 
-  -- a mutator that is in, and holds the anchor alone
+  -- a mutator that has just begun
   module _ (j : Journal) (copies most keep : ℕ)
       (client : (1 ≤ j.log.client) × (j.log.client ≤ 64))
       (step : (s : ClientState) → s.pass.keep ≡ keep → s.pass.commits ≡ []
       → tree_of s.draft ≡ empty → InStep j s)
       (many : 4_096 ≤ most) (room : minor.room ≡ most) (copied : copies ≡ most)
-      (inside : m.seat.me.presence.inside ≡ true) (held : length m.seat.me.own.held ≡ 1)
-      (keeps : m.seat.me.pass.keep ≡ keep) (none : m.seat.me.pass.commits ≡ [])
-      (places : 4 * most + 16_384 ≤ m.seat.me.room) where
+      (begun : IsBegun keep most m) where
     one : length minor.records ≡ 1
     one = ap (λ (rs : List (List MinorField)). length rs) records
 
     begin_sound : IsSound m minor (at.Minor r) 1
     begin_sound = record {
-      inside = inside;
+      inside = begun.inside;
       some = omega arith;
-      kept = omega (arith, held);
+      kept = let held = begun.one in omega (arith, held);
       stands = draft_stands;
       node = subst IsTreeNode (sym draft_bare) bare_is_node;
       records = omega (arith, many, room);
-      places = omega (arith, room, places);
-      ready = let is = one in omega (arith, is, many, places);
+      places = let places = begun.room in omega (arith, room, places);
+      ready = let is = one in let places = begun.room in omega (arith, is, many, places);
     }
 
     pub may_begin : (nursery : Aged) → nursery.heap ≡ minor → nursery.records ≡ most
-        → MayAnswer j m nursery copies (at.Minor r) 1
+        → MayAnswer (session_of j nursery copies (at.Minor r) 1) m
     may_begin nursery heap all =
         let same = ap (λ (n : Nursery). n.room) heap in
         let many = ap (λ (n : Nursery). length n.records) heap in
+        let held = begun.one in
+        let places = begun.room in
         record {
           client = client;
-          step = step (state_of m nursery.heap (at.Minor r) 1) keeps none
-              (ap (λ (n : Nursery). tree_of (node_term m n (at.Minor r))) heap ∙ ap tree_of draft_bare
-              ∙ bare_is_empty);
+          step = step (state_of m nursery.heap (at.Minor r) 1) begun.keep_is begun.none_made
+              (ap (λ (n : Nursery). tree_of (node_term m n (at.Minor r))) heap
+              ∙ ap tree_of draft_bare ∙ bare_is_empty);
           sound = subst (λ (n : Nursery). IsSound m n (at.Minor r) 1) (sym heap) begin_sound;
           ready = let is = one in omega (arith, is, many, held, same, room, places);
           settled = held;

@@ -2,16 +2,13 @@
 --
 -- The held list, what is known of it, the pass and the claims are as before, and the trail shows
 -- more looks: so it is as if a turn was lost.
-use Rattle.std.proofs.Common.{◌≡◌, ◌≤◌, ℕ, List, length, sym}
+use Rattle.std.proofs.Common.{◌≡◌, ℕ, List, length, sym}
 use Rattle.std.proofs.Common.{◌∙◌, ap, subst}
 use Rattle.std.proofs.Common.{arith}
-use Rattle.aged_nursery.specs.Aged.{Aged}
-use Rattle.client_heap.specs.Shows.{state_of}
 use Rattle.client_heap.specs.Sound.{IsSound}
-use Rattle.client_records.specs.declared.at.NodeAt.{NodeAt}
 use Rattle.client_records.specs.Records.{stands_on, term_at}
-use Rattle.client_session.specs.declared.journal.Journal.{Journal}
 use Rattle.client_session.specs.Turns.{bounds}
+use Rattle.client_turns.specs.State.{IsReady}
 use Rattle.client_turns.specs.Turns.{Lost}
 use Rattle.client_turns.proofs.States.{small_still}
 use Rattle.client_turns.proofs.Stepping.{in_step_lost}
@@ -29,7 +26,8 @@ use Rattle.version_rule.specs.Fits.{Grows}
 use Rattle.version_rule.specs.Pass.{Pass, commit_numbers}
 use Rattle.version_rule.proofs.Trees.{grows_still}
 use Rattle.held_places.proofs.Going.{calm_trail, many_cells}
-use Rattle.client_run.specs.Own.{MayAnswer}
+use Rattle.client_run.specs.Own.{MayAnswer, client_state}
+use Rattle.client_run.specs.declared.session.Session.{Session}
 
 pub calm_grown : (F : List Taken → Type 0) (a b : Bound Pass) → Calm F a b
     → Grown (marks_of a.seat.me.trail) (marks_of b.seat.me.trail)
@@ -44,13 +42,13 @@ module _ (a b : Bound Pass) (stays : Kept a b)
   same_many : length b.seat.me.own.held ≡ length a.seat.me.own.held
   same_many = sym (many_cells b) ∙ ap (λ (cs : List ℕ). length cs) stays.held ∙ many_cells a
 
-  module _ (j : Journal) (nursery : Aged) (copies : ℕ) (draft : NodeAt) (base : ℕ)
-      (may : MayAnswer j a nursery copies draft base) where
-    same_term : term_at b.seat.me.known nursery.heap.records draft
-        ≡ term_at a.seat.me.known nursery.heap.records draft
-    same_term = ap (λ (ks : List Known). term_at ks nursery.heap.records draft) stays.known
+  module _ (s : Session) (may : MayAnswer s a) where
+    same_term : term_at b.seat.me.known s.nursery.heap.records s.draft
+        ≡ term_at a.seat.me.known s.nursery.heap.records s.draft
+    same_term =
+        ap (λ (ks : List Known). term_at ks s.nursery.heap.records s.draft) stays.known
 
-    still_sound : IsSound b nursery.heap draft base
+    still_sound : IsSound b s.nursery.heap s.draft s.base
     still_sound =
         let many = same_many in
         let room = stays.room in
@@ -61,7 +59,7 @@ module _ (a b : Bound Pass) (stays : Kept a b)
           inside = stays.inside ∙ may.sound.inside;
           some = may.sound.some;
           kept = omega (arith, many, few);
-          stands = subst (λ (ks : List Known). stands_on ks nursery.heap.records base draft)
+          stands = subst (λ (ks : List Known). stands_on ks s.nursery.heap.records s.base s.draft)
               (sym stays.known) may.sound.stands;
           node = subst IsTreeNode (sym same_term) may.sound.node;
           records = may.sound.records;
@@ -69,7 +67,7 @@ module _ (a b : Bound Pass) (stays : Kept a b)
           ready = omega (arith, room, ready);
         }
 
-    still_ready : 9_000 ≤ (state_of b nursery.heap draft base).room
+    still_ready : IsReady (client_state s b)
     still_ready =
         let ready = may.sound.ready in
         let enough = may.ready in
@@ -77,7 +75,7 @@ module _ (a b : Bound Pass) (stays : Kept a b)
         let room = stays.room in
         omega (arith, enough, many, room)
 
-    lost : Lost (state_of a nursery.heap draft base) (state_of b nursery.heap draft base)
+    lost : Lost (client_state s a) (client_state s b)
     lost = record {
       lasts = record {
         cells = ap (λ h. h.cells) stays.shape;
@@ -89,13 +87,13 @@ module _ (a b : Bound Pass) (stays : Kept a b)
       ready = still_ready;
       commits = ap commit_numbers stays.pass;
       draft = same_term;
-      small = small_still (state_of a nursery.heap draft base);
+      small = small_still (client_state s a);
     }
 
-    pub kept_may : MayAnswer j b nursery copies draft base
+    pub kept_may : MayAnswer s b
     kept_may = record {
       client = may.client;
-      step = in_step_lost (bounds j.limits) j.last j.log may.step lost;
+      step = in_step_lost (bounds s.journal.limits) s.journal.last s.journal.log may.step lost;
       sound = still_sound;
       ready = still_ready;
       settled = same_many ∙ may.settled;

@@ -1,3 +1,3 @@
+pub mod Answers
 pub mod Options
 pub mod Own
-pub mod Places

@@ -6,7 +6,7 @@
 //! one then, with hints of the same queue. `Options` are the numbers by which a store is run, for
 //! the layers above.
 //!
-//! Reading order: specs/Own, Places; then `over`, `session`, `theorems`; `options`, specs/Options.
+//! Reading order: specs/Own, Answers; then `over`, `session`, `theorems`; `options`, specs/Options.
 #![tactic(auto)]
 
 mod options;

@@ -1,16 +1,10 @@
 //! A session: a journal, a private heap with the memory to copy it, and a draft.
-ghost use Rattle.std.specs.Prelude.{◌≡◌, ◌<◌, ◌≤◌, ◌+◌, ◌*◌, IfOk, OnErr};
-ghost use Rattle.std.specs.Prelude.{[], false, length, true};
-ghost use Rattle.client_heap.specs.Shows.{state_of};
-ghost use Rattle.client_run.specs.Own.{MayAnswer};
-ghost use Rattle.client_run.specs.Places.{CollectsNone, HoldsNoMore};
-ghost use Rattle.client_session.specs.Turns.{Enters, IsPlain};
-ghost use Rattle.client_turns.specs.Demands.{may_hold_more, is_reading};
-ghost use Rattle.client_turns.specs.Turns.{Lost};
+ghost use Rattle.std.specs.Prelude.{◌≡◌, ◌<◌, ◌≤◌, IfOk, OnErr, false, length, true};
+ghost use Rattle.client_run.specs.Answers.{Answered, CollectsNone, HoldsNoMore, IsSameClient};
+ghost use Rattle.client_run.specs.Answers.{Unanswered};
+ghost use Rattle.client_run.specs.Own.{IsNewSession, MayAnswer};
+ghost use Rattle.client_turns.specs.Demands.{is_reading, may_hold_more};
 ghost use Rattle.free_cells.specs.Hints.{queue_of};
-ghost use Rattle.mutator_seat.specs.Bound.{Bound};
-ghost use Rattle.version_rule.specs.Pass.{Pass};
-ghost use Rattle.version_store.specs.Lasts.{IsSameMutator};
 
 use crate::over::answer_over;
 use aged_nursery::AgedNursery;
@@ -64,15 +58,7 @@ impl Session {
     pub fn new(alloc: Global, client: u32, limits: Limits) -> Result<Session, NoMemory>
         requires client { (1 ≤ client) × (client ≤ 64) }
         requires minor { 4096 ≤ limits.minor }
-        ensures entries { IfOk result (λ s. s.journal.log.entries ≡ []) }
-        ensures client { IfOk result (λ s. s.journal.log.client ≡ client) }
-        ensures keep { IfOk result (λ s. s.journal.limits.keep ≡ limits.keep) }
-        ensures versions { IfOk result (λ s. s.journal.limits.versions ≡ limits.versions) }
-        ensures minor { IfOk result (λ s. s.nursery.heap.room ≡ limits.minor) }
-        ensures may { IfOk result (λ s. (m : Bound Pass) → m.seat.me.presence.inside ≡ true
-            → length m.seat.me.own.held ≡ 1 → m.seat.me.pass.keep ≡ limits.keep
-            → m.seat.me.pass.commits ≡ [] → 4 * limits.minor + 16384 ≤ m.seat.me.room
-            → MayAnswer s.journal m s.nursery s.promoter s.draft s.base) }
+        ensures new { IfOk result (IsNewSession limits client) }
     {
         let mut nursery = AgedNursery::with_room(alloc, limits.minor)?;
         let promoter = Promoter::with_room(alloc, limits.minor)?;
@@ -112,46 +98,18 @@ impl Session {
         m: &mut Mutator<'_, Documents>,
         command: &Command,
     ) -> Result<Reply, NoMemory>
-        requires may { MayAnswer self.old.journal m.old self.old.nursery self.old.promoter
-            self.old.draft self.old.base }
+        requires may { MayAnswer self.old m.old }
         requires few { length self.old.journal.log.entries < 100000 }
-        ensures enters { IfOk result (λ reply. Enters self.old.journal self.new.journal command.now
-            reply (state_of m.old self.old.nursery.heap self.old.draft self.old.base)
-            (state_of m.new self.new.nursery.heap self.new.draft self.new.base)) }
-        ensures held { may_hold_more command.now ≡ false → HoldsNoMore m.old m.new }
+        ensures answered { IfOk result (Answered command.now self.old m.old self.new m.new) }
+        ensures unanswered { OnErr result (Unanswered command.now self.old m.old self.new m.new) }
         ensures reads { is_reading command.now ≡ true
-            → CollectsNone m.old m.new self.old.nursery.heap self.new.nursery.heap }
-        ensures plain { is_reading command.now ≡ true → IfOk result IsPlain }
-        ensures same { IsSameMutator m.old m.new }
+            → CollectsNone self.old m.old self.new m.new }
+        ensures held { may_hold_more command.now ≡ false → HoldsNoMore m.old m.new }
+        ensures same { IsSameClient self.old m.old self.new m.new }
         ensures queue { queue_of hints.new ≡ queue_of hints.old }
-        ensures minor_room { self.new.nursery.heap.room ≡ self.old.nursery.heap.room }
-        ensures promoter { self.new.promoter ≡ self.old.promoter }
-        ensures may { MayAnswer self.new.journal m.new self.new.nursery self.new.promoter
-            self.new.draft self.new.base }
-        ensures limits { self.new.journal.limits ≡ self.old.journal.limits }
-        ensures client { self.new.journal.log.client ≡ self.old.journal.log.client }
-        ensures last { OnErr result (self.new.journal.last ≡ self.old.journal.last) }
-        ensures entries { OnErr result (self.new.journal.log.entries
-            ≡ self.old.journal.log.entries) }
-        ensures lost { OnErr result (Lost
-            (state_of m.old self.old.nursery.heap self.old.draft self.old.base)
-            (state_of m.new self.new.nursery.heap self.new.draft self.new.base)) }
-        ensures untouched { is_reading command.now ≡ false → OnErr result
-            ((m.new ≡ m.old) × (self.new.nursery ≡ self.old.nursery)
-            × (self.new.draft ≡ self.old.draft) × (self.new.base ≡ self.old.base)) }
+        ensures may { MayAnswer self.new m.new }
     {
-        answer_over(
-            alloc,
-            rt,
-            hints,
-            m,
-            &mut self.journal,
-            &mut self.nursery,
-            &mut self.promoter,
-            &mut self.draft,
-            &mut self.base,
-            command,
-        )
+        answer_over(alloc, rt, hints, m, self, command)
     }
 
     /// What the client was answered.

@@ -2,6 +2,7 @@
 use Rattle.std.proofs.Common.{◌≡◌, ◌≤◌, ℕ, true, List, [], ◌∷◌, length, refl, sym}
 use Rattle.std.proofs.Common.{◌∙◌, ap, arith, subst}
 use Rattle.cell_words.specs.declared.fields.Field.{Field}
+use Rattle.client_run.specs.Own.{IsBegun}
 use Rattle.core_machine.specs.declared.events.Event.TheVariants as event
 use Rattle.core_machine.specs.declared.events.Found.{Found}
 use Rattle.doc_records.specs.Trees.{IsTreeNode, tree_of}
@@ -14,7 +15,7 @@ use Rattle.version_rule.specs.Pass.{Commit, Pass, opening_pass}
 use Rattle.version_rule.specs.Versions.{HoldsVersions}
 use Rattle.version_rule.proofs.Openings.{firsts, opened}
 use Rattle.held_places.proofs.Going.{many_cells}
-use Rattle.client_run_tests.specs.Begun.{IsBegun, IsNew}
+use Rattle.client_run_tests.specs.Begun.{IsNew}
 
 pub opens : (cells keep : ℕ) (rows : List (List Field)) → rows ≡ first_rows → 1 ≤ keep
     → keep ≤ 100
@@ -37,7 +38,7 @@ opens cells keep rows is least most =
 pub comes_in : (heap : HeapId) (seat : SeatView Pass) (keep i : ℕ) (found : Found)
     (a b : Bound Pass) → IsNew heap keep seat → a ≡ record { heap = heap; seat = seat }
     → b ≡ takes a (event.Begin i) found → b.seat.me.presence.inside ≡ true
-    → held_cells b ≡ 0 ∷ [] → IsBegun keep b
+    → held_cells b ≡ 0 ∷ [] → IsBegun keep 4_096 b
 comes_in heap seat keep i found a b new made told inside held =
     let is : b ≡ takes (record { heap = heap; seat = seat }) (event.Begin i) found =
     told ∙ ap (λ (m : Bound Pass). takes m (event.Begin i) found) made in

@@ -1,6 +1,7 @@
 //! Commands one after another, and what they came to.
 ghost use Rattle.std.specs.Prelude.{◌≤◌};
-ghost use Rattle.client_run_tests.specs.Begun.{IsBegun, IsNew, MayGo};
+ghost use Rattle.client_run.specs.Own.{IsBegun, MayAnswer};
+ghost use Rattle.client_run_tests.specs.Begun.{IsNew};
 ghost use Rattle.free_cells.specs.Passes.{IsHintPass};
 ghost use Rattle.mutator_seat.specs.Bound.{Bound};
 ghost use Rattle.version_rule.specs.Pass.{Pass};
@@ -26,8 +27,8 @@ pub(crate) fn answer_all<R: Wait>(
     session: &mut Session,
     script: &[Command],
 ) -> Result<(), NoMemory>
-    requires may { MayGo session.old m.old }
-    ensures may { MayGo session.new m.new }
+    requires may { MayAnswer session.old m.old }
+    ensures may { MayAnswer session.new m.new }
 {
     for command in script {
         if session.log().entries().len() < 100_000 {
@@ -47,7 +48,7 @@ fn answers_to<R: Wait>(
     script: &[Command],
     wanted: &[u8],
 ) -> Result<bool, NoMemory>
-    requires may { MayGo session.old m.old }
+    requires may { MayAnswer session.old m.old }
 {
     answer_all(alloc, rt, hints, m, session, script)?;
     Ok(replies(alloc, session.log())?.as_slice() == wanted)
@@ -68,7 +69,7 @@ fn answers_by<R: Wait>(
 ) -> Result<bool, NoMemory>
     requires new { IsNew heap.now keep seat }
     requires pass { IsHintPass queue.now pass }
-    requires may { (m : Bound Pass) → IsBegun keep m → MayGo session m }
+    requires may { (m : Bound Pass) → IsBegun keep 4_096 m → MayAnswer session m }
 {
     let mut session = session;
     let mut hints = queue.hints(pass);

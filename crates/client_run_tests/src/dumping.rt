@@ -1,6 +1,7 @@
 //! The dump of the latest version behind the commands of a script.
 ghost use Rattle.std.specs.Prelude.{◌≤◌};
-ghost use Rattle.client_run_tests.specs.Begun.{IsBegun, IsNew, MayGo};
+ghost use Rattle.client_run.specs.Own.{IsBegun, MayAnswer};
+ghost use Rattle.client_run_tests.specs.Begun.{IsNew};
 ghost use Rattle.free_cells.specs.Passes.{IsHintPass};
 ghost use Rattle.mutator_seat.specs.Bound.{Bound};
 ghost use Rattle.version_rule.specs.Pass.{Pass};
@@ -35,7 +36,7 @@ fn dumped_now(
     m: &mut Mutator<'_, Documents>,
     session: &Session,
 ) -> Result<Vec<u8>, Fail>
-    requires may { MayGo session.now m.old }
+    requires may { MayAnswer session.now m.old }
 {
     let mut minor = MinorHeap::with_room(alloc, 8)?;
     if m.room() < 20_000 {
@@ -63,7 +64,7 @@ fn dumped_by<R: Wait>(
 ) -> Result<Vec<u8>, Fail>
     requires new { IsNew heap.now 8 seat }
     requires pass { IsHintPass queue.now pass }
-    requires may { (m : Bound Pass) → IsBegun 8 m → MayGo session m }
+    requires may { (m : Bound Pass) → IsBegun 8 4_096 m → MayAnswer session m }
 {
     let mut session = session;
     let mut hints = queue.hints(pass);

@@ -1,6 +1,7 @@
 //! A store's heap with its mutator, and a session.
 ghost use Rattle.std.specs.Prelude.{◌≡◌, ◌≤◌, [], IfOk};
-ghost use Rattle.client_run_tests.specs.Begun.{IsBegun, IsNew, MayGo};
+ghost use Rattle.client_run.specs.Own.{IsBegun, MayAnswer};
+ghost use Rattle.client_run_tests.specs.Begun.{IsNew};
 ghost use Rattle.mutator_seat.specs.Bound.{Bound};
 ghost use Rattle.version_rule.specs.Pass.{Pass};
 
@@ -43,7 +44,7 @@ pub(crate) fn come_in<'a>(
     keep: u32,
 ) -> Mutator<'a, Documents>
     requires new { IsNew heap.now keep seat }
-    ensures begun { IsBegun keep result }
+    ensures begun { IsBegun keep 4_096 result }
 {
     let _ = keep;
     let mut m = Mutator::new(heap, seat);
@@ -59,7 +60,7 @@ pub(crate) fn new_session(
     versions: u32,
 ) -> Result<Session, NoMemory>
     requires client { (1 ≤ client) × (client ≤ 64) }
-    ensures may { IfOk result (λ s. (m : Bound Pass) → IsBegun keep m → MayGo s m) }
+    ensures may { IfOk result (λ s. (m : Bound Pass) → IsBegun keep 4_096 m → MayAnswer s m) }
 {
     let limits = Limits {
         keep,

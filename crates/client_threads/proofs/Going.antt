@@ -4,77 +4,79 @@ use Rattle.std.proofs.Common.{◌++◌, length, take, get_or}
 use Rattle.std.proofs.Common.{refl, sym, ◌∙◌, ap, subst, arith}
 use Rattle.std.proofs.Math.Seq.{take-length, take-suc}
 use Rattle.std.proofs.lemmas.List.{append-nil, append_assoc, length-map, length-take-le, map-append}
-use Rattle.client_heap.specs.Shows.{state_of}
+use Rattle.client_run.specs.Answers.{Answered, IsSameClient}
+use Rattle.client_run.specs.Own.{MayAnswer}
 use Rattle.client_run.specs.declared.session.Session.{Session}
-use Rattle.client_session.specs.Turns.{Enters}
 use Rattle.doc_model.specs.declared.command.Command.{Command}
 use Rattle.doc_model.specs.declared.command.Entry.{Entry}
 use Rattle.doc_model.specs.declared.command.Reply.{Reply}
 use Rattle.mutator_seat.specs.Bound.{Bound}
 use Rattle.version_rule.specs.Pass.{Pass}
-use Rattle.version_store.specs.Lasts.{IsSameMutator}
 use Rattle.version_store.proofs.Lasting.{same_then}
 use Rattle.client_threads.specs.Clients.{commands_of}
-use Rattle.client_threads.specs.Going.{MayGo, Waits, Went, WentSome}
+use Rattle.client_threads.specs.Going.{Waits, Went, WentSome}
 use Rattle.client_threads.proofs.Waiting.{waits_mutator, waits_same}
 
 -- One command.
 
 module _ (s : Session) (m : Bound Pass) (t : Session) (n : Bound Pass) where
-  pub went_on : (c : Command) (reply : Reply) → MayGo t n → IsSameMutator m n
-      → t.journal.limits ≡ s.journal.limits → t.nursery.heap.room ≡ s.nursery.heap.room
-      → t.journal.log.client ≡ s.journal.log.client
-      → Enters s.journal t.journal c reply (state_of m s.nursery.heap s.draft s.base)
-      (state_of n t.nursery.heap t.draft t.base)
-      → Went (c ∷ []) s m t n
-  went_on c reply may same limits minor client enters = record {
+  pub went_on : (c : Command) (reply : Reply) → MayAnswer t n → IsSameClient s m t n
+      → Answered c s m t n reply → Went (c ∷ []) s m t n
+  went_on c reply may same answered = record {
     may = may;
     same = same;
-    limits = limits;
-    minor = minor;
-    client = client;
-    commands = ap commands_of enters.entries
+    commands = ap commands_of answered.enters.entries
         ∙ map-append (λ (e : Entry). e.command) s.journal.log.entries _;
   }
 
-  pub went_none : MayGo t n → IsSameMutator m n → t.journal.limits ≡ s.journal.limits
-      → t.nursery.heap.room ≡ s.nursery.heap.room → t.journal.log.client ≡ s.journal.log.client
+  pub went_none : MayAnswer t n → IsSameClient s m t n
       → t.journal.log.entries ≡ s.journal.log.entries → Went [] s m t n
-  went_none may same limits minor client entries = record {
+  went_none may same entries = record {
     may = may;
     same = same;
-    limits = limits;
-    minor = minor;
-    client = client;
     commands = ap commands_of entries ∙ sym (append-nil (commands_of s.journal.log.entries));
   }
+
+-- The same client, behind a wait and over two calls.
+
+still_client : (s : Session) (a b : Bound Pass) → Waits a b → IsSameClient s a s b
+still_client s a b waits = record {
+  mutator = waits_mutator a b waits;
+  limits = refl;
+  client = refl;
+  minor_room = refl;
+  promoter = refl;
+}
+
+client_then : (s t u : Session) (a b c : Bound Pass) → IsSameClient s a t b
+    → IsSameClient t b u c → IsSameClient s a u c
+client_then s t u a b c first second = record {
+  mutator = same_then a b c first.mutator second.mutator;
+  limits = second.limits ∙ first.limits;
+  client = second.client ∙ first.client;
+  minor_room = second.minor_room ∙ first.minor_room;
+  promoter = second.promoter ∙ first.promoter;
+}
 
 -- behind a wait
 pub waited_went : (more : List Command) (s t : Session) (a m n : Bound Pass) → Waits a m
     → Went more s m t n → Went more s a t n
 waited_went more s t a m n waits went = record {
   may = went.may;
-  same = same_then a m n (waits_mutator a m waits) went.same;
-  limits = went.limits;
-  minor = went.minor;
-  client = went.client;
+  same = client_then s s t a m n (still_client s a m waits) went.same;
   commands = went.commands;
 }
 
 -- Commands one after the other.
 
-pub went_first : (s : Session) (m : Bound Pass) → MayGo s m → Went [] s m s m
-went_first s m may =
-    went_none s m s m may (waits_mutator m m (waits_same m)) refl refl refl refl
+pub went_first : (s : Session) (m : Bound Pass) → MayAnswer s m → Went [] s m s m
+went_first s m may = went_none s m s m may (still_client s m m (waits_same m)) refl
 
 pub went_then : (xs ys : List Command) (s t u : Session) (a b c : Bound Pass) → Went xs s a t b
     → Went ys t b u c → Went (xs ++ ys) s a u c
 went_then xs ys s t u a b c first second = record {
   may = second.may;
-  same = same_then a b c first.same second.same;
-  limits = second.limits ∙ first.limits;
-  minor = second.minor ∙ first.minor;
-  client = second.client ∙ first.client;
+  same = client_then s t u a b c first.same second.same;
   commands = second.commands
       ∙ ap (λ (cs : List Command). cs ++ ys) first.commands
       ∙ append_assoc (commands_of s.journal.log.entries) xs ys;

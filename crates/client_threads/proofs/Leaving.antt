@@ -1,10 +1,10 @@
 -- A client from its beginning to its end.
 use Rattle.std.proofs.Common.{◌≡◌, ℕ, Bool, true, false, not, List, [], ◌∷◌, ◌++◌}
 use Rattle.std.proofs.Common.{length, take, min}
-use Rattle.std.proofs.Common.{refl, sym, ◌∙◌, ap, subst}
+use Rattle.std.proofs.Common.{refl, sym, ◌∙◌, ap, subst, arith}
 use Rattle.std.proofs.Math.Seq.{take-length}
 use Rattle.std.proofs.lemmas.List.{append-nil, length-map, length-take, take_min}
-use Rattle.client_heap.specs.Shows.{state_of}
+use Rattle.client_run.specs.Own.{MayAnswer, client_state}
 use Rattle.client_run.specs.declared.session.Limits.{Limits}
 use Rattle.client_run.specs.declared.session.Session.{Session}
 use Rattle.client_session.specs.Turns.{bounds}
@@ -28,7 +28,7 @@ use Rattle.trails.proofs.Marks.{marks_push}
 use Rattle.version_rule.specs.Pass.{Pass}
 use Rattle.held_places.proofs.Going.{many_cells}
 use Rattle.client_threads.specs.Clients.{IsDone, IsReady, commands_of, store_limits}
-use Rattle.client_threads.specs.Going.{Answers, Entered, Left, MayGo, Went}
+use Rattle.client_threads.specs.Going.{Answers, Entered, Left, Went}
 use Rattle.client_threads.specs.declared.clients.Client.{Client}
 
 -- The beginning.
@@ -52,11 +52,15 @@ module _ (heap : HeapId) (seat : SeatView Pass) (a b : Bound Pass) (i : ℕ) (fo
 
 pub entered_may : (heap : HeapId) (queue : FreeQueue) (l : Limits) (script : List Command)
     (place : ℕ) (client : Client) (m : Bound Pass) → IsReady heap queue l script place client
-    → Entered heap client.seat m → MayGo client.session m
+    → Entered heap client.seat m → MayAnswer client.session m
 entered_may heap queue l script place client m ready came =
-    ready.session.may m came.inside came.one
-    (ap (λ (p : Pass). p.keep) came.pass ∙ ready.seat.keep)
-    (ap (λ (p : Pass). p.commits) came.pass ∙ ready.seat.commits) came.room
+    ready.session.may m record {
+      inside = came.inside;
+      one = came.one;
+      keep_is = ap (λ (p : Pass). p.keep) came.pass ∙ ready.seat.keep;
+      none_made = ap (λ (p : Pass). p.commits) came.pass ∙ ready.seat.commits;
+      room = let room = came.room ∙ ready.seat.room in omega (arith, room);
+    }
 
 -- The end.
 
@@ -133,30 +137,30 @@ module _ (heap : HeapId) (queue : FreeQueue) (l : Limits) (script : List Command
 
   limits : bounds new.session.journal.limits ≡ store_limits l
   limits =
-      ap bounds front.went.limits
+      ap bounds front.went.same.limits
       ∙ (λ i. record { keep = ready.session.keep i; versions = ready.session.versions i })
 
   shape : n.seat.me.shape ≡ heap.shape
-  shape = front.went.same.shape ∙ came.shape ∙ ready.seat.seat_is.1
+  shape = front.went.same.mutator.shape ∙ came.shape ∙ ready.seat.seat_is.1
 
   pub done : new.place ≡ place → new.failed ≡ not whole → IsDone heap l script place new
   done at failed = record {
     place_is = at;
     seat_is = (
-      left.table ∙ front.went.same.table ∙ came.table ∙ ready.seat.seat_is.0,
+      left.table ∙ front.went.same.mutator.table ∙ came.table ∙ ready.seat.seat_is.0,
       left.shape ∙ shape,
     );
-    number_is = left.number ∙ front.went.same.number ∙ came.number ∙ ready.seat.number_is;
-    minor = front.went.minor ∙ ready.session.minor;
-    room = left.room ∙ front.went.same.room ∙ came.room ∙ ready.seat.room;
+    number_is = left.number ∙ front.went.same.mutator.number ∙ came.number
+        ∙ ready.seat.number_is;
+    minor = front.went.same.minor_room ∙ ready.session.minor;
+    room = left.room ∙ front.went.same.mutator.room ∙ came.room ∙ ready.seat.room;
     over = left.over;
     left = record {
-      state = state_of n new.session.nursery.heap new.session.draft new.session.base;
+      state = client_state new.session n;
       last = new.session.journal.last;
-      step = subst (λ (k : StoreLimits). IsInStep k
-          (state_of n new.session.nursery.heap new.session.draft new.session.base)
+      step = subst (λ (k : StoreLimits). IsInStep k (client_state new.session n)
           new.session.journal.last new.session.journal.log) limits front.went.may.step;
-      client_is = front.went.client ∙ ready.session.client_is;
+      client_is = front.went.same.client ∙ ready.session.client_is;
       cells_are = ap (λ (h : Shape). h.cells) shape;
       pass_is = sym left.pass;
       marks_are = sym left.marks;

@@ -1,6 +1,7 @@
 -- Answers to handshakes, one after the other, leave all that a session needs of its mutator.
 use Rattle.std.proofs.Common.{List, [], ◌++◌, sym, ◌∙◌, ap}
 use Rattle.std.proofs.lemmas.List.{append-nil, append_assoc}
+use Rattle.client_run.specs.Own.{MayAnswer}
 use Rattle.client_run.specs.declared.session.Session.{Session}
 use Rattle.client_run.proofs.Handshakes.{calm_grown, kept_may}
 use Rattle.core_machine.specs.declared.events.Taken.{Taken}
@@ -10,7 +11,7 @@ use Rattle.mutator_seat.proofs.Calm.{kept_same, kept_then}
 use Rattle.trails.specs.Marks.{Mark, marks_of}
 use Rattle.version_rule.specs.Pass.{Pass}
 use Rattle.version_store.specs.Lasts.{IsSameMutator}
-use Rattle.client_threads.specs.Going.{MayGo, Waits}
+use Rattle.client_threads.specs.Going.{Waits}
 
 pub waits_calm : (F : List Taken → Type 0) (a b : Bound Pass) → Calm F a b → Waits a b
 waits_calm F a b calm = record { kept = calm.kept; grown = calm_grown F a b calm }
@@ -45,6 +46,5 @@ module _ (a b : Bound Pass) (w : Waits a b) where
     over = w.kept.over;
   }
 
-  pub waits_may : (s : Session) → MayGo s a → MayGo s b
-  waits_may s may =
-      kept_may a b w.kept w.grown s.journal s.nursery s.promoter s.draft s.base may
+  pub waits_may : (s : Session) → MayAnswer s a → MayAnswer s b
+  waits_may s may = kept_may a b w.kept w.grown s may

@@ -4,9 +4,8 @@ use Rattle.std.specs.Prelude.{ℕ, zero, suc, ◌≡◌, ◌≤◌, ◌+◌, ◌
 use Rattle.std.specs.Prelude.{◌∷◌, length, map, take, Vec}
 use Rattle.std.specs.declared.alloc.Global.{Global}
 use Rattle.beside_collector.specs.Places.{AllFrom}
-use Rattle.client_run.specs.Own.{MayAnswer}
+use Rattle.client_run.specs.Own.{IsNewSession}
 use Rattle.client_run.specs.declared.session.Limits.{Limits}
-use Rattle.client_run.specs.declared.session.Session.{Session}
 use Rattle.client_threads.specs.declared.clients.Client.{Client}
 use Rattle.doc_model.specs.Answers.{Limits as StoreLimits}
 use Rattle.doc_model.specs.declared.command.Command.{Command}
@@ -15,7 +14,6 @@ use Rattle.free_cells.specs.Passes.{IsHintPass}
 use Rattle.free_cells.specs.declared.queue.FreeQueue.{FreeQueue}
 use Rattle.heap_rule.specs.Rule.{share_of}
 use Rattle.heap_table.specs.Seats.{HeapId, IsSeatOf, SeatView}
-use Rattle.mutator_seat.specs.Bound.{Bound}
 use Rattle.run_history.specs.Left.{IsLeft}
 use Rattle.version_rule.specs.Pass.{Pass}
 
@@ -38,20 +36,6 @@ script_of [] place = []
 script_of (script ∷ scripts) zero = script.items
 script_of (script ∷ scripts) (suc place) = script_of scripts place
 
--- The session is as it was made for this client, and answered nothing yet: it has a private heap of
--- as many records as it is to have, and may answer by each mutator of so much room that is in, holds
--- the anchor alone and made no version.
-pub record IsNewSession (l : Limits) (client room : ℕ) (s : Session) : Type 0 where
-  pub entries : s.journal.log.entries ≡ []
-  pub client_is : s.journal.log.client ≡ client
-  pub keep : s.journal.limits.keep ≡ l.keep
-  pub versions : s.journal.limits.versions ≡ l.versions
-  pub minor : s.nursery.heap.room ≡ l.minor
-  pub may : (m : Bound Pass) → m.seat.me.presence.inside ≡ true
-      → length m.seat.me.own.held ≡ 1 → m.seat.me.pass.keep ≡ l.keep
-      → m.seat.me.pass.commits ≡ [] → m.seat.me.room ≡ room
-      → MayAnswer s.journal m s.nursery s.promoter s.draft s.base
-
 -- The seat is the one of the mutator with this number, as it was split off.
 pub record IsNewSeat (heap : HeapId) (l : Limits) (place : ℕ) (seat : SeatView Pass)
     : Type 0 where
@@ -68,7 +52,7 @@ pub record IsReady (heap : HeapId) (queue : FreeQueue) (l : Limits) (script : Li
     (place : ℕ) (client : Client) : Type 0 where
   pub place_is : client.place ≡ place
   pub seat : IsNewSeat heap l place client.seat
-  pub session : IsNewSession l (place + 1) client.seat.me.room client.session
+  pub session : IsNewSession l (place + 1) client.session
   pub pass : IsHintPass queue client.pass
   pub not_failed : client.failed ≡ false
   pub short : length script ≤ 100_000

@@ -2,6 +2,7 @@
 -- Source: this project's.
 use Rattle.std.specs.Prelude.{ℕ, ◌≡◌, ◌++◌, Bool, true, false, List, [], ◌∷◌}
 use Rattle.std.specs.Prelude.{length, take}
+use Rattle.client_run.specs.Answers.{IsSameClient}
 use Rattle.client_run.specs.Own.{MayAnswer}
 use Rattle.client_run.specs.declared.session.Session.{Session}
 use Rattle.client_threads.specs.Clients.{commands_of}
@@ -12,16 +13,11 @@ use Rattle.mutator_seat.specs.Stretches.{Kept}
 use Rattle.trails.specs.Asks.{Grown}
 use Rattle.trails.specs.Marks.{marks_of}
 use Rattle.version_rule.specs.Pass.{Pass}
-use Rattle.version_store.specs.Lasts.{IsSameMutator}
 
 -- Answers to handshakes: the mutator holds and knows what it did, and its trail grew.
 pub record Waits (old new : Bound Pass) : Type 0 where
   pub kept : Kept old new
   pub grown : Grown (marks_of old.seat.me.trail) (marks_of new.seat.me.trail)
-
--- the session may answer by this mutator
-abbrev pub MayGo : Session → Bound Pass → Type 0
-MayGo s m = MayAnswer s.journal m s.nursery s.promoter s.draft s.base
 
 -- the command, if it was answered
 abbrev pub answered : Bool → Command → List Command
@@ -31,11 +27,8 @@ answered false command = []
 -- The session answered these commands by this mutator, and may answer on.
 pub record Went (more : List Command) (s : Session) (m : Bound Pass) (t : Session) (n : Bound Pass)
     : Type 0 where
-  pub may : MayGo t n
-  pub same : IsSameMutator m n
-  pub limits : t.journal.limits ≡ s.journal.limits
-  pub minor : t.nursery.heap.room ≡ s.nursery.heap.room
-  pub client : t.journal.log.client ≡ s.journal.log.client
+  pub may : MayAnswer t n
+  pub same : IsSameClient s m t n
   pub commands : commands_of t.journal.log.entries ≡ commands_of s.journal.log.entries ++ more
 
 -- so it was with a number of the first ones

@@ -3,7 +3,8 @@
 //! Between two commands the mutator answers handshakes, also while the gate sends its client away:
 //! else the collector would wait for it.
 ghost use Rattle.std.specs.Prelude.{◌≡◌, ◌≤◌, ◌<◌, [], length, true};
-ghost use Rattle.client_threads.specs.Going.{Answers, MayGo, Waits, Went, answered};
+ghost use Rattle.client_run.specs.Own.{MayAnswer};
+ghost use Rattle.client_threads.specs.Going.{Answers, Waits, Went, answered};
 
 use client_run::Session;
 use doc_model::Command;
@@ -53,7 +54,7 @@ fn answer_next<R: Wait>(
     session: &mut Session,
     command: &Command,
 ) -> bool
-    requires may { MayGo session.old m.old }
+    requires may { MayAnswer session.old m.old }
     requires few { length session.old.journal.log.entries < 100000 }
     ensures went { Went (answered result command.now) session.old m.old session.new m.new }
 {
@@ -74,7 +75,7 @@ fn take_turn<R: Wait, G: Gate>(
     number: u32,
     command: &Command,
 ) -> bool
-    requires may { MayGo session.old m.old }
+    requires may { MayAnswer session.old m.old }
     requires few { length session.old.journal.log.entries < 100000 }
     ensures went { Went (answered result command.now) session.old m.old session.new m.new }
 {
@@ -97,7 +98,7 @@ pub(crate) fn answer_all<R: Wait, G: Gate>(
     session: &mut Session,
     script: &[Command],
 ) -> bool
-    requires may { MayGo session.old m.old }
+    requires may { MayAnswer session.old m.old }
     requires none { session.old.journal.log.entries ≡ [] }
     requires short { length script.now ≤ 100000 }
     ensures answers { Answers result script.now session.old m.old session.new m.new }

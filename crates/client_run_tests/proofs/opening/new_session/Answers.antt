@@ -2,8 +2,4 @@ use Rattle.std.proofs.lemmas.Result.{IfOk-weaker}
 use Rattle.client_run_tests.proofs.opening.new_session.Goals as goal
 
 pub returns : goal.returns
-returns c = record {
-  may = IfOk-weaker c.new.result _ _
-      (λ s may m begun. may m begun.inside begun.one begun.keep_is begun.none_made begun.room)
-      c.new.ensures.may;
-}
+returns c = record { may = IfOk-weaker c.new.result _ _ (λ s new. new.may) c.new.ensures.new; }

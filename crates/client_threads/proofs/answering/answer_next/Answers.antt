@@ -6,8 +6,7 @@ returns-in-Ok g c =
     let told = c.in-Ok.ensures in
     record {
       went = went_on c.args.session.now c.args.m.now c.answer.new.self c.answer.new.m
-          c.args.command.now _ told.may told.same told.limits told.minor_room told.client
-          told.enters;
+          c.args.command.now _ told.may told.same told.answered;
     }
 
 pub returns-in-Err : goal.returns-in-Err
@@ -15,5 +14,5 @@ returns-in-Err g c =
     let told = c.in-Err.ensures in
     record {
       went = went_none c.args.session.now c.args.m.now c.answer.new.self c.answer.new.m told.may
-          told.same told.limits told.minor_room told.client told.entries;
+          told.same told.unanswered.entries;
     }

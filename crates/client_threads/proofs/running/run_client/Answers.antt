@@ -2,8 +2,14 @@ use Rattle.std.proofs.Common.{List, not, refl, subst}
 use Rattle.doc_model.specs.declared.command.Command.{Command}
 use Rattle.client_threads.specs.Clients.{script_of}
 use Rattle.client_threads.specs.Going.{Answers}
-use Rattle.client_threads.proofs.Leaving.{done}
+use Rattle.client_threads.proofs.Leaving.{done, entered_may}
 use Rattle.client_threads.proofs.running.run_client.Goals as goal
+
+pub answer_all-whole-requires-clause-may : goal.answer_all-whole-requires-clause-may
+answer_all-whole-requires-clause-may g c =
+    entered_may c.args.heap.now c.args.queue.now c.args.limits
+    (script_of c.args.scripts.now c.args.client.place) c.args.client.place c.args.client
+    c.come_in-m.result c.requires.ready c.come_in-m.ensures.entered
 
 pub returns : goal.returns
 returns g c = record {
