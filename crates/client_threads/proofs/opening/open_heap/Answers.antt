@@ -20,8 +20,10 @@ returns g c =
           c.from-keep.result c.opening_rows-rows.result c.in_ok-heap.ensures.heap
           c.from-keep.ensures c.opening_rows-rows.ensures.rows;
       seat = record {
-        seat_is = (ap (λ (s : SeatView Pass). s.table) seat,
-            ap (λ (s : SeatView Pass). s.me.shape) seat);
+        seat_is = (
+          ap (λ (s : SeatView Pass). s.table) seat,
+          ap (λ (s : SeatView Pass). s.me.shape) seat,
+        );
         idle = ap (λ (s : SeatView Pass). s.me.control.stage) seat;
         no_cycles = ap (λ (s : SeatView Pass). s.me.control.cycles) seat;
         trail = ap (λ (s : SeatView Pass). s.me.trail) seat;
