@@ -35,6 +35,13 @@ module _ {W : Type 0} (F : ℕ → W → Type 0) where
   all_both place (x ∷ xs) ys front back =
       (front.0, all_both (place + 1) xs ys front.1 (sooner place xs ys back))
 
+  -- one more, at the next place
+  pub all_push : (place : ℕ) (xs : List W) (one : W) → AllFrom F 0 xs → length xs ≡ place
+      → F place one → AllFrom F 0 (xs ++ one ∷ [])
+  all_push place xs one all many is =
+      let here : place ≡ 0 + length xs = omega (arith, many) in
+      all_both 0 xs (one ∷ []) all (subst (λ (k : ℕ). F k one) here is, tt)
+
 -- who is ready knows its place
 module _ {W : Type 0} (place_of : W → ℕ) (Ready Done : ℕ → W → Type 0)
     (placed : (place : ℕ) (one : W) → Ready place one → place_of one ≡ place) where

@@ -2,3 +2,4 @@ pub mod Duty
 pub mod Places
 pub mod Service
 pub mod Serving
+pub mod Splitting

@@ -10,7 +10,7 @@ use Rattle.atomic_table.proofs.Lists.{at_last, at_longer, set_else, set_here}
 use mathlib.Core.Option.{some}
 use lib.ListN.{get_elem?}
 use Rattle.client_run.specs.declared.session.Limits.{Limits as ClientLimits}
-use Rattle.beside_collector.specs.Places.{AllFrom}
+use Rattle.beside_collector.proofs.Places.{all_push}
 use Rattle.client_threads.specs.Clients.{AllReady, IsReady, script_of}
 use Rattle.client_threads.specs.declared.clients.Client.{Client}
 use Rattle.doc_model.specs.Answers.{Limits}
@@ -24,20 +24,6 @@ use Rattle.heap_table.specs.Seats.{HeapId}
 use Rattle.run_history.specs.Left.{AreLeft, IsLeft}
 use Rattle.client_threads.specs.Taken.{AllHadRoom, lists_of}
 use Rattle.version_rule.specs.Pass.{Pass}
-
--- one more client, at the next place
-pub all_from_push : (holds : ℕ → Client → Type 0) (place : ℕ) (clients : List Client)
-    (client : Client) → AllFrom holds place clients → holds (place + length clients) client
-    → AllFrom holds place (clients ++ client ∷ [])
-all_from_push holds place [] client all is =
-    let here : place + 0 ≡ place = omega arith in
-    (subst (λ (n : ℕ). holds n client) here is, tt)
-all_from_push holds place (c ∷ clients) client all is =
-    let next : place + suc (length clients) ≡ (place + 1) + length clients = omega arith in (
-      all.0,
-      all_from_push holds (place + 1) clients client all.1
-          (subst (λ (n : ℕ). holds n client) next is),
-    )
 
 pub script_short : (scripts : List (Vec Command Global)) (place : ℕ)
     → All (λ (script : Vec Command Global). length script.items ≤ 100_000) scripts
@@ -116,16 +102,6 @@ rooms_push room count at share lt had is = λ i below.
       }
     ]
 
--- all are unsplit from one place on, also when the one before it was split off
-pub unsplit_next : (at : List (Place Pass)) (place count : ℕ)
-    → ((i : ℕ) → place ≤ i → i < count → get_elem? at i ≡ some places.Unsplit)
-    → (i : ℕ) → place + 1 ≤ i → i < count
-    → get_elem? (slice_set at place places.Away) i ≡ some places.Unsplit
-unsplit_next at place count are i from below =
-    subst (λ p. p ≡ some places.Unsplit)
-    (sym (set_else at place i places.Away (λ e. omega (arith, from, e))))
-    (are i (omega (arith, from)) below)
-
 -- one more client is ready, at the next place
 pub ready_push : (heap : HeapId) (queue : FreeQueue) (l : ClientLimits)
     (scripts : List (Vec Command Global)) (clients : List Client) (client : Client) (place : ℕ)
@@ -135,7 +111,5 @@ pub ready_push : (heap : HeapId) (queue : FreeQueue) (l : ClientLimits)
     → IsReady heap queue l script place client)
     → AllReady heap queue l scripts (clients ++ client ∷ [])
 ready_push heap queue l scripts clients client place all many short is =
-    let here : place ≡ 0 + length clients = omega (arith, many) in
-    all_from_push (λ at c. IsReady heap queue l (script_of scripts at) at c) 0 clients client all
-    (subst (λ (at : ℕ). IsReady heap queue l (script_of scripts at) at client) here
-    (is (script_of scripts place) (script_short scripts place short)))
+    all_push (λ (at : ℕ) (c : Client). IsReady heap queue l (script_of scripts at) at c) place
+    clients client all many (is (script_of scripts place) (script_short scripts place short))

@@ -1,12 +1,11 @@
 -- The heap of a store, opened for its clients and its collector.
 -- Source: this project's.
-use Rattle.std.specs.Prelude.{ℕ, ◌≡◌, ◌≤◌, ◌<◌, List, [], length}
+use Rattle.std.specs.Prelude.{ℕ, ◌≡◌, List, [], length}
 use Rattle.std.specs.Prelude.{Vec}
 use Rattle.std.specs.declared.alloc.Global.{Global}
-use mathlib.Core.Option.{some}
-use lib.ListN.{get_elem?}
 use Rattle.beside_collector.specs.Duty.{duty_on}
 pub use Rattle.beside_collector.specs.Serving.{IsStill}
+pub use Rattle.beside_collector.specs.Splitting.{AreUnsplit, HasSplit}
 use Rattle.cell_words.specs.declared.controls.Stage.TheVariants as stage
 use Rattle.client_run.specs.declared.session.Limits.{Limits}
 use Rattle.client_threads.specs.Clients.{AllReady}
@@ -16,11 +15,8 @@ use Rattle.doc_model.specs.declared.command.Command.{Command}
 use Rattle.free_cells.specs.Hints.{cells_of as hinted_of}
 use Rattle.free_cells.specs.Passes.{IsHintPass}
 use Rattle.heap_rule.specs.Shape.{Shape}
-use Rattle.heap_rule.specs.declared.view.Place.{Place}
-use Rattle.heap_rule.specs.declared.view.Place.TheVariants as places
-use Rattle.heap_table.specs.Seats.{IsSeatOf, SeatView}
+use Rattle.heap_table.specs.Seats.{IsSeatOf}
 use Rattle.version_rule.specs.Opening.{first_rows}
-use Rattle.version_rule.specs.Pass.{Pass}
 
 -- the heap of a store: the setting is how many versions stay
 abbrev pub store_shape : ℕ → ℕ → ℕ → Shape
@@ -30,17 +26,6 @@ store_shape cells mutators keep = record {
   setting = keep;
   first = first_rows;
 }
-
--- the mutators from one place on are not split off yet
-abbrev pub AreUnsplit : ℕ → ℕ → List (Place Pass) → Type 0
-AreUnsplit from mutators at =
-    (i : ℕ) → from ≤ i → i < mutators → get_elem? at i ≡ some places.Unsplit
-
--- The first mutators are split off, and so many there are still.
-pub record HasSplit (clients mutators : ℕ) (old new : SeatView Pass) : Type 0 where
-  pub still : IsStill old new
-  pub many : length new.me.places ≡ mutators
-  pub unsplit : AreUnsplit clients mutators new.me.places
 
 -- how many cells may wait for a look of the collector
 abbrev pub opened_stack : Stack

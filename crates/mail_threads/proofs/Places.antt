@@ -23,21 +23,26 @@ script_none [] place le = refl
 script_none (s ∷ ss) zero le = absurd (omega (arith, le))
 script_none (s ∷ ss) (suc n) le = script_none ss n (omega (arith, le))
 
+module _ (heap : HeapId) (scripts : List (Vec ℕ Global)) where
+  abbrev pub DoneAt : ℕ → Sender → Type 0
+  DoneAt place sender = IsDone heap (script_of scripts place) place sender
+
 module _ (heap : HeapId) (queue : FreeQueue) (scripts : List (Vec ℕ Global)) where
   abbrev pub ReadyAt : ℕ → Sender → Type 0
   ReadyAt place sender = IsReady heap queue (script_of scripts place) place sender
 
-  abbrev pub DoneAt : ℕ → Sender → Type 0
-  DoneAt place sender = IsDone heap (script_of scripts place) place sender
-
   -- the last one is ready at the place that it has
   pub ready_last : (front : List Sender) (last : Sender)
       → AllFrom ReadyAt 0 (front ++ last ∷ []) → ReadyAt last.place last
-  ready_last = last_ready (λ (s : Sender). s.place) ReadyAt DoneAt (λ place s is. is.place_is)
+  ready_last =
+      last_ready (λ (s : Sender). s.place) ReadyAt (DoneAt heap scripts)
+      (λ place s is. is.place_is)
 
   -- and done there, behind all others
   pub done_last : (front : List Sender) (last : Sender) (left : List Sender) (now : Sender)
       → AllFrom ReadyAt 0 (front ++ last ∷ []) → length left ≡ length front
-      → AllFrom DoneAt 0 left → DoneAt last.place now
-      → AllFrom DoneAt 0 (left ++ now ∷ [])
-  done_last = last_done (λ (s : Sender). s.place) ReadyAt DoneAt (λ place s is. is.place_is)
+      → AllFrom (DoneAt heap scripts) 0 left → DoneAt heap scripts last.place now
+      → AllFrom (DoneAt heap scripts) 0 (left ++ now ∷ [])
+  done_last =
+      last_done (λ (s : Sender). s.place) ReadyAt (DoneAt heap scripts)
+      (λ place s is. is.place_is)

@@ -1,20 +1,14 @@
 -- The heap of a mailbox, opened for its senders, its receiver and its collector.
 -- Source: this project's.
-use Rattle.std.specs.Prelude.{ℕ, ◌≡◌, ◌≤◌, ◌<◌, ◌+◌, List, length, Vec}
+use Rattle.std.specs.Prelude.{ℕ, ◌≡◌, ◌+◌, List, length, Vec}
 use Rattle.std.specs.declared.alloc.Global.{Global}
-use mathlib.Core.Option.{some}
-use lib.ListN.{get_elem?}
 use Rattle.beside_collector.specs.Duty.{duty_on}
-use Rattle.beside_collector.specs.Serving.{IsStill}
 use Rattle.cell_words.specs.declared.controls.Stage.TheVariants as stage
 use Rattle.free_cells.specs.Hints.{cells_of as hinted_of}
 use Rattle.free_cells.specs.Passes.{IsHintPass}
 use Rattle.heap_rule.specs.Shape.{Shape}
-use Rattle.heap_rule.specs.declared.view.Place.{Place}
-use Rattle.heap_rule.specs.declared.view.Place.TheVariants as places
-use Rattle.heap_table.specs.Seats.{IsSeatOf, SeatView}
+use Rattle.heap_table.specs.Seats.{IsSeatOf}
 use Rattle.mail_rule.specs.Opening.{first_rows}
-use Rattle.mail_rule.specs.declared.mail_pass.MailPass.{MailPass}
 use Rattle.mail_threads.specs.Workers.{AllReady, IsWaiting}
 use Rattle.mail_threads.specs.declared.opened.OpenMail.{OpenMail}
 
@@ -26,17 +20,6 @@ mail_shape cells senders = record {
   setting = 0;
   first = first_rows;
 }
-
--- the mutators from one place on are not split off yet
-abbrev pub AreUnsplit : ℕ → ℕ → List (Place MailPass) → Type 0
-AreUnsplit from mutators at =
-    (i : ℕ) → from ≤ i → i < mutators → get_elem? at i ≡ some places.Unsplit
-
--- The first mutators are split off, and so many there are still.
-pub record HasSplit (senders mutators : ℕ) (old new : SeatView MailPass) : Type 0 where
-  pub still : IsStill old new
-  pub many : length new.me.places ≡ mutators
-  pub unsplit : AreUnsplit senders mutators new.me.places
 
 -- The heap is opened, and neither its senders nor its receiver, which has the last mutator, have
 -- begun.

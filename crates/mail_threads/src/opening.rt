@@ -3,11 +3,12 @@
 ghost use Rattle.std.specs.Prelude.{◌≡◌, ◌<◌, ◌≤◌, ◌^◌, All, IfOk, OnOk, ℕ, length, replicate};
 ghost use mathlib.Core.Option.{some};
 ghost use lib.ListN.{get_elem?};
+ghost use Rattle.beside_collector.specs.Splitting.{HasSplit};
 ghost use Rattle.free_cells.specs.Passes.{IsHintPass};
 ghost use Rattle.heap_rule.specs.Moves.{split_view};
 ghost use Rattle.heap_rule.specs.declared.view.Place.TheVariants as places;
 ghost use Rattle.heap_table.specs.Seats.{IsSeatOf};
-ghost use Rattle.mail_threads.specs.Opened.{HasSplit, IsOpenMail};
+ghost use Rattle.mail_threads.specs.Opened.{IsOpenMail};
 ghost use Rattle.mail_threads.specs.Workers.{AllReady, AreSmall, IsReady, script_of};
 
 use crate::opened::OpenMail;

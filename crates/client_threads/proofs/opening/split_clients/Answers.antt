@@ -1,41 +1,29 @@
-use Rattle.std.proofs.Common.{◌≡◌, ◌∙◌, List, ap, arith, length, refl, subst, sym}
-use Rattle.std.proofs.lemmas.List.{length-replicate, length-set, length_push}
-use mathlib.Core.Option.{some}
-use lib.ListN.{get_elem?}
+use Rattle.std.proofs.Common.{◌∙◌, List, ap, arith, length, subst, sym}
+use Rattle.std.proofs.lemmas.List.{length_push}
+use Rattle.beside_collector.proofs.Splitting.{none_split, one_split}
 use Rattle.client_threads.specs.Clients.{AllReady}
 use Rattle.client_threads.specs.declared.clients.Client.{Client}
-use Rattle.heap_rule.specs.declared.view.Place.{Place}
-use Rattle.heap_rule.specs.declared.view.Place.TheVariants as places
 use Rattle.heap_table.specs.Seats.{SeatView}
 use Rattle.version_rule.specs.Pass.{Pass}
-use Rattle.client_threads.proofs.OneMore.{ready_push, unsplit_next}
-use Rattle.client_threads.proofs.Splitting.{all_alike, still_split}
+use Rattle.client_threads.proofs.OneMore.{ready_push}
 use Rattle.client_threads.proofs.opening.split_clients.Goals as goal
 
 pub loop-place-init : goal.loop-place-init
-loop-place-init c =
-    let count = c.args.heap.now.shape.mutators in
-    record {
-      ready = subst (λ (cs : List Client). AllReady c.args.heap.now c.args.queue.now c.args.limits
-          c.args.scripts.now cs) (sym c.in_ok-clients.ensures.items) tt;
-      many = ap (λ (cs : List Client). length cs) c.in_ok-clients.ensures.items;
-      len = c.in_ok-clients.ensures.len;
-      room = c.in_ok-clients.ensures.exact;
-      seat = c.requires.seat;
-      still = record { table = refl; shape = refl; control = refl; trail = refl };
-      many_places = ap (λ (ps : List (Place Pass)). length ps) c.requires.unsplit
-          ∙ length-replicate count places.Unsplit;
-      unsplit = λ i from below.
-          subst (λ (ps : List (Place Pass)). get_elem? ps i ≡ some places.Unsplit)
-          (sym c.requires.unsplit) (all_alike places.Unsplit count i below);
-      pass = c.requires.pass;
-    }
+loop-place-init c = record {
+  ready = subst (λ (cs : List Client). AllReady c.args.heap.now c.args.queue.now c.args.limits
+      c.args.scripts.now cs) (sym c.in_ok-clients.ensures.items) tt;
+  many = ap (λ (cs : List Client). length cs) c.in_ok-clients.ensures.items;
+  len = c.in_ok-clients.ensures.len;
+  room = c.in_ok-clients.ensures.exact;
+  seat = c.requires.seat;
+  split = none_split c.args.heap.now.shape.mutators c.args.seat.now c.requires.unsplit;
+  pass = c.requires.pass;
+}
 
 pub loop-place-preserved : goal.loop-place-preserved
 loop-place-preserved c =
     let k = c.loop-place.invariant in
     let is = c.in_ok-client.ensures.seat in
-    let mid = c.loop-place.seat in
     let place = c.loop-place.place in
     let longer = length_push c.loop-place.clients.items c.in_ok-client.client in
     let items = ap (λ (cs : List Client). length cs) c.push_reserved.ensures.items in
@@ -53,12 +41,7 @@ loop-place-preserved c =
         ap (λ (s : SeatView Pass). s.table) is ∙ k.seat.0,
         ap (λ (s : SeatView Pass). s.me.shape) is ∙ k.seat.1,
       );
-      still = still_split place c.args.seat.now mid c.new_client.new.seat k.still is;
-      many_places = ap (λ (s : SeatView Pass). length s.me.places) is
-          ∙ length-set mid.me.places place places.Away ∙ k.many_places;
-      unsplit = λ i from below.
-          subst (λ (ps : List (Place Pass)). get_elem? ps i ≡ some places.Unsplit)
-          (sym (ap (λ (s : SeatView Pass). s.me.places) is))
-          (unsplit_next mid.me.places place c.args.heap.now.shape.mutators k.unsplit i from below);
+      split = one_split place c.args.heap.now.shape.mutators c.args.seat.now c.loop-place.seat
+          c.new_client.new.seat k.split is;
       pass = c.in_ok-client.ensures.pass;
     }

@@ -3,8 +3,7 @@ use Rattle.std.specs.Vec.{vec_capacity, vec_len}
 use Rattle.client_threads.specs.Clients.{AllReady}
 use Rattle.free_cells.specs.Passes.{IsHintPass}
 use Rattle.heap_table.specs.Seats.{IsSeatOf}
-use Rattle.beside_collector.specs.Serving.{IsStill}
-use Rattle.client_threads.specs.Opened.{AreUnsplit}
+use Rattle.client_threads.specs.Opened.{HasSplit}
 use Rattle.client_threads.proofs.opening.split_clients.Given as goal
 
 abbrev pub invariant-loop-place : goal.invariant-loop-place
@@ -14,8 +13,6 @@ invariant-loop-place l = record {
   len : vec_len l.clients ≡ l.place;
   room : vec_capacity l.clients ≡ length l.scripts;
   seat : IsSeatOf l.heap l.seat;
-  still : IsStill l.fn.seat l.seat;
-  many_places : length l.seat.me.places ≡ l.heap.shape.mutators;
-  unsplit : AreUnsplit l.place l.heap.shape.mutators l.seat.me.places;
+  split : HasSplit l.place l.heap.shape.mutators l.fn.seat l.seat;
   pass : IsHintPass l.queue l.pass;
 }

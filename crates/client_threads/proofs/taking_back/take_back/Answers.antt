@@ -1,8 +1,9 @@
-use Rattle.std.proofs.Common.{List, ◌||◌, ap, arith, length, subst, sym}
+use Rattle.std.proofs.Common.{◌∙◌, List, ◌||◌, ap, arith, length, subst, sym}
 use Rattle.std.proofs.lemmas.Bool.{or_parts}
 use Rattle.client_threads.specs.declared.clients.Client.{Client}
 use Rattle.doc_model.specs.ClientLog.{ClientLog}
-use Rattle.client_threads.proofs.TakingBack.{Taking, taking_next}
+use Rattle.client_threads.proofs.TakingBack.{ClientsSoFar, all_fronts, all_whole, client_taken}
+use Rattle.client_threads.proofs.TakingBack.{clients_taken}
 use Rattle.client_threads.proofs.taking_back.take_back.Goals as goal
 use Rattle.std.specs.Vec.Iter.{into_iter_items}
 
@@ -23,14 +24,39 @@ loop-client-preserved c =
     let old = c.args.seat.now in
     let mid = c.loop-client.seat in
     let new = c.joined.new.seat in
-    let now = subst (λ (cs : List Client). Taking heap limits scripts cs logs failed old mid)
+    let now = subst (λ (cs : List Client). ClientsSoFar heap limits scripts cs logs failed old mid)
     steps.0 k.taking in
-    let next = taking_next heap limits scripts c.in-Some.client rest logs failed after
+    let next = client_taken heap limits scripts c.in-Some.client rest logs failed after
     c.joined.result old mid new now c.joined.ensures.log c.joined.ensures.seat
     (λ so. or_parts failed c.in-Some.client.failed so) in
     record {
       left = omega (arith, one, steps.1, k.left);
       room = omega (arith, one, len, capacity, k.room);
-      taking = subst (λ (gs : List ClientLog). Taking heap limits scripts rest gs after old new)
+      taking = subst (λ (gs : List ClientLog).
+          ClientsSoFar heap limits scripts rest gs after old new)
           (sym c.push_reserved.ensures.items) next;
     }
+
+pub returns-clause-taken : goal.returns-clause-taken
+returns-clause-taken c =
+    let at = c.loop-client in
+    let none = sym at.invariant.left ∙ c.in-None.ensures.steps.0 in
+    clients_taken c.args.heap.now c.args.limits c.args.scripts.now
+    (into_iter_items at.client-iterator) at.logs.items at.failed c.args.seat.now at.seat
+    at.invariant.taking none
+
+pub returns-clause-fronts : goal.returns-clause-fronts
+returns-clause-fronts c =
+    let at = c.loop-client in
+    let none = sym at.invariant.left ∙ c.in-None.ensures.steps.0 in
+    all_fronts c.args.heap.now c.args.limits c.args.scripts.now
+    (into_iter_items at.client-iterator) at.logs.items at.failed c.args.seat.now at.seat
+    at.invariant.taking none
+
+pub returns-clause-whole : goal.returns-clause-whole
+returns-clause-whole c =
+    let at = c.loop-client in
+    let none = sym at.invariant.left ∙ c.in-None.ensures.steps.0 in
+    all_whole c.args.heap.now c.args.limits c.args.scripts.now
+    (into_iter_items at.client-iterator) at.logs.items at.failed c.args.seat.now at.seat
+    at.invariant.taking none

@@ -2,8 +2,7 @@ use Rattle.std.proofs.Common.{◌≡◌, length}
 use Rattle.std.specs.Vec.{vec_capacity, vec_len}
 use Rattle.free_cells.specs.Passes.{IsHintPass}
 use Rattle.heap_table.specs.Seats.{IsSeatOf}
-use Rattle.beside_collector.specs.Serving.{IsStill}
-use Rattle.mail_threads.specs.Opened.{AreUnsplit}
+use Rattle.beside_collector.specs.Splitting.{HasSplit}
 use Rattle.mail_threads.specs.Workers.{AllReady}
 use Rattle.mail_threads.proofs.opening.split_senders.Given as goal
 
@@ -14,8 +13,6 @@ invariant-loop-place l = record {
   len : vec_len l.senders ≡ l.place;
   room : vec_capacity l.senders ≡ length l.scripts;
   seat : IsSeatOf l.heap l.seat;
-  still : IsStill l.fn.seat l.seat;
-  many_places : length l.seat.me.places ≡ l.heap.shape.mutators;
-  unsplit : AreUnsplit l.place l.heap.shape.mutators l.seat.me.places;
+  split : HasSplit l.place l.heap.shape.mutators l.fn.seat l.seat;
   pass : IsHintPass l.queue l.pass;
 }

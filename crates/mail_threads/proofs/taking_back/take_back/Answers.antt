@@ -1,7 +1,9 @@
-use Rattle.std.proofs.Common.{List, ap, arith, length, subst}
+use Rattle.std.proofs.Common.{◌∙◌, ℕ, List, Option, ap, arith, length, subst, sym}
+use Rattle.std.specs.Prelude.{Vec}
+use Rattle.std.specs.declared.alloc.Global.{Global}
 use Rattle.std.specs.Vec.Iter.{into_iter_items}
 use Rattle.mail_threads.specs.declared.workers.Sender.{Sender}
-use Rattle.mail_threads.proofs.TakingBack.{Taking, taking_next}
+use Rattle.mail_threads.proofs.TakingBack.{SendersSoFar, sender_taken, senders_taken}
 use Rattle.mail_threads.proofs.taking_back.take_back.Goals as goal
 
 pub loop-sender-preserved : goal.loop-sender-preserved
@@ -17,11 +19,21 @@ loop-sender-preserved c =
     let sent = c.loop-sender.sent.items in
     let old = c.args.seat.now in
     let mid = c.loop-sender.seat in
-    let now = subst (λ (cs : List Sender). Taking heap scripts cs sent old mid) steps.0 k.taking in
+    let new = c.joined.new.seat in
+    let now = subst (λ (cs : List Sender). SendersSoFar heap scripts cs sent old mid) steps.0
+    k.taking in
     record {
       left = omega (arith, one, steps.1, k.left);
       room = omega (arith, one, len, capacity, k.room);
-      taking = taking_next heap scripts c.in-Some.sender rest sent c.push_reserved.new.self.items
-          c.joined.result old mid c.joined.new.seat now c.joined.ensures.sent
-          c.push_reserved.ensures.items c.joined.ensures.seat;
+      taking = subst (λ (xs : List (Vec (Option ℕ) Global)).
+          SendersSoFar heap scripts rest xs old new) (sym c.push_reserved.ensures.items)
+          (sender_taken heap scripts c.in-Some.sender rest sent c.joined.result old mid new now
+          c.joined.ensures.sent c.joined.ensures.seat);
     }
+
+pub returns-clause-taken : goal.returns-clause-taken
+returns-clause-taken c =
+    let k = c.loop-sender.invariant in
+    let none = c.in-None.ensures.steps.0 in
+    senders_taken c.args.heap.now c.args.scripts.now (into_iter_items c.loop-sender.sender-iterator)
+    c.loop-sender.sent.items c.args.seat.now c.loop-sender.seat k.taking (sym k.left ∙ none)
