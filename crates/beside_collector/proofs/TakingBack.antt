@@ -101,7 +101,8 @@ module _ {P : Type 0} {W : Type 0} {G : Type 0} (Done : ℕ → W → Type 0) (s
               ]);
         }
 
-  -- all are
-  pub all_taken : (workers : ℕ) (given : List G) (old new : SeatView P)
-      → TakenSoFar workers [] given old new → length given ≡ workers
-  all_taken workers given old new t = let count = t.many in omega (arith, count)
+  -- none is left
+  pub all_taken : (workers : ℕ) (rest : List W) (given : List G) (old new : SeatView P)
+      → TakenSoFar workers rest given old new → length rest ≡ 0 → length given ≡ workers
+  all_taken workers rest given old new t none =
+      let count = t.many in omega (arith, count, none)

@@ -30,7 +30,7 @@ fronts_push (f ∷ fronts) (w ∷ wholes) front whole are is =
     (are.0, fronts_push fronts wholes front whole are.1 is)
 
 module _ (heap : HeapId) (limits : ClientLimits) (scripts : List (Vec Command Global)) where
-  abbrev DoneAt : ℕ → Client → Type 0
+  abbrev pub DoneAt : ℕ → Client → Type 0
   DoneAt place client = IsDone heap limits (script_of scripts place) place client
 
   -- The first clients gave these logs, and these clients are left. What the first were asked and
@@ -92,28 +92,28 @@ module _ (heap : HeapId) (limits : ClientLimits) (scripts : List (Vec Command Gl
             ∙ sym lists;
       }
 
-  -- all are
+  -- None is left.
 
-  all_logs : (logs : List ClientLog) (failed : Bool) (old new : SeatView Pass)
-      → ClientsSoFar [] logs failed old new → length logs ≡ length scripts
-  all_logs logs failed old new t =
+  all_logs : (rest : List Client) (logs : List ClientLog) (failed : Bool) (old new : SeatView Pass)
+      → ClientsSoFar rest logs failed old new → length rest ≡ 0 → length logs ≡ length scripts
+  all_logs rest logs failed old new t none =
       all_taken DoneAt (λ (c : Client). c.seat) (λ (c : Client). c.session.journal.log)
-      (length scripts) logs old new t.back
+      (length scripts) rest logs old new t.back none
 
-  all_lists : (logs : List ClientLog) (failed : Bool) (old new : SeatView Pass)
-      → ClientsSoFar [] logs failed old new
+  all_lists : (rest : List Client) (logs : List ClientLog) (failed : Bool)
+      (old new : SeatView Pass) → ClientsSoFar rest logs failed old new → length rest ≡ 0
       → take (length logs) (lists_of scripts) ≡ lists_of scripts
-  all_lists logs failed old new t =
-      let all = all_logs logs failed old new t in
+  all_lists rest logs failed old new t none =
+      let all = all_logs rest logs failed old new t none in
       let many = length-map scripts (λ (script : Vec Command Global). script.items) in
       take_all (length logs) (lists_of scripts) (omega (arith, all, many))
 
-  pub clients_taken : (logs : List ClientLog) (failed : Bool) (old new : SeatView Pass)
-      → ClientsSoFar [] logs failed old new
+  pub clients_taken : (rest : List Client) (logs : List ClientLog) (failed : Bool)
+      (old new : SeatView Pass) → ClientsSoFar rest logs failed old new → length rest ≡ 0
       → AreTaken (store_limits limits) heap.shape.cells (places_for limits.minor)
       (length scripts) logs old new
-  clients_taken logs failed old new t =
-      let all = all_logs logs failed old new t in
+  clients_taken rest logs failed old new t none =
+      let all = all_logs rest logs failed old new t none in
       record {
         still = t.back.still;
         many = all;
@@ -131,13 +131,15 @@ module _ (heap : HeapId) (limits : ClientLimits) (scripts : List (Vec Command Gl
         };
       }
 
-  pub all_whole : (logs : List ClientLog) (failed : Bool) (old new : SeatView Pass)
-      → ClientsSoFar [] logs failed old new → failed ≡ false
-      → map commands_in logs ≡ lists_of scripts
-  all_whole logs failed old new t so = t.whole so ∙ all_lists logs failed old new t
+  pub all_whole : (rest : List Client) (logs : List ClientLog) (failed : Bool)
+      (old new : SeatView Pass) → ClientsSoFar rest logs failed old new → length rest ≡ 0
+      → failed ≡ false → map commands_in logs ≡ lists_of scripts
+  all_whole rest logs failed old new t none so =
+      t.whole so ∙ all_lists rest logs failed old new t none
 
-  pub all_fronts : (logs : List ClientLog) (failed : Bool) (old new : SeatView Pass)
-      → ClientsSoFar [] logs failed old new → AreFronts (map commands_in logs) (lists_of scripts)
-  all_fronts logs failed old new t =
+  pub all_fronts : (rest : List Client) (logs : List ClientLog) (failed : Bool)
+      (old new : SeatView Pass) → ClientsSoFar rest logs failed old new → length rest ≡ 0
+      → AreFronts (map commands_in logs) (lists_of scripts)
+  all_fronts rest logs failed old new t none =
       subst (λ (ls : List (List Command)). AreFronts (map commands_in logs) ls)
-      (all_lists logs failed old new t) t.fronts
+      (all_lists rest logs failed old new t none) t.fronts

@@ -40,11 +40,13 @@ module _ (heap : HeapId) (scripts : List (Vec ℕ Global)) where
       one_taken (DoneAt heap scripts) (λ (s : Sender). s.seat) (λ (s : Sender). s.sent)
       (λ place s done. done.number_is) (length scripts)
 
-  pub senders_taken : (sent : List (Vec (Option ℕ) Global)) (old new : SeatView MailPass)
-      → SendersSoFar [] sent old new → AreTaken heap.shape.cells scripts sent old new
-  senders_taken sent old new t =
+  -- none is left
+  pub senders_taken : (rest : List Sender) (sent : List (Vec (Option ℕ) Global))
+      (old new : SeatView MailPass) → SendersSoFar rest sent old new → length rest ≡ 0
+      → AreTaken heap.shape.cells scripts sent old new
+  senders_taken rest sent old new t none =
       let all = all_taken (DoneAt heap scripts) (λ (s : Sender). s.seat)
-      (λ (s : Sender). s.sent) (length scripts) sent old new t in
+      (λ (s : Sender). s.sent) (length scripts) rest sent old new t none in
       record {
         still = t.still;
         many = all;

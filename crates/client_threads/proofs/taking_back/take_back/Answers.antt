@@ -1,8 +1,9 @@
-use Rattle.std.proofs.Common.{List, ◌||◌, ap, arith, length, subst, sym}
+use Rattle.std.proofs.Common.{◌∙◌, List, ◌||◌, ap, arith, length, subst, sym}
 use Rattle.std.proofs.lemmas.Bool.{or_parts}
 use Rattle.client_threads.specs.declared.clients.Client.{Client}
 use Rattle.doc_model.specs.ClientLog.{ClientLog}
-use Rattle.client_threads.proofs.TakingBack.{ClientsSoFar, client_taken}
+use Rattle.client_threads.proofs.TakingBack.{ClientsSoFar, all_fronts, all_whole, client_taken}
+use Rattle.client_threads.proofs.TakingBack.{clients_taken}
 use Rattle.client_threads.proofs.taking_back.take_back.Goals as goal
 use Rattle.std.specs.Vec.Iter.{into_iter_items}
 
@@ -35,3 +36,27 @@ loop-client-preserved c =
           ClientsSoFar heap limits scripts rest gs after old new)
           (sym c.push_reserved.ensures.items) next;
     }
+
+pub returns-clause-taken : goal.returns-clause-taken
+returns-clause-taken c =
+    let at = c.loop-client in
+    let none = sym at.invariant.left ∙ c.in-None.ensures.steps.0 in
+    clients_taken c.args.heap.now c.args.limits c.args.scripts.now
+    (into_iter_items at.client-iterator) at.logs.items at.failed c.args.seat.now at.seat
+    at.invariant.taking none
+
+pub returns-clause-fronts : goal.returns-clause-fronts
+returns-clause-fronts c =
+    let at = c.loop-client in
+    let none = sym at.invariant.left ∙ c.in-None.ensures.steps.0 in
+    all_fronts c.args.heap.now c.args.limits c.args.scripts.now
+    (into_iter_items at.client-iterator) at.logs.items at.failed c.args.seat.now at.seat
+    at.invariant.taking none
+
+pub returns-clause-whole : goal.returns-clause-whole
+returns-clause-whole c =
+    let at = c.loop-client in
+    let none = sym at.invariant.left ∙ c.in-None.ensures.steps.0 in
+    all_whole c.args.heap.now c.args.limits c.args.scripts.now
+    (into_iter_items at.client-iterator) at.logs.items at.failed c.args.seat.now at.seat
+    at.invariant.taking none

@@ -1,9 +1,9 @@
-use Rattle.std.proofs.Common.{ℕ, List, Option, ap, arith, length, subst, sym}
+use Rattle.std.proofs.Common.{◌∙◌, ℕ, List, Option, ap, arith, length, subst, sym}
 use Rattle.std.specs.Prelude.{Vec}
 use Rattle.std.specs.declared.alloc.Global.{Global}
 use Rattle.std.specs.Vec.Iter.{into_iter_items}
 use Rattle.mail_threads.specs.declared.workers.Sender.{Sender}
-use Rattle.mail_threads.proofs.TakingBack.{SendersSoFar, sender_taken}
+use Rattle.mail_threads.proofs.TakingBack.{SendersSoFar, sender_taken, senders_taken}
 use Rattle.mail_threads.proofs.taking_back.take_back.Goals as goal
 
 pub loop-sender-preserved : goal.loop-sender-preserved
@@ -30,3 +30,10 @@ loop-sender-preserved c =
           (sender_taken heap scripts c.in-Some.sender rest sent c.joined.result old mid new now
           c.joined.ensures.sent c.joined.ensures.seat);
     }
+
+pub returns-clause-taken : goal.returns-clause-taken
+returns-clause-taken c =
+    let k = c.loop-sender.invariant in
+    let none = c.in-None.ensures.steps.0 in
+    senders_taken c.args.heap.now c.args.scripts.now (into_iter_items c.loop-sender.sender-iterator)
+    c.loop-sender.sent.items c.args.seat.now c.loop-sender.seat k.taking (sym k.left ∙ none)
