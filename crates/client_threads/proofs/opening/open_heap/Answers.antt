@@ -1,19 +1,18 @@
-use Rattle.std.proofs.Common.{◌∙◌, List, ap, arith}
-use Rattle.cell_words.specs.declared.controls.Control.{Control}
+use Rattle.std.proofs.Common.{ap, arith}
 use Rattle.heap_table.specs.Seats.{SeatView}
 use Rattle.version_rule.specs.Pass.{Pass}
 use Rattle.client_threads.proofs.Splitting.{opened_shape, opens}
 use Rattle.client_threads.proofs.opening.open_heap.Goals as goal
 
 pub open-requires-clause-rule : goal.open-requires-clause-rule
-open-requires-clause-rule g c =
+open-requires-clause-rule c =
     let keep = c.from-keep.ensures in
     let range = c.requires.keep in
     opens c.args.cells _ c.from-keep.result _ c.opening_rows-rows.ensures.rows
     (omega (arith, c.requires.few)) (omega (arith, keep, range.0)) (omega (arith, keep, range.1))
 
 pub returns : goal.returns
-returns g c =
+returns c =
     let seat = c.in_ok-heap.ensures.seat in
     record {
       shape = opened_shape c.args.cells c.args.keep c.in_ok-heap.heap.shape c.args.mutators

@@ -1,9 +1,8 @@
-use Rattle.std.proofs.Common.{◌∙◌, ◌++◌, List, ap, arith, length, subst, sym}
+use Rattle.std.proofs.Common.{◌∙◌, ◌++◌, List, ap, length, subst, sym}
 use Rattle.cell_words.specs.declared.controls.Control.{Control}
 use Rattle.core_machine.specs.declared.events.Taken.{Taken}
 use Rattle.heap_rule.specs.Shape.{Shape}
 use Rattle.heap_rule.specs.declared.view.Place.{Place}
-use Rattle.heap_table.specs.Seats.{SeatView}
 use Rattle.version_rule.specs.Pass.{Pass}
 use Rattle.beside_collector.specs.Duty.{duty_on}
 use Rattle.client_threads.specs.Opened.{AreUnsplit}
@@ -11,10 +10,12 @@ use Rattle.client_threads.proofs.opening.open_store.Goals as goal
 
 pub returns : goal.returns
 returns g c =
-    let seat = c.in_ok-heap.ensures.1 in
+    let opened = rw c.in_ok-heap.was at c.join-queue.ensures.second in
+    let queued = rw c.in_ok-queue.was at c.join-queue.ensures.first in
+    let seat = opened.1 in
     let duty = c.begin_duty.ensures.duty in
     let split = c.in_ok-clients.ensures.seat in
-    let shape = c.in_ok-heap.ensures.0 in
+    let shape = opened.0 in
     record {
       opened = record {
         shape = shape;
@@ -35,7 +36,7 @@ returns g c =
             c.split_clients.new.seat.me.places) shape split.unsplit);
         stack = c.in_ok-stack.ensures.stack;
         pass = c.in_ok-clients.ensures.pass;
-        hinted = c.in_ok-queue.ensures.cells;
+        hinted = queued.1;
         ready = c.in_ok-clients.ensures.ready;
         many = c.in_ok-clients.ensures.many;
       };

@@ -58,7 +58,7 @@ returns-clause-done g t c =
     c.requires.ready in
     let left = c.join-clients.result.0.items in
     let now = c.join-clients.result.1 in
-    let is : c.push.new.self.items ≡ left ++ now ∷ [] = search rules in
+    let is : c.push-2.new.self.items ≡ left ++ now ∷ [] = search rules in
     subst (λ (xs : List Client). AllDone heap l scripts xs) (sym is)
     (done_last heap queue l scripts front last left now all c.join-clients.ensures.first.1
     c.join-clients.ensures.first.0 c.join-clients.ensures.second)
