@@ -5,7 +5,7 @@
 -- tied     each log is tied to what its mutator left
 -- tidy     fewer cycles than the collector may make leave no garbage
 -- service  the collector's trail
-use Rattle.std.proofs.Common.{◌≡◌, ◌≤◌, ◌<◌, ◌+◌, ◌++◌, ℕ, zero, suc, Bool, true}
+use Rattle.std.proofs.Common.{◌≡◌, ◌≤◌, ◌<◌, ◌++◌, ℕ, zero, suc, Bool, true}
 use Rattle.std.proofs.Common.{List, length, Option, refl, sym, ◌∙◌, ap, subst, arith}
 use Rattle.beside_collector.specs.Duty.{duty_on}
 use Rattle.beside_collector.specs.Service.{HasServed, IsService}
