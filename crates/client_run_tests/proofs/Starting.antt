@@ -11,7 +11,7 @@ use Rattle.heap_table.specs.Opening.{Opens}
 use Rattle.heap_table.specs.Seats.{HeapId, SeatView}
 use Rattle.mutator_seat.specs.Bound.{Bound, held_cells, takes}
 use Rattle.version_rule.specs.Opening.{first_rows, first_terms}
-use Rattle.version_rule.specs.Pass.{Commit, Pass, opening_pass}
+use Rattle.version_rule.specs.Pass.{Pass, opening_pass}
 use Rattle.version_rule.specs.Versions.{HoldsVersions}
 use Rattle.version_rule.proofs.Openings.{firsts, opened}
 use Rattle.held_places.proofs.Going.{many_cells}
