@@ -26,7 +26,7 @@ mod word;
 
 pub use crate::fault::{ScriptError, ScriptFault, ScriptKind};
 pub use crate::form::{Form, script_form, script_version};
-pub use crate::reply::{heading_line, reply_line};
+pub use crate::reply::{add_reply, heading_line, reply_line};
 pub use crate::script::read_script;
 pub use crate::summary::{history_line, stats_lines};
 pub use crate::texts::{quoted, read_quoted};

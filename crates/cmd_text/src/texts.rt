@@ -25,25 +25,30 @@ pub fn read_quoted(alloc: Global, bytes: &[u8]) -> Result<Option<Text>, NoMemory
     }
 }
 
-/// A text in this form.
-pub(crate) fn shown_text(alloc: Global, text: &Text, form: Form) -> Result<Vec<u8>, NoMemory>
-    ensures line { IfOk result (λ line. line.items ≡ shown_text form text.now) }
+/// Adds a text in this form.
+pub(crate) fn add_shown(
+    alloc: Global,
+    text: &Text,
+    form: Form,
+    lines: &mut Vec<u8>,
+) -> Result<(), NoMemory>
+    ensures lines { OnOk result (lines.new.items ≡ lines.old.items ++ shown_text form text.now) }
 {
     match form {
-        Form::Plain => plainly(alloc, text.bytes()),
-        Form::Quoted => quoted(alloc, text),
+        Form::Plain => add_plainly(text.bytes(), lines),
+        Form::Quoted => lines.extend_from_slice(&quoted(alloc, text)?),
     }
 }
 
-// A text on one line that is not read back.
-fn plainly(alloc: Global, text: &[u8]) -> Result<Vec<u8>, NoMemory>
-    ensures { IfOk result (λ line. line.items ≡ plainly_of text.now) }
+// Adds a text on one line that is not read back.
+#[tactic(auto, using(std::proofs::lemmas::List::append_assoc))]
+fn add_plainly(text: &[u8], lines: &mut Vec<u8>) -> Result<(), NoMemory>
+    ensures { OnOk result (lines.new.items ≡ lines.old.items ++ plainly_of text.now) }
 {
-    let mut line = Vec::new(alloc);
     for byte in text {
-        push_plainly(&mut line, *byte)?;
+        push_plainly(lines, *byte)?;
     }
-    Ok(line)
+    Ok(())
 }
 
 fn push_plainly(line: &mut Vec<u8>, byte: u8) -> Result<(), NoMemory>

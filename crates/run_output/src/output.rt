@@ -4,7 +4,7 @@ ghost use Rattle.cmd_text.specs.SummaryText.{history_text_of};
 ghost use Rattle.run_output.specs.Output.{AddsHistory, IsOutput, log_text_of, logs_text_of};
 ghost use Rattle.run_output.specs.Output.{first_form_of, history_of, stats_of};
 
-use cmd_text::{Form, heading_line, history_line, reply_line, stats_lines};
+use cmd_text::{Form, add_reply, heading_line, history_line, stats_lines};
 use doc_model::{Entry, Log, NoMemory, Totals, merge};
 use std::alloc::Global;
 
@@ -67,7 +67,7 @@ fn add_log(alloc: Global, form: Form, log: &Log, text: &mut Vec<u8>) -> Result<(
 {
     text.extend_from_slice(&heading_line(alloc, log.client())?)?;
     for entry in log.entries() {
-        text.extend_from_slice(&reply_line(alloc, &entry.reply, form)?)?;
+        add_reply(alloc, &entry.reply, form, text)?;
     }
     Ok(())
 }
