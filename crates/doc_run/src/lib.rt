@@ -12,7 +12,7 @@
 //!
 //! Reading order: `words`, `outcome`, `clients`, `report`, `summary`, then a file for each
 //! request's ending, `scripts`, `beside`, `generated`, `mailing`, `schedule`, `dump` and `census`,
-//! and `whole_run`.
+//! then `requests` and `whole_run`.
 #![tactic(auto)]
 
 mod beside;
@@ -23,6 +23,7 @@ mod generated;
 mod mailing;
 mod outcome;
 mod report;
+mod requests;
 mod schedule;
 mod scripts;
 mod summary;
