@@ -126,7 +126,7 @@ module _ (holds : List ℕ → Option (List ℕ)) (asked : Option Asked) (result
   module _ (limit old_opens new_opens old_calls new_calls : ℕ)
       (old_shelf new_shelf old_sink new_sink : Course)
       (is : Calls holds asked result limit old_opens new_opens old_calls new_calls old_shelf
-          new_shelf old_sink new_sink) where
+      new_shelf old_sink new_sink) where
     pub unbroken_shelf : result.status ≡ 0 → IsUnbroken old_shelf → IsUnbroken new_shelf
     unbroken_shelf = is.unbroken_shelf
 
@@ -160,7 +160,7 @@ module _ (result : Outcome) (old_opens new_opens old_read_faults new_read_faults
     (old_written new_written : Option (List ℕ))
     (old_write_faults new_write_faults old_wants new_wants : ℕ)
     (is : Failures result old_opens new_opens old_read_faults new_read_faults old_written
-        new_written old_write_faults new_write_faults old_wants new_wants) where
+    new_written old_write_faults new_write_faults old_wants new_wants) where
   pub read : result.status ≡ 3 → Rose old_read_faults new_read_faults
   read = is.read
 
