@@ -27,13 +27,11 @@ ghost use Rattle.script_files.specs.InTurn.{most_commands};
 ghost use Rattle.script_files.specs.Scripts.{AreScripts, IsDueFor, StopsBehind};
 
 use crate::beside::dump_beside;
-use crate::census::census_file;
-use crate::dump::load_dump;
 use crate::generated::run_generated;
 use crate::mailing::run_mail;
 use crate::outcome::Outcome;
+use crate::reading::{Reading, answer_file};
 use crate::report::Report;
-use crate::schedule::run_schedule;
 use crate::scripts::run_scripts;
 use crate::words::Words;
 use outside::{Gate, READ_LIMIT, Shelf, Sink};
@@ -164,10 +162,10 @@ pub fn answer_request<R: Threads + Wait + Sync, H: Shelf, S: Sink, G: Gate + Syn
         Ok(Request::Run(run)) => run_scripts(alloc, rt, &run, Report::Replies, shelf, sink, gate),
         Ok(Request::Image(run)) => run_scripts(alloc, rt, &run, Report::Heap, shelf, sink, gate),
         Ok(Request::Dump(names)) => dump_beside(alloc, rt, &names, shelf, sink, gate),
-        Ok(Request::Census(name)) => census_file(alloc, name, shelf, sink),
-        Ok(Request::Replay(name)) => run_schedule(alloc, name, shelf, sink),
+        Ok(Request::Census(name)) => answer_file(alloc, Reading::Images, name, shelf, sink),
+        Ok(Request::Replay(name)) => answer_file(alloc, Reading::Schedules, name, shelf, sink),
         Ok(Request::Gen(made)) => run_generated(alloc, rt, made, sink, gate),
-        Ok(Request::Load(name)) => load_dump(alloc, name, shelf, sink),
+        Ok(Request::Load(name)) => answer_file(alloc, Reading::Dumps, name, shelf, sink),
         Ok(Request::Mail(mail)) => run_mail(alloc, rt, &mail, shelf, sink),
         Err(WordsFault::Usage) => Outcome::usage(),
         Err(WordsFault::NoMemory) => Outcome::refused(Fault::Memory),

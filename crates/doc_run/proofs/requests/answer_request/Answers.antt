@@ -2,7 +2,7 @@ use Rattle.std.proofs.Common.{◌≡◌, ◌∙◌, Some, ap, map, subst, sym}
 use Rattle.run_words.specs.Requests.{Run, Replay, Gen, Load, Image, Dump, Census, Mail, asked_by}
 use Rattle.run_words.specs.Requests.{mail_asked_by, names_by, request_of, run_asked_by}
 use Rattle.doc_run.specs.Asked.{WritesPartOf}
-use Rattle.doc_run.specs.Reading.{Schedules, Dumps, Images}
+use Rattle.doc_run.specs.declared.reading.Reading.TheVariants.{Schedules, Dumps, Images}
 use Rattle.doc_run.specs.declared.report.Report.TheVariants.{Replies, Heap}
 use Rattle.doc_run.proofs.Asking.{due_asked, opens_file, stops_asked, stops_beside, unread_scripts}
 use Rattle.doc_run.proofs.Asking.{unread_stops, unread_stops_mail}
@@ -88,9 +88,9 @@ returns-in-Ok-Replay-clause-file g c =
     c.all.ensures (c.in-Ok-Replay.ensures.request
     ∙ ap (λ request. Some (asked_by request)) c.in-Ok-Replay.field-0-is) in
     file_asked (request_of c.args.words.now) Schedules c.in-Ok-Replay.name.now
-    (g.H.Shelf.holds c.args.shelf.now) c.run_schedule.result.fault c.run_schedule.result.status
-    (g.S.Sink.written c.args.sink.now) (g.S.Sink.written c.run_schedule.new.sink) asked
-    c.run_schedule.ensures.status c.run_schedule.ensures.explained c.run_schedule.ensures.written
+    (g.H.Shelf.holds c.args.shelf.now) c.answer_file-in-Ok-Replay.result.fault c.answer_file-in-Ok-Replay.result.status
+    (g.S.Sink.written c.args.sink.now) (g.S.Sink.written c.answer_file-in-Ok-Replay.new.sink) asked
+    c.answer_file-in-Ok-Replay.ensures.status c.answer_file-in-Ok-Replay.ensures.explained c.answer_file-in-Ok-Replay.ensures.written
 
 pub returns-in-Ok-Replay-clause-refused : goal.returns-in-Ok-Replay-clause-refused
 returns-in-Ok-Replay-clause-refused g c =
@@ -99,8 +99,8 @@ returns-in-Ok-Replay-clause-refused g c =
     c.all.ensures (c.in-Ok-Replay.ensures.request
     ∙ ap (λ request. Some (asked_by request)) c.in-Ok-Replay.field-0-is) in
     λ fault. fault_of_file (request_of c.args.words.now) Schedules c.in-Ok-Replay.name.now
-    (g.H.Shelf.holds c.args.shelf.now) c.run_schedule.result.dumped c.run_schedule.result.fault
-    fault asked c.run_schedule.ensures.explained
+    (g.H.Shelf.holds c.args.shelf.now) c.answer_file-in-Ok-Replay.result.dumped c.answer_file-in-Ok-Replay.result.fault
+    fault asked c.answer_file-in-Ok-Replay.ensures.explained
 
 pub returns-in-Ok-Replay-clause-opens : goal.returns-in-Ok-Replay-clause-opens
 returns-in-Ok-Replay-clause-opens g c =
@@ -109,8 +109,8 @@ returns-in-Ok-Replay-clause-opens g c =
     c.all.ensures (c.in-Ok-Replay.ensures.request
     ∙ ap (λ request. Some (asked_by request)) c.in-Ok-Replay.field-0-is) in
     opens_file (request_of c.args.words.now) Schedules c.in-Ok-Replay.name.now
-    c.run_schedule.result.status (g.H.Shelf.opens c.args.shelf.now)
-    (g.H.Shelf.opens c.run_schedule.new.shelf) asked c.run_schedule.ensures.opens
+    c.answer_file-in-Ok-Replay.result.status (g.H.Shelf.opens c.args.shelf.now)
+    (g.H.Shelf.opens c.answer_file-in-Ok-Replay.new.shelf) asked c.answer_file-in-Ok-Replay.ensures.opens
 
 pub returns-in-Ok-Load-clause-file : goal.returns-in-Ok-Load-clause-file
 returns-in-Ok-Load-clause-file g c =
@@ -119,9 +119,9 @@ returns-in-Ok-Load-clause-file g c =
     c.all.ensures (c.in-Ok-Load.ensures.request
     ∙ ap (λ request. Some (asked_by request)) c.in-Ok-Load.field-0-is) in
     file_asked (request_of c.args.words.now) Dumps c.in-Ok-Load.name.now
-    (g.H.Shelf.holds c.args.shelf.now) c.load_dump.result.fault c.load_dump.result.status
-    (g.S.Sink.written c.args.sink.now) (g.S.Sink.written c.load_dump.new.sink) asked
-    c.load_dump.ensures.status c.load_dump.ensures.explained c.load_dump.ensures.written
+    (g.H.Shelf.holds c.args.shelf.now) c.answer_file-in-Ok-Load.result.fault c.answer_file-in-Ok-Load.result.status
+    (g.S.Sink.written c.args.sink.now) (g.S.Sink.written c.answer_file-in-Ok-Load.new.sink) asked
+    c.answer_file-in-Ok-Load.ensures.status c.answer_file-in-Ok-Load.ensures.explained c.answer_file-in-Ok-Load.ensures.written
 
 pub returns-in-Ok-Load-clause-refused : goal.returns-in-Ok-Load-clause-refused
 returns-in-Ok-Load-clause-refused g c =
@@ -130,8 +130,8 @@ returns-in-Ok-Load-clause-refused g c =
     c.all.ensures (c.in-Ok-Load.ensures.request
     ∙ ap (λ request. Some (asked_by request)) c.in-Ok-Load.field-0-is) in
     λ fault. fault_of_file (request_of c.args.words.now) Dumps c.in-Ok-Load.name.now
-    (g.H.Shelf.holds c.args.shelf.now) c.load_dump.result.dumped c.load_dump.result.fault
-    fault asked c.load_dump.ensures.explained
+    (g.H.Shelf.holds c.args.shelf.now) c.answer_file-in-Ok-Load.result.dumped c.answer_file-in-Ok-Load.result.fault
+    fault asked c.answer_file-in-Ok-Load.ensures.explained
 
 pub returns-in-Ok-Load-clause-opens : goal.returns-in-Ok-Load-clause-opens
 returns-in-Ok-Load-clause-opens g c =
@@ -140,8 +140,8 @@ returns-in-Ok-Load-clause-opens g c =
     c.all.ensures (c.in-Ok-Load.ensures.request
     ∙ ap (λ request. Some (asked_by request)) c.in-Ok-Load.field-0-is) in
     opens_file (request_of c.args.words.now) Dumps c.in-Ok-Load.name.now
-    c.load_dump.result.status (g.H.Shelf.opens c.args.shelf.now)
-    (g.H.Shelf.opens c.load_dump.new.shelf) asked c.load_dump.ensures.opens
+    c.answer_file-in-Ok-Load.result.status (g.H.Shelf.opens c.args.shelf.now)
+    (g.H.Shelf.opens c.answer_file-in-Ok-Load.new.shelf) asked c.answer_file-in-Ok-Load.ensures.opens
 
 pub returns-in-Ok-Census-clause-file : goal.returns-in-Ok-Census-clause-file
 returns-in-Ok-Census-clause-file g c =
@@ -150,9 +150,9 @@ returns-in-Ok-Census-clause-file g c =
     c.all.ensures (c.in-Ok-Census.ensures.request
     ∙ ap (λ request. Some (asked_by request)) c.in-Ok-Census.field-0-is) in
     file_asked (request_of c.args.words.now) Images c.in-Ok-Census.name.now
-    (g.H.Shelf.holds c.args.shelf.now) c.census_file.result.fault c.census_file.result.status
-    (g.S.Sink.written c.args.sink.now) (g.S.Sink.written c.census_file.new.sink) asked
-    c.census_file.ensures.status c.census_file.ensures.explained c.census_file.ensures.written
+    (g.H.Shelf.holds c.args.shelf.now) c.answer_file.result.fault c.answer_file.result.status
+    (g.S.Sink.written c.args.sink.now) (g.S.Sink.written c.answer_file.new.sink) asked
+    c.answer_file.ensures.status c.answer_file.ensures.explained c.answer_file.ensures.written
 
 pub returns-in-Ok-Census-clause-refused : goal.returns-in-Ok-Census-clause-refused
 returns-in-Ok-Census-clause-refused g c =
@@ -161,8 +161,8 @@ returns-in-Ok-Census-clause-refused g c =
     c.all.ensures (c.in-Ok-Census.ensures.request
     ∙ ap (λ request. Some (asked_by request)) c.in-Ok-Census.field-0-is) in
     λ fault. fault_of_file (request_of c.args.words.now) Images c.in-Ok-Census.name.now
-    (g.H.Shelf.holds c.args.shelf.now) c.census_file.result.dumped c.census_file.result.fault
-    fault asked c.census_file.ensures.explained
+    (g.H.Shelf.holds c.args.shelf.now) c.answer_file.result.dumped c.answer_file.result.fault
+    fault asked c.answer_file.ensures.explained
 
 pub returns-in-Ok-Census-clause-opens : goal.returns-in-Ok-Census-clause-opens
 returns-in-Ok-Census-clause-opens g c =
@@ -171,8 +171,8 @@ returns-in-Ok-Census-clause-opens g c =
     c.all.ensures (c.in-Ok-Census.ensures.request
     ∙ ap (λ request. Some (asked_by request)) c.in-Ok-Census.field-0-is) in
     opens_file (request_of c.args.words.now) Images c.in-Ok-Census.name.now
-    c.census_file.result.status (g.H.Shelf.opens c.args.shelf.now)
-    (g.H.Shelf.opens c.census_file.new.shelf) asked c.census_file.ensures.opens
+    c.answer_file.result.status (g.H.Shelf.opens c.args.shelf.now)
+    (g.H.Shelf.opens c.answer_file.new.shelf) asked c.answer_file.ensures.opens
 
 pub returns-in-Ok-Gen-clause-refused : goal.returns-in-Ok-Gen-clause-refused
 returns-in-Ok-Gen-clause-refused g c =
