@@ -1,9 +1,9 @@
 -- What is promised of a run of the whole program: six sentences, each a record of facts by name.
 --
--- In front of each stands what it speaks of: what the files hold, where the shelf tells it, what the
--- words ask for, and what was handed back. What a shelf or a sink shows is `old` before the run and
--- `new` behind it. Where the shelf does not tell what a file holds, the facts are of some bytes that
--- it may have held.
+-- In front of each stands what it speaks of: what the files hold, where the shelf tells it, what
+-- the words ask for, and what was handed back. What a shelf or a sink shows is `old` before the run
+-- and `new` behind it. Where the shelf does not tell what a file holds, the facts are of some bytes
+-- that it may have held.
 -- Source: this project's.
 use Rattle.std.specs.Prelude.{◌≡◌, ◌≢◌, ℕ, ◌+◌, ◌*◌, ◌≤◌, ◌<◌, ◌⊎◌, ◌↔◌, List, Option, Some, IsNone}
 use Rattle.std.specs.Prelude.{IsSomeAnd, IfSome, length, map}
@@ -67,8 +67,8 @@ module _ (holds : List ℕ → Option (List ℕ)) (asked : Option Asked) (result
     pub refused : (fault : Fault) → result.fault ≡ Some fault
         → IsFaultOf holds asked result.dumped fault
 
-  -- The status is that which is due: by the files, where what is told of them decides that. With good
-  -- ones it is 0, or a device failed, or memory was wanting.
+  -- The status is that which is due: by the files, where what is told of them decides that. With
+  -- good ones it is 0, or a device failed, or memory was wanting.
   pub record Due : Type 0 where
     pub scripts : IfRun asked (λ report run. IsDueFor (map holds run.files) result.status)
     pub file : IfRead asked (λ reading name.

@@ -88,9 +88,11 @@ returns-in-Ok-Replay-clause-file g c =
     c.all.ensures (c.in-Ok-Replay.ensures.request
     ∙ ap (λ request. Some (asked_by request)) c.in-Ok-Replay.field-0-is) in
     file_asked (request_of c.args.words.now) Schedules c.in-Ok-Replay.name.now
-    (g.H.Shelf.holds c.args.shelf.now) c.answer_file-in-Ok-Replay.result.fault c.answer_file-in-Ok-Replay.result.status
+    (g.H.Shelf.holds c.args.shelf.now) c.answer_file-in-Ok-Replay.result.fault
+    c.answer_file-in-Ok-Replay.result.status
     (g.S.Sink.written c.args.sink.now) (g.S.Sink.written c.answer_file-in-Ok-Replay.new.sink) asked
-    c.answer_file-in-Ok-Replay.ensures.status c.answer_file-in-Ok-Replay.ensures.explained c.answer_file-in-Ok-Replay.ensures.written
+    c.answer_file-in-Ok-Replay.ensures.status c.answer_file-in-Ok-Replay.ensures.explained
+    c.answer_file-in-Ok-Replay.ensures.written
 
 pub returns-in-Ok-Replay-clause-refused : goal.returns-in-Ok-Replay-clause-refused
 returns-in-Ok-Replay-clause-refused g c =
@@ -99,8 +101,8 @@ returns-in-Ok-Replay-clause-refused g c =
     c.all.ensures (c.in-Ok-Replay.ensures.request
     ∙ ap (λ request. Some (asked_by request)) c.in-Ok-Replay.field-0-is) in
     λ fault. fault_of_file (request_of c.args.words.now) Schedules c.in-Ok-Replay.name.now
-    (g.H.Shelf.holds c.args.shelf.now) c.answer_file-in-Ok-Replay.result.dumped c.answer_file-in-Ok-Replay.result.fault
-    fault asked c.answer_file-in-Ok-Replay.ensures.explained
+    (g.H.Shelf.holds c.args.shelf.now) c.answer_file-in-Ok-Replay.result.dumped
+    c.answer_file-in-Ok-Replay.result.fault fault asked c.answer_file-in-Ok-Replay.ensures.explained
 
 pub returns-in-Ok-Replay-clause-opens : goal.returns-in-Ok-Replay-clause-opens
 returns-in-Ok-Replay-clause-opens g c =
@@ -110,7 +112,8 @@ returns-in-Ok-Replay-clause-opens g c =
     ∙ ap (λ request. Some (asked_by request)) c.in-Ok-Replay.field-0-is) in
     opens_file (request_of c.args.words.now) Schedules c.in-Ok-Replay.name.now
     c.answer_file-in-Ok-Replay.result.status (g.H.Shelf.opens c.args.shelf.now)
-    (g.H.Shelf.opens c.answer_file-in-Ok-Replay.new.shelf) asked c.answer_file-in-Ok-Replay.ensures.opens
+    (g.H.Shelf.opens c.answer_file-in-Ok-Replay.new.shelf) asked
+    c.answer_file-in-Ok-Replay.ensures.opens
 
 pub returns-in-Ok-Load-clause-file : goal.returns-in-Ok-Load-clause-file
 returns-in-Ok-Load-clause-file g c =
@@ -119,9 +122,11 @@ returns-in-Ok-Load-clause-file g c =
     c.all.ensures (c.in-Ok-Load.ensures.request
     ∙ ap (λ request. Some (asked_by request)) c.in-Ok-Load.field-0-is) in
     file_asked (request_of c.args.words.now) Dumps c.in-Ok-Load.name.now
-    (g.H.Shelf.holds c.args.shelf.now) c.answer_file-in-Ok-Load.result.fault c.answer_file-in-Ok-Load.result.status
+    (g.H.Shelf.holds c.args.shelf.now) c.answer_file-in-Ok-Load.result.fault
+    c.answer_file-in-Ok-Load.result.status
     (g.S.Sink.written c.args.sink.now) (g.S.Sink.written c.answer_file-in-Ok-Load.new.sink) asked
-    c.answer_file-in-Ok-Load.ensures.status c.answer_file-in-Ok-Load.ensures.explained c.answer_file-in-Ok-Load.ensures.written
+    c.answer_file-in-Ok-Load.ensures.status c.answer_file-in-Ok-Load.ensures.explained
+    c.answer_file-in-Ok-Load.ensures.written
 
 pub returns-in-Ok-Load-clause-refused : goal.returns-in-Ok-Load-clause-refused
 returns-in-Ok-Load-clause-refused g c =
@@ -130,8 +135,8 @@ returns-in-Ok-Load-clause-refused g c =
     c.all.ensures (c.in-Ok-Load.ensures.request
     ∙ ap (λ request. Some (asked_by request)) c.in-Ok-Load.field-0-is) in
     λ fault. fault_of_file (request_of c.args.words.now) Dumps c.in-Ok-Load.name.now
-    (g.H.Shelf.holds c.args.shelf.now) c.answer_file-in-Ok-Load.result.dumped c.answer_file-in-Ok-Load.result.fault
-    fault asked c.answer_file-in-Ok-Load.ensures.explained
+    (g.H.Shelf.holds c.args.shelf.now) c.answer_file-in-Ok-Load.result.dumped
+    c.answer_file-in-Ok-Load.result.fault fault asked c.answer_file-in-Ok-Load.ensures.explained
 
 pub returns-in-Ok-Load-clause-opens : goal.returns-in-Ok-Load-clause-opens
 returns-in-Ok-Load-clause-opens g c =
@@ -141,7 +146,8 @@ returns-in-Ok-Load-clause-opens g c =
     ∙ ap (λ request. Some (asked_by request)) c.in-Ok-Load.field-0-is) in
     opens_file (request_of c.args.words.now) Dumps c.in-Ok-Load.name.now
     c.answer_file-in-Ok-Load.result.status (g.H.Shelf.opens c.args.shelf.now)
-    (g.H.Shelf.opens c.answer_file-in-Ok-Load.new.shelf) asked c.answer_file-in-Ok-Load.ensures.opens
+    (g.H.Shelf.opens c.answer_file-in-Ok-Load.new.shelf) asked
+    c.answer_file-in-Ok-Load.ensures.opens
 
 pub returns-in-Ok-Census-clause-file : goal.returns-in-Ok-Census-clause-file
 returns-in-Ok-Census-clause-file g c =
