@@ -1,4 +1,5 @@
--- The facts of a run's sentences, one by one: nothing that stands in a record is lost in it.
+-- The facts of a run's sentences one by one, each as the clause of its name of `answer_request` has
+-- it. The proof of `run` makes the sentences of those clauses, so neither says less than the other.
 use Rattle.std.proofs.Common.{◌≡◌, ℕ, ◌+◌, ◌*◌, ◌≤◌, ◌<◌, List, Option, Some, length, map}
 use Rattle.std.specs.Prelude.{◌≢◌, ◌⊎◌, ◌↔◌, IsNone, IsSomeAnd, IfSome}
 use Rattle.std.specs.Io.KnownBytes.{Appends}
