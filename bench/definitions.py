@@ -1,13 +1,14 @@
 #!/usr/bin/env python3
 """Which definitions a clause rests on: the ones that it names, those that these name, and so on.
 
-    definitions.py CRATE FUNCTION [CLAUSE..] [--names] [--depth N]
+    definitions.py CRATE FUNCTION [CLAUSE[.FIELD]..] [--names] [--depth N]
 
 FUNCTION is the name of a function of the crate, or TYPE::NAME where several types have one; a
-clause is named as it stands behind `ensures`, and with none all of them are taken. Printed is a
-line for each file of definitions, in the order in which one comes to it from the clause down; with
---names also the definitions in it. Left out are the toolchain's own, and the types of the code,
-which stand in src/. What is read is the text of crates/, so this needs no `rt`.
+clause is named as it stands behind `ensures`, and with none all of them are taken; of one that is a
+record FIELD is a fact. Printed is a line for each file of definitions, in the order in which one
+comes to it from the clause down; with --names also the definitions in it. Left out are the
+toolchain's own, and the types of the code, which stand in src/. What is read is the text of
+crates/, so this needs no `rt`.
 """
 import argparse
 import os
@@ -105,10 +106,19 @@ class Tree:
                 if there and own in there.parts:
                     yield there, own
 
-    def below(self, text, names, aliases, depth):
+    def field(self, text, names, aliases, field):
+        """Of the records that a text names the one with this field, and the text of the field."""
+        for file, name in self.named(text, names, aliases, None):
+            m = re.search(rf"^ +(?:pub )?{re.escape(field)} : (.*?)"
+                          r"(?=^ +(?:pub )?[^\W\d]\w* : |\Z)", file.parts[name], re.M | re.S)
+            if m:
+                return file, name, m.group(1)
+        sys.exit(f"definitions.py: no such field: {field}")
+
+    def below(self, text, names, aliases, file, depth):
         """All that a text rests on, in the order in which one comes to it."""
         found = OrderedDict()
-        layer = list(self.named(text, names, aliases, None))
+        layer = list(self.named(text, names, aliases, file))
         for _step in range(depth):
             fresh = [one for one in OrderedDict.fromkeys(layer) if one not in found]
             if not fresh:
@@ -159,8 +169,18 @@ def main():
     p.add_argument("--names", action="store_true", help="also the definitions, file by file")
     p.add_argument("--depth", type=int, default=99, help="go down no further than so many steps")
     args = p.parse_args()
-    text, (names, aliases), path = contract(args.crate, args.function, args.clauses)
-    found = Tree().below(text, names, aliases, args.depth)
+    tree, found = Tree(), OrderedDict()
+    for one in args.clauses or [""]:
+        clause, _, field = one.partition(".")
+        text, (names, aliases), path = contract(args.crate, args.function,
+                                                [clause] if clause else [])
+        if field:
+            file, name, fact = tree.field(text, names, aliases, field)
+            found[file, name] = True
+            below = tree.below(fact, file.names, file.aliases, file, args.depth)
+            found.update((it, True) for it in below)
+            text = re.sub(rf"\b{name}\b", "", text)
+        found.update((it, True) for it in tree.below(text, names, aliases, None, args.depth))
     print(os.path.relpath(path, TOP))
     by_file = OrderedDict()
     for file, name in found:

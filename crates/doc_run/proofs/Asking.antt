@@ -25,13 +25,15 @@ use Rattle.doc_run.specs.Ending.{Explains}
 use Rattle.doc_run.specs.Asked.{IsFaultOf, WritesPartOf}
 use Rattle.doc_run.specs.Ending.{OpensFiles}
 use Rattle.doc_run.specs.Guested.{IsDumpDueFor}
-use Rattle.doc_run.specs.Reading.{IsFileDue, Reading, Schedules, Dumps, Images}
+use Rattle.doc_run.specs.Reading.{IsFileDue}
 use Rattle.doc_run.specs.Request.{ByPrint, IfDump, IfGen, IfMail, IfRead, IfRun, IfScripts}
 use Rattle.doc_run.specs.Request.{asked_for}
 use Rattle.doc_run.specs.Request.{asked_of, files_of}
 use Rattle.doc_run.proofs.Guesting.{beside_wanting}
 use Rattle.doc_run.proofs.Readings.{wanting}
 use Rattle.doc_export.specs.declared.dumped.Dumped.{Dumped}
+use Rattle.doc_run.specs.declared.reading.Reading.{Reading}
+use Rattle.doc_run.specs.declared.reading.Reading.TheVariants.{Schedules, Dumps, Images}
 use Rattle.doc_run.specs.declared.report.Report.{Report}
 use Rattle.doc_run.specs.declared.report.Report.TheVariants.{Replies, Heap}
 

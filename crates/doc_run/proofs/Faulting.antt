@@ -20,9 +20,10 @@ use Rattle.doc_run.specs.Faults.{ByContents, BySort, ByScripts}
 use Rattle.doc_run.specs.Guested.{AreFewScripts, IsDumpRunGiven, ExplainsDump, IsTooLarge}
 use Rattle.mail_run.specs.declared.finished.MailRun.{MailRun}
 use Rattle.doc_run.specs.Mailed.{ExplainsMail}
-use Rattle.doc_run.specs.Reading.{ByReading, Decides, ExplainsFile, Reading, Schedules, Dumps}
-use Rattle.doc_run.specs.Reading.{Images, grammar_of}
+use Rattle.doc_run.specs.Reading.{ByReading, Decides, ExplainsFile, grammar_of}
 use Rattle.doc_run.specs.Request.{asked_for, asked_of}
+use Rattle.doc_run.specs.declared.reading.Reading.{Reading}
+use Rattle.doc_run.specs.declared.reading.Reading.TheVariants.{Schedules, Dumps, Images}
 use Rattle.doc_run.specs.declared.report.Report.{Report}
 use Rattle.doc_run.specs.declared.report.Report.TheVariants.{Replies, Heap}
 use Rattle.doc_run.proofs.Guesting.{too_large}

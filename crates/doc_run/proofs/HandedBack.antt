@@ -137,9 +137,9 @@ pub large_back : (asked : Option Asked) (names : List (List ℕ)) (holds : List 
     (fault : Option Fault) (dumped : Option Dumped) (status : ℕ) → asked ≡ Some (Dump names)
     → status ≡ status_of fault → ExplainsDump (map holds names) fault dumped → status ≡ 6
     → IfSome dumped (λ d. IfDump asked (λ these.
-        IsDumpRunGiven (map holds these) d × IsNone d.bytes))
+    IsDumpRunGiven (map holds these) d × IsNone d.bytes))
 large_back asked names holds fault dumped status is by explained six =
     subst
     (λ a. IfSome dumped (λ d. IfDump a (λ these.
-        IsDumpRunGiven (map holds these) d × IsNone d.bytes)))
+    IsDumpRunGiven (map holds these) d × IsNone d.bytes)))
     (sym is) (large_of (map holds names) fault dumped explained (sym by ∙ six))

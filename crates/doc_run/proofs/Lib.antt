@@ -12,3 +12,4 @@ pub mod Mailboxes
 pub mod Writing
 pub mod Summaries
 pub mod Deciding
+pub mod Sentences

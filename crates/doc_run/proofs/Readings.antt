@@ -19,10 +19,11 @@ use Rattle.version_dump.specs.Contents.{Contents, contents_of}
 use Rattle.version_dump.specs.declared.fault.LoadFault.{LoadFault}
 use Rattle.doc_run.specs.Faults.{BySort}
 use Rattle.doc_run.specs.Reading.{Decides, ExplainsFile, IsAnswerOf, IsFaultyFile, IsFileDue}
-use Rattle.doc_run.specs.Reading.{IsGoodFile, Reading, Schedules, Dumps, Images, WritesFile}
-use Rattle.doc_run.specs.Reading.{grammar_of}
+use Rattle.doc_run.specs.Reading.{IsGoodFile, WritesFile, grammar_of}
 use Rattle.doc_run.specs.Request.{IfRead, asked_of}
 use Rattle.doc_run.specs.Texts.{WritesFront, WritesTextPart}
+use Rattle.doc_run.specs.declared.reading.Reading.{Reading}
+use Rattle.doc_run.specs.declared.reading.Reading.TheVariants.{Schedules, Dumps, Images}
 use Rattle.doc_run.proofs.Sizes.{after, fine_read, good_read, line_read, read, size_read}
 
 -- Of schedules and of dumps: how their readings make a fault one of the program.

@@ -14,9 +14,10 @@ use Rattle.doc_run.specs.Ending.{WritesMadePart, WritesPart}
 use Rattle.doc_run.specs.Faults.{ByContents, ByGrammar, ByScripts}
 use Rattle.doc_run.specs.Guested.{AreFewScripts, IsTooLarge, WritesDumpPart}
 use Rattle.doc_run.specs.Mailed.{WritesMailPart}
-use Rattle.doc_run.specs.Reading.{ByReading, Decides, IsAnswerOf, Schedules, Dumps, Images}
+use Rattle.doc_run.specs.Reading.{ByReading, Decides, IsAnswerOf}
 use Rattle.doc_run.specs.Reports.{IsReportOf}
 use Rattle.doc_run.specs.Texts.{WritesTextPart}
+use Rattle.doc_run.specs.declared.reading.Reading.TheVariants.{Schedules, Dumps, Images}
 use Rattle.doc_run.specs.declared.report.Report.TheVariants.{Replies, Heap}
 
 -- nothing was written, or a front of what the request asks for

@@ -9,3 +9,4 @@ pub mod Ending
 pub mod Mailed
 pub mod Asked
 pub mod Written
+pub mod Sentences

@@ -2,8 +2,9 @@
 --
 -- What the file holds is told or not.
 -- Source: this project's own.
-use Rattle.std.specs.Prelude.{◌≡◌, ℕ, ◌<◌, List, length, Option, None, Some, IfSome, Err}
-use Rattle.std.specs.Prelude.{◌⊎◌, ◌↔◌}
+use Rattle.std.specs.Prelude.{◌≡◌, ℕ, ◌<◌, List, length, Option, None, Some, IfSome, Result, Ok}
+use Rattle.std.specs.Prelude.{Err, ◌⊎◌, ◌↔◌, Vec}
+use Rattle.std.specs.declared.alloc.Global.{Global}
 use Rattle.doc_tree.specs.Tree.{DocTree}
 use Rattle.heap_census.specs.declared.numbers.Census.{Census}
 use Rattle.run_output.specs.Counted.{census_text_of}
@@ -20,12 +21,8 @@ use Rattle.script_files.specs.declared.fault.Fault.{Fault}
 use Rattle.script_files.specs.declared.fault.Fault.TheVariants.{ReadFault}
 use Rattle.doc_run.specs.Faults.{ByContents, BySort}
 use Rattle.doc_run.specs.Texts.{WritesAll, WritesFront, WritesTextPart}
-
--- what a file is read as: a schedule is replayed, a dump loaded, the image of a heap counted
-pub data Reading : Type 0 where
-  Schedules : Reading
-  Dumps : Reading
-  Images : Reading
+use Rattle.doc_run.specs.declared.reading.Reading.{Reading}
+use Rattle.doc_run.specs.declared.reading.Reading.TheVariants.{Schedules, Dumps, Images}
 
 abbrev pub grammar_of : Reading → Grammar
 grammar_of Schedules = OfSchedules
@@ -74,6 +71,13 @@ pub record IsFileDue (reading : Reading) (bytes : List ℕ) (status : ℕ) : Typ
 abbrev pub ByReading : Reading → Sort → Type 0 → Type 0
 ByReading reading sort Decided =
     ByContents sort (λ grammar. (grammar ≡ grammar_of reading) × Decided) Decided
+
+-- it is answered, or refused by the fault that decides, or could not be read, or memory was wanting
+abbrev pub AnswersFile : Reading → Option (List ℕ) → Result (Vec ℕ Global) Fault → Type 0
+AnswersFile reading told (Ok text) = IsAnswerOf reading told text.items
+AnswersFile reading told (Err fault) =
+    Refused (grammar_of reading) (sort_of fault) (Decides reading told fault)
+    (fault ≡ ReadFault 1)
 
 -- what an ending says of the file
 abbrev pub ExplainsFile : Reading → Option (List ℕ) → Option Fault → Type 0

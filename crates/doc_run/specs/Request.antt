@@ -7,7 +7,8 @@ use Rattle.run_words.specs.declared.request.GenWords.{GenWords}
 use Rattle.script_files.specs.Files.{files_read}
 use Rattle.script_files.specs.Mail.{senders_read}
 use Rattle.doc_run.specs.Guested.{few_read}
-use Rattle.doc_run.specs.Reading.{Reading, Schedules, Dumps, Images}
+use Rattle.doc_run.specs.declared.reading.Reading.{Reading}
+use Rattle.doc_run.specs.declared.reading.Reading.TheVariants.{Schedules, Dumps, Images}
 use Rattle.doc_run.specs.declared.report.Report.{Report}
 use Rattle.doc_run.specs.declared.report.Report.TheVariants.{Replies, Heap}
 

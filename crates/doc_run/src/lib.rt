@@ -11,19 +11,18 @@
 //! file holds, and what became of standard output, no contract says.
 //!
 //! Reading order: `words`, `outcome`, `clients`, `report`, `summary`, then a file for each
-//! request's ending, `scripts`, `beside`, `generated`, `mailing`, `schedule`, `dump` and `census`,
-//! and `whole_run`.
+//! request's ending, `scripts`, `beside`, `generated`, `mailing` and `reading`, then `requests` and
+//! `whole_run`.
 #![tactic(auto)]
 
 mod beside;
-mod census;
 mod clients;
-mod dump;
 mod generated;
 mod mailing;
 mod outcome;
+mod reading;
 mod report;
-mod schedule;
+mod requests;
 mod scripts;
 mod summary;
 mod whole_run;

@@ -1,10 +1,11 @@
 //! A run of a mailbox: the values of the files' scripts are sent and received, and what became of
 //! them is written.
-ghost use Rattle.std.specs.Prelude.{All, ◌≡◌, ℕ, ◌+◌, ◌*◌, ◌<◌, ◌≤◌, ◌^◌, ◌⊎◌, IsErrOf, OnOk, Some};
-ghost use Rattle.std.specs.Prelude.{None, length, map, sum_by};
+ghost use Rattle.std.specs.Prelude.{All, ◌≡◌, ℕ, ◌+◌, ◌*◌, ◌<◌, ◌≤◌, ◌^◌, ◌⊎◌, IfOk, IsErrOf, OnOk};
+ghost use Rattle.std.specs.Prelude.{Some, None, length, map, sum_by};
 ghost use Rattle.outside.specs.Calls.{IsUnbroken, IsOrderly};
 ghost use Rattle.outside.specs.Causes.{Rose};
-ghost use Rattle.doc_run.specs.Mailed.{DecidesMailRun, ExplainsMail, FinishesMail, WritesMail};
+ghost use Rattle.doc_run.specs.Mailed.{DecidesMailRun, ExplainsMail, FinishesMail, IsMailedText};
+ghost use Rattle.doc_run.specs.Mailed.{WritesMail};
 ghost use Rattle.run_words.specs.Limits.{IsMailWithin};
 ghost use Rattle.run_words.specs.Requests.{mail_asked_by};
 ghost use Rattle.script_files.specs.Fault.{status_of};
@@ -12,6 +13,7 @@ ghost use Rattle.script_files.specs.Files.{OpensInTurn, opened};
 ghost use Rattle.script_files.specs.Mail.{StopsAtMail, senders_read, values_of};
 
 use crate::outcome::Outcome;
+use doc_model::NoMemory;
 use mail_run::{MailRun, mail_run};
 use outside::{READ_LIMIT, Shelf, Sink, write_lines};
 use run_output::mailed_text;
@@ -64,10 +66,17 @@ pub fn run_mail<R: Threads + Wait + Sync, H: Shelf, S: Sink>(
         Ok(ran) => ran,
         Err(fault) => return Outcome::refused(fault),
     };
-    let Ok(text) = mailed_text(alloc, &ran.sent, &ran.items) else {
+    let Ok(text) = text_of_run(alloc, &ran) else {
         return Outcome::refused(Fault::Memory);
     };
     Outcome::by_mailing(write_lines(sink, &text), ran)
+}
+
+// The text of what a run came to.
+fn text_of_run(alloc: Global, ran: &MailRun) -> Result<Vec<u8>, NoMemory>
+    ensures text { IfOk result (λ text. IsMailedText ran.now text.items) }
+{
+    mailed_text(alloc, &ran.sent, &ran.items)
 }
 
 // What a run of a mailbox comes to whose values the files of the words have.

@@ -1,8 +1,4 @@
-use Rattle.std.proofs.Common.{◌≡◌, ℕ, List, Option, Err, map, subst}
-use Rattle.std.specs.Prelude.{Vec}
-use Rattle.std.specs.declared.alloc.Global.{Global}
-use Rattle.mail_rule.specs.declared.items.Item.{Item}
-use Rattle.run_output.specs.Mailed.{mailed_text_of}
+use Rattle.std.proofs.Common.{Err, map}
 use Rattle.run_words.specs.Requests.{mail_asked_by}
 use Rattle.script_files.specs.Mail.{IsMail}
 use Rattle.script_files.specs.Sorts.{OfMail}
@@ -26,20 +22,15 @@ pub returns-clause-written : goal.returns-clause-written
 returns-clause-written g c =
     let mail = mail_asked_by c.args.mail.now in
     let told = map (g.H.Shelf.holds c.args.shelf.now) mail.files in
-    let text = c.in-Ok-mailed_text.text.items in
-    let said : IsMailedText c.in-Ok.ran text =
-    subst (λ (sent : List (Vec (Option ℕ) Global)).
-    text ≡ mailed_text_of sent c.in-Ok.ran.items.items) c.deref.ensures.value
-    (subst (λ (items : List Item). text ≡ mailed_text_of c.deref.result.now items)
-    c.deref-2.ensures.value c.in-Ok-mailed_text.ensures.text) in
-    by_written (λ ran. MailsBy mail told ran) IsMailedText c.in-Ok.ran text c.deref-3.result.now
+    let text = c.in-Ok-text_of_run.text.items in
+    by_written (λ ran. MailsBy mail told ran) IsMailedText c.in-Ok.ran text c.deref.result.now
     (g.S.Sink.written c.args.sink.now) (g.S.Sink.written c.write_lines.new.sink)
     c.write_lines.result c.by_mailing.result.fault c.by_mailing.result.mailed
     c.by_mailing.ensures.fault
     (kept_mailed c.write_lines.result c.in-Ok.ran c.by_mailing.result.mailed
     c.by_mailing.ensures.mailed)
-    c.in-Ok.ensures.mailed said c.deref-3.ensures.value c.write_lines.ensures.ok
-    c.write_lines.ensures.err
+    c.in-Ok.ensures.mailed c.in-Ok-text_of_run.ensures.text c.deref.ensures.value
+    c.write_lines.ensures.ok c.write_lines.ensures.err
 
 pub returns-clause-read : goal.returns-clause-read
 returns-clause-read g c =
