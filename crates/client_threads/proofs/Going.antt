@@ -7,6 +7,7 @@ use Rattle.std.proofs.lemmas.List.{append-nil, append_assoc, length-map, length-
 use Rattle.client_run.specs.Answers.{Answered, IsSameClient}
 use Rattle.client_run.specs.Own.{MayAnswer}
 use Rattle.client_run.specs.declared.session.Session.{Session}
+use Rattle.doc_model.specs.ClientLog.{ClientLog}
 use Rattle.doc_model.specs.declared.command.Command.{Command}
 use Rattle.doc_model.specs.declared.command.Entry.{Entry}
 use Rattle.doc_model.specs.declared.command.Reply.{Reply}
@@ -69,8 +70,56 @@ waited_went more s t a m n waits went = record {
 
 -- Commands one after the other.
 
-pub went_first : (s : Session) (m : Bound Pass) → MayAnswer s m → Went [] s m s m
-went_first s m may = went_none s m s m may (still_client s m m (waits_same m)) refl
+-- Room for entries of a log.
+
+-- the session with this log
+abbrev pub with_log : Session → ClientLog → Session
+with_log s log = record s { journal = record s.journal { log = log } }
+
+-- a log that has these entries and is of this client has room alone besides
+same_log : (old new : ClientLog) → new.client ≡ old.client → new.entries ≡ old.entries
+    → record old { spare = new.spare } ≡ new
+same_log old new client entries =
+    sym (ap (λ (c : ℕ). record new { client = c }) client
+    ∙ ap (λ (es : List Entry). record new { client = old.client; entries = es }) entries)
+
+may_roomed : (s : Session) (m : Bound Pass) (spare : ℕ) → MayAnswer s m
+    → MayAnswer (with_log s (record s.journal.log { spare = spare })) m
+may_roomed s m spare may = record {
+  client = may.client;
+  step = record {
+    keep = may.step.keep;
+    own = may.step.own;
+    commits = may.step.commits;
+    seen = may.step.seen;
+    keeps_up = may.step.keeps_up;
+    turns = may.step.turns;
+    claims = may.step.claims;
+    trimmed = may.step.trimmed;
+  };
+  sound = may.sound;
+  ready = may.ready;
+  settled = may.settled;
+  whole = may.whole;
+  copied = may.copied;
+}
+
+pub may_with_room : (s : Session) (m : Bound Pass) (log : ClientLog)
+    → log.client ≡ s.journal.log.client → log.entries ≡ s.journal.log.entries → MayAnswer s m
+    → MayAnswer (with_log s log) m
+may_with_room s m log client entries may =
+    subst (λ (l : ClientLog). MayAnswer (with_log s l) m)
+    (same_log s.journal.log log client entries) (may_roomed s m log.spare may)
+
+pub client_with_room : (s : Session) (m : Bound Pass) (log : ClientLog)
+    → log.client ≡ s.journal.log.client → IsSameClient s m (with_log s log) m
+client_with_room s m log client = record {
+  mutator = waits_mutator m m (waits_same m);
+  limits = refl;
+  client = client;
+  minor_room = refl;
+  promoter = refl;
+}
 
 pub went_then : (xs ys : List Command) (s t u : Session) (a b c : Bound Pass) → Went xs s a t b
     → Went ys t b u c → Went (xs ++ ys) s a u c

@@ -3,8 +3,11 @@
 //! Between two commands the mutator answers handshakes, also while the gate sends its client away:
 //! else the collector would wait for it.
 ghost use Rattle.std.specs.Prelude.{◌≡◌, ◌≤◌, ◌<◌, [], length, true};
+ghost use Rattle.client_run.specs.Answers.{IsSameClient};
 ghost use Rattle.client_run.specs.Own.{MayAnswer};
 ghost use Rattle.client_threads.specs.Going.{Answers, Waits, Went, answered};
+ghost use Rattle.mutator_seat.specs.Bound.{Bound};
+ghost use Rattle.version_rule.specs.Pass.{Pass};
 
 use client_run::Session;
 use doc_model::Command;
@@ -88,6 +91,16 @@ fn take_turn<R: Wait, G: Gate>(
     answered
 }
 
+/// Takes memory for so many entries of the log at once, where it can be had: else the log grows as
+/// it has to.
+fn reserve_entries(session: &mut Session, entries: usize)
+    ensures may { (m : Bound Pass) → MayAnswer session.old m → MayAnswer session.new m }
+    ensures same { (m : Bound Pass) → IsSameClient session.old m session.new m }
+    ensures entries { session.new.journal.log.entries ≡ session.old.journal.log.entries }
+{
+    let _refused = session.journal.log.reserve(entries);
+}
+
 /// Answers the commands of a script, up to the first for which memory is wanting.
 pub(crate) fn answer_all<R: Wait, G: Gate>(
     alloc: Global,
@@ -103,6 +116,7 @@ pub(crate) fn answer_all<R: Wait, G: Gate>(
     requires short { length script.now ≤ 100000 }
     ensures answers { Answers result script.now session.old m.old session.new m.new }
 {
+    reserve_entries(session, script.len());
     for (index, command) in script.iter().enumerate() {
         let number = index as u32 + 1;
         if !take_turn(alloc, rt, gate, hints, m, session, number, command) {

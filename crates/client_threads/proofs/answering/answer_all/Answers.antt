@@ -2,11 +2,14 @@ use Rattle.std.proofs.Common.{◌≡◌, ◌+◌, ℕ, suc, [], ◌∷◌, lengt
 use Rattle.std.proofs.Common.{arith, subst}
 use Rattle.doc_model.specs.declared.command.Command.{Command}
 use Rattle.client_threads.specs.Going.{Went}
-use Rattle.client_threads.proofs.Going.{went_all, went_few, went_first, went_next, went_some}
+use Rattle.client_threads.proofs.Going.{went_all, went_few, went_next, went_none, went_some}
 use Rattle.client_threads.proofs.answering.answer_all.Goals as goal
 
 pub loop-index-init : goal.loop-index-init
-loop-index-init g c = went_first c.args.session.now c.args.m.now c.requires.may
+loop-index-init g c =
+    went_none c.args.session.now c.args.m.now c.reserve_entries.new.session c.args.m.now
+    (c.reserve_entries.ensures.may c.args.m.now c.requires.may)
+    (c.reserve_entries.ensures.same c.args.m.now) c.reserve_entries.ensures.entries
 
 pub take_turn-requires-clause-may : goal.take_turn-requires-clause-may
 take_turn-requires-clause-may g c = c.loop-index.invariant.may
