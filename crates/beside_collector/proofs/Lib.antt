@@ -1,4 +1,6 @@
+pub mod AllJoined
 pub mod Closing
+pub mod Freed
 pub mod Places
 pub mod Splitting
 pub mod TakingBack

@@ -1,4 +1,5 @@
 pub mod Duty
+pub mod Freed
 pub mod Places
 pub mod Service
 pub mod Serving

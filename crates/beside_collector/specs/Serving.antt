@@ -4,6 +4,7 @@ use Rattle.std.specs.Prelude.{ℕ, ◌≡◌, ◌≤◌, ◌+◌, ◌++◌, Bool
 use Rattle.std.specs.Prelude.{List, [], ◌∷◌, Option, Some, None}
 use Rattle.cell_heap.specs.Telling.{AreJoined, collector_tells}
 use Rattle.cell_words.specs.declared.controls.Stage.TheVariants as stage
+use Rattle.beside_collector.specs.Freed.{HasFreed}
 use Rattle.beside_collector.specs.declared.keeper.Keeper.{Keeper}
 use Rattle.beside_collector.specs.declared.keeper.Standby.{Standby}
 use Rattle.beside_collector.specs.declared.serving.Turn.{Turn}
@@ -63,9 +64,10 @@ module _ {P : Type 0} where
     -- where all seats were joined before, each mutator was found over
     pub late : AreJoined old.me → MeetOver added
 
-  -- the turn: it served, or it was held back
+  -- the turn: it served, and freed so many cells, or it was held back
   abbrev pub TurnOf : ℕ → Keeper P → Turn P → Type 0
-  TurnOf cycles keeper (turns.Served now) = Serves cycles keeper.seat now
+  TurnOf cycles keeper (turns.Served now freed) =
+      Serves cycles keeper.seat now × HasFreed keeper.seat now freed
   TurnOf cycles keeper (turns.HandedBack now) = now ≡ keeper
 
   -- the seat, which went off duty
@@ -74,7 +76,8 @@ module _ {P : Type 0} where
 
   -- the turn is to be ended: it served, or went off duty and may serve yet
   abbrev pub StandsBy : HeapId → FreeQueue → ℕ → SeatView P → Turn P → Type 0
-  StandsBy heap queue cycles was (turns.Served now) = Serves cycles was now
+  StandsBy heap queue cycles was (turns.Served now freed) =
+      Serves cycles was now × HasFreed was now freed
   StandsBy heap queue cycles was (turns.HandedBack keeper) =
       IsKeeper heap queue cycles keeper.seat keeper.pass × (keeper.seat ≡ gone_off was)
 

@@ -1,5 +1,6 @@
 //! The run: work on a heap, beside the collector.
 ghost use Rattle.std.specs.Prelude.{◌≡◌};
+ghost use Rattle.beside_collector.specs.Freed.{Settled};
 ghost use Rattle.beside_collector.specs.Serving.{IsKeeper, Stands, TurnOf};
 
 use crate::keeper::{Keeper, Standby};
@@ -32,6 +33,26 @@ pub fn run_beside<P: Keeping + Sync, W: Work<P> + Drop, R: Threads + Wait + Sync
     ensures done { W.did heap.now queue.now work result.0 }
     ensures stands { Stands heap.now queue.now cycles keeper.seat result.1 result.2 }
 {
+    let (done, seat, standby, _freed) = run_counting(alloc, rt, heap, queue, keeper, cycles, work);
+    (done, seat, standby)
+}
+
+/// The same, and tells how many cells the collector freed meanwhile: none where it did not serve.
+pub fn run_counting<P: Keeping + Sync, W: Work<P> + Drop, R: Threads + Wait + Sync>(
+    alloc: Global,
+    rt: &R,
+    heap: &CellHeap<P>,
+    queue: &FreeQueue,
+    keeper: Keeper<P>,
+    cycles: u32,
+    work: W,
+) -> (W::Done, ColSeat<P>, Option<Standby>, u64)
+    requires keeper { IsKeeper heap.now queue.now cycles keeper.seat keeper.pass }
+    requires work { W.may heap.now queue.now work }
+    ensures done { W.did heap.now queue.now work result.0 }
+    ensures stands { Stands heap.now queue.now cycles keeper.seat result.1 result.2 }
+    ensures settled { Settled keeper.seat result.1 result.3 }
+{
     let held_back = AtomicBool::new(false);
     let flag = &held_back;
     let was = Snapshot::of(&keeper);
@@ -42,13 +63,14 @@ pub fn run_beside<P: Keeping + Sync, W: Work<P> + Drop, R: Threads + Wait + Sync
     thread::scope(
         thread::scope_env(),
         rt,
-        move |scope| -> (W::Done, ColSeat<P>, Option<Standby>)
+        move |scope| -> (W::Done, ColSeat<P>, Option<Standby>, u64)
             requires { IsKeeper heap.now queue.now cycles keeper.seat keeper.pass
                 × W.may heap.now queue.now work
                 × (was.value ≡ keeper) × (promise.keeper.value ≡ keeper)
                 × (promise.cycles ≡ cycles) }
             ensures { W.did heap.entry.now queue.entry.now work result.0
-                × Stands heap.entry.now queue.entry.now cycles keeper.seat result.1 result.2 }
+                × Stands heap.entry.now queue.entry.now cycles keeper.seat result.1 result.2
+                × Settled keeper.seat result.1 result.3 }
         {
             let turn = move || -> Turn<P>
                 requires { IsKeeper heap.now queue.now cycles keeper.seat keeper.pass }
@@ -58,15 +80,15 @@ pub fn run_beside<P: Keeping + Sync, W: Work<P> + Drop, R: Threads + Wait + Sync
                 Ok(thread) => {
                     let done = work.run(alloc, rt, heap, queue);
                     let turn = stand_down(heap, queue, cycles, &was, thread.join(rt));
-                    let (seat, standby) = apart(heap, queue, cycles, &was, turn);
-                    (done, seat, standby)
+                    let (seat, standby, freed) = apart(heap, queue, cycles, &was, turn);
+                    (done, seat, standby, freed)
                 }
                 Err(refused) => {
                     flag.store(true, Ordering::SeqCst);
                     let turn = stand_down(heap, queue, cycles, &was, (refused.value)());
                     let done = work.run(alloc, rt, heap, queue);
-                    let (seat, standby) = apart(heap, queue, cycles, &was, turn);
-                    (done, seat, standby)
+                    let (seat, standby, freed) = apart(heap, queue, cycles, &was, turn);
+                    (done, seat, standby, freed)
                 }
             }
         },

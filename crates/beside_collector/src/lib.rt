@@ -2,13 +2,15 @@
 //!
 //! The layer above may rely on this: when `run_beside` returns, the work is done, and the seat of the
 //! collector has served once, or went off duty and serves in `serve_after`, and is off duty then.
-//! Where the mutators' seats are joined before, that service finds each mutator over. That anything
-//! runs beside anything else is claimed by no clause.
+//! Where the mutators' seats are joined before, that service finds each mutator over. `run_counting`
+//! tells as well how many cells were freed meanwhile. That anything runs beside anything else is
+//! claimed by no clause.
 //!
 //! What the work is, and by what rule the heap's boxes are kept, is left to the caller: `Work` says
 //! under which facts it may begin, and what it comes to.
 //!
-//! Reading order: specs/Duty, `duty`; `keeper`, specs/Serving, `serving`; `work`, `beside`.
+//! Reading order: specs/Duty, `duty`; `keeper`, specs/Freed, specs/Serving, `serving`; `work`,
+//! `beside`.
 #![tactic(auto)]
 
 mod beside;
@@ -17,8 +19,8 @@ mod keeper;
 mod serving;
 mod work;
 
-pub use beside::run_beside;
+pub use beside::{run_beside, run_counting};
 pub use duty::begin_duty;
 pub use keeper::{Keeper, Standby};
 pub use serving::serve_after;
-pub use work::Work;
+pub use work::{Doing, Work};

@@ -5,6 +5,7 @@
 //! duty, so that no claim waits for it, and serves when the clients are through and their seats are
 //! joined.
 ghost use Rattle.std.specs.Prelude.{◌≡◌};
+ghost use Rattle.beside_collector.specs.Freed.{HasFreed, Settled};
 ghost use Rattle.beside_collector.specs.Serving.{IsKeeper, MayServe, Serves, ServesLate, Stands};
 ghost use Rattle.beside_collector.specs.Serving.{StandsBy, TurnOf};
 
@@ -22,8 +23,8 @@ use std::thread::Promise;
 /// What became of the collector's turn.
 #[derive(Drop)]
 pub(crate) enum Turn<P: Keeping> {
-    /// it served
-    Served(ColSeat<P>),
+    /// it served, and freed so many cells
+    Served(ColSeat<P>, u64),
     /// it was held back, or went off duty since
     HandedBack(Keeper<P>),
 }
@@ -41,22 +42,23 @@ impl<P: Keeping> Promise<Turn<P>> for Serving<P> {
     ghost kept_by = { λ p turn. TurnOf p.cycles p.keeper.value turn };
 }
 
-/// Serves for so many cycles.
+/// Serves for so many cycles, and tells how many cells it freed.
 fn serve<P: Keeping, R: Wait>(
     rt: &R,
     heap: &CellHeap<P>,
     queue: &FreeQueue,
     cycles: u32,
     keeper: Keeper<P>,
-) -> ColSeat<P>
+) -> (ColSeat<P>, u64)
     requires keeper { IsKeeper heap.now queue.now cycles keeper.seat keeper.pass }
-    ensures serves { Serves cycles keeper.seat result }
+    ensures serves { Serves cycles keeper.seat result.0 }
+    ensures freed { HasFreed keeper.seat result.0 result.1 }
 {
     let Keeper { seat, stack, pass } = keeper;
     let mut hints = queue.hints(pass);
     let mut collector = Collector::new(heap, seat, heap.mutators(), stack);
-    let _ = collector.serve(rt, &mut hints, cycles);
-    collector.into_seat()
+    let freed = collector.serve(rt, &mut hints, cycles);
+    (collector.into_seat(), freed)
 }
 
 /// Serves, unless the collector is held back.
@@ -74,7 +76,8 @@ pub(crate) fn take_turn<P: Keeping, R: Wait>(
     if held_back.load(Ordering::SeqCst) {
         return Turn::HandedBack(keeper);
     }
-    Turn::Served(serve(rt, heap, queue, cycles, keeper))
+    let (seat, freed) = serve(rt, heap, queue, cycles, keeper);
+    Turn::Served(seat, freed)
 }
 
 /// Goes off duty, if it was held back. No contract says which thread was: so behind each of them, a
@@ -94,7 +97,7 @@ pub(crate) fn stand_down<P: Keeping>(
     let _ = cycles;
     let _ = was;
     match turn {
-        Turn::Served(seat) => Turn::Served(seat),
+        Turn::Served(seat, freed) => Turn::Served(seat, freed),
         Turn::HandedBack(keeper) => {
             let Keeper {
                 mut seat,
@@ -107,26 +110,28 @@ pub(crate) fn stand_down<P: Keeping>(
     }
 }
 
-/// The seat behind the clients' threads, and what is left with it where it did not serve yet.
+/// The seat behind the clients' threads, what is left with it where it did not serve yet, and how
+/// many cells it freed.
 pub(crate) fn apart<P: Keeping>(
     heap: &CellHeap<P>,
     queue: &FreeQueue,
     cycles: u32,
     was: &Snapshot<Keeper<P>>,
     turn: Turn<P>,
-) -> (ColSeat<P>, Option<Standby>)
+) -> (ColSeat<P>, Option<Standby>, u64)
     requires stands { StandsBy heap.now queue.now cycles was.now.value.seat turn }
     ensures stands { Stands heap.now queue.now cycles was.now.value.seat result.0 result.1 }
+    ensures settled { Settled was.now.value.seat result.0 result.2 }
 {
     let _ = heap;
     let _ = queue;
     let _ = cycles;
     let _ = was;
     match turn {
-        Turn::Served(seat) => (seat, None),
+        Turn::Served(seat, freed) => (seat, None, freed),
         Turn::HandedBack(keeper) => {
             let Keeper { seat, stack, pass } = keeper;
-            (seat, Some(Standby { stack, pass }))
+            (seat, Some(Standby { stack, pass }), 0)
         }
     }
 }
@@ -148,7 +153,7 @@ pub fn serve_after<P: Keeping, R: Wait>(
         None => seat,
         Some(standby) => {
             let Standby { stack, pass } = standby;
-            serve(rt, heap, queue, cycles, Keeper { seat, stack, pass })
+            serve(rt, heap, queue, cycles, Keeper { seat, stack, pass }).0
         }
     }
 }

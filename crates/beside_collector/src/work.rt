@@ -32,3 +32,32 @@ pub trait Work<P: Keeping> {
         requires may { may heap.now queue.now self }
         ensures did { did heap.now queue.now self result };
 }
+
+/// Work that a closure does: it has all that it needs with it, which is what may go to threads.
+#[derive(Drop)]
+pub struct Doing<F> {
+    pub run: F,
+}
+
+impl<P: Keeping, D, F: FnOnce() -> D> Work<P> for Doing<F> {
+    type Done = D;
+
+    ghost may = { λ heap queue work. F.pre work.run };
+
+    ghost did = { λ heap queue work done. F.post work.run done };
+
+    fn run<R: Threads + Wait + Sync>(
+        self,
+        alloc: Global,
+        rt: &R,
+        heap: &CellHeap<P>,
+        queue: &FreeQueue,
+    ) -> D {
+        let _ = alloc;
+        let _ = rt;
+        let _ = heap;
+        let _ = queue;
+        let Doing { run } = self;
+        run()
+    }
+}

@@ -6,7 +6,7 @@
 //! a number, keeps it, and calls what blocks: the second makes many more records than there are
 //! cells, so that its claims wait until the collector has freed some. With the first still in they
 //! would wait for ever. What the first reads behind the call is proved to be the number that it
-//! kept. How a thread is made for the collector is told in shared_counter and beside_collector.
+//! kept. How a thread is made for the collector is told in beside_collector.
 //!
 //! Reading order: `kept`, specs/Rule, specs/Holding, `places`, `storing`, `wasting`, `working`,
 //! `closing`, specs/Leaving, `whole`, `main`.

@@ -1,8 +1,8 @@
 -- The counter at the close: it is the sum of what the four mutators added.
 use Rattle.std.proofs.Common.{◌≡◌, ◌∙◌, ◌+◌, ◌∷◌, ℕ, List, [], Bool, true, false, Option, Some, None}
-use Rattle.std.proofs.Common.{ap, sym, refl, arith, length, slice_set}
-use mathlib.Core.Option.{some}
-use lib.ListN.{get_elem?}
+use Rattle.std.proofs.Common.{ap, sym, refl, arith, length}
+use Rattle.beside_collector.proofs.AllJoined.{passes_are}
+use Rattle.beside_collector.specs.Freed.{freed_by}
 use Rattle.cell_words.specs.Term.{Term, num, number, part, parts}
 use Rattle.cell_words.specs.declared.fields.Field.{Field}
 use Rattle.cell_words.specs.declared.fields.Field.TheVariants as word
@@ -13,16 +13,12 @@ use Rattle.heap_rule.specs.Laws.{Ended}
 use Rattle.heap_rule.specs.Lore.{Entry, Lore, Plain, Terms, entry_of, five_of, named_or, term_of}
 use Rattle.heap_rule.specs.Moves.{joined_view}
 use Rattle.heap_rule.specs.NoRule.{no_field_is_fixed}
-use Rattle.heap_rule.specs.Rule.{share_of}
 use Rattle.heap_rule.specs.Shape.{Shape}
-use Rattle.heap_rule.specs.declared.view.Place.{Place}
-use Rattle.heap_rule.specs.declared.view.Place.TheVariants as places
 use Rattle.heap_rule.specs.declared.view.View.{View}
 use Rattle.heap_table.specs.Images.{ImageView, Shows}
 use Rattle.shared_counter.specs.Counting.{Counts, number_behind, number_in, number_record}
 use Rattle.shared_counter.specs.Counting.{sum_of}
 use Rattle.shared_counter.specs.Leaving.{Leaves}
-use Rattle.shared_counter.specs.Serving.{freed_by}
 use Rattle.shared_counter.specs.declared.counter.Added.{Added}
 use Rattle.shared_counter.proofs.Anchors.{named_term}
 use Rattle.shared_counter.proofs.Picks.{counter_is}
@@ -79,37 +75,6 @@ module _ (s : State) (l : Lore) (facts : Facts no_field_is_fixed s l) where
         ),
       )
 
-four_passes : (passes : List Added) (a b c d : Added) → length passes ≡ 4
-    → get_elem? passes 0 ≡ some a → get_elem? passes 1 ≡ some b → get_elem? passes 2 ≡ some c
-    → get_elem? passes 3 ≡ some d → sum_of passes ≡ a.sum + b.sum + c.sum + d.sum
-four_passes [] a b c d many first second third fourth = absurd cc
-four_passes (x ∷ []) a b c d many first second third fourth = absurd cc
-four_passes (x ∷ y ∷ []) a b c d many first second third fourth = absurd cc
-four_passes (x ∷ y ∷ z ∷ []) a b c d many first second third fourth = absurd cc
-four_passes (x ∷ y ∷ z ∷ w ∷ []) a b c d many first second third fourth =
-    let one : x ≡ a = cc in
-    let two : y ≡ b = cc in
-    let three : z ≡ c = cc in
-    let four : w ≡ d = cc in
-    omega (
-      arith,
-      ap (λ (p : Added). p.sum) one,
-      ap (λ (p : Added). p.sum) two,
-      ap (λ (p : Added). p.sum) three,
-      ap (λ (p : Added). p.sum) four,
-    )
-four_passes (x ∷ y ∷ z ∷ w ∷ v ∷ more) a b c d many first second third fourth =
-    omega (arith, many)
-
-joined_four : (at : List (Place Added)) (a b c d : Place Added) → length at ≡ 4
-    → slice_set (slice_set (slice_set (slice_set at 0 a) 1 b) 2 c) 3 d ≡ a ∷ b ∷ c ∷ d ∷ []
-joined_four [] a b c d many = absurd cc
-joined_four (x ∷ []) a b c d many = absurd cc
-joined_four (x ∷ y ∷ []) a b c d many = absurd cc
-joined_four (x ∷ y ∷ z ∷ []) a b c d many = absurd cc
-joined_four (x ∷ y ∷ z ∷ w ∷ []) a b c d many = refl
-joined_four (x ∷ y ∷ z ∷ w ∷ v ∷ more) a b c d many = absurd (omega (arith, many))
-
 -- The seats of all mutators were joined, and the heap was closed.
 module _ (h : Shape) (image : ImageView) (v w t0 t1 t2 t3 : View Added) (a b c d : ℕ)
     (many : length v.places ≡ 4) (mutators : h.mutators ≡ 4)
@@ -123,21 +88,9 @@ module _ (h : Shape) (image : ImageView) (v w t0 t1 t2 t3 : View Added) (a b c d
     -- the passes sum to what they have added
     summed : sum_of e.shows.passes ≡ a + b + c + d
     summed =
-        let j0 = places.Joined (share_of t0) in
-        let j1 = places.Joined (share_of t1) in
-        let j2 = places.Joined (share_of t2) in
-        let j3 = places.Joined (share_of t3) in
-        let at : w.places ≡ j0 ∷ j1 ∷ j2 ∷ j3 ∷ [] =
-        ap (λ (x : View Added). x.places) all
-        ∙ (λ i. slice_set (slice_set (slice_set (slice_set v.places (n0 i) j0) (n1 i) j1) (n2 i) j2)
-        (n3 i) j3) ∙ joined_four v.places j0 j1 j2 j3 many in
-        let pass : (i : ℕ) (t : View Added) → get_elem? (j0 ∷ j1 ∷ j2 ∷ j3 ∷ []) i
-        ≡ some (places.Joined (share_of t)) → get_elem? e.shows.passes i ≡ some t.pass =
-        λ i t there. (e.collector.joined i (share_of t)
-        (ap (λ (ps : List (Place Added)). get_elem? ps i) at ∙ there)).pass in
-        four_passes e.shows.passes t0.pass t1.pass t2.pass t3.pass (e.passes_fit ∙ mutators)
-        (pass 0 t0 refl) (pass 1 t1 refl) (pass 2 t2 refl) (pass 3 t3 refl)
-        ∙ (λ i. (p0 i).sum + (p1 i).sum + (p2 i).sum + (p3 i).sum)
+        ap sum_of (passes_are h image.words v w (t0 ∷ t1 ∷ t2 ∷ t3 ∷ []) many mutators
+        (n0, (n1, (n2, (n3, tt)))) all e)
+        ∙ (λ i. (p0 i).sum + ((p1 i).sum + ((p2 i).sum + ((p3 i).sum + 0)))) ∙ omega arith
 
     -- and so the anchor names the record of that number
     counted : (cell : ℕ) × ((field_of e.shows.core 0 0 ≡ word.Cell cell)

@@ -2,7 +2,6 @@ pub mod Adds
 pub mod Anchors
 pub mod Ending
 pub mod Exchanges
-pub mod Freed
 pub mod Numbers
 pub mod Openings
 pub mod Picks

@@ -7,7 +7,7 @@ use Rattle.heap_rule.specs.Shape.{Shape}
 use Rattle.heap_rule.specs.declared.view.View.{View}
 use Rattle.heap_table.specs.Images.{ImageView, Shows}
 use Rattle.shared_counter.specs.Counting.{Counts, counter_in, sum_of}
-use Rattle.shared_counter.specs.Serving.{freed_by}
+use Rattle.beside_collector.specs.Freed.{freed_by}
 use Rattle.shared_counter.specs.declared.counter.Added.{Added}
 
 -- A heap of so many cells and of four mutators was closed, by a collector that is off duty and has

@@ -3,7 +3,7 @@ ghost use Rattle.std.specs.Prelude.{◌≡◌, ◌≤◌, ◌+◌, IfOk, false, 
 ghost use Rattle.heap_table.specs.Seats.{IsSeatOf};
 ghost use Rattle.shared_counter.specs.Adding.{IsDone, IsOpened};
 ghost use Rattle.shared_counter.specs.Leaving.{Leaves};
-ghost use Rattle.shared_counter.specs.Serving.{freed_by};
+ghost use Rattle.beside_collector.specs.Freed.{freed_by};
 
 use crate::counter::Added;
 use cell_heap::{CellHeap, ColSeat, Image, MutSeat, NoMemory, Passes};

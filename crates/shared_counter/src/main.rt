@@ -6,15 +6,17 @@
 //! rule of the client, `counter`, says that the counter is the sum of what the mutators have added;
 //! from the passes at the close it is proved that this is what the threads count on their own.
 //!
+//! How a thread is made for the collector is told in beside_collector, whose `run_counting` is called
+//! in `whole`.
+//!
 //! Reading order: `counter`, specs/Counting, `adding`, specs/Adding, `closing`, specs/Working,
-//! `running`, specs/Serving, `serving`, `whole`, `main`.
+//! `running`, specs/Leaving, `whole`, `main`.
 #![tactic(auto)]
 
 mod adding;
 mod closing;
 mod counter;
 mod running;
-mod serving;
 mod whole;
 
 use std::io;

@@ -1,7 +1,7 @@
 //! The threads that add.
 ghost use Rattle.std.specs.Prelude.{◌≡◌, IfOk};
 ghost use Rattle.shared_counter.specs.Adding.{IsDone};
-ghost use Rattle.shared_counter.specs.Working.{AreWorkers, IsWorker};
+ghost use Rattle.shared_counter.specs.Working.{AreDone, AreWorkers, IsWorker};
 
 use crate::adding::{Nursery, work};
 use crate::closing::Done;
@@ -91,10 +91,7 @@ pub(crate) fn add_all<R: Threads + Wait + Sync>(
     fourth: Worker,
 ) -> ((Done, Done), (Done, Done))
     requires workers { AreWorkers heap.now queue.now first second third fourth }
-    ensures first { IsDone heap.now 0 result.0.0.1 result.0.0.0 }
-    ensures second { IsDone heap.now 1 result.0.1.1 result.0.1.0 }
-    ensures third { IsDone heap.now 2 result.1.0.1 result.1.0.0 }
-    ensures fourth { IsDone heap.now 3 result.1.1.1 result.1.1.0 }
+    ensures done { AreDone heap.now result }
 {
     thread::join(
         rt,

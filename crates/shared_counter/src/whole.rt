@@ -4,13 +4,14 @@ ghost use Rattle.core_machine.specs.State.{State, field_of};
 ghost use Rattle.heap_table.specs.Images.{Shows};
 ghost use Rattle.shared_counter.specs.Counting.{counter_in, number_in};
 ghost use Rattle.shared_counter.specs.Leaving.{Leaves};
+ghost use Rattle.shared_counter.specs.Working.{AreDone, AreWorkers};
 
-use crate::closing::{Opened, close_four, open_four};
+use crate::closing::{Done, Opened, close_four, open_four};
 use crate::counter::Added;
-use crate::running::{Worker, nursery};
-use crate::serving::{Keeper, add_beside};
+use crate::running::{Worker, add_all, nursery};
+use beside_collector::{Doing, Keeper, begin_duty, run_counting};
 use cell_heap::{Image, NoMemory, Passes};
-use cell_words::Field;
+use cell_words::{Field, GREATEST_CYCLES};
 use collector::MarkStack;
 use free_cells::FreeQueue;
 use std::alloc::Global;
@@ -114,15 +115,29 @@ pub(crate) fn run<R: Threads + Wait + Sync>(alloc: Global, rt: &R) -> Result<Ran
         pass: passes.2,
         nursery: nurseries.3,
     };
-    collector.duty(&heap, true);
+    begin_duty(&heap, GREATEST_CYCLES, &mut collector);
     let keeper = Keeper {
         seat: collector,
         stack,
         pass: passes.3,
     };
-    let (((first, second), (third, fourth)), (collector, freed)) = add_beside(
-        rt, &heap, &queue, keeper, first, second, third, fourth,
+    let at = &heap;
+    let hints = &queue;
+    let run = move || -> ((Done, Done), (Done, Done))
+        requires { AreWorkers at.now hints.now first second third fourth }
+        ensures { AreDone at.entry.now result }
+    { add_all(rt, at, hints, first, second, third, fourth) };
+    let work = Doing { run };
+    let (done, collector, _standby, freed) = run_counting(
+        alloc,
+        rt,
+        at,
+        hints,
+        keeper,
+        GREATEST_CYCLES,
+        work,
     );
+    let ((first, second), (third, fourth)) = done;
     let sum = first.1 + second.1 + third.1 + fourth.1;
     let (image, passes) = close_four(heap, collector, first, second, third, fourth);
     let counter = counter_of(&image);

@@ -1,8 +1,10 @@
 -- The log at the close: it has what the four mutators appended, in the words of the closed heap.
 use Rattle.std.proofs.Common.{◌≡◌, ◌<◌, ◌∙◌, ◌+◌, ◌∷◌, ◌⊎◌, ℕ, zero, suc, List, [], inl, inr}
-use Rattle.std.proofs.Common.{ap, sym, refl, arith, false, length, slice_set}
+use Rattle.std.proofs.Common.{ap, sym, refl, arith, false, length}
 use mathlib.Core.Option.{some}
 use lib.ListN.{get_elem?}
+use Rattle.beside_collector.proofs.AllJoined.{pass_at, passes_are}
+use Rattle.beside_collector.specs.Freed.{freed_by}
 use Rattle.cell_words.specs.Term.{null, num}
 use Rattle.cell_words.specs.declared.fields.Field.{Field}
 use Rattle.cell_words.specs.declared.fields.Field.TheVariants as word
@@ -12,10 +14,7 @@ use Rattle.heap_rule.specs.Facts.{Facts}
 use Rattle.heap_rule.specs.Laws.{Ended}
 use Rattle.heap_rule.specs.Lore.{Lore, Named, Plain}
 use Rattle.heap_rule.specs.Moves.{joined_view}
-use Rattle.heap_rule.specs.Rule.{share_of}
 use Rattle.heap_rule.specs.Shape.{Shape}
-use Rattle.heap_rule.specs.declared.view.Place.{Place}
-use Rattle.heap_rule.specs.declared.view.Place.TheVariants as places
 use Rattle.heap_rule.specs.declared.view.View.{View}
 use Rattle.heap_rule.proofs.Entries.{same_entry}
 use Rattle.heap_rule.proofs.EntryWords.{null_word, number_word}
@@ -23,7 +22,6 @@ use Rattle.heap_rule.proofs.Maps.{In, entry_names, in_map, of_map}
 use Rattle.heap_table.specs.Images.{ImageView, Shows}
 use Rattle.shared_log.specs.Leaving.{Counts, Leaves, LogFrom, all_of, boxes_from}
 use Rattle.shared_log.specs.Logging.{Chain, HasNumber, KeepsLog, entries_of, is_fixed, sum_of}
-use Rattle.shared_log.specs.Serving.{freed_by}
 use Rattle.shared_log.specs.declared.log.Appended.{Appended}
 use Rattle.shared_log.proofs.Picks.{anchor_entry}
 
@@ -73,37 +71,6 @@ module _ (s : State) (l : Lore) (facts : Facts is_fixed s l) where
       log_from h.newest h.writers (field_of s 0 0)
       (entry_names l.terms (field_of s 0 0) h.newest (anchor_entry s l passes h ∙ h.names)) h.chain
 
-four_passes : (passes : List Appended) (a b c d : Appended) → length passes ≡ 4
-    → get_elem? passes 0 ≡ some a → get_elem? passes 1 ≡ some b → get_elem? passes 2 ≡ some c
-    → get_elem? passes 3 ≡ some d → sum_of passes ≡ a.count + b.count + c.count + d.count
-four_passes [] a b c d many first second third fourth = absurd cc
-four_passes (x ∷ []) a b c d many first second third fourth = absurd cc
-four_passes (x ∷ y ∷ []) a b c d many first second third fourth = absurd cc
-four_passes (x ∷ y ∷ z ∷ []) a b c d many first second third fourth = absurd cc
-four_passes (x ∷ y ∷ z ∷ w ∷ []) a b c d many first second third fourth =
-    let one : x ≡ a = cc in
-    let two : y ≡ b = cc in
-    let three : z ≡ c = cc in
-    let four : w ≡ d = cc in
-    omega (
-      arith,
-      ap (λ (p : Appended). p.count) one,
-      ap (λ (p : Appended). p.count) two,
-      ap (λ (p : Appended). p.count) three,
-      ap (λ (p : Appended). p.count) four,
-    )
-four_passes (x ∷ y ∷ z ∷ w ∷ v ∷ more) a b c d many first second third fourth =
-    omega (arith, many)
-
-joined_four : (at : List (Place Appended)) (a b c d : Place Appended) → length at ≡ 4
-    → slice_set (slice_set (slice_set (slice_set at 0 a) 1 b) 2 c) 3 d ≡ a ∷ b ∷ c ∷ d ∷ []
-joined_four [] a b c d many = absurd cc
-joined_four (x ∷ []) a b c d many = absurd cc
-joined_four (x ∷ y ∷ []) a b c d many = absurd cc
-joined_four (x ∷ y ∷ z ∷ []) a b c d many = absurd cc
-joined_four (x ∷ y ∷ z ∷ w ∷ []) a b c d many = refl
-joined_four (x ∷ y ∷ z ∷ w ∷ v ∷ more) a b c d many = absurd (omega (arith, many))
-
 -- The seats of all mutators were joined, and the heap was closed.
 module _ (h : Shape) (image : ImageView) (v w t0 t1 t2 t3 : View Appended) (counts : Counts)
     (many : length v.places ≡ 4) (mutators : h.mutators ≡ 4)
@@ -116,40 +83,23 @@ module _ (h : Shape) (image : ImageView) (v w t0 t1 t2 t3 : View Appended) (coun
     (e : Ended (λ number setting. record { count = 0 }) KeepsLog is_fixed h (Unit {0})
     image.words w)
   where
-    abbrev joined : List (Place Appended)
-    joined = places.Joined (share_of t0) ∷ places.Joined (share_of t1)
-        ∷ places.Joined (share_of t2) ∷ places.Joined (share_of t3) ∷ []
-
-    places_are : w.places ≡ joined
-    places_are =
-        ap (λ (x : View Appended). x.places) all
-        ∙ (λ i. slice_set (slice_set (slice_set (slice_set v.places (n0 i)
-        (places.Joined (share_of t0))) (n1 i) (places.Joined (share_of t1))) (n2 i)
-        (places.Joined (share_of t2))) (n3 i) (places.Joined (share_of t3)))
-        ∙ joined_four v.places (places.Joined (share_of t0)) (places.Joined (share_of t1))
-        (places.Joined (share_of t2)) (places.Joined (share_of t3)) many
-
-    -- the pass of each is the one that its seat had
-    pass_at : (i : ℕ) (t : View Appended)
-        → get_elem? joined i ≡ some (places.Joined (share_of t))
-        → get_elem? e.shows.passes i ≡ some t.pass
-    pass_at i t there = (e.collector.joined i (share_of t)
-        (ap (λ (ps : List (Place Appended)). get_elem? ps i) places_are ∙ there)).pass
+    abbrev seats : List (View Appended)
+    seats = t0 ∷ t1 ∷ t2 ∷ t3 ∷ []
 
     abbrev log : KeepsLog (boxes_of e.shows.core e.shows.lore) e.shows.passes
     log = e.shows.kept
 
     many_are : length log.writers ≡ all_of counts
     many_are = log.many
-        ∙ four_passes e.shows.passes t0.pass t1.pass t2.pass t3.pass (e.passes_fit ∙ mutators)
-        (pass_at 0 t0 refl) (pass_at 1 t1 refl) (pass_at 2 t2 refl) (pass_at 3 t3 refl)
-        ∙ (λ i. (p0 i).count + (p1 i).count + (p2 i).count + (p3 i).count)
+        ∙ ap sum_of (passes_are h image.words v w seats many mutators (n0, (n1, (n2, (n3, tt)))) all e)
+        ∙ (λ i. (p0 i).count + ((p1 i).count + ((p2 i).count + ((p3 i).count + 0)))) ∙ omega arith
 
-    by : (i : ℕ) (t : View Appended) (n : ℕ)
-        → get_elem? joined i ≡ some (places.Joined (share_of t))
+    by : (i : ℕ) (t : View Appended) (n : ℕ) → get_elem? seats i ≡ some t
         → t.pass ≡ record { count = n } → entries_of i log.writers ≡ n
-    by i t n there is = sym (log.own i t.pass (pass_at i t there))
-        ∙ ap (λ (p : Appended). p.count) is
+    by i t n there is =
+        let pass = pass_at h image.words v w seats many mutators (n0, (n1, (n2, (n3, tt)))) all e i t
+        there in
+        sym (log.own i t.pass pass) ∙ ap (λ (p : Appended). p.count) is
 
     pub leaves : v.control.duty ≡ false → Shows image e.shows.core
         → Leaves h.cells counts (freed_by v.trail) image w

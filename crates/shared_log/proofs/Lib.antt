@@ -1,7 +1,6 @@
 pub mod Ending
 pub mod Exchanges
 pub mod Finding
-pub mod Freed
 pub mod Growing
 pub mod Openings
 pub mod Picks

@@ -9,7 +9,7 @@ use Rattle.heap_rule.specs.Shape.{Shape}
 use Rattle.heap_rule.specs.declared.view.View.{View}
 use Rattle.heap_table.specs.Images.{ImageView, Shows}
 use Rattle.shared_log.specs.Logging.{KeepsLog, entries_of, is_fixed}
-use Rattle.shared_log.specs.Serving.{freed_by}
+use Rattle.beside_collector.specs.Freed.{freed_by}
 use Rattle.shared_log.specs.declared.log.Appended.{Appended}
 
 -- the field names the box that the log opened with

@@ -1,6 +1,5 @@
 pub mod Appending
 pub mod Leaving
 pub mod Logging
-pub mod Serving
 pub mod Shrinks
 pub mod Working

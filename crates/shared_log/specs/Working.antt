@@ -1,10 +1,11 @@
--- What a thread that appends has before it begins.
+-- What a thread that appends has before it begins, and what all four come to.
 -- Source: this project's.
 use Rattle.std.specs.Prelude.{ℕ}
 use Rattle.free_cells.specs.Passes.{IsHintPass}
 use Rattle.free_cells.specs.declared.queue.FreeQueue.{FreeQueue}
-use Rattle.heap_table.specs.Seats.{HeapId}
-use Rattle.shared_log.specs.Appending.{IsNew}
+use Rattle.heap_table.specs.Seats.{HeapId, SeatView}
+use Rattle.shared_log.specs.Appending.{IsDone, IsNew}
+use Rattle.shared_log.specs.declared.log.Appended.{Appended}
 use Rattle.shared_log.specs.declared.running.Worker.{Worker}
 
 pub record IsWorker (heap : HeapId) (queue : FreeQueue) (number : ℕ) (worker : Worker)
@@ -18,3 +19,12 @@ pub record AreWorkers (heap : HeapId) (queue : FreeQueue) (first second third fo
   pub second_is : IsWorker heap queue 1 second
   pub third_is : IsWorker heap queue 2 third
   pub fourth_is : IsWorker heap queue 3 fourth
+
+-- each is over, beside what it says that it did
+pub record AreDone (heap : HeapId)
+    (done : ((SeatView Appended × ℕ) × (SeatView Appended × ℕ)) × ((SeatView Appended × ℕ) × (SeatView Appended × ℕ)))
+    : Type 0 where
+  pub first : IsDone heap 0 done.0.0.1 done.0.0.0
+  pub second : IsDone heap 1 done.0.1.1 done.0.1.0
+  pub third : IsDone heap 2 done.1.0.1 done.1.0.0
+  pub fourth : IsDone heap 3 done.1.1.1 done.1.1.0

@@ -3,7 +3,7 @@ ghost use Rattle.std.specs.Prelude.{◌≡◌, ◌≤◌, IfOk, false, length};
 ghost use Rattle.heap_table.specs.Seats.{IsSeatOf};
 ghost use Rattle.shared_log.specs.Appending.{IsDone, IsOpened};
 ghost use Rattle.shared_log.specs.Leaving.{Leaves, four};
-ghost use Rattle.shared_log.specs.Serving.{freed_by};
+ghost use Rattle.beside_collector.specs.Freed.{freed_by};
 
 use crate::log::Appended;
 use cell_heap::{CellHeap, ColSeat, Image, MutSeat, NoMemory, Passes};

@@ -9,14 +9,13 @@
 //! is proved that the chain in the closed heap has what the threads count on their own.
 //!
 //! Reading order: `log`, specs/Logging, Shrinks, `appending`, specs/Appending, `closing`,
-//! specs/Working, `running`, specs/Serving, `serving`, specs/Leaving, `whole`, `main`.
+//! specs/Working, `running`, specs/Leaving, `whole`, `main`.
 #![tactic(auto)]
 
 mod appending;
 mod closing;
 mod log;
 mod running;
-mod serving;
 mod whole;
 
 use std::io;

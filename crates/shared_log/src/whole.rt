@@ -3,13 +3,14 @@ ghost use Rattle.std.specs.Prelude.{◌≡◌, ◌<◌, ◌≤◌, ◌+◌, IfOk
 ghost use Rattle.core_machine.specs.State.{State, field_of};
 ghost use Rattle.heap_table.specs.Images.{Shows};
 ghost use Rattle.shared_log.specs.Leaving.{Leaves, boxes_from, four};
+ghost use Rattle.shared_log.specs.Working.{AreDone, AreWorkers};
 
-use crate::closing::{Opened, close_four, open_four};
+use crate::closing::{Done, Opened, close_four, open_four};
 use crate::log::Appended;
-use crate::running::Worker;
-use crate::serving::{Keeper, append_beside};
+use crate::running::{Worker, append_all};
+use beside_collector::{Doing, Keeper, begin_duty, run_counting};
 use cell_heap::{Image, NoMemory, Passes};
-use cell_words::{Colour, Field};
+use cell_words::{Colour, Field, GREATEST_CYCLES};
 use collector::MarkStack;
 use free_cells::FreeQueue;
 use std::alloc::Global;
@@ -117,15 +118,29 @@ pub(crate) fn run<R: Threads + Wait + Sync>(alloc: Global, rt: &R) -> Result<Ran
         seat: fourth,
         pass: passes.2,
     };
-    collector.duty(&heap, true);
+    begin_duty(&heap, GREATEST_CYCLES, &mut collector);
     let keeper = Keeper {
         seat: collector,
         stack,
         pass: passes.3,
     };
-    let (((first, second), (third, fourth)), (collector, freed)) = append_beside(
-        rt, &heap, &queue, keeper, first, second, third, fourth,
+    let at = &heap;
+    let hints = &queue;
+    let run = move || -> ((Done, Done), (Done, Done))
+        requires { AreWorkers at.now hints.now first second third fourth }
+        ensures { AreDone at.entry.now result }
+    { append_all(rt, at, hints, first, second, third, fourth) };
+    let work = Doing { run };
+    let (done, collector, _standby, freed) = run_counting(
+        alloc,
+        rt,
+        at,
+        hints,
+        keeper,
+        GREATEST_CYCLES,
+        work,
     );
+    let ((first, second), (third, fourth)) = done;
     let counts = (first.1, second.1, third.1, fourth.1);
     let sum = counts.0 + counts.1 + counts.2 + counts.3;
     let (image, passes) = close_four(heap, collector, first, second, third, fourth);

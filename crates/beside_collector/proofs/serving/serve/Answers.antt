@@ -1,17 +1,28 @@
 use Rattle.std.proofs.Common.{sym, subst}
 use Rattle.collector.specs.Bound.{Bound}
 use Rattle.heap_table.specs.Seats.{SeatView}
+use Rattle.beside_collector.specs.Freed.{HasFreed}
 use Rattle.beside_collector.specs.Serving.{Serves}
+use Rattle.beside_collector.proofs.Freed.{has_freed}
 use Rattle.beside_collector.proofs.Working.{serves}
 use Rattle.beside_collector.proofs.serving.serve.Goals as goal
 
 pub returns : goal.returns
-returns g c = record {
-  serves = subst (λ (s : SeatView _). Serves c.args.cycles c.args.keeper.seat s)
-      (sym c.into_seat.ensures.seat)
-      (subst (λ (b : Bound _). Serves c.args.cycles b.seat c.serve.new.self.seat)
-      c.new-collector.ensures.collector
-      (serves c.args.cycles c.serve.result c.serve.ensures.served.0 c.new-collector.result
-      c.serve.new.self c.serve.ensures.served.1 c.serve.ensures.served.2 c.serve.ensures.idle
-      c.serve.ensures.off_duty));
-}
+returns g c =
+    let cycles = c.args.cycles in
+    let freed = c.serve-freed.result in
+    let made = c.serve-freed.ensures.served.0 in
+    let stretch = c.serve-freed.ensures.served.2 in
+    let old = c.new-collector.result in
+    let new = c.serve-freed.new.self in
+    record {
+      serves = subst (λ (s : SeatView _). Serves cycles c.args.keeper.seat s)
+          (sym c.into_seat.ensures.seat)
+          (subst (λ (b : Bound _). Serves cycles b.seat new.seat) c.new-collector.ensures.collector
+          (serves cycles freed made old new c.serve-freed.ensures.served.1 stretch
+          c.serve-freed.ensures.idle c.serve-freed.ensures.off_duty));
+      freed = subst (λ (s : SeatView _). HasFreed c.args.keeper.seat s freed)
+          (sym c.into_seat.ensures.seat)
+          (subst (λ (b : Bound _). HasFreed b.seat new.seat freed) c.new-collector.ensures.collector
+          (has_freed cycles freed made old new stretch));
+    }

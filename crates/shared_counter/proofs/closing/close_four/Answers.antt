@@ -3,7 +3,7 @@ use Rattle.heap_rule.specs.Moves.{joined_view}
 use Rattle.heap_rule.specs.declared.view.View.{View}
 use Rattle.heap_table.specs.Seats.{SeatView}
 use Rattle.shared_counter.specs.Leaving.{Leaves}
-use Rattle.shared_counter.specs.Serving.{freed_by}
+use Rattle.beside_collector.specs.Freed.{freed_by}
 use Rattle.shared_counter.specs.declared.counter.Added.{Added}
 use Rattle.shared_counter.proofs.Ending.{leaves}
 use Rattle.shared_counter.proofs.closing.close_four.Goals as goal

@@ -3,7 +3,7 @@ use Rattle.heap_rule.specs.Moves.{joined_view}
 use Rattle.heap_rule.specs.declared.view.View.{View}
 use Rattle.heap_table.specs.Seats.{SeatView}
 use Rattle.shared_log.specs.Leaving.{Counts, Leaves, four}
-use Rattle.shared_log.specs.Serving.{freed_by}
+use Rattle.beside_collector.specs.Freed.{freed_by}
 use Rattle.shared_log.specs.declared.log.Appended.{Appended}
 use Rattle.shared_log.proofs.Ending.{leaves}
 use Rattle.shared_log.proofs.closing.close_four.Goals as goal
