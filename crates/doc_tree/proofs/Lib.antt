@@ -1,4 +1,5 @@
 pub mod Chunks
+pub mod Grafts
 pub mod Joined
 pub mod Orderly
 pub mod Passes

@@ -194,12 +194,12 @@ count_deleted (n ∷ m ∷ path) t u h =
     )
 
 -- what the limits let pass is the tree that was asked for, and within them
-record Within (t u : DocTree) : Type 0 where
+pub record Within (t u : DocTree) : Type 0 where
   pub is : t ≡ u
   pub low : height u ≤ 8
   pub few : count u ≤ 1_000_000_000
 
-within : (t u : DocTree) → within_limits t ≡ Ok u → Within t u
+pub within : (t u : DocTree) → within_limits t ≡ Ok u → Within t u
 within t u h =
     elim (nat_lt 8 (height t)) as (λ b. nat_lt 8 (height t) ≡ b
     → cond b (Err fault.Deep) (cond (nat_lt 1_000_000_000 (count t)) (Err fault.Big) (Ok t))

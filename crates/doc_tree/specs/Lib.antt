@@ -1,6 +1,7 @@
 pub mod Chunks
 pub mod Edits
 pub mod Ends
+pub mod Grafts
 pub mod Lawful
 pub mod Letters
 pub mod Rows

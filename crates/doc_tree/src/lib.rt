@@ -24,6 +24,8 @@ mod tree;
 pub use crate::edit::EditFault;
 pub use crate::path::{Names, Path};
 pub use crate::text::{Name, Text};
-pub use crate::theorems::{edits_keep_trees_lawful, set_text_is_never_too_deep};
+pub use crate::theorems::{
+    an_edit_carries_over, edits_keep_trees_lawful, set_text_is_never_too_deep,
+};
 pub use crate::tree::Tree;
 pub use std::alloc::AllocError as NoMemory;

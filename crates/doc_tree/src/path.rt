@@ -1,6 +1,6 @@
 //! Paths from the root of a tree to a node, and lists of names.
 ghost use Rattle.std.specs.Prelude.{◌≡◌, [], ◌∷◌, ◌++◌, IfOk, IsTrue, OnOk, OnErr, Some, position};
-ghost use Rattle.std.specs.Prelude.{◌==◌, nat_eq, true};
+ghost use Rattle.std.specs.Prelude.{◌==◌, nat_eq, take, true};
 ghost use Rattle.std.specs.Cmp.Lexicographic.{pointwise};
 ghost use Rattle.doc_tree.specs.Words.{path_of, is_path, pieces};
 
@@ -112,6 +112,17 @@ impl Path {
     {
         Ok(Path {
             names: self.names.clone()?,
+        })
+    }
+
+    /// The path of the first name alone.
+    pub fn first(&self, alloc: Global) -> Result<Path, NoMemory>
+        ensures { IfOk result (λ path. path ≡ take 1 self.now) }
+    {
+        let mut names = Vec::with_capacity(alloc, 1)?;
+        names.push(self.names()[0].copy()?)?;
+        Ok(Path {
+            names: Arc::new(alloc, names)?,
         })
     }
 

@@ -109,6 +109,18 @@ fn a_path_holds_its_names(rt: HostRuntime) -> Result<(), Fail> {
     Ok(())
 }
 
+/// Whether the path of the first name of a/b/c is a.
+fn begins_with_a(alloc: Global) -> Result<bool, Fail> {
+    let first = path(alloc, "a/b/c")?.first(alloc)?;
+    Ok(first.is_of(b"a".as_slice()))
+}
+
+#[test]
+fn a_path_has_a_first_name(rt: HostRuntime) -> Result<(), Fail> {
+    assert_eq!(rt; begins_with_a(rt.alloc())?, true);
+    Ok(())
+}
+
 fn made(edited: Result<Tree, EditFault>) -> Result<Tree, Fail> {
     Ok(edited.ok().ok_or("an edit that is not refused")?)
 }
