@@ -6,3 +6,4 @@ pub mod Keeping
 pub mod Looked
 pub mod Owed
 pub mod Roots
+pub mod Sameness

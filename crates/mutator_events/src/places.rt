@@ -17,7 +17,7 @@ use heap_table::CellHeap;
 
 impl<P: Keeping> MutSeat<P> {
     /// The cell that it holds at a place.
-    fn cell(&self, place: usize) -> u32
+    pub(crate) fn cell(&self, place: usize) -> u32
         requires there { place < length self.now.me.own.held }
         ensures cell { result ≡ target self.now.me place }
         ensures below { result < self.now.me.shape.cells }

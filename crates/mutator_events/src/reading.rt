@@ -1,9 +1,11 @@
-//! Reading a field of a held cell, and choosing what stays held.
-ghost use Rattle.std.specs.Prelude.{◌≡◌, None, length};
+//! Reading a field of a held cell, choosing what stays held, and whether two places hold one cell.
+ghost use Rattle.std.specs.Prelude.{◌≡◌, ◌<◌, ◌==◌, None, length, true};
+ghost use Rattle.cell_words.specs.Term.{Term};
 ghost use Rattle.cell_words.specs.declared.fields.Field.{Field};
 ghost use Rattle.core_machine.specs.declared.events.Event.TheVariants as event;
 ghost use Rattle.core_machine.specs.declared.events.Found.TheVariants as finds;
-ghost use Rattle.heap_rule.specs.Asks.{MayKeep, MayRead};
+ghost use Rattle.heap_rule.specs.Asks.{MayKeep, MayRead, known_of, target};
+ghost use Rattle.heap_rule.specs.declared.known.Known.TheVariants as knows;
 ghost use Rattle.heap_rule.specs.Steps.{Picks};
 ghost use Rattle.heap_table.specs.Seats.{IsSeatOf};
 ghost use Rattle.mutator_events.specs.Events.{AtEvent, tells};
@@ -58,5 +60,32 @@ impl<P: Keeping> MutSeat<P> {
             word,
         );
         keep_cells(&mut self.held, n, place, count);
+    }
+
+    /// Whether two places hold one cell. What is known of them as records is then one term, which
+    /// one load of its status word shows, and throws away.
+    pub fn is_same(&mut self, heap: &CellHeap<P>, first: usize, second: usize) -> bool
+        requires seat { IsSeatOf heap.now self.old }
+        requires inside { self.old.me.presence.inside ≡ true }
+        requires settled { self.old.me.own.pending ≡ None }
+        requires first { first < length self.old.me.own.held }
+        requires second { second < length self.old.me.own.held }
+        ensures same { result ≡ (target self.old.me first == target self.old.me second) }
+        ensures terms { result ≡ true → (t u : Term) → known_of self.old.me first ≡ knows.Record t
+            → known_of self.old.me second ≡ knows.Record u → t ≡ u }
+        ensures told { self.new ≡ tells self.old
+            (event.Keep self.old.me.number (length self.old.me.own.held) 0 0)
+            (finds.Presence self.old.me.presence) }
+    {
+        let same = self.cell(first) == self.cell(second);
+        let places = self.held_len();
+        let word = status_word(heap, self.number);
+        // All places are kept, and so the list stays as it is.
+        let _ = heap.mutator_load::<Brand>(
+            &mut self.seat,
+            Event::Keep(self.number, places, 0, 0),
+            word,
+        );
+        same
     }
 }

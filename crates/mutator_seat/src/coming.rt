@@ -1,9 +1,12 @@
-//! Coming in, going out, being over, and choosing what stays held.
-ghost use Rattle.std.specs.Prelude.{◌≡◌, ◌≤◌, ◌+◌, length, true, false, [], ◌∷◌};
+//! Coming in, going out, being over, choosing what stays held, and whether two places hold one
+//! cell.
+ghost use Rattle.std.specs.Prelude.{◌≡◌, ◌≤◌, ◌<◌, ◌+◌, ◌==◌, length, true, false, [], ◌∷◌};
+ghost use Rattle.cell_words.specs.Term.{Term};
 ghost use Rattle.cell_words.specs.declared.presences.Status.{Status};
 ghost use Rattle.core_machine.specs.declared.events.Event.TheVariants as event;
 ghost use Rattle.core_machine.specs.declared.events.Found.TheVariants as finds;
-ghost use Rattle.heap_rule.specs.Asks.{MayKeep};
+ghost use Rattle.heap_rule.specs.Asks.{MayKeep, known_of, target};
+ghost use Rattle.heap_rule.specs.declared.known.Known.TheVariants as knows;
 ghost use Rattle.mutator_events.specs.Events.{tells};
 ghost use Rattle.mutator_seat.specs.Bound.{held_cells, takes};
 
@@ -68,5 +71,22 @@ impl<'a, P: Keeping> Mutator<'a, P> {
             (finds.Presence self.old.seat.me.presence) }
     {
         self.seat.keep(self.heap, n, place, count);
+    }
+
+    /// Whether two places hold one cell. What is known of them as records is then one term.
+    pub fn is_same(&mut self, first: usize, second: usize) -> bool
+        requires inside { self.old.seat.me.presence.inside ≡ true }
+        requires first { first < length self.old.seat.me.own.held }
+        requires second { second < length self.old.seat.me.own.held }
+        ensures same { result
+            ≡ (target self.old.seat.me first == target self.old.seat.me second) }
+        ensures terms { result ≡ true → (t u : Term)
+            → known_of self.old.seat.me first ≡ knows.Record t
+            → known_of self.old.seat.me second ≡ knows.Record u → t ≡ u }
+        ensures told { self.new ≡ takes self.old (event.Keep self.old.seat.me.number
+            (length self.old.seat.me.own.held) 0 0)
+            (finds.Presence self.old.seat.me.presence) }
+    {
+        self.seat.is_same(self.heap, first, second)
     }
 }
