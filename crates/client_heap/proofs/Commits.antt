@@ -2,14 +2,11 @@
 use Rattle.std.proofs.Common.{◌≡◌, ◌+◌, ℕ, List, length, refl, sym, ap}
 use Rattle.std.proofs.Common.{subst, arith}
 use Rattle.std.proofs.Common.{Result, Ok, Err}
-use Rattle.std.specs.Prelude.{OnErr, OnOk}
-use Rattle.cell_words.specs.Term.{Term}
+use Rattle.std.specs.Prelude.{OnErr}
 use Rattle.client_records.specs.declared.at.NodeAt.TheVariants as at
 use Rattle.client_records.specs.Records.{IsRecord, known_term}
-use Rattle.client_session.specs.declared.held.CommitRefusal.{CommitRefusal}
 use Rattle.client_trees.specs.Nodes.{IsTreeAt, tree_at}
 use Rattle.doc_records.specs.Trees.{IsTreeNode, tree_of}
-use Rattle.doc_tree.specs.Tree.{DocTree}
 use Rattle.heap_rule.specs.Asks.{known_of}
 use Rattle.heap_rule.specs.declared.known.Known.{Known}
 use Rattle.heap_rule.specs.declared.known.Known.TheVariants as knows
@@ -18,7 +15,7 @@ use Rattle.mutator_seat.specs.Bound.{Bound}
 use Rattle.trails.specs.Claims.{IsFull}
 use Rattle.trails.specs.Stretches.{Had}
 use Rattle.trails.proofs.Stretches.{had_late}
-use Rattle.version_rule.specs.Pass.{Pass, committed}
+use Rattle.version_rule.specs.Pass.{Pass}
 use Rattle.version_store.specs.Calls.{Holds}
 use Rattle.version_store.specs.Held.{IsRecord as HoldsRecord, term_at, term_told}
 use Rattle.version_store.specs.Lasts.{IsSameMutator, LastsAcross, marks}
@@ -65,17 +62,7 @@ module _ (m n : Bound Pass) (minor : Nursery) (cells : List ℕ) (holds : Holds 
       carries_known (length m.seat.me.own.held) m n minor ordered same lasts holds.known
       (let more = many_held m n cells holds.held in omega (arith, more))
 
--- the pass of a commit behind a promotion, in the words of before
-pub committed_late : (p : Pass) (q r : Pass) (k : ℕ) (s t : Term) (d e : DocTree)
-    (result : Result ℕ CommitRefusal) → OnOk result (p ≡ committed k (tree_of s) d q) → s
-    ≡ t
-    → d ≡ e → q ≡ r → OnOk result (p ≡ committed k (tree_of t) e r)
-committed_late p q r k s t d e result made root tree pass =
-    subst (λ (x : Pass). OnOk result (p ≡ committed k (tree_of t) e x)) pass
-    (subst (λ (x : DocTree). OnOk result (p ≡ committed k (tree_of t) x q)) tree
-    (subst (λ (x : Term). OnOk result (p ≡ committed k (tree_of x) d q)) root made))
-
--- and of a claim that found the heap full there
+-- a claim that found the heap full behind such a call, in the words of before
 pub full_late : (m n o : Bound Pass) (old new : Nursery) → Follows m n old new
     → Had (IsFull n.seat.me.shape.cells) (marks n) (marks o)
     → Had (IsFull m.seat.me.shape.cells) (marks m) (marks o)

@@ -8,4 +8,5 @@ pub mod Keeping
 pub mod Lending
 pub mod Pairs
 pub mod Resting
+pub mod Rooms
 pub mod Ways

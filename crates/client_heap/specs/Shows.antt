@@ -1,14 +1,16 @@
 -- What a client's mutator and private heap show of the client, in the words of its session.
 -- Source: this project's.
-use Rattle.std.specs.Prelude.{ℕ, ◌+◌, ◌-◌, length}
+use Rattle.std.specs.Prelude.{ℕ, ◌+◌, ◌-◌, length, Option, Some, None}
 use Rattle.cell_words.specs.Term.{Term}
 use Rattle.client_records.specs.Records.{term_at}
 use Rattle.client_records.specs.declared.at.NodeAt.{NodeAt}
+use Rattle.client_records.specs.declared.at.NodeAt.TheVariants as at
 use Rattle.client_session.specs.Handles.{Handles}
 use Rattle.client_session.specs.declared.held.HeldVersion.{HeldVersion}
 use Rattle.client_trees.specs.Nodes.{IsTreeAt, tree_at}
 use Rattle.client_turns.specs.State.{ClientState}
 use Rattle.doc_records.specs.Trees.{tree_of}
+use Rattle.heap_rule.specs.Asks.{target}
 use Rattle.minor_heap.specs.Nursery.{Nursery}
 use Rattle.mutator_seat.specs.Bound.{Bound}
 use Rattle.trails.specs.Marks.{marks_of}
@@ -19,6 +21,11 @@ use Rattle.version_store.specs.declared.held.HeldVersion.{HeldVersion as StoreVe
 -- the term of the node that stands there
 abbrev pub node_term : Bound Pass → Nursery → NodeAt → Term
 node_term m minor at = term_at m.seat.me.known minor.records at
+
+-- the cell of the shared heap in which it stands, if it is one of that heap
+abbrev pub cell_of : Bound Pass → NodeAt → Option ℕ
+cell_of m (at.Shared place) = Some (target m.seat.me place)
+cell_of m (at.Minor r) = None
 
 -- where a draft stands that a number of first places stay for
 abbrev pub state_of : Bound Pass → Nursery → NodeAt → ℕ → ClientState

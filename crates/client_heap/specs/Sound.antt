@@ -1,6 +1,6 @@
 -- What holds of a client's mutator, private heap and draft between calls.
 -- Source: this project's.
-use Rattle.std.specs.Prelude.{ℕ, ◌≡◌, ◌≤◌, ◌+◌, ◌*◌, true, length}
+use Rattle.std.specs.Prelude.{ℕ, ◌≡◌, ◌≤◌, ◌+◌, ◌*◌, ◌&&◌, Bool, true, length, nat_le}
 use Rattle.client_records.specs.declared.at.NodeAt.{NodeAt}
 use Rattle.client_records.specs.Records.{stands_on, term_at}
 use Rattle.doc_records.specs.Trees.{IsTreeNode}
@@ -25,6 +25,12 @@ pub record IsSound (m : Bound Pass) (minor : Nursery) (draft : NodeAt) (base : �
 pub record IsCleared (m : Bound Pass) (minor : Nursery) : Type 0 where
   pub room : length m.seat.me.own.held + length minor.records + 20_480 ≤ m.seat.me.room
   pub spare : length minor.records + 2_285 ≤ minor.room
+
+-- whether there is
+abbrev pub is_cleared : Bound Pass → Nursery → Bool
+is_cleared m minor =
+    nat_le (length m.seat.me.own.held + length minor.records + 20_480) m.seat.me.room
+    && nat_le (length minor.records + 2_285) minor.room
 
 -- there is room to read the latest version again, and then for an edit of a tree in the making
 pub record HasRoom (m : Bound Pass) (minor : Nursery) : Type 0 where

@@ -3,7 +3,7 @@ ghost use Rattle.std.specs.Prelude.{◌≡◌, ◌+◌, ◌<◌, ◌≤◌, OnEr
 ghost use Rattle.std.specs.Prelude.{[], max, true};
 ghost use Rattle.client_heap.specs.Carries.{Carries, Follows};
 ghost use Rattle.client_heap.specs.Shows.{node_term};
-ghost use Rattle.client_heap.specs.Sound.{IsCleared, IsSound};
+ghost use Rattle.client_heap.specs.Sound.{IsCleared, IsSound, is_cleared};
 ghost use Rattle.client_records.specs.declared.at.NodeAt.TheVariants as at;
 ghost use Rattle.client_trees.specs.Nodes.{IsTreeAt};
 ghost use Rattle.free_cells.specs.Hints.{queue_of};
@@ -239,6 +239,14 @@ fn collect_draft<R: Wait>(
         }
         Err(full) => Err(full),
     }
+}
+
+/// Whether there is room for an edit, so that none has to be made.
+pub(crate) fn has_room(m: &Mutator<'_, Documents>, minor: &MinorHeap) -> bool
+    ensures room { result ≡ is_cleared m.now minor.now }
+{
+    let records = minor.len() as usize;
+    20480 + records <= m.room() && 2285 <= minor.spare()
 }
 
 /// Where there is too little room for an edit, lets all private records go but those of the draft.

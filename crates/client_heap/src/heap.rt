@@ -90,7 +90,7 @@ impl<'a, M: StoreSeat<Q>, Q> OwnHeap<'a, M, Q> {
 
 impl<'a, M: StoreSeat<Q>, Q> ClientHeap for OwnHeap<'a, M, Q> {
     ghost use Rattle.client_heap.specs.Lent.{Lent, identity_of};
-    ghost use Rattle.client_heap.specs.Shows.{handles_of, state_of};
+    ghost use Rattle.client_heap.specs.Shows.{cell_of, handles_of, state_of};
     ghost use Rattle.client_records.specs.Records.{is_shared};
 
     type At = NodeAt;
@@ -100,6 +100,8 @@ impl<'a, M: StoreSeat<Q>, Q> ClientHeap for OwnHeap<'a, M, Q> {
     ghost shown = { λ h. handles_of (M.bound h.m.now) h.nursery.now.heap };
 
     ghost shared = { is_shared };
+
+    ghost cell = { λ h at. cell_of (M.bound h.m.now) at };
 
     ghost Lent = { Lent };
 
@@ -177,27 +179,38 @@ impl<'a, M: StoreSeat<Q>, Q> ClientHeap for OwnHeap<'a, M, Q> {
             .make_draft(self.nursery.heap(), &mut self.draft, &mut self.base, at);
     }
 
-    fn publish<R: Wait>(
+    fn is_same(&mut self, first: NodeAt, second: NodeAt) -> bool {
+        match (first, second) {
+            (NodeAt::Shared(one), NodeAt::Shared(other)) => {
+                self.m.is_same(self.nursery.heap(), one, other)
+            }
+            _ => false,
+        }
+    }
+
+    fn share<R: Wait>(&mut self, rt: &R, at: NodeAt) -> Result<NodeAt, HeapFull> {
+        self.m
+            .share(rt, self.hints, self.nursery.heap(), self.promoter, at)
+    }
+
+    fn commit<R: Wait>(
         &mut self,
         rt: &R,
         v: HeldVersion,
         at: NodeAt,
         versions: u64,
     ) -> Result<u64, CommitRefusal> {
-        self.m.publish(
-            rt,
-            self.hints,
-            self.nursery.heap(),
-            self.promoter,
-            v,
-            at,
-            versions,
-        )
+        self.m
+            .commit(rt, self.hints, self.nursery.heap(), v, at, versions)
     }
 
     fn trim(&mut self, v: HeldVersion, keep: u64) {
         let _records = self.nursery.heap().len();
         self.m.trim(stored(v), keep);
+    }
+
+    fn has_room(&self) -> bool {
+        self.m.has_room(self.nursery.heap())
     }
 
     fn make_room<R: Wait>(&mut self, rt: &R) -> Result<(), HeapFull> {

@@ -1,14 +1,15 @@
 //! A mutator of documents is such a seat, with hints of any queue.
 ghost use Rattle.std.specs.Prelude.{◌≡◌, ◌<◌, ◌≤◌, ◌+◌, IfErr, IfOk, OnErr};
 ghost use Rattle.std.specs.Prelude.{OnOk, Err, [], ◌∷◌, IfSome, IsNone, None, Ok, length, max};
-ghost use Rattle.std.specs.Prelude.{true};
+ghost use Rattle.std.specs.Prelude.{◌==◌, true};
 ghost use Rattle.std.specs.Option.{ForSome, option_map};
 ghost use Rattle.std.specs.Result.{ForOk};
 ghost use Rattle.cell_words.specs.declared.fields.Field.TheVariants as field;
 ghost use Rattle.client_heap.specs.Carries.{Carries, Follows};
 ghost use Rattle.client_heap.specs.Shows.{node_term, stored};
-ghost use Rattle.client_heap.specs.Sound.{HasRoom, IsCleared, IsSound};
+ghost use Rattle.client_heap.specs.Sound.{HasRoom, IsCleared, IsSound, is_cleared};
 ghost use Rattle.client_records.specs.Records.{is_shared};
+ghost use Rattle.client_records.specs.declared.at.NodeAt.TheVariants as at;
 ghost use Rattle.client_trees.specs.Leaves.{Leaves, LeavesAll};
 ghost use Rattle.client_trees.specs.Nodes.{IsTreeAt, tree_at};
 ghost use Rattle.doc_edits.specs.Edits.{answered};
@@ -273,22 +274,70 @@ impl<'h, 'q> StoreSeat<Hints<'q>> for Mutator<'h, Documents> {
         drafting::make_draft(self, minor, draft, base, at);
     }
 
-    fn publish<R: Wait>(
+    fn is_same(&mut self, minor: &MinorHeap, first: usize, second: usize) -> bool
+        requires inside { self.old.seat.me.presence.inside ≡ true }
+        requires first { IsTreeAt self.old minor.now (at.Shared first) }
+        requires second { IsTreeAt self.old minor.now (at.Shared second) }
+        ensures same { result ≡ (target self.old.seat.me first
+            == target self.old.seat.me second) }
+        ensures term { result ≡ true → node_term self.old minor.now (at.Shared first)
+            ≡ node_term self.old minor.now (at.Shared second) }
+        ensures carries { Carries (length self.old.seat.me.own.held)
+            self.old self.new minor.now minor.now }
+        ensures held { length self.new.seat.me.own.held
+            ≡ length self.old.seat.me.own.held }
+        ensures pass { self.new.seat.me.pass ≡ self.old.seat.me.pass }
+        ensures claims { self.new.seat.me.own.claims
+            ≡ self.old.seat.me.own.claims }
+    {
+        places::is_same(self, minor, first, second)
+    }
+
+    fn share<R: Wait>(
         &mut self,
         rt: &R,
         hints: &mut Hints<'q>,
         minor: &MinorHeap,
         promoter: &mut Promoter,
+        node: NodeAt,
+    ) -> Result<NodeAt, HeapFull>
+        requires inside { self.old.seat.me.presence.inside ≡ true }
+        requires room { length self.old.seat.me.own.held + length minor.now.records + 8192
+            ≤ self.old.seat.me.room }
+        requires copies { minor.now.room ≤ promoter.old }
+        requires node { IsTreeAt self.old minor.now node }
+        ensures node { IfOk result (λ made. IsTreeAt self.new minor.now made) }
+        ensures tree { IfOk result (λ made. tree_at self.new minor.now made
+            ≡ tree_at self.old minor.now node) }
+        ensures shared { IfOk result (λ made. is_shared made ≡ true) }
+        ensures full { OnErr result (Had (IsFull self.old.seat.me.shape.cells)
+            (marks self.old) (marks self.new)) }
+        ensures carries { Carries (length self.old.seat.me.own.held)
+            self.old self.new minor.now minor.now }
+        ensures held { length self.new.seat.me.own.held
+            ≤ length self.old.seat.me.own.held + 1 }
+        ensures pass { self.new.seat.me.pass ≡ self.old.seat.me.pass }
+        ensures promoter { promoter.new ≡ promoter.old }
+        ensures queue { queue_of hints.new ≡ queue_of hints.old }
+    {
+        publishing::share(rt, hints, self, minor, promoter, node)
+    }
+
+    fn commit<R: Wait>(
+        &mut self,
+        rt: &R,
+        hints: &mut Hints<'q>,
+        minor: &MinorHeap,
         v: HeldVersion,
         node: NodeAt,
         versions: u64,
     ) -> Result<u64, CommitRefusal>
         requires inside { self.old.seat.me.presence.inside ≡ true }
-        requires room { length self.old.seat.me.own.held + length minor.now.records + 8192
+        requires room { length self.old.seat.me.own.held + 128
             ≤ self.old.seat.me.room }
-        requires copies { minor.now.room ≤ promoter.old }
         requires version { IsHeld self.old (stored v) }
         requires node { IsTreeAt self.old minor.now node }
+        requires shared { is_shared node ≡ true }
         requires below { v.number < versions }
         requires few { length (commit_numbers self.old.seat.me.pass) < 100000 }
         ensures number { IfOk result (λ number. number ≡ v.number + 1) }
@@ -307,11 +356,16 @@ impl<'h, 'q> StoreSeat<Hints<'q>> for Mutator<'h, Documents> {
         ensures carries { Carries (length self.old.seat.me.own.held)
             self.old self.new minor.now minor.now }
         ensures held { length self.new.seat.me.own.held
-            ≤ length self.old.seat.me.own.held + 1 }
-        ensures promoter { promoter.new ≡ promoter.old }
+            ≡ length self.old.seat.me.own.held }
         ensures queue { queue_of hints.new ≡ queue_of hints.old }
     {
-        publishing::publish(rt, hints, self, minor, promoter, v, node, versions)
+        publishing::commit(rt, hints, self, minor, v, node, versions)
+    }
+
+    fn has_room(&self, minor: &MinorHeap) -> bool
+        ensures room { result ≡ is_cleared self.now minor.now }
+    {
+        drafting::has_room(self, minor)
     }
 
     fn make_room<R: Wait>(

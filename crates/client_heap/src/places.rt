@@ -1,7 +1,10 @@
-//! Giving places of the held list back.
-ghost use Rattle.std.specs.Prelude.{ℕ, ◌≡◌, ◌<◌, ◌≤◌, ◌+◌, length, true};
+//! Giving places of the held list back, and comparing two.
+ghost use Rattle.std.specs.Prelude.{ℕ, ◌≡◌, ◌<◌, ◌≤◌, ◌+◌, ◌==◌, length, true};
 ghost use Rattle.client_heap.specs.Carries.{Carries};
-ghost use Rattle.heap_rule.specs.Asks.{known_of};
+ghost use Rattle.client_heap.specs.Shows.{node_term};
+ghost use Rattle.client_records.specs.declared.at.NodeAt.TheVariants as at;
+ghost use Rattle.client_trees.specs.Nodes.{IsTreeAt};
+ghost use Rattle.heap_rule.specs.Asks.{known_of, target};
 
 use document_versions::Documents;
 use minor_heap::MinorHeap;
@@ -21,6 +24,29 @@ pub(crate) fn cut_back(m: &mut Mutator<'_, Documents>, minor: &MinorHeap, places
     let _held = m.held_len();
     let _records = minor.len();
     m.cut(places);
+}
+
+/// Whether the nodes at two places stand in one cell, and so have one term.
+pub(crate) fn is_same(
+    m: &mut Mutator<'_, Documents>,
+    minor: &MinorHeap,
+    first: usize,
+    second: usize,
+) -> bool
+    requires inside { m.old.seat.me.presence.inside ≡ true }
+    requires first { IsTreeAt m.old minor.now (at.Shared first) }
+    requires second { IsTreeAt m.old minor.now (at.Shared second) }
+    ensures same { result ≡ (target m.old.seat.me first == target m.old.seat.me second) }
+    ensures term { result ≡ true → node_term m.old minor.now (at.Shared first)
+        ≡ node_term m.old minor.now (at.Shared second) }
+    ensures carries { Carries (length m.old.seat.me.own.held) m.old m.new minor.now minor.now }
+    ensures held { length m.new.seat.me.own.held ≡ length m.old.seat.me.own.held }
+    ensures pass { m.new.seat.me.pass ≡ m.old.seat.me.pass }
+    ensures claims { m.new.seat.me.own.claims ≡ m.old.seat.me.own.claims }
+{
+    let _held = m.held_len();
+    let _records = minor.len();
+    m.is_same(first, second)
 }
 
 /// Holds the cell of a place behind the anchor, and nothing else.

@@ -1,8 +1,10 @@
-//! Making the next version: the node is promoted, and then committed.
+//! Making the next version: the node is promoted, and then committed. A promotion stands where the
+//! commit comes too late, and may serve the next one.
 ghost use Rattle.std.specs.Prelude.{◌≡◌, ◌<◌, ◌≤◌, ◌+◌, Err, IfOk, OnErr};
 ghost use Rattle.std.specs.Prelude.{OnOk, length, true};
 ghost use Rattle.client_heap.specs.Carries.{Carries};
 ghost use Rattle.client_heap.specs.Shows.{stored};
+ghost use Rattle.client_records.specs.Records.{is_shared};
 ghost use Rattle.client_records.specs.declared.at.NodeAt.TheVariants as at;
 ghost use Rattle.client_trees.specs.Nodes.{IsTreeAt, tree_at};
 ghost use Rattle.doc_records.specs.Trees.{tree_of};
@@ -13,7 +15,7 @@ ghost use Rattle.version_rule.specs.Pass.{commit_numbers, committed};
 ghost use Rattle.version_store.specs.Held.{IsHeld, root_at};
 ghost use Rattle.version_store.specs.Lasts.{marks};
 
-use client_session::{CommitRefusal, HeldVersion};
+use client_session::{CommitRefusal, HeapFull, HeldVersion};
 use client_trees::NodeAt;
 use document_versions::Documents;
 use free_cells::Hints;
@@ -24,14 +26,14 @@ use std::sync::Wait;
 use version_store::CommitFault;
 
 /// A private node as a shared one, at the end of the held list.
-fn share<R: Wait>(
+fn promote<R: Wait>(
     rt: &R,
     hints: &mut Hints<'_>,
     m: &mut Mutator<'_, Documents>,
     minor: &MinorHeap,
     promoter: &mut Promoter,
     r: MinorRef,
-) -> Result<usize, CommitRefusal>
+) -> Result<usize, HeapFull>
     requires inside { m.old.seat.me.presence.inside ≡ true }
     requires node { IsTreeAt m.old minor.now (at.Minor r) }
     requires copies { minor.now.room ≤ promoter.old }
@@ -40,8 +42,7 @@ fn share<R: Wait>(
     ensures node { IfOk result (λ place. IsTreeAt m.new minor.now (at.Shared place)) }
     ensures tree { IfOk result (λ place. tree_at m.new minor.now (at.Shared place)
         ≡ tree_at m.old minor.now (at.Minor r)) }
-    ensures full { OnErr result (result ≡ Err CommitRefusal.Full) }
-    ensures shows { OnErr result (Had (IsFull m.old.seat.me.shape.cells) (marks m.old)
+    ensures full { OnErr result (Had (IsFull m.old.seat.me.shape.cells) (marks m.old)
         (marks m.new)) }
     ensures carries { Carries (length m.old.seat.me.own.held) m.old m.new minor.now minor.now }
     ensures held { length m.new.seat.me.own.held ≤ length m.old.seat.me.own.held + 1 }
@@ -54,11 +55,11 @@ fn share<R: Wait>(
     let _spare = minor.spare();
     match promoter.promote(rt, hints, m, minor, r) {
         Ok(place) => Ok(place),
-        Err(_) => Err(CommitRefusal::Full),
+        Err(_) => Err(HeapFull),
     }
 }
 
-/// Makes the next version, with the tree of a shared node.
+/// Makes the next version, with the tree of the node at a place.
 fn commit_shared<R: Wait>(
     rt: &R,
     hints: &mut Hints<'_>,
@@ -102,23 +103,56 @@ fn commit_shared<R: Wait>(
     }
 }
 
-/// Makes the next version, with the tree of a node.
-pub(crate) fn publish<R: Wait>(
+/// A node as a shared one: a private one is promoted, and a shared one is itself.
+pub(crate) fn share<R: Wait>(
     rt: &R,
     hints: &mut Hints<'_>,
     m: &mut Mutator<'_, Documents>,
     minor: &MinorHeap,
     promoter: &mut Promoter,
+    node: NodeAt,
+) -> Result<NodeAt, HeapFull>
+    requires inside { m.old.seat.me.presence.inside ≡ true }
+    requires room { length m.old.seat.me.own.held + length minor.now.records + 8192
+        ≤ m.old.seat.me.room }
+    requires copies { minor.now.room ≤ promoter.old }
+    requires node { IsTreeAt m.old minor.now node }
+    ensures node { IfOk result (λ made. IsTreeAt m.new minor.now made) }
+    ensures tree { IfOk result (λ made. tree_at m.new minor.now made
+        ≡ tree_at m.old minor.now node) }
+    ensures shared { IfOk result (λ made. is_shared made ≡ true) }
+    ensures full { OnErr result (Had (IsFull m.old.seat.me.shape.cells) (marks m.old)
+        (marks m.new)) }
+    ensures carries { Carries (length m.old.seat.me.own.held) m.old m.new minor.now minor.now }
+    ensures held { length m.new.seat.me.own.held ≤ length m.old.seat.me.own.held + 1 }
+    ensures pass { m.new.seat.me.pass ≡ m.old.seat.me.pass }
+    ensures promoter { promoter.new ≡ promoter.old }
+    ensures queue { queue_of hints.new ≡ queue_of hints.old }
+{
+    match node {
+        NodeAt::Shared(_) => Ok(node),
+        NodeAt::Minor(r) => match promote(rt, hints, m, minor, promoter, r) {
+            Ok(place) => Ok(NodeAt::Shared(place)),
+            Err(full) => Err(full),
+        },
+    }
+}
+
+/// Makes the next version, with the tree of a shared node.
+pub(crate) fn commit<R: Wait>(
+    rt: &R,
+    hints: &mut Hints<'_>,
+    m: &mut Mutator<'_, Documents>,
+    minor: &MinorHeap,
     v: HeldVersion,
     node: NodeAt,
     versions: u64,
 ) -> Result<u64, CommitRefusal>
     requires inside { m.old.seat.me.presence.inside ≡ true }
-    requires room { length m.old.seat.me.own.held + length minor.now.records + 8192
-        ≤ m.old.seat.me.room }
-    requires copies { minor.now.room ≤ promoter.old }
+    requires room { length m.old.seat.me.own.held + 128 ≤ m.old.seat.me.room }
     requires version { IsHeld m.old (stored v) }
     requires node { IsTreeAt m.old minor.now node }
+    requires shared { is_shared node ≡ true }
     requires below { v.number < versions }
     requires few { length (commit_numbers m.old.seat.me.pass) < 100000 }
     ensures number { IfOk result (λ number. number ≡ v.number + 1) }
@@ -131,8 +165,7 @@ pub(crate) fn publish<R: Wait>(
     ensures full { result ≡ Err CommitRefusal.Full → Had (IsFull m.old.seat.me.shape.cells)
         (marks m.old) (marks m.new) }
     ensures carries { Carries (length m.old.seat.me.own.held) m.old m.new minor.now minor.now }
-    ensures held { length m.new.seat.me.own.held ≤ length m.old.seat.me.own.held + 1 }
-    ensures promoter { promoter.new ≡ promoter.old }
+    ensures held { length m.new.seat.me.own.held ≡ length m.old.seat.me.own.held }
     ensures queue { queue_of hints.new ≡ queue_of hints.old }
 {
     match node {
@@ -140,12 +173,6 @@ pub(crate) fn publish<R: Wait>(
             let made = commit_shared(rt, hints, m, minor, v, place, versions);
             made
         }
-        NodeAt::Minor(r) => match share(rt, hints, m, minor, promoter, r) {
-            Ok(place) => {
-                let promoted = commit_shared(rt, hints, m, minor, v, place, versions);
-                promoted
-            }
-            Err(refusal) => Err(refusal),
-        },
+        NodeAt::Minor(_) => unreachable!(),
     }
 }

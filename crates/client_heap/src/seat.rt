@@ -1,14 +1,15 @@
 //! A mutator of documents, with hints: what a client's heap needs of both.
 ghost use Rattle.std.specs.Prelude.{◌≡◌, ◌<◌, ◌≤◌, ◌+◌, IfErr, IfOk, OnErr};
 ghost use Rattle.std.specs.Prelude.{OnOk, Err, [], ◌∷◌, IfSome, IsNone, None, Ok, length, max};
-ghost use Rattle.std.specs.Prelude.{true};
+ghost use Rattle.std.specs.Prelude.{◌==◌, true};
 ghost use Rattle.std.specs.Option.{ForSome, option_map};
 ghost use Rattle.std.specs.Result.{ForOk};
 ghost use Rattle.cell_words.specs.declared.fields.Field.TheVariants as field;
 ghost use Rattle.client_heap.specs.Carries.{Carries, Follows};
 ghost use Rattle.client_heap.specs.Shows.{node_term, stored};
-ghost use Rattle.client_heap.specs.Sound.{HasRoom, IsCleared, IsSound};
+ghost use Rattle.client_heap.specs.Sound.{HasRoom, IsCleared, IsSound, is_cleared};
 ghost use Rattle.client_records.specs.Records.{is_shared};
+ghost use Rattle.client_records.specs.declared.at.NodeAt.TheVariants as at;
 ghost use Rattle.client_trees.specs.Leaves.{Leaves, LeavesAll};
 ghost use Rattle.client_trees.specs.Nodes.{IsTreeAt, tree_at};
 ghost use Rattle.doc_edits.specs.Edits.{answered};
@@ -250,23 +251,67 @@ pub trait StoreSeat<Q> {
             ≤ length (bound self.old).seat.me.own.held }
         ensures follows { Follows (bound self.old) (bound self.new) minor.now minor.now };
 
-    /// Makes the next version, with the tree of a node.
-    fn publish<R: Wait>(
+    /// Whether the nodes at two places stand in one cell, and so have one term.
+    fn is_same(&mut self, minor: &MinorHeap, first: usize, second: usize) -> bool
+        requires inside { (bound self.old).seat.me.presence.inside ≡ true }
+        requires first { IsTreeAt (bound self.old) minor.now (at.Shared first) }
+        requires second { IsTreeAt (bound self.old) minor.now (at.Shared second) }
+        ensures same { result ≡ (target (bound self.old).seat.me first
+            == target (bound self.old).seat.me second) }
+        ensures term { result ≡ true → node_term (bound self.old) minor.now (at.Shared first)
+            ≡ node_term (bound self.old) minor.now (at.Shared second) }
+        ensures carries { Carries (length (bound self.old).seat.me.own.held)
+            (bound self.old) (bound self.new) minor.now minor.now }
+        ensures held { length (bound self.new).seat.me.own.held
+            ≡ length (bound self.old).seat.me.own.held }
+        ensures pass { (bound self.new).seat.me.pass ≡ (bound self.old).seat.me.pass }
+        ensures claims { (bound self.new).seat.me.own.claims
+            ≡ (bound self.old).seat.me.own.claims };
+
+    /// A node as one of the shared heap: a private one is promoted.
+    fn share<R: Wait>(
         &mut self,
         rt: &R,
         hints: &mut Q,
         minor: &MinorHeap,
         promoter: &mut Promoter,
+        node: NodeAt,
+    ) -> Result<NodeAt, HeapFull>
+        requires inside { (bound self.old).seat.me.presence.inside ≡ true }
+        requires room { length (bound self.old).seat.me.own.held + length minor.now.records + 8192
+            ≤ (bound self.old).seat.me.room }
+        requires copies { minor.now.room ≤ promoter.old }
+        requires node { IsTreeAt (bound self.old) minor.now node }
+        ensures node { IfOk result (λ made. IsTreeAt (bound self.new) minor.now made) }
+        ensures tree { IfOk result (λ made. tree_at (bound self.new) minor.now made
+            ≡ tree_at (bound self.old) minor.now node) }
+        ensures shared { IfOk result (λ made. is_shared made ≡ true) }
+        ensures full { OnErr result (Had (IsFull (bound self.old).seat.me.shape.cells)
+            (marks (bound self.old)) (marks (bound self.new))) }
+        ensures carries { Carries (length (bound self.old).seat.me.own.held)
+            (bound self.old) (bound self.new) minor.now minor.now }
+        ensures held { length (bound self.new).seat.me.own.held
+            ≤ length (bound self.old).seat.me.own.held + 1 }
+        ensures pass { (bound self.new).seat.me.pass ≡ (bound self.old).seat.me.pass }
+        ensures promoter { promoter.new ≡ promoter.old }
+        ensures queue { queue hints.new ≡ queue hints.old };
+
+    /// Makes the next version, with the tree of a shared node.
+    fn commit<R: Wait>(
+        &mut self,
+        rt: &R,
+        hints: &mut Q,
+        minor: &MinorHeap,
         v: HeldVersion,
         node: NodeAt,
         versions: u64,
     ) -> Result<u64, CommitRefusal>
         requires inside { (bound self.old).seat.me.presence.inside ≡ true }
-        requires room { length (bound self.old).seat.me.own.held + length minor.now.records + 8192
+        requires room { length (bound self.old).seat.me.own.held + 128
             ≤ (bound self.old).seat.me.room }
-        requires copies { minor.now.room ≤ promoter.old }
         requires version { IsHeld (bound self.old) (stored v) }
         requires node { IsTreeAt (bound self.old) minor.now node }
+        requires shared { is_shared node ≡ true }
         requires below { v.number < versions }
         requires few { length (commit_numbers (bound self.old).seat.me.pass) < 100000 }
         ensures number { IfOk result (λ number. number ≡ v.number + 1) }
@@ -285,9 +330,12 @@ pub trait StoreSeat<Q> {
         ensures carries { Carries (length (bound self.old).seat.me.own.held)
             (bound self.old) (bound self.new) minor.now minor.now }
         ensures held { length (bound self.new).seat.me.own.held
-            ≤ length (bound self.old).seat.me.own.held + 1 }
-        ensures promoter { promoter.new ≡ promoter.old }
+            ≡ length (bound self.old).seat.me.own.held }
         ensures queue { queue hints.new ≡ queue hints.old };
+
+    /// Whether there is room for an edit, so that none has to be made.
+    fn has_room(&self, minor: &MinorHeap) -> bool
+        ensures room { result ≡ is_cleared (bound self.now) minor.now };
 
     /// Makes room for an edit where there is too little: the private records age once, or else are
     /// collected.

@@ -2,6 +2,7 @@ pub mod Opening
 pub mod Readings
 pub mod Rooms
 pub mod Editing
+pub mod Regrafts
 pub mod Commits
 pub mod Drafts
 pub mod Turning

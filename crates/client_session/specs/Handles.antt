@@ -1,7 +1,8 @@
 -- What a client holds while it works on a command: nodes and versions; and what the calls that make
 -- nodes leave.
 -- Source: this project's.
-use Rattle.std.specs.Prelude.{ℕ, ◌≡◌, ◌≤◌, ◌+◌, Result, Ok, Err}
+use Rattle.std.specs.Prelude.{ℕ, ◌≡◌, ◌≤◌, ◌+◌, ◌==◌, Bool, false, Option, Some, None}
+use Rattle.std.specs.Prelude.{Result, Ok, Err}
 use Rattle.doc_tree.specs.declared.edit.EditFault.{EditFault}
 use Rattle.client_session.specs.declared.held.HeldVersion.{HeldVersion}
 use Rattle.client_turns.specs.State.{ClientState, Lasts}
@@ -37,3 +38,9 @@ abbrev pub answered : {A : Type 0} → (A → DocTree) → Result A EditFault
     → Result DocTree EditFault
 answered tree (Ok a) = Ok (tree a)
 answered tree (Err e) = Err e
+
+-- both are there, and are one cell
+abbrev pub is_one : Option ℕ → Option ℕ → Bool
+is_one None other = false
+is_one (Some cell) None = false
+is_one (Some cell) (Some other) = cell == other

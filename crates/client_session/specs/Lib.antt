@@ -1,3 +1,4 @@
 pub mod Batches
+pub mod Carries
 pub mod Handles
 pub mod Turns

@@ -1,9 +1,10 @@
 //! What a session needs of its client's heap.
 ghost use Rattle.std.specs.Prelude.{◌≡◌, ◌+◌, ◌≤◌, ◌<◌, ℕ, Bool, true, IfOk};
 ghost use Rattle.std.specs.Prelude.{IfSome, OnErr, OnOk, [], ◌∷◌, Err, IsNone, None, Ok, length};
+ghost use Rattle.std.specs.Prelude.{◌&&◌, Option, nat_le};
 ghost use Rattle.std.specs.Option.{option_map};
 ghost use Rattle.cell_words.specs.declared.fields.Field.TheVariants as field;
-ghost use Rattle.client_session.specs.Handles.{Edits, Handles, Still};
+ghost use Rattle.client_session.specs.Handles.{Edits, Handles, Still, is_one};
 ghost use Rattle.client_turns.specs.Demands.{version_asks};
 ghost use Rattle.client_turns.specs.State.{ClientState, IsReady, IsSettled, Lasts, Rests};
 ghost use Rattle.client_turns.specs.State.{StaysSmall};
@@ -44,6 +45,9 @@ pub trait ClientHeap {
 
     /// The node is one of the shared heap.
     ghost shared: { Self.At → Bool };
+
+    /// The cell of the shared heap in which a node stands, if it is one of that heap.
+    ghost cell: { Self → Self.At → Option ℕ };
 
     /// The latest version.
     fn current(&mut self) -> HeldVersion
@@ -187,9 +191,39 @@ pub trait ClientHeap {
         ensures lasts { Lasts (state self.old) (state self.new) }
         ensures lent { lent self.new ≡ lent self.old };
 
-    /// Makes the next version, with the node's tree, over a version that is held: the node is
-    /// promoted, and then committed. It is not tried again where another client was faster.
-    fn publish<R: Wait>(
+    /// Whether two nodes stand in one cell of the shared heap, and so have one tree.
+    fn is_same(&mut self, first: Self::At, second: Self::At) -> bool
+        requires first { (shown self.old).is_node first }
+        requires second { (shown self.old).is_node second }
+        ensures same { result ≡ is_one (cell self.old first) (cell self.old second) }
+        ensures tree { result ≡ true
+            → (shown self.old).tree first ≡ (shown self.old).tree second }
+        ensures pass { (state self.new).pass ≡ (state self.old).pass }
+        ensures rests { Rests 0 (state self.old) (state self.new) }
+        ensures still { Still (shown self.old) (shown self.new) }
+        ensures lent { lent self.new ≡ lent self.old };
+
+    /// A node as one of the shared heap: a private one is promoted.
+    fn share<R: Wait>(&mut self, rt: &R, at: Self::At) -> Result<Self::At, HeapFull>
+        requires room { 8192 ≤ (state self.old).room }
+        requires node { (shown self.old).is_node at }
+        ensures node { IfOk result (λ made. (shown self.new).is_node made) }
+        ensures tree { IfOk result (λ made. (shown self.new).tree made
+            ≡ (shown self.old).tree at) }
+        ensures shared { IfOk result (λ made. shared made ≡ true) }
+        ensures full { OnErr result (Had (IsFull (state self.old).cells)
+            (state self.old).marks (state self.new).marks) }
+        ensures pass { (state self.new).pass ≡ (state self.old).pass }
+        ensures draft { (state self.new).draft ≡ (state self.old).draft }
+        ensures base { (state self.new).base ≡ (state self.old).base }
+        ensures room { (state self.old).room ≤ (state self.new).room + 1 }
+        ensures lasts { Lasts (state self.old) (state self.new) }
+        ensures still { Still (shown self.old) (shown self.new) }
+        ensures lent { lent self.new ≡ lent self.old };
+
+    /// Makes the next version, with the tree of a shared node, over a version that is held. It is
+    /// not tried again where another client was faster.
+    fn commit<R: Wait>(
         &mut self,
         rt: &R,
         v: HeldVersion,
@@ -199,6 +233,7 @@ pub trait ClientHeap {
         requires room { 8192 ≤ (state self.old).room }
         requires version { (shown self.old).is_version v }
         requires node { (shown self.old).is_node at }
+        requires shared { shared at ≡ true }
         requires below { v.number < versions }
         requires few { length (commit_numbers (state self.old).pass) < 100000 }
         ensures number { IfOk result (λ number. number ≡ v.number + 1) }
@@ -213,8 +248,9 @@ pub trait ClientHeap {
             (state self.old).marks (state self.new).marks }
         ensures draft { (state self.new).draft ≡ (state self.old).draft }
         ensures base { (state self.new).base ≡ (state self.old).base }
-        ensures room { (state self.old).room ≤ (state self.new).room + 1 }
+        ensures room { (state self.old).room ≤ (state self.new).room }
         ensures lasts { Lasts (state self.old) (state self.new) }
+        ensures still { Still (shown self.old) (shown self.new) }
         ensures lent { lent self.new ≡ lent self.old };
 
     /// Cuts off what is older than is kept.
@@ -225,6 +261,11 @@ pub trait ClientHeap {
         ensures due { v.number + 1 ≤ (state self.new).pass.cut + keep }
         ensures rests { Rests 0 (state self.old) (state self.new) }
         ensures lent { lent self.new ≡ lent self.old };
+
+    /// Whether there is room for an edit without a minor collection.
+    fn has_room(&self) -> bool
+        ensures room { result ≡ (nat_le 20480 (state self.now).room
+            && nat_le 2285 (state self.now).spare) };
 
     /// Makes room for an edit, by a minor collection where there is too little.
     fn make_room<R: Wait>(&mut self, rt: &R) -> Result<(), HeapFull>

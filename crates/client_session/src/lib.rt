@@ -3,16 +3,18 @@
 //!
 //! What a session needs of the heap is the trait `ClientHeap`, in the words of trees and versions.
 //! A command is one turn: it reads the latest version, and what it makes becomes the next one, or
-//! else the draft. Where another client was faster the turn begins again. The layer above may rely
+//! else the draft. Where another client was faster, what was made is carried over
+//! to the newer version, or the turn begins again. The layer above may rely
 //! on this: every answer is that of the store's definitions, over each list of versions that the
 //! pass allows; the log stays in step with the pass and with the trail; and after want of memory
 //! nothing was made.
 //!
-//! Reading order: specs/Handles, Turns, Batches; then `held`, `heap`, `journal`, `given`,
-//! `reading`, `drafting`, `committing`, `batching`, `turns`.
+//! Reading order: specs/Handles, Turns, Carries, Batches; then `held`, `heap`, `journal`, `given`,
+//! `reading`, `drafting`, `carrying`, `committing`, `batching`, `turns`.
 #![tactic(auto)]
 
 mod batching;
+mod carrying;
 mod committing;
 mod drafting;
 mod given;

@@ -1,5 +1,6 @@
 //! The commands that read: nothing is made, so the answer is known before memory can be wanting.
 ghost use Rattle.std.specs.Prelude.{◌≡◌, ◌≤◌, IfOk, true};
+ghost use Rattle.client_session.specs.Handles.{Still};
 ghost use Rattle.client_session.specs.Turns.{Ends, EndsPlain, IsPlain, MayTurn, Opens};
 ghost use Rattle.client_turns.specs.Demands.{reply_asks};
 ghost use Rattle.client_turns.specs.State.{OnlyReads, Rests};
@@ -20,6 +21,7 @@ pub(crate) fn open<H: ClientHeap>(heap: &mut H) -> Opened<H::At>
     requires room { 9100 ≤ (H.state heap.old).room }
     ensures opens { Opens (H.state heap.old) (H.state heap.new) (H.shown heap.new) result }
     ensures shared { H.shared result.root ≡ true }
+    ensures still { Still (H.shown heap.old) (H.shown heap.new) }
     ensures lent { H.lent heap.new ≡ H.lent heap.old }
 {
     let version = heap.current();

@@ -43,9 +43,9 @@ impl Journal {
         ensures lent { H.lent heap.new ≡ H.lent heap.old }
     {
         match command {
-            Command::Put { path, text } => self.put(rt, heap, path, text),
-            Command::Del { path } => self.del(rt, heap, path),
-            Command::Copy { from, to } => self.copy(rt, heap, from, to),
+            Command::Put { path, text } => self.put(alloc, rt, heap, path, text),
+            Command::Del { path } => self.del(alloc, rt, heap, path),
+            Command::Copy { from, to } => self.copy(alloc, rt, heap, from, to),
             Command::Get { path } => self.get(alloc, heap, path),
             Command::List { path } => self.list(alloc, heap, path),
             Command::Size { path } => self.size(heap, path),
@@ -53,7 +53,7 @@ impl Journal {
             Command::DraftPut { path, text } => self.draft_put(rt, heap, path, text),
             Command::DraftGet { path } => self.draft_get(alloc, heap, path),
             Command::Take { path } => self.take(rt, heap, path),
-            Command::Publish { path } => self.publish(rt, heap, path),
+            Command::Publish { path } => self.publish(alloc, rt, heap, path),
             Command::Batch { edits } => self.batch(rt, heap, edits),
         }
     }

@@ -1,3 +1,4 @@
+use Rattle.client_session.proofs.Editing.{still_then}
 use Rattle.client_session.proofs.Opening.{opens_of}
 use Rattle.client_session.proofs.reading.open.Goals as goal
 
@@ -12,3 +13,7 @@ returns-clause-opens g c =
     opens_of s t u (h.shown c.current-version.new.self) (h.shown c.tree-root.new.self)
     c.current-version.result c.tree-root.result one.shows.0 one.shows.1 one.pass one.seen
     one.version one.rests two.pass two.node two.tree two.rests two.still
+
+pub returns-clause-still : goal.returns-clause-still
+returns-clause-still g c =
+    still_then c.current-version.ensures.still c.tree-root.ensures.still

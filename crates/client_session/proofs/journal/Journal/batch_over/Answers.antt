@@ -1,4 +1,4 @@
-use Rattle.std.proofs.Common.{◌∙◌, ap, refl, sym}
+use Rattle.std.proofs.Common.{◌∙◌, ap, arith, refl, sym}
 use Rattle.client_session.proofs.Batches.{batch_full, batch_made, batch_outrun, batch_refused}
 use Rattle.client_session.proofs.Commits.{never_wants}
 use Rattle.client_session.proofs.Rooms.{may_on}
@@ -16,6 +16,9 @@ commit-ended-requires g c =
       room = works.room;
       version = works.version;
       node = works.node;
+      seen = let is = works.number in
+          let later = works.none.lasts.passes.seen in
+          omega (arith, is, later, c.requires.seen);
     }
 
 pub returns-in-Made-clause-ends : goal.returns-in-Made-clause-ends

@@ -1,5 +1,6 @@
 use Rattle.std.proofs.Common.{◌∙◌, ap, arith, refl}
-use Rattle.client_session.proofs.Editing.{edited_begun, edits_none}
+use Rattle.client_session.proofs.Editing.{edits_none}
+use Rattle.client_session.proofs.Regrafts.{put_carried, edit_works}
 use Rattle.client_session.proofs.Rooms.{full_ends, may_on}
 use Rattle.client_session.proofs.journal.Journal.put.Goals as goal
 use Rattle.client_turns.proofs.Spared.{set_text_spared}
@@ -8,28 +9,36 @@ use Rattle.client_turns.specs.Progress.{runs_out}
 use Rattle.doc_model.specs.declared.command.Command.TheVariants as command
 use Rattle.doc_tree.specs.Edits.{set_text}
 
-pub finish-ended-requires : goal.finish-ended-requires
-finish-ended-requires g c =
+pub finish_along-ended-requires : goal.finish_along-ended-requires
+finish_along-ended-requires g c =
     let begins = c.in-Ok.ensures.begins in
     let edits = c.set_text-edited.ensures in
     record {
       may = may_on c.requires.may (none_then begins.read.none (edits_none edits.edits));
       room = let x = begins.room in let y = edits.edits.room in omega (arith, x, y);
       version = edits.still.versions c.in-Ok.opened.version begins.holds.version;
+      root = edits.still.nodes c.in-Ok.opened.root begins.holds.node;
       node = edits.node;
+      seen = let x = begins.read.seen in let y = edits.edits.lasts.passes.seen in
+          omega (arith, x, y);
     }
 
 pub returns-in-Ok-clause-ends : goal.returns-in-Ok-clause-ends
 returns-in-Ok-clause-ends g c =
     let h = g.H.ClientHeap in
     let j = c.args.self.now in
-    let path = c.args.path.now in
-    let text = c.args.text.now in
-    let put = command.Put path text in
-    c.finish-ended.ensures.ends put (h.state c.args.heap.now)
-    (edited_begun j put c.in-Ok.opened 0 (set_text path text) _ c.requires.may
-    c.in-Ok.ensures.begins c.set_text-edited.ensures.edits c.set_text-edited.ensures.tree
-    (set_text_spared path text) (λ trees. refl)) refl
+    let s = h.state c.args.heap.now in
+    let begins = c.in-Ok.ensures.begins in
+    let edits = c.set_text-edited.ensures in
+    c.finish_along-ended.ensures.ends (command.Put c.args.path.now c.args.text.now) (set_text c.args.path.now c.args.text.now) s
+    (edit_works j (command.Put c.args.path.now c.args.text.now) c.in-Ok.opened 0 (set_text c.args.path.now c.args.text.now) _ c.requires.may
+    (record {
+      carried = put_carried c.args.path c.args.text.now;
+      spared = set_text_spared c.args.path.now c.args.text.now;
+      answers = λ v trees. refl;
+      needs = λ v. refl;
+    })
+    begins edits.edits edits.still edits.tree)
 
 pub returns-in-Err-clause-ends : goal.returns-in-Err-clause-ends
 returns-in-Err-clause-ends g c =
@@ -38,6 +47,5 @@ returns-in-Err-clause-ends g c =
 
 pub returns-in-Ok-clause-spared : goal.returns-in-Ok-clause-spared
 returns-in-Ok-clause-spared g c =
-    c.finish-ended.ensures.spared
-    (ap runs_out c.set_text-edited.ensures.tree
-    ∙ set_text_spared c.args.path.now c.args.text.now _)
+    c.finish_along-ended.ensures.spared
+    (ap runs_out c.set_text-edited.ensures.tree ∙ set_text_spared c.args.path.now c.args.text.now _)
