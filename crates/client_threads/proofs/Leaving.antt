@@ -60,7 +60,7 @@ entered_may heap queue l script place client m ready came =
       keep_is = ap (λ (p : Pass). p.keep) came.pass ∙ ready.seat.keep;
       none_made = ap (λ (p : Pass). p.commits) came.pass ∙ ready.seat.commits;
       room = let room = came.room ∙ ready.seat.room in omega (arith, room);
-    }
+    } came.room
 
 -- The end.
 

@@ -3,6 +3,7 @@ pub mod Going
 pub mod Leaving
 pub mod OneMore
 pub mod Places
+pub mod Rooms
 pub mod Scripts
 pub mod Serving
 pub mod Splitting

@@ -4,8 +4,9 @@ use Rattle.std.specs.Prelude.{ℕ, zero, suc, ◌≡◌, ◌≤◌, ◌+◌, ◌
 use Rattle.std.specs.Prelude.{◌∷◌, length, map, take, Vec}
 use Rattle.std.specs.declared.alloc.Global.{Global}
 use Rattle.beside_collector.specs.Places.{AllFrom}
-use Rattle.client_run.specs.Own.{IsNewSession}
+use Rattle.client_run.specs.Own.{IsBegun, MayAnswer}
 use Rattle.client_run.specs.declared.session.Limits.{Limits}
+use Rattle.client_run.specs.declared.session.Session.{Session}
 use Rattle.client_threads.specs.declared.clients.Client.{Client}
 use Rattle.doc_model.specs.Answers.{Limits as StoreLimits}
 use Rattle.doc_model.specs.declared.command.Command.{Command}
@@ -14,6 +15,7 @@ use Rattle.free_cells.specs.Passes.{IsHintPass}
 use Rattle.free_cells.specs.declared.queue.FreeQueue.{FreeQueue}
 use Rattle.heap_rule.specs.Rule.{share_of}
 use Rattle.heap_table.specs.Seats.{HeapId, IsSeatOf, SeatView}
+use Rattle.mutator_seat.specs.Bound.{Bound}
 use Rattle.run_history.specs.Left.{IsLeft}
 use Rattle.version_rule.specs.Pass.{Pass}
 
@@ -36,6 +38,18 @@ script_of [] place = []
 script_of (script ∷ scripts) zero = script.items
 script_of (script ∷ scripts) (suc place) = script_of scripts place
 
+-- The session is as it was made for this client, and answered nothing yet: its private heap is of
+-- as many records as it is to have, and it may answer by every mutator of so much room that has
+-- just begun.
+pub record IsSessionFor (l : Limits) (client room : ℕ) (s : Session) : Type 0 where
+  pub entries : s.journal.log.entries ≡ []
+  pub client_is : s.journal.log.client ≡ client
+  pub keep : s.journal.limits.keep ≡ l.keep
+  pub versions : s.journal.limits.versions ≡ l.versions
+  pub minor : s.nursery.heap.room ≡ l.minor
+  pub may : (m : Bound Pass) → IsBegun l.keep l.minor m → m.seat.me.room ≡ room
+      → MayAnswer s m
+
 -- The seat is the one of the mutator with this number, as it was split off.
 pub record IsNewSeat (heap : HeapId) (l : Limits) (place : ℕ) (seat : SeatView Pass)
     : Type 0 where
@@ -52,7 +66,7 @@ pub record IsReady (heap : HeapId) (queue : FreeQueue) (l : Limits) (script : Li
     (place : ℕ) (client : Client) : Type 0 where
   pub place_is : client.place ≡ place
   pub seat : IsNewSeat heap l place client.seat
-  pub session : IsNewSession l (place + 1) client.session
+  pub session : IsSessionFor l (place + 1) client.seat.me.room client.session
   pub pass : IsHintPass queue client.pass
   pub not_failed : client.failed ≡ false
   pub short : length script ≤ 100_000

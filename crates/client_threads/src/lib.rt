@@ -8,7 +8,7 @@
 //! the collector's side is the crate beside_collector.
 //!
 //! Reading order: `clients`, specs/Clients; specs/Opened, `opened`, `opening`; specs/Going,
-//! `answering`, `running`; specs/Taken, `taking_back`; specs/Ends.
+//! `answering`, `running`; specs/Taken, `taking_back`; specs/Ends; `theorems`.
 #![tactic(auto)]
 
 mod answering;
@@ -17,6 +17,7 @@ mod opened;
 mod opening;
 mod running;
 mod taking_back;
+pub mod theorems;
 
 pub use answering::await_gate;
 pub use clients::Client;

@@ -1,0 +1,23 @@
+//! A law on the sessions that clients begin with: the contract of a function that does nothing.
+ghost use Rattle.std.specs.Prelude.{◌+◌, List, ℕ};
+ghost use Rattle.client_run.specs.Own.{IsNewSession};
+ghost use Rattle.client_run.specs.declared.session.Limits.{Limits};
+ghost use Rattle.client_run.specs.declared.session.Session.{Session};
+ghost use Rattle.client_threads.specs.Clients.{IsReady, IsSessionFor, places_for};
+ghost use Rattle.client_threads.specs.declared.clients.Client.{Client};
+ghost use Rattle.doc_model.specs.declared.command.Command.{Command};
+ghost use Rattle.free_cells.specs.declared.queue.FreeQueue.{FreeQueue};
+ghost use Rattle.heap_table.specs.Seats.{HeapId};
+
+/// What a session needs of its mutator's room is a bound: a session that may answer by each mutator
+/// of the room that its private heap needs may answer by each that has more. So a session for that
+/// room is just a new session of client_run, and a ready client has one.
+pub fn a_session_answers_with_more_room()
+    ensures new { (l : Limits) (client : ℕ) (s : Session)
+        → IsSessionFor l client (places_for l.minor) s → IsNewSession l client s }
+    ensures each { (l : Limits) (client room : ℕ) (s : Session) → IsNewSession l client s
+        → IsSessionFor l client room s }
+    ensures ready { (heap : HeapId) (queue : FreeQueue) (l : Limits) (script : List Command)
+        (place : ℕ) (client : Client) → IsReady heap queue l script place client
+        → IsNewSession l (place + 1) client.session }
+{}
