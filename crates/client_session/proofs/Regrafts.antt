@@ -1,7 +1,7 @@
 -- What a lost turn made, carried over to a newer version.
-use Rattle.std.proofs.Common.{◌≡◌, ◌≢◌, ℕ, ◌+◌, ◌≤◌, List, [], ◌∷◌, length, take, Option, Some, None}
-use Rattle.std.proofs.Common.{Result, Ok, Err, refl, sym, ◌∙◌, ap, subst, arith}
-use Rattle.std.proofs.Common.{Bool, true, nat_le, ◌&&◌}
+use Rattle.std.proofs.Common.{◌≡◌, ◌≢◌, ℕ, ◌≤◌, ◌&&◌, Bool, true, nat_le, List, [], ◌∷◌, length}
+use Rattle.std.proofs.Common.{take, Option, Some, None, Result, Ok, refl, sym, ◌∙◌, ap, subst}
+use Rattle.std.proofs.Common.{arith}
 use Rattle.std.proofs.lemmas.Bool.{and_parts, leb-true}
 use Rattle.std.specs.Borrow.{Bor}
 use Rattle.client_session.specs.Carries.{CarriesOn, Grafts, IsCarried, IsEdit, IsLost, Makes}
@@ -56,7 +56,8 @@ stopped_late j c v b tree begun one two ready needs full =
 
 pub tries_late : (j : Journal) (v : ℕ) {At : Type 0} {s t : ClientState} (u : ClientState)
     (l : Handles At) {h k : Handles At} {at shared : At} (tried : Tried At) → MakesNone s t
-    → Still h k → k.tree shared ≡ h.tree at → Tries j v t u k l shared tried → Tries j v s u h l at tried
+    → Still h k → k.tree shared ≡ h.tree at → Tries j v t u k l shared tried
+    → Tries j v s u h l at tried
 tries_late j v {s = s} u l {h = h} (tried.Answered g) none still same tries = λ c b begun needs.
     tries c b
     (begun_on (bounds j.limits) j.log.client (account_of j b) c
@@ -71,7 +72,8 @@ tries_late j v u l (tried.Lost made) none still same lost = record {
   same = lost.same ∙ same;
 }
 
--- Each edit is carried over. At the end of a path without names it is made of one and the same tree.
+-- Each edit is carried over. At the end of a path without names it is made of one and the same
+-- tree.
 
 abbrev pub along_path : Bor (List (List ℕ)) → Along
 along_path path = record { path = path; source = None }
@@ -139,8 +141,8 @@ copied_carried path source r s e d t made agree below child put =
 
 -- One step of the way from version to version.
 
-module _ {At : Type 0} {s t u : ClientState} {h k l : Handles At} {along : Along} {e next : Edited At}
-    {made : At} (stands : Stands s h e)
+module _ {At : Type 0} {s t u : ClientState} {h k l : Handles At} {along : Along}
+    {e next : Edited At} {made : At} (stands : Stands s h e)
     (lost : IsLost e.opened.version.number s t h k e.node made) (none : MakesNone t u)
     (carries : CarriesOn along t u k l e.opened.root made next) where
   pub stands_on : Stands u l next

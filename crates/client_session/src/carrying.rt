@@ -1,8 +1,9 @@
 //! What a lost turn made, carried over to a newer version.
 //!
-//! An edit changes one child of the root, that of its path's first name. Where the newer version has
-//! the very child there that the edit went on from, what was made of it takes its place in the newer
-//! root. So what a lost turn promoted serves the next try, and the way down is not gone again.
+//! An edit changes one child of the root, that of its path's first name. Where the newer version
+//! has the very child there that the edit went on from, what was made of it takes its place in the
+//! newer root. So what a lost turn promoted serves the next try, and the way down is not gone
+//! again.
 ghost use Rattle.std.specs.Prelude.{◌≡◌, ◌≤◌, IfSome, true};
 ghost use Rattle.client_session.specs.Carries.{CarriesOn, Grafts, SourceAgrees};
 ghost use Rattle.client_session.specs.Handles.{Edits, Still};
@@ -103,7 +104,8 @@ fn regraft<H: ClientHeap>(
 }
 
 /// What an edit made of one version's tree, made of the latest one's; none where the two differ in
-/// what the edit looked at, where memory or room is wanting, or where the limits of a tree forbid it.
+/// what the edit looked at, where memory or room is wanting, or where the limits of a tree forbid
+/// it.
 pub(crate) fn carried<H: ClientHeap>(
     alloc: Global,
     heap: &mut H,

@@ -1,5 +1,6 @@
 //! The commands that make a version: an edit of the latest one, and the commit.
-ghost use Rattle.std.specs.Prelude.{◌≡◌, ◌≤◌, ◌<◌, IfErr, IfOk, IsOk, Ok, Result, Some, false, true};
+ghost use Rattle.std.specs.Prelude.{◌≡◌, ◌≤◌, ◌<◌, IfErr, IfOk, IsOk, Ok, Result, Some, false};
+ghost use Rattle.std.specs.Prelude.{true};
 ghost use Rattle.client_session.specs.Carries.{Deletes, Makes, Stands, Tries, Works};
 ghost use Rattle.client_session.specs.Handles.{Edits, Still};
 ghost use Rattle.client_session.specs.Turns.{Begins, Ends, FindsFull, MayTurn, account_of, bounds};

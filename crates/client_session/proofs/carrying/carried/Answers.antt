@@ -1,4 +1,4 @@
-use Rattle.std.proofs.Common.{◌∙◌, arith}
+use Rattle.std.proofs.Common.{arith}
 use Rattle.client_session.proofs.Editing.{edits_none, still_then}
 use Rattle.client_session.proofs.Regrafts.{grafts_late, opens_later, roomy, source_late}
 use Rattle.client_session.proofs.carrying.carried.Goals as goal

@@ -1,4 +1,3 @@
-use Rattle.std.proofs.Common.{arith}
 use Rattle.client_session.proofs.Commits.{outrun_ends}
 use Rattle.client_session.proofs.journal.Journal.commit.Goals as goal
 

@@ -1,4 +1,4 @@
-use Rattle.std.proofs.Common.{◌∙◌, arith, refl}
+use Rattle.std.proofs.Common.{◌∙◌, refl}
 use Rattle.client_session.proofs.Regrafts.{makes_on, makes_outrun, stands_on}
 use Rattle.client_session.proofs.Rooms.{may_on}
 use Rattle.client_session.proofs.journal.Journal.commit_along.Goals as goal
@@ -22,14 +22,16 @@ loop-preserved g c =
       may = may_on was.may (none_then lost.none none);
       stands = stands_on was.stands lost none carries;
       makes = λ command f b makes.
-          makes_on was.stands lost none carries c.args.self.now command f b (was.makes command f b makes);
+          makes_on was.stands lost none carries c.args.self.now command f b
+          (was.makes command f b makes);
       lent = c.carried-next.ensures.lent ∙ c.try_commit.ensures.lent ∙ was.lent;
     }
 
 pub returns-in-Answered-clause-ends : goal.returns-in-Answered-clause-ends
 returns-in-Answered-clause-ends g c = λ command f b makes.
     let now = c.loop.invariant.makes command f b makes in
-    c.in-Answered.ensures.tries command b now.begun (now.edit.needs c.loop.edited.opened.version.number)
+    c.in-Answered.ensures.tries command b now.begun
+    (now.edit.needs c.loop.edited.opened.version.number)
 
 pub returns-in-None-next-clause-ends : goal.returns-in-None-next-clause-ends
 returns-in-None-next-clause-ends g c = λ command f b makes.

@@ -1,4 +1,4 @@
-use Rattle.std.proofs.Common.{arith, ℕ, ◌∙◌, refl, subst, sym}
+use Rattle.std.proofs.Common.{arith, ℕ, ◌∙◌, subst, sym}
 use Rattle.client_session.specs.Turns.{Answered}
 use Rattle.client_session.proofs.Commits.{made_ends, stopped_ends, unmade_none}
 use Rattle.client_session.proofs.journal.Journal.commit_shared.Goals as goal

@@ -1,4 +1,4 @@
-use Rattle.std.proofs.Common.{◌∙◌, ap, arith, refl}
+use Rattle.std.proofs.Common.{Result, ◌∙◌, ap, arith, refl}
 use Rattle.client_session.proofs.Editing.{edits_none}
 use Rattle.client_session.proofs.Regrafts.{copied_carried, edit_works}
 use Rattle.client_session.proofs.Rooms.{full_ends, may_on}
@@ -9,6 +9,7 @@ use Rattle.client_turns.specs.Progress.{runs_out}
 use Rattle.doc_model.specs.declared.command.Command.TheVariants as command
 use Rattle.doc_model.specs.Answers.{attached}
 use Rattle.doc_tree.specs.Tree.{DocTree, node}
+use Rattle.doc_tree.specs.declared.edit.EditFault.{EditFault}
 
 pub finish_along-ended-requires : goal.finish_along-ended-requires
 finish_along-ended-requires g c =
@@ -29,13 +30,17 @@ returns-in-Ok-clause-ends g c =
     let h = g.H.ClientHeap in
     let j = c.args.self.now in
     let s = h.state c.args.heap.now in
+    let source = c.args.«from».now in
+    let to = c.args.to.now in
+    let copy = command.Copy source to in
+    let edit : DocTree → Result DocTree EditFault = λ d. attached to d (node source d) in
     let begins = c.in-Ok.ensures.begins in
     let edits = c.attached-edited.ensures in
-    c.finish_along-ended.ensures.ends (command.Copy c.args.«from».now c.args.to.now) (λ (d : DocTree). attached c.args.to.now d (node c.args.«from».now d)) s
-    (edit_works j (command.Copy c.args.«from».now c.args.to.now) c.in-Ok.opened 8 (λ (d : DocTree). attached c.args.to.now d (node c.args.«from».now d)) _ c.requires.may
+    c.finish_along-ended.ensures.ends copy edit s
+    (edit_works j copy c.in-Ok.opened 8 edit _ c.requires.may
     (record {
       carried = copied_carried c.args.to c.args.«from»;
-      spared = λ d. attached_spared c.args.to.now d (node c.args.«from».now d);
+      spared = λ d. attached_spared to d (node source d);
       answers = λ v trees. refl;
       needs = λ v. refl;
     })

@@ -36,7 +36,9 @@ returns-in-Ok-clause-ends g c =
         (
           edited_begun j (command.Del path) c.in-Ok.opened 0 (delete path) _ c.requires.may
               begins edits.edits edits.tree (delete_spared path) (λ trees. refl),
-          edits.tree ∙ ap (delete path) (sym (edits.still.trees c.in-Ok.opened.root begins.holds.node)),
+          edits.tree
+              ∙ ap (delete path)
+              (sym (edits.still.trees c.in-Ok.opened.root begins.holds.node)),
         ),
       ),
     )

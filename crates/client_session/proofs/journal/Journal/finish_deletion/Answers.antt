@@ -1,4 +1,4 @@
-use Rattle.std.proofs.Common.{◌≡◌, ◌∙◌, ap, arith, length, refl, sym}
+use Rattle.std.proofs.Common.{ap, arith, length, refl}
 use Rattle.client_session.proofs.Regrafts.{deleted_carried}
 use Rattle.client_session.proofs.journal.Journal.finish_deletion.Goals as goal
 use Rattle.client_turns.proofs.Spared.{delete_spared}

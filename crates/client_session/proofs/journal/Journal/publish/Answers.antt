@@ -30,20 +30,23 @@ returns-in-Ok-clause-ends g c =
     let h = g.H.ClientHeap in
     let j = c.args.self.now in
     let s = h.state c.args.heap.now in
+    let path = c.args.path.now in
+    let draft = tree_of s.draft in
+    let publish = command.Publish path in
     let begins = c.in-Ok.ensures.begins in
     let edits = c.attach-edited.ensures in
     let root = (h.shown c.begin.new.heap).tree c.in-Ok.opened.root in
-    c.finish_along-ended.ensures.ends (command.Publish c.args.path.now) (attach c.args.path.now (tree_of (g.H.ClientHeap.state c.args.heap.now).draft)) s
-    (edit_works j (command.Publish c.args.path.now) c.in-Ok.opened 0 (attach c.args.path.now (tree_of (g.H.ClientHeap.state c.args.heap.now).draft)) _ c.requires.may
+    c.finish_along-ended.ensures.ends publish (attach path draft) s
+    (edit_works j publish c.in-Ok.opened 0 (attach path draft) _ c.requires.may
     (record {
-      carried = published_carried c.args.path (tree_of s.draft);
-      spared = attach_spared c.args.path.now (tree_of s.draft);
+      carried = published_carried c.args.path draft;
+      spared = attach_spared path draft;
       answers = λ v trees. refl;
       needs = λ v. refl;
     })
     begins edits.edits edits.still
     (edits.tree
-    ∙ ap (λ (d : DocTree). attach c.args.path.now d root)
+    ∙ ap (λ (d : DocTree). attach path d root)
     (c.draft-draft.ensures.tree ∙ ap tree_of begins.read.none.draft)))
 
 pub returns-in-Err-clause-ends : goal.returns-in-Err-clause-ends

@@ -28,13 +28,16 @@ returns-in-Ok-clause-ends g c =
     let h = g.H.ClientHeap in
     let j = c.args.self.now in
     let s = h.state c.args.heap.now in
+    let path = c.args.path.now in
+    let text = c.args.text.now in
+    let put = command.Put path text in
     let begins = c.in-Ok.ensures.begins in
     let edits = c.set_text-edited.ensures in
-    c.finish_along-ended.ensures.ends (command.Put c.args.path.now c.args.text.now) (set_text c.args.path.now c.args.text.now) s
-    (edit_works j (command.Put c.args.path.now c.args.text.now) c.in-Ok.opened 0 (set_text c.args.path.now c.args.text.now) _ c.requires.may
+    c.finish_along-ended.ensures.ends put (set_text path text) s
+    (edit_works j put c.in-Ok.opened 0 (set_text path text) _ c.requires.may
     (record {
-      carried = put_carried c.args.path c.args.text.now;
-      spared = set_text_spared c.args.path.now c.args.text.now;
+      carried = put_carried c.args.path text;
+      spared = set_text_spared path text;
       answers = λ v trees. refl;
       needs = λ v. refl;
     })

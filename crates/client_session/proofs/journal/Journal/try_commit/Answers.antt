@@ -10,7 +10,8 @@ returns-then-shown-from-clause-tries g c =
     let h = g.H.ClientHeap in
     let read = c.current-latest.ensures in
     λ command s begun needs.
-    worn_late c.args.self.now command c.args.version.number s ((h.shown c.args.heap.now).tree c.args.at)
+    worn_late c.args.self.now command c.args.version.number s
+    ((h.shown c.args.heap.now).tree c.args.at)
     begun (rests_none read.rests)
     (omega (arith, c.if-shown-from.true, c.from.ensures))
     (let room = read.rests.room in omega (arith, room, c.requires.room))
