@@ -78,7 +78,7 @@ def main():
             print(f"\n{load}\n\n| % | function |\n|---|---|")
             profile(os.path.abspath(args.docheap), write(folder, loads[load]()), folder, args.top)
         counted = args.counted or build.build(os.path.dirname(HERE), "/tmp/docheap_timing",
-                                              "docheap_cli", name="docheap_counted", count=True)
+                                              "docheap_cli", name="docheap_counted", told="count")
         print("\n| script | commits | lost | " + " | ".join(build.COUNTED) + " | cycles |")
         print("|---" * (4 + len(build.COUNTED)) + "|")
         for load in COUNTS_OF:

@@ -2,14 +2,16 @@
 """Builds heap_timing, gate_wait, mail_timing, docheap or another program of the repository, for
 measuring, and plain_heap and the programs in Go and Java beside heap_timing.
 
-build.py [--into FOLDER] [--program docheap_cli] [--hints N] [--count] [--repository FOLDER]
+build.py [--into FOLDER] [--program docheap_cli] [--hints N] [--count | --gaps]
+         [--repository FOLDER]
 
 A measuring program in Rattle is no crate of the repository, and so nothing of it is proved. It is
 laid beside copies of the crates in a folder of its own, `rt try` compiles all of it without proof,
 and the module that it hands to clang is kept on the way. Then what the proof would drop is dropped
-from the module, the checks and traps of `rt try`, and it is built by clang's -O3. That is near to
-what the gate builds, and not the same: figures of a program that the gate has built go before.
-Nothing is written below the repository.
+from the module, the checks and traps of `rt try`, the functions with a hint on inlining get it
+back, which `rt try` leaves out, and it is built by clang's -O3. That is near to what the gate
+builds, and not the same: figures of a program that the gate has built go before. Nothing is written
+below the repository.
 """
 import argparse, os, re, shutil, stat, subprocess, sys, tempfile
 
@@ -43,6 +45,11 @@ COUNTED = {
     "goes over all cells": "mutator_seat::mutator::Mutator::try_all",
     "tries of a cell": "mutator_seat::mutator::Mutator::claim_once",
     "hints taken": "free_cells::hints::Hints::take",
+}
+# What such a build tells at its head, and the file in C that is told.
+TOLD = {
+    "count": (list(COUNTED.values()), "counts.c"),
+    "gaps": (["client_threads::answering::answer_next"], "gaps.c"),
 }
 
 
@@ -125,13 +132,41 @@ def without_checks(text):
     return "".join(kept)
 
 
-def with_counters(text):
-    """The module with a call at the head of each function that is counted."""
+def hinted(repository):
+    """The functions with a hint on inlining: the path of each one's module, and its name."""
+    paths = []
+    for crate in sorted(os.listdir(f"{repository}/crates")):
+        src = f"{repository}/crates/{crate}/src"
+        for folder, _, names in os.walk(src):
+            for name in sorted(n for n in names if n.endswith(".rt")):
+                inner = os.path.relpath(os.path.join(folder, name), src)[:-3].split(os.sep)
+                module = [] if inner == ["lib"] else inner
+                with open(os.path.join(folder, name)) as it:
+                    found = re.findall(r"#\[inline\(always\)\]\s*(?:pub(?:\([a-z]+\))? )?fn (\w+)",
+                                       it.read())
+                paths += [("::".join([crate, *module, ""]), name) for name in found]
+    return paths
+
+
+def with_inlining(text, repository):
+    """The module in which those functions are inlined, as in the one that the gate builds."""
+    paths, kept = hinted(repository), []
+    for line in text.splitlines(True):
+        named = re.match(r'define [^@]*@"([^"<]*?)(?:::<[^"]*)?"', line)
+        if named and any(named[1].startswith(module) and named[1].endswith(f"::{name}")
+                         for module, name in paths):
+            line = re.sub(r"\) (?=#\d+ |\{)", ") alwaysinline ", line, count=1)
+        kept.append(line)
+    return "".join(kept)
+
+
+def with_calls(text, functions):
+    """The module with a call at the head of each of these functions."""
     kept, counter = [], None
     for line in text.splitlines(True):
         kept.append(line)
         if line.startswith("define"):
-            named = [k for k, name in enumerate(COUNTED.values()) if f'@"{name}' in line]
+            named = [k for k, name in enumerate(functions) if f'@"{name}' in line]
             counter = named[0] if named else None
         elif line.startswith("start:") and counter is not None:
             kept.append(f"  call void @count_event(i64 {counter})\n")
@@ -139,7 +174,7 @@ def with_counters(text):
     return "".join(kept) + "declare void @count_event(i64)\n"
 
 
-def build(repository, into, program, hints=None, name=None, count=False):
+def build(repository, into, program, hints=None, name=None, told=None):
     """Builds the program of this name into the folder, and gives its path."""
     real, to = kit(), f"{into}/{name or program}"
     os.makedirs(into, exist_ok=True)
@@ -158,12 +193,13 @@ def build(repository, into, program, hints=None, name=None, count=False):
         subprocess.run([clang, "-x", "ir", module, "-S", "-emit-llvm", "-Xclang",
                         "-disable-llvm-passes", "-o", plain], **quiet)
         with open(plain) as it:
-            text = without_checks(it.read())
+            text = with_inlining(without_checks(it.read()), repository)
         more = []
-        if count:
-            text = with_counters(text)
-            more = [f"{folder}/counts.o"]
-            subprocess.run(["cc", "-O2", "-fPIE", "-c", f"{HERE}/counts.c", "-o", *more],
+        if told:
+            functions, file = TOLD[told]
+            text = with_calls(text, functions)
+            more = [f"{folder}/told.o"]
+            subprocess.run(["cc", "-O2", "-fPIE", "-c", f"{HERE}/{file}", "-o", *more],
                            check=True)
         with open(small, "w") as it:
             it.write(text)
@@ -198,10 +234,13 @@ def main():
     p.add_argument("--repository", default=os.path.dirname(os.path.dirname(HERE)))
     p.add_argument("--program", default="heap_timing")
     p.add_argument("--hints", type=int, help="a trial: a claim tries so many hints, not one")
-    p.add_argument("--count", action="store_true", help="count calls (profile.py reads them)")
+    p.add_argument("--count", dest="told", action="store_const", const="count",
+                   help="count calls (profile.py reads them)")
+    p.add_argument("--gaps", dest="told", action="store_const", const="gaps",
+                   help="look at the clock before each command (gaps.py reads it)")
     p.add_argument("--name", help="of the program that is built")
     args = p.parse_args()
-    print(build(args.repository, args.into, args.program, args.hints, args.name, args.count))
+    print(build(args.repository, args.into, args.program, args.hints, args.name, args.told))
     if args.program == "heap_timing":
         print(build_plain(args.into))
         build_others(args.into)
