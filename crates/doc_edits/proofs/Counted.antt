@@ -1,14 +1,16 @@
--- Entries of few levels are few; and children that stand still stand after a call.
+-- Entries of few levels are few, and a node of few nodes has few children; and children that stand
+-- still stand after a call.
 use Rattle.std.proofs.Common.{◌≡◌, ℕ, zero, suc, ◌+◌, ◌<◌, ◌≤◌, refl, sym, ap, subst, arith}
-use Rattle.cell_words.specs.Term.{IsFive}
-use Rattle.doc_tree.specs.Tree.{IsRising, kid, kid_count}
+use Rattle.cell_words.specs.Term.{Term, part, number, IsFive}
+use Rattle.doc_tree.specs.Tree.{Kids, IsRising, no_kids, kid, kid_count, nodes_below}
 use Rattle.doc_tree.proofs.Joined.{count_join}
 use Rattle.kids_avl.specs.Entries.{Entries, no_entries, entry, height_of, kids_of}
 use Rattle.doc_records.specs.declared.pool.Part.{Part}
 use Rattle.doc_records.specs.declared.pool.Part.TheVariants as parts
 use Rattle.doc_records.specs.Pool.{Later, Shown}
-use Rattle.doc_records.specs.Trees.{AreEntries, entries_of}
+use Rattle.doc_records.specs.Trees.{AreEntries, IsNode, entries_of, tree_of}
 use Rattle.doc_edits.specs.Tops.{IsRowAt, row_of}
+use Rattle.doc_edits.proofs.Sized.{own_nodes}
 
 -- as many entries as so many levels have room for, and one
 abbrev most : ℕ → ℕ
@@ -29,6 +31,14 @@ few_under (suc n) (entry m d l r) low =
 
 pub few_low : (t : Entries) → height_of t ≤ 8 → kid_count (kids_of t) < 256
 few_low t low = grind (arith, few_under 8 t low)
+
+-- each child counts itself, so a node of few nodes has few children
+kids_below : (kids : Kids) → kid_count kids ≤ nodes_below kids
+kids_below no_kids = omega arith
+kids_below (kid name text inside rest) = omega (arith, kids_below rest)
+
+pub kids_few : (t : Term) → IsNode t → number (part 2 t) ≤ 256 → kid_count (tree_of t).kids < 256
+kids_few t is few = omega (arith, few, own_nodes t is, kids_below (tree_of t).kids)
 
 pub row_still : {At F : Type 0} (s t : Shown At F) (p : Part At) → Later s t → IsRowAt s p
     → IsRowAt t p

@@ -2,12 +2,12 @@
 //!
 //! An edit makes nothing on its way down, and for a missing child it makes no node: there it goes
 //! on in none, which is as a node of the empty tree.
-ghost use Rattle.std.specs.Prelude.{◌≡◌, ◌+◌, ◌*◌, ◌≤◌, None, OnErr, length};
+ghost use Rattle.std.specs.Prelude.{◌≡◌, ◌+◌, ◌*◌, ◌≤◌, ◌<◌, ◌↔◌, None, OnErr, IsTrue, length};
 ghost use Rattle.std.specs.Option.{option_map};
 ghost use Rattle.std.specs.Result.{ForOk};
 ghost use Rattle.doc_tree.specs.Edits.{attach, edit_along, edited, set_text, start};
 ghost use Rattle.doc_tree.specs.Edits.{with_text, within_limits};
-ghost use Rattle.doc_tree.specs.Tree.{child as child_of_name};
+ghost use Rattle.doc_tree.specs.Tree.{child as child_of_name, kid_count};
 ghost use Rattle.doc_records.specs.Pool.{Later};
 ghost use Rattle.doc_records.specs.Trees.{IsNodeAt, IsTreeNode, tree_of};
 ghost use Rattle.doc_edits.specs.Edits.{answered};
@@ -69,6 +69,25 @@ fn at_end<R: RecordPool>(records: &mut R, at: Option<R::At>, end: End<'_, R::At>
     }
 }
 
+// A node has room for one more child. One of at most 256 nodes, itself counted, has fewer children
+// than that, so only the children of larger ones are counted.
+#[tactic(auto, using(crate::proofs::Sized::child_fields, crate::proofs::Counted::kids_few))]
+fn node_has_room<R: RecordPool>(records: &mut R, node: R::At) -> bool
+    requires node { IsTreeAt (R.shown records.old) node }
+    requires places { (R.shown records.old).held + 515 ≤ (R.shown records.old).room }
+    ensures room { IsTrue result ↔ (kid_count (tree_of ((R.shown records.old).term node)).kids
+        < 256) }
+    ensures later { Later (R.shown records.old) (R.shown records.new) }
+    ensures held { (R.shown records.new).held ≤ (R.shown records.old).held + 2 }
+    ensures records { (R.shown records.new).records ≡ (R.shown records.old).records }
+{
+    if read_number(records, node, NODE_COUNT) <= 256 {
+        return true;
+    }
+    let opened = open(records, Some(node));
+    has_room(records, opened.entries)
+}
+
 // The tree of a node has room for one more child, or an edit that needs one is refused.
 #[tactic(auto, using(crate::proofs::Along::begun_new, crate::proofs::Along::begun_many))]
 fn begin_new<R: RecordPool>(
@@ -87,8 +106,7 @@ fn begin_new<R: RecordPool>(
     ensures held { (R.shown records.new).held ≤ (R.shown records.old).held + 2 }
     ensures records { (R.shown records.new).records ≡ (R.shown records.old).records }
 {
-    let opened = open(records, Some(node));
-    if has_room(records, opened.entries) {
+    if node_has_room(records, node) {
         Ok(None)
     } else {
         Err(EditFault::Many)
