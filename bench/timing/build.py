@@ -53,6 +53,10 @@ TOLD = {
 }
 
 
+def tell(step):
+    print(f"build.py: {step}", file=sys.stderr, flush=True)
+
+
 def kit():
     found = os.path.realpath(shutil.which("rt"))
     return os.path.dirname(os.path.dirname(found))
@@ -178,6 +182,7 @@ def build(repository, into, program, hints=None, name=None, told=None):
     """Builds the program of this name into the folder, and gives its path."""
     real, to = kit(), f"{into}/{name or program}"
     os.makedirs(into, exist_ok=True)
+    tell("1 of 3: rt try compiles the crates, without proof")
     with tempfile.TemporaryDirectory(prefix="docheap-timing-") as folder:
         os.makedirs(f"{folder}/kept")
         kit_that_keeps(real, f"{folder}/kit", f"{folder}/kept")
@@ -187,6 +192,7 @@ def build(repository, into, program, hints=None, name=None, told=None):
         module = f"{folder}/kept/module.bc"
         if not os.path.isfile(module):
             sys.exit(f"{program} was not compiled:\n{tried.stdout}{tried.stderr}")
+        tell("2 of 3: checks that a proof makes needless go")
         clang = f"{real}/toolchain/bin/clang"
         plain, small, unit = (f"{folder}/{n}" for n in ("a.ll", "b.ll", "b.o"))
         quiet = {"check": True, "stderr": subprocess.DEVNULL, "stdout": subprocess.DEVNULL}
@@ -203,6 +209,7 @@ def build(repository, into, program, hints=None, name=None, told=None):
                            check=True)
         with open(small, "w") as it:
             it.write(text)
+        tell("3 of 3: clang makes the program")
         subprocess.run([clang, *FLAGS, f"--sysroot={real}/toolchain", "-c", "-x", "ir", small, "-o",
                         unit], **quiet)
         subprocess.run([f"{real}/bin/rattle-link", "--target", "x86_64-unknown-linux-gnu",
