@@ -88,7 +88,8 @@ module _ (a b : Bound Kept) (heap : b.heap ≡ a.heap) (table : b.seat.table ≡
         box = record {
           there = omega (arith, two);
           cell = ap (λ (n : ℕ). target b.seat.me n) (sym at.alone)
-              ∙ last_held a b 1 (held_as a b heap table 0 0 first_there found step (field.Cell 1) found_is);
+              ∙ last_held a b 1
+              (held_as a b heap table 0 0 first_there found step (field.Cell 1) found_is);
           told = five_plain (payload_of s l 1);
           known = ap (λ (n : ℕ). known_of b.seat.me n) (sym at.alone)
               ∙ newest_known a b heap table 0 0 first_there found step 1 found_is

@@ -21,5 +21,5 @@ returns-clause-found c =
 pub returns-clause-same : goal.returns-clause-same
 returns-clause-same c =
     let told = c.read.ensures.told in
-    has_of _ _ _ (reads_none c.args.m.now c.read.new.self c.read.ensures.heap c.read.ensures.table 0 0
-    c.requires.rests.loose.is_in.some told.0 told.2)
+    has_of _ _ _ (reads_none c.args.m.now c.read.new.self c.read.ensures.heap
+    c.read.ensures.table 0 0 c.requires.rests.loose.is_in.some told.0 told.2)

@@ -39,5 +39,6 @@ returns-clause-holds c =
 pub returns-clause-same : goal.returns-clause-same
 returns-clause-same c =
     let told = c.read.ensures.told in
-    has_of _ _ _ (reads_none c.args.m.now c.read.new.self c.read.ensures.heap c.read.ensures.table 2 0
+    has_of _ _ _ (reads_none c.args.m.now c.read.new.self c.read.ensures.heap
+    c.read.ensures.table 2 0
     (record_there c.requires.holds.number c.args.m.now c.requires.holds.holds) told.0 told.2)

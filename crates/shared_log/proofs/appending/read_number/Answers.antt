@@ -30,5 +30,5 @@ returns-clause-found c =
 pub returns-clause-same : goal.returns-clause-same
 returns-clause-same c =
     let told = c.read.ensures.told in
-    appends_none _ _ (reads_none c.args.m.now c.read.new.self c.read.ensures.heap c.read.ensures.table 1 0
-    c.requires.some.holds.entry.there told.0 told.2)
+    appends_none _ _ (reads_none c.args.m.now c.read.new.self c.read.ensures.heap
+    c.read.ensures.table 1 0 c.requires.some.holds.entry.there told.0 told.2)
