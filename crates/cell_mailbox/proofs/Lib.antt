@@ -1,7 +1,7 @@
-mod Boxing
 mod Calling
 mod Finding
 mod Linking
+mod Making
 mod Trying
 mod Turning
 mod Walking

@@ -22,24 +22,25 @@ use Rattle.mail_rule.proofs.Picking.{send_picks}
 use Rattle.mutator_events.specs.declared.values.Value.TheVariants as values
 use Rattle.mutator_events.specs.Events.{AtEvent}
 use Rattle.mutator_seat.specs.Bound.{Bound, held_cells}
-use Rattle.mutator_seat.specs.Claims.{Claimed}
 use Rattle.mutator_seat.specs.Stretches.{Calm, Kept}
 use Rattle.mutator_seat.specs.Writes.{LookAndMarks, MayUpdate, PicksUpdate, Updated}
 use Rattle.mutator_seat.specs.declared.full.HeapFull.{HeapFull}
 use Rattle.mutator_seat.proofs.Writes.{cell_same, many_same}
 use Rattle.trails.specs.Claims.{FindsFull}
-use Rattle.held_places.specs.Calls.{Goes, IsIn, known_fresh}
-use Rattle.held_places.proofs.Claiming.{claimed_apart, claimed_fits, claimed_goes, claimed_known}
-use Rattle.held_places.proofs.Claiming.{claimed_pass, claimed_raw, claimed_there}
-use Rattle.held_places.proofs.Claiming.{claimed_longer}
+use Rattle.held_places.specs.Calls.{Goes, IsIn, StaysKnown, StillKnown, known_fresh}
 use Rattle.held_places.proofs.Going.{calm_goes, calm_trail, goes_none, goes_then, kept_known}
-use Rattle.held_places.proofs.Going.{known_then, many_held, still_on, still_then, target_still}
+use Rattle.held_places.proofs.Going.{known_then, many_held, still_on, still_same, still_then}
+use Rattle.held_places.proofs.Going.{target_still}
+use Rattle.held_places.proofs.ReadValues.{last_held}
 use Rattle.held_places.proofs.Writing.{wrote_goes, wrote_known, wrote_shown}
 use Rattle.cell_mailbox.specs.Ends.{AllKnown, FullTry, LostTry, SentTry}
-use Rattle.cell_mailbox.specs.Makes.{Makes, MayMake}
+use Rattle.cell_making.specs.Makes.{MakesBox}
+use Rattle.cell_making.proofs.Naming.{sealed_value}
+use Rattle.cell_mailbox.specs.Makes.{item_values}
 use Rattle.cell_mailbox.specs.Walks.{EndsAt}
-use Rattle.cell_mailbox.proofs.Finding.{item_known, item_still}
-use Rattle.cell_mailbox.proofs.Trying.{item_kept, sealed_value}
+use Rattle.cell_mailbox.proofs.Finding.{item_still}
+use Rattle.cell_mailbox.proofs.Making.{names_none}
+use Rattle.cell_mailbox.proofs.Trying.{item_kept}
 
 -- a claim that found the heap full
 pub full_try : (a b c : Bound MailPass) (held position : ℕ) → EndsAt a b held position
@@ -64,204 +65,189 @@ full_try a b c held position ends full calm = record {
   after = goes_none c;
 }
 
-module _ (a b c : Bound MailPass) (held position fresh : ℕ) (inside : IsIn a)
-    (is : held ≡ length a.seat.me.own.held) (ends : EndsAt a b held position)
-    (got : Claimed b fresh c) where
+module _ (a b d : Bound MailPass) (held position fresh : ℕ) (inside : IsIn a)
+    (is : held ≡ length a.seat.me.own.held) (ends : EndsAt a b held position) (item : Item)
+    (made : MakesBox b fresh (item_values item) d) (position_is : item.position ≡ position + 1)
+    (sender_is : item.sender ≡ a.seat.me.number + 1)
+    (few : length a.seat.me.pass.sends < 100_000) where
+  abbrev sent : Sent
+  sent = record { position = item.position; value = item.value }
+
   last_there : held < length b.seat.me.own.held
   last_there =
       let one = many_held a b (ends.stands.cell ∷ []) ends.stands.cells in omega (arith, is, one)
 
-  pub may_make : MayMake c fresh
-  may_make = record {
-    inside = (claimed_goes b c fresh got).inside ∙ ends.stands.goes.inside ∙ inside.inside;
-    there = claimed_there b c fresh got;
-    many = claimed_fits b c fresh got;
-    raw = claimed_raw b c fresh got;
-  }
-
-  last_claimed : KnowsItem c.seat.me held ends.stands.item
-  last_claimed = item_still b c (got.cell ∷ []) got.held (claimed_known b c fresh got is_fixed) held
-      ends.stands.item ends.stands.knows
-
-  apart : target c.seat.me held ≢ target c.seat.me fresh
-  apart = claimed_apart b c fresh got held last_there
-
-  -- a place of before is one of those before the claim
+  -- a place of before is one of those before the box
   before : (place : ℕ) → place < length a.seat.me.own.held → place < length b.seat.me.own.held
   before place lt =
       let many = many_held a b (ends.stands.cell ∷ []) ends.stands.cells in omega (arith, many, lt)
 
-  module _ (d : Bound MailPass) (item : Item) (made : Makes c d fresh item)
-      (position_is : item.position ≡ position + 1)
-      (sender_is : item.sender ≡ a.seat.me.number + 1)
-      (few : length a.seat.me.pass.sends < 100_000) where
-    abbrev sent : Sent
-    sent = record { position = item.position; value = item.value }
+  -- the box names no cell, so all is known as it was
+  made_known : StaysKnown is_fixed (length b.seat.me.own.held) b d
+  made_known place lt =
+      subst (λ (k : Known). StillKnown is_fixed (known_of b.seat.me place) k)
+      (sym (made.known place lt
+      (λ is_fresh i other below names same. names_none item i other names)))
+      (still_same is_fixed (known_of b.seat.me place))
 
-    many_d : length d.seat.me.own.held ≡ length c.seat.me.own.held
-    many_d = many_same d.seat.me.own.held c.seat.me.own.held made.held
+  last_knows : KnowsItem d.seat.me held ends.stands.item
+  last_knows = item_still b d (made.cell ∷ []) made.held made_known held ends.stands.item
+      ends.stands.knows
 
-    last_knows : KnowsItem d.seat.me held ends.stands.item
-    last_knows = record {
-      there = let there = last_claimed.there in let many = many_d in omega (arith, there, many);
-      known = item_known (known_of c.seat.me held) (known_of d.seat.me held) ends.stands.item
-          (made.known held last_claimed.there apart) last_claimed.known;
+  fresh_there : fresh < length d.seat.me.own.held
+  fresh_there =
+      let one = many_held b d (made.cell ∷ []) made.held in
+      let placed = made.place_is in omega (arith, one, placed)
+
+  box_cell : target d.seat.me fresh ≡ made.cell
+  box_cell = ap (λ (n : ℕ). target d.seat.me n) made.place_is
+      ∙ last_held b d made.cell made.held
+
+  goes_d : Goes [] a d
+  goes_d = goes_then ends.stands.goes made.goes
+
+  pass_d : d.seat.me.pass ≡ a.seat.me.pass
+  pass_d = made.pass ∙ ends.stands.pass
+
+  abbrev cells : List ℕ
+  cells = (ends.stands.cell ∷ []) ++ made.cell ∷ []
+
+  held_d : held_cells d ≡ held_cells a ++ cells
+  held_d = made.held
+      ∙ ap (λ (cs : List ℕ). cs ++ made.cell ∷ []) ends.stands.cells
+      ∙ append_assoc (held_cells a) (ends.stands.cell ∷ []) (made.cell ∷ [])
+
+  known_d : AllKnown a d
+  known_d place lt =
+      still_then is_fixed (known_of a.seat.me place) (known_of b.seat.me place)
+      (known_of d.seat.me place) (ends.stands.known place lt) (made_known place (before place lt))
+
+  -- A cell that was fresh before is neither the last item nor the new box.
+
+  not_last : (place : ℕ) → place < length a.seat.me.own.held
+      → known_fresh (known_of a.seat.me place) ≡ true
+      → target d.seat.me place ≢ target d.seat.me held
+  not_last place lt is_fresh same =
+      ends.apart place lt is_fresh
+      (sym (target_still a d cells held_d place lt) ∙ same
+      ∙ target_still b d (made.cell ∷ []) made.held held last_there)
+
+  not_box : (place : ℕ) → place < length a.seat.me.own.held
+      → target d.seat.me place ≢ target d.seat.me fresh
+  not_box place lt same =
+      made.is_new place (before place lt)
+      (sym (target_still b d (made.cell ∷ []) made.held place (before place lt)) ∙ same ∙ box_cell)
+
+  pub may_link : MayUpdate is_fixed d.seat.me held 3 values.Null (values.Held fresh)
+  may_link = record {
+    inside = goes_d.inside ∙ inside.inside;
+    there = last_knows.there;
+    payload = omega arith;
+    box = subst (λ (k : Known). IsBox (target d.seat.me held) k) (sym last_knows.known.is) tt;
+    old_named = tt;
+    new_named = fresh_there;
+    sealed = sealed_value d fresh fresh_there (ap is_sealed made.box);
+    spares = λ fixed. absurd cc;
+  }
+
+  may_send : (m : Bound MailPass) → Kept d m → MaySend m.seat.me held fresh sent
+  may_send m kept = record {
+    last = ends.stands.item;
+    held = item_kept d m kept held ends.stands.item last_knows;
+    follows = position_is ∙ ap (λ (n : ℕ). n + 1) ends.position_is;
+    box_there = subst (λ (n : ℕ). fresh < n)
+        (sym (many_same m.seat.me.own.held d.seat.me.own.held kept.held)) fresh_there;
+    box_is = ap (λ (ks : List Known). known_at ks fresh) kept.known ∙ made.box
+        ∙ ap (λ (n : ℕ). knows.Fresh (item_fields record {
+          position = item.position;
+          sender = n;
+          value = item.value;
+        }))
+        (sender_is
+        ∙ ap (λ (n : ℕ). n + 1) (sym goes_d.number ∙ sym kept.number));
+    few = subst (λ (p : MailPass). length p.sends < 100_000)
+        (sym (kept.pass ∙ pass_d)) few;
+  }
+
+  pub picks_link : PicksUpdate HoldsMail is_fixed (next_sent sent) d held 3 values.Null
+      (values.Held fresh)
+  picks_link m kept presence = send_picks m.seat.me held fresh sent (may_send m kept)
+
+  module _ (e : Bound MailPass) (found : Field)
+      (wrote : Updated HoldsMail is_fixed (next_sent sent) d held 3 values.Null
+      (values.Held fresh) found e) where
+    goes : Goes [] a e
+    goes = goes_then goes_d
+        (wrote_goes is_fixed HoldsMail (next_sent sent) d e held 3 values.Null
+        (values.Held fresh) found wrote)
+
+    known_is : AllKnown a e
+    known_is place lt =
+        still_on is_fixed (known_of a.seat.me place) (known_of d.seat.me place)
+        (known_of e.seat.me place) (known_d place lt)
+        (λ alike. wrote_known is_fixed HoldsMail (next_sent sent) d e held 3 values.Null
+        (values.Held fresh) found wrote made.many place
+        (let many = many_held a d cells held_d in omega (arith, many, lt))
+        (λ is_fresh. not_last place lt (sym alike ∙ is_fresh))
+        (λ is_fresh other names same. not_box place lt
+        (let box : target d.seat.me fresh ≡ other = cc in same ∙ sym box)))
+
+    pass_is : (made_it : Bool) → same_field found field.Null ≡ made_it
+        → e.seat.me.pass ≡ sent_if made_it sent a.seat.me.pass
+    pass_is made_it how =
+        wrote.pass ∙ ap (λ (x : Bool). sent_if x sent d.seat.me.pass) how
+        ∙ ap (sent_if made_it sent) pass_d
+
+    pub lost_post : same_field found field.Null ≡ false → LostTry a e
+    lost_post other = record {
+      leaves = record {
+        goes = goes;
+        cells = cells;
+        held = wrote.held ∙ held_d;
+        known = known_is;
+      };
+      pass = pass_is false other;
     }
 
-    fresh_there : fresh < length d.seat.me.own.held
-    fresh_there = let there = may_make.there in let many = many_d in omega (arith, there, many)
-
-    goes_d : Goes [] a d
-    goes_d = goes_then (goes_then ends.stands.goes (claimed_goes b c fresh got)) made.goes
-
-    pass_d : d.seat.me.pass ≡ a.seat.me.pass
-    pass_d = made.pass ∙ claimed_pass b c fresh got ∙ ends.stands.pass
-
-    abbrev cells : List ℕ
-    cells = (ends.stands.cell ∷ []) ++ got.cell ∷ []
-
-    held_d : held_cells d ≡ held_cells a ++ cells
-    held_d = made.held ∙ got.held
-        ∙ ap (λ (cs : List ℕ). cs ++ got.cell ∷ []) ends.stands.cells
-        ∙ append_assoc (held_cells a) (ends.stands.cell ∷ []) (got.cell ∷ [])
-
-    known_d : AllKnown a d
-    known_d place lt =
-        let lt_b = before place lt in
-        still_then is_fixed (known_of a.seat.me place) (known_of b.seat.me place)
-        (known_of d.seat.me place) (ends.stands.known place lt)
-        (still_then is_fixed (known_of b.seat.me place) (known_of c.seat.me place)
-        (known_of d.seat.me place) (claimed_known b c fresh got is_fixed place lt_b)
-        (made.known place (let more = claimed_longer b c fresh got in omega (arith, more, lt_b))
-        (claimed_apart b c fresh got place lt_b)))
-
-    -- A cell that was fresh before is neither the last item nor the new box.
-
-    not_last : (place : ℕ) → place < length a.seat.me.own.held
-        → known_fresh (known_of a.seat.me place) ≡ true
-        → target d.seat.me place ≢ target d.seat.me held
-    not_last place lt is_fresh same =
-        ends.apart place lt is_fresh
-        (sym (target_still a d cells held_d place lt) ∙ same
-        ∙ target_still b d (got.cell ∷ []) (made.held ∙ got.held) held last_there)
-
-    not_box : (place : ℕ) → place < length a.seat.me.own.held
-        → target d.seat.me place ≢ target d.seat.me fresh
-    not_box place lt same =
-        let still = cell_same d.seat.me.own.held c.seat.me.own.held made.held in
-        claimed_apart b c fresh got place (before place lt)
-        (sym (still place) ∙ same ∙ still fresh)
-
-    pub may_link : MayUpdate is_fixed d.seat.me held 3 values.Null (values.Held fresh)
-    may_link = record {
-      inside = goes_d.inside ∙ inside.inside;
-      there = last_knows.there;
-      payload = omega arith;
-      box = subst (λ (k : Known). IsBox (target d.seat.me held) k) (sym last_knows.known.is) tt;
-      old_named = tt;
-      new_named = fresh_there;
-      sealed = sealed_value d fresh fresh_there (ap is_sealed made.box);
-      spares = λ fixed. absurd cc;
-    }
-
-    may_send : (m : Bound MailPass) → Kept d m → MaySend m.seat.me held fresh sent
-    may_send m kept = record {
-      last = ends.stands.item;
-      held = item_kept d m kept held ends.stands.item last_knows;
-      follows = position_is ∙ ap (λ (n : ℕ). n + 1) ends.position_is;
-      box_there = subst (λ (n : ℕ). fresh < n)
-          (sym (many_same m.seat.me.own.held d.seat.me.own.held kept.held)) fresh_there;
-      box_is = ap (λ (ks : List Known). known_at ks fresh) kept.known ∙ made.box
-          ∙ ap (λ (n : ℕ). knows.Fresh (item_fields record {
-            position = item.position;
-            sender = n;
-            value = item.value;
-          }))
-          (sender_is
-          ∙ ap (λ (n : ℕ). n + 1) (sym goes_d.number ∙ sym kept.number));
-      few = subst (λ (p : MailPass). length p.sends < 100_000)
-          (sym (kept.pass ∙ pass_d)) few;
-    }
-
-    pub picks_link : PicksUpdate HoldsMail is_fixed (next_sent sent) d held 3 values.Null
-        (values.Held fresh)
-    picks_link m kept presence = send_picks m.seat.me held fresh sent (may_send m kept)
-
-    module _ (e : Bound MailPass) (found : Field)
-        (wrote : Updated HoldsMail is_fixed (next_sent sent) d held 3 values.Null
-        (values.Held fresh) found e) where
-      goes : Goes [] a e
-      goes = goes_then goes_d
-          (wrote_goes is_fixed HoldsMail (next_sent sent) d e held 3 values.Null
-          (values.Held fresh) found wrote)
-
-      known_is : AllKnown a e
-      known_is place lt =
-          still_on is_fixed (known_of a.seat.me place) (known_of d.seat.me place)
-          (known_of e.seat.me place) (known_d place lt)
-          (λ alike. wrote_known is_fixed HoldsMail (next_sent sent) d e held 3 values.Null
-          (values.Held fresh) found wrote made.many place
-          (let many = many_held a d cells held_d in omega (arith, many, lt))
-          (λ is_fresh. not_last place lt (sym alike ∙ is_fresh))
-          (λ is_fresh other names same. not_box place lt
-          (let box : target d.seat.me fresh ≡ other = cc in same ∙ sym box)))
-
-      pass_is : (made_it : Bool) → same_field found field.Null ≡ made_it
-          → e.seat.me.pass ≡ sent_if made_it sent a.seat.me.pass
-      pass_is made_it how =
-          wrote.pass ∙ ap (λ (x : Bool). sent_if x sent d.seat.me.pass) how
-          ∙ ap (sent_if made_it sent) pass_d
-
-      pub lost_post : same_field found field.Null ≡ false → LostTry a e
-      lost_post other = record {
+  pub sent_post : (e : Bound MailPass)
+      → Updated HoldsMail is_fixed (next_sent sent) d held 3 values.Null (values.Held fresh)
+      field.Null e
+      → SentTry a e sent
+  sent_post e wrote =
+      let at = wrote.at in
+      let calm = wrote.calm in
+      record {
+        last = target d.seat.me held;
         leaves = record {
-          goes = goes;
+          goes = goes_then goes_d
+              (wrote_shown is_fixed HoldsMail (next_sent sent) d e held 3 values.Null
+              (values.Held fresh) field.Null wrote);
           cells = cells;
           held = wrote.held ∙ held_d;
-          known = known_is;
+          known = known_is e field.Null wrote;
         };
-        pass = pass_is false other;
+        sent_once = record {
+          place = held;
+          box = target d.seat.me fresh;
+          write = record {
+            at = at.seat.me;
+            before = goes_d.added ++ calm.added;
+            trail_before =
+                calm_trail (LookAndMarks d.seat.me.number d.seat.me.presence.status
+                values.Null (values.Held fresh)) d at calm
+                ∙ ap (λ (ts : List Taken). ts ++ calm.added) goes_d.trail
+                ∙ append_assoc a.seat.me.trail goes_d.added calm.added;
+            number_before = calm.kept.number ∙ goes_d.number;
+            pass_before = calm.kept.pass ∙ pass_d;
+            behind = e.seat.me;
+            step = subst (λ (x : ℕ). AtEvent HoldsMail is_fixed at.seat.me
+                (event.Write at.seat.me.number held 3 field.Null (field.Cell x))
+                (next_sent sent) (finds.Field field.Null) e.seat.me)
+                (cell_same at.seat.me.own.held d.seat.me.own.held calm.kept.held fresh)
+                wrote.event;
+            after = [];
+            trail_after = sym (append-nil e.seat.me.trail);
+          };
+          pass = pass_is e field.Null wrote true refl;
+        };
       }
-
-    pub sent_post : (e : Bound MailPass)
-        → Updated HoldsMail is_fixed (next_sent sent) d held 3 values.Null (values.Held fresh)
-        field.Null e
-        → SentTry a e sent
-    sent_post e wrote =
-        let at = wrote.at in
-        let calm = wrote.calm in
-        record {
-          last = target d.seat.me held;
-          leaves = record {
-            goes = goes_then goes_d
-                (wrote_shown is_fixed HoldsMail (next_sent sent) d e held 3 values.Null
-                (values.Held fresh) field.Null wrote);
-            cells = cells;
-            held = wrote.held ∙ held_d;
-            known = known_is e field.Null wrote;
-          };
-          sent_once = record {
-            place = held;
-            box = target d.seat.me fresh;
-            write = record {
-              at = at.seat.me;
-              before = goes_d.added ++ calm.added;
-              trail_before =
-                  calm_trail (LookAndMarks d.seat.me.number d.seat.me.presence.status
-                  values.Null (values.Held fresh)) d at calm
-                  ∙ ap (λ (ts : List Taken). ts ++ calm.added) goes_d.trail
-                  ∙ append_assoc a.seat.me.trail goes_d.added calm.added;
-              number_before = calm.kept.number ∙ goes_d.number;
-              pass_before = calm.kept.pass ∙ pass_d;
-              behind = e.seat.me;
-              step = subst (λ (x : ℕ). AtEvent HoldsMail is_fixed at.seat.me
-                  (event.Write at.seat.me.number held 3 field.Null (field.Cell x))
-                  (next_sent sent) (finds.Field field.Null) e.seat.me)
-                  (cell_same at.seat.me.own.held d.seat.me.own.held calm.kept.held fresh)
-                  wrote.event;
-              after = [];
-              trail_after = sym (append-nil e.seat.me.trail);
-            };
-            pass = pass_is e field.Null wrote true refl;
-          };
-        }

@@ -1,5 +1,5 @@
 -- One try of a take: its reads, and the exchange of the anchor's field.
-use Rattle.std.proofs.Common.{◌≡◌, ◌≢◌, ◌<◌, ◌+◌, ◌==◌, ℕ, Bool, true, false, List, [], ◌∷◌, ◌++◌}
+use Rattle.std.proofs.Common.{◌≡◌, ◌≢◌, ◌<◌, ◌+◌, ℕ, Bool, true, false, List, [], ◌∷◌, ◌++◌}
 use Rattle.std.proofs.Common.{length, refl, sym, ◌∙◌, ap, subst, arith}
 use Rattle.std.proofs.lemmas.List.{append-nil, append_assoc}
 use Rattle.cell_words.specs.declared.fields.Field.{Field}
@@ -8,12 +8,8 @@ use Rattle.core_machine.specs.declared.events.Event.TheVariants as event
 use Rattle.core_machine.specs.declared.events.Found.TheVariants as finds
 use Rattle.core_machine.specs.declared.events.Taken.{Taken}
 use Rattle.core_machine.specs.Words.{same_field}
-use Rattle.dlg_core.proofs.Truths.{or_later}
-use Rattle.heap_rule.specs.declared.known.Known.{Known}
-use Rattle.heap_rule.specs.declared.known.Known.TheVariants as knows
-use Rattle.heap_rule.specs.Asks.{IsBox, IsSealedValue, is_sealed, known_of, knows_sealed, target}
+use Rattle.heap_rule.specs.Asks.{is_sealed, known_of, target}
 use Rattle.heap_rule.specs.Steps.{Picks}
-use Rattle.heap_rule.proofs.Reading.{cell_there}
 use Rattle.heap_rule.proofs.SameFields.{same_value}
 use Rattle.mail_rule.specs.Knowing.{KnowsItem, next_taken}
 use Rattle.mail_rule.specs.Mail.{HoldsMail, is_fixed}
@@ -30,14 +26,14 @@ use Rattle.mutator_seat.specs.Writes.{LookAndMarks, MayUpdate, PicksUpdate, Upda
 use Rattle.mutator_seat.proofs.Writes.{cell_same}
 use Rattle.trails.specs.Asks.{gave_at, wrote_at}
 use Rattle.held_places.specs.Calls.{Goes, IsIn, known_fresh}
+use Rattle.cell_making.proofs.Naming.{is_box_of, sealed_value}
 use Rattle.cell_mailbox.specs.Ends.{AllKnown, EmptyTry, LostTry, TookTry}
 use Rattle.cell_mailbox.specs.Finds.{FindsItem, FindsLast, FindsNext, FindsWhole, Reads}
 use Rattle.cell_mailbox.proofs.Calling.{fresh_apart, fresh_still, reads_in, reads_still}
 use Rattle.cell_mailbox.proofs.Calling.{reads_then, reads_unasked}
 use Rattle.cell_mailbox.proofs.Finding.{item_still}
-use Rattle.held_places.proofs.Going.{calm_trail, goes_then, kept_known, many_cells, many_held}
+use Rattle.held_places.proofs.Going.{calm_trail, goes_then, kept_known, many_held}
 use Rattle.held_places.proofs.Going.{still_on, target_still}
-use Rattle.held_places.proofs.Knowns.{sealed_at}
 use Rattle.held_places.proofs.ReadValues.{last_held}
 use Rattle.held_places.proofs.Writing.{wrote_goes, wrote_known, wrote_shown}
 
@@ -47,26 +43,6 @@ pub item_kept : (a b : Bound MailPass) → Kept a b → (place : ℕ) (item : It
 item_kept a b kept place item knows =
     item_still a b [] (kept.held ∙ sym (append-nil (held_cells a)))
     (kept_known is_fixed (length a.seat.me.own.held) a b kept) place item knows
-
--- a cell that is 0 is the anchor
-pub is_box_of : (cell : ℕ) (k : Known) → cell ≡ 0 → IsBox cell k
-is_box_of cell knows.Nothing is = is
-is_box_of cell (knows.Raw fields) is = is
-is_box_of cell (knows.Fresh fields) is = tt
-is_box_of cell (knows.Record t) is = is
-is_box_of cell (knows.Boxed terms) is = tt
-
--- what is known to be sealed may be named
-pub sealed_value : (m : Bound MailPass) (place : ℕ) → place < length m.seat.me.own.held
-    → is_sealed (known_of m.seat.me place) ≡ true
-    → IsSealedValue (held_cells m) m.seat.me.known
-    (field_at m.seat.me.own.held (values.Held place))
-sealed_value m place lt sealed =
-    let c = target m.seat.me place in
-    or_later (c == 0) (knows_sealed (held_cells m) m.seat.me.known c)
-    (sealed_at (held_cells m) m.seat.me.known place c
-    (subst (λ (n : ℕ). place < n) (sym (many_cells m)) lt)
-    (cell_there m.seat.me.own.held place) sealed)
 
 -- The anchor names an item that no item follows.
 

@@ -6,14 +6,18 @@ ghost use Rattle.core_machine.specs.Words.{same_field};
 ghost use Rattle.free_cells.specs.Hints.{queue_of};
 ghost use Rattle.mail_rule.specs.Mail.{HoldsMail, is_fixed};
 ghost use Rattle.mutator_events.specs.declared.values.Value.TheVariants as values;
+ghost use Rattle.mutator_seat.specs.Stretches.{Calm};
 ghost use Rattle.mutator_seat.specs.Writes.{MayUpdate, PicksUpdate, Updated};
+ghost use Rattle.trails.specs.Claims.{FindsFull};
+ghost use Rattle.cell_making.specs.Makes.{MakesBox};
 ghost use Rattle.held_places.specs.Calls.{IsIn};
 ghost use Rattle.cell_mailbox.specs.Ends.{FindsFullHeap, PostEnds, Sends};
-ghost use Rattle.cell_mailbox.specs.Makes.{Makes, MayMake};
+ghost use Rattle.cell_mailbox.specs.Makes.{item_values};
 ghost use Rattle.cell_mailbox.specs.Walks.{EndsAt};
 
 use crate::reading::{read_latest, read_next, read_part};
 use crate::turns::Post;
+use cell_making::fill_box;
 use free_cells::Hints;
 use mail_rule::{Item, MailPass, Sent};
 use mutator_seat::{Choice, HeapFull, Moved, Mutator, Value};
@@ -71,14 +75,13 @@ fn try_to_send<R: Wait>(
     ensures queue { queue_of hints.new ≡ queue_of hints.old }
 {
     let before = find_last(rt, m, held);
-    match m.claim(rt, hints) {
+    let item = Item {
+        position: before + 1,
+        sender,
+        value,
+    };
+    match make_item(rt, hints, m, item) {
         Ok(fresh) => {
-            let item = Item {
-                position: before + 1,
-                sender,
-                value,
-            };
-            make_item(m, fresh, item);
             let sent = Sent {
                 position: item.position,
                 value,
@@ -111,18 +114,32 @@ fn find_last<R: Wait>(rt: &R, m: &mut Mutator<'_, MailPass>, held: usize) -> u64
     unreachable!()
 }
 
-/// Fills the claimed cell with an item, and makes it a box.
-fn make_item(m: &mut Mutator<'_, MailPass>, fresh: usize, item: Item)
-    requires may { MayMake m.old fresh }
+/// Makes the box of an item, which nothing names yet.
+fn make_item<R: Wait>(
+    rt: &R,
+    hints: &mut Hints<'_>,
+    m: &mut Mutator<'_, MailPass>,
+    item: Item,
+) -> Result<usize, HeapFull>
+    requires inside { m.old.seat.me.presence.inside ≡ true }
+    requires room { length m.old.seat.me.own.held < m.old.seat.me.room }
     requires position { item.position ≤ 6400001 }
     requires sender { item.sender < 2 ^ 32 }
     requires value { item.value < 2 ^ 32 }
-    ensures makes { Makes m.old m.new fresh item }
+    ensures made { IfOk result (λ fresh. MakesBox m.old fresh (item_values item) m.new) }
+    ensures full { IfErr result (λ full.
+        Calm (FindsFull m.old.seat.me.number m.old.seat.me.shape.cells
+        full.off_duty full.began full.ended) m.old m.new) }
+    ensures queue { queue_of hints.new ≡ queue_of hints.old }
 {
-    m.fill::<Brand>(fresh, 0, Value::Num(item.position));
-    m.fill::<Brand>(fresh, 1, Value::Num(item.sender as u64));
-    m.fill::<Brand>(fresh, 2, Value::Num(item.value));
-    m.seal_box(fresh);
+    let fields = [
+        Value::Num(item.position),
+        Value::Num(item.sender as u64),
+        Value::Num(item.value),
+        Value::Null,
+        Value::Null,
+    ];
+    fill_box(rt, hints, m, fields)
 }
 
 /// Exchanges null in the box of an item for the fresh box. What is sent serves the pass that the

@@ -1,3 +1,6 @@
 pub mod Claiming
 pub mod Filling
+pub mod Naming
+pub mod OneRead
+pub mod Resting
 pub mod Sealing

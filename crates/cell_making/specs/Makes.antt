@@ -21,6 +21,11 @@ use Rattle.promotion.specs.Copying.{Copied, IsReady, term_at}
 abbrev pub value_at : List Value → ℕ → Value
 value_at given i = slice_index_or given i values.Null
 
+-- it holds of each of these values
+abbrev pub AreAll : (Value → Type 0) → List Value → Type 0
+AreAll Q [] = Unit {0}
+AreAll Q (v ∷ vs) = Q v × AreAll Q vs
+
 -- The value may be a field of a new box: null, a number that fits a word, or a place below this
 -- end whose cell is known as a record or as a box that others may know.
 abbrev pub MayName : {P : Type 0} → View P → ℕ → Value → Type 0

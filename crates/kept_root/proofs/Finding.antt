@@ -1,5 +1,5 @@
 -- What the reads of a mutator find: the box, what is kept in it, and the number of that.
-use Rattle.std.proofs.Common.{◌≡◌, ◌<◌, ◌+◌, ◌∷◌, ◌++◌, ℕ, List, [], length, Some, Option}
+use Rattle.std.proofs.Common.{◌≡◌, ◌<◌, ◌∷◌, ◌++◌, ℕ, List, [], length, Some, Option}
 use Rattle.std.proofs.Common.{refl, sym, ◌∙◌, ap, subst, arith}
 use mathlib.Core.Option.{some}
 use lib.ListN.{get_elem?}
@@ -7,29 +7,37 @@ use Rattle.cell_words.specs.declared.fields.Field.{Field}
 use Rattle.cell_words.specs.declared.fields.Field.TheVariants as field
 use Rattle.core_machine.specs.declared.events.Event.TheVariants as event
 use Rattle.core_machine.specs.declared.events.Found.TheVariants as finds
-use Rattle.core_machine.specs.State.{State, field_of, target_of}
+use Rattle.core_machine.specs.State.{State, field_of}
 use Rattle.heap_rule.specs.declared.known.Known.{Known}
 use Rattle.heap_rule.specs.declared.known.Known.TheVariants as knows
-use Rattle.heap_rule.specs.declared.view.View.{View}
 use Rattle.heap_rule.specs.Asks.{MayRead, known_of, target}
 use Rattle.heap_rule.specs.Boxes.{payload_of}
 use Rattle.heap_rule.specs.Facts.{IsKnown}
-use Rattle.heap_rule.specs.Lore.{Lore, Plain, five_plain, learned, learned_from}
+use Rattle.heap_rule.specs.Lore.{Lore, Plain, five_plain, learned_from}
 use Rattle.heap_rule.specs.NoRule.{no_field_is_fixed}
 use Rattle.heap_rule.specs.Steps.{same_pass}
-use Rattle.heap_rule.proofs.AfterReads.{found_known}
 use Rattle.heap_rule.proofs.EntryWords.{learned_box, learned_record}
-use Rattle.heap_rule.proofs.Seats.{knows_place, reached_place, target_now}
+use Rattle.heap_rule.proofs.Seats.{knows_place, reached_place}
 use Rattle.mutator_events.specs.Events.{AtEvent}
 use Rattle.mutator_seat.specs.Bound.{Bound, held_cells}
-use Rattle.held_places.specs.Calls.{StillKnown, WasRead, cells_found}
-use Rattle.held_places.proofs.Going.{in_still, many_held, target_still}
+use Rattle.held_places.specs.Calls.{StillKnown}
+use Rattle.held_places.proofs.Going.{many_held, target_still}
 use Rattle.held_places.proofs.ReadValues.{last_held}
-use Rattle.held_places.proofs.Steps.{same_value, was_read}
-use Rattle.kept_root.specs.Holding.{Has, HasBox, HoldsBox, HoldsRecord, HoldsSome, Loose, Rests}
+use Rattle.cell_making.specs.Resting.{HasPass, Rests}
+use Rattle.cell_making.proofs.OneRead.{found_word, held_as, may_read, newest_known, one_longer}
+use Rattle.cell_making.proofs.OneRead.{stays_loose, was, word_found}
+use Rattle.kept_root.specs.Holding.{Has, HasBox, HoldsBox, HoldsRecord, HoldsSome}
 use Rattle.kept_root.specs.Rule.{HasKept, kept_term, number_record}
 use Rattle.kept_root.specs.declared.kept.Kept.{Kept}
 use Rattle.kept_root.proofs.Words.{anchor_word, box_in, kept_word, record_number}
+
+-- a call that leaves the pass leaves what is kept
+pub has_of : (pass : Kept) (a b : Bound Kept) → HasPass pass a b → Has pass.number a b
+has_of pass a b has = record {
+  heap = has.heap;
+  number_is = has.number_is;
+  kept = ap (λ (p : Kept). p.number) has.pass_is;
+}
 
 -- what was known of the box is known of it still
 pub box_still : (a b : Bound Kept) (cells : List ℕ) → held_cells b ≡ held_cells a ++ cells
@@ -47,62 +55,10 @@ box_still a b cells held still has =
       known = boxed.1.0;
     }
 
--- One read.
-
-module _ (a b : Bound Kept) (heap : b.heap ≡ a.heap) (table : b.seat.table ≡ a.seat.table)
-    (place : ℕ) (there : place < length a.seat.me.own.held) (found : Field)
-    (step : AtEvent HasKept no_field_is_fixed a.seat.me (event.Read a.seat.me.number place 0)
-    same_pass (finds.Field found) b.seat.me) where
-  pub was : WasRead no_field_is_fixed a b place 0 found
-  was = was_read no_field_is_fixed HasKept same_pass a b place 0 found heap table there step
-
-  pub reads_none : Has a.seat.me.pass.number a b
-  reads_none = record {
-    heap = was.goes.heap;
-    number_is = was.goes.number;
-    kept = ap (λ (v : View Kept). v.pass.number) step.new;
-  }
-
-  pub stays_loose : Loose a → Loose b
-  stays_loose loose = record {
-    is_in = in_still a b (cells_found found) _ loose.is_in was.goes was.holds.held;
-    room = was.goes.room ∙ loose.room;
-  }
-
-  -- the cell that was found
-  module _ (c : ℕ) (is : found ≡ field.Cell c) where
-    pub held_more : held_cells b ≡ held_cells a ++ c ∷ []
-    held_more = was.holds.held ∙ ap (λ (w : Field). held_cells a ++ cells_found w) is
-
-    pub one_longer : length b.seat.me.own.held ≡ length a.seat.me.own.held + 1
-    one_longer = many_held a b (c ∷ []) held_more
-
-    pub newest_known : known_of b.seat.me (length a.seat.me.own.held)
-        ≡ learned_from step.core step.lore
-        (field_of step.core (target_of step.core a.seat.me.number place) 0)
-    newest_known =
-        found_known no_field_is_fixed a.seat.me b.seat.me step.core step.lore step.mine place 0
-        (finds.Field found)
-        (learned step.core step.lore (event.Read a.seat.me.number place 0)) a.seat.me.pass
-        step.new c (ap finds.Field is)
-
-  -- the word that was there
-  pub word_found : (x : ℕ) (w : Field) → target a.seat.me place ≡ x → field_of step.core x 0 ≡ w
-      → field_of step.core (target_of step.core a.seat.me.number place) 0 ≡ w
-  word_found x w at is =
-      ap (λ (y : ℕ). field_of step.core y 0)
-      (target_now a.seat.me step.core step.lore step.mine place ∙ at)
-      ∙ is
-
-  pub found_word : (x : ℕ) (w : Field) → target a.seat.me place ≡ x → field_of step.core x 0 ≡ w
-      → found ≡ w
-  found_word x w at is =
-      same_value found w (sym step.found_is ∙ ap finds.Field (word_found x w at is))
-
 -- The anchor.
 
 module _ (a b : Bound Kept) (heap : b.heap ≡ a.heap) (table : b.seat.table ≡ a.seat.table)
-    (at : Rests a) (found : Field)
+    (at : Rests 8 a) (found : Field)
     (step : AtEvent HasKept no_field_is_fixed a.seat.me (event.Read a.seat.me.number 0 0)
     same_pass (finds.Field found) b.seat.me) where
   abbrev s : State
@@ -118,39 +74,37 @@ module _ (a b : Bound Kept) (heap : b.heap ≡ a.heap) (table : b.seat.table ≡
   word = anchor_word s l step.mine.shown.facts step.passes step.kept
 
   found_is : found ≡ field.Cell 1
-  found_is = found_word a b heap table 0 first_there found step 0 (field.Cell 1)
+  found_is = found_word a b heap table 0 0 first_there found step 0 (field.Cell 1)
       at.loose.is_in.anchor word
 
   pub holds_box : HoldsBox b
   holds_box =
-      let long = one_longer a b heap table 0 first_there found step 1 found_is in
+      let long = one_longer a b heap table 0 0 first_there found step 1 found_is in
       let one = at.alone in
       let two : length b.seat.me.own.held ≡ 2 = omega (arith, long, one) in
       record {
-        loose = stays_loose a b heap table 0 first_there found step at.loose;
+        loose = stays_loose a b heap table 0 0 first_there found step 8 at.loose;
         two = two;
         box = record {
           there = omega (arith, two);
           cell = ap (λ (n : ℕ). target b.seat.me n) (sym at.alone)
-              ∙ last_held a b 1 (held_more a b heap table 0 first_there found step 1 found_is);
+              ∙ last_held a b 1
+              (held_as a b heap table 0 0 first_there found step (field.Cell 1) found_is);
           told = five_plain (payload_of s l 1);
           known = ap (λ (n : ℕ). known_of b.seat.me n) (sym at.alone)
-              ∙ newest_known a b heap table 0 first_there found step 1 found_is
+              ∙ newest_known a b heap table 0 0 first_there found step 1 found_is
               ∙ ap (learned_from s l)
-              (word_found a b heap table 0 first_there found step 0 (field.Cell 1)
+              (word_found a b heap table 0 0 first_there found step 0 (field.Cell 1)
               at.loose.is_in.anchor word)
               ∙ learned_box no_field_is_fixed s l step.mine.shown.facts 1
               (box_in s l step.mine.shown.facts step.passes step.kept) (λ e. absurd cc);
         };
       }
 
-pub may_read_anchor : (a : Bound Kept) → Rests a → MayRead a.seat.me 0 0
-may_read_anchor a at = record {
-  inside = at.loose.is_in.inside;
-  there = at.loose.is_in.some;
-  payload = omega arith;
-  room = let one = at.alone in let room = at.loose.room in omega (arith, one, room);
-}
+pub may_read_anchor : (a : Bound Kept) → Rests 8 a → MayRead a.seat.me 0 0
+may_read_anchor a at =
+    may_read 8 a 0 0 at.loose at.loose.is_in.some
+    (let one = at.alone in omega (arith, one)) (omega arith)
 
 -- The box.
 
@@ -168,32 +122,28 @@ module _ (a b : Bound Kept) (heap : b.heap ≡ a.heap) (table : b.seat.table ≡
       (step.kept.kept a.seat.me.pass own
       ∙ ap (λ (k : Option ℕ). Plain (kept_term k)) keeps) in
       let c = word.0 in
-      let is = found_word a b heap table 1 at.box.there found step 1 (field.Cell c) at.box.cell
+      let is = found_word a b heap table 1 0 at.box.there found step 1 (field.Cell c) at.box.cell
       word.1.0 in
-      let held = held_more a b heap table 1 at.box.there found step c is in
-      let long = one_longer a b heap table 1 at.box.there found step c is in
+      let held = held_as a b heap table 1 0 at.box.there found step (field.Cell c) is in
+      let long = one_longer a b heap table 1 0 at.box.there found step c is in
       let two = at.two in
       record {
-        loose = stays_loose a b heap table 1 at.box.there found step at.loose;
+        loose = stays_loose a b heap table 1 0 at.box.there found step 8 at.loose;
         three = omega (arith, long, two);
         box = box_still a b (c ∷ []) held
-            ((was a b heap table 1 at.box.there found step).holds.known 1 at.box.there) at.box;
+            ((was a b heap table 1 0 at.box.there found step).holds.known 1 at.box.there) at.box;
         known = ap (λ (m : ℕ). known_of b.seat.me m) (sym at.two)
-            ∙ newest_known a b heap table 1 at.box.there found step c is
+            ∙ newest_known a b heap table 1 0 at.box.there found step c is
             ∙ ap (learned_from step.core step.lore)
-            (word_found a b heap table 1 at.box.there found step 1 (field.Cell c) at.box.cell
+            (word_found a b heap table 1 0 at.box.there found step 1 (field.Cell c) at.box.cell
             word.1.0)
             ∙ learned_record no_field_is_fixed step.core step.lore facts c (number_record n)
             word.1.1;
       }
 
 pub may_read_box : (a : Bound Kept) → HoldsBox a → MayRead a.seat.me 1 0
-may_read_box a at = record {
-  inside = at.loose.is_in.inside;
-  there = at.box.there;
-  payload = omega arith;
-  room = let two = at.two in let room = at.loose.room in omega (arith, two, room);
-}
+may_read_box a at =
+    may_read 8 a 1 0 at.loose at.box.there (let two = at.two in omega (arith, two)) (omega arith)
 
 -- The record.
 
@@ -214,19 +164,19 @@ module _ (a b : Bound Kept) (heap : b.heap ≡ a.heap) (table : b.seat.table ≡
       (knows.Record (number_record n)) =
       subst (λ (k : Known). IsKnown no_field_is_fixed step.core step.lore a.seat.me.number x k)
       at.known (knows_place a.seat.me step.core step.lore step.mine 2 there) in
-      found_word a b heap table 2 there found step x (field.Num n) refl
+      found_word a b heap table 2 0 there found step x (field.Num n) refl
       (record_number step.core step.lore step.mine.shown.facts x n
       (reached_place a.seat.me step.core step.lore step.mine 2 there) is.1)
 
   pub holds_still : HoldsRecord n b
   holds_still =
-      let read = was a b heap table 2 there found step in
+      let read = was a b heap table 2 0 there found step in
       let held : held_cells b ≡ held_cells a ++ [] =
-      read.holds.held ∙ ap (λ (w : Field). held_cells a ++ cells_found w) number_found in
+      held_as a b heap table 2 0 there found step (field.Num n) number_found in
       let many = many_held a b [] held in
       let three = at.three in
       record {
-        loose = stays_loose a b heap table 2 there found step at.loose;
+        loose = stays_loose a b heap table 2 0 there found step 8 at.loose;
         three = omega (arith, many, three);
         box = box_still a b [] held (read.holds.known 1 at.box.there) at.box;
         known = subst (λ (k : Known). StillKnown no_field_is_fixed k (known_of b.seat.me 2))
@@ -254,11 +204,6 @@ holds_read a b heap table has found step read is =
     (holds_still a b heap table has.number has.holds found step)
 
 pub may_read_record : (a : Bound Kept) → HoldsSome a → MayRead a.seat.me 2 0
-may_read_record a has = record {
-  inside = has.holds.loose.is_in.inside;
-  there = record_there has.number a has.holds;
-  payload = omega arith;
-  room =
-      let three = has.holds.three in
-      let room = has.holds.loose.room in omega (arith, three, room);
-}
+may_read_record a has =
+    may_read 8 a 2 0 has.holds.loose (record_there has.number a has.holds)
+    (let three = has.holds.three in omega (arith, three)) (omega arith)

@@ -1,6 +1,5 @@
 pub mod Ending
 pub mod Finding
-pub mod Going
 pub mod Making
 pub mod Openings
 pub mod Putting

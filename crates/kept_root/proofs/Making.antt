@@ -1,5 +1,5 @@
 -- A record that is made: its fields, and what is held and known behind it.
-use Rattle.std.proofs.Common.{◌≡◌, ◌<◌, ◌+◌, ◌∷◌, ℕ, zero, suc, List, [], length, ap, ◌∙◌}
+use Rattle.std.proofs.Common.{◌≡◌, ◌<◌, ◌+◌, ◌∷◌, ℕ, List, [], length, ap, ◌∙◌}
 use Rattle.std.proofs.Common.{arith}
 use Rattle.std.proofs.lemmas.List.{get_or_append_left, get_or_push}
 use Rattle.heap_rule.specs.Lore.{known_at}
@@ -8,9 +8,11 @@ use Rattle.heap_rule.specs.declared.known.Known.TheVariants as knows
 use Rattle.mutator_events.specs.declared.values.Value.{Value}
 use Rattle.mutator_events.specs.declared.values.Value.TheVariants as values
 use Rattle.mutator_seat.specs.Bound.{Bound}
+use Rattle.cell_making.proofs.Naming.{all_at}
+use Rattle.cell_making.proofs.Resting.{loose_stays}
 use Rattle.cell_making.specs.Makes.{MakesRecord, MayTerm, value_at}
 use Rattle.held_places.proofs.Going.{many_cells, many_held, target_still}
-use Rattle.kept_root.specs.Holding.{Has, HoldsBox, HoldsRecord, Loose}
+use Rattle.kept_root.specs.Holding.{HoldsBox, HoldsRecord}
 use Rattle.kept_root.specs.Rule.{number_record}
 use Rattle.kept_root.specs.declared.kept.Kept.{Kept}
 
@@ -19,34 +21,13 @@ record_values n = values.Num n ∷ values.Null ∷ values.Null ∷ values.Null �
 
 pub may_term : (known : List Known) (n : ℕ) → n < 1000000 → (i : ℕ) → i < 5
     → MayTerm known (value_at (record_values n) i)
-may_term known n small zero lt =
-    (let e : n < 4611686018427387904 = omega (arith, small) in e)
-may_term known n small (suc zero) lt = tt
-may_term known n small (suc (suc zero)) lt = tt
-may_term known n small (suc (suc (suc zero))) lt = tt
-may_term known n small (suc (suc (suc (suc zero)))) lt = tt
-may_term known n small (suc (suc (suc (suc (suc i))))) lt = absurd (omega (arith, lt))
+may_term known n small i lt =
+    let fits : n < 4611686018427387904 = omega (arith, small) in
+    all_at (MayTerm known) tt (record_values n) (fits, (tt, (tt, (tt, (tt, tt))))) i
 
 module _ (a b : Bound Kept) (n place : ℕ) (made : MakesRecord a place (record_values n) b) where
-  pub makes_has : Has a.seat.me.pass.number a b
-  makes_has = record {
-    heap = made.stays.heap;
-    number_is = made.stays.number;
-    kept = ap (λ (p : Kept). p.number) made.stays.pass;
-  }
-
   longer : length b.seat.me.own.held ≡ length a.seat.me.own.held + 1
   longer = many_held a b (made.cell ∷ []) made.held
-
-  pub makes_loose : Loose a → Loose b
-  makes_loose at = record {
-    is_in = record {
-      inside = made.stays.inside ∙ at.is_in.inside;
-      some = let some = at.is_in.some in let more = longer in omega (arith, some, more);
-      anchor = target_still a b (made.cell ∷ []) made.held 0 at.is_in.some ∙ at.is_in.anchor;
-    };
-    room = made.stays.room ∙ at.room;
-  }
 
   pub makes_record : HoldsBox a → HoldsRecord n b
   makes_record at =
@@ -56,7 +37,7 @@ module _ (a b : Bound Kept) (n place : ℕ) (made : MakesRecord a place (record_
       let fit = made.fit in
       let known_two : length a.seat.me.known ≡ 2 = omega (arith, two, many, fit) in
       record {
-        loose = makes_loose at.loose;
+        loose = loose_stays 8 a b (made.cell ∷ []) made.held made.stays at.loose;
         three = omega (arith, more, two);
         box = record {
           there = omega (arith, more, two);

@@ -1,8 +1,7 @@
 -- The writes of the box: the rule stands with the pass that is picked, and what they leave.
-use Rattle.std.proofs.Common.{◌≡◌, ◌<◌, ◌==◌, ◌||◌, ℕ, Bool, true}
+use Rattle.std.proofs.Common.{◌≡◌, ◌<◌, ℕ, Bool, true}
 use Rattle.std.proofs.Common.{false, List, Option, Some, None, length, slice_set, inl, inr}
 use Rattle.std.proofs.Common.{refl, sym, ◌∙◌, ap, subst, arith}
-use Rattle.std.proofs.lemmas.Bool.{eq-eqb}
 use mathlib.Core.Option.{some}
 use lib.ListN.{get_elem?}
 use Rattle.atomic_table.proofs.Lists.{at_set, set_again}
@@ -12,7 +11,7 @@ use Rattle.core_machine.specs.State.{State, field_of, target_of}
 use Rattle.core_machine.specs.Words.{same_field}
 use Rattle.core_machine.specs.declared.events.Event.TheVariants as event
 use Rattle.core_machine.specs.declared.events.Found.TheVariants as finds
-use Rattle.heap_rule.specs.Asks.{IsBox, IsSealedValue, is_sealed, known_of, target}
+use Rattle.heap_rule.specs.Asks.{IsBox, is_sealed, known_of, target}
 use Rattle.heap_rule.specs.Boxes.{Map, boxes_of, revealing, written_if, written_map}
 use Rattle.heap_rule.specs.Facts.{IsKnown}
 use Rattle.heap_rule.specs.Lore.{Entry, Lore, Plain, entry_of, known_at, named_or, put}
@@ -22,19 +21,17 @@ use Rattle.heap_rule.specs.declared.known.Known.{Known}
 use Rattle.heap_rule.specs.declared.known.Known.TheVariants as knows
 use Rattle.heap_rule.specs.declared.view.View.{View}
 use Rattle.heap_rule.proofs.Entries.{written_else, written_here}
-use Rattle.heap_rule.proofs.Reading.{cell_there}
 use Rattle.heap_rule.proofs.Seats.{knows_place, target_now}
 use Rattle.mutator_events.specs.declared.values.Value.{Value}
 use Rattle.mutator_events.specs.declared.values.Value.TheVariants as values
 use Rattle.mutator_events.specs.Values.{field_at}
-use Rattle.mutator_seat.specs.Bound.{Bound, held_cells}
+use Rattle.mutator_seat.specs.Bound.{Bound}
 use Rattle.mutator_seat.specs.Stretches.{Kept as KeptAll, SamePlaces}
 use Rattle.mutator_seat.specs.Writes.{MayUpdate, PicksUpdate, Updated, write_of}
 use Rattle.mutator_seat.proofs.Writes.{cell_same, field_same, many_same}
-use Rattle.held_places.proofs.Going.{many_cells}
-use Rattle.held_places.proofs.Knowns.{sealed_at}
 use Rattle.promotion.proofs.Filling.{reveals_nothing}
-use Rattle.kept_root.specs.Holding.{Has, HoldsRecord, Loose}
+use Rattle.cell_making.proofs.Naming.{sealed_value}
+use Rattle.kept_root.specs.Holding.{Has, HoldsRecord}
 use Rattle.kept_root.specs.Rule.{HasKept, keeping_if, kept_term, number_of, number_record, putting}
 use Rattle.kept_root.specs.declared.kept.Kept.{Kept}
 use Rattle.kept_root.proofs.Finding.{record_there}
@@ -117,21 +114,9 @@ record_stands v n there known s l mine =
 
 -- What the write needs.
 
-or_right : (a b : Bool) → b ≡ true → (a || b) ≡ true
-or_right true b is = refl
-or_right false b is = is
-
 module _ (n : ℕ) (a : Bound Kept) (at : HoldsRecord n a) where
   is_box : IsBox (target a.seat.me 1) (known_of a.seat.me 1)
   is_box = subst (λ (k : Known). IsBox (target a.seat.me 1) k) (sym at.box.known) tt
-
-  sealed : IsSealedValue (held_cells a) a.seat.me.known
-      (field_at a.seat.me.own.held (values.Held 2))
-  sealed =
-      or_right (target a.seat.me 2 == 0) _
-      (sealed_at (held_cells a) a.seat.me.known 2 (target a.seat.me 2)
-      (subst (λ (m : ℕ). 2 < m) (sym (many_cells a)) (record_there n a at))
-      (cell_there a.seat.me.own.held 2) (ap is_sealed at.known))
 
   pub may_keep : MayUpdate no_field_is_fixed a.seat.me 1 0 values.Null (values.Held 2)
   may_keep = record {
@@ -141,7 +126,7 @@ module _ (n : ℕ) (a : Bound Kept) (at : HoldsRecord n a) where
     box = is_box;
     old_named = tt;
     new_named = record_there n a at;
-    sealed = sealed;
+    sealed = sealed_value a 2 (record_there n a at) (ap is_sealed at.known);
     spares = λ fixed. absurd cc;
   }
 
@@ -202,19 +187,6 @@ module _ (n : ℕ) (a : Bound Kept) (at : HoldsRecord n a) where
 
   -- What it leaves.
 
-  pub loose_same : (b : Bound Kept) → SamePlaces a b → Loose b
-  loose_same b same = record {
-    is_in = record {
-      inside = same.inside ∙ at.loose.is_in.inside;
-      some =
-          let many = many_same b.seat.me.own.held a.seat.me.own.held same.held in
-          let three = at.three in omega (arith, many, three);
-      anchor = cell_same b.seat.me.own.held a.seat.me.own.held same.held 0
-          ∙ at.loose.is_in.anchor;
-    };
-    room = same.room ∙ at.loose.room;
-  }
-
   -- the pass behind a write that was made, or was not
   module _ (b : Bound Kept) (old new : Value) (number : Option ℕ) (found : Field)
       (same : SamePlaces a b)
@@ -228,11 +200,6 @@ module _ (n : ℕ) (a : Bound Kept) (at : HoldsRecord n a) where
       kept = ap (λ (p : Kept). p.number) wrote.pass
           ∙ ap (λ (h : Bool). (keeping_if h number a.seat.me.pass).number) is;
     }
-
-  -- what was expected was found
-  pub found_same : same_field (field_at a.seat.me.own.held (values.Held 2))
-      (field_at a.seat.me.own.held (values.Held 2)) ≡ true
-  found_same = eq-eqb (target a.seat.me 2) (target a.seat.me 2) refl
 
   pub has_kept : (b : Bound Kept) → SamePlaces a b
       → Updated HasKept no_field_is_fixed

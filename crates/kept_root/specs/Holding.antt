@@ -5,20 +5,12 @@ use Rattle.cell_words.specs.Term.{Term}
 use Rattle.heap_rule.specs.declared.known.Known.TheVariants as knows
 use Rattle.heap_rule.specs.Asks.{known_of, target}
 use Rattle.heap_table.specs.Seats.{HeapId, IsSeatOf, SeatView}
-use Rattle.held_places.specs.Calls.{IsIn}
 use Rattle.mutator_seat.specs.Bound.{Bound}
+use Rattle.cell_making.specs.Resting.{Loose}
 use Rattle.kept_root.specs.Rule.{number_record}
 use Rattle.kept_root.specs.declared.kept.Kept.{Kept}
 
--- it is in and holds the anchor, and something of the places behind it
-pub record Loose (m : Bound Kept) : Type 0 where
-  pub is_in : IsIn m
-  pub room : m.seat.me.room ≡ 8
-
--- the anchor alone
-pub record Rests (m : Bound Kept) : Type 0 where
-  pub loose : Loose m
-  pub alone : length m.seat.me.own.held ≡ 1
+-- Its held list has room for eight places, the anchor first.
 
 -- the box of the rule stands at place 1
 pub record HasBox (m : Bound Kept) : Type 0 where
@@ -29,13 +21,13 @@ pub record HasBox (m : Bound Kept) : Type 0 where
 
 -- the anchor and the box
 pub record HoldsBox (m : Bound Kept) : Type 0 where
-  pub loose : Loose m
+  pub loose : Loose 8 m
   pub two : length m.seat.me.own.held ≡ 2
   pub box : HasBox m
 
 -- and the record of this number
 pub record HoldsRecord (number : ℕ) (m : Bound Kept) : Type 0 where
-  pub loose : Loose m
+  pub loose : Loose 8 m
   pub three : length m.seat.me.own.held ≡ 3
   pub box : HasBox m
   pub known : known_of m.seat.me 2 ≡ knows.Record (number_record number)

@@ -2,7 +2,8 @@
 //! and the number of that.
 ghost use Rattle.std.specs.Prelude.{◌≡◌, Some, ℕ};
 ghost use Rattle.kept_root.specs.Holding.{Has, HoldsBox, HoldsRecord, HoldsSome, IsDone, IsNew};
-ghost use Rattle.kept_root.specs.Holding.{KeepsSome, Loose, Rests};
+ghost use Rattle.kept_root.specs.Holding.{KeepsSome};
+ghost use Rattle.cell_making.specs.Resting.{Loose, Rests};
 
 use crate::kept::Kept;
 use heap_table::CellHeap;
@@ -12,7 +13,7 @@ use std::marker::Brand;
 /// The mutator of the seat, in.
 pub(crate) fn come_in<'a>(heap: &'a CellHeap<Kept>, seat: MutSeat<Kept>) -> Mutator<'a, Kept>
     requires new { IsNew heap.now seat.me.number seat }
-    ensures rests { Rests result }
+    ensures rests { Rests 8 result }
     ensures heap { result.heap ≡ heap.now }
     ensures number { result.seat.me.number ≡ seat.me.number }
     ensures pass { result.seat.me.pass ≡ seat.me.pass }
@@ -24,7 +25,7 @@ pub(crate) fn come_in<'a>(heap: &'a CellHeap<Kept>, seat: MutSeat<Kept>) -> Muta
 
 /// The mutator goes out and is over.
 pub(crate) fn leave(m: Mutator<'_, Kept>) -> MutSeat<Kept>
-    requires rests { Rests m }
+    requires rests { Rests 8 m }
     ensures done { IsDone m.entry.heap m.entry.seat.me.number m.entry.seat.me.pass.number result }
 {
     let mut m = m;
@@ -34,8 +35,8 @@ pub(crate) fn leave(m: Mutator<'_, Kept>) -> MutSeat<Kept>
 
 /// Holds the anchor alone.
 pub(crate) fn let_go(m: &mut Mutator<'_, Kept>)
-    requires loose { Loose m.old }
-    ensures rests { Rests m.new }
+    requires loose { Loose 8 m.old }
+    ensures rests { Rests 8 m.new }
     ensures same { Has m.old.seat.me.pass.number m.old m.new }
 {
     m.cut(1);
@@ -43,7 +44,7 @@ pub(crate) fn let_go(m: &mut Mutator<'_, Kept>)
 
 /// Holds the box behind the anchor.
 pub(crate) fn hold_box(m: &mut Mutator<'_, Kept>)
-    requires rests { Rests m.old }
+    requires rests { Rests 8 m.old }
     ensures found { HoldsBox m.new }
     ensures same { Has m.old.seat.me.pass.number m.old m.new }
 {

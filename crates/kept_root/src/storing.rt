@@ -6,7 +6,8 @@
 //! as far as is proved, and then it is kept still.
 ghost use Rattle.std.specs.Prelude.{◌≡◌, ◌<◌, None, Some};
 ghost use Rattle.std.specs.Bool.{OnFalse, OnTrue};
-ghost use Rattle.kept_root.specs.Holding.{Has, HoldsBox, HoldsRecord, HoldsSome, Loose};
+ghost use Rattle.kept_root.specs.Holding.{Has, HoldsBox, HoldsRecord, HoldsSome};
+ghost use Rattle.cell_making.specs.Resting.{Loose};
 
 use crate::kept::Kept;
 use cell_making::fill_record;
@@ -25,7 +26,7 @@ pub(crate) fn make_record<R: Wait>(
     requires holds { HoldsBox m.old }
     requires small { number < 1000000 }
     ensures made { OnTrue result (HoldsRecord number m.new) }
-    ensures none { OnFalse result (Loose m.new) }
+    ensures none { OnFalse result (Loose 8 m.new) }
     ensures same { Has m.old.seat.me.pass.number m.old m.new }
 {
     let fields = [
@@ -46,7 +47,7 @@ pub(crate) fn keep(m: &mut Mutator<'_, Kept>, number: u64)
     requires holds { HoldsRecord number m.old }
     requires first { m.old.seat.me.number ≡ 0 }
     requires empty { m.old.seat.me.pass.number ≡ None }
-    ensures loose { Loose m.new }
+    ensures loose { Loose 8 m.new }
     ensures kept { Has (Some number) m.old m.new }
 {
     let _ = number;
@@ -60,7 +61,7 @@ pub(crate) fn keep(m: &mut Mutator<'_, Kept>, number: u64)
 pub(crate) fn forget(m: &mut Mutator<'_, Kept>) -> bool
     requires holds { HoldsSome m.old }
     requires first { m.old.seat.me.number ≡ 0 }
-    ensures loose { Loose m.new }
+    ensures loose { Loose 8 m.new }
     ensures gone { OnTrue result (Has None m.old m.new) }
     ensures kept { OnFalse result (Has m.old.seat.me.pass.number m.old m.new) }
 {

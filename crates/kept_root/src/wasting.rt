@@ -1,7 +1,8 @@
 //! The call that blocks: another mutator makes records that nothing names, many more than there are
 //! cells. Where no cell is free it waits for the collector.
 ghost use Rattle.std.specs.Prelude.{◌≡◌, ◌≤◌, ◌<◌, None};
-ghost use Rattle.kept_root.specs.Holding.{Has, IsDone, Rests};
+ghost use Rattle.kept_root.specs.Holding.{Has, IsDone};
+ghost use Rattle.cell_making.specs.Resting.{Rests};
 ghost use Rattle.kept_root.specs.Working.{IsWorker};
 
 use crate::kept::Kept;
@@ -24,9 +25,9 @@ pub(crate) struct Worker {
 
 /// Comes to a safe point, makes a record, and lets it go. It tells how many it made.
 fn waste_one<R: Wait>(rt: &R, hints: &mut Hints<'_>, m: &mut Mutator<'_, Kept>, number: u32) -> u64
-    requires rests { Rests m.old }
+    requires rests { Rests 8 m.old }
     requires small { number < 500 }
-    ensures rests { Rests m.new }
+    ensures rests { Rests 8 m.new }
     ensures same { Has m.old.seat.me.pass.number m.old m.new }
     ensures one { result ≤ 1 }
 {

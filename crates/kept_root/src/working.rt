@@ -3,7 +3,8 @@ ghost use Rattle.std.specs.Prelude.{◌≡◌, ◌<◌, IfNone, IfSome, None, So
 ghost use Rattle.std.specs.Bool.{OnFalse, OnTrue};
 ghost use Rattle.free_cells.specs.declared.queue.FreeQueue.{FreeQueue as Queue};
 ghost use Rattle.heap_table.specs.Seats.{HeapId};
-ghost use Rattle.kept_root.specs.Holding.{Has, HoldsSome, IsDone, KeepsSome, Loose, Rests};
+ghost use Rattle.kept_root.specs.Holding.{Has, HoldsSome, IsDone, KeepsSome};
+ghost use Rattle.cell_making.specs.Resting.{Rests};
 ghost use Rattle.kept_root.specs.Working.{AreWorkers, IsWorker, Reports};
 
 use crate::kept::Kept;
@@ -25,11 +26,11 @@ fn keep_number<R: Wait>(
     m: &mut Mutator<'_, Kept>,
     number: u64,
 ) -> bool
-    requires rests { Rests m.old }
+    requires rests { Rests 8 m.old }
     requires first { m.old.seat.me.number ≡ 0 }
     requires empty { m.old.seat.me.pass.number ≡ None }
     requires small { number < 1000000 }
-    ensures rests { Rests m.new }
+    ensures rests { Rests 8 m.new }
     ensures kept { OnTrue result (Has (Some number) m.old m.new) }
     ensures none { OnFalse result (Has m.old.seat.me.pass.number m.old m.new) }
 {
@@ -51,9 +52,9 @@ fn over_call<R: Wait>(
     m: &mut Mutator<'_, Kept>,
     other: Worker,
 ) -> (MutSeat<Kept>, u64)
-    requires rests { Rests m.old }
+    requires rests { Rests 8 m.old }
     requires other { IsWorker heap.now queue.now 1 other }
-    ensures rests { Rests m.new }
+    ensures rests { Rests 8 m.new }
     ensures same { Has m.old.seat.me.pass.number m.old m.new }
     ensures done { IsDone heap.now 1 None result.0 }
 {
@@ -65,7 +66,7 @@ fn over_call<R: Wait>(
 
 /// Reads from the anchor down what is kept: it is held behind, and its number is told.
 fn read_back(m: &mut Mutator<'_, Kept>) -> u64
-    requires rests { Rests m.old }
+    requires rests { Rests 8 m.old }
     requires first { m.old.seat.me.number ≡ 0 }
     requires keeps { KeepsSome m.old }
     ensures number { (n : ℕ) → m.old.seat.me.pass.number ≡ Some n → result ≡ n }
@@ -93,11 +94,11 @@ pub(crate) struct Report {
 
 /// Reads what was kept, and takes it out of the box. It tells the number, and what is kept still.
 fn take_back(m: &mut Mutator<'_, Kept>) -> (u64, Option<u64>)
-    requires rests { Rests m.old }
+    requires rests { Rests 8 m.old }
     requires first { m.old.seat.me.number ≡ 0 }
     requires keeps { KeepsSome m.old }
     ensures number { (n : ℕ) → m.old.seat.me.pass.number ≡ Some n → result.0 ≡ n }
-    ensures rests { Rests m.new }
+    ensures rests { Rests 8 m.new }
     ensures left { Has result.1 m.old m.new }
 {
     let number = read_back(m);

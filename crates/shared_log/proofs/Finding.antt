@@ -1,31 +1,28 @@
 -- What the reads of a thread find: the newest entry, and its number.
-use Rattle.std.proofs.Common.{◌≡◌, ◌<◌, ◌+◌, ℕ, List, [], ◌∷◌, ◌++◌, length, Some}
+use Rattle.std.proofs.Common.{◌≡◌, ◌<◌, ◌+◌, ℕ, List, [], ◌++◌, length, Some}
 use Rattle.std.proofs.Common.{refl, sym, ◌∙◌, ap, subst, arith}
 use Rattle.cell_words.specs.declared.fields.Field.{Field}
 use Rattle.cell_words.specs.declared.fields.Field.TheVariants as field
 use Rattle.cell_words.specs.Term.{num}
 use Rattle.core_machine.specs.declared.events.Event.TheVariants as event
 use Rattle.core_machine.specs.declared.events.Found.TheVariants as finds
-use Rattle.core_machine.specs.State.{State, field_of, target_of}
+use Rattle.core_machine.specs.State.{State, field_of}
 use Rattle.heap_rule.specs.declared.known.Known.{Known}
-use Rattle.heap_rule.specs.declared.known.Known.TheVariants as knows
-use Rattle.heap_rule.specs.declared.known.Learned.{Learned}
-use Rattle.heap_rule.specs.declared.view.View.{View}
 use Rattle.heap_rule.specs.Asks.{MayRead, known_of, target}
 use Rattle.heap_rule.specs.Boxes.{boxes_of, payload_of}
-use Rattle.heap_rule.specs.Lore.{Lore, five_plain, learned, learned_from, plain}
+use Rattle.heap_rule.specs.Lore.{Lore, five_plain, learned_from, plain}
 use Rattle.heap_rule.specs.Steps.{same_pass}
-use Rattle.heap_rule.proofs.AfterReads.{found_known}
 use Rattle.heap_rule.proofs.Entries.{same_entry}
 use Rattle.heap_rule.proofs.EntryWords.{learned_box, number_word}
 use Rattle.heap_rule.proofs.Maps.{entry_names, in_map, of_map}
-use Rattle.heap_rule.proofs.Seats.{target_now}
 use Rattle.mutator_events.specs.Events.{AtEvent}
 use Rattle.mutator_seat.specs.Bound.{Bound, held_cells}
-use Rattle.held_places.specs.Calls.{Goes, StillKnown, WasRead, cells_found}
-use Rattle.held_places.proofs.Going.{in_still, many_held}
-use Rattle.held_places.proofs.Steps.{same_value, was_read}
-use Rattle.shared_log.specs.Appending.{Appends, HoldsEntry, HoldsSome, Loose, Rests}
+use Rattle.held_places.specs.Calls.{StillKnown}
+use Rattle.held_places.proofs.Going.{many_held}
+use Rattle.cell_making.specs.Resting.{HasPass, Rests}
+use Rattle.cell_making.proofs.OneRead.{found_word, held_as, may_read, newest_known, one_longer}
+use Rattle.cell_making.proofs.OneRead.{stays_loose, was, word_found}
+use Rattle.shared_log.specs.Appending.{Appends, HoldsEntry, HoldsSome}
 use Rattle.shared_log.specs.Logging.{HasNumber, KeepsLog, KnowsEntry, is_fixed}
 use Rattle.shared_log.specs.Shrinks.{has_number}
 use Rattle.shared_log.specs.declared.log.Appended.{Appended}
@@ -36,24 +33,11 @@ use Rattle.shared_log.proofs.Picks.{Seen, anchor_entry, entry_seen}
 pub none_more : (p : Appended) → p ≡ record { count = p.count + 0 }
 none_more p = λ i. record { count = (let e : p.count ≡ p.count + 0 = omega arith in e) i }
 
-pub appends_none : (a b : Bound Appended) → Goes [] a b → b.seat.me.pass ≡ a.seat.me.pass
-    → Appends 0 a b
-appends_none a b goes pass = record {
-  heap = goes.heap;
-  number = goes.number;
-  pass = pass ∙ none_more a.seat.me.pass;
-}
-
-pub appends_then : (x y : ℕ) (a b c : Bound Appended) → Appends x a b → Appends y b c
-    → Appends (x + y) a c
-appends_then x y a b c first second = record {
-  heap = second.heap ∙ first.heap;
-  number = second.number ∙ first.number;
-  pass = second.pass
-      ∙ (λ i. record {
-        count = (let e : b.seat.me.pass.count + y ≡ a.seat.me.pass.count + (x + y) =
-            omega (arith, ap (λ (p : Appended). p.count) first.pass) in e) i;
-      });
+pub appends_none : (a b : Bound Appended) → HasPass a.seat.me.pass a b → Appends 0 a b
+appends_none a b has = record {
+  heap = has.heap;
+  number = has.number_is;
+  pass = has.pass_is ∙ none_more a.seat.me.pass;
 }
 
 -- What was known of an entry is known of it still.
@@ -74,32 +58,10 @@ entry_still a b cells held place number still has =
       number_is = boxed.1.1 0 (num number) (omega arith) refl has.number_is;
     }
 
--- One read.
-
-module _ (a b : Bound Appended) (heap : b.heap ≡ a.heap) (table : b.seat.table ≡ a.seat.table)
-    (place : ℕ) (there : place < length a.seat.me.own.held) (found : Field)
-    (step : AtEvent KeepsLog is_fixed a.seat.me (event.Read a.seat.me.number place 0) same_pass
-    (finds.Field found) b.seat.me) where
-  pub was : WasRead is_fixed a b place 0 found
-  was = was_read is_fixed KeepsLog same_pass a b place 0 found heap table there step
-
-  pub reads_none : Appends 0 a b
-  reads_none = record {
-    heap = was.goes.heap;
-    number = was.goes.number;
-    pass = ap (λ (v : View Appended). v.pass) step.new ∙ none_more a.seat.me.pass;
-  }
-
-  pub stays_loose : (w : Field) → found ≡ w → Loose a → Loose b
-  stays_loose w is loose = record {
-    is_in = in_still a b (cells_found found) _ loose.is_in was.goes was.holds.held;
-    room = was.goes.room ∙ loose.room;
-  }
-
 -- The anchor.
 
 module _ (a b : Bound Appended) (heap : b.heap ≡ a.heap) (table : b.seat.table ≡ a.seat.table)
-    (at : Rests a) (found : Field)
+    (at : Rests 8 a) (found : Field)
     (step : AtEvent KeepsLog is_fixed a.seat.me (event.Read a.seat.me.number 0 0) same_pass
     (finds.Field found) b.seat.me) where
   abbrev s : State
@@ -118,16 +80,9 @@ module _ (a b : Bound Appended) (heap : b.heap ≡ a.heap) (table : b.seat.table
   anchor_word = entry_names l.terms (field_of s 0 0) c
       (anchor_entry s l step.passes step.kept ∙ step.kept.names)
 
-  read_word : field_of s (target_of s a.seat.me.number 0) 0 ≡ field.Cell c
-  read_word =
-      ap (λ (x : ℕ). field_of s x 0)
-      (target_now a.seat.me s l step.mine 0 ∙ at.loose.is_in.anchor) ∙ anchor_word
-
   found_is : found ≡ field.Cell c
-  found_is = same_value found (field.Cell c) (sym step.found_is ∙ ap finds.Field read_word)
-
-  abbrev tells : Learned
-  tells = learned s l (event.Read a.seat.me.number 0 0)
+  found_is = found_word a b heap table 0 0 first_there found step 0 (field.Cell c)
+      at.loose.is_in.anchor anchor_word
 
   abbrev number : ℕ
   number = length step.kept.writers
@@ -144,46 +99,40 @@ module _ (a b : Bound Appended) (heap : b.heap ≡ a.heap) (table : b.seat.table
       (subst (λ (x : ℕ). boxes_of s l x ≡ Some has.box) is has.there) ∙ has.number_is in
       cc
 
-  told_box : tells.found ≡ knows.Boxed (five_plain (payload_of s l c))
-  told_box = ap (learned_from s l) read_word
-      ∙ learned_box is_fixed s l step.mine.shown.facts c (of_map s l c has.box has.there) other
-
   number_told : payload_of s l c 0 ≡ has.box 0
   number_told = same_entry (boxes_of s l) c 0 (payload_of s l c) has.box
       (in_map s l c (of_map s l c has.box has.there)) has.there
 
   two : length b.seat.me.own.held ≡ 2
   two =
-      let many = many_held a b (c ∷ [])
-      (subst (λ (w : Field). held_cells b ≡ held_cells a ++ cells_found w) found_is
-      (was a b heap table 0 first_there found step).holds.held) in
-      let one = at.alone in omega (arith, many, one)
+      let longer = one_longer a b heap table 0 0 first_there found step c found_is in
+      let one = at.alone in omega (arith, longer, one)
 
   pub holds_newest : HoldsSome b
   holds_newest = record {
     number = number;
     holds = record {
-      loose = stays_loose a b heap table 0 first_there found step found refl at.loose;
+      loose = stays_loose a b heap table 0 0 first_there found step 8 at.loose;
       two = two;
       entry = record {
         told = five_plain (payload_of s l c);
         there = let many = two in omega (arith, many);
         known = ap (known_of b.seat.me) (sym at.alone)
-            ∙ found_known is_fixed a.seat.me b.seat.me s l step.mine 0 0
-            (finds.Field found) tells a.seat.me.pass step.new c (ap finds.Field found_is)
-            ∙ told_box;
+            ∙ newest_known a b heap table 0 0 first_there found step c found_is
+            ∙ ap (learned_from s l)
+            (word_found a b heap table 0 0 first_there found step 0 (field.Cell c)
+            at.loose.is_in.anchor anchor_word)
+            ∙ learned_box is_fixed s l step.mine.shown.facts c (of_map s l c has.box has.there)
+            other;
         number_is = ap plain (number_told ∙ has.number_is);
       };
     };
   }
 
-pub may_read_anchor : (a : Bound Appended) → Rests a → MayRead a.seat.me 0 0
-may_read_anchor a at = record {
-  inside = at.loose.is_in.inside;
-  there = at.loose.is_in.some;
-  payload = omega arith;
-  room = let one = at.alone in let room = at.loose.room in omega (arith, one, room);
-}
+pub may_read_anchor : (a : Bound Appended) → Rests 8 a → MayRead a.seat.me 0 0
+may_read_anchor a at =
+    may_read 8 a 0 0 at.loose at.loose.is_in.some
+    (let one = at.alone in omega (arith, one)) (omega arith)
 
 -- The number of the entry that is held.
 
@@ -198,22 +147,21 @@ module _ (a b : Bound Appended) (heap : b.heap ≡ a.heap) (table : b.seat.table
   seen = entry_seen a.seat.me step.core step.lore step.mine 1 some.number holds.entry
 
   pub number_found : found ≡ field.Num some.number
-  number_found = same_value found (field.Num some.number)
-      (sym step.found_is
-      ∙ ap (λ (x : ℕ). finds.Field (field_of step.core x 0))
-      (target_now a.seat.me step.core step.lore step.mine 1)
-      ∙ ap finds.Field (number_word is_fixed step.core step.lore step.mine.shown.facts
-      (target a.seat.me 1) 0 some.number seen.in_is.reached seen.number_is))
+  number_found =
+      found_word a b heap table 1 0 holds.entry.there found step (target a.seat.me 1)
+      (field.Num some.number) refl
+      (number_word is_fixed step.core step.lore step.mine.shown.facts (target a.seat.me 1) 0
+      some.number seen.in_is.reached seen.number_is)
 
   pub holds_number : (n : ℕ) → found ≡ field.Num n → HoldsEntry n b
   holds_number n word =
-      let read = was a b heap table 1 holds.entry.there found step in
+      let read = was a b heap table 1 0 holds.entry.there found step in
       let held : held_cells b ≡ held_cells a ++ [] =
-      read.holds.held ∙ ap (λ (w : Field). held_cells a ++ cells_found w) word in
+      held_as a b heap table 1 0 holds.entry.there found step (field.Num n) word in
       let number : some.number ≡ n =
       (let e : field.Num some.number ≡ field.Num n = sym number_found ∙ word in cc) in
       record {
-        loose = stays_loose a b heap table 1 holds.entry.there found step found refl holds.loose;
+        loose = stays_loose a b heap table 1 0 holds.entry.there found step 8 holds.loose;
         two = (let many = many_held a b [] held in let two = holds.two in omega (arith, many, two));
         entry = subst (λ (k : ℕ). KnowsEntry b.seat.me 1 k) number
             (entry_still a b [] held 1 some.number
@@ -221,9 +169,6 @@ module _ (a b : Bound Appended) (heap : b.heap ≡ a.heap) (table : b.seat.table
       }
 
 pub may_read_number : (a : Bound Appended) → HoldsSome a → MayRead a.seat.me 1 0
-may_read_number a some = record {
-  inside = some.holds.loose.is_in.inside;
-  there = some.holds.entry.there;
-  payload = omega arith;
-  room = let two = some.holds.two in let room = some.holds.loose.room in omega (arith, two, room);
-}
+may_read_number a some =
+    may_read 8 a 1 0 some.holds.loose some.holds.entry.there
+    (let two = some.holds.two in omega (arith, two)) (omega arith)

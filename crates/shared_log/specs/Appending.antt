@@ -3,24 +3,14 @@
 use Rattle.std.specs.Prelude.{ℕ, ◌≡◌, ◌≤◌, ◌+◌, true, false, [], length}
 use Rattle.cell_words.specs.declared.controls.Stage.TheVariants as stage
 use Rattle.heap_table.specs.Seats.{HeapId, IsSeatOf, SeatView}
-use Rattle.held_places.specs.Calls.{IsIn}
 use Rattle.mutator_seat.specs.Bound.{Bound}
+use Rattle.cell_making.specs.Resting.{Loose}
 use Rattle.shared_log.specs.Logging.{KnowsEntry, MayAppend}
 use Rattle.shared_log.specs.declared.log.Appended.{Appended}
 
--- it is in and holds the anchor, and something of the places behind it
-pub record Loose (m : Bound Appended) : Type 0 where
-  pub is_in : IsIn m
-  pub room : m.seat.me.room ≡ 8
-
--- the anchor alone
-pub record Rests (m : Bound Appended) : Type 0 where
-  pub loose : Loose m
-  pub alone : length m.seat.me.own.held ≡ 1
-
--- and the box with this number
+-- It holds the anchor and the box with this number, and has room for eight places.
 pub record HoldsEntry (number : ℕ) (m : Bound Appended) : Type 0 where
-  pub loose : Loose m
+  pub loose : Loose 8 m
   pub two : length m.seat.me.own.held ≡ 2
   pub entry : KnowsEntry m.seat.me 1 number
 
@@ -30,7 +20,7 @@ pub record HoldsSome (m : Bound Appended) : Type 0 where
 
 -- and a fresh box for the entry behind it
 pub record HoldsNext (number : ℕ) (m : Bound Appended) : Type 0 where
-  pub loose : Loose m
+  pub loose : Loose 8 m
   pub may : MayAppend m.seat.me 1 2 number
 
 -- it is the mutator of the same heap, and has appended so many more

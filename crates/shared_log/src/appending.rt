@@ -3,7 +3,8 @@
 ghost use Rattle.std.specs.Prelude.{◌≡◌, ◌<◌, ◌≤◌};
 ghost use Rattle.std.specs.Bool.{OnFalse, OnTrue};
 ghost use Rattle.shared_log.specs.Appending.{Appends, HoldsEntry, HoldsNext, HoldsSome, IsDone};
-ghost use Rattle.shared_log.specs.Appending.{IsNew, Loose, Rests};
+ghost use Rattle.shared_log.specs.Appending.{IsNew};
+ghost use Rattle.cell_making.specs.Resting.{Loose, Rests};
 
 use crate::log::Appended;
 use cell_making::fill_box;
@@ -19,7 +20,7 @@ const GREATEST: u64 = 1_000_000;
 /// The mutator of the seat, in.
 fn come_in<'a>(heap: &'a CellHeap<Appended>, seat: MutSeat<Appended>) -> Mutator<'a, Appended>
     requires new { IsNew heap.now seat.me.number seat }
-    ensures rests { Rests result }
+    ensures rests { Rests 8 result }
     ensures heap { result.heap ≡ heap.now }
     ensures number { result.seat.me.number ≡ seat.me.number }
     ensures pass { result.seat.me.pass ≡ seat.me.pass }
@@ -31,7 +32,7 @@ fn come_in<'a>(heap: &'a CellHeap<Appended>, seat: MutSeat<Appended>) -> Mutator
 
 /// The mutator goes out and is over.
 fn leave(m: Mutator<'_, Appended>) -> MutSeat<Appended>
-    requires rests { Rests m }
+    requires rests { Rests 8 m }
     requires few { m.seat.me.pass.count ≤ 4294967295 }
     ensures done { IsDone m.entry.heap m.entry.seat.me.number m.entry.seat.me.pass.count result }
 {
@@ -42,7 +43,7 @@ fn leave(m: Mutator<'_, Appended>) -> MutSeat<Appended>
 
 /// Reads which entry is the newest. It is held behind the anchor.
 fn read_newest(m: &mut Mutator<'_, Appended>)
-    requires rests { Rests m.old }
+    requires rests { Rests 8 m.old }
     ensures found { HoldsSome m.new }
     ensures same { Appends 0 m.old m.new }
 {
@@ -63,8 +64,8 @@ fn read_number(m: &mut Mutator<'_, Appended>) -> u64
 
 /// Holds the anchor alone.
 fn let_go(m: &mut Mutator<'_, Appended>)
-    requires loose { Loose m.old }
-    ensures rests { Rests m.new }
+    requires loose { Loose 8 m.old }
+    ensures rests { Rests 8 m.new }
     ensures same { Appends 0 m.old m.new }
 {
     m.cut(1);
@@ -86,7 +87,7 @@ fn make_entry<R: Wait>(
     requires count { count ≡ m.old.seat.me.pass.count }
     requires few { count ≤ 4294967295 }
     ensures made { OnTrue result (HoldsNext number m.new) }
-    ensures none { OnFalse result (Loose m.new) }
+    ensures none { OnFalse result (Loose 8 m.new) }
     ensures same { Appends 0 m.old m.new }
 {
     let entry = [
@@ -105,7 +106,7 @@ fn make_entry<R: Wait>(
 /// Exchanges the entry that the anchor names for the next one, and tells how many were appended.
 fn exchange(m: &mut Mutator<'_, Appended>, number: u64) -> u64
     requires holds { HoldsNext number m.old }
-    ensures loose { Loose m.new }
+    ensures loose { Loose 8 m.new }
     ensures appended { Appends result m.old m.new }
     ensures small { result ≤ 1 }
 {
@@ -124,12 +125,12 @@ fn append_behind<R: Wait>(
     writer: u64,
     count: u64,
 ) -> u64
-    requires rests { Rests m.old }
+    requires rests { Rests 8 m.old }
     requires writer { writer ≡ m.old.seat.me.number }
     requires small_writer { writer < 4 }
     requires count { count ≡ m.old.seat.me.pass.count }
     requires few { count ≤ 4294967295 }
-    ensures loose { Loose m.new }
+    ensures loose { Loose 8 m.new }
     ensures appended { Appends result m.old m.new }
     ensures small { result ≤ 1 }
 {
@@ -150,12 +151,12 @@ fn try_to_append<R: Wait>(
     writer: u64,
     count: u64,
 ) -> u64
-    requires rests { Rests m.old }
+    requires rests { Rests 8 m.old }
     requires writer { writer ≡ m.old.seat.me.number }
     requires small_writer { writer < 4 }
     requires count { count ≡ m.old.seat.me.pass.count }
     requires few { count ≤ 4294967295 }
-    ensures rests { Rests m.new }
+    ensures rests { Rests 8 m.new }
     ensures appended { Appends result m.old m.new }
     ensures small { result ≤ 1 }
 {

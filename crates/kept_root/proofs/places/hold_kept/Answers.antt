@@ -1,7 +1,8 @@
 use Rattle.heap_rule.specs.NoRule.{no_field_is_fixed}
+use Rattle.cell_making.proofs.OneRead.{reads_none}
 use Rattle.heap_rule.proofs.Picking.{read_picks}
 use Rattle.kept_root.specs.Rule.{HasKept}
-use Rattle.kept_root.proofs.Finding.{holds_kept, may_read_box, reads_none}
+use Rattle.kept_root.proofs.Finding.{holds_kept, may_read_box, has_of}
 use Rattle.kept_root.proofs.places.hold_kept.Goals as goal
 
 pub read-requires-clause-may : goal.read-requires-clause-may
@@ -20,5 +21,5 @@ returns-clause-found c n keeps =
 pub returns-clause-same : goal.returns-clause-same
 returns-clause-same c =
     let told = c.read.ensures.told in
-    reads_none c.args.m.now c.read.new.self c.read.ensures.heap c.read.ensures.table 1
-    c.requires.holds.box.there told.0 told.2
+    has_of _ _ _ (reads_none c.args.m.now c.read.new.self c.read.ensures.heap
+    c.read.ensures.table 1 0 c.requires.holds.box.there told.0 told.2)

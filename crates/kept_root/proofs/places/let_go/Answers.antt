@@ -1,4 +1,5 @@
-use Rattle.kept_root.proofs.Going.{has_cut, rests_cut}
+use Rattle.cell_making.proofs.Resting.{has_cut, rests_cut}
+use Rattle.kept_root.proofs.Finding.{has_of}
 use Rattle.kept_root.proofs.places.let_go.Goals as goal
 
 pub cut-requires-clause-inside : goal.cut-requires-clause-inside
@@ -9,7 +10,8 @@ cut-requires-clause-kept c = c.requires.loose.is_in.some
 
 pub returns-clause-rests : goal.returns-clause-rests
 returns-clause-rests c =
-    rests_cut c.args.m.now c.cut.new.self c.cut.ensures.told c.requires.loose
+    rests_cut c.args.m.now c.cut.new.self c.cut.ensures.told 8 c.requires.loose
 
 pub returns-clause-same : goal.returns-clause-same
-returns-clause-same c = has_cut c.args.m.now c.cut.new.self c.cut.ensures.told
+returns-clause-same c =
+    has_of _ _ _ (has_cut c.args.m.now c.cut.new.self c.cut.ensures.told)

@@ -1,10 +1,11 @@
 use Rattle.std.proofs.Common.{◌∙◌, sym}
 use Rattle.heap_rule.specs.NoRule.{no_field_is_fixed}
+use Rattle.cell_making.proofs.OneRead.{reads_none}
 use Rattle.heap_rule.proofs.Picking.{read_picks}
 use Rattle.held_places.proofs.ReadValues.{found_number, number_alone}
 use Rattle.kept_root.specs.Rule.{HasKept}
 use Rattle.kept_root.proofs.Finding.{holds_read, may_read_record, number_found, number_is}
-use Rattle.kept_root.proofs.Finding.{reads_none, record_there}
+use Rattle.kept_root.proofs.Finding.{has_of, record_there}
 use Rattle.kept_root.proofs.places.read_number.Goals as goal
 
 pub read-requires-clause-may : goal.read-requires-clause-may
@@ -38,5 +39,6 @@ returns-clause-holds c =
 pub returns-clause-same : goal.returns-clause-same
 returns-clause-same c =
     let told = c.read.ensures.told in
-    reads_none c.args.m.now c.read.new.self c.read.ensures.heap c.read.ensures.table 2
-    (record_there c.requires.holds.number c.args.m.now c.requires.holds.holds) told.0 told.2
+    has_of _ _ _ (reads_none c.args.m.now c.read.new.self c.read.ensures.heap
+    c.read.ensures.table 2 0
+    (record_there c.requires.holds.number c.args.m.now c.requires.holds.holds) told.0 told.2)

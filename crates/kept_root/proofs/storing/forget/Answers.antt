@@ -1,7 +1,9 @@
-use Rattle.std.proofs.Common.{None, true, false}
+use Rattle.std.proofs.Common.{None, refl, true, false}
+use Rattle.cell_making.proofs.Resting.{loose_same}
+use Rattle.heap_rule.proofs.SameFields.{same_value}
 use Rattle.mutator_events.specs.declared.values.Value.TheVariants as values
 use Rattle.mutator_events.specs.Values.{field_at}
-use Rattle.kept_root.proofs.Putting.{found_same, has_if, loose_same, may_forget, picks_forget}
+use Rattle.kept_root.proofs.Putting.{has_if, may_forget, picks_forget}
 use Rattle.kept_root.proofs.storing.forget.Goals as goal
 
 pub update-requires-clause-may : goal.update-requires-clause-may
@@ -14,20 +16,20 @@ update-requires-clause-rule c =
 
 pub returns-in-Ok-clause-loose : goal.returns-in-Ok-clause-loose
 returns-in-Ok-clause-loose c =
-    loose_same c.requires.holds.number c.args.m.now c.requires.holds.holds c.update.new.self
-    c.update.ensures.places
+    loose_same 8 c.args.m.now c.update.new.self c.update.ensures.places
+    c.requires.holds.holds.loose
 
 pub returns-in-Ok-clause-gone : goal.returns-in-Ok-clause-gone
 returns-in-Ok-clause-gone c =
     has_if c.requires.holds.number c.args.m.now c.requires.holds.holds c.update.new.self
     (values.Held 2) values.Null None (field_at c.args.m.now.seat.me.own.held (values.Held 2))
     c.update.ensures.places c.in-Ok.ensures.made true
-    (found_same c.requires.holds.number c.args.m.now c.requires.holds.holds)
+    (same_value _ (field_at c.args.m.now.seat.me.own.held (values.Held 2)) refl)
 
 pub returns-in-Err-clause-loose : goal.returns-in-Err-clause-loose
 returns-in-Err-clause-loose c =
-    loose_same c.requires.holds.number c.args.m.now c.requires.holds.holds c.update.new.self
-    c.update.ensures.places
+    loose_same 8 c.args.m.now c.update.new.self c.update.ensures.places
+    c.requires.holds.holds.loose
 
 pub returns-in-Err-clause-kept : goal.returns-in-Err-clause-kept
 returns-in-Err-clause-kept c =

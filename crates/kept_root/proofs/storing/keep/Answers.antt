@@ -1,6 +1,7 @@
+use Rattle.cell_making.proofs.Resting.{loose_same}
 use Rattle.mutator_events.specs.declared.values.Value.TheVariants as values
 use Rattle.kept_root.specs.Rule.{number_of}
-use Rattle.kept_root.proofs.Putting.{has_kept, loose_same, may_keep, null_found, picks_keep}
+use Rattle.kept_root.proofs.Putting.{has_kept, may_keep, null_found, picks_keep}
 use Rattle.kept_root.proofs.storing.keep.Goals as goal
 
 pub update-requires-clause-may : goal.update-requires-clause-may
@@ -19,8 +20,7 @@ unreachable-requires c =
 
 pub returns-clause-loose : goal.returns-clause-loose
 returns-clause-loose c =
-    loose_same c.args.number c.args.m.now c.requires.holds c.update.new.self
-    c.update.ensures.places
+    loose_same 8 c.args.m.now c.update.new.self c.update.ensures.places c.requires.holds.loose
 
 pub returns-clause-kept : goal.returns-clause-kept
 returns-clause-kept c =

@@ -1,6 +1,7 @@
+use Rattle.cell_making.proofs.OneRead.{reads_none}
 use Rattle.heap_rule.proofs.Picking.{read_picks}
 use Rattle.shared_log.specs.Logging.{KeepsLog, is_fixed}
-use Rattle.shared_log.proofs.Finding.{holds_newest, may_read_anchor, reads_none}
+use Rattle.shared_log.proofs.Finding.{appends_none, holds_newest, may_read_anchor}
 use Rattle.shared_log.proofs.appending.read_newest.Goals as goal
 
 pub read-requires-clause-may : goal.read-requires-clause-may
@@ -19,5 +20,5 @@ returns-clause-found c =
 pub returns-clause-same : goal.returns-clause-same
 returns-clause-same c =
     let told = c.read.ensures.told in
-    reads_none c.args.m.now c.read.new.self c.read.ensures.heap c.read.ensures.table 0
-    c.requires.rests.loose.is_in.some told.0 told.2
+    appends_none _ _ (reads_none c.args.m.now c.read.new.self c.read.ensures.heap
+    c.read.ensures.table 0 0 c.requires.rests.loose.is_in.some told.0 told.2)

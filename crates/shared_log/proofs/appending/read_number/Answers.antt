@@ -1,8 +1,9 @@
 use Rattle.std.proofs.Common.{◌∙◌, sym}
+use Rattle.cell_making.proofs.OneRead.{reads_none}
 use Rattle.heap_rule.proofs.Picking.{read_picks}
 use Rattle.held_places.proofs.ReadValues.{found_number, number_alone}
 use Rattle.shared_log.specs.Logging.{KeepsLog, is_fixed}
-use Rattle.shared_log.proofs.Finding.{holds_number, may_read_number, number_found, reads_none}
+use Rattle.shared_log.proofs.Finding.{appends_none, holds_number, may_read_number, number_found}
 use Rattle.shared_log.proofs.appending.read_number.Goals as goal
 
 pub read-requires-clause-may : goal.read-requires-clause-may
@@ -29,5 +30,5 @@ returns-clause-found c =
 pub returns-clause-same : goal.returns-clause-same
 returns-clause-same c =
     let told = c.read.ensures.told in
-    reads_none c.args.m.now c.read.new.self c.read.ensures.heap c.read.ensures.table 1
-    c.requires.some.holds.entry.there told.0 told.2
+    appends_none _ _ (reads_none c.args.m.now c.read.new.self c.read.ensures.heap
+    c.read.ensures.table 1 0 c.requires.some.holds.entry.there told.0 told.2)
