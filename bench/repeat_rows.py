@@ -22,13 +22,16 @@ with tempfile.TemporaryDirectory() as folder:
     shutil.copy(top / "HANDLES", copy)
     crate = copy / "crates" / "collector_tests"
     rows = crate / "src" / "threads.rt"
-    head, *tests = re.split(r"(?m)^(?=#\[test\])", rows.read_text())
+    text = rows.read_text()
+    # A row ends at the first line that is a brace alone; what other rows call stands between them.
+    tests = re.findall(r"(?ms)^#\[test\]\n.*?^\}\n", text)
+    rest = re.sub(r"(?ms)^#\[test\]\n.*?^\}\n", "", text)
     again = [
-        re.sub(r"(?m)^fn (\w+)", rf"fn \1_{number}", test)
+        re.sub(r"(?m)^fn (\w+)", rf"fn \1_{number}", test, count=1)
         for test in tests
         for number in range(1, times + 1)
     ]
-    rows.write_text(head + "\n".join(again))
+    rows.write_text(rest + "\n" + "\n".join(again))
     began = time.monotonic()
     run = subprocess.run(
         ["rt", "try", "--test", "--seconds", "1800"],
