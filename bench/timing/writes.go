@@ -3,11 +3,12 @@
 // writes THREADS WRITES COLLECTING NODES LEAST [reads]
 //
 // The field names one value and another in turn: by a plain write, by an atomic store, by a compare
-// and exchange. With `reads` it is read instead: by a plain read, by an atomic load. With COLLECTING
-// 1 a live tree of NODES nodes is made, and runtime.GC is called again and again meanwhile; with 0
-// nothing is collected. WRITES are made as often as it takes to last for LEAST ms. A line for each
-// kind and thread: the kind, nanoseconds by the clock and of the thread's own processor time, the
-// writes that were made and those that were tried, and from when to when, in ms since the start.
+// and exchange. With `reads` it is read instead: by a plain read, by an atomic load. With
+// COLLECTING 1 a live tree of NODES nodes is made, and runtime.GC is called again and again
+// meanwhile; with 0 nothing is collected. WRITES are made as often as it takes to last for LEAST
+// ms. A line for each kind and thread: the kind, nanoseconds by the clock and of the thread's own
+// processor time, the writes that were made and those that were tried, and from when to when, in ms
+// since the start.
 package main
 
 import (
