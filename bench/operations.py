@@ -2,7 +2,7 @@
 """What a thread's operations on the collected heap cost, beside the same work in other languages.
 
 operations.py [--shared BUILD] [--rounds N] [--claims N] [--programs FOLDER] [--hints N]
-operations.py --writes [--rounds N] [--each WRITES] [--nodes N] [--programs FOLDER]
+operations.py --writes|--reads [--rounds N] [--each WRITES] [--nodes N] [--programs FOLDER]
 
 One command: it builds the two programs of bench/timing, unless a folder is given that has them, and
 runs them in turns with the programs of the shared bench's micro/ (BUILD is its folder build/, as its
@@ -28,6 +28,11 @@ held list in plain Rust too, and the writes of Go and of Java (G1) by programs o
 their barriers. Ours stays in the stage Trace all the time. For the others, that begin one
 collection behind another over a live tree of N nodes, the last column has the part of the time in
 which they marked. Their plain writes are no sequentially consistent stores, as all of ours are.
+
+--reads: a field is read instead, in the same way. A read of a cell is timed with the `cut` that
+gives up what it holds, for else the held list would be full; a read of a number holds nothing.
+Beside them stand the load of a bare word, the same with a held list, an atomic (volatile) load and
+a plain read of Go and of Java; Java's plain read is opaque, so that none is left out.
 """
 import argparse, os, statistics, subprocess, sys
 
@@ -88,7 +93,8 @@ def main():
     p.add_argument("--limit", type=int, default=60)
     p.add_argument("--programs")
     p.add_argument("--writes", action="store_true", help="writes of a field, and nothing else")
-    p.add_argument("--each", type=int, default=8_000_000, help="so many writes a thread")
+    p.add_argument("--reads", action="store_true", help="reads of a field, and nothing else")
+    p.add_argument("--each", type=int, default=8_000_000, help="so many writes, or reads, a thread")
     p.add_argument("--nodes", type=int, default=4_000_000, help="of the live tree in Go and Java")
     p.add_argument("--also", action="append", default=[], help="NAME=PROGRAM: one more of ours")
     args = p.parse_args()
@@ -96,11 +102,12 @@ def main():
         args.programs = "/tmp/docheap_timing"
         build.build(os.path.dirname(HERE), args.programs, "heap_timing")
         build.build_plain(args.programs)
-        if args.writes:
+        if args.writes or args.reads:
             build.build_others(args.programs)
-    if args.writes:
+    if args.writes or args.reads:
         threads = list(map(int, args.threads.split(",")))
-        field_writes.measure(args.programs, args.each, args.rounds, threads, args.nodes, args.limit)
+        field_writes.measure(args.programs, args.each, args.rounds, threads, args.nodes, args.limit,
+                             args.reads)
         return
     plain = f"{args.programs}/plain_heap"
     made = {"docheap": ours(f"{args.programs}/heap_timing"), "plain Rust": ours(plain),

@@ -4,13 +4,14 @@ import java.lang.management.ManagementFactory;
 import java.util.concurrent.CyclicBarrier;
 
 /**
- * Times writes of a field of a box by Java's write barriers.
+ * Times writes of a field of a box by Java's write barriers, or reads of one.
  *
- * Writes THREADS WRITES COLLECTING NODES LEAST
+ * Writes THREADS WRITES COLLECTING NODES LEAST [reads]
  *
  * The field names one value and another in turn: by a plain write of values beside the box (opaque,
  * so that none is left out), by the same of values in regions of their own (far), by a volatile
- * store, by a compare and exchange. With COLLECTING 1 a live tree of NODES nodes is made, and
+ * store, by a compare and exchange. With `reads` it is read instead: by a plain read (opaque, for
+ * the same reason), by a volatile one. With COLLECTING 1 a live tree of NODES nodes is made, and
  * System.gc is called again and again meanwhile, with flags by which that is a concurrent cycle.
  * WRITES are made as often as it takes to last for LEAST ms. A line for each kind and thread: the
  * kind, nanoseconds by the clock and of the thread's own processor time, the writes that were made
@@ -29,6 +30,7 @@ public final class Writes {
 
     static final VarHandle FIELD;
     static final String[] KINDS = {"plain", "far", "store", "exchange"};
+    static final String[] READS = {"read", "load"};
     static volatile boolean done;
     static Node live;
     static Box[] boxes;
@@ -82,6 +84,26 @@ public final class Writes {
         return made;
     }
 
+    static long reads(Box box, Object one, long turns) {
+        long found = 0;
+        for (long t = 0; t < turns; t++) {
+            for (int k = 0; k < 64; k++) {
+                if (FIELD.getOpaque(box) == one) found++;
+            }
+        }
+        return found;
+    }
+
+    static long loads(Box box, Object one, long turns) {
+        long found = 0;
+        for (long t = 0; t < turns; t++) {
+            for (int k = 0; k < 64; k++) {
+                if (FIELD.getVolatile(box) == one) found++;
+            }
+        }
+        return found;
+    }
+
     static long write(String kind, int thread, long turns) {
         Box box = boxes[thread];
         Object[] values = kind.equals("far") ? far[thread] : near[thread];
@@ -89,6 +111,8 @@ public final class Writes {
         switch (kind) {
             case "store": return stores(box, values[0], values[1], turns);
             case "exchange": return exchanges(box, values[0], values[1], turns);
+            case "read": return reads(box, values[0], turns);
+            case "load": return loads(box, values[0], turns);
             default: return plain(box, values[0], values[1], turns);
         }
     }
@@ -135,7 +159,7 @@ public final class Writes {
             while (!done) System.gc();
         });
         if (collecting) collector.start();
-        for (String kind : KINDS) {
+        for (String kind : args.length > 5 ? READS : KINDS) {
             var start = new CyclicBarrier(threads);
             String[] lines = new String[threads];
             Thread[] running = new Thread[threads];

@@ -1,4 +1,5 @@
-"""What a write of a field costs, beside bare words, Go and Java: operations.py --writes."""
+"""What a write of a field costs, or a read, beside bare words, Go and Java: operations.py --writes
+and --reads."""
 import os, re, statistics, subprocess
 
 JAVA = ["-XX:+UseG1GC", "-Xbatch", "-Xms1g", "-Xmx1g", "-XX:+ExplicitGCInvokesConcurrent",
@@ -24,8 +25,18 @@ ROWS = {
     "Java, plain write": "plain Rust, store",
     "Java, plain write across regions": "plain Rust, store",
 }
+READS = {
+    "docheap, read of a cell, and the cut": "plain Rust, load",
+    "docheap, read of a number": "plain Rust, load",
+    "plain Rust, load": "plain Rust, load",
+    "plain Rust, load, with a held list": "plain Rust, load",
+    "Go, atomic load": "plain Rust, load",
+    "Go, plain read": "plain Rust, load",
+    "Java, volatile load": "plain Rust, load",
+    "Java, plain read": "plain Rust, load",
+}
 KINDS = {"plain": "plain write", "far": "plain write across regions", "exchange":
-         "compare and exchange"}
+         "compare and exchange", "read": "plain read"}
 
 
 def run(words, limit):
@@ -75,9 +86,9 @@ def java_spans(log):
     return [(at - took, at) for at, took in found]
 
 
-def theirs(program, language, nodes, spans):
+def theirs(program, language, nodes, spans, more):
     def measure(threads, writes, tracing, limit):
-        numbers = (threads, writes, tracing, nodes, LEAST[tracing])
+        numbers = (threads, writes, tracing, nodes, LEAST[tracing], *more)
         got = run([*program, *map(str, numbers)], limit)
         if got is None:
             return {}
@@ -85,24 +96,30 @@ def theirs(program, language, nodes, spans):
         for kind in dict.fromkeys(row[0] for row in got[0] if len(row) == 7):
             rows = [list(map(float, row[1:])) for row in got[0] if row[0] == kind]
             share = marked(times, min(row[4] for row in rows), max(row[5] for row in rows))
-            store = "atomic store" if language == "Go" else "volatile store"
-            name = f"{language}, {KINDS.get(kind, store)}"
+            atomic = f"atomic {kind}" if language == "Go" else f"volatile {kind}"
+            name = f"{language}, {KINDS.get(kind, atomic)}"
             out[name] = nanos([row[:4] for row in rows], share if tracing else None)
         return out
     return measure
 
 
-def programs(folder, nodes):
+def programs(folder, nodes, reads):
     rust, mine = f"{folder}/plain_heap", f"{folder}/heap_timing"
     held = "plain Rust, store, with a held list"
     made = [ours(mine, "update", "docheap, update"), ours(rust, "update", "plain Rust, update"),
             ours(mine, "store", "docheap, store"), ours(rust, "store", "plain Rust, store"),
             ours(rust, "held", held)]
+    if reads:
+        made = [ours(mine, "read", "docheap, read of a cell, and the cut"),
+                ours(rust, "heldload", "plain Rust, load, with a held list"),
+                ours(mine, "number", "docheap, read of a number"),
+                ours(rust, "load", "plain Rust, load")]
+    more = ["reads"] if reads else []
     if os.path.exists(f"{folder}/writes_go"):
-        made.append(theirs([f"{folder}/writes_go"], "Go", nodes, go_spans))
+        made.append(theirs([f"{folder}/writes_go"], "Go", nodes, go_spans, more))
     if os.path.exists(f"{folder}/java/Writes.class"):
         java = ["java", *JAVA, "-cp", f"{folder}/java", "Writes"]
-        made.append(theirs(java, "Java", nodes, java_spans))
+        made.append(theirs(java, "Java", nodes, java_spans, more))
     return made
 
 
@@ -112,13 +129,13 @@ def spread(numbers):
     return f"{statistics.median(numbers):.2f} ({min(numbers):.2f} to {max(numbers):.2f})"
 
 
-def ratios(rounds, name, tracing):
+def ratios(rounds, name, beside, tracing):
     """To plain Rust, within each round."""
-    pairs = [(one.get((name, tracing)), one.get((ROWS[name], tracing))) for one in rounds]
+    pairs = [(one.get((name, tracing)), one.get((beside, tracing))) for one in rounds]
     return spread([one["own"] / other["own"] for one, other in pairs if one and other])
 
 
-def tell(rounds, name, threads):
+def tell(rounds, name, beside, threads):
     def values(key, tracing):
         found = [one[name, tracing][key] for one in rounds if one.get((name, tracing))]
         return [value for value in found if value is not None]
@@ -130,18 +147,19 @@ def tell(rounds, name, threads):
     share = f"{100 * statistics.median(share):.0f} %" if share else ""
     missing = sum(1 for one in rounds for tracing in (0, 1) if not one.get((name, tracing)))
     told = f"{name} ({missing} of {2 * len(rounds)} runs missing)" if missing else name
-    print(f"| {told} | {threads} | {spread(values('own', 0))} | {ratios(rounds, name, 0)} | "
-          f"{spread(values('own', 1))} | {ratios(rounds, name, 1)} | {clock} | {share} |",
-          flush=True)
+    plainly, traced = (ratios(rounds, name, beside, tracing) for tracing in (0, 1))
+    print(f"| {told} | {threads} | {spread(values('own', 0))} | {plainly} | "
+          f"{spread(values('own', 1))} | {traced} | {clock} | {share} |", flush=True)
 
 
-def measure(folder, writes, rounds, threads_list, nodes, limit):
-    made = programs(folder, nodes)
+def measure(folder, writes, rounds, threads_list, nodes, limit, reads):
+    made = programs(folder, nodes, reads)
     writes -= writes % 64
-    print(f"{writes} writes a thread, {rounds} rounds in turns, ns of own processor time a write; "
-          "medians, in brackets the least and the greatest")
+    kind = "read" if reads else "write"
+    print(f"{writes} {kind}s a thread, {rounds} rounds in turns, ns of own processor time a "
+          f"{kind}; medians, in brackets the least and the greatest")
     print()
-    print("| program, write | threads | async | to plain Rust | tracing | to plain Rust | "
+    print(f"| program, {kind} | threads | async | to plain Rust | tracing | to plain Rust | "
           "by the clock, async / tracing | of the time it marked |")
     print("|---" * 8 + "|")
     for threads in threads_list:
@@ -153,5 +171,5 @@ def measure(folder, writes, rounds, threads_list, nodes, limit):
                     got = program(threads, writes, tracing, limit)
                     one.update({(name, tracing): what for name, what in got.items()})
             found.append(one)
-        for name in ROWS:
-            tell(found, name, threads)
+        for name, beside in (READS if reads else ROWS).items():
+            tell(found, name, beside, threads)

@@ -1,9 +1,10 @@
-//! The mode `writes` of plain_heap: what a write of a field of a box costs on bare words.
+//! The mode `writes` of plain_heap: what a write or a read of a field of a box costs on bare words.
 //!
 //! The words, the cells and the atomic operations are those of the mode of heap_timing, in its
 //! order. `update` and `store` use the words bare: a thread has the numbers of its cells, and no
 //! held list beside them. `held` is `store` with such a list: the cell that is loaded goes on it,
-//! and off it behind the write.
+//! and off it behind the write. `load` reads the field, and does no more; `heldload` is a read with
+//! such a list, and with the load of the own status that comes with what goes off it.
 use super::*;
 use std::sync::atomic::AtomicBool;
 use std::time::Duration;
@@ -64,6 +65,10 @@ impl Writer<'_> {
     fn update(&self, old: u64, new: u64) -> bool {
         self.barrier(self.look(), old, new);
         self.heap.field(self.target, 0).compare_exchange(old, new, SeqCst, SeqCst).is_ok()
+    }
+    #[inline(always)]
+    fn load(&self) -> bool {
+        self.heap.field(self.target, 0).load(SeqCst) & 3 == 2
     }
     #[inline(always)]
     fn store(&self, new: u64) -> bool {
@@ -145,6 +150,29 @@ fn held_stores(m: &mut Mutator, turns: u64) -> u64 {
     made
 }
 
+fn loads(w: &mut Writer, turns: u64) -> u64 {
+    let mut found = 0;
+    for _ in 0..turns {
+        w.answer();
+        for _ in 0..64 {
+            found += w.load() as u64;
+        }
+    }
+    found
+}
+
+fn held_loads(m: &mut Mutator, turns: u64) -> u64 {
+    let mut found = 0;
+    for _ in 0..turns {
+        m.answer();
+        for _ in 0..64 {
+            found += m.read(1, 0) as u64;
+            m.keep(4, 0, 0);
+        }
+    }
+    found
+}
+
 /// Makes a box of a cell.
 fn make_at(heap: &Heap, status: u64, cell: usize) -> bool {
     let born = claim_colour(status, heap.control().load(SeqCst), cell as u64);
@@ -182,6 +210,8 @@ fn write(
     let made = match kind {
         "store" => stores(&mut w, one, other, turns),
         "held" => held_stores(&mut m, turns),
+        "load" => loads(&mut w, turns),
+        "heldload" => held_loads(&mut m, turns),
         _ => updates(&mut w, one, other, turns),
     };
     let figures = [wall.elapsed().as_nanos() as u64, own() - cpu, 0, 0, 0, made];

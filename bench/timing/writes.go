@@ -1,13 +1,14 @@
-// Times writes of a field of a box by Go's write barrier.
+// Times writes of a field of a box by Go's write barrier, or reads of one.
 //
-// writes THREADS WRITES COLLECTING NODES LEAST
+// writes THREADS WRITES COLLECTING NODES LEAST [reads]
 //
 // The field names one value and another in turn: by a plain write, by an atomic store, by a compare
-// and exchange. With COLLECTING 1 a live tree of NODES nodes is made, and runtime.GC is called
-// again and again meanwhile; with 0 nothing is collected. WRITES are made as often as it takes to
-// last for LEAST ms. A line for each kind and thread: the kind, nanoseconds by the clock and of the
-// thread's own processor time, the writes that were made and those that were tried, and from when
-// to when, in ms since the start.
+// and exchange. With `reads` it is read instead: by a plain read, by an atomic load. With
+// COLLECTING 1 a live tree of NODES nodes is made, and runtime.GC is called again and again
+// meanwhile; with 0 nothing is collected. WRITES are made as often as it takes to last for LEAST
+// ms. A line for each kind and thread: the kind, nanoseconds by the clock and of the thread's own
+// processor time, the writes that were made and those that were tried, and from when to when, in ms
+// since the start.
 package main
 
 import (
@@ -90,6 +91,32 @@ func exchanges(b *atomicBox, one, other *value, turns int) int {
 	return made
 }
 
+//go:noinline
+func reads(b *box, one *value, turns int) int {
+	found := 0
+	for t := 0; t < turns; t++ {
+		for k := 0; k < 64; k++ {
+			if b.field == one {
+				found++
+			}
+		}
+	}
+	return found
+}
+
+//go:noinline
+func loads(b *atomicBox, one *value, turns int) int {
+	found := 0
+	for t := 0; t < turns; t++ {
+		for k := 0; k < 64; k++ {
+			if b.field.Load() == one {
+				found++
+			}
+		}
+	}
+	return found
+}
+
 func own() int64 {
 	var t syscall.Timespec
 	syscall.RawSyscall(syscall.SYS_CLOCK_GETTIME, 3, uintptr(unsafe.Pointer(&t)), 0)
@@ -113,6 +140,10 @@ func write(kind string, turns int, least time.Duration, start *sync.WaitGroup) s
 			made += stores(a, one, other, turns)
 		case "exchange":
 			made += exchanges(a, one, other, turns)
+		case "read":
+			made += reads(b, one, turns)
+		case "load":
+			made += loads(a, one, turns)
 		}
 	}
 	cpu = own() - cpu
@@ -142,7 +173,11 @@ func main() {
 		}()
 	}
 	least := time.Duration(n[4]) * time.Millisecond
-	for _, kind := range []string{"plain", "store", "exchange"} {
+	kinds := []string{"plain", "store", "exchange"}
+	if len(os.Args) > 6 {
+		kinds = []string{"read", "load"}
+	}
+	for _, kind := range kinds {
 		var start sync.WaitGroup
 		start.Add(n[0])
 		lines := make(chan string)
