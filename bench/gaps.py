@@ -5,10 +5,10 @@ gaps.py [--program FILE] [--rounds 5]
 
 One command. A build that looks at the clock before each command is made without proof, unless one
 is given (`timing/build.py --program docheap_cli --gaps`). It runs the scripts of baselines.py with
-100,000 commands and those of four clients. From one look to the next a client answers a command, and
-handshakes, so each such time has a command in it; a claim that waits for the collector too. A line
-of the table has the least and the middle one of the rounds' longest times, by the clock and by the
-thread's own processor time, and how many were above 0.1 ms and above 1 ms in the middle.
+100,000 commands and those of four clients. From one look to the next a client answers a command,
+and handshakes, so each such time has a command in it; a claim that waits for the collector too. A
+line of the table has the least and the middle one of the rounds' longest times, by the clock and by
+the thread's own processor time, and how many were above 0.1 ms and above 1 ms in the middle.
 """
 import argparse, os, statistics, struct, subprocess, sys, tempfile
 
@@ -30,7 +30,7 @@ def scripts(program):
 
 
 def gaps(program, files, folder):
-    """Of one run: commands, longest by the clock and by own time in us, above 0.1 ms, above 1 ms."""
+    """Of one run: commands, longest in us by the clock and by own time, above 0.1 ms, above 1 ms."""
     at = f"{folder}/gaps"
     if os.path.exists(at):
         os.remove(at)
