@@ -221,6 +221,30 @@ module _ {P : Type 0} (old : Bound P) (fresh : ℕ) (given : List Value)
     pub names_settled : NamesSettled a.seat.me (field_at a.seat.me.own.held value)
     names_settled = settles_now value (may.named n lt)
 
+    -- A value that is null is there already.
+    pub filled_null : value ≡ values.Null → Filled old fresh given (n + 1) a
+    filled_null null = record {
+      goes = filled.goes;
+      held = filled.held;
+      many = filled.many;
+      fields = filled.fields;
+      raw = filled.raw;
+      are = record {
+        five = filled.are.five;
+        done = λ j below. ⊎_elim
+            (λ (less : j < n). filled.are.done j less)
+            (λ (same : j ≡ n). subst (λ (k : ℕ). slice_index_or filled.fields k field.Null
+            ≡ field_at old.seat.me.own.held (value_at given k)) (sym same)
+            (filled.are.rest n (omega arith) lt
+            ∙ sym (ap (λ (v : Value). field_at old.seat.me.own.held v) null)))
+            (up_to j n below);
+        rest = λ j above under. filled.are.rest j (omega (arith, above)) under;
+      };
+      known = filled.known;
+      pass = filled.pass;
+      claims = filled.claims;
+    }
+
     -- What it leaves.
 
     module _ (b : Bound P)

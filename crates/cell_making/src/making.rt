@@ -1,8 +1,9 @@
 //! A box or a record, from the claim of its cell to its seal.
-ghost use Rattle.std.specs.Prelude.{◌≡◌, ◌<◌, ◌≤◌, IfErr, IfOk, length, true, ℕ};
+ghost use Rattle.std.specs.Prelude.{◌≡◌, ◌<◌, ◌≤◌, IfErr, IfOk, false, length, true, ℕ};
 ghost use Rattle.cell_making.specs.Makes.{Filled, MakesBox, MakesRecord, MayFillAll, MayName};
 ghost use Rattle.cell_making.specs.Makes.{MayTerm, value_at};
 ghost use Rattle.free_cells.specs.Hints.{counts_of, queue_of};
+ghost use Rattle.mutator_events.specs.declared.values.Value.TheVariants as values;
 ghost use Rattle.mutator_seat.specs.Stretches.{Calm};
 ghost use Rattle.trails.specs.Claims.{FindsFull};
 
@@ -41,13 +42,25 @@ pub fn fill_box<P: Keeping, R: Wait>(
     }
 }
 
-/// Fills the fields of the cell that was claimed last.
+/// Whether a raw cell gets this value by a fill. Its fields are null as they are.
+fn is_filled_in(value: Value) -> bool
+    ensures null { (result ≡ false) → value ≡ values.Null }
+{
+    match value {
+        Value::Null => false,
+        Value::Num(_) | Value::Held(_) => true,
+    }
+}
+
+/// Fills the fields of the cell that was claimed last. A raw cell's fields are null as they are.
 fn fill_fields<P: Keeping>(m: &mut Mutator<'_, P>, place: usize, fields: [Value; 5])
     requires may { MayFillAll m.old place fields }
     ensures filled { Filled m.old place fields 5 m.new }
 {
     for i in 0..5 {
-        m.fill::<Brand>(place, i, fields[i]);
+        if is_filled_in(fields[i]) {
+            m.fill::<Brand>(place, i, fields[i]);
+        }
     }
 }
 
@@ -72,7 +85,9 @@ pub fn fill_record<P: Keeping, R: Wait>(
         Ok(place) => {
             for i in 0..5 {
                 let value = fields[i];
-                m.fill::<Brand>(place, i, value);
+                if is_filled_in(value) {
+                    m.fill::<Brand>(place, i, value);
+                }
             }
             m.seal_record(place);
             Ok(place)

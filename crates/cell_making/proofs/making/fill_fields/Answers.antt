@@ -1,8 +1,11 @@
-use Rattle.std.proofs.Common.{◌≡◌, ◌≤◌, ℕ, subst, arith}
+use Rattle.std.proofs.Common.{◌≡◌, ◌≤◌, ◌+◌, ℕ, refl, sym, subst, arith}
 use Rattle.heap_rule.proofs.Filling.{fill_picks}
 use Rattle.mutator_events.specs.Values.{field_at}
 use Rattle.cell_making.specs.Makes.{Filled, value_at}
-use Rattle.cell_making.proofs.Filling.{filled_more, filling_starts, may_fill, names_settled}
+use Rattle.mutator_seat.specs.Bound.{Bound}
+use Rattle.cell_making.proofs.Filling.{filled_more, filled_null, filling_starts, may_fill}
+use Rattle.cell_making.proofs.Filling.{names_settled}
+use Rattle.cell_making.proofs.making.fill_fields.Goals.{then-is_filled_in, else-is_filled_in}
 use Rattle.cell_making.proofs.making.fill_fields.Goals as goal
 
 pub loop-i-init : goal.loop-i-init
@@ -22,8 +25,16 @@ fill-requires-clause-rule g c =
 
 pub loop-i-preserved : goal.loop-i-preserved
 loop-i-preserved g c =
-    filled_more c.args.m.now c.args.place c.args.fields c.requires.may c.loop-i.i c.loop-i.m
-    c.loop-i.invariant c.loop-i-test.true c.fill.new.self c.fill.ensures.told
+    let more : Bound _ → Type 0 =
+    Filled c.args.m.now c.args.place c.args.fields (c.loop-i.i + 1) in
+    elim c.if-is_filled_in.branch [
+      | then-is_filled_in w ↦ subst more (sym w.m-is)
+          (filled_more c.args.m.now c.args.place c.args.fields c.requires.may c.loop-i.i c.loop-i.m
+          c.loop-i.invariant c.loop-i-test.true w.fill.new.self w.fill.ensures.told)
+      | else-is_filled_in w ↦ subst more (sym w.m-is)
+          (filled_null c.args.m.now c.args.place c.args.fields c.requires.may c.loop-i.i
+          c.loop-i.m c.loop-i.invariant c.loop-i-test.true (w.if-is_filled_in.ensures.null refl))
+    ]
 
 pub returns : goal.returns
 returns g c =

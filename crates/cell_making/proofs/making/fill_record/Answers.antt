@@ -1,10 +1,14 @@
-use Rattle.std.proofs.Common.{◌≡◌, ◌≤◌, ℕ, arith, ◌∙◌, subst}
+use Rattle.std.proofs.Common.{◌≡◌, ◌≤◌, ◌+◌, ℕ, List, arith, refl, sym, ◌∙◌, subst}
+use Rattle.cell_words.specs.declared.fields.Field.{Field}
 use Rattle.heap_rule.specs.Lore.{five_nulls}
-use Rattle.mutator_seat.specs.Bound.{held_cells}
-use Rattle.promotion.specs.Copying.{AreFilled}
-use Rattle.promotion.proofs.Filling.{fill_rule, filled_more, filled_none, may_fill, may_seal}
+use Rattle.mutator_events.specs.declared.values.Value.{Value}
+use Rattle.mutator_seat.specs.Bound.{Bound, held_cells}
+use Rattle.promotion.specs.Copying.{AreFilled, Opened}
+use Rattle.promotion.proofs.Filling.{fill_rule, filled_more, filled_none, filled_null, may_fill}
+use Rattle.promotion.proofs.Filling.{may_seal}
 use Rattle.promotion.proofs.Filling.{opened, ready_now, sealed_as}
 use Rattle.cell_making.specs.Makes.{value_at}
+use Rattle.cell_making.proofs.making.fill_record.Goals.{then-is_filled_in, else-is_filled_in}
 use Rattle.cell_making.proofs.making.fill_record.Goals as goal
 
 pub loop-i-init : goal.loop-i-init
@@ -34,9 +38,26 @@ fill-requires-clause-rule g c =
 pub loop-i-preserved : goal.loop-i-preserved
 loop-i-preserved g c =
     let so = c.loop-i.invariant in
-    filled_more c.args.m.now c.loop-i.m c.in-Ok.place so.0 so.1.0 (value_at c.args.fields)
-    c.loop-i.i c.fill.new.self c.loop-i-test.true (c.requires.terms c.loop-i.i c.loop-i-test.true)
-    so.1.1 c.fill.ensures.told
+    let was = c.args.m.now in
+    let given : ℕ → Value = value_at c.args.fields in
+    let i = c.loop-i.i in
+    let ready = c.requires.terms i c.loop-i-test.true in
+    let more : Bound _ → Type 0 =
+    λ n. (fields : List Field) × (Opened was c.in-Ok.place fields n
+    × AreFilled (held_cells was) given (i + 1) fields) in
+    elim c.if-is_filled_in.branch [
+      | then-is_filled_in w ↦ subst more (sym w.m-is)
+          (filled_more was c.loop-i.m c.in-Ok.place so.0 so.1.0 given i w.fill.new.self
+          c.loop-i-test.true ready so.1.1 w.fill.ensures.told)
+      | else-is_filled_in w ↦ subst more (sym w.m-is) (
+        so.0,
+        (
+          so.1.0,
+          filled_null was c.loop-i.m c.in-Ok.place so.0 so.1.0 given i c.loop-i-test.true
+              (w.if-is_filled_in.ensures.null refl) so.1.1,
+        ),
+      )
+    ]
 
 pub seal_record-requires : goal.seal_record-requires
 seal_record-requires g c =
