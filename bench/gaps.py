@@ -30,7 +30,7 @@ def scripts(program):
 
 
 def gaps(program, files, folder):
-    """Of one run: commands, longest in us by the clock and by own time, above 0.1 ms, above 1 ms."""
+    """Of one run: commands, longest in us by the clock and by own time, above 0.1 ms and 1 ms."""
     at = f"{folder}/gaps"
     if os.path.exists(at):
         os.remove(at)
