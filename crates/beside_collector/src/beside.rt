@@ -79,6 +79,7 @@ pub fn run_counting<P: Keeping + Sync, W: Work<P> + Drop, R: Threads + Wait + Sy
             match scope.spawn_with(promise, turn) {
                 Ok(thread) => {
                     let done = work.run(alloc, rt, heap, queue);
+                    queue.end_work();
                     let turn = stand_down(heap, queue, cycles, &was, thread.join(rt));
                     let (seat, standby, freed) = apart(heap, queue, cycles, &was, turn);
                     (done, seat, standby, freed)
@@ -87,6 +88,7 @@ pub fn run_counting<P: Keeping + Sync, W: Work<P> + Drop, R: Threads + Wait + Sy
                     flag.store(true, Ordering::SeqCst);
                     let turn = stand_down(heap, queue, cycles, &was, (refused.value)());
                     let done = work.run(alloc, rt, heap, queue);
+                    queue.end_work();
                     let (seat, standby, freed) = apart(heap, queue, cycles, &was, turn);
                     (done, seat, standby, freed)
                 }

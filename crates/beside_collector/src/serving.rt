@@ -42,7 +42,7 @@ impl<P: Keeping> Promise<Turn<P>> for Serving<P> {
     ghost kept_by = { λ p turn. TurnOf p.cycles p.keeper.value turn };
 }
 
-/// Serves for so many cycles, and tells how many cells it freed.
+/// Serves for so many cycles, each when one is wanted, and tells how many cells it freed.
 fn serve<P: Keeping, R: Wait>(
     rt: &R,
     heap: &CellHeap<P>,
@@ -57,7 +57,7 @@ fn serve<P: Keeping, R: Wait>(
     let Keeper { seat, stack, pass } = keeper;
     let mut hints = queue.hints(pass);
     let mut collector = Collector::new(heap, seat, heap.mutators(), stack);
-    let freed = collector.serve(rt, &mut hints, cycles);
+    let freed = collector.serve_on_demand(rt, &mut hints, cycles);
     (collector.into_seat(), freed)
 }
 

@@ -3,13 +3,13 @@ ghost use Rattle.std.specs.Prelude.{◌≡◌, ◌<◌, ◌≤◌, IfErr, IfOk, 
 ghost use Rattle.cell_making.specs.Makes.{Filled, MakesBox, MakesRecord, MayFillAll, MayName};
 ghost use Rattle.cell_making.specs.Makes.{MayTerm, value_at};
 ghost use Rattle.free_cells.specs.Hints.{counts_of, queue_of};
-ghost use Rattle.mutator_events.specs.declared.values.Value.TheVariants as values;
 ghost use Rattle.mutator_seat.specs.Stretches.{Calm};
 ghost use Rattle.trails.specs.Claims.{FindsFull};
 
 use free_cells::Hints;
 use heap_rule::Keeping;
 use mutator_seat::{HeapFull, Mutator, Value};
+use promotion::is_filled_in;
 use std::marker::Brand;
 use std::sync::Wait;
 
@@ -39,16 +39,6 @@ pub fn fill_box<P: Keeping, R: Wait>(
             Ok(place)
         }
         Err(full) => Err(full),
-    }
-}
-
-/// Whether a raw cell gets this value by a fill. Its fields are null as they are.
-fn is_filled_in(value: Value) -> bool
-    ensures null { (result ≡ false) → value ≡ values.Null }
-{
-    match value {
-        Value::Null => false,
-        Value::Num(_) | Value::Held(_) => true,
     }
 }
 

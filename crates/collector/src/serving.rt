@@ -51,6 +51,27 @@ fn next_rest(rest: Rest, over: bool) -> Rest
     }
 }
 
+/// When a cycle begins behind another.
+#[derive(Clone, Copy)]
+pub(crate) enum Pace {
+    /// at once
+    Unbroken,
+    /// when few cells have a hint, a thread wants one in vain, or the work is over
+    OnDemand,
+}
+
+/// Waits until a cycle is wanted, where cycles wait for that and some mutator was not found over.
+fn await_turn<R: Wait>(rt: &R, hints: &mut Hints<'_>, rest: Rest, pace: Pace)
+    ensures queue { queue_of hints.new ≡ queue_of hints.old }
+    ensures counts { counts_of hints.new ≡ counts_of hints.old }
+{
+    match (rest, pace) {
+        (Rest::Unknown, Pace::OnDemand) => hints.await_demand(rt),
+        (Rest::Unknown, Pace::Unbroken) => (),
+        (Rest::Two | Rest::One | Rest::Done, _) => (),
+    }
+}
+
 impl<'a, P: Keeping> Collector<'a, P> {
     /// Runs whole cycles, at most so many, and goes off duty. It stops earlier once every mutator
     /// was found over and two more cycles were made. It gives how many cells were freed.
@@ -67,13 +88,48 @@ impl<'a, P: Keeping> Collector<'a, P> {
         ensures offered { OffersAll (freed_since self.old self.new) (counts_of hints.old) (counts_of hints.new) }
         ensures puts { (counts_of hints.new).puts ≡ (counts_of hints.old).puts + result }
     {
-        let freed = self.cycles_of(rt, hints, cycles);
+        self.serve_by(rt, hints, cycles, Pace::Unbroken)
+    }
+
+    /// The same, but that between two cycles it sleeps until one is wanted. Who calls it sees to it
+    /// that the queue of the hints is told when all work on the heap is over (`end_work`).
+    pub fn serve_on_demand<R: Wait>(&mut self, rt: &R, hints: &mut Hints<'_>, cycles: u32) -> u64
+        requires idle { (control_of self.old).stage ≡ stage.Idle }
+        requires cycles { (control_of self.old).cycles + cycles ≤ greatest_cycles }
+        requires hints { hinted_of (queue_of hints.old) ≡ cells_of self.old }
+        ensures served { (made : ℕ)
+            × ((control_of self.new).cycles ≡ (control_of self.old).cycles + made)
+            × Stretch (Served (mutators_of self.old) cycles made result) self.old self.new }
+        ensures idle { (control_of self.new).stage ≡ stage.Idle }
+        ensures off_duty { (control_of self.new).duty ≡ false }
+        ensures queue { queue_of hints.new ≡ queue_of hints.old }
+        ensures offered { OffersAll (freed_since self.old self.new) (counts_of hints.old) (counts_of hints.new) }
+        ensures puts { (counts_of hints.new).puts ≡ (counts_of hints.old).puts + result }
+    {
+        self.serve_by(rt, hints, cycles, Pace::OnDemand)
+    }
+
+    /// Either of them.
+    fn serve_by<R: Wait>(&mut self, rt: &R, hints: &mut Hints<'_>, cycles: u32, pace: Pace) -> u64
+        requires idle { (control_of self.old).stage ≡ stage.Idle }
+        requires cycles { (control_of self.old).cycles + cycles ≤ greatest_cycles }
+        requires hints { hinted_of (queue_of hints.old) ≡ cells_of self.old }
+        ensures served { (made : ℕ)
+            × ((control_of self.new).cycles ≡ (control_of self.old).cycles + made)
+            × Stretch (Served (mutators_of self.old) cycles made result) self.old self.new }
+        ensures idle { (control_of self.new).stage ≡ stage.Idle }
+        ensures off_duty { (control_of self.new).duty ≡ false }
+        ensures queue { queue_of hints.new ≡ queue_of hints.old }
+        ensures offered { OffersAll (freed_since self.old self.new) (counts_of hints.old) (counts_of hints.new) }
+        ensures puts { (counts_of hints.new).puts ≡ (counts_of hints.old).puts + result }
+    {
+        let freed = self.cycles_of(rt, hints, cycles, pace);
         self.duty(false);
         freed
     }
 
     /// The cycles of it.
-    fn cycles_of<R: Wait>(&mut self, rt: &R, hints: &mut Hints<'_>, cycles: u32) -> u64
+    fn cycles_of<R: Wait>(&mut self, rt: &R, hints: &mut Hints<'_>, cycles: u32, pace: Pace) -> u64
         requires idle { (control_of self.old).stage ≡ stage.Idle }
         requires cycles { (control_of self.old).cycles + cycles ≤ greatest_cycles }
         requires hints { hinted_of (queue_of hints.old) ≡ cells_of self.old }
@@ -91,6 +147,7 @@ impl<'a, P: Keeping> Collector<'a, P> {
             if is_done(rest) {
                 return freed;
             }
+            await_turn(rt, hints, rest, pace);
             let made = self.one_cycle(rt, hints);
             freed += made.report.freed;
             rest = next_rest(rest, made.over);

@@ -6,7 +6,7 @@
 //! `Machine` is the state in memory. Its contracts say that a call is exactly one event of those
 //! definitions, and that a call which answers `NotNow` had no such event and changed nothing.
 //!
-//! What holds of every run, as that no cell in use is free, is not said here. `Machine` asks of its
+//! What holds of every run, as that no reachable cell is free, is not said here. `Machine` asks of its
 //! caller the ranges that its indexing and counting rest on, `InRange`. They hold at the opening,
 //! and every event keeps them.
 //!

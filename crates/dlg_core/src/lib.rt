@@ -2,7 +2,7 @@
 //!
 //! `Core` is the machine of core_machine behind a type that keeps the invariant, so its calls ask
 //! no condition of the state. `apply` takes one event, `run` a list of them, and each state that
-//! they pass is safe: no cell that is in use is free. What is garbage when a cycle begins has been
+//! they pass is safe: no reachable cell is free. What is garbage when a cycle begins has been
 //! freed when the next one ends. `finish_cycle` takes a whole cycle where nobody is in, within a
 //! bound on its events. `theorems` has what holds of the definitions alone, for any number of cells
 //! and any rooms, as the layers above need it.

@@ -43,9 +43,53 @@ impl<'a> Hints<'a> {
             Some(cell) => Some(cell),
             None => {
                 let _unused = self.queue.ring.another::<NoneTaken>(&mut self.pass);
+                self.queue.demand.wake();
                 None
             }
         }
+    }
+
+    /// How many numbers the queue has at one moment of the call.
+    pub fn len<R: Wait>(&mut self, rt: &R) -> usize
+        ensures queue { queue_of self.new ≡ queue_of self.old }
+        ensures counts { counts_of self.new ≡ counts_of self.old }
+        ensures len { IfSome (counts_of self.old).content (λ known. length known ≡ result) }
+    {
+        self.queue.ring.len_as::<Taken, R>(rt, &mut self.pass)
+    }
+
+    /// Whether fewer than three tenths of the cells have a number.
+    fn are_few<R: Wait>(&mut self, rt: &R) -> bool
+        ensures queue { queue_of self.new ≡ queue_of self.old }
+        ensures counts { counts_of self.new ≡ counts_of self.old }
+    {
+        let many = self.len(rt) as u64;
+        many.saturating_mul(10) < u64::from(self.queue.cells) * 3
+    }
+
+    /// Wakes who waits for demand, if numbers are few.
+    pub fn tell_demand<R: Wait>(&mut self, rt: &R)
+        ensures queue { queue_of self.new ≡ queue_of self.old }
+        ensures counts { counts_of self.new ≡ counts_of self.old }
+    {
+        if self.queue.demand.is_asleep() && self.are_few(rt) {
+            self.queue.demand.wake();
+        }
+    }
+
+    /// Sleeps until numbers are few, a `take` finds none, or the work is over.
+    pub fn await_demand<R: Wait>(&mut self, rt: &R)
+        ensures queue { queue_of self.new ≡ queue_of self.old }
+        ensures counts { counts_of self.new ≡ counts_of self.old }
+    {
+        if self.queue.demand.is_over() || self.are_few(rt) {
+            return;
+        }
+        self.queue.demand.lie_down();
+        if !self.queue.demand.is_over() && !self.are_few(rt) {
+            self.queue.demand.sleep(rt);
+        }
+        self.queue.demand.get_up();
     }
 
     /// The pass again, as for handing it to another thread.

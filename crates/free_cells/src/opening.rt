@@ -7,6 +7,7 @@ ghost use Rattle.free_cells.specs.Passes.{IsHintPass};
 
 use crate::NoMemory;
 use crate::counts::{Filled, HintPass, Opening, Opens, Splits};
+use crate::demand::Demand;
 use crate::hints::Hints;
 use crate::queue::{FreeQueue, Ring};
 use std::alloc::Global;
@@ -32,7 +33,15 @@ impl FreeQueue {
         for cell in first..cells {
             fill(rt, &ring, &mut pass, cells, first, cell);
         }
-        Ok((FreeQueue { ring, cells }, pass))
+        let demand = Demand::new();
+        Ok((
+            FreeQueue {
+                ring,
+                cells,
+                demand,
+            },
+            pass,
+        ))
     }
 
     /// One more pass, with which one more thread may use the queue.
@@ -45,6 +54,11 @@ impl FreeQueue {
         ensures begun { IfOk result (λ other. view other ≡ begun (view pass.old)) }
     {
         Ok(self.ring.another::<Splits>(pass))
+    }
+
+    /// Says that the work is over, and that nobody who waits for demand has to wait any more.
+    pub fn end_work(&self) {
+        self.demand.end();
     }
 
     /// The queue with a pass, in the hands of one thread.

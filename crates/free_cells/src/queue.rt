@@ -2,6 +2,7 @@ ghost use Rattle.std.specs.Prelude.{◌≡◌, ◌<◌};
 ghost use Rattle.crossbeam_queue.specs.Passes.{ruled_capacity};
 
 use crate::counts::{Below, Counts};
+use crate::demand::Demand;
 use crossbeam_queue::RuledArrayQueue;
 
 pub(crate) type Ring = RuledArrayQueue<u32, Counts, Below>;
@@ -10,6 +11,7 @@ pub(crate) type Ring = RuledArrayQueue<u32, Counts, Below>;
 pub struct FreeQueue {
     pub(crate) ring: Ring,
     pub(crate) cells: u32,
+    pub(crate) demand: Demand,
     ghost room: { ruled_capacity ring ≡ cells },
     ghost some_cell: { 0 < cells },
 }
@@ -19,6 +21,7 @@ impl Drop for FreeQueue {
         let FreeQueue {
             ring: _ring,
             cells: _,
+            demand: _demand,
         } = self;
     }
 }

@@ -94,6 +94,7 @@ impl<'a, P: Keeping> Mutator<'a, P> {
         ensures prompt { Prompt self.old self.new }
     {
         let first = hints.take(rt);
+        hints.tell_demand(rt);
         self.claim_hinted(rt, hints, first)
     }
 

@@ -46,7 +46,7 @@ fn value_of(minor: &MinorHeap, places: &[usize], r: MinorRef, i: usize) -> Value
 }
 
 /// Whether a raw cell gets this value by a fill. Its fields are null as they are.
-fn is_filled_in(value: Value) -> bool
+pub fn is_filled_in(value: Value) -> bool
     ensures null { (result ≡ false) → value ≡ values.Null }
 {
     match value {
@@ -121,6 +121,7 @@ fn take_hints<R: Wait>(
             taken[number as usize] = hints.take(rt);
         }
     }
+    hints.tell_demand(rt);
 }
 
 /// Takes a hint again for each of these records that is marked and has none, up to the first that

@@ -14,4 +14,5 @@
 mod copying;
 mod promoter;
 
+pub use copying::is_filled_in;
 pub use promoter::{NoMemory, Promoter};

@@ -27,7 +27,7 @@ fn main(rt: HostRuntime) -> io::Result<()> {
             let some = ran.sum > 0;
             let alone = ran.used == ran.sum + 2;
             println!(rt; "the log has what four threads appended: {same}, and they did: {some}")?;
-            println!(rt; "no other cell is in use: {alone}")
+            println!(rt; "no other cell is used: {alone}")
         }
         Err(_) => println!(rt; "there is no memory"),
     }

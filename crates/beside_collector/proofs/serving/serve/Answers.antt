@@ -10,17 +10,17 @@ use Rattle.beside_collector.proofs.serving.serve.Goals as goal
 pub returns : goal.returns
 returns g c =
     let cycles = c.args.cycles in
-    let freed = c.serve-freed.result in
-    let made = c.serve-freed.ensures.served.0 in
-    let stretch = c.serve-freed.ensures.served.2 in
+    let freed = c.serve_on_demand-freed.result in
+    let made = c.serve_on_demand-freed.ensures.served.0 in
+    let stretch = c.serve_on_demand-freed.ensures.served.2 in
     let old = c.new-collector.result in
-    let new = c.serve-freed.new.self in
+    let new = c.serve_on_demand-freed.new.self in
     record {
       serves = subst (λ (s : SeatView _). Serves cycles c.args.keeper.seat s)
           (sym c.into_seat.ensures.seat)
           (subst (λ (b : Bound _). Serves cycles b.seat new.seat) c.new-collector.ensures.collector
-          (serves cycles freed made old new c.serve-freed.ensures.served.1 stretch
-          c.serve-freed.ensures.idle c.serve-freed.ensures.off_duty));
+          (serves cycles freed made old new c.serve_on_demand-freed.ensures.served.1 stretch
+          c.serve_on_demand-freed.ensures.idle c.serve_on_demand-freed.ensures.off_duty));
       freed = subst (λ (s : SeatView _). HasFreed c.args.keeper.seat s freed)
           (sym c.into_seat.ensures.seat)
           (subst (λ (b : Bound _). HasFreed b.seat new.seat freed) c.new-collector.ensures.collector

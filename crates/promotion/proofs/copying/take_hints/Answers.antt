@@ -3,6 +3,7 @@ use Rattle.std.proofs.Common.{arith, take}
 use Rattle.std.specs.Prelude.{IfSome, Option}
 use Rattle.std.proofs.lemmas.List.{length-set}
 use Rattle.free_cells.specs.Hints.{cells_of, counts_of, queue_of}
+use Rattle.free_cells.specs.declared.counts.Counts.{Counts}
 use Rattle.free_cells.specs.declared.hints.Hints.{Hints}
 use Rattle.free_cells.specs.declared.queue.FreeQueue.{FreeQueue}
 use Rattle.promotion.specs.Copying.{marked_count}
@@ -81,7 +82,12 @@ returns-clause-takes g c =
     let past = c.loop-number-test.false in
     let all = count_all c.args.marks.now c.loop-number.number (λ k is.
     let below = (c.requires.within (record { number = k }) is).1 in omega (arith, below, past)) in
-    omega (arith, all, c.loop-number.invariant.2)
+    omega (
+      arith,
+      all,
+      c.loop-number.invariant.2,
+      ap (λ (x : Counts). x.takes) c.tell_demand.ensures.counts,
+    )
 
 pub returns-clause-given : goal.returns-clause-given
 returns-clause-given g c =

@@ -9,6 +9,8 @@ use Rattle.collector.specs.Stretches.{Stretch}
 use Rattle.collector.specs.declared.serving.Rest.{Rest}
 use Rattle.collector.proofs.InARow.{made_all, made_done, serves_more}
 use Rattle.free_cells.specs.Hints.{counts_of}
+use Rattle.free_cells.specs.declared.counts.Counts.{Counts}
+use Rattle.collector.specs.Offering.{OffersAll, freed_since}
 use Rattle.collector.proofs.Joining.{stretch_as, stretch_then}
 use Rattle.collector.proofs.Offered.{offers_then}
 use Rattle.collector.proofs.collecting.Collector.cycles_of.Goals as goal
@@ -52,12 +54,19 @@ loop-made-preserved g c =
       cycles_more (control_of cycle.new.self).cycles (control_of old.self).cycles
           (control_of c.args.self.now).cycles old._made
           (ap (λ (x : Control). x.cycles) cycle.ensures.control) old.invariant.2,
-      cycle.ensures.queue ∙ old.invariant.3,
-      omega (arith, cycle.ensures.puts, old.invariant.4),
+      cycle.ensures.queue ∙ (c.await_turn.ensures.queue ∙ old.invariant.3),
+      omega (
+        arith,
+        cycle.ensures.puts,
+        ap (λ (x : Counts). x.puts) c.await_turn.ensures.counts,
+        old.invariant.4,
+      ),
       omega (arith, cycle.ensures.few, old.invariant.5),
       offers_then _ _ c.args.self.now old.self cycle.new.self (counts_of c.args.hints.now)
           (counts_of old.hints) (counts_of cycle.new.hints) old.invariant.0 cycle.ensures.heard
-          old.invariant.6 cycle.ensures.offered,
+          old.invariant.6
+          (subst (λ (x : Counts). OffersAll (freed_since old.self cycle.new.self) x
+          (counts_of cycle.new.hints)) c.await_turn.ensures.counts cycle.ensures.offered),
     )
 
 pub returns-clause-made : goal.returns-clause-made

@@ -9,7 +9,7 @@ use Rattle.collector.specs.Cycles.{MadeCycles, Served}
 use Rattle.free_cells.specs.Hints.{counts_of}
 use Rattle.collector.proofs.Joining.{stretch_one, stretch_then}
 use Rattle.collector.proofs.Offered.{offers_and}
-use Rattle.collector.proofs.collecting.Collector.serve.Goals as goal
+use Rattle.collector.proofs.collecting.Collector.serve_by.Goals as goal
 
 pub returns-clause-served : goal.returns-clause-served
 returns-clause-served g c =
