@@ -48,9 +48,31 @@ pub(crate) fn serve_on<R: Wait>(
     requires cells { hinted_of queue.now ≡ heap.now.shape.cells }
     ensures seat { IsSeatOf heap.now result.0 }
 {
+    serve_by(rt, heap, seat, stack, queue, pass, false)
+}
+
+/// The same, where it may be that each cycle waits until one is wanted.
+pub(crate) fn serve_by<R: Wait>(
+    rt: &R,
+    heap: &CellHeap<NoRule>,
+    seat: ColSeat<NoRule>,
+    stack: MarkStack,
+    queue: &FreeQueue,
+    pass: HintPass,
+    on_demand: bool,
+) -> (ColSeat<NoRule>, u64)
+    requires idle { IsIdle heap.now seat }
+    requires pass { IsHintPass queue.now pass }
+    requires cells { hinted_of queue.now ≡ heap.now.shape.cells }
+    ensures seat { IsSeatOf heap.now result.0 }
+{
     let mut hints = queue.hints(pass);
     let mut collector = Collector::new(heap, seat, heap.mutators(), stack);
-    let freed = collector.serve(rt, &mut hints, GREATEST_CYCLES);
+    let freed = if on_demand {
+        collector.serve_on_demand(rt, &mut hints, GREATEST_CYCLES)
+    } else {
+        collector.serve(rt, &mut hints, GREATEST_CYCLES)
+    };
     (collector.into_seat(), freed)
 }
 

@@ -6,7 +6,7 @@ ghost use Rattle.free_cells.specs.Hints.{cells_of as hinted_of};
 ghost use Rattle.free_cells.specs.Passes.{IsHintPass};
 ghost use Rattle.heap_table.specs.Seats.{IsSeatOf};
 
-use crate::collecting::serve_on;
+use crate::collecting::{serve_by, serve_on};
 use crate::heaps::{blue_cells, close, close_two, open_hints, open_plain, open_two};
 use crate::mutating::{Claims, claim_and_keep, make_and_drop};
 use cell_heap::{CellHeap, ColSeat, MutSeat, NoMemory};
@@ -21,8 +21,8 @@ use std::thread::{self, Threads};
 
 const CELLS: u32 = 64;
 
-/// The collector serves on duty, beside a mutator that a thousand times makes a record and drops
-/// it.
+/// The collector serves on duty, unbroken or on demand, beside a mutator that a thousand times makes
+/// a record and drops it.
 fn drop_beside<R: Threads + Wait + Sync>(
     rt: &R,
     heap: &CellHeap<NoRule>,
@@ -32,6 +32,7 @@ fn drop_beside<R: Threads + Wait + Sync>(
     queue: &FreeQueue,
     pass: HintPass,
     other: HintPass,
+    on_demand: bool,
 ) -> ((ColSeat<NoRule>, u64), (MutSeat<NoRule>, u32))
     requires idle { IsIdle heap.now collector }
     requires out { IsOut heap.now 2 mutator }
@@ -49,11 +50,15 @@ fn drop_beside<R: Threads + Wait + Sync>(
             requires { IsIdle heap.now collector × IsHintPass queue.now pass
                 × (hinted_of queue.now ≡ heap.now.shape.cells) }
             ensures { IsSeatOf heap.entry.now result.0 }
-        { serve_on(rt, heap, collector, stack, queue, pass) },
+        { serve_by(rt, heap, collector, stack, queue, pass, on_demand) },
         move ||
             requires { IsOut heap.now 2 mutator × IsHintPass queue.now other }
             ensures { IsOver heap.entry.now result.0 }
-        { make_and_drop(rt, heap, mutator, queue, other, 1000) },
+        {
+            let made = make_and_drop(rt, heap, mutator, queue, other, 1000);
+            queue.end_work();
+            made
+        },
     )
 }
 
@@ -62,12 +67,13 @@ fn drop_beside<R: Threads + Wait + Sync>(
 fn dropped<R: Threads + Wait + Sync>(
     alloc: Global,
     rt: &R,
+    on_demand: bool,
 ) -> Result<((u32, u64), u32, bool), NoMemory> {
     let stack = MarkStack::with_room(alloc, 8)?;
     let (queue, pass, other) = open_hints(alloc, rt, CELLS, 1)?;
     let (heap, collector, mutator) = open_plain(alloc, CELLS, 2)?;
     let ((collector, freed), (mutator, made)) = drop_beside(
-        rt, &heap, collector, stack, mutator, &queue, pass, other,
+        rt, &heap, collector, stack, mutator, &queue, pass, other, on_demand,
     );
     let image = close(heap, collector, mutator);
     Ok(((made, freed), blue_cells(&image), image.control().duty))
@@ -75,7 +81,9 @@ fn dropped<R: Threads + Wait + Sync>(
 
 #[test]
 fn what_a_mutator_drops_is_freed_beside_it(rt: HostRuntime) -> Result<(), Fail> {
-    assert_eq!(rt; dropped(rt.alloc(), &rt)?, ((1000, 1000), CELLS - 1, false));
+    let wanted = ((1000, 1000), CELLS - 1, false);
+    assert_eq!(rt; dropped(rt.alloc(), &rt, false)?, wanted);
+    assert_eq!(rt; dropped(rt.alloc(), &rt, true)?, wanted);
     Ok(())
 }
 

@@ -7,26 +7,35 @@ use std::alloc::{AllocError as NoMemory, Global};
 use std::sync::Wait;
 use std::test::Fail;
 
-/// Three that are taken, four that are put, and one that is then taken.
+/// Three that are taken, four that are put, and one that is then taken; and how many numbers there
+/// are before, between and behind these.
 #[derive(Clone, Copy, Debug, PartialEq, Eq)]
 struct InOrder {
+    first: usize,
     taken: [Option<u32>; 3],
+    none: usize,
     put: [bool; 4],
+    all: usize,
     then: Option<u32>,
+    last: usize,
 }
 
 fn take_put_and_take<R: Wait>(rt: &R, mut hints: Hints<'_>) -> InOrder
     requires { 2 < cells_of (queue_of hints) }
 {
     InOrder {
+        first: hints.len(rt),
         taken: [hints.take(rt), hints.take(rt), hints.take(rt)],
+        none: hints.len(rt),
         put: [
             hints.put(rt, 0),
             hints.put(rt, 0),
             hints.put(rt, 2),
             hints.put(rt, 1),
         ],
+        all: hints.len(rt),
         then: hints.take(rt),
+        last: hints.len(rt),
     }
 }
 
@@ -38,9 +47,13 @@ fn in_order<R: Wait>(alloc: Global, rt: &R) -> Result<InOrder, NoMemory> {
 #[test]
 fn hints_come_in_order_and_are_put_at_the_back(rt: HostRuntime) -> Result<(), Fail> {
     let wanted = InOrder {
+        first: 2,
         taken: [Some(1), Some(2), None],
+        none: 0,
         put: [true, true, true, false],
+        all: 3,
         then: Some(0),
+        last: 2,
     };
     assert_eq!(rt; in_order(rt.alloc(), &rt)?, wanted);
     Ok(())
