@@ -1,6 +1,7 @@
 pub mod AfterReads
 pub mod Alone
 pub mod Apart
+pub mod BoxWords
 pub mod Carried
 pub mod Claiming
 pub mod Entries
@@ -13,6 +14,7 @@ pub mod Makers
 pub mod Many
 pub mod Maps
 pub mod Moving
+pub mod Numbered
 pub mod Openings
 pub mod Owing
 pub mod Parts

@@ -1,19 +1,30 @@
 -- What a seat knows of a state at its step, for any client.
-use Rattle.std.proofs.Common.{◌≡◌, ◌<◌, ℕ, Bool, List, length, sym, ap, subst}
+use Rattle.std.proofs.Common.{◌≡◌, ◌≢◌, ◌<◌, ℕ, Bool, List, length, Option, sym, ap, subst}
 use Rattle.std.proofs.lemmas.List.{length-map}
+use Rattle.cell_words.specs.Term.{Term}
 use Rattle.core_machine.specs.declared.places.Held.{Held}
 use Rattle.core_machine.specs.Own.{Own}
 use Rattle.core_machine.specs.Places.{cell_at}
-use Rattle.core_machine.specs.State.{State, target_of}
+use Rattle.core_machine.specs.State.{State, field_of, target_of}
 use Rattle.dlg_core.specs.Reachable.{Reachable}
 use Rattle.heap_rule.specs.Asks.{known_of, target}
 use Rattle.heap_rule.specs.Facts.{AllKnown, IsKnown}
+use Rattle.heap_rule.specs.Knowledge.{FixedAreTold}
 use Rattle.heap_rule.specs.Lore.{Lore, cells_in, cells_of}
 use Rattle.heap_rule.specs.Steps.{Mine}
 use Rattle.heap_rule.specs.declared.known.Known.{Known}
+use Rattle.heap_rule.specs.declared.known.Known.TheVariants as knows
 use Rattle.heap_rule.specs.declared.view.View.{View}
 use Rattle.heap_rule.proofs.Lists.{all_at, reached_held}
+use Rattle.heap_rule.proofs.Maps.{In}
 use Rattle.heap_rule.proofs.Reading.{cell_there, has_place}
+
+-- a box of the map beside the anchor, whose fixed fields are as they were told
+pub record SeenBox (fixed : ℕ → Bool) (s : State) (l : Lore) (x : ℕ) (told : List (Option Term))
+    : Type 0 where
+  pub other : x ≢ 0
+  pub in_is : In s l x
+  pub told_is : FixedAreTold fixed told l.terms (field_of s x)
 
 module _ {P : Type 0} {fixed : ℕ → Bool} (v : View P) (s : State) (l : Lore)
     (mine : Mine fixed v s l)
@@ -43,3 +54,16 @@ module _ {P : Type 0} {fixed : ℕ → Bool} (v : View P) (s : State) (l : Lore)
         (reached_held s v.number (target_of s v.number place) mine.shown.consistent
         (has_place s v.number place
         (subst (λ (o : Own). place < length o.held) (sym mine.own) lt)))
+
+    -- a box that it knows
+    pub box_seen : (place : ℕ) (told : List (Option Term)) → place < length v.own.held
+        → known_of v place ≡ knows.Boxed told → SeenBox fixed s l (target v place) told
+    box_seen place told lt is =
+        let known : IsKnown fixed s l v.number (target v place) (knows.Boxed told) =
+        subst (λ (k : Known). IsKnown fixed s l v.number (target v place) k) is
+        (knows_place place lt) in
+        record {
+          other = known.0;
+          in_is = record { reached = reached_place place lt; box = known.1; old = known.2 };
+          told_is = known.3;
+        }

@@ -7,6 +7,7 @@ pub mod Laws
 pub mod Lore
 pub mod Moves
 pub mod NoRule
+pub mod Numbered
 pub mod Opening
 pub mod Parts
 pub mod Reads

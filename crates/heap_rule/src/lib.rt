@@ -10,8 +10,8 @@
 //! change, and the rule of a table that holds all of it with the views of its seats. No table is
 //! made here, and no thread steps.
 //!
-//! Reading order: `known`; specs/Lore, Knowledge, Facts, Boxes; `keeping`, `view`; specs/Rule, Steps,
-//! Asks, Opening, Moves, Laws; then `theorems`.
+//! Reading order: `known`; specs/Lore, Knowledge, Facts, Boxes, Numbered; `keeping`, `view`;
+//! specs/Rule, Steps, Asks, Opening, Moves, Laws; then `theorems`.
 #![tactic(auto)]
 
 mod keeping;
