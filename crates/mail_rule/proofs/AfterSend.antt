@@ -11,18 +11,20 @@ use Rattle.atomic_table.proofs.Lists.{at_set}
 use Rattle.cell_words.specs.Term.{null, num}
 use Rattle.heap_rule.specs.Boxes.{Map, Payload, written_map}
 use Rattle.heap_rule.specs.Lore.{Named, Plain, put}
+use Rattle.heap_rule.specs.Numbered.{AreApart, HasNumber, NamesNumber}
 use Rattle.heap_rule.proofs.Claiming.{put_here, put_other}
 use Rattle.heap_rule.proofs.Entries.{some_is, written_else, written_here}
 use Rattle.heap_rule.proofs.Moving.{some_below}
+use Rattle.heap_rule.proofs.Numbered.{added_or_before, apart_with, names_beside, names_written}
+use Rattle.heap_rule.proofs.Numbered.{not_added, not_anchor, number_added, number_beside}
+use Rattle.heap_rule.proofs.Numbered.{number_unwritten, number_written}
 use Rattle.mail_rule.specs.Items.{Letter, letter_at, sends_of}
-use Rattle.mail_rule.specs.Mail.{HasItem, HasPosition, HasTaken, HoldsMail, IsItem}
-use Rattle.mail_rule.specs.Mail.{IsOwn, IsSigned}
+use Rattle.mail_rule.specs.Mail.{HasItem, HoldsMail, IsItem, IsOwn, IsSigned}
 use Rattle.mail_rule.specs.Passes.{having_sent}
 use Rattle.mail_rule.specs.declared.items.Sent.{Sent}
 use Rattle.mail_rule.specs.declared.mail_pass.MailPass.{MailPass}
 use Rattle.mail_rule.proofs.Letters.{letter_last, letter_still, sends_more, sends_same, takes_still}
-use Rattle.mail_rule.proofs.Standing.{At, is_at, item_of, not_anchor, one_position}
-use Rattle.mail_rule.proofs.Standing.{taken_low}
+use Rattle.mail_rule.proofs.Standing.{At, is_at, item_of, taken_low}
 
 -- the box of an item that is to be sent
 pub record IsNew (position : ℕ) (letter : Letter) (box : Payload) : Type 0 where
@@ -34,7 +36,7 @@ pub record IsNew (position : ℕ) (letter : Letter) (box : Payload) : Type 0 whe
 
 module _ (map : Map) (passes : List MailPass) (h : HoldsMail map passes) (z c u : ℕ)
     (letter : Letter) (box : Payload) (absent : map z ≡ None) (fresh : IsNew (u + 1) letter box)
-    (old : HasPosition map c u) (last : old.box 3 ≡ Plain null) where
+    (old : HasNumber map c u) (last : old.box 3 ≡ Plain null) where
   abbrev shown : Map
   shown = put map z (Some box)
 
@@ -54,18 +56,15 @@ module _ (map : Map) (passes : List MailPass) (h : HoldsMail map passes) (z c u 
     | inr next ↦ absurd (let e : Named next.cell ≡ Plain null = sym next.names ∙ last in cc)
   ]
 
-  there_before : (y : ℕ) (q : Payload) → map y ≡ Some q → y ≢ z
-  there_before y q at e =
-      let none : None ≡ Some q = sym absent ∙ ap map (sym e) ∙ at in cc
-
   old_there : shown c ≡ Some old.box
-  old_there = put_other map z (Some box) c (there_before c old.box old.there) ∙ old.there
+  old_there = put_other map z (Some box) c (not_added map z box absent c old.box old.there)
+      ∙ old.there
 
   old_here : new c ≡ Some (put old.box 3 (Named z))
   old_here = written_here shown c 3 (Named z) old.box old_there
 
   not_old : z ≢ c
-  not_old e = there_before c old.box old.there (sym e)
+  not_old e = not_added map z box absent c old.box old.there (sym e)
 
   box_here : new z ≡ Some box
   box_here = written_else shown c 3 (Named z) old.box old_there z not_old
@@ -76,52 +75,19 @@ module _ (map : Map) (passes : List MailPass) (h : HoldsMail map passes) (z c u 
   else_same y one other = written_else shown c 3 (Named z) old.box old_there y one
       ∙ put_other map z (Some box) y other
 
-  new_has : HasPosition new z (u + 1)
-  new_has = record { box = box; there = box_here; position_is = fresh.position_is }
+  new_has : HasNumber new z (u + 1)
+  new_has = number_written shown c 3 (Named z) old.box old_there (omega arith) z (u + 1)
+      (number_added map z box absent (u + 1) fresh.position_is)
 
-  old_has : HasPosition new c u
-  old_has = record {
-    box = put old.box 3 (Named z);
-    there = old_here;
-    position_is = old.position_is;
-  }
-
-  position_still : (y p : ℕ) → HasPosition map y p → HasPosition new y p
-  position_still y p has = elim (cases_eq y c) [
-    | inl same ↦
-        let here : HasPosition map c p = subst (λ (x : ℕ). HasPosition map x p) same has in
-        let one : u ≡ p = one_position map c u p old here in
-        subst (λ (x : ℕ). HasPosition new x p) (sym same)
-        (subst (λ (q : ℕ). HasPosition new c q) one old_has)
-    | inr other ↦ record {
-      box = has.box;
-      there = else_same y other (there_before y has.box has.there) ∙ has.there;
-      position_is = has.position_is;
-    }
-  ]
+  position_still : (y p : ℕ) → HasNumber map y p → HasNumber new y p
+  position_still y p has = number_written shown c 3 (Named z) old.box old_there (omega arith) y p
+      (number_beside map z box absent y p has)
 
   -- a box with a position is the new one, or had it before
-  position_before : (y p : ℕ) → HasPosition new y p
-      → ((y ≡ z) × (p ≡ u + 1)) ⊎ HasPosition map y p
-  position_before y p has = elim (cases_eq y z) [
-    | inl same ↦ inl (
-      same,
-      one_position new z p (u + 1)
-          (subst (λ (x : ℕ). HasPosition new x p) same has) new_has,
-    )
-    | inr apart ↦ inr (elim (cases_eq y c) [
-      | inl same ↦
-          let here : HasPosition new c p = subst (λ (x : ℕ). HasPosition new x p) same has in
-          let one : u ≡ p = one_position new c u p old_has here in
-          subst (λ (x : ℕ). HasPosition map x p) (sym same)
-          (subst (λ (q : ℕ). HasPosition map c q) one old)
-      | inr other ↦ record {
-        box = has.box;
-        there = sym (else_same y other apart) ∙ has.there;
-        position_is = has.position_is;
-      }
-    ])
-  ]
+  position_before : (y p : ℕ) → HasNumber new y p
+      → ((y ≡ z) × (p ≡ u + 1)) ⊎ HasNumber map y p
+  position_before y p has = added_or_before map z box absent (u + 1) fresh.position_is y p
+      (number_unwritten shown c 3 (Named z) old.box old_there (omega arith) y p has)
 
   -- The boxes.
 
@@ -175,7 +141,7 @@ module _ (map : Map) (passes : List MailPass) (h : HoldsMail map passes) (z c u 
         fifth = is.fifth;
       }
 
-  at_else : (y p : ℕ) (has : HasPosition map y p) → y ≢ c → At longer new p has.box
+  at_else : (y p : ℕ) (has : HasNumber map y p) → y ≢ c → At longer new p has.box
   at_else y p has other =
       let is = item_of map passes h y p has in
       record {
@@ -183,7 +149,7 @@ module _ (map : Map) (passes : List MailPass) (h : HoldsMail map passes) (z c u 
         has = has_still p has.box is.sent is.has;
         next = elim is.next [
           | inl end ↦ absurd (other (h.apart y c u
-              (subst (λ (q : ℕ). HasPosition map y q) (end.last ∙ sym was_last) has) old))
+              (subst (λ (q : ℕ). HasNumber map y q) (end.last ∙ sym was_last) has) old))
           | inr next ↦ inr record {
             cell = next.cell;
             names = next.names;
@@ -211,41 +177,22 @@ module _ (map : Map) (passes : List MailPass) (h : HoldsMail map passes) (z c u 
           is_at longer new is.position q (at_else y is.position record {
             box = q;
             there = before;
-            position_is = is.has.position_is;
+            number_is = is.has.position_is;
           } other)
     ]
   ]
 
-  latest_new : HasTaken new (length h.takers)
-  latest_new =
-      let apart : 0 ≢ c = (λ e. not_anchor map (length h.takers) c u h.latest old (sym e)) in
-      record {
-        anchor = h.latest.anchor;
-        there = else_same 0 apart (there_before 0 h.latest.anchor h.latest.there)
-            ∙ h.latest.there;
-        cell = h.latest.cell;
-        names = h.latest.names;
-        item = position_still h.latest.cell (length h.takers) h.latest.item;
-        others = h.latest.others;
-      }
+  latest_new : NamesNumber new (length h.takers)
+  latest_new = names_written shown c 3 (Named z) old.box old_there (omega arith)
+      (λ e. not_anchor map (length h.takers) c u h.latest old (sym e)) (length h.takers)
+      (names_beside map z box absent (length h.takers) h.latest)
 
-  apart_new : (y x p : ℕ) → HasPosition new y p → HasPosition new x p → y ≡ x
-  apart_new y x p a b = elim (position_before y p a) [
-    | inl here ↦ elim (position_before x p b) [
-      | inl there ↦ here.0 ∙ sym there.0
-      | inr older ↦ absurd (high x p here.1 older)
-    ]
-    | inr older ↦ elim (position_before x p b) [
-      | inl there ↦ absurd (high y p there.1 older)
-      | inr old_too ↦ h.apart y x p older old_too
-    ]
-  ]
-    where
-      -- no box had the new position
-      high : (y p : ℕ) → p ≡ u + 1 → HasPosition map y p → ⊥
-      high y p is has =
-          let low = (item_of map passes h y p has).sent in let end = was_last in
-          omega (arith, low, end, is)
+  -- no box had the new position
+  apart_new : AreApart new
+  apart_new = apart_with map new z (u + 1) position_before
+      (λ y p has is.
+      let low = (item_of map passes h y p has).sent in let end = was_last in
+      omega (arith, low, end, is)) h.apart
 
   -- The passes.
 

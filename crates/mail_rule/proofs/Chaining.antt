@@ -1,14 +1,15 @@
 -- The items behind a box: as many boxes as were sent behind it.
 use Rattle.std.proofs.Common.{◌≡◌, ℕ, zero, suc, ◌+◌, ◌-◌, List, [], ◌∷◌, length, inl, inr, arith}
 use Rattle.heap_rule.specs.Boxes.{Map}
+use Rattle.heap_rule.specs.Numbered.{HasNumber}
 use Rattle.mail_rule.specs.Chains.{Behind, last, more}
-use Rattle.mail_rule.specs.Mail.{HasPosition, HoldsMail}
+use Rattle.mail_rule.specs.Mail.{HoldsMail}
 use Rattle.mail_rule.specs.declared.mail_pass.MailPass.{MailPass}
 use Rattle.mail_rule.proofs.Standing.{item_of, position_low}
 
 module _ (map : Map) (passes : List MailPass) (h : HoldsMail map passes) where
   behind_so_many : (left cell position : ℕ) → position + left ≡ length h.letters
-      → HasPosition map cell position
+      → HasNumber map cell position
       → Behind h.letters map cell position
   behind_so_many zero cell position so_many has =
       let is = item_of map passes h cell position has in
@@ -38,7 +39,7 @@ module _ (map : Map) (passes : List MailPass) (h : HoldsMail map passes) where
             }
       ]
 
-  pub behind : (cell position : ℕ) → HasPosition map cell position
+  pub behind : (cell position : ℕ) → HasNumber map cell position
       → Behind h.letters map cell position
   behind cell position has =
       let low = position_low map passes h cell position has in

@@ -12,10 +12,11 @@ use mathlib.Core.Option.{some}
 use lib.ListN.{get_elem?}
 use Rattle.atomic_table.proofs.Lists.{at_index}
 use Rattle.heap_rule.specs.Boxes.{Map}
+use Rattle.heap_rule.specs.Numbered.{HasNumber}
 use Rattle.mail_rule.specs.Counted.{EachOnce, WasSent, all_sent, all_taken, sent_in, taken_in}
 use Rattle.mail_rule.specs.Items.{Letter, item_at, no_letter, positions_of, senders}
 use Rattle.mail_rule.specs.Items.{sent_at}
-use Rattle.mail_rule.specs.Mail.{HasPosition, HoldsMail, IsSigned}
+use Rattle.mail_rule.specs.Mail.{HoldsMail, IsSigned}
 use Rattle.mail_rule.specs.Passes.{opening_pass}
 use Rattle.mail_rule.specs.declared.items.Item.{Item}
 use Rattle.mail_rule.specs.declared.items.Sent.{Sent}
@@ -135,7 +136,7 @@ module _ (map : Map) (passes : List MailPass) (h : HoldsMail map passes) where
   pub letters_few : length h.letters ≤ 6_400_000
   letters_few = let many = sends_many in let few = sends_few in omega (arith, many, few)
 
-  pub boxes_few : (cell position : ℕ) → HasPosition map cell position
+  pub boxes_few : (cell position : ℕ) → HasNumber map cell position
       → position ≤ length (all_sent passes)
   boxes_few cell position has =
       let low = position_low map passes h cell position has in

@@ -1,23 +1,23 @@
 -- The rule holds where a mailbox opens.
 use Rattle.std.proofs.Common.{◌≡◌, ◌<◌, ◌≤◌, ◌-◌, ◌⊎◌, ℕ, zero, suc, ◌+◌, false, true, List, []}
-use Rattle.std.proofs.Common.{length, Some, inl, inr, refl, sym, ◌∙◌, ap, subst, arith}
+use Rattle.std.proofs.Common.{length, inl, inr, refl, sym, ap, subst, arith}
 use Rattle.std.proofs.lemmas.List.Elements.{All-nil}
 use mathlib.Core.Option.{some, some-injective}
 use lib.ListN.{get_elem?}
 use Rattle.cell_words.specs.declared.fields.Field.{Field}
-use Rattle.cell_words.specs.Term.{null, num}
+use Rattle.cell_words.specs.Term.{null}
 use Rattle.core_machine.specs.State.{State, field_of, opening}
 use Rattle.core_machine.specs.Words.{is_box_kind}
 use Rattle.dlg_core.specs.Reachable.{anchor, named}
 use Rattle.heap_rule.specs.Boxes.{Map, Payload, boxes_of, payload_of}
-use Rattle.heap_rule.specs.Lore.{Lore, Named, Plain}
+use Rattle.heap_rule.specs.Lore.{Lore, Plain}
 use Rattle.heap_rule.specs.Opening.{FirstTerms, opening_lore, opening_passes, opening_rooms}
 use Rattle.heap_rule.specs.Opening.{passes_from}
 use Rattle.heap_rule.specs.Shape.{Shape, start}
-use Rattle.heap_rule.proofs.Maps.{in_map, of_map}
-use Rattle.heap_rule.proofs.Entries.{same_entry, some_is}
-use Rattle.heap_rule.proofs.Openings.{as_many_open, null_rows}
-use Rattle.mail_rule.specs.Mail.{HasPosition, HoldsMail, IsItem, IsOwn, IsSigned}
+use Rattle.heap_rule.proofs.Maps.{In}
+use Rattle.heap_rule.proofs.Openings.{as_many_open, each_box, first_apart, first_named, four_null}
+use Rattle.heap_rule.proofs.Openings.{null_rows}
+use Rattle.mail_rule.specs.Mail.{HoldsMail, IsItem, IsOwn, IsSigned}
 use Rattle.mail_rule.specs.Opening.{OpensMail, first_rows, first_terms}
 use Rattle.mail_rule.specs.Passes.{opening_pass}
 use Rattle.mail_rule.specs.declared.mail_pass.MailPass.{MailPass}
@@ -49,12 +49,11 @@ module _ (cells : ℕ) (rooms : List ℕ) (known : ℕ) where
   abbrev map : Map
   map = boxes_of s l
 
-  anchor_there : map 0 ≡ Some (payload_of s l 0)
-  anchor_there = in_map s l 0 record { reached = anchor refl; box = refl; old = refl }
+  anchor_in : In s l 0
+  anchor_in = record { reached = anchor refl; box = refl; old = refl }
 
-  item_there : map 1 ≡ Some (payload_of s l 1)
-  item_there = in_map s l 1
-      record { reached = named 0 (anchor refl) refl; box = refl; old = refl }
+  item_in : In s l 1
+  item_in = record { reached = named 0 (anchor refl) refl; box = refl; old = refl }
 
   -- no other cell is a box
   box_is : (x : ℕ) → is_box_kind (field_of s x 5) ≡ true → (x ≡ 0) ⊎ (x ≡ 1)
@@ -64,27 +63,8 @@ module _ (cells : ℕ) (rooms : List ℕ) (known : ℕ) where
       let none : is_box_kind (field_of s (suc (suc k)) 5) ≡ false =
       ap is_box_kind (null_rows (cells - 2) k 5) in cc)
 
-  in_is : (x : ℕ) (q : Payload) → map x ≡ Some q → (x ≡ 0) ⊎ (x ≡ 1)
-  in_is x q at = box_is x (of_map s l x q at).box
-
-  -- only the second has a position
-  position_at : (x u : ℕ) → HasPosition map x u → x ≡ 1
-  position_at x u has = elim (in_is x has.box has.there) [
-    | inl first ↦ absurd (
-        let e : Named 1 ≡ Plain (num u) = same_entry map 0 0 (payload_of s l 0) has.box
-        anchor_there (subst (λ (y : ℕ). map y ≡ Some has.box) first has.there)
-        ∙ has.position_is in
-        cc)
-    | inr is ↦ is
-  ]
-
   others : (f : ℕ) → 1 ≤ f → f < 5 → payload_of s l 0 f ≡ Plain null
-  others zero low lt = absurd (omega (arith, low))
-  others (suc zero) low lt = refl
-  others (suc (suc zero)) low lt = refl
-  others (suc (suc (suc zero))) low lt = refl
-  others (suc (suc (suc (suc zero)))) low lt = refl
-  others (suc (suc (suc (suc (suc f))))) low lt = absurd (omega (arith, lt))
+  others = four_null (payload_of s l 0) refl refl refl refl
 
   first_item : IsItem [] map (payload_of s l 1)
   first_item = record {
@@ -110,22 +90,10 @@ module _ (cells : ℕ) (rooms : List ℕ) (known : ℕ) where
     own = λ number pass at.
         subst (λ (p : MailPass). IsOwn [] [] number p)
         (first_pass setting 0 mutators number pass at) (first_own number);
-    latest = record {
-      anchor = payload_of s l 0;
-      there = anchor_there;
-      cell = 1;
-      names = refl;
-      item = record { box = payload_of s l 1; there = item_there; position_is = refl };
-      others = others;
-    };
-    boxes = λ x q other at. elim (in_is x q at) [
-      | inl first ↦ absurd (other first)
-      | inr is ↦
-          subst (λ (p : Payload). IsItem [] map p)
-          (some_is (payload_of s l 1) q (sym item_there
-          ∙ subst (λ (y : ℕ). map y ≡ Some q) is at)) first_item
-    ];
-    apart = λ x y u a b. position_at x u a ∙ sym (position_at y u b);
+    latest = first_named s l 0 anchor_in item_in box_is refl refl others;
+    boxes = λ x q other at. each_box s l 0 anchor_in item_in box_is refl refl others
+        (λ (p : Payload). IsItem [] map p) first_item x q other at;
+    apart = first_apart s l 0 anchor_in item_in box_is refl refl others;
   }
 
 -- what is asked of the client of a heap that is made

@@ -1,5 +1,5 @@
 -- The two writes: the rule stands with the pass that is picked, whether the write was made or not.
-use Rattle.std.proofs.Common.{◌≡◌, ℕ, ◌+◌, Bool, true, false, List, Some, slice_set, refl}
+use Rattle.std.proofs.Common.{◌≡◌, ℕ, ◌+◌, Bool, true, false, List, length, Some, slice_set, refl}
 use Rattle.std.proofs.Common.{sym, ◌∙◌, ap, subst, arith}
 use mathlib.Core.Option.{some}
 use lib.ListN.{get_elem?}
@@ -14,25 +14,27 @@ use Rattle.heap_rule.specs.Asks.{target}
 use Rattle.heap_rule.specs.Boxes.{Map, boxes_of, payload_of, revealing, written_if, written_map}
 use Rattle.heap_rule.specs.Facts.{IsKnown}
 use Rattle.heap_rule.specs.Lore.{Entry, Lore, Named, entry_of, named_or, put}
+use Rattle.heap_rule.specs.Numbered.{HasNumber}
 use Rattle.heap_rule.specs.Settled.{IsSettled}
 use Rattle.heap_rule.specs.Steps.{Mine, Picks}
 use Rattle.heap_rule.specs.declared.known.Known.{Known}
 use Rattle.heap_rule.specs.declared.known.Known.TheVariants as knows
 use Rattle.heap_rule.specs.declared.view.View.{View}
 use Rattle.heap_rule.proofs.Filling.{fills_nothing}
+use Rattle.heap_rule.proofs.Numbered.{anchor_names}
 use Rattle.heap_rule.proofs.Seats.{knows_place, reached_place, target_now}
 use Rattle.heap_rule.proofs.EntryWords.{no_term}
 use Rattle.heap_rule.proofs.Revealed.{fresh_absent, shown_is}
 use Rattle.mail_rule.specs.Items.{Letter, item_at}
 use Rattle.mail_rule.specs.Knowing.{MaySend, MayTake, item_fields, next_sent, next_taken}
-use Rattle.mail_rule.specs.Mail.{HasPosition, HoldsMail, is_fixed}
+use Rattle.mail_rule.specs.Mail.{HoldsMail, is_fixed}
 use Rattle.mail_rule.specs.Passes.{having_sent, having_taken, sent_if, taken_if}
 use Rattle.mail_rule.specs.declared.items.Item.{Item}
 use Rattle.mail_rule.specs.declared.items.Sent.{Sent}
 use Rattle.mail_rule.specs.declared.mail_pass.MailPass.{MailPass}
 use Rattle.mail_rule.proofs.AfterSend.{IsNew, sends}
 use Rattle.mail_rule.proofs.AfterTake.{takes}
-use Rattle.mail_rule.proofs.Seen.{Seen, anchor_entry, item_is, item_seen, position_seen}
+use Rattle.mail_rule.proofs.Seen.{Seen, item_is, item_seen, position_seen}
 
 module _ (v : View MailPass) (s : State) (l : Lore) (passes : List MailPass)
     (mine : Mine is_fixed v s l) (h : HoldsMail (boxes_of s l) passes)
@@ -137,8 +139,8 @@ module _ (v : View MailPass) (s : State) (l : Lore) (passes : List MailPass)
     next_seen : Seen s l d item
     next_seen = item_seen v s l mine next item may.next_held
 
-    next_has : HasPosition (boxes_of s l) d (may.last.position + 1)
-    next_has = subst (λ (p : ℕ). HasPosition (boxes_of s l) d p) may.follows
+    next_has : HasNumber (boxes_of s l) d (may.last.position + 1)
+    next_has = subst (λ (p : ℕ). HasNumber (boxes_of s l) d p) may.follows
         (position_seen s l d item next_seen)
 
     boxes_same : boxes_of s (revealing l (field.Cell d)) ≡ boxes_of s l
@@ -161,9 +163,8 @@ module _ (v : View MailPass) (s : State) (l : Lore) (passes : List MailPass)
         ap (named_or d) (no_term is_fixed s l mine.shown.facts d next_seen.in_is.reached
         next_seen.in_is.box) in
         let names : h.latest.anchor 0 ≡ Named b =
-        sym (anchor_entry v s l passes mine h) ∙ ap (entry_of l.terms) there
-        ∙ ap (named_or b) (no_term is_fixed s l mine.shown.facts b before_seen.in_is.reached
-        before_seen.in_is.box) in
+        anchor_names s l (length h.takers) h.latest is_fixed mine.shown.facts b
+        before_seen.in_is.reached before_seen.in_is.box there in
         subst (λ (m : Map). HoldsMail (written_map m 0 0 (entry_of l.terms (field.Cell d)))
         (slice_set passes v.number (having_taken item v.pass)))
         (sym boxes_same)

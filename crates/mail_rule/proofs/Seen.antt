@@ -9,25 +9,26 @@ use Rattle.core_machine.specs.declared.events.Event.TheVariants as event
 use Rattle.core_machine.specs.declared.events.Found.TheVariants as finds
 use Rattle.heap_rule.specs.Asks.{target}
 use Rattle.heap_rule.specs.Boxes.{boxes_of, payload_of}
-use Rattle.heap_rule.specs.Facts.{IsKnown}
 use Rattle.heap_rule.specs.Lore.{Lore, Plain, five_plain, learned, learned_from, learned_of}
 use Rattle.heap_rule.specs.Lore.{plain}
+use Rattle.heap_rule.specs.Numbered.{HasNumber}
 use Rattle.heap_rule.specs.Steps.{AtStep, Mine, same_pass}
 use Rattle.heap_rule.specs.declared.known.Known.{Known}
-use Rattle.heap_rule.specs.declared.known.Known.TheVariants as knows
 use Rattle.heap_rule.specs.declared.view.View.{View}
-use Rattle.heap_rule.proofs.Maps.{In, entry_names, in_map, of_map}
-use Rattle.heap_rule.proofs.Seats.{knows_place, reached_place, target_now}
-use Rattle.heap_rule.proofs.Entries.{num_inj, same_entry}
-use Rattle.heap_rule.proofs.EntryWords.{learned_box, null_word, number_word}
+use Rattle.heap_rule.proofs.BoxWords.{entry_there, told_there}
+use Rattle.heap_rule.proofs.Entries.{num_inj}
+use Rattle.heap_rule.proofs.EntryWords.{null_word, number_word}
+use Rattle.heap_rule.proofs.Maps.{In, entry_names, in_map}
+use Rattle.heap_rule.proofs.Numbered.{anchor_word, not_anchor}
+use Rattle.heap_rule.proofs.Seats.{box_seen, target_now}
 use Rattle.mail_rule.specs.Items.{item_at, letter_at, no_letter}
 use Rattle.mail_rule.specs.Knowing.{IsItemKnown, KnowsItem}
-use Rattle.mail_rule.specs.Mail.{HasPosition, HoldsMail, IsFollowed, is_fixed}
+use Rattle.mail_rule.specs.Mail.{HoldsMail, IsFollowed, is_fixed}
 use Rattle.mail_rule.specs.Told.{IsSmall, TellsFollowing, TellsItem, TellsLatest, TellsNext}
 use Rattle.mail_rule.specs.declared.items.Item.{Item}
 use Rattle.mail_rule.specs.declared.mail_pass.MailPass.{MailPass}
 use Rattle.mail_rule.proofs.Counts.{letters_few}
-use Rattle.mail_rule.proofs.Standing.{item_of, not_anchor, position_low}
+use Rattle.mail_rule.proofs.Standing.{item_of, position_low}
 
 -- the box of this item is in the map
 pub record Seen (s : State) (l : Lore) (x : ℕ) (item : Item) : Type 0 where
@@ -38,11 +39,11 @@ pub record Seen (s : State) (l : Lore) (x : ℕ) (item : Item) : Type 0 where
   pub value_is : payload_of s l x 2 ≡ Plain (num item.value)
 
 abbrev pub position_seen : (s : State) (l : Lore) (x : ℕ) (item : Item) → Seen s l x item
-    → HasPosition (boxes_of s l) x item.position
+    → HasNumber (boxes_of s l) x item.position
 position_seen s l x item seen = record {
   box = payload_of s l x;
   there = in_map s l x seen.in_is;
-  position_is = seen.position_is;
+  number_is = seen.position_is;
 }
 
 -- what a mutator knows of an item is so
@@ -51,19 +52,13 @@ pub item_seen : (v : View MailPass) (s : State) (l : Lore) → Mine is_fixed v s
     → Seen s l (target v place) item
 item_seen v s l mine place item has =
     let k = has.known in
-    let is : IsKnown is_fixed s l v.number (target v place) (knows.Boxed k.told) =
-    subst (λ (w : Known). IsKnown is_fixed s l v.number (target v place) w) k.is
-    (knows_place v s l mine place has.there) in
+    let is = box_seen v s l mine place k.told has.there k.is in
     record {
-      other = is.0;
-      in_is = record {
-        reached = reached_place v s l mine place has.there;
-        box = is.1;
-        old = is.2;
-      };
-      position_is = is.3 0 (num item.position) (omega arith) refl k.position_is;
-      sender_is = is.3 1 (num item.sender) (omega arith) refl k.sender_is;
-      value_is = is.3 2 (num item.value) (omega arith) refl k.value_is;
+      other = is.other;
+      in_is = is.in_is;
+      position_is = is.told_is 0 (num item.position) (omega arith) refl k.position_is;
+      sender_is = is.told_is 1 (num item.sender) (omega arith) refl k.sender_is;
+      value_is = is.told_is 2 (num item.value) (omega arith) refl k.value_is;
     }
 
 module _ (v : View MailPass) (s : State) (l : Lore) (passes : List MailPass)
@@ -101,18 +96,15 @@ module _ (v : View MailPass) (s : State) (l : Lore) (passes : List MailPass)
       (position_low (boxes_of s l) passes h x item.position (position_seen s l x item seen)))
 
   -- what is told of a box of the map
-  box_told : (x position : ℕ) → HasPosition (boxes_of s l) x position
+  box_told : (x position : ℕ) → HasNumber (boxes_of s l) x position
       → IsItemKnown (learned_of s l x) (item_at h.letters position)
   box_told x position has =
       let is = (item_of (boxes_of s l) passes h x position has).has in
-      let in_is = of_map s l x has.box has.there in
       let other = not_anchor (boxes_of s l) (length h.takers) x position h.latest has in
-      let entry : (f : ℕ) → payload_of s l x f ≡ has.box f =
-      (λ f. same_entry (boxes_of s l) x f (payload_of s l x) has.box (in_map s l x in_is)
-      has.there) in
+      let entry = entry_there s l x has.box has.there in
       record {
         told = five_plain (payload_of s l x);
-        is = learned_box is_fixed s l mine.shown.facts x in_is other;
+        is = told_there s l x has.box has.there is_fixed mine.shown.facts other;
         position_is = ap plain (entry 0 ∙ is.position_is);
         sender_is = ap plain (entry 1 ∙ is.sender_is);
         value_is = ap plain (entry 2 ∙ is.value_is);
@@ -121,7 +113,7 @@ module _ (v : View MailPass) (s : State) (l : Lore) (passes : List MailPass)
   -- a read that finds such a box
   tells_item : (place f cell position : ℕ)
       → field_of s (target_of s v.number place) f ≡ field.Cell cell
-      → HasPosition (boxes_of s l) cell position
+      → HasNumber (boxes_of s l) cell position
       → TellsItem (learned s l (event.Read v.number place f))
       (found_by s (event.Read v.number place f)) (item_at h.letters position)
   tells_item place f cell position word has = record {
@@ -134,24 +126,14 @@ module _ (v : View MailPass) (s : State) (l : Lore) (passes : List MailPass)
 
   -- The anchor.
 
-  pub anchor_entry : payload_of s l 0 0 ≡ h.latest.anchor 0
-  anchor_entry =
-      let in_is = of_map s l 0 h.latest.anchor h.latest.there in
-      same_entry (boxes_of s l) 0 0 (payload_of s l 0) h.latest.anchor (in_map s l 0 in_is)
-      h.latest.there
-
-  anchor_word : field_of s 0 0 ≡ field.Cell h.latest.cell
-  anchor_word = entry_names l.terms (field_of s 0 0) h.latest.cell
-      (anchor_entry ∙ h.latest.names)
-
   pub tells_latest : (place : ℕ) → target v place ≡ 0
       → TellsLatest (learned s l (event.Read v.number place 0))
       (found_by s (event.Read v.number place 0))
   tells_latest place anchor = record {
     item = item_at h.letters (length h.takers);
     tells_item = tells_item place 0 h.latest.cell (length h.takers)
-        (ap (λ (x : ℕ). field_of s x 0) (target_now v s l mine place ∙ anchor) ∙ anchor_word)
-        h.latest.item;
+        (ap (λ (x : ℕ). field_of s x 0) (target_now v s l mine place ∙ anchor)
+        ∙ anchor_word s l (length h.takers) h.latest) h.latest.numbered;
   }
 
   -- An item that is known.

@@ -11,27 +11,13 @@ use lib.ListN.{get_elem?}
 use Rattle.cell_words.specs.Term.{null, num}
 use Rattle.heap_rule.specs.Boxes.{Map, Payload}
 use Rattle.heap_rule.specs.Lore.{Entry, Named, Plain}
+use Rattle.heap_rule.specs.Numbered.{AreApart, HasNumber, NamesNumber}
 use Rattle.mail_rule.specs.Items.{Letter, letter_at, sends_of, takes_of}
 use Rattle.mail_rule.specs.declared.mail_pass.MailPass.{MailPass}
 
 -- the position, the sender and the value of an item's box
 abbrev pub is_fixed : ℕ → Bool
 is_fixed f = (f == 0) || ((f == 1) || (f == 2))
-
--- the map has a box with this position
-pub record HasPosition (map : Map) (cell position : ℕ) : Type 0 where
-  pub box : Payload
-  pub there : map cell ≡ Some box
-  pub position_is : box 0 ≡ Plain (num position)
-
--- the anchor names the box with this position, and nothing else
-pub record HasTaken (map : Map) (position : ℕ) : Type 0 where
-  pub anchor : Payload
-  pub there : map 0 ≡ Some anchor
-  pub cell : ℕ
-  pub names : anchor 0 ≡ Named cell
-  pub item : HasPosition map cell position
-  pub others : (f : ℕ) → 1 ≤ f → f < 5 → anchor f ≡ Plain null
 
 -- no item follows yet
 pub record IsLast (sent position : ℕ) (next : Entry) : Type 0 where
@@ -42,7 +28,7 @@ pub record IsLast (sent position : ℕ) (next : Entry) : Type 0 where
 pub record IsFollowed (map : Map) (position : ℕ) (next : Entry) : Type 0 where
   pub cell : ℕ
   pub names : next ≡ Named cell
-  pub item : HasPosition map cell (position + 1)
+  pub item : HasNumber map cell (position + 1)
 
 -- a box has the fields of the item at this position
 pub record HasItem (letters : List Letter) (position : ℕ) (box : Payload) : Type 0 where
@@ -79,8 +65,8 @@ pub record HoldsMail (map : Map) (passes : List MailPass) : Type 0 where
   pub received : All (λ (number : ℕ). number < length passes) takers
   pub own : (number : ℕ) (pass : MailPass) → get_elem? passes number ≡ some pass
       → IsOwn letters takers number pass
-  pub latest : HasTaken map (length takers)
+  -- the box of the item that was taken last
+  pub latest : NamesNumber map (length takers)
   pub boxes : (cell : ℕ) (box : Payload) → cell ≢ 0 → map cell ≡ Some box
       → IsItem letters map box
-  pub apart : (one other position : ℕ) → HasPosition map one position
-      → HasPosition map other position → one ≡ other
+  pub apart : AreApart map

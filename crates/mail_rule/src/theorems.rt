@@ -10,6 +10,7 @@ ghost use Rattle.core_machine.specs.declared.events.Found.TheVariants as finds;
 ghost use Rattle.heap_rule.specs.Asks.{target};
 ghost use Rattle.heap_rule.specs.Boxes.{Map, boxes_of};
 ghost use Rattle.heap_rule.specs.Lore.{learned};
+ghost use Rattle.heap_rule.specs.Numbered.{HasNumber};
 ghost use Rattle.heap_rule.specs.Opening.{FirstTerms, opening_lore, opening_passes, opening_rooms};
 ghost use Rattle.heap_rule.specs.Shape.{Shape, start};
 ghost use Rattle.heap_rule.specs.Steps.{AtStep, Picks, same_pass};
@@ -19,7 +20,7 @@ ghost use Rattle.mail_rule.specs.Counted.{EachOnce, WasSent, all_sent, all_taken
 ghost use Rattle.mail_rule.specs.Counted.{taken_in};
 ghost use Rattle.mail_rule.specs.Items.{item_at};
 ghost use Rattle.mail_rule.specs.Knowing.{KnowsItem, MaySend, MayTake, next_sent, next_taken};
-ghost use Rattle.mail_rule.specs.Mail.{HasPosition, HoldsMail, is_fixed};
+ghost use Rattle.mail_rule.specs.Mail.{HoldsMail, is_fixed};
 ghost use Rattle.mail_rule.specs.Opening.{OpensMail, first_rows, first_terms};
 ghost use Rattle.mail_rule.specs.Passes.{opening_pass};
 ghost use Rattle.mail_rule.specs.Told.{IsSmall, TellsLatest, TellsNext};
@@ -93,7 +94,7 @@ pub fn items_are_few()
     ensures sent { (map : Map) (passes : List MailPass) → HoldsMail map passes
         → length (all_sent passes) ≤ 6_400_000 }
     ensures boxes { (map : Map) (passes : List MailPass) → HoldsMail map passes
-        → (cell position : ℕ) → HasPosition map cell position
+        → (cell position : ℕ) → HasNumber map cell position
         → position ≤ length (all_sent passes) }
 {}
 
@@ -101,7 +102,7 @@ pub fn items_are_few()
 /// the last one.
 pub fn items_follow()
     ensures { (map : Map) (passes : List MailPass) (h : HoldsMail map passes)
-        (cell position : ℕ) → HasPosition map cell position
+        (cell position : ℕ) → HasNumber map cell position
         → Behind h.letters map cell position }
 {}
 
