@@ -2,7 +2,7 @@
 -- version to a box that was in no map before.
 use Rattle.std.proofs.Common.{◌≡◌, ◌≢◌, ℕ, ◌+◌, ◌-◌, ◌<◌, ◌≤◌, ◌⊎◌, List, [], ◌∷◌, ◌++◌, length}
 use Rattle.std.proofs.Common.{Some, None, set, length-set}
-use Rattle.std.proofs.Common.{inl, inr, refl, sym, ◌∙◌, ap, subst, arith}
+use Rattle.std.proofs.Common.{inl, inr, sym, ◌∙◌, ap, subst, arith}
 use Rattle.std.proofs.lemmas.Bool.{cases_eq}
 use Rattle.std.proofs.lemmas.List.{length_push}
 use Rattle.std.proofs.lemmas.List.Elements.{All-push, All-set, All-weaker}
@@ -13,16 +13,19 @@ use Rattle.doc_model.specs.Store.{tree_at}
 use Rattle.doc_tree.specs.Tree.{DocTree}
 use Rattle.heap_rule.specs.Boxes.{Map, Payload, written_map}
 use Rattle.heap_rule.specs.Lore.{Entry, Named, Plain, put}
+use Rattle.heap_rule.specs.Numbered.{HasNumber}
 use Rattle.heap_rule.proofs.Claiming.{put_here, put_other}
+use Rattle.heap_rule.proofs.Entries.{some_is}
+use Rattle.heap_rule.proofs.Numbered.{added_or_before, apart_with, moved_else, named_number}
+use Rattle.heap_rule.proofs.Numbered.{names_beside, names_moved, not_added, not_anchor}
+use Rattle.heap_rule.proofs.Numbered.{number_added, number_beside, number_moved, number_unmoved}
 use Rattle.version_rule.specs.Fits.{Fits}
 use Rattle.version_rule.specs.Pass.{Commit, Pass, Reading, committed}
-use Rattle.version_rule.specs.Versions.{HasLatest, HasNumber, HoldsVersions, IsCut, IsInStep}
-use Rattle.version_rule.specs.Versions.{IsLinked, IsVersion, IsNext}
-use Rattle.heap_rule.proofs.Entries.{named_inj, same_entry, some_is, written_else, written_here}
+use Rattle.version_rule.specs.Versions.{HasLatest, HoldsVersions, IsCut, IsInStep, IsLinked}
+use Rattle.version_rule.specs.Versions.{IsNext, IsVersion}
 use Rattle.version_rule.proofs.Made.{versions_more}
 use Rattle.version_rule.proofs.Passing.{fits_at, in_step_at, made_of}
 use Rattle.version_rule.specs.Shrinks.{in_step_on, link_on, version_on}
-use Rattle.version_rule.specs.Shrinks.{not_anchor, one_number}
 use Rattle.version_rule.proofs.Trees.{tree_last, tree_still}
 
 module _ (is_tree : Term → Type 0) (tree_of : Term → DocTree) (map : Map) (passes : List Pass)
@@ -44,75 +47,39 @@ module _ (is_tree : Term → Type 0) (tree_of : Term → DocTree) (map : Map) (p
 
   -- the latest version is the one that the anchor named
   latest_is : length h.trees - 1 ≡ u
-  latest_is =
-      let same : h.latest.cell ≡ c =
-      named_inj h.latest.cell c (sym h.latest.names ∙ named) in
-      one_number map c (length h.trees - 1) u
-      (subst (λ (x : ℕ). HasNumber map x (length h.trees - 1)) same h.latest.version) old
+  latest_is = named_number map (length h.trees - 1) c u h.latest named old
 
   pub count_is : length h.trees ≡ n
   count_is =
       let made = made_of is_tree tree_of map passes h c old.box u old.there old.number_is in
       let latest = latest_is in omega (arith, made, latest, follows)
 
-  not_zero : 0 ≢ z
-  not_zero e =
-      let there : None ≡ Some h.latest.anchor =
-      sym absent ∙ ap map (sym e) ∙ h.latest.there in cc
-
-  anchor_here : new 0 ≡ Some (put h.latest.anchor 0 (Named z))
-  anchor_here = written_here shown 0 0 (Named z) h.latest.anchor
-      (put_other map z (Some box) 0 not_zero ∙ h.latest.there)
+  -- the anchor beside the new box
+  latest_beside : HasLatest shown (length h.trees - 1)
+  latest_beside = names_beside map z box absent (length h.trees - 1) h.latest
 
   -- a cell that is neither the anchor nor the new box is as it was
   else_same : (y : ℕ) → y ≢ 0 → y ≢ z → new y ≡ map y
-  else_same y one other = written_else shown 0 0 (Named z) h.latest.anchor
-      (put_other map z (Some box) 0 not_zero ∙ h.latest.there) y one
+  else_same y one other = moved_else shown (length h.trees - 1) latest_beside z y one
       ∙ put_other map z (Some box) y other
 
+  next_beside : HasNumber shown z n
+  next_beside = number_added map z box absent n next.number_is
+
   box_here : new z ≡ Some box
-  box_here = written_else shown 0 0 (Named z) h.latest.anchor
-      (put_other map z (Some box) 0 not_zero ∙ h.latest.there) z (λ e. not_zero (sym e))
+  box_here = moved_else shown (length h.trees - 1) latest_beside z z
+      (not_anchor shown (length h.trees - 1) z n latest_beside next_beside)
       ∙ put_here map z (Some box)
 
-  there_before : (y : ℕ) (q : Payload) → map y ≡ Some q → y ≢ z
-  there_before y q at e =
-      let none : None ≡ Some q = sym absent ∙ ap map (sym e) ∙ at in cc
-
   number_still : (y v : ℕ) → HasNumber map y v → HasNumber new y v
-  number_still y v has = record {
-    box = has.box;
-    there = else_same y (not_anchor map (length h.trees - 1) y v h.latest has)
-        (there_before y has.box has.there) ∙ has.there;
-    number_is = has.number_is;
-  }
-
-  next_here : HasNumber new z n
-  next_here = record { box = box; there = box_here; number_is = next.number_is }
+  number_still y v has = number_moved shown (length h.trees - 1) latest_beside z y v
+      (number_beside map z box absent y v has)
 
   -- a box with a number is the new one, or was there before
   number_before : (y v : ℕ) → HasNumber new y v
       → ((y ≡ z) × (v ≡ n)) ⊎ HasNumber map y v
-  number_before y v has = elim (cases_eq y 0) [
-    | inl zero_is ↦ absurd (
-        let there : new 0 ≡ Some has.box =
-        subst (λ (x : ℕ). new x ≡ Some has.box) zero_is has.there in
-        let clash : Named z ≡ Plain (num v) =
-        same_entry new 0 0 (put h.latest.anchor 0 (Named z)) has.box anchor_here there
-        ∙ has.number_is in cc)
-    | inr one ↦ elim (cases_eq y z) [
-      | inl same ↦ inl (
-        same,
-        one_number new z v n
-            (subst (λ (x : ℕ). HasNumber new x v) same has) next_here,
-      )
-      | inr other ↦ inr record {
-        box = has.box;
-        there = sym (else_same y one other) ∙ has.there;
-        number_is = has.number_is;
-      }
-    ]
-  ]
+  number_before y v has = added_or_before map z box absent n next.number_is y v
+      (number_unmoved shown (length h.trees - 1) latest_beside z y v has)
 
   number_below : (y v : ℕ) → HasNumber map y v → v < n
   number_below y v has =
@@ -123,16 +90,7 @@ module _ (is_tree : Term → Type 0) (tree_of : Term → DocTree) (map : Map) (p
   latest_new = subst (λ (m : ℕ). HasLatest new m)
       (let more = grown in let count = count_is in
       let e : n ≡ length trees - 1 = omega (arith, more, count) in e)
-      record {
-        anchor = put h.latest.anchor 0 (Named z);
-        there = anchor_here;
-        cell = z;
-        names = refl;
-        version = next_here;
-        others = λ f some lt.
-            put_other h.latest.anchor 0 (Named z) f (λ e. omega (arith, e, some))
-            ∙ h.latest.others f some lt;
-      }
+      (names_moved shown (length h.trees - 1) latest_beside z n next_beside)
 
   link_still : (number : ℕ) (link : Entry)
       → IsCut h.keep (length h.trees) number link ⊎ IsLinked map number link
@@ -186,7 +144,7 @@ module _ (is_tree : Term → Type 0) (tree_of : Term → DocTree) (map : Map) (p
         | inr before ↦
             let there : map x ≡ Some q =
             sym (else_same x (not_anchor map (length h.trees - 1) x p.cut h.latest before)
-            (there_before x before.box before.there)) ∙ at in
+            (not_added map z box absent x before.box before.there)) ∙ at in
             step.cut_is x q there is
       ]
 
@@ -247,16 +205,6 @@ module _ (is_tree : Term → Type 0) (tree_of : Term → DocTree) (map : Map) (p
         | inr other ↦
             version_still q (h.boxes x q one (sym (else_same x one other) ∙ there))
       ];
-      apart = λ x y v a b. elim (number_before x v a) [
-        | inl here ↦ elim (number_before y v b) [
-          | inl there ↦ here.0 ∙ sym there.0
-          | inr old ↦ absurd (let lt = number_below y v old in let e = here.1 in
-              omega (arith, lt, e))
-        ]
-        | inr older ↦ elim (number_before y v b) [
-          | inl there ↦ absurd (let lt = number_below x v older in let e = there.1 in
-              omega (arith, lt, e))
-          | inr old ↦ h.apart x y v older old
-        ]
-      ];
+      apart = apart_with map new z n number_before
+          (λ y v has is. let lt = number_below y v has in omega (arith, lt, is)) h.apart;
     }

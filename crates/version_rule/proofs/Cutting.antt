@@ -1,5 +1,5 @@
 -- The rule where the link of a version is cut.
-use Rattle.std.proofs.Common.{◌≡◌, ◌≢◌, ℕ, ◌+◌, ◌-◌, ◌≤◌, ◌⊎◌, List, length, Some}
+use Rattle.std.proofs.Common.{◌≡◌, ℕ, ◌+◌, ◌-◌, ◌≤◌, ◌⊎◌, List, length, Some}
 use Rattle.std.proofs.Common.{inl, inr, refl, sym, ◌∙◌, ap, subst, arith}
 use Rattle.std.proofs.lemmas.Bool.{cases_eq}
 use Rattle.std.proofs.lemmas.List.Elements.{All-weaker}
@@ -8,66 +8,17 @@ use Rattle.doc_tree.specs.Tree.{DocTree}
 use Rattle.heap_rule.specs.Boxes.{Map, Payload, written_map}
 use Rattle.heap_rule.specs.Lore.{Entry, Plain, put}
 use Rattle.heap_rule.proofs.Entries.{num_inj, some_is, written_else, written_here}
+use Rattle.heap_rule.proofs.Numbered.{names_written, not_anchor, number_unwritten, number_written}
 use Rattle.version_rule.specs.Pass.{Pass}
-use Rattle.version_rule.specs.Versions.{HasLatest, HasNumber, HoldsVersions, IsCut, IsInStep}
-use Rattle.version_rule.specs.Versions.{IsLinked, IsVersion}
+use Rattle.version_rule.specs.Versions.{HoldsVersions, IsCut, IsInStep, IsLinked, IsVersion}
 use Rattle.version_rule.proofs.Passing.{version_of}
 use Rattle.version_rule.specs.Shrinks.{in_step_on, link_on, version_on}
-use Rattle.version_rule.specs.Shrinks.{not_anchor}
 
 -- The link of a version's box becomes null.
 module _ (map : Map) (x n : ℕ) (box : Payload) (there : map x ≡ Some box)
     (is : box 0 ≡ Plain (num n)) where
   abbrev new : Map
   new = written_map map x 2 (Plain null)
-
-  number_still : (y u : ℕ) → HasNumber map y u → HasNumber new y u
-  number_still y u has = elim (cases_eq y x) [
-    | inl same ↦ subst (λ (c : ℕ). HasNumber new c u) (sym same) record {
-      box = put box 2 (Plain null);
-      there = written_here map x 2 (Plain null) box there;
-      number_is =
-          let here : map x ≡ Some has.box =
-          subst (λ (c : ℕ). map c ≡ Some has.box) same has.there in
-          ap (λ (p : Payload). p 0) (some_is box has.box (sym there ∙ here)) ∙ has.number_is;
-    }
-    | inr other ↦ record {
-      box = has.box;
-      there = written_else map x 2 (Plain null) box there y other ∙ has.there;
-      number_is = has.number_is;
-    }
-  ]
-
-  number_before : (y u : ℕ) → HasNumber new y u → HasNumber map y u
-  number_before y u has = elim (cases_eq y x) [
-    | inl same ↦ subst (λ (c : ℕ). HasNumber map c u) (sym same) record {
-      box = box;
-      there = there;
-      number_is =
-          let here : new x ≡ Some has.box =
-          subst (λ (c : ℕ). new c ≡ Some has.box) same has.there in
-          ap (λ (p : Payload). p 0) (some_is (put box 2 (Plain null)) has.box
-          (sym (written_here map x 2 (Plain null) box there) ∙ here)) ∙ has.number_is;
-    }
-    | inr other ↦ record {
-      box = has.box;
-      there = sym (written_else map x 2 (Plain null) box there y other) ∙ has.there;
-      number_is = has.number_is;
-    }
-  ]
-
-  latest_still : (u : ℕ) → HasLatest map u → HasLatest new u
-  latest_still u latest =
-      let apart : 0 ≢ x = (λ e. not_anchor map u x n latest
-      record { box = box; there = there; number_is = is } (sym e)) in
-      record {
-        anchor = latest.anchor;
-        there = written_else map x 2 (Plain null) box there 0 apart ∙ latest.there;
-        cell = latest.cell;
-        names = latest.names;
-        version = number_still latest.cell u latest.version;
-        others = latest.others;
-      }
 
   in_step_still : (keep : ℕ) (p : Pass) → IsInStep keep map p → IsInStep keep new p
   in_step_still keep p step = in_step_on keep map new p step
@@ -86,7 +37,8 @@ module _ (map : Map) (x n : ℕ) (box : Payload) (there : map x ≡ Some box)
         → IsCut keep count number link ⊎ IsLinked new number link
     link_still keep count number link (inl cut) = inl cut
     link_still keep count number link (inr linked) = inr (link_on map new number link linked
-        (number_still linked.cell linked.older linked.version))
+        (number_written map x 2 (Plain null) box there (omega arith) linked.cell linked.older
+        linked.version))
 
     version_still : (keep : ℕ) (trees : List DocTree) (p : Payload)
         → IsVersion is_tree tree_of keep trees map p
@@ -124,7 +76,10 @@ module _ (map : Map) (x n : ℕ) (box : Payload) (there : map x ≡ Some box)
       versions = h.versions;
       in_step = All-weaker (IsInStep h.keep map) (IsInStep h.keep new) (in_step_still h.keep)
           passes h.in_step;
-      latest = latest_still (length h.trees - 1) h.latest;
+      latest = names_written map x 2 (Plain null) box there (omega arith)
+          (λ e. not_anchor map (length h.trees - 1) x n h.latest
+          record { box = box; there = there; number_is = is } (sym e)) (length h.trees - 1)
+          h.latest;
       boxes = λ y q apart at. elim (cases_eq y x) [
         | inl same ↦
             let here : new x ≡ Some q = subst (λ (c : ℕ). new c ≡ Some q) same at in
@@ -138,5 +93,7 @@ module _ (map : Map) (x n : ℕ) (box : Payload) (there : map x ≡ Some box)
             sym (written_else map x 2 (Plain null) box there y other) ∙ at in
             version_still h.keep h.trees q (h.boxes y q apart before)
       ];
-      apart = λ y z u a b. h.apart y z u (number_before y u a) (number_before z u b);
+      apart = λ y z u a b. h.apart y z u
+          (number_unwritten map x 2 (Plain null) box there (omega arith) y u a)
+          (number_unwritten map x 2 (Plain null) box there (omega arith) z u b);
     }

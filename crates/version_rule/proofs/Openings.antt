@@ -1,11 +1,11 @@
 -- The rule holds where a store of versions opens.
 use Rattle.std.proofs.Common.{◌≡◌, ◌<◌, ◌≤◌, ◌+◌, ◌-◌, ◌⊎◌, ℕ, zero, suc, true, false}
 use Rattle.std.proofs.Common.{List, [], ◌∷◌, length, flat_map}
-use Rattle.std.proofs.Common.{Some, None, inl, inr, refl, sym, ◌∙◌, ap, subst, arith}
+use Rattle.std.proofs.Common.{Some, None, inl, inr, refl, sym, ap, subst, arith}
 use Rattle.std.proofs.lemmas.List.Elements.{All-nil}
 use Rattle.std.proofs.lemmas.List.Sorted.{IsPermutation-refl}
 use Rattle.cell_words.specs.declared.fields.Field.{Field}
-use Rattle.cell_words.specs.Term.{Term, null, num}
+use Rattle.cell_words.specs.Term.{Term, null}
 use Rattle.core_machine.specs.State.{State, field_in, field_of, opening}
 use Rattle.core_machine.specs.Words.{is_box_kind}
 use Rattle.dlg_core.specs.Reachable.{anchor, named}
@@ -13,20 +13,21 @@ use Rattle.doc_model.specs.Agreement.{EachOnce}
 use Rattle.doc_tree.specs.Tree.{DocTree, empty}
 use Rattle.heap_rule.specs.Boxes.{Map, Payload, boxes_of, payload_of}
 use Rattle.heap_rule.specs.Facts.{IsPlain}
-use Rattle.heap_rule.specs.Lore.{Lore, Named, Plain, entry_of}
+use Rattle.heap_rule.specs.Lore.{Lore, Plain, entry_of}
+use Rattle.heap_rule.specs.Numbered.{NamesNumber}
 use Rattle.heap_rule.specs.Opening.{FirstTerms, opening_lore, opening_passes, opening_rooms}
 use Rattle.heap_rule.specs.Opening.{passes_from}
 use Rattle.heap_rule.specs.Shape.{Shape, start}
 use Rattle.heap_rule.proofs.Claiming.{put_other}
-use Rattle.heap_rule.proofs.Entries.{same_entry, some_is}
-use Rattle.heap_rule.proofs.Maps.{In, in_map, of_map}
-use Rattle.heap_rule.proofs.Openings.{all_opening, as_many_open, null_rows}
+use Rattle.heap_rule.proofs.Maps.{In}
+use Rattle.heap_rule.proofs.Numbered.{not_anchor}
+use Rattle.heap_rule.proofs.Openings.{all_opening, as_many_open, each_box, first_apart}
+use Rattle.heap_rule.proofs.Openings.{first_named, four_null, null_rows}
 use Rattle.version_rule.specs.Fits.{Fits, HasTree, IsMade}
 use Rattle.version_rule.specs.Opening.{OpensVersions, first_rows, first_terms}
 use Rattle.version_rule.specs.Pass.{Commit, Reading, commit_numbers, opening_pass}
 use Rattle.version_rule.specs.Spelling.{bare_root}
-use Rattle.version_rule.specs.Versions.{HasNumber, HoldsVersions, IsInStep}
-use Rattle.version_rule.specs.Versions.{IsVersion}
+use Rattle.version_rule.specs.Versions.{HoldsVersions, IsInStep, IsVersion}
 
 -- The rows.
 
@@ -65,12 +66,6 @@ module _ (is_tree : Term → Type 0) (tree_of : Term → DocTree) (bare : is_tre
   abbrev map : Map
   map = boxes_of s l
 
-  anchor_there : map 0 ≡ Some (payload_of s l 0)
-  anchor_there = in_map s l 0 anchor_in
-
-  version_there : map 1 ≡ Some (payload_of s l 1)
-  version_there = in_map s l 1 version_in
-
   -- no other cell is a box
   box_is : (x : ℕ) → is_box_kind (field_of s x 5) ≡ true → (x ≡ 0) ⊎ (x ≡ 1)
   box_is zero is = inl refl
@@ -80,29 +75,11 @@ module _ (is_tree : Term → Type 0) (tree_of : Term → DocTree) (bare : is_tre
       let none : is_box_kind (field_of s (suc (suc (suc k))) 5) ≡ false =
       ap is_box_kind (null_rows (cells - 3) k 5) in cc)
 
-  in_is : (x : ℕ) (q : Payload) → map x ≡ Some q → (x ≡ 0) ⊎ (x ≡ 1)
-  in_is x q at = box_is x (of_map s l x q at).box
-
-  entry_at : (x y f : ℕ) (q : Payload) → map x ≡ Some q → x ≡ y → map y ≡ Some (payload_of s l y)
-      → payload_of s l y f ≡ q f
-  entry_at x y f q at is there = same_entry map y f (payload_of s l y) q there
-      (subst (λ (z : ℕ). map z ≡ Some q) is at)
-
-  -- only version 0 has a number
-  number_at : (x u : ℕ) → HasNumber map x u → x ≡ 1
-  number_at x u has = elim (in_is x has.box has.there) [
-    | inl zero_is ↦ absurd (let e : Named 1 ≡ Plain (num u) =
-        entry_at x 0 0 has.box has.there zero_is anchor_there ∙ has.number_is in cc)
-    | inr is ↦ is
-  ]
-
   others : (f : ℕ) → 1 ≤ f → f < 5 → payload_of s l 0 f ≡ Plain null
-  others zero some lt = absurd (omega (arith, some))
-  others (suc zero) some lt = refl
-  others (suc (suc zero)) some lt = refl
-  others (suc (suc (suc zero))) some lt = refl
-  others (suc (suc (suc (suc zero)))) some lt = refl
-  others (suc (suc (suc (suc (suc f))))) some lt = absurd (omega (arith, lt))
+  others = four_null (payload_of s l 0) refl refl refl refl
+
+  latest_first : NamesNumber map 0
+  latest_first = first_named s l 0 anchor_in version_in box_is refl refl others
 
   version_zero : (keep : ℕ) → IsVersion is_tree tree_of keep (empty ∷ []) map (payload_of s l 1)
   version_zero keep = record {
@@ -134,9 +111,9 @@ module _ (is_tree : Term → Type 0) (tree_of : Term → DocTree) (bare : is_tre
       reads_seen = All-nil (λ (r : Reading). r.number ≤ 0);
       commits_seen = All-nil (λ (c : Commit). c.number ≤ 0);
       cut_seen = omega arith;
-      cut_is = λ x q at is.
-          sym (entry_at x 1 2 q at
-          (number_at x 0 record { box = q; there = at; number_is = is }) version_there);
+      cut_is = λ x q at is. each_box s l 0 anchor_in version_in box_is refl refl others
+          (λ (p : Payload). p 2 ≡ Plain null) refl x q (not_anchor map 0 x 0 latest_first
+          record { box = q; there = at; number_is = is }) at;
     }
 
     none_made : (number n : ℕ)
@@ -160,23 +137,11 @@ module _ (is_tree : Term → Type 0) (tree_of : Term → DocTree) (bare : is_tre
             (IsPermutation-refl []);
       };
       in_step = all_opening opening_pass setting (IsInStep setting map) in_step_first 0 mutators;
-      latest = record {
-        anchor = payload_of s l 0;
-        there = anchor_there;
-        cell = 1;
-        names = refl;
-        version = record { box = payload_of s l 1; there = version_there; number_is = refl };
-        others = others;
-      };
-      boxes = λ x q other at. elim (in_is x q at) [
-        | inl zero_is ↦ absurd (other zero_is)
-        | inr is ↦
-            let same : Some (payload_of s l 1) ≡ Some q =
-            sym version_there ∙ subst (λ (z : ℕ). map z ≡ Some q) is at in
-            subst (λ (p : Payload). IsVersion is_tree tree_of setting (empty ∷ []) map p)
-            (some_is (payload_of s l 1) q same) (version_zero setting)
-      ];
-      apart = λ x y u a b. number_at x u a ∙ sym (number_at y u b);
+      latest = latest_first;
+      boxes = λ x q other at. each_box s l 0 anchor_in version_in box_is refl refl others
+          (λ (p : Payload). IsVersion is_tree tree_of setting (empty ∷ []) map p)
+          (version_zero setting) x q other at;
+      apart = first_apart s l 0 anchor_in version_in box_is refl refl others;
     }
 
 -- what is asked of the client of a heap that is made

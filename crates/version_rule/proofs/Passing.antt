@@ -15,8 +15,8 @@ use Rattle.version_rule.specs.Fits.{Fits, HasTree}
 use Rattle.version_rule.specs.Pass.{Commit, Pass, Reading, commit_numbers, cutting, reading, seeing}
 use Rattle.version_rule.specs.Versions.{HoldsVersions, IsInStep, IsVersion}
 use Rattle.version_rule.proofs.Made.{versions_kept}
-use Rattle.version_rule.specs.Shrinks.{not_anchor}
 use Rattle.heap_rule.proofs.Entries.{num_inj, same_entry}
+use Rattle.heap_rule.proofs.Numbered.{not_anchor}
 use Rattle.version_rule.proofs.Trees.{fits_cutting, fits_reading, fits_seeing}
 
 -- what is so of all is so of the one at a place

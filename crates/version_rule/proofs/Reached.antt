@@ -19,14 +19,16 @@ use Rattle.doc_tree.specs.Tree.{DocTree}
 use Rattle.heap_rule.specs.Boxes.{Map, Payload, boxes_of, payload_of}
 use Rattle.heap_rule.specs.Facts.{Facts, IsPlain, TermFits, is_record_kind}
 use Rattle.heap_rule.specs.Lore.{Lore, Named, Plain, entry_of, named_or}
-use Rattle.heap_rule.proofs.Maps.{In, entry_names, in_map, of_map}
+use Rattle.heap_rule.specs.Numbered.{HasNumber}
+use Rattle.heap_rule.proofs.BoxWords.{box_there, entry_there, number_there}
+use Rattle.heap_rule.proofs.Maps.{In, entry_names, of_map}
 use Rattle.heap_rule.proofs.Writing.{box_no_record}
 use Rattle.version_rule.specs.Chains.{Among, Chain, first, last, later, more}
 use Rattle.version_rule.specs.Pass.{Pass}
-use Rattle.version_rule.specs.Versions.{HasNumber, HoldsVersions, IsVersion, is_fixed}
+use Rattle.version_rule.specs.Versions.{HoldsVersions, IsVersion, is_fixed}
 use Rattle.version_rule.proofs.Passing.{version_of}
 use Rattle.heap_rule.proofs.Entries.{named_inj, same_entry}
-use Rattle.heap_rule.proofs.EntryWords.{null_word, number_word}
+use Rattle.heap_rule.proofs.EntryWords.{null_word}
 
 -- a row has six fields
 past_six : (s : State) (c f : ℕ) → IsShaped s → 6 ≤ f → field_of s c f ≡ field.Null
@@ -152,11 +154,10 @@ module _ (is_tree : Term → Type 0) (tree_of : Term → DocTree)
   from_anchor d f e = by_field f e
     where
       there : In s l 0
-      there = of_map s l 0 h.latest.anchor h.latest.there
+      there = box_there s l 0 h.latest.anchor h.latest.there
 
       entry : (g : ℕ) → payload_of s l 0 g ≡ h.latest.anchor g
-      entry g = same_entry (boxes_of s l) 0 g (payload_of s l 0) h.latest.anchor
-          (in_map s l 0 there) h.latest.there
+      entry = entry_there s l 0 h.latest.anchor h.latest.there
 
       by_field : (g : ℕ) → field_of s 0 g ≡ field.Cell d → Among d (h.latest.cell ∷ cells)
       by_field zero e = subst (λ (x : ℕ). Among x (h.latest.cell ∷ cells))
@@ -176,11 +177,10 @@ module _ (is_tree : Term → Type 0) (tree_of : Term → DocTree)
       has = number_among (boxes_of s l) (h.latest.cell ∷ cells) number c chain among
 
       there : In s l c
-      there = of_map s l c has.1.box has.1.there
+      there = box_there s l c has.1.box has.1.there
 
       entry : (g : ℕ) → payload_of s l c g ≡ has.1.box g
-      entry g = same_entry (boxes_of s l) c g (payload_of s l c) has.1.box (in_map s l c there)
-          has.1.there
+      entry = entry_there s l c has.1.box has.1.there
 
       version : IsVersion is_tree tree_of h.keep h.trees (boxes_of s l) has.1.box
       version = version_of is_tree tree_of (boxes_of s l) passes h c has.1.box has.0 has.1.there
@@ -190,8 +190,8 @@ module _ (is_tree : Term → Type 0) (tree_of : Term → DocTree)
           → Among d (h.latest.cell ∷ cells) ⊎ (is_record_kind (field_of s d 5) ≡ true)
       by_field zero e = absurd (
           let clash : field.Num has.0 ≡ field.Cell d =
-          sym (number_word is_fixed s l facts c 0 has.0 there.reached
-          (entry 0 ∙ has.1.number_is)) ∙ e in cc)
+          sym (number_there s l c has.1.box has.1.there is_fixed facts 0 has.0 has.1.number_is)
+          ∙ e in cc)
       by_field (suc zero) e = inr (plain_record (field_of s c 1) d (named 1 there.reached e)
           (subst IsPlain (sym (entry 1 ∙ version.root_is)) tt) e)
       by_field (suc (suc zero)) e = elim version.link [

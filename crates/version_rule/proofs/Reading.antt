@@ -18,22 +18,22 @@ use Rattle.heap_rule.specs.Asks.{target}
 use Rattle.heap_rule.specs.Boxes.{boxes_of, payload_of}
 use Rattle.heap_rule.specs.Lore.{Lore, Named, Plain, entry_of, five_plain, learned}
 use Rattle.heap_rule.specs.Lore.{learned_from, learned_of, plain}
+use Rattle.heap_rule.specs.Numbered.{HasNumber}
 use Rattle.heap_rule.specs.Steps.{Mine, Picks}
 use Rattle.heap_rule.specs.declared.known.Known.{Known}
 use Rattle.heap_rule.specs.declared.known.Learned.{Learned}
 use Rattle.heap_rule.specs.declared.view.View.{View}
-use Rattle.heap_rule.proofs.Maps.{entry_names, in_map, of_map}
+use Rattle.heap_rule.proofs.BoxWords.{box_there, entry_there, told_there}
+use Rattle.heap_rule.proofs.Maps.{entry_names, in_map}
+use Rattle.heap_rule.proofs.Numbered.{anchor_word, not_anchor}
 use Rattle.version_rule.specs.Fits.{HasTree}
 use Rattle.version_rule.specs.Knowing.{IsVersionKnown, KnowsVersion, latest_seen, link_cut}
 use Rattle.version_rule.specs.Knowing.{link_seen, number_told, root_told, term_or_null, tree_read}
 use Rattle.version_rule.specs.Pass.{Pass}
-use Rattle.version_rule.specs.Shrinks.{not_anchor}
-use Rattle.heap_rule.proofs.Entries.{num_inj, same_entry}
-use Rattle.heap_rule.proofs.EntryWords.{learned_box, learned_record, null_word, number_word}
-use Rattle.heap_rule.proofs.EntryWords.{record_word}
+use Rattle.heap_rule.proofs.Entries.{num_inj}
+use Rattle.heap_rule.proofs.EntryWords.{learned_record, null_word, number_word, record_word}
 use Rattle.version_rule.specs.Told.{TellsLatest, TellsLink, TellsOlder, TellsRoot}
-use Rattle.version_rule.specs.Versions.{HasNumber, HoldsVersions, IsLinked, IsVersion}
-use Rattle.version_rule.specs.Versions.{is_fixed}
+use Rattle.version_rule.specs.Versions.{HoldsVersions, IsLinked, IsVersion, is_fixed}
 use Rattle.version_rule.proofs.Passing.{cut_stands, fits_at, in_step_at, numbers_few}
 use Rattle.version_rule.proofs.Passing.{read_stands, seen_stands, version_of}
 use Rattle.version_rule.proofs.States.{Seen, number_seen}
@@ -68,11 +68,9 @@ module _ (is_tree : Term → Type 0) (tree_of : Term → DocTree)
   version_at x n has =
       let version = version_of is_tree tree_of (boxes_of s l) passes h x has.box n has.there
       has.number_is in
-      let in_is = of_map s l x has.box has.there in
+      let in_is = box_there s l x has.box has.there in
       let other = not_anchor (boxes_of s l) (length h.trees - 1) x n h.latest has in
-      let entry : (f : ℕ) → payload_of s l x f ≡ has.box f =
-      (λ f. same_entry (boxes_of s l) x f (payload_of s l x) has.box (in_map s l x in_is)
-      has.there) in
+      let entry = entry_there s l x has.box has.there in
       let same : version.number ≡ n =
       num_inj version.number n (sym version.number_is ∙ has.number_is) in
       let number_is : payload_of s l x 0 ≡ Plain (num n) = entry 0 ∙ has.number_is in
@@ -82,7 +80,7 @@ module _ (is_tree : Term → Type 0) (tree_of : Term → DocTree)
         seen = record { other = other; in_is = in_is; number_is = number_is; root_is = root_is };
         told = record {
           told = five_plain (payload_of s l x);
-          is = learned_box is_fixed s l mine.shown.facts x in_is other;
+          is = told_there s l x has.box has.there is_fixed mine.shown.facts other;
           number_is = ap plain number_is;
           root_is = ap plain root_is;
         };
@@ -113,20 +111,13 @@ module _ (is_tree : Term → Type 0) (tree_of : Term → DocTree)
 
   -- The anchor.
 
-  anchor_word : field_of s 0 0 ≡ field.Cell h.latest.cell
-  anchor_word =
-      let in_is = of_map s l 0 h.latest.anchor h.latest.there in
-      entry_names l.terms (field_of s 0 0) h.latest.cell
-      (same_entry (boxes_of s l) 0 0 (payload_of s l 0) h.latest.anchor (in_map s l 0 in_is)
-      h.latest.there ∙ h.latest.names)
-
   module _ (place : ℕ) (anchor : target v place ≡ 0) where
     anchor_field : field_of s (target_of s v.number place) 0 ≡ field.Cell h.latest.cell
     anchor_field = ap (λ (x : ℕ). field_of s x 0) (target_now v s l mine place ∙ anchor)
-        ∙ anchor_word
+        ∙ anchor_word s l (length h.trees - 1) h.latest
 
     latest_version : Version is_tree tree_of h.trees s l h.latest.cell (length h.trees - 1)
-    latest_version = version_at h.latest.cell (length h.trees - 1) h.latest.version
+    latest_version = version_at h.latest.cell (length h.trees - 1) h.latest.numbered
 
     latest_known : IsVersionKnown (learned s l (event.Read v.number place 0)).found
         (length h.trees - 1) latest_version.root

@@ -1,23 +1,18 @@
 -- The boxes of a state, and what a seat knows of them: from words to maps and back.
-use Rattle.std.proofs.Common.{◌≡◌, ◌≢◌, ℕ}
-use Rattle.std.proofs.Common.{refl, subst}
-use Rattle.std.proofs.Common.{arith}
+use Rattle.std.proofs.Common.{◌≡◌, ◌≢◌, ℕ, refl, arith}
 use Rattle.cell_words.specs.Term.{Term, num}
 use Rattle.core_machine.specs.State.{State}
 use Rattle.heap_rule.specs.Asks.{target}
 use Rattle.heap_rule.specs.Boxes.{boxes_of, payload_of}
-use Rattle.heap_rule.specs.Facts.{IsKnown}
 use Rattle.heap_rule.specs.Lore.{Lore, Plain}
-use Rattle.heap_rule.specs.Lore.{has}
+use Rattle.heap_rule.specs.Numbered.{HasNumber}
 use Rattle.heap_rule.specs.Steps.{Mine}
-use Rattle.heap_rule.specs.declared.known.Known.{Known}
-use Rattle.heap_rule.specs.declared.known.Known.TheVariants as knows
 use Rattle.heap_rule.specs.declared.view.View.{View}
 use Rattle.heap_rule.proofs.Maps.{In, in_map}
-use Rattle.heap_rule.proofs.Seats.{knows_place, reached_place}
+use Rattle.heap_rule.proofs.Seats.{box_seen}
 use Rattle.version_rule.specs.Knowing.{KnowsVersion}
 use Rattle.version_rule.specs.Pass.{Pass}
-use Rattle.version_rule.specs.Versions.{HasNumber, is_fixed}
+use Rattle.version_rule.specs.Versions.{is_fixed}
 
 -- a version's box is in the map, and is no anchor
 pub record Seen (s : State) (l : Lore) (x number : ℕ) (root : Term) : Type 0 where
@@ -41,16 +36,10 @@ module _ (v : View Pass) (s : State) (l : Lore) (mine : Mine is_fixed v s l) whe
       → Seen s l (target v place) number root
   version_seen place number root has =
       let k = has.known in
-      let is : IsKnown is_fixed s l v.number (target v place) (knows.Boxed k.told) =
-      subst (λ (w : Known). IsKnown is_fixed s l v.number (target v place) w) k.is
-      (knows_place v s l mine place has.there) in
+      let is = box_seen v s l mine place k.told has.there k.is in
       record {
-        other = is.0;
-        in_is = record {
-          reached = reached_place v s l mine place has.there;
-          box = is.1;
-          old = is.2;
-        };
-        number_is = is.3 0 (num number) (omega arith) refl k.number_is;
-        root_is = is.3 1 root (omega arith) refl k.root_is;
+        other = is.other;
+        in_is = is.in_is;
+        number_is = is.told_is 0 (num number) (omega arith) refl k.number_is;
+        root_is = is.told_is 1 root (omega arith) refl k.root_is;
       }

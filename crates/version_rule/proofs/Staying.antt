@@ -12,10 +12,11 @@ use Rattle.cell_words.specs.Term.{Term, null, num}
 use Rattle.doc_tree.specs.Tree.{DocTree}
 use Rattle.heap_rule.specs.Boxes.{Map}
 use Rattle.heap_rule.specs.Lore.{Named, Plain}
+use Rattle.heap_rule.specs.Numbered.{HasNumber}
 use Rattle.version_rule.specs.Chains.{Chain, Stays, last, more}
 use Rattle.version_rule.specs.Pass.{Pass}
 use Rattle.heap_rule.proofs.Entries.{num_inj}
-use Rattle.version_rule.specs.Versions.{HasNumber, HoldsVersions, IsLinked, IsVersion}
+use Rattle.version_rule.specs.Versions.{HoldsVersions, IsLinked, IsVersion}
 use Rattle.version_rule.proofs.Passing.{fits_at, in_step_at, version_of}
 
 module _ (is_tree : Term → Type 0) (tree_of : Term → DocTree) (map : Map) (passes : List Pass)
@@ -104,4 +105,4 @@ module _ (is_tree : Term → Type 0) (tree_of : Term → DocTree) (map : Map) (p
       omega (arith, made, least) in
       subst (λ (k : ℕ). Stays map h.latest.cell (length h.trees - 1) k) many
       (chain_from (length h.trees - 1 - floor) h.latest.cell (length h.trees - 1)
-      h.latest.version (omega (arith, made, least)) (omega (arith, seen, cut)))
+      h.latest.numbered (omega (arith, made, least)) (omega (arith, seen, cut)))

@@ -23,21 +23,21 @@ use Rattle.heap_rule.specs.Boxes.{Map, boxes_of, payload_of, revealing}
 use Rattle.heap_rule.specs.Boxes.{written_if, written_map}
 use Rattle.heap_rule.specs.Facts.{Facts, IsKnown}
 use Rattle.heap_rule.specs.Lore.{Entry, Lore, Named, Plain, entry_of, named_or, put}
+use Rattle.heap_rule.specs.Numbered.{HasNumber}
 use Rattle.heap_rule.specs.Steps.{Mine, Picks}
 use Rattle.heap_rule.specs.declared.known.Known.{Known}
 use Rattle.heap_rule.specs.declared.known.Known.TheVariants as knows
 use Rattle.heap_rule.specs.declared.view.View.{View}
-use Rattle.heap_rule.proofs.Entries.{named_inj, num_inj, same_entry, written_here}
+use Rattle.heap_rule.proofs.Entries.{num_inj, written_here}
 use Rattle.heap_rule.proofs.EntryWords.{no_term}
-use Rattle.heap_rule.proofs.Maps.{entry_names, in_map, of_map}
+use Rattle.heap_rule.proofs.Maps.{entry_names, in_map}
+use Rattle.heap_rule.proofs.Numbered.{anchor_entry, anchor_names, named_number}
 use Rattle.heap_rule.proofs.Revealed.{fresh_absent, shown_is}
 use Rattle.heap_rule.proofs.SameFields.{same_cell, same_value}
 use Rattle.version_rule.specs.Knowing.{HasReadLink, HoldsBefore, MayCommit, MayCut, link_taken}
 use Rattle.version_rule.specs.Knowing.{made_or_seen, next_made}
 use Rattle.version_rule.specs.Pass.{Pass, committed, cutting, seeing}
-use Rattle.version_rule.specs.Shrinks.{one_number}
-use Rattle.version_rule.specs.Versions.{HasNumber, HoldsVersions, IsNext}
-use Rattle.version_rule.specs.Versions.{is_fixed}
+use Rattle.version_rule.specs.Versions.{HoldsVersions, IsNext, is_fixed}
 use Rattle.version_rule.proofs.Committing.{commits}
 use Rattle.version_rule.proofs.Cutting.{cuts}
 use Rattle.version_rule.proofs.Passing.{cut_stands, fits_at, in_step_at, made_of, seen_stands}
@@ -116,25 +116,15 @@ module _ (is_tree : Term → Type 0) (tree_of : Term → DocTree)
         sym version.seen.root_is ∙ old_seen.root_is in cc) in
         version.has.is ∙ ap tree_of same
 
-    anchor_entry : payload_of s l 0 0 ≡ h.latest.anchor 0
-    anchor_entry =
-        let in_is = of_map s l 0 h.latest.anchor h.latest.there in
-        same_entry (boxes_of s l) 0 0 (payload_of s l 0) h.latest.anchor (in_map s l 0 in_is)
-        h.latest.there
-
     names_now : field_of s 0 0 ≡ field.Cell c → h.latest.anchor 0 ≡ Named c
-    names_now named =
-        sym anchor_entry ∙ ap (entry_of l.terms) named
-        ∙ ap (named_or c) (no_term is_fixed s l facts c old_seen.in_is.reached old_seen.in_is.box)
+    names_now = anchor_names s l (length h.trees - 1) h.latest is_fixed facts c
+        old_seen.in_is.reached old_seen.in_is.box
 
     -- where the anchor names the version's box, none is newer
     pub low_now : field_of s 0 0 ≡ field.Cell c → v.pass.seen ≤ number
     low_now named =
-        let same : h.latest.cell ≡ c =
-        named_inj h.latest.cell c (sym h.latest.names ∙ names_now named) in
-        let latest_is = one_number (boxes_of s l) c (length h.trees - 1) (number - 1)
-        (subst (λ (y : ℕ). HasNumber (boxes_of s l) y (length h.trees - 1)) same
-        h.latest.version) old_number in
+        let latest_is = named_number (boxes_of s l) (length h.trees - 1) c (number - 1) h.latest
+        (names_now named) old_number in
         let fits = fits_at is_tree tree_of (boxes_of s l) passes h v.number v.pass at in
         let lt = fits.seen in let later = may.later in omega (arith, lt, latest_is, later)
 
@@ -170,10 +160,10 @@ module _ (is_tree : Term → Type 0) (tree_of : Term → DocTree)
         old_number.there old_number.number_is in
         let apart : length h.trees - 1 ≢ number - 1 = (λ e.
         let same : h.latest.cell ≡ c = h.apart h.latest.cell c (number - 1)
-        (subst (λ (n : ℕ). HasNumber (boxes_of s l) h.latest.cell n) e h.latest.version)
+        (subst (λ (n : ℕ). HasNumber (boxes_of s l) h.latest.cell n) e h.latest.numbered)
         old_number in
         other (entry_names l.terms (field_of s 0 0) c
-        (anchor_entry ∙ h.latest.names ∙ ap Named same))) in
+        (anchor_entry s l (length h.trees - 1) h.latest ∙ h.latest.names ∙ ap Named same))) in
         let later = may.later in
         seen_stands is_tree tree_of (boxes_of s l) passes h v.number v.pass at number
         (less (length h.trees) number later below apart)

@@ -11,6 +11,7 @@ use Rattle.doc_model.specs.Store.{tree_at}
 use Rattle.doc_tree.specs.Tree.{DocTree}
 use Rattle.heap_rule.specs.Boxes.{Map, Payload}
 use Rattle.heap_rule.specs.Lore.{Entry, Named, Plain}
+use Rattle.heap_rule.specs.Numbered.{AreApart, HasNumber, NamesNumber}
 use Rattle.version_rule.specs.Fits.{HasVersions}
 use Rattle.version_rule.specs.Pass.{Commit, Pass, Reading}
 
@@ -18,20 +19,9 @@ use Rattle.version_rule.specs.Pass.{Commit, Pass, Reading}
 abbrev pub is_fixed : ℕ → Bool
 is_fixed f = (f == 0) || (f == 1)
 
--- the map has a box with this number of a version
-pub record HasNumber (map : Map) (cell number : ℕ) : Type 0 where
-  pub box : Payload
-  pub there : map cell ≡ Some box
-  pub number_is : box 0 ≡ Plain (num number)
-
--- the anchor names the box of this version, and nothing else
-pub record HasLatest (map : Map) (number : ℕ) : Type 0 where
-  pub anchor : Payload
-  pub there : map 0 ≡ Some anchor
-  pub cell : ℕ
-  pub names : anchor 0 ≡ Named cell
-  pub version : HasNumber map cell number
-  pub others : (f : ℕ) → 1 ≤ f → f < 5 → anchor f ≡ Plain null
+-- the anchor names the box of this version
+abbrev pub HasLatest : Map → ℕ → Type 0
+HasLatest map number = NamesNumber map number
 
 -- the link of this version is the box of the one before it
 pub record IsLinked (map : Map) (number : ℕ) (link : Entry) : Type 0 where
@@ -94,5 +84,4 @@ module _ (is_tree : Term → Type 0) (tree_of : Term → DocTree) where
     pub latest : HasLatest map (length trees - 1)
     pub boxes : (cell : ℕ) (box : Payload) → cell ≢ 0 → map cell ≡ Some box
         → IsVersion keep trees map box
-    pub apart : (one other number : ℕ) → HasNumber map one number → HasNumber map other number
-        → one ≡ other
+    pub apart : AreApart map
