@@ -1,3 +1,4 @@
+pub mod Boxes
 pub mod Claiming
 pub mod Counting
 pub mod Getting
