@@ -6,7 +6,8 @@ use mathlib.Core.Option.{some}
 use lib.ListN.{get_elem?}
 use Rattle.cell_words.specs.declared.fields.Field.{Field}
 use Rattle.cell_words.specs.declared.fields.Field.TheVariants as field
-use Rattle.cell_words.specs.Term.{null, num}
+use Rattle.cell_words.specs.Term.{num}
+use Rattle.closed_heap.proofs.Boxes.{box_there, entry_there, named_there, null_there, number_there}
 use Rattle.closed_store.specs.Chain.{IsChain, IsVersionAt, ShowsVersions, last as ends}
 use Rattle.closed_store.specs.Chain.{more as links}
 use Rattle.closed_store.specs.Closing.{EndedStore}
@@ -20,38 +21,24 @@ use Rattle.doc_records.specs.Trees.{IsTreeNode, tree_of}
 use Rattle.document_versions.specs.Spelled.{node_is_record}
 use Rattle.heap_rule.specs.Boxes.{Payload, boxes_of, payload_of}
 use Rattle.heap_rule.specs.Facts.{Facts}
-use Rattle.heap_rule.specs.Lore.{Lore, Named, Plain, named_or}
+use Rattle.heap_rule.specs.Lore.{Lore, Plain, named_or}
 use Rattle.heap_rule.specs.Shape.{Shape}
 use Rattle.heap_rule.specs.declared.view.View.{View}
-use Rattle.heap_rule.proofs.Maps.{In, entry_names, in_map, of_map}
+use Rattle.heap_rule.proofs.Maps.{in_map}
 use Rattle.version_rule.specs.Chains.{Chain, Stays, last, more}
 use Rattle.version_rule.specs.Pass.{Pass}
-use Rattle.heap_rule.proofs.Entries.{num_inj, same_entry}
+use Rattle.heap_rule.proofs.Entries.{num_inj}
 use Rattle.version_rule.specs.Versions.{HoldsVersions, IsVersion, is_fixed}
 use Rattle.version_rule.proofs.Passing.{version_of}
 use Rattle.version_rule.proofs.Reached.{only_these}
-use Rattle.heap_rule.proofs.EntryWords.{null_word, number_word, record_word}
+use Rattle.heap_rule.proofs.EntryWords.{record_word}
 use Rattle.version_rule.proofs.Staying.{chain_stays}
 use Rattle.closed_store.proofs.Anchored.{box_in, from_anchor}
 use Rattle.closed_store.proofs.Denoting.{box_kind, denotes}
 
 module _ (s : State) (l : Lore) (facts : Facts is_fixed s l) (passes : List Pass)
     (h : HoldsVersions IsTreeNode tree_of (boxes_of s l) passes) where
-  -- a box of the map, whose fields stand for its entries
   module _ (cell : ℕ) (box : Payload) (at : boxes_of s l cell ≡ Some box) where
-    there : In s l cell
-    there = of_map s l cell box at
-
-    entry : (f : ℕ) → payload_of s l cell f ≡ box f
-    entry f = same_entry (boxes_of s l) cell f (payload_of s l cell) box (in_map s l cell there) at
-
-    null_there : (f : ℕ) → box f ≡ Plain null → field_of s cell f ≡ field.Null
-    null_there f is = null_word is_fixed s l facts cell f there.reached (entry f ∙ is)
-
-    named_there : (f other : ℕ) → box f ≡ Named other
-        → field_of s cell f ≡ field.Cell other
-    named_there f other is = entry_names l.terms (field_of s cell f) other (entry f ∙ is)
-
     version_at : (number : ℕ) (link : Field) → box 0 ≡ Plain (num number)
         → field_of s cell 2 ≡ link → IsVersionAt s cell number (tree_at h.trees number) link
     version_at number link is link_is =
@@ -59,11 +46,13 @@ module _ (s : State) (l : Lore) (facts : Facts is_fixed s l) (passes : List Pass
         version_of IsTreeNode tree_of (boxes_of s l) passes h cell box number at is in
         let same : version.number ≡ number =
         num_inj version.number number (sym version.number_is ∙ is) in
+        let there = box_there s l cell box at in
         let root = record_word is_fixed s l facts cell 1 version.root
-        (node_is_record version.root version.spells) (entry 1 ∙ version.root_is) in
+        (node_is_record version.root version.spells)
+        (entry_there s l cell box at 1 ∙ version.root_is) in
         record {
           kind = box_kind (field_of s cell 5) there.box;
-          number_is = number_word is_fixed s l facts cell 0 number there.reached (entry 0 ∙ is);
+          number_is = number_there s l cell box at is_fixed facts 0 number is;
           root = root.0;
           names = root.1.0;
           term = version.root;
@@ -72,17 +61,18 @@ module _ (s : State) (l : Lore) (facts : Facts is_fixed s l) (passes : List Pass
           spells = version.spells;
           tree_is = version.tree ∙ ap (tree_at h.trees) same;
           link_is = link_is;
-          fourth = null_there 3 version.fourth;
-          fifth = null_there 4 version.fifth;
+          fourth = null_there s l cell box at is_fixed facts 3 version.fourth;
+          fifth = null_there s l cell box at is_fixed facts 4 version.fifth;
         }
 
   chain_there : (cells : List ℕ) (number : ℕ) → Chain (boxes_of s l) cells number
       → IsChain s h.trees number cells
   chain_there _ _ (last {cell} {number} box at is none) =
-      ends (version_at cell box at number field.Null is (null_there cell box at 2 none))
+      ends (version_at cell box at number field.Null is
+      (null_there s l cell box at is_fixed facts 2 none))
   chain_there _ _ (more {cell} {older} {number} {cells} box at is names rest) =
       links (version_at cell box at (number + 1) (field.Cell older) is
-      (named_there cell box at 2 older names))
+      (named_there s l cell box at 2 older names))
       (chain_there (older ∷ cells) number rest)
 
   module _ (shape : IsShaped s) (consistent : IsConsistent s) (out : AreOut s) (i : ℕ) (p : Pass)
@@ -93,7 +83,7 @@ module _ (s : State) (l : Lore) (facts : Facts is_fixed s l) (passes : List Pass
     pub shown : ShowsVersions s h.keep h.trees
     shown = record {
       latest = h.latest.cell;
-      names = named_there 0 h.latest.anchor h.latest.there 0 h.latest.cell h.latest.names;
+      names = named_there s l 0 h.latest.anchor h.latest.there 0 h.latest.cell h.latest.names;
       older = stay.cells;
       chain = chain_there (h.latest.cell ∷ stay.cells) (length h.trees - 1) stay.chain;
       many = let many = stay.many in omega (arith, many);

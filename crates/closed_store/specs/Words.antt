@@ -1,4 +1,4 @@
--- Fields that are followed: what stands in the cell that one names, and the number that one is.
+-- Fields that are followed: what stands in the cell that one names.
 -- Source: this project's.
 use Rattle.std.specs.Prelude.{ℕ}
 use Rattle.cell_words.specs.declared.fields.Field.{Field}
@@ -10,9 +10,3 @@ abbrev pub field_behind : State → Field → ℕ → Field
 field_behind s field.Null i = field.Null
 field_behind s (field.Num n) i = field.Null
 field_behind s (field.Cell c) i = field_of s c i
-
--- the number that the field is; 0 where it is none
-abbrev pub number_of : Field → ℕ
-number_of field.Null = 0
-number_of (field.Num n) = n
-number_of (field.Cell c) = 0

@@ -2,7 +2,7 @@
 //! version's tree. Each is read off the image alone, whatever the run was.
 ghost use Rattle.std.specs.Prelude.{List, length, ℕ, ◌≡◌, ◌<◌, ◌≤◌, ◌-◌};
 ghost use Rattle.closed_store.specs.Chain.{ShowsVersions};
-ghost use Rattle.closed_store.specs.Words.{field_behind, number_of as number_in};
+ghost use Rattle.closed_store.specs.Words.{field_behind};
 ghost use Rattle.core_machine.specs.State.{State, colour_of, field_of};
 ghost use Rattle.dlg_core.specs.Sums.{is_used as counts, used_count_of};
 ghost use Rattle.doc_model.specs.Store.{tree_at};
@@ -10,6 +10,7 @@ ghost use Rattle.doc_tree.specs.Tree.{DocTree, count};
 ghost use Rattle.heap_table.specs.Images.{Shows};
 
 use cell_words::{Colour, Field};
+use closed_heap::{field_at, number_of};
 use heap_table::Image;
 
 /// How many cells are not free.
@@ -57,27 +58,5 @@ fn followed(image: &Image, from: Field, i: usize) -> Field
     match from {
         Field::Cell(cell) => field_at(image, cell, i),
         Field::Null | Field::Num(_) => Field::Null,
-    }
-}
-
-// A field of a cell, and null where there is no such cell.
-fn field_at(image: &Image, cell: u32, i: usize) -> Field
-    requires { i < 6 }
-    ensures field { (s : State) → Shows image.now s → result ≡ field_of s cell i }
-{
-    if cell < image.cells() {
-        image.field(cell, i)
-    } else {
-        Field::Null
-    }
-}
-
-// The number that a field is, and 0 of what is none.
-fn number_of(field: Field) -> u64
-    ensures number { result ≡ number_in field }
-{
-    match field {
-        Field::Num(number) => number,
-        Field::Null | Field::Cell(_) => 0,
     }
 }
