@@ -1,7 +1,9 @@
 pub mod AllJoined
 pub mod Closing
 pub mod Freed
+pub mod Leaving
 pub mod Places
+pub mod Scripts
 pub mod Splitting
 pub mod TakingBack
 pub mod Working

@@ -63,3 +63,20 @@ module _ {W : Type 0} (place_of : W → ℕ) (Ready Done : ℕ → W → Type 0)
             (placed (0 + length front) last at ∙ ap (λ (k : ℕ). 0 + k) (sym many)) done,
         tt,
       )
+
+  -- all are ready: those but the last one, and that
+  pub last_apart : (all front : List W) (last : W) → all ≡ front ++ last ∷ [] → AllFrom Ready 0 all
+      → AllFrom Ready 0 front × Ready (place_of last) last
+  last_apart all front last is ready =
+      let each = subst (λ (xs : List W). AllFrom Ready 0 xs) is ready in
+      (all_front Ready 0 front (last ∷ []) each, last_ready front last each)
+
+  -- all are done, where those but the last one are, and that
+  pub last_behind : (all front : List W) (last : W) (left : List W) (now : W) (done : List W)
+      → all ≡ front ++ last ∷ [] → AllFrom Ready 0 all → length left ≡ length front
+      → AllFrom Done 0 left → Done (place_of last) now → done ≡ left ++ now ∷ []
+      → AllFrom Done 0 done
+  last_behind all front last left now done is ready many others one are =
+      let each = subst (λ (xs : List W). AllFrom Ready 0 xs) is ready in
+      subst (λ (xs : List W). AllFrom Done 0 xs) (sym are)
+      (last_done front last left now each many others one)

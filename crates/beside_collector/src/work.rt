@@ -33,7 +33,9 @@ pub trait Work<P: Keeping> {
         ensures did { did heap.now queue.now self result };
 }
 
-/// Work that a closure does: it has all that it needs with it, which is what may go to threads.
+/// Work that a closure does: it has all that it needs with it. Only so may that go to threads: a
+/// bound of a trait's method is no promise to another thread, and one of the function that makes the
+/// closure is.
 #[derive(Drop)]
 pub struct Doing<F> {
     pub run: F,
