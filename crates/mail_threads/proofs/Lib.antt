@@ -1,4 +1,3 @@
-pub mod Coming
 pub mod Going
 pub mod Leaving
 pub mod Lines

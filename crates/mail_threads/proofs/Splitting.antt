@@ -1,9 +1,5 @@
--- The opening of a mailbox's heap, and the script of a sender that is split off.
-use Rattle.std.proofs.Common.{◌≡◌, ◌≤◌, ◌+◌, ℕ, zero, suc, List, [], ◌∷◌, All}
-use Rattle.std.proofs.Common.{refl, sym, subst}
-use Rattle.std.specs.Prelude.{Vec}
-use Rattle.std.specs.declared.alloc.Global.{Global}
-use Rattle.std.proofs.lemmas.List.Elements.{All-head, All-tail}
+-- The opening of a mailbox's heap.
+use Rattle.std.proofs.Common.{◌≡◌, ◌≤◌, ◌+◌, ℕ, List, refl, sym, subst}
 use Rattle.cell_words.specs.declared.fields.Field.{Field}
 use Rattle.heap_rule.specs.Shape.{Shape}
 use Rattle.heap_table.specs.Opening.{Opens}
@@ -12,7 +8,6 @@ use Rattle.mail_rule.specs.Opening.{first_rows, first_terms}
 use Rattle.mail_rule.specs.Passes.{opening_pass}
 use Rattle.mail_rule.proofs.Openings.{firsts, opened}
 use Rattle.mail_threads.specs.Opened.{mail_shape}
-use Rattle.mail_threads.specs.Workers.{script_of}
 
 pub opens : (cells mutators setting : ℕ) (rows : List (List Field)) → rows ≡ first_rows
     → mutators ≤ 64
@@ -26,15 +21,6 @@ opens cells mutators setting rows is most =
       opened record { cells = cells; mutators = mutators; setting = setting; first = first_rows }
           record { first = refl; few = most },
     )
-
--- what is so of no lines, and of each script, is so of the script of a place
-pub script_is : (F : List ℕ → Type 0) → F [] → (scripts : List (Vec ℕ Global)) (place : ℕ)
-    → All (λ (script : Vec ℕ Global). F script.items) scripts → F (script_of scripts place)
-script_is F none [] place all = none
-script_is F none (script ∷ scripts) zero all =
-    All-head (λ (s : Vec ℕ Global). F s.items) script scripts all
-script_is F none (script ∷ scripts) (suc place) all =
-    script_is F none scripts place (All-tail (λ (s : Vec ℕ Global). F s.items) script scripts all)
 
 -- the shape of the heap that is opened is that of a mailbox
 pub opened_shape : (cells senders : ℕ) (h : Shape) (rows : List (List Field))

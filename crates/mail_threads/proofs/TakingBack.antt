@@ -6,12 +6,12 @@ use Rattle.std.specs.declared.alloc.Global.{Global}
 use Rattle.atomic_table.proofs.Lists.{at_map}
 use mathlib.Core.Option.{some}
 use lib.ListN.{get_elem?}
+use Rattle.beside_collector.specs.Scripts.{script_of}
 use Rattle.beside_collector.proofs.TakingBack.{TakenSoFar, all_taken, one_taken}
 use Rattle.heap_rule.specs.Moves.{joined_view}
 use Rattle.heap_rule.specs.Rule.{share_of}
 use Rattle.heap_table.specs.Seats.{HeapId, SeatView}
 use Rattle.mail_rule.specs.declared.mail_pass.MailPass.{MailPass}
-use Rattle.mail_threads.specs.Workers.{script_of}
 use Rattle.mail_threads.specs.declared.workers.Sender.{Sender}
 use Rattle.mail_threads.specs.Taken.{AreTaken, lists_of}
 use Rattle.mail_threads.proofs.Places.{DoneAt}

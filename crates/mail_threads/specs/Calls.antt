@@ -3,7 +3,6 @@
 use Rattle.std.specs.Prelude.{ℕ, ◌≡◌, ◌≤◌, ◌+◌, ◌++◌, true, List, [], length}
 use Rattle.std.specs.Prelude.{Option, Some, None}
 use Rattle.cell_mailbox.specs.Ends.{Returns}
-use Rattle.heap_table.specs.Seats.{HeapId, SeatView}
 use Rattle.mail_rule.specs.Passes.{having_sent, having_taken}
 use Rattle.mail_rule.specs.declared.items.Item.{Item}
 use Rattle.mail_rule.specs.declared.mail_pass.MailPass.{MailPass}
@@ -63,34 +62,3 @@ pub record Drained (before items : List Item) (old new : Bound MailPass) : Type 
   pub items_are : items ≡ before ++ more
   pub takes : new.seat.me.pass.takes ≡ old.seat.me.pass.takes ++ more
   pub sends : new.seat.me.pass.sends ≡ old.seat.me.pass.sends
-
--- The mutator of this seat came in, and holds the anchor alone.
-pub record Entered (heap : HeapId) (seat : SeatView MailPass) (m : Bound MailPass) : Type 0 where
-  pub heap_is : m.heap ≡ heap
-  pub table : m.seat.table ≡ seat.table
-  pub shape : m.seat.me.shape ≡ seat.me.shape
-  pub number : m.seat.me.number ≡ seat.me.number
-  pub room : m.seat.me.room ≡ seat.me.room
-  pub pass : m.seat.me.pass ≡ seat.me.pass
-  pub inside : m.seat.me.presence.inside ≡ true
-  pub one : length m.seat.me.own.held ≡ 1
-
--- The mutator went out, and this is its seat: its trail shows no more than before.
-pub record Left (m : Bound MailPass) (seat : SeatView MailPass) : Type 0 where
-  pub table : seat.table ≡ m.seat.table
-  pub shape : seat.me.shape ≡ m.seat.me.shape
-  pub number : seat.me.number ≡ m.seat.me.number
-  pub room : seat.me.room ≡ m.seat.me.room
-  pub pass : seat.me.pass ≡ m.seat.me.pass
-  pub marks_are : marks_of seat.me.trail ≡ marks m
-  pub over : seat.me.presence.over ≡ true
-
--- It is the same mutator, in or out: its pass is as it was, and its trail shows nothing more.
-pub record IsSame (old new : Bound MailPass) : Type 0 where
-  pub heap : new.heap ≡ old.heap
-  pub table : new.seat.table ≡ old.seat.table
-  pub shape : new.seat.me.shape ≡ old.seat.me.shape
-  pub number : new.seat.me.number ≡ old.seat.me.number
-  pub room : new.seat.me.room ≡ old.seat.me.room
-  pub pass : new.seat.me.pass ≡ old.seat.me.pass
-  pub marks_are : marks new ≡ marks old

@@ -4,6 +4,7 @@ use Rattle.std.specs.Prelude.{ℕ, zero, suc, ◌≡◌, ◌≤◌, ◌<◌, ◌
 use Rattle.std.specs.Prelude.{List, [], ◌∷◌, length, Vec, vec_capacity}
 use Rattle.std.specs.declared.alloc.Global.{Global}
 use Rattle.beside_collector.specs.Places.{AllFrom}
+use Rattle.beside_collector.specs.Scripts.{script_of}
 use Rattle.free_cells.specs.Passes.{IsHintPass}
 use Rattle.free_cells.specs.declared.queue.FreeQueue.{FreeQueue}
 use Rattle.heap_table.specs.Seats.{HeapId, IsSeatOf, SeatView}
@@ -19,12 +20,6 @@ use Rattle.mail_threads.specs.declared.workers.Sender.{Sender}
 -- how many places a mutator has: the anchor's, and those of one call
 abbrev pub places_held : ℕ
 places_held = 16
-
--- Scripts, by the places of their senders.
-abbrev pub script_of : List (Vec ℕ Global) → ℕ → List ℕ
-script_of [] place = []
-script_of (script ∷ scripts) zero = script.items
-script_of (script ∷ scripts) (suc place) = script_of scripts place
 
 -- each value of a line is below 2^32
 abbrev pub AreSmall : List ℕ → Type 0

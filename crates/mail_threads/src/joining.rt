@@ -1,38 +1,18 @@
 //! The receiver beside the senders, and behind them.
-ghost use Rattle.std.specs.Prelude.{◌≡◌, ◌≤◌, false, length, true};
-ghost use Rattle.cell_mailbox.specs.Ends.{Returns};
-ghost use Rattle.mail_threads.specs.Calls.{IsSame};
+ghost use Rattle.std.specs.Prelude.{◌≡◌, length};
 ghost use Rattle.mail_threads.specs.Workers.{AllDone, AllReady, HasReceived, IsHalfway, IsWaiting};
 ghost use Rattle.std.specs.Thread.{IsSync};
 
 use crate::receiving::{take_rest, take_turns};
 use crate::running::run_each;
 use crate::workers::{Receiver, Sender};
+use beside_collector::{come_in, leave, pause, wake};
 use cell_mailbox::{Item, MailPass};
 use free_cells::FreeQueue;
 use heap_table::CellHeap;
-use mutator_seat::{MutSeat, Mutator};
+use mutator_seat::Mutator;
 use std::sync::Wait;
 use std::thread::{Threads, join};
-
-/// The mutator comes in.
-fn wake(m: &mut Mutator<'_, MailPass>)
-    requires out { m.old.seat.me.presence.inside ≡ false }
-    ensures same { IsSame m.old m.new }
-    ensures inside { m.new.seat.me.presence.inside ≡ true }
-    ensures one { length m.new.seat.me.own.held ≡ 1 }
-{
-    m.begin();
-}
-
-/// The mutator goes out, so that nobody waits for it.
-fn pause(m: &mut Mutator<'_, MailPass>)
-    requires inside { m.old.seat.me.presence.inside ≡ true }
-    ensures same { IsSame m.old m.new }
-    ensures out { m.new.seat.me.presence.inside ≡ false }
-{
-    m.end();
-}
 
 /// Takes a turn for each line, on this thread. The mutator is out behind, but not over.
 fn receive_lines<'a, R: Wait>(
@@ -50,8 +30,7 @@ fn receive_lines<'a, R: Wait>(
         mut items,
         failed: _,
     } = receiver;
-    let mut m = Mutator::new(heap, seat);
-    wake(&mut m);
+    let mut m = come_in(heap, seat);
     let whole = take_turns(rt, &mut m, lines, &mut items);
     pause(&mut m);
     (m, items, !whole)
@@ -77,9 +56,8 @@ fn receive_rest<R: Wait>(
     let mut items = items;
     wake(&mut m);
     let whole = take_rest(rt, &mut m, &mut items);
-    pause(&mut m);
     Receiver {
-        seat: m.finish(),
+        seat: leave(m),
         items,
         failed: failed || !whole,
     }

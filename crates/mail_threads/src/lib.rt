@@ -23,6 +23,6 @@ mod workers;
 pub use joining::run_all;
 pub use opened::OpenMail;
 pub use opening::open_mail;
-pub use running::{come_in, leave, run_each};
+pub use running::run_each;
 pub use taking_back::take_back;
 pub use workers::{Receiver, Sender};

@@ -3,18 +3,18 @@
 ghost use Rattle.std.specs.Prelude.{◌≡◌, ◌<◌, ◌≤◌, ◌^◌, All, IfOk, OnOk, ℕ, length, replicate};
 ghost use mathlib.Core.Option.{some};
 ghost use lib.ListN.{get_elem?};
+ghost use Rattle.beside_collector.specs.Scripts.{script_of};
 ghost use Rattle.beside_collector.specs.Splitting.{HasSplit};
 ghost use Rattle.free_cells.specs.Passes.{IsHintPass};
 ghost use Rattle.heap_rule.specs.Moves.{split_view};
 ghost use Rattle.heap_rule.specs.declared.view.Place.TheVariants as places;
 ghost use Rattle.heap_table.specs.Seats.{IsSeatOf};
 ghost use Rattle.mail_threads.specs.Opened.{IsOpenMail};
-ghost use Rattle.mail_threads.specs.Workers.{AllReady, AreSmall, IsReady, script_of};
+ghost use Rattle.mail_threads.specs.Workers.{AllReady, AreSmall, IsReady};
 
 use crate::opened::OpenMail;
-use crate::running::script_at;
 use crate::workers::{Receiver, Sender};
-use beside_collector::{Keeper, begin_duty};
+use beside_collector::{Keeper, begin_duty, script_at};
 use cell_heap::ColSeat;
 use cell_mailbox::{MailPass, opening_rows};
 use collector::{MarkStack, NoMemory};

@@ -1,50 +1,17 @@
 //! Senders from their beginning to their end: one on this thread, and all, each on its own.
-ghost use Rattle.std.specs.Prelude.{◌≡◌, ◌≤◌, length, true, vec_capacity};
+ghost use Rattle.std.specs.Prelude.{◌≡◌, ◌≤◌, length, vec_capacity};
 ghost use Rattle.std.specs.Thread.{IsSync};
-ghost use Rattle.heap_rule.specs.Asks.{MayComeIn};
-ghost use Rattle.heap_table.specs.Seats.{IsSeatOf};
-ghost use Rattle.mail_threads.specs.Calls.{Entered, Left};
-ghost use Rattle.mail_threads.specs.Workers.{AllDone, AllReady, IsDone, IsReady, script_of};
+ghost use Rattle.beside_collector.specs.Scripts.{script_of};
+ghost use Rattle.mail_threads.specs.Workers.{AllDone, AllReady, IsDone, IsReady};
 
 use crate::posting::send_all;
 use crate::workers::Sender;
+use beside_collector::{come_in, leave, script_at};
 use cell_mailbox::MailPass;
 use free_cells::FreeQueue;
 use heap_table::CellHeap;
-use mutator_seat::{MutSeat, Mutator};
 use std::sync::Wait;
 use std::thread::{Threads, join};
-
-/// The mutator of the seat, in.
-pub fn come_in<'a>(heap: &'a CellHeap<MailPass>, seat: MutSeat<MailPass>) -> Mutator<'a, MailPass>
-    requires seat { IsSeatOf heap.now seat }
-    requires out { MayComeIn seat.me }
-    ensures entered { Entered heap.now seat result }
-{
-    let mut m = Mutator::new(heap, seat);
-    m.begin();
-    m
-}
-
-/// The mutator goes out and is over.
-pub fn leave(m: Mutator<'_, MailPass>) -> MutSeat<MailPass>
-    requires inside { m.seat.me.presence.inside ≡ true }
-    ensures left { Left m.entry result }
-{
-    let mut m = m;
-    m.end();
-    m.finish()
-}
-
-/// The script of this place.
-pub(crate) fn script_at(scripts: &[Vec<u64>], place: u32) -> &[u64]
-    ensures script { result.now ≡ script_of scripts.now place }
-{
-    match scripts.get(place as usize) {
-        Some(script) => script.as_slice(),
-        None => &[],
-    }
-}
 
 /// Sends the lines of a sender's script, on this thread. Its mutator comes in before and is over
 /// behind.

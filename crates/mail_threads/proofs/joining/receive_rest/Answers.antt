@@ -6,15 +6,14 @@ use Rattle.mail_threads.proofs.joining.receive_rest.Goals.{then-failed, else-fai
 pub returns : goal.returns
 returns g c = record {
   received = has_received c.args.heap.now c.args.number c.args.lines c.args.m c.wake.new.m
-      c.take_rest-whole.new.m c.pause.new.m c.args.items.items
-      c.take_rest-whole.new.items.items c.args.failed c.take_rest-whole.result
-      c.requires.halfway c.wake.ensures.same c.take_rest-whole.ensures.returns
-      c.take_rest-whole.ensures.drained c.pause.ensures.same _ _
+      c.take_rest-whole.new.m c.args.items.items c.take_rest-whole.new.items.items c.args.failed
+      c.take_rest-whole.result c.requires.halfway c.wake.ensures.same
+      c.take_rest-whole.ensures.returns c.take_rest-whole.ensures.drained
       (record {
-        seat = c.finish.result;
+        seat = c.leave.result;
         items = c.take_rest-whole.new.items;
         failed = c.if-failed.result;
-      }) c.finish.ensures.told.1 refl c.finish.ensures.over
+      }) c.leave.ensures.left refl
       (elim c.if-failed.branch [
         | then-failed w ↦ search rules
         | else-failed w ↦ search rules

@@ -1,13 +1,13 @@
 use Rattle.std.proofs.Common.{rules, ◌≤◌, ◌∙◌, ℕ, List, ap, arith, length, subst, sym}
 use Rattle.std.proofs.lemmas.List.{length_push}
 use Rattle.beside_collector.proofs.Places.{all_push}
+use Rattle.beside_collector.proofs.Scripts.{script_is}
 use Rattle.beside_collector.proofs.Splitting.{none_split, one_split}
 use Rattle.heap_table.specs.Seats.{SeatView}
 use Rattle.mail_rule.specs.declared.mail_pass.MailPass.{MailPass}
 use Rattle.mail_threads.specs.Workers.{AllReady, AreSmall}
 use Rattle.mail_threads.specs.declared.workers.Sender.{Sender}
 use Rattle.mail_threads.proofs.Places.{ReadyAt}
-use Rattle.mail_threads.proofs.Splitting.{script_is}
 use Rattle.mail_threads.proofs.opening.split_senders.Goals as goal
 
 pub loop-place-init : goal.loop-place-init

@@ -1,6 +1,6 @@
 use Rattle.std.proofs.Common.{List, refl, subst, ℕ}
+use Rattle.beside_collector.specs.Scripts.{script_of}
 use Rattle.mail_threads.specs.Calls.{Posted}
-use Rattle.mail_threads.specs.Workers.{script_of}
 use Rattle.mail_threads.proofs.Leaving.{sender_done}
 use Rattle.mail_threads.proofs.running.run_sender.Goals as goal
 
