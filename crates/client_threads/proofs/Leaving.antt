@@ -1,54 +1,28 @@
 -- A client from its beginning to its end.
-use Rattle.std.proofs.Common.{◌≡◌, ℕ, Bool, true, false, not, List, [], ◌∷◌, ◌++◌}
-use Rattle.std.proofs.Common.{length, take, min}
+use Rattle.std.proofs.Common.{◌≡◌, ℕ, Bool, true, false, not, List, ◌++◌, length, take, min}
 use Rattle.std.proofs.Common.{refl, sym, ◌∙◌, ap, subst, arith}
 use Rattle.std.proofs.Math.Seq.{take-length}
-use Rattle.std.proofs.lemmas.List.{append-nil, length-map, length-take, take_min}
+use Rattle.std.proofs.lemmas.Bool.{not-false}
+use Rattle.std.proofs.lemmas.List.{length-map, length-take, take_min}
+use Rattle.beside_collector.specs.Coming.{Entered, Left}
 use Rattle.client_run.specs.Own.{MayAnswer, client_state}
 use Rattle.client_run.specs.declared.session.Limits.{Limits}
 use Rattle.client_run.specs.declared.session.Session.{Session}
 use Rattle.client_session.specs.Turns.{bounds}
 use Rattle.client_turns.specs.Turns.{IsInStep}
-use Rattle.core_machine.specs.Own.{no_own}
-use Rattle.core_machine.specs.Trail.{own_along}
-use Rattle.core_machine.specs.declared.events.Event.TheVariants as event
-use Rattle.core_machine.specs.declared.events.Found.{Found}
-use Rattle.core_machine.specs.declared.events.Taken.{Taken}
 use Rattle.doc_model.specs.Answers.{Limits as StoreLimits}
 use Rattle.doc_model.specs.declared.command.Command.{Command}
 use Rattle.doc_model.specs.declared.command.Entry.{Entry}
 use Rattle.free_cells.specs.declared.queue.FreeQueue.{FreeQueue}
-use Rattle.heap_rule.specs.Rule.{took}
 use Rattle.heap_rule.specs.Shape.{Shape}
-use Rattle.heap_table.specs.Seats.{HeapId, SeatView}
-use Rattle.mutator_events.specs.Events.{tells}
-use Rattle.mutator_seat.specs.Bound.{Bound, held_cells, takes}
-use Rattle.trails.specs.Marks.{Mark, mark_of, marks_of}
-use Rattle.trails.proofs.Marks.{marks_push}
+use Rattle.heap_table.specs.Seats.{HeapId}
+use Rattle.mutator_seat.specs.Bound.{Bound}
 use Rattle.version_rule.specs.Pass.{Pass}
-use Rattle.held_places.proofs.Going.{many_cells}
 use Rattle.client_threads.specs.Clients.{IsDone, IsReady, commands_of, store_limits}
-use Rattle.client_threads.specs.Going.{Answers, Entered, Left, Went}
+use Rattle.client_threads.specs.Going.{Answers, Went}
 use Rattle.client_threads.specs.declared.clients.Client.{Client}
 
 -- The beginning.
-
-module _ (heap : HeapId) (seat : SeatView Pass) (a b : Bound Pass) (i : ℕ) (found : Found) where
-  pub entered : a ≡ record { heap = heap; seat = seat } → b ≡ takes a (event.Begin i) found
-      → b.seat.me.presence.inside ≡ true → held_cells b ≡ 0 ∷ [] → Entered heap seat b
-  entered new begun inside held =
-      let is : b ≡ takes (record { heap = heap; seat = seat }) (event.Begin i) found =
-      begun ∙ ap (λ (m : Bound Pass). takes m (event.Begin i) found) new in
-      record {
-        heap_is = ap (λ (m : Bound Pass). m.heap) is;
-        table = ap (λ (m : Bound Pass). m.seat.table) is;
-        shape = ap (λ (m : Bound Pass). m.seat.me.shape) is;
-        number = ap (λ (m : Bound Pass). m.seat.me.number) is;
-        room = ap (λ (m : Bound Pass). m.seat.me.room) is;
-        pass = ap (λ (m : Bound Pass). m.seat.me.pass) is;
-        inside = inside;
-        one = sym (many_cells b) ∙ ap (λ (cs : List ℕ). length cs) held;
-      }
 
 pub entered_may : (heap : HeapId) (queue : FreeQueue) (l : Limits) (script : List Command)
     (place : ℕ) (client : Client) (m : Bound Pass) → IsReady heap queue l script place client
@@ -63,35 +37,6 @@ entered_may heap queue l script place client m ready came =
     } came.room
 
 -- The end.
-
-quiet : (ts : List Taken) (t : Taken)
-    → mark_of (own_along no_own ts) t.event t.found ≡ []
-    → marks_of (ts ++ t ∷ []) ≡ marks_of ts
-quiet ts t none =
-    marks_push ts t ∙ ap (λ (ms : List Mark). marks_of ts ++ ms) none
-    ∙ append-nil (marks_of ts)
-
-module _ (a b : Bound Pass) (i j : ℕ) (out over : Found) (seat : SeatView Pass) where
-  pub left_so : b ≡ takes a (event.End i) out → seat ≡ tells b.seat (event.Over j) over
-      → Left a seat
-  left_so ended told =
-      let is : seat ≡ tells (takes a (event.End i) out).seat (event.Over j) over =
-      told ∙ ap (λ (m : Bound Pass). tells m.seat (event.Over j) over) ended in
-      record {
-        table = ap (λ (s : SeatView Pass). s.table) is;
-        shape = ap (λ (s : SeatView Pass). s.me.shape) is;
-        number = ap (λ (s : SeatView Pass). s.me.number) is;
-        room = ap (λ (s : SeatView Pass). s.me.room) is;
-        pass = ap (λ (s : SeatView Pass). s.me.pass) is;
-        claims = ap (λ (s : SeatView Pass). s.me.own.claims) is;
-        marks = ap (λ (s : SeatView Pass). marks_of s.me.trail) is
-            ∙ quiet (a.seat.me.trail ++ took (event.End i) out ∷ []) (took (event.Over j) over)
-            refl
-            ∙ quiet a.seat.me.trail (took (event.End i) out) refl;
-        over = ap (λ (s : SeatView Pass). s.me.presence.over) is;
-      }
-
--- What was answered.
 
 -- so many of the first commands, and where all were answered these are all
 record Front (whole : Bool) (script : List Command) (s : Session) (m : Bound Pass) (t : Session)
@@ -112,10 +57,6 @@ front_of false script s m t n some = record {
   went = some.went;
   all = λ is. absurd cc;
 }
-
-was_whole : (whole : Bool) → not whole ≡ false → whole ≡ true
-was_whole true is = refl
-was_whole false is = absurd cc
 
 module _ (heap : HeapId) (queue : FreeQueue) (l : Limits) (script : List Command) (place : ℕ)
     (old new : Client) (m n : Bound Pass) (whole : Bool)
@@ -168,5 +109,5 @@ module _ (heap : HeapId) (queue : FreeQueue) (l : Limits) (script : List Command
     };
     front = answered ∙ sym (take_min front.count script)
         ∙ ap (λ (k : ℕ). take k script) (sym many);
-    whole = λ fine. answered ∙ front.all (was_whole whole (sym failed ∙ fine));
+    whole = λ fine. answered ∙ front.all (not-false whole (sym failed ∙ fine));
   }

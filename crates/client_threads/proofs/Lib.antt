@@ -4,7 +4,6 @@ pub mod Leaving
 pub mod OneMore
 pub mod Places
 pub mod Rooms
-pub mod Scripts
 pub mod Serving
 pub mod Splitting
 pub mod TakingBack

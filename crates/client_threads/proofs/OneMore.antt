@@ -5,13 +5,14 @@ use Rattle.std.proofs.Common.{All, inl, inr, refl, sym, ap, subst, arith, slice_
 use Rattle.std.specs.Prelude.{Vec}
 use Rattle.std.specs.declared.alloc.Global.{Global}
 use Rattle.std.proofs.lemmas.Bool.{cases_lt}
-use Rattle.std.proofs.lemmas.List.Elements.{All-head, All-tail}
 use Rattle.atomic_table.proofs.Lists.{at_last, at_longer, set_else, set_here}
 use mathlib.Core.Option.{some}
 use lib.ListN.{get_elem?}
 use Rattle.client_run.specs.declared.session.Limits.{Limits as ClientLimits}
+use Rattle.beside_collector.specs.Scripts.{script_of}
 use Rattle.beside_collector.proofs.Places.{all_push}
-use Rattle.client_threads.specs.Clients.{AllReady, IsReady, script_of}
+use Rattle.beside_collector.proofs.Scripts.{script_is}
+use Rattle.client_threads.specs.Clients.{AllReady, IsReady}
 use Rattle.client_threads.specs.declared.clients.Client.{Client}
 use Rattle.doc_model.specs.Answers.{Limits}
 use Rattle.doc_model.specs.ClientLog.{ClientLog}
@@ -24,18 +25,6 @@ use Rattle.heap_table.specs.Seats.{HeapId}
 use Rattle.run_history.specs.Left.{AreLeft, IsLeft}
 use Rattle.client_threads.specs.Taken.{AllHadRoom, lists_of}
 use Rattle.version_rule.specs.Pass.{Pass}
-
-pub script_short : (scripts : List (Vec Command Global)) (place : ℕ)
-    → All (λ (script : Vec Command Global). length script.items ≤ 100_000) scripts
-    → length (script_of scripts place) ≤ 100_000
-script_short [] place short = omega arith
-script_short (script ∷ scripts) zero short =
-    All-head (λ (script : Vec Command Global). length script.items ≤ 100_000) script scripts
-    short
-script_short (script ∷ scripts) (suc place) short =
-    script_short scripts place
-    (All-tail (λ (script : Vec Command Global). length script.items ≤ 100_000) script scripts
-    short)
 
 -- the next script, as a list of commands
 scripts_next : (scripts : List (Vec Command Global)) (k : ℕ) → k < length scripts
@@ -112,4 +101,7 @@ pub ready_push : (heap : HeapId) (queue : FreeQueue) (l : ClientLimits)
     → AllReady heap queue l scripts (clients ++ client ∷ [])
 ready_push heap queue l scripts clients client place all many short is =
     all_push (λ (at : ℕ) (c : Client). IsReady heap queue l (script_of scripts at) at c) place
-    clients client all many (is (script_of scripts place) (script_short scripts place short))
+    clients client all many
+    (is (script_of scripts place)
+    (script_is (λ (script : List Command). length script ≤ 100_000) (omega arith) scripts place
+    short))

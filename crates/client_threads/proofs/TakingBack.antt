@@ -4,10 +4,10 @@ use Rattle.std.proofs.Common.{length, map, take, refl, sym, ◌∙◌, ap, subst
 use Rattle.std.specs.Prelude.{Vec}
 use Rattle.std.specs.declared.alloc.Global.{Global}
 use Rattle.std.proofs.lemmas.List.{length-map, length_push, map-append, take_all}
+use Rattle.beside_collector.specs.Scripts.{script_of}
 use Rattle.beside_collector.proofs.TakingBack.{TakenSoFar, all_taken, none_taken, one_taken}
 use Rattle.client_run.specs.declared.session.Limits.{Limits as ClientLimits}
-use Rattle.client_threads.specs.Clients.{AllDone, IsDone, places_for, script_of}
-use Rattle.client_threads.specs.Clients.{store_limits}
+use Rattle.client_threads.specs.Clients.{AllDone, places_for, store_limits}
 use Rattle.client_threads.specs.declared.clients.Client.{Client}
 use Rattle.doc_model.specs.ClientLog.{ClientLog}
 use Rattle.doc_model.specs.declared.command.Command.{Command}
@@ -18,6 +18,7 @@ use Rattle.heap_table.specs.Seats.{HeapId, SeatView}
 use Rattle.client_threads.specs.Taken.{AreFronts, AreTaken, commands_in, lists_of}
 use Rattle.version_rule.specs.Pass.{Pass}
 use Rattle.client_threads.proofs.OneMore.{scripts_more}
+use Rattle.client_threads.proofs.Places.{DoneAt}
 
 -- one front more
 fronts_push : (fronts wholes : List (List Command)) (front whole : List Command)
@@ -30,15 +31,12 @@ fronts_push (f ∷ fronts) (w ∷ wholes) front whole are is =
     (are.0, fronts_push fronts wholes front whole are.1 is)
 
 module _ (heap : HeapId) (limits : ClientLimits) (scripts : List (Vec Command Global)) where
-  abbrev pub DoneAt : ℕ → Client → Type 0
-  DoneAt place client = IsDone heap limits (script_of scripts place) place client
-
   -- The first clients gave these logs, and these clients are left. What the first were asked and
   -- answered is a front of each one's script, and where none failed all of it.
   pub record ClientsSoFar (rest : List Client) (logs : List ClientLog) (failed : Bool)
       (old new : SeatView Pass) : Type 0 where
-    pub back : TakenSoFar DoneAt (λ (c : Client). c.seat) (λ (c : Client). c.session.journal.log)
-        (length scripts) rest logs old new
+    pub back : TakenSoFar (DoneAt heap limits scripts) (λ (c : Client). c.seat)
+        (λ (c : Client). c.session.journal.log) (length scripts) rest logs old new
     pub fronts : AreFronts (map commands_in logs) (take (length logs) (lists_of scripts))
     pub whole : failed ≡ false → map commands_in logs ≡ take (length logs) (lists_of scripts)
 
@@ -46,8 +44,8 @@ module _ (heap : HeapId) (limits : ClientLimits) (scripts : List (Vec Command Gl
       → length clients ≡ length scripts → length scripts ≤ length seat.me.places
       → AllDone heap limits scripts clients → ClientsSoFar clients [] false seat seat
   no_client_taken clients seat many fit done = record {
-    back = none_taken DoneAt (λ (c : Client). c.seat) (λ (c : Client). c.session.journal.log)
-        (length scripts) clients seat many fit done;
+    back = none_taken (DoneAt heap limits scripts) (λ (c : Client). c.seat)
+        (λ (c : Client). c.session.journal.log) (length scripts) clients seat many fit done;
     fronts = tt;
     whole = λ so. refl;
   }
@@ -74,7 +72,7 @@ module _ (heap : HeapId) (limits : ClientLimits) (scripts : List (Vec Command Gl
       (sym (length-map log.entries (λ (e : Entry). e.command)
       ∙ ap (λ (g : ClientLog). length g.entries) log_is)) in
       record {
-        back = one_taken DoneAt (λ (c : Client). c.seat)
+        back = one_taken (DoneAt heap limits scripts) (λ (c : Client). c.seat)
             (λ (c : Client). c.session.journal.log) (λ place c done. done.number_is)
             (length scripts) client rest logs log old mid new t.back log_is new_is;
         fronts = subst (λ (cs : List (List Command)). AreFronts cs
@@ -97,8 +95,8 @@ module _ (heap : HeapId) (limits : ClientLimits) (scripts : List (Vec Command Gl
   all_logs : (rest : List Client) (logs : List ClientLog) (failed : Bool) (old new : SeatView Pass)
       → ClientsSoFar rest logs failed old new → length rest ≡ 0 → length logs ≡ length scripts
   all_logs rest logs failed old new t none =
-      all_taken DoneAt (λ (c : Client). c.seat) (λ (c : Client). c.session.journal.log)
-      (length scripts) rest logs old new t.back none
+      all_taken (DoneAt heap limits scripts) (λ (c : Client). c.seat)
+      (λ (c : Client). c.session.journal.log) (length scripts) rest logs old new t.back none
 
   all_lists : (rest : List Client) (logs : List ClientLog) (failed : Bool)
       (old new : SeatView Pass) → ClientsSoFar rest logs failed old new → length rest ≡ 0

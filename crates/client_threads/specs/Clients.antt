@@ -1,9 +1,10 @@
 -- What a client has before its run, and what it leaves.
 -- Source: this project's.
-use Rattle.std.specs.Prelude.{ℕ, zero, suc, ◌≡◌, ◌≤◌, ◌+◌, ◌*◌, true, false, List, []}
-use Rattle.std.specs.Prelude.{◌∷◌, length, map, take, Vec}
+use Rattle.std.specs.Prelude.{ℕ, ◌≡◌, ◌≤◌, ◌+◌, ◌*◌, true, false, List, [], length, map, take}
+use Rattle.std.specs.Prelude.{Vec}
 use Rattle.std.specs.declared.alloc.Global.{Global}
 use Rattle.beside_collector.specs.Places.{AllFrom}
+use Rattle.beside_collector.specs.Scripts.{script_of}
 use Rattle.client_run.specs.Own.{IsBegun, MayAnswer}
 use Rattle.client_run.specs.declared.session.Limits.{Limits}
 use Rattle.client_run.specs.declared.session.Session.{Session}
@@ -31,12 +32,6 @@ places_for minor = 4 * minor + 16_384
 -- the commands that were answered
 abbrev pub commands_of : List Entry → List Command
 commands_of entries = map (λ (e : Entry). e.command) entries
-
--- Scripts, by the places of their clients.
-abbrev pub script_of : List (Vec Command Global) → ℕ → List Command
-script_of [] place = []
-script_of (script ∷ scripts) zero = script.items
-script_of (script ∷ scripts) (suc place) = script_of scripts place
 
 -- The session is as it was made for this client, and answered nothing yet: its private heap is of
 -- as many records as it is to have, and it may answer by every mutator of so much room that has

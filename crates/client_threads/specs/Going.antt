@@ -1,13 +1,11 @@
 -- What a client's thread knows of its mutator and its session between two calls.
 -- Source: this project's.
-use Rattle.std.specs.Prelude.{ℕ, ◌≡◌, ◌++◌, Bool, true, false, List, [], ◌∷◌}
-use Rattle.std.specs.Prelude.{length, take}
+use Rattle.std.specs.Prelude.{ℕ, ◌≡◌, ◌++◌, Bool, true, false, List, [], ◌∷◌, take}
 use Rattle.client_run.specs.Answers.{IsSameClient}
 use Rattle.client_run.specs.Own.{MayAnswer}
 use Rattle.client_run.specs.declared.session.Session.{Session}
 use Rattle.client_threads.specs.Clients.{commands_of}
 use Rattle.doc_model.specs.declared.command.Command.{Command}
-use Rattle.heap_table.specs.Seats.{HeapId, SeatView}
 use Rattle.mutator_seat.specs.Bound.{Bound}
 use Rattle.mutator_seat.specs.Stretches.{Kept}
 use Rattle.trails.specs.Asks.{Grown}
@@ -42,25 +40,3 @@ abbrev pub Answers : Bool → List Command → Session → Bound Pass → Sessio
     → Type 0
 Answers true script s m t n = Went script s m t n
 Answers false script s m t n = WentSome script s m t n
-
--- The mutator of this seat came in, and holds the anchor alone.
-pub record Entered (heap : HeapId) (seat : SeatView Pass) (m : Bound Pass) : Type 0 where
-  pub heap_is : m.heap ≡ heap
-  pub table : m.seat.table ≡ seat.table
-  pub shape : m.seat.me.shape ≡ seat.me.shape
-  pub number : m.seat.me.number ≡ seat.me.number
-  pub room : m.seat.me.room ≡ seat.me.room
-  pub pass : m.seat.me.pass ≡ seat.me.pass
-  pub inside : m.seat.me.presence.inside ≡ true
-  pub one : length m.seat.me.own.held ≡ 1
-
--- The mutator went out, and this is its seat: its trail shows no more than before.
-pub record Left (m : Bound Pass) (seat : SeatView Pass) : Type 0 where
-  pub table : seat.table ≡ m.seat.table
-  pub shape : seat.me.shape ≡ m.seat.me.shape
-  pub number : seat.me.number ≡ m.seat.me.number
-  pub room : seat.me.room ≡ m.seat.me.room
-  pub pass : seat.me.pass ≡ m.seat.me.pass
-  pub claims : seat.me.own.claims ≡ m.seat.me.own.claims
-  pub marks : marks_of seat.me.trail ≡ marks_of m.seat.me.trail
-  pub over : seat.me.presence.over ≡ true

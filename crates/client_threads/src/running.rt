@@ -1,57 +1,21 @@
 //! Clients from their beginning to their end: one on this thread, and all, each on its own.
-ghost use Rattle.std.specs.Prelude.{◌≡◌, ◌≤◌, length, true, vec_capacity};
-ghost use Rattle.client_threads.specs.Clients.{AllDone, AllReady, IsDone, IsReady, script_of};
-ghost use Rattle.client_threads.specs.Going.{Entered, Left};
-ghost use Rattle.heap_rule.specs.Asks.{MayComeIn};
-ghost use Rattle.heap_table.specs.Seats.{IsSeatOf};
+ghost use Rattle.std.specs.Prelude.{◌≡◌, ◌≤◌, length, vec_capacity};
+ghost use Rattle.beside_collector.specs.Scripts.{script_of};
+ghost use Rattle.client_threads.specs.Clients.{AllDone, AllReady, IsDone, IsReady};
 ghost use Rattle.std.specs.Thread.{IsSync};
 
 use crate::answering::answer_all;
 use crate::clients::Client;
+use beside_collector::{come_in, leave, script_at};
 use client_run::Limits;
 use doc_model::Command;
 use document_versions::Documents;
 use free_cells::FreeQueue;
 use heap_table::CellHeap;
-use mutator_seat::{MutSeat, Mutator};
 use outside::Gate;
 use std::alloc::Global;
 use std::sync::Wait;
 use std::thread::{Threads, join};
-
-/// The mutator of the seat, in.
-pub fn come_in<'a>(
-    heap: &'a CellHeap<Documents>,
-    seat: MutSeat<Documents>,
-) -> Mutator<'a, Documents>
-    requires seat { IsSeatOf heap.now seat }
-    requires out { MayComeIn seat.me }
-    ensures entered { Entered heap.now seat result }
-{
-    let mut m = Mutator::new(heap, seat);
-    m.begin();
-    m
-}
-
-/// The mutator goes out and is over.
-pub fn leave(m: Mutator<'_, Documents>) -> MutSeat<Documents>
-    requires inside { m.seat.me.presence.inside ≡ true }
-    ensures left { Left m.entry result }
-{
-    let mut m = m;
-    m.end();
-    m.finish()
-}
-
-/// The script of this place.
-fn script_at(scripts: &[Vec<Command>], place: u32) -> &[Command]
-    ensures script { result.now ≡ script_of scripts.now place }
-{
-    match scripts.get(place as usize) {
-        Some(script) => script.as_slice(),
-        None => &[],
-    }
-}
 
 /// Answers a client's script, on this thread. Its mutator comes in before and is over behind.
 fn run_client<R: Wait, G: Gate>(

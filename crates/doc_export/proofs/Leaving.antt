@@ -2,9 +2,10 @@
 -- command.
 use Rattle.std.proofs.Common.{◌≡◌, ◌≤◌, ◌+◌, ◌*◌, ℕ, true, List, []}
 use Rattle.std.proofs.Common.{length, map, refl, sym, ◌∙◌, ap, subst, arith}
+use Rattle.beside_collector.specs.Coming.{Entered, Left}
 use Rattle.client_run.specs.declared.session.Limits.{Limits}
 use Rattle.client_threads.specs.Clients.{IsNewSeat, store_limits}
-use Rattle.client_threads.specs.Going.{Entered, Left, Waits}
+use Rattle.client_threads.specs.Going.{Waits}
 use Rattle.client_turns.specs.State.{ClientState}
 use Rattle.client_turns.proofs.Stepping.{in_step_opening}
 use Rattle.doc_model.specs.ClientLog.{ClientLog}

@@ -8,8 +8,9 @@ ghost use Rattle.version_rule.specs.Pass.{reading};
 ghost use Rattle.version_store.specs.Held.{IsHeld, root_at};
 ghost use Rattle.version_store.specs.Lasts.{IsSameMutator, LastsAcross};
 
+use beside_collector::{come_in, leave};
 use client_run::Limits;
-use client_threads::{await_gate, come_in, leave};
+use client_threads::await_gate;
 use client_trees::{NodeAt, count};
 use document_versions::Documents;
 use heap_table::CellHeap;

@@ -6,11 +6,10 @@
 //! scripts, the guest read the latest version from the anchor, and the bytes are the dump of its
 //! number and of the tree that the merged history has after it.
 //!
-//! Reading order: `dumped`, specs/Dumps; specs/Guests, `guest`; `beside`, `at_work`; specs/Parts,
-//! `opened`, `running`.
+//! Reading order: `dumped`, specs/Dumps; specs/Guests, `guest`; `beside`; specs/Parts, `opened`,
+//! `running`.
 #![tactic(auto)]
 
-mod at_work;
 mod beside;
 mod dumped;
 mod guest;

@@ -10,10 +10,9 @@ ghost use Rattle.client_threads.specs.Taken.{commands_in, lists_of};
 ghost use Rattle.doc_export.specs.Guests.{IsThrough};
 ghost use Rattle.doc_export.specs.Parts.{IsOpened, MayDump};
 
-use crate::at_work::AllAtWork;
 use crate::beside::run_with_guest;
 use crate::guest::{Copied, Guest, Through};
-use beside_collector::{Keeper, run_beside, serve_after};
+use beside_collector::{Doing, Keeper, run_beside, serve_after};
 use cell_heap::Passes;
 use client_run::Options;
 use client_threads::{Client, OpenStore, open_store, take_back};
@@ -138,7 +137,7 @@ pub(crate) fn run_opened<R: Threads + Wait + Sync, G: Gate + Sync>(
             × IsThrough at.entry.now limits guest.place result.1 }
     { run_with_guest(alloc, rt, gate, at, hints, scripts, limits, clients, guest) };
     let cycles = options.cycles;
-    let work = AllAtWork { run };
+    let work = Doing { run };
     let (done, seat, standby) = run_beside(alloc, rt, at, hints, keeper, cycles, work);
     let (clients, through) = done;
     let mut seat = seat;

@@ -7,10 +7,9 @@
 //! of the image and the logs. How a script is read and a log written is left to that layer.
 //!
 //! Reading order: client_run specs/Options; specs/Finished, `finished`; specs/Parts; then `totals`,
-//! `at_work`, `opened`, `running`.
+//! `opened`, `running`.
 #![tactic(auto)]
 
-mod at_work;
 mod finished;
 mod opened;
 mod running;

@@ -10,10 +10,9 @@ ghost use Rattle.client_threads.specs.Taken.{AreFronts, lists_of};
 ghost use Rattle.store_run.specs.Finished.{Comes, commands_of};
 ghost use Rattle.store_run.specs.Parts.{IsOpened};
 
-use crate::at_work::ClientsAtWork;
 use crate::finished::Finished;
 use crate::totals::totals_of;
-use beside_collector::{run_beside, serve_after};
+use beside_collector::{Doing, run_beside, serve_after};
 use client_run::Options;
 use client_threads::{Client, OpenStore, open_store, run_each, take_back};
 use collector::NoMemory;
@@ -104,7 +103,7 @@ pub(crate) fn run_opened<R: Threads + Wait + Sync, G: Gate + Sync>(
             × (length result.items ≡ length clients.items) }
     { run_each(alloc, rt, gate, at, hints, scripts, limits, clients) };
     let cycles = options.cycles;
-    let work = ClientsAtWork { run };
+    let work = Doing { run };
     let (clients, seat, standby) = run_beside(alloc, rt, at, hints, keeper, cycles, work);
     let mut seat = seat;
     let mut logs = logs;

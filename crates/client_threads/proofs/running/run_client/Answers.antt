@@ -1,6 +1,6 @@
 use Rattle.std.proofs.Common.{List, not, refl, subst}
+use Rattle.beside_collector.specs.Scripts.{script_of}
 use Rattle.doc_model.specs.declared.command.Command.{Command}
-use Rattle.client_threads.specs.Clients.{script_of}
 use Rattle.client_threads.specs.Going.{Answers}
 use Rattle.client_threads.proofs.Leaving.{done, entered_may}
 use Rattle.client_threads.proofs.running.run_client.Goals as goal

@@ -1,8 +1,0 @@
-use Rattle.client_threads.proofs.Leaving.{left_so}
-use Rattle.client_threads.proofs.running.leave.Goals as goal
-
-pub returns : goal.returns
-returns c = record {
-  left = left_so c.args.m c.end.new.self _ _ _ _ c.finish.result c.end.ensures.told
-      c.finish.ensures.told.1;
-}
