@@ -1,5 +1,5 @@
--- From a box of the map to the fields of its cell, which are what its entries stand for, and to what
--- is told of it.
+-- From a box of the map to the fields of its cell, which are what its entries stand for, and to
+-- what is told of it.
 use Rattle.std.proofs.Common.{◌≡◌, ◌≢◌, ◌∙◌, ℕ, Bool, Some}
 use Rattle.cell_words.specs.declared.fields.Field.TheVariants as field
 use Rattle.cell_words.specs.Term.{null, num}
