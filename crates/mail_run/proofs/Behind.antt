@@ -63,7 +63,7 @@ module _ (s : State) (l : Lore) (facts : Facts is_fixed s l) (passes : List Mail
   item_there cell position box at has =
       let letter = letter_at h.letters position in
       let low = position_low (boxes_of s l) passes h cell position
-      record { box = box; there = at; position_is = has.position_is } in
+      record { box = box; there = at; number_is = has.position_is } in
       let p = ap number_in (number_there cell box at 0 position has.position_is) in
       let w = ap (λ (x : Field). sender_of (number_in x))
       (number_there cell box at 1 letter.sender has.sender_is)
@@ -100,7 +100,7 @@ module _ (s : State) (l : Lore) (facts : Facts is_fixed s l) (passes : List Mail
       (range_with_len (1 + length h.takers) (length h.letters - length h.takers))
   rest_is =
       let is : Behind h.letters (boxes_of s l) h.latest.cell (length h.takers) =
-      behind (boxes_of s l) passes h h.latest.cell (length h.takers) h.latest.item in
+      behind (boxes_of s l) passes h h.latest.cell (length h.takers) h.latest.numbered in
       let few = letters_few (boxes_of s l) passes h in
       let many = is.many in
       let left : length is.cells ≡ length h.letters - length h.takers = omega (arith, many) in
