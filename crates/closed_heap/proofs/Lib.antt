@@ -1,4 +1,3 @@
-pub mod Boxes
 pub mod Claiming
 pub mod Counting
 pub mod Getting

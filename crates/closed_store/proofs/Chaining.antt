@@ -7,7 +7,6 @@ use lib.ListN.{get_elem?}
 use Rattle.cell_words.specs.declared.fields.Field.{Field}
 use Rattle.cell_words.specs.declared.fields.Field.TheVariants as field
 use Rattle.cell_words.specs.Term.{num}
-use Rattle.closed_heap.proofs.Boxes.{box_there, entry_there, named_there, null_there, number_there}
 use Rattle.closed_store.specs.Chain.{IsChain, IsVersionAt, ShowsVersions, last as ends}
 use Rattle.closed_store.specs.Chain.{more as links}
 use Rattle.closed_store.specs.Closing.{EndedStore}
@@ -32,6 +31,8 @@ use Rattle.version_rule.specs.Versions.{HoldsVersions, IsVersion, is_fixed}
 use Rattle.version_rule.proofs.Passing.{version_of}
 use Rattle.version_rule.proofs.Reached.{only_these}
 use Rattle.heap_rule.proofs.EntryWords.{record_word}
+use Rattle.heap_rule.proofs.BoxWords.{box_there, entry_there, named_there, null_there}
+use Rattle.heap_rule.proofs.BoxWords.{number_there}
 use Rattle.version_rule.proofs.Staying.{chain_stays}
 use Rattle.closed_store.proofs.Anchored.{box_in, from_anchor}
 use Rattle.closed_store.proofs.Denoting.{box_kind, denotes}

@@ -5,15 +5,12 @@ use Rattle.std.proofs.Common.{if◌then◌else◌}
 use Rattle.std.specs.List.{range_with_len}
 use Rattle.std.proofs.lemmas.Bool.{le-leb}
 use Rattle.cell_words.specs.declared.fields.Field.{Field}
-use Rattle.cell_words.specs.declared.fields.Field.TheVariants as field
-use Rattle.cell_words.specs.Term.{null, num}
+use Rattle.closed_heap.specs.Words.{number_in}
 use Rattle.core_machine.specs.State.{State, field_of}
-use Rattle.heap_rule.specs.Boxes.{Payload, boxes_of, payload_of}
+use Rattle.heap_rule.specs.Boxes.{Payload, boxes_of}
 use Rattle.heap_rule.specs.Facts.{Facts}
-use Rattle.heap_rule.specs.Lore.{Lore, Named, Plain}
-use Rattle.heap_rule.proofs.Entries.{same_entry}
-use Rattle.heap_rule.proofs.EntryWords.{null_word, number_word}
-use Rattle.heap_rule.proofs.Maps.{In, entry_names, in_map, of_map}
+use Rattle.heap_rule.specs.Lore.{Lore}
+use Rattle.heap_rule.proofs.BoxWords.{named_there, null_there, number_there}
 use Rattle.mail_rule.specs.Chains.{Behind, Follow, last, more}
 use Rattle.mail_rule.specs.Items.{item_at, letter_at, no_letter}
 use Rattle.mail_rule.specs.Mail.{HasItem, HoldsMail, is_fixed}
@@ -22,8 +19,8 @@ use Rattle.mail_rule.specs.declared.mail_pass.MailPass.{MailPass}
 use Rattle.mail_rule.proofs.Chaining.{behind}
 use Rattle.mail_rule.proofs.Counts.{letters_few}
 use Rattle.mail_rule.proofs.Standing.{position_low}
-use Rattle.mail_run.specs.Rest.{behind_named, cell_in, item_of, most_items, number_in, rest_in}
-use Rattle.mail_run.specs.Rest.{rest_of, sender_of}
+use Rattle.mail_run.specs.Rest.{behind_named, cell_in, item_of, most_items, rest_in, rest_of}
+use Rattle.mail_run.specs.Rest.{sender_of}
 
 sender_small : (n : ℕ) → n ≤ 64 → sender_of n ≡ n
 sender_small n few = ap (λ (is : Bool). if is then n else 0) (le-leb n 64 few)
@@ -34,23 +31,6 @@ none_behind s (suc n) = refl
 
 module _ (s : State) (l : Lore) (facts : Facts is_fixed s l) (passes : List MailPass)
     (h : HoldsMail (boxes_of s l) passes) where
-  -- a box of the map, whose fields stand for its entries
-  module _ (cell : ℕ) (box : Payload) (at : boxes_of s l cell ≡ Some box) where
-    there : In s l cell
-    there = of_map s l cell box at
-
-    entry : (f : ℕ) → payload_of s l cell f ≡ box f
-    entry f = same_entry (boxes_of s l) cell f (payload_of s l cell) box (in_map s l cell there) at
-
-    null_there : (f : ℕ) → box f ≡ Plain null → field_of s cell f ≡ field.Null
-    null_there f is = null_word is_fixed s l facts cell f there.reached (entry f ∙ is)
-
-    number_there : (f n : ℕ) → box f ≡ Plain (num n) → field_of s cell f ≡ field.Num n
-    number_there f n is = number_word is_fixed s l facts cell f n there.reached (entry f ∙ is)
-
-    named_there : (f other : ℕ) → box f ≡ Named other → field_of s cell f ≡ field.Cell other
-    named_there f other is = entry_names l.terms (field_of s cell f) other (entry f ∙ is)
-
   letters_signed : (position : ℕ) → position ≤ length h.letters
       → (letter_at h.letters position).sender ≤ 64
   letters_signed zero low = omega arith
@@ -64,11 +44,13 @@ module _ (s : State) (l : Lore) (facts : Facts is_fixed s l) (passes : List Mail
       let letter = letter_at h.letters position in
       let low = position_low (boxes_of s l) passes h cell position
       record { box = box; there = at; number_is = has.position_is } in
-      let p = ap number_in (number_there cell box at 0 position has.position_is) in
+      let p = ap number_in (number_there s l cell box at is_fixed facts 0 position has.position_is)
+      in
       let w = ap (λ (x : Field). sender_of (number_in x))
-      (number_there cell box at 1 letter.sender has.sender_is)
+      (number_there s l cell box at is_fixed facts 1 letter.sender has.sender_is)
       ∙ sender_small letter.sender (letters_signed position low) in
-      let v = ap number_in (number_there cell box at 2 letter.value has.value_is) in
+      let v = ap number_in (number_there s l cell box at is_fixed facts 2 letter.value has.value_is)
+      in
       λ t. record { position = p t; sender = w t; value = v t }
 
   -- the box that begins what follows
@@ -84,12 +66,12 @@ module _ (s : State) (l : Lore) (facts : Facts is_fixed s l) (passes : List Mail
       → rest_of s n (cell_in (field_of s cell 3))
       ≡ mapped (item_at h.letters) (range_with_len (position + 1) (length cells))
   rest_there _ _ _ n (last {cell} {position} box at has none) le =
-      ap (λ (x : Field). rest_of s n (cell_in x)) (null_there cell box at 3 none)
+      ap (λ (x : Field). rest_of s n (cell_in x)) (null_there s l cell box at is_fixed facts 3 none)
       ∙ none_behind s n
   rest_there _ _ _ zero (more {cell} {position} {next} {cells} box at has names rest) le =
       absurd (omega (arith, le))
   rest_there _ _ _ (suc n) (more {cell} {position} {next} {cells} box at has names rest) le =
-      ap (λ (x : Field). rest_of s (suc n) (cell_in x)) (named_there cell box at 3 next names)
+      ap (λ (x : Field). rest_of s (suc n) (cell_in x)) (named_there s l cell box at 3 next names)
       ∙ ap (λ (item : Item). item ∷ rest_of s n (cell_in (field_of s next 3)))
       (first_there next (position + 1) cells rest)
       ∙ ap (λ (items : List Item). item_at h.letters (position + 1) ∷ items)
@@ -106,7 +88,7 @@ module _ (s : State) (l : Lore) (facts : Facts is_fixed s l) (passes : List Mail
       let left : length is.cells ≡ length h.letters - length h.takers = omega (arith, many) in
       let from : length h.takers + 1 ≡ 1 + length h.takers = omega arith in
       ap (λ (x : Field). behind_named s (cell_in x))
-      (named_there 0 h.latest.anchor h.latest.there 0 h.latest.cell h.latest.names)
+      (named_there s l 0 h.latest.anchor h.latest.there 0 h.latest.cell h.latest.names)
       ∙ rest_there h.latest.cell (length h.takers) is.cells most_items is.follow
       (omega (arith, many, few))
       ∙ ap (λ (n : ℕ). mapped (item_at h.letters) (range_with_len (length h.takers + 1) n)) left

@@ -4,14 +4,9 @@ use Rattle.std.specs.Prelude.{ℕ, zero, suc, nat_le, if◌then◌else◌, List,
 use Rattle.std.specs.Prelude.{None}
 use Rattle.cell_words.specs.declared.fields.Field.{Field}
 use Rattle.cell_words.specs.declared.fields.Field.TheVariants as field
+use Rattle.closed_heap.specs.Words.{number_in}
 use Rattle.core_machine.specs.State.{State, field_of}
 use Rattle.mail_rule.specs.declared.items.Item.{Item}
-
--- the number that a field is, and 0 where it is none
-abbrev pub number_in : Field → ℕ
-number_in field.Null = 0
-number_in (field.Num n) = n
-number_in (field.Cell c) = 0
 
 -- the cell that a field names
 abbrev pub cell_in : Field → Option ℕ

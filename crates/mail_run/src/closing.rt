@@ -8,9 +8,8 @@ ghost use Rattle.mail_threads.specs.Workers.{AllDone, AllReady, HasReceived, IsW
 ghost use Rattle.mail_run.specs.Closed.{IsClosed};
 ghost use Rattle.mail_run.specs.Comes.{lines_in};
 
-use crate::at_work::MailAtWork;
 use crate::closed::Closed;
-use beside_collector::{run_beside, serve_after};
+use beside_collector::{Doing, run_beside, serve_after};
 use cell_heap::ColSeat;
 use cell_mailbox::{Item, MailPass};
 use heap_table::CellHeap;
@@ -92,7 +91,7 @@ pub(crate) fn run_opened<R: Threads + Wait + Sync>(
             × (length result.0.items ≡ length senders.items)
             × HasReceived at.entry.now number lines result.1 }
     { run_all(rt, at, hints, scripts, lines, number, senders, receiver) };
-    let work = MailAtWork { run };
+    let work = Doing { run };
     let (done, seat, standby) = run_beside(alloc, rt, at, hints, keeper, cycles, work);
     let (senders, receiver) = done;
     let mut seat = seat;

@@ -2,39 +2,25 @@
 //! names.
 ghost use Rattle.std.specs.Prelude.{◌≡◌, ◌<◌, ◌++◌, ◌∷◌, [], IfNone, IfSome};
 ghost use Rattle.std.specs.Bool.{OnTrue};
+ghost use Rattle.closed_heap.specs.Words.{number_in};
 ghost use Rattle.core_machine.specs.State.{State, field_of};
 ghost use Rattle.heap_table.specs.Images.{Shows};
-ghost use Rattle.mail_run.specs.Rest.{cell_in, item_of, most_items, number_in, rest_in, rest_of};
-ghost use Rattle.mail_run.specs.Rest.{sender_of};
+ghost use Rattle.mail_run.specs.Rest.{cell_in, item_of, most_items, rest_in, rest_of, sender_of};
 
 use cell_heap::Image;
 use cell_mailbox::Item;
 use cell_words::Field;
+use closed_heap::{field_at, number_of};
 
 /// How many items a mailbox has at most: each of 64 mutators sends at most 100,000.
 const MOST: u32 = 6_400_000;
 
-/// A field of a cell, and null where there is no such cell.
-fn field_at(image: &Image, cell: u32, i: usize) -> Field
-    requires { i < 6 }
-    ensures field { (s : State) → Shows image.now s → result ≡ field_of s cell i }
-{
-    if cell < image.cells() {
-        image.field(cell, i)
-    } else {
-        Field::Null
-    }
-}
-
-/// The number that a field is, and 0 where it is none.
+/// The number in a field of a cell, and 0 where none is.
 fn number_at(image: &Image, cell: u32, i: usize) -> u64
     requires { i < 6 }
     ensures number { (s : State) → Shows image.now s → result ≡ number_in (field_of s cell i) }
 {
-    match field_at(image, cell, i) {
-        Field::Num(number) => number,
-        Field::Null | Field::Cell(_) => 0,
-    }
+    number_of(field_at(image, cell, i))
 }
 
 /// The cell that a field names.

@@ -5,11 +5,10 @@
 //! have the positions from 1 on in order, and the item at a position is the line that has it. Items
 //! that nobody took are read off the closed heap.
 //!
-//! Reading order: `finished`, specs/Comes; `at_work`, `closed`, specs/Closed, `closing`;
-//! specs/Rest, `following`; `running`.
+//! Reading order: `finished`, specs/Comes; `closed`, specs/Closed, `closing`; specs/Rest,
+//! `following`; `running`.
 #![tactic(auto)]
 
-mod at_work;
 mod closed;
 mod closing;
 mod finished;
