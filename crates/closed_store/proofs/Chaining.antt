@@ -23,16 +23,16 @@ use Rattle.heap_rule.specs.Facts.{Facts}
 use Rattle.heap_rule.specs.Lore.{Lore, Plain, named_or}
 use Rattle.heap_rule.specs.Shape.{Shape}
 use Rattle.heap_rule.specs.declared.view.View.{View}
+use Rattle.heap_rule.proofs.BoxWords.{box_there, entry_there, named_there, null_there}
+use Rattle.heap_rule.proofs.BoxWords.{number_there}
+use Rattle.heap_rule.proofs.Entries.{num_inj}
 use Rattle.heap_rule.proofs.Maps.{in_map}
 use Rattle.version_rule.specs.Chains.{Chain, Stays, last, more}
 use Rattle.version_rule.specs.Pass.{Pass}
-use Rattle.heap_rule.proofs.Entries.{num_inj}
 use Rattle.version_rule.specs.Versions.{HoldsVersions, IsVersion, is_fixed}
 use Rattle.version_rule.proofs.Passing.{version_of}
 use Rattle.version_rule.proofs.Reached.{only_these}
 use Rattle.heap_rule.proofs.EntryWords.{record_word}
-use Rattle.heap_rule.proofs.BoxWords.{box_there, entry_there, named_there, null_there}
-use Rattle.heap_rule.proofs.BoxWords.{number_there}
 use Rattle.version_rule.proofs.Staying.{chain_stays}
 use Rattle.closed_store.proofs.Anchored.{box_in, from_anchor}
 use Rattle.closed_store.proofs.Denoting.{box_kind, denotes}
