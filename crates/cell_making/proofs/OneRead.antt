@@ -18,7 +18,7 @@ use Rattle.held_places.proofs.Going.{many_held}
 use Rattle.held_places.proofs.Steps.{same_value, was_read}
 use Rattle.mutator_events.specs.Events.{AtEvent}
 use Rattle.mutator_seat.specs.Bound.{Bound, held_cells}
-use Rattle.cell_making.specs.Resting.{HasPass, Loose}
+use Rattle.cell_making.specs.Resting.{HasPass, Loose, Rests}
 use Rattle.cell_making.proofs.Resting.{has_goes, loose_goes}
 
 pub may_read : {P : Type 0} (room : ℕ) (m : Bound P) (place f : ℕ) → Loose room m
@@ -30,6 +30,12 @@ may_read room m place f at there less payload = record {
   payload = payload;
   room = let is = at.room_is in omega (arith, less, is);
 }
+
+pub may_read_anchor : {P : Type 0} (room : ℕ) (m : Bound P) → Rests room m → 1 < room
+    → MayRead m.seat.me 0 0
+may_read_anchor room m at more =
+    may_read room m 0 0 at.loose at.loose.is_in.some
+    (let one = at.alone in omega (arith, one, more)) (omega arith)
 
 module _ {P : Type 0} {holds : Map → List P → Type 0} {fixed : ℕ → Bool} (a b : Bound P)
     (heap : b.heap ≡ a.heap) (table : b.seat.table ≡ a.seat.table) (place f : ℕ)
