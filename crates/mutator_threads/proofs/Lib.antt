@@ -1,0 +1,3 @@
+pub mod FirstRows
+mod Joins
+pub mod Sums
