@@ -1,23 +1,23 @@
 -- The counter at the close: it is the sum of what the four mutators added.
 use Rattle.std.proofs.Common.{◌≡◌, ◌∙◌, ◌+◌, ◌∷◌, ℕ, List, [], Bool, true, false, Option, Some, None}
 use Rattle.std.proofs.Common.{ap, sym, refl, arith, length}
-use Rattle.beside_collector.proofs.AllJoined.{passes_are}
 use Rattle.beside_collector.specs.Freed.{freed_by}
 use Rattle.cell_words.specs.Term.{Term, num, number, part, parts}
+use Rattle.cell_words.specs.declared.controls.Control.{Control}
 use Rattle.cell_words.specs.declared.fields.Field.{Field}
 use Rattle.cell_words.specs.declared.fields.Field.TheVariants as word
 use Rattle.core_machine.specs.State.{State, field_of}
 use Rattle.dlg_core.specs.Reachable.{Reachable, anchor, named}
 use Rattle.heap_rule.specs.Facts.{Facts, TermFits, is_record_kind}
-use Rattle.heap_rule.specs.Laws.{Ended}
+use Rattle.heap_rule.specs.Laws.{ShowsRun}
 use Rattle.heap_rule.specs.Lore.{Entry, Lore, Plain, Terms, entry_of, five_of, named_or, term_of}
-use Rattle.heap_rule.specs.Moves.{joined_view}
 use Rattle.heap_rule.specs.NoRule.{no_field_is_fixed}
 use Rattle.heap_rule.specs.Shape.{Shape}
 use Rattle.heap_rule.specs.declared.view.View.{View}
-use Rattle.heap_table.specs.Images.{ImageView, Shows}
-use Rattle.shared_counter.specs.Counting.{Counts, number_behind, number_in, number_record}
-use Rattle.shared_counter.specs.Counting.{sum_of}
+use Rattle.heap_table.specs.Images.{ImageView}
+use Rattle.mutator_threads.specs.Closing.{IsClosed}
+use Rattle.shared_counter.specs.Counting.{Counts, nothing_added, number_behind, number_in}
+use Rattle.shared_counter.specs.Counting.{number_record, sum_of}
 use Rattle.shared_counter.specs.Leaving.{Leaves}
 use Rattle.shared_counter.specs.declared.counter.Added.{Added}
 use Rattle.shared_counter.proofs.Anchors.{named_term}
@@ -76,41 +76,35 @@ module _ (s : State) (l : Lore) (facts : Facts no_field_is_fixed s l) where
       )
 
 -- The seats of all mutators were joined, and the heap was closed.
-module _ (h : Shape) (image : ImageView) (v w t0 t1 t2 t3 : View Added) (a b c d : ℕ)
-    (many : length v.places ≡ 4) (mutators : h.mutators ≡ 4)
-    (n0 : t0.number ≡ 0) (n1 : t1.number ≡ 1) (n2 : t2.number ≡ 2) (n3 : t3.number ≡ 3)
-    (p0 : t0.pass ≡ record { sum = a }) (p1 : t1.pass ≡ record { sum = b })
-    (p2 : t2.pass ≡ record { sum = c }) (p3 : t3.pass ≡ record { sum = d })
-    (all : w ≡ joined_view (joined_view (joined_view (joined_view v t0) t1) t2) t3)
-    (e : Ended (λ number setting. record { sum = 0 }) Counts no_field_is_fixed h (Unit {0})
-    image.words w)
-  where
-    -- the passes sum to what they have added
-    summed : sum_of e.shows.passes ≡ a + b + c + d
-    summed =
-        ap sum_of (passes_are h image.words v w (t0 ∷ t1 ∷ t2 ∷ t3 ∷ []) many mutators
-        (n0, (n1, (n2, (n3, tt)))) all e)
-        ∙ (λ i. (p0 i).sum + ((p1 i).sum + ((p2 i).sum + ((p3 i).sum + 0)))) ∙ omega arith
+module _ (h : Shape) (image : ImageView) (was view : View Added) (a b c d : ℕ)
+    (passes : List Added) (left : passes ≡ record { sum = a } ∷ record { sum = b }
+    ∷ record { sum = c } ∷ record { sum = d } ∷ []) (mutators : h.mutators ≡ 4)
+    (closed : IsClosed nothing_added Counts no_field_is_fixed h was passes image view) where
+  abbrev shown : ShowsRun nothing_added Counts no_field_is_fixed h closed.ended.at
+  shown = closed.ended.shows
 
-    -- and so the anchor names the record of that number
-    counted : (cell : ℕ) × ((field_of e.shows.core 0 0 ≡ word.Cell cell)
-        × (field_of e.shows.core cell 0 ≡ word.Num (a + b + c + d)))
-    counted =
-        counter_from e.shows.core e.shows.lore e.shows.facts (a + b + c + d)
-        (field_of e.shows.core 0 0) refl
-        (counter_is e.shows.core e.shows.lore e.shows.passes e.shows.kept
-        ∙ ap (λ (n : ℕ). Plain (number_record n)) summed)
+  -- the passes sum to what they have added
+  summed : sum_of shown.passes ≡ a + b + c + d
+  summed = ap sum_of (closed.passes_are ∙ left) ∙ omega arith
 
-    pub leaves : v.control.duty ≡ false → Shows image e.shows.core
-        → Leaves h.cells (a + b + c + d) (freed_by v.trail) image w
-    leaves off shows = record {
-      shape = h;
-      cells_are = refl;
-      mutators_are = mutators;
-      ended = e;
-      shows = shows;
-      counter = ap (number_behind e.shows.core) counted.1.0 ∙ ap number_in counted.1.1;
-      summed = summed;
-      freed_are = ap (λ (x : View Added). freed_by x.trail) all;
-      off_duty = ap (λ (x : View Added). x.control.duty) all ∙ off;
-    }
+  -- and so the anchor names the record of that number
+  counted : (cell : ℕ) × ((field_of shown.core 0 0 ≡ word.Cell cell)
+      × (field_of shown.core cell 0 ≡ word.Num (a + b + c + d)))
+  counted =
+      counter_from shown.core shown.lore shown.facts (a + b + c + d) (field_of shown.core 0 0) refl
+      (counter_is shown.core shown.lore shown.passes shown.kept
+      ∙ ap (λ (n : ℕ). Plain (number_record n)) summed)
+
+  pub leaves : was.control.duty ≡ false
+      → Leaves h.cells (a + b + c + d) (freed_by was.trail) image view
+  leaves off = record {
+    shape = h;
+    cells_are = refl;
+    mutators_are = mutators;
+    ended = closed.ended;
+    shows = closed.shows;
+    counter = ap (number_behind shown.core) counted.1.0 ∙ ap number_in counted.1.1;
+    summed = summed;
+    freed_are = ap freed_by closed.trail_is;
+    off_duty = ap (λ (k : Control). k.duty) closed.control_is ∙ off;
+  }

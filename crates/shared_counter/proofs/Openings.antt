@@ -12,8 +12,7 @@ use Rattle.heap_rule.specs.Shape.{Shape}
 use Rattle.heap_rule.proofs.Claiming.{put_other}
 use Rattle.heap_rule.proofs.Maps.{in_map}
 use Rattle.heap_table.specs.Opening.{Opens, opening_state}
-use Rattle.shared_counter.specs.Counting.{Counts, number_record}
-use Rattle.shared_counter.specs.declared.counter.Added.{Added}
+use Rattle.shared_counter.specs.Counting.{Counts, nothing_added, number_record}
 
 abbrev rows : List (List Field)
 rows =
@@ -36,9 +35,6 @@ firsts zero = refl
 firsts (suc zero) = (refl, plain_field)
 firsts (suc (suc k)) = put_other (λ x. None) 1 (Some (number_record 0)) (suc (suc k))
     (λ e. omega (arith, e))
-
-abbrev nothing_added : ℕ → ℕ → Added
-nothing_added number setting = record { sum = 0 }
 
 abbrev shape_of : ℕ → Shape
 shape_of cells = record { cells = cells; mutators = 4; setting = 0; first = rows }

@@ -1,6 +1,6 @@
 -- The counter's rule over boxes: what it says of the anchor, and that it stands behind an exchange.
-use Rattle.std.proofs.Common.{◌≡◌, ◌∙◌, ◌+◌, ◌∷◌, ℕ, zero, suc, List, [], Bool, true, false, Option}
-use Rattle.std.proofs.Common.{Some, None, ap, sym, subst, refl, arith, slice_set}
+use Rattle.std.proofs.Common.{◌≡◌, ◌∙◌, ◌+◌, ◌∷◌, ℕ, List, [], Bool, true, false, Option}
+use Rattle.std.proofs.Common.{Some, None, ap, sym, subst, refl, slice_set}
 use Rattle.std.specs.Prelude.{slice_index_or}
 use Rattle.std.proofs.lemmas.Bool.{eqb-true}
 use mathlib.Core.Option.{some}
@@ -24,19 +24,10 @@ use Rattle.heap_rule.specs.declared.known.Known.TheVariants as knows
 use Rattle.heap_rule.specs.declared.view.View.{View}
 use Rattle.heap_rule.proofs.Maps.{in_map, of_map}
 use Rattle.heap_rule.proofs.Reading.{cell_there}
+use Rattle.mutator_threads.proofs.Sums.{sum_grows}
 use Rattle.promotion.proofs.Filling.{known_now, reveals_nothing}
 use Rattle.shared_counter.specs.Counting.{Counts, adding, number_record, one_more, sum_of}
 use Rattle.shared_counter.specs.declared.counter.Added.{Added}
-
--- one pass that grows by one lets the sum grow by one
-sum_set : (passes : List Added) (i : ℕ) (p : Added) → get_elem? passes i ≡ some p
-    → sum_of (slice_set passes i record { sum = p.sum + 1 }) ≡ sum_of passes + 1
-sum_set [] i p h = absurd cc
-sum_set (x ∷ xs) zero p h =
-    let same : x ≡ p = cc in
-    let sums : x.sum ≡ p.sum = ap (λ (a : Added). a.sum) same in
-    omega (arith, sums)
-sum_set (x ∷ xs) (suc i) p h = let rest = sum_set xs i p h in omega (arith, rest)
 
 pub is_cell_of : (x : Field) (c : ℕ) → same_field x (word.Cell c) ≡ true → x ≡ word.Cell c
 is_cell_of word.Null c h = absurd cc
@@ -71,7 +62,8 @@ added s l passes i count c d p true made pass kind old new kept =
     let is : count ≡ sum_of passes =
     ap entry_number (sym there ∙ counter_is s l passes kept) in
     let more : count + 1 ≡ sum_of (slice_set passes i record { sum = p.sum + 1 }) =
-    ap (λ (n : ℕ). n + 1) is ∙ sym (sum_set passes i p pass) in
+    ap (λ (n : ℕ). n + 1) is
+    ∙ sym (sum_grows (λ (x : Added). x.sum) passes i p record { sum = p.sum + 1 } pass refl) in
     let e = entry_of l.terms (word.Cell d) in
     subst (λ (m : Map). Counts (written_map m 0 0 e)
     (slice_set passes i record { sum = p.sum + 1 })) (sym (reveals_nothing s l d kind)) record {

@@ -1,14 +1,16 @@
--- What a thread knows of its mutator between two calls.
+-- What a thread has before it begins, and knows of its mutator between two calls.
 -- Source: this project's.
-use Rattle.std.specs.Prelude.{ℕ, ◌≡◌, ◌≤◌, ◌+◌, true, false, List, [], ◌∷◌, length}
-use Rattle.cell_words.specs.declared.controls.Stage.TheVariants as stage
+use Rattle.std.specs.Prelude.{ℕ, ◌≡◌, ◌≤◌, ◌+◌, true, List, [], ◌∷◌}
+use Rattle.free_cells.specs.declared.queue.FreeQueue.{FreeQueue}
 use Rattle.heap_rule.specs.declared.known.Known.{Known}
 use Rattle.heap_rule.specs.declared.known.Known.TheVariants as knows
-use Rattle.heap_table.specs.Seats.{HeapId, IsSeatOf, SeatView}
+use Rattle.heap_table.specs.Seats.{HeapId, SeatView}
 use Rattle.mutator_events.specs.declared.values.Value.{Value}
 use Rattle.mutator_events.specs.declared.values.Value.TheVariants as values
 use Rattle.mutator_seat.specs.Bound.{Bound, held_cells}
+use Rattle.mutator_threads.specs.Mutators.{IsOver, IsWorker}
 use Rattle.shared_counter.specs.declared.counter.Added.{Added}
+use Rattle.shared_counter.specs.declared.running.Adder.{Adder}
 use Rattle.shared_counter.specs.Counting.{number_record}
 
 -- it is in, and holds the anchor and then these cells, of which it knows this
@@ -62,31 +64,12 @@ IfNumber (values.Held place) A B = B
 
 -- it is over, and has added so much
 pub record IsDone (heap : HeapId) (number sum : ℕ) (seat : SeatView Added) : Type 0 where
-  pub seat_is : IsSeatOf heap seat
-  pub number_is : seat.me.number ≡ number
-  pub over : seat.me.presence.over ≡ true
+  pub is_over : IsOver heap number seat
   pub pass_is : seat.me.pass ≡ record { sum = sum }
   pub few : sum ≤ 4294967295
 
--- it was just split off
-pub record IsNew (heap : HeapId) (number : ℕ) (seat : SeatView Added) : Type 0 where
-  pub seat_is : IsSeatOf heap seat
-  pub number_is : seat.me.number ≡ number
-  pub room : seat.me.room ≡ 8
-  pub out : seat.me.presence.inside ≡ false
-  pub not_over : seat.me.presence.over ≡ false
-  pub pass_is : seat.me.pass ≡ record { sum = 0 }
-
--- a heap with the counter was opened, and the seats of its four mutators are split off
-pub record IsOpened (heap : HeapId) (collector first second third fourth : SeatView Added)
-    : Type 0 where
-  pub collector_is : IsSeatOf heap collector
-  pub four_mutators : heap.shape.mutators ≡ 4
-  pub four_places : length collector.me.places ≡ 4
-  pub collector_idle : collector.me.control.stage ≡ stage.Idle
-  pub no_cycles : collector.me.control.cycles ≡ 0
-  pub no_events : collector.me.trail ≡ []
-  pub first_new : IsNew heap 0 first
-  pub second_new : IsNew heap 1 second
-  pub third_new : IsNew heap 2 third
-  pub fourth_new : IsNew heap 3 fourth
+-- who adds has a private heap of one record besides
+pub record IsAdder (heap : HeapId) (queue : FreeQueue) (number : ℕ) (adder : Adder) : Type 0 where
+  pub worker : IsWorker heap queue number 8 (record { sum = 0 }) adder.worker
+  pub minor : adder.nursery.minor.room ≡ 1
+  pub promoter : adder.nursery.promoter ≡ 1

@@ -1,7 +1,7 @@
 -- A counter in a box: field 0 of the anchor names a record, whose field 0 is a number. The rule is
 -- that it is the sum of what the mutators have added.
 -- Source: this project's.
-use Rattle.std.specs.Prelude.{ℕ, ◌≡◌, ◌+◌, Bool, true, false, List, [], ◌∷◌, Option, Some, None}
+use Rattle.std.specs.Prelude.{ℕ, ◌≡◌, ◌+◌, Bool, true, false, List, Option, Some, None, sum_by}
 use Rattle.std.proofs.Common.{◌∙◌}
 use Rattle.cell_words.specs.Term.{Term, five, null, num}
 use Rattle.cell_words.specs.declared.fields.Field.{Field}
@@ -13,13 +13,16 @@ use Rattle.heap_rule.specs.Lore.{Plain, was_made}
 use Rattle.heap_rule.specs.declared.known.Learned.{Learned}
 use Rattle.shared_counter.specs.declared.counter.Added.{Added}
 
+-- the pass of a mutator at the start
+abbrev pub nothing_added : ℕ → ℕ → Added
+nothing_added number setting = record { sum = 0 }
+
 -- the record of a number
 abbrev pub number_record : ℕ → Term
 number_record n = five (num n) null null null null
 
 abbrev pub sum_of : List Added → ℕ
-sum_of [] = 0
-sum_of (pass ∷ passes) = pass.sum + sum_of passes
+sum_of passes = sum_by (λ (pass : Added). pass.sum) passes
 
 -- the anchor's field 0 stands for the record of the number that the passes sum to
 pub record Counts (map : Map) (passes : List Added) : Type 0 where

@@ -1,4 +1,3 @@
 pub mod Adding
 pub mod Counting
 pub mod Leaving
-pub mod Working

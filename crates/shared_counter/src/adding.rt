@@ -2,8 +2,9 @@
 //! promotes it, and exchanges the one that the anchor names.
 ghost use Rattle.std.specs.Prelude.{◌≡◌, ◌<◌, ◌≤◌, ◌+◌, IfNone, IfSome, true};
 ghost use Rattle.std.specs.Bool.{OnFalse, OnTrue};
+ghost use Rattle.mutator_threads.specs.Mutators.{IsNew};
 ghost use Rattle.shared_counter.specs.Adding.{Adds, HoldsCount, HoldsNext, HoldsSome};
-ghost use Rattle.shared_counter.specs.Adding.{IfHeld, IfNumber, IsDone, IsNew, Loose, Rests};
+ghost use Rattle.shared_counter.specs.Adding.{IfHeld, IfNumber, IsDone, Loose, Rests};
 
 use crate::counter::Added;
 use free_cells::Hints;
@@ -27,7 +28,7 @@ pub struct Nursery {
 
 /// The mutator of the seat, in.
 fn come_in<'a>(heap: &'a CellHeap<Added>, seat: MutSeat<Added>) -> Mutator<'a, Added>
-    requires new { IsNew heap.now seat.me.number seat }
+    requires new { IsNew heap.now seat.me.number 8 (record { sum = 0 }) seat }
     ensures rests { Rests result }
     ensures heap { result.heap ≡ heap.now }
     ensures number { result.seat.me.number ≡ seat.me.number }
@@ -199,7 +200,7 @@ pub(crate) fn work<R: Wait>(
     nursery: Nursery,
     tries: u32,
 ) -> (MutSeat<Added>, u64)
-    requires new { IsNew heap.now seat.me.number seat }
+    requires new { IsNew heap.now seat.me.number 8 (record { sum = 0 }) seat }
     requires minor { nursery.minor.room ≡ 1 }
     requires promoter { nursery.promoter ≡ 1 }
     ensures done { IsDone heap.now seat.me.number result.1 result.0 }

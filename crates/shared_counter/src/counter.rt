@@ -1,6 +1,6 @@
 //! The rule: the counter is the sum of what the mutators have added.
 ghost use Rattle.heap_rule.specs.NoRule.{no_field_is_fixed};
-ghost use Rattle.shared_counter.specs.Counting.{Counts, counts_on};
+ghost use Rattle.shared_counter.specs.Counting.{Counts, counts_on, nothing_added};
 
 use heap_rule::Keeping;
 
@@ -11,7 +11,7 @@ pub struct Added {
 }
 
 impl Keeping for Added {
-    ghost opening = { λ number setting. record { sum = 0 } };
+    ghost opening = { nothing_added };
 
     ghost holds = { Counts };
 

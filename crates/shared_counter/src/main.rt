@@ -6,11 +6,11 @@
 //! rule of the client, `counter`, says that the counter is the sum of what the mutators have added;
 //! from the passes at the close it is proved that this is what the threads count on their own.
 //!
-//! How a thread is made for the collector is told in beside_collector, whose `run_counting` is called
-//! in `whole`.
+//! What is the same under any rule stands in mutator_threads: how a heap with four mutators opens,
+//! how four threads are made beside the collector's, and how the heap closes.
 //!
-//! Reading order: `counter`, specs/Counting, `adding`, specs/Adding, `closing`, specs/Working,
-//! `running`, specs/Leaving, `whole`, `main`.
+//! Reading order: `counter`, specs/Counting, `adding`, specs/Adding, `running`, `closing`,
+//! specs/Leaving, `whole`, `main`.
 #![tactic(auto)]
 
 mod adding;

@@ -1,37 +1,24 @@
 //! The whole run: a heap is opened, four threads add beside the collector, and it is closed.
-ghost use Rattle.std.specs.Prelude.{◌≡◌, ◌<◌, IfOk, Some};
-ghost use Rattle.core_machine.specs.State.{State, field_of};
+ghost use Rattle.std.specs.Prelude.{◌≡◌, IfOk, Some};
+ghost use Rattle.core_machine.specs.State.{State};
 ghost use Rattle.heap_table.specs.Images.{Shows};
+ghost use Rattle.shared_counter.specs.Adding.{IsAdder, IsDone};
 ghost use Rattle.shared_counter.specs.Counting.{counter_in, number_in};
 ghost use Rattle.shared_counter.specs.Leaving.{Leaves};
-ghost use Rattle.shared_counter.specs.Working.{AreDone, AreWorkers};
 
-use crate::closing::{Done, Opened, close_four, open_four};
+use crate::closing::{Done, close_counter, open_counter};
 use crate::counter::Added;
-use crate::running::{Worker, add_all, nursery};
-use beside_collector::{Doing, Keeper, begin_duty, run_counting};
+use crate::running::{Adder, add, nursery};
 use cell_heap::{Image, NoMemory, Passes};
-use cell_words::{Field, GREATEST_CYCLES};
-use collector::MarkStack;
-use free_cells::FreeQueue;
+use cell_words::Field;
+use closed_heap::field_at;
+use mutator_threads::{OnFour, Opened, run_four};
 use std::alloc::Global;
 use std::sync::Wait;
 use std::thread::Threads;
 
 /// How many cells there are: far fewer than the records that the threads make.
 const CELLS: u32 = 64;
-
-/// A field of a cell, and null where there is no such cell.
-fn field_at(image: &Image, cell: u32, i: usize) -> Field
-    requires { i < 6 }
-    ensures field { (s : State) → Shows image.now s → result ≡ field_of s cell i }
-{
-    if cell < image.cells() {
-        image.field(cell, i)
-    } else {
-        Field::Null
-    }
-}
 
 /// The number that a field is.
 fn number_of(field: Field) -> Option<u64>
@@ -72,74 +59,45 @@ pub(crate) fn run<R: Threads + Wait + Sync>(alloc: Global, rt: &R) -> Result<Ran
     ensures leaves { IfOk result (λ ran. Leaves 64 ran.sum ran.freed ran.image ran.passes) }
     ensures counter { IfOk result (λ ran. ran.counter ≡ Some ran.sum) }
 {
-    let (queue, mut pass) = FreeQueue::open(alloc, rt, CELLS, 2)?;
-    let passes = (
-        queue.split(&mut pass)?,
-        queue.split(&mut pass)?,
-        queue.split(&mut pass)?,
-        queue.split(&mut pass)?,
-    );
-    let stack = MarkStack::with_room(alloc, 8)?;
-    let nurseries = (
-        nursery(alloc)?,
-        nursery(alloc)?,
-        nursery(alloc)?,
-        nursery(alloc)?,
-    );
-    let opened = open_four(alloc, CELLS)?;
+    let opened = open_counter(alloc, rt, CELLS)?;
     let Opened {
         heap,
-        mut collector,
+        queue,
+        keeper,
         first,
         second,
         third,
         fourth,
     } = opened;
-    let first = Worker {
-        seat: first,
-        pass,
-        nursery: nurseries.0,
-    };
-    let second = Worker {
-        seat: second,
-        pass: passes.0,
-        nursery: nurseries.1,
-    };
-    let third = Worker {
-        seat: third,
-        pass: passes.1,
-        nursery: nurseries.2,
-    };
-    let fourth = Worker {
-        seat: fourth,
-        pass: passes.2,
-        nursery: nurseries.3,
-    };
-    begin_duty(&heap, GREATEST_CYCLES, &mut collector);
-    let keeper = Keeper {
-        seat: collector,
-        stack,
-        pass: passes.3,
-    };
     let at = &heap;
     let hints = &queue;
-    let run = move || -> ((Done, Done), (Done, Done))
-        requires { AreWorkers at.now hints.now first second third fourth }
-        ensures { AreDone at.entry.now result }
-    { add_all(rt, at, hints, first, second, third, fourth) };
-    let work = Doing { run };
-    let (done, collector, _standby, freed) = run_counting(
-        alloc,
-        rt,
-        at,
-        hints,
-        keeper,
-        GREATEST_CYCLES,
-        work,
-    );
+    let each = move |number: u32, adder: Adder| -> Done
+        requires { IsAdder at.now hints.now number adder }
+        ensures { IsDone at.entry.now number result.1 result.0 }
+    { add(rt, at, hints, number, adder) };
+    let work = OnFour {
+        first: Adder {
+            worker: first,
+            nursery: nursery(alloc)?,
+        },
+        second: Adder {
+            worker: second,
+            nursery: nursery(alloc)?,
+        },
+        third: Adder {
+            worker: third,
+            nursery: nursery(alloc)?,
+        },
+        fourth: Adder {
+            worker: fourth,
+            nursery: nursery(alloc)?,
+        },
+        each,
+    };
+    let (done, collector, freed) = run_four(alloc, rt, at, hints, keeper, work);
     let ((first, second), (third, fourth)) = done;
     let sum = first.1 + second.1 + third.1 + fourth.1;
-    let (image, passes) = close_four(heap, collector, first, second, third, fourth);
+    let (image, passes) = close_counter(heap, collector, first, second, third, fourth);
     let counter = counter_of(&image);
     Ok(Ran {
         image,
