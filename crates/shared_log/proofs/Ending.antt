@@ -3,25 +3,26 @@ use Rattle.std.proofs.Common.{◌≡◌, ◌<◌, ◌∙◌, ◌+◌, ◌∷◌,
 use Rattle.std.proofs.Common.{ap, sym, refl, arith, false, length}
 use mathlib.Core.Option.{some}
 use lib.ListN.{get_elem?}
-use Rattle.beside_collector.proofs.AllJoined.{pass_at, passes_are}
 use Rattle.beside_collector.specs.Freed.{freed_by}
 use Rattle.cell_words.specs.Term.{null, num}
+use Rattle.cell_words.specs.declared.controls.Control.{Control}
 use Rattle.cell_words.specs.declared.fields.Field.{Field}
 use Rattle.cell_words.specs.declared.fields.Field.TheVariants as word
 use Rattle.core_machine.specs.State.{State, field_of}
 use Rattle.heap_rule.specs.Boxes.{boxes_of, payload_of}
 use Rattle.heap_rule.specs.Facts.{Facts}
-use Rattle.heap_rule.specs.Laws.{Ended}
+use Rattle.heap_rule.specs.Laws.{ShowsRun}
 use Rattle.heap_rule.specs.Lore.{Lore, Named, Plain}
-use Rattle.heap_rule.specs.Moves.{joined_view}
 use Rattle.heap_rule.specs.Shape.{Shape}
 use Rattle.heap_rule.specs.declared.view.View.{View}
 use Rattle.heap_rule.proofs.Entries.{same_entry}
 use Rattle.heap_rule.proofs.EntryWords.{null_word, number_word}
 use Rattle.heap_rule.proofs.Maps.{In, entry_names, in_map, of_map}
-use Rattle.heap_table.specs.Images.{ImageView, Shows}
+use Rattle.heap_table.specs.Images.{ImageView}
+use Rattle.mutator_threads.specs.Closing.{IsClosed}
 use Rattle.shared_log.specs.Leaving.{Counts, Leaves, LogFrom, all_of, boxes_from}
-use Rattle.shared_log.specs.Logging.{Chain, HasNumber, KeepsLog, entries_of, is_fixed, sum_of}
+use Rattle.shared_log.specs.Logging.{Chain, HasNumber, KeepsLog, entries_of, is_fixed}
+use Rattle.shared_log.specs.Logging.{nothing_appended, sum_of}
 use Rattle.shared_log.specs.declared.log.Appended.{Appended}
 use Rattle.shared_log.proofs.Picks.{anchor_entry}
 
@@ -72,53 +73,43 @@ module _ (s : State) (l : Lore) (facts : Facts is_fixed s l) where
       (entry_names l.terms (field_of s 0 0) h.newest (anchor_entry s l passes h ∙ h.names)) h.chain
 
 -- The seats of all mutators were joined, and the heap was closed.
-module _ (h : Shape) (image : ImageView) (v w t0 t1 t2 t3 : View Appended) (counts : Counts)
-    (many : length v.places ≡ 4) (mutators : h.mutators ≡ 4)
-    (n0 : t0.number ≡ 0) (n1 : t1.number ≡ 1) (n2 : t2.number ≡ 2) (n3 : t3.number ≡ 3)
-    (p0 : t0.pass ≡ record { count = counts.first })
-    (p1 : t1.pass ≡ record { count = counts.second })
-    (p2 : t2.pass ≡ record { count = counts.third })
-    (p3 : t3.pass ≡ record { count = counts.fourth })
-    (all : w ≡ joined_view (joined_view (joined_view (joined_view v t0) t1) t2) t3)
-    (e : Ended (λ number setting. record { count = 0 }) KeepsLog is_fixed h (Unit {0})
-    image.words w)
-  where
-    abbrev seats : List (View Appended)
-    seats = t0 ∷ t1 ∷ t2 ∷ t3 ∷ []
+module _ (h : Shape) (image : ImageView) (was view : View Appended) (counts : Counts)
+    (passes : List Appended) (left : passes ≡ record { count = counts.first }
+    ∷ record { count = counts.second } ∷ record { count = counts.third }
+    ∷ record { count = counts.fourth } ∷ []) (mutators : h.mutators ≡ 4)
+    (closed : IsClosed nothing_appended KeepsLog is_fixed h was passes image view) where
+  abbrev shown : ShowsRun nothing_appended KeepsLog is_fixed h closed.ended.at
+  shown = closed.ended.shows
 
-    abbrev log : KeepsLog (boxes_of e.shows.core e.shows.lore) e.shows.passes
-    log = e.shows.kept
+  abbrev log : KeepsLog (boxes_of shown.core shown.lore) shown.passes
+  log = shown.kept
 
-    many_are : length log.writers ≡ all_of counts
-    many_are = log.many
-        ∙ ap sum_of (passes_are h image.words v w seats many mutators (n0, (n1, (n2, (n3, tt)))) all e)
-        ∙ (λ i. (p0 i).count + ((p1 i).count + ((p2 i).count + ((p3 i).count + 0)))) ∙ omega arith
+  many_are : length log.writers ≡ all_of counts
+  many_are = log.many ∙ ap sum_of (closed.passes_are ∙ left) ∙ omega arith
 
-    by : (i : ℕ) (t : View Appended) (n : ℕ) → get_elem? seats i ≡ some t
-        → t.pass ≡ record { count = n } → entries_of i log.writers ≡ n
-    by i t n there is =
-        let pass = pass_at h image.words v w seats many mutators (n0, (n1, (n2, (n3, tt)))) all e i t
-        there in
-        sym (log.own i t.pass pass) ∙ ap (λ (p : Appended). p.count) is
+  by : (i n : ℕ) → get_elem? passes i ≡ some record { count = n } → entries_of i log.writers ≡ n
+  by i n at =
+      sym (log.own i record { count = n }
+      (ap (λ (ps : List Appended). get_elem? ps i) closed.passes_are ∙ at))
 
-    pub leaves : v.control.duty ≡ false → Shows image e.shows.core
-        → Leaves h.cells counts (freed_by v.trail) image w
-    leaves off shows = record {
-      shape = h;
-      cells_are = refl;
-      mutators_are = mutators;
-      ended = e;
-      shows = shows;
-      writers = log.writers;
-      log = whole_log e.shows.core e.shows.lore e.shows.facts e.shows.passes log;
-      many = many_are;
-      by_first = by 0 t0 counts.first refl p0;
-      by_second = by 1 t1 counts.second refl p1;
-      by_third = by 2 t2 counts.third refl p2;
-      by_fourth = by 3 t3 counts.fourth refl p3;
-      freed_are = ap (λ (x : View Appended). freed_by x.trail) all;
-      off_duty = ap (λ (x : View Appended). x.control.duty) all ∙ off;
-    }
+  pub leaves : was.control.duty ≡ false
+      → Leaves h.cells counts (freed_by was.trail) image view
+  leaves off = record {
+    shape = h;
+    cells_are = refl;
+    mutators_are = mutators;
+    ended = closed.ended;
+    shows = closed.shows;
+    writers = log.writers;
+    log = whole_log shown.core shown.lore shown.facts shown.passes log;
+    many = many_are;
+    by_first = by 0 counts.first (ap (λ (ps : List Appended). get_elem? ps 0) left);
+    by_second = by 1 counts.second (ap (λ (ps : List Appended). get_elem? ps 1) left);
+    by_third = by 2 counts.third (ap (λ (ps : List Appended). get_elem? ps 2) left);
+    by_fourth = by 3 counts.fourth (ap (λ (ps : List Appended). get_elem? ps 3) left);
+    freed_are = ap freed_by closed.trail_is;
+    off_duty = ap (λ (k : Control). k.duty) closed.control_is ∙ off;
+  }
 
 -- A walk along the log, from its newest entry on.
 module _ (s : State) where

@@ -1,6 +1,6 @@
 -- The rule where an entry is appended: the anchor goes from the newest entry to a box that was in
 -- no map before.
-use Rattle.std.proofs.Common.{◌≡◌, ◌≢◌, ◌+◌, ◌∷◌, ℕ, zero, suc, List, [], true, length, Some, None}
+use Rattle.std.proofs.Common.{◌≡◌, ◌≢◌, ◌+◌, ◌∷◌, ℕ, List, true, length, Some, None}
 use Rattle.std.proofs.Common.{slice_set, inl, inr, refl, sym, ◌∙◌, ap, subst, arith, if◌then◌else◌}
 use Rattle.std.proofs.Common.{Bool}
 use Rattle.std.proofs.lemmas.Bool.{eq-eqb, ne_eqb}
@@ -12,19 +12,10 @@ use Rattle.heap_rule.specs.Boxes.{Map, Payload, written_map}
 use Rattle.heap_rule.specs.Lore.{Named, Plain, put}
 use Rattle.heap_rule.proofs.Claiming.{put_here, put_other}
 use Rattle.heap_rule.proofs.Entries.{named_inj, num_inj, same_entry, written_else, written_here}
+use Rattle.mutator_threads.proofs.Sums.{sum_grows}
 use Rattle.shared_log.specs.Logging.{Chain, HasNumber, KeepsLog, entries_of, one_more, sum_of}
 use Rattle.shared_log.specs.Shrinks.{chain_on, has_number}
 use Rattle.shared_log.specs.declared.log.Appended.{Appended}
-
--- one pass that grows by one lets the sum grow by one
-sum_set : (passes : List Appended) (i : ℕ) (p : Appended) → get_elem? passes i ≡ some p
-    → sum_of (slice_set passes i record { count = p.count + 1 }) ≡ sum_of passes + 1
-sum_set [] i p h = absurd cc
-sum_set (x ∷ xs) zero p h =
-    let same : x ≡ p = cc in
-    let counts : x.count ≡ p.count = ap (λ (a : Appended). a.count) same in
-    omega (arith, counts)
-sum_set (x ∷ xs) (suc i) p h = let rest = sum_set xs i p h in omega (arith, rest)
 
 -- an entry is one more of its writer, and of no other
 one_more_of : (writer k : ℕ) (writers : List ℕ) → writer ≡ k
@@ -132,7 +123,7 @@ module _ (map : Map) (passes : List Appended) (h : KeepsLog map passes) (z c num
       newest = z;
       names = refl;
       chain = chain_new;
-      many = (let sum = sum_set passes i pass at in let so_many = h.many in
+      many = (let sum = sum_grows (λ (p : Appended). p.count) passes i pass (one_more true pass) at refl in let so_many = h.many in
           let e : length writers ≡ sum_of (slice_set passes i (one_more true pass)) =
           omega (arith, sum, so_many) in e);
       own = own_new;

@@ -1,9 +1,9 @@
 -- What a thread knows of its mutator between two calls.
 -- Source: this project's.
-use Rattle.std.specs.Prelude.{ℕ, ◌≡◌, ◌≤◌, ◌+◌, true, false, [], length}
-use Rattle.cell_words.specs.declared.controls.Stage.TheVariants as stage
-use Rattle.heap_table.specs.Seats.{HeapId, IsSeatOf, SeatView}
+use Rattle.std.specs.Prelude.{ℕ, ◌≡◌, ◌≤◌, ◌+◌, length}
+use Rattle.heap_table.specs.Seats.{HeapId, SeatView}
 use Rattle.mutator_seat.specs.Bound.{Bound}
+use Rattle.mutator_threads.specs.Mutators.{IsOver}
 use Rattle.cell_making.specs.Resting.{Loose}
 use Rattle.shared_log.specs.Logging.{KnowsEntry, MayAppend}
 use Rattle.shared_log.specs.declared.log.Appended.{Appended}
@@ -31,31 +31,6 @@ pub record Appends (more : ℕ) (old new : Bound Appended) : Type 0 where
 
 -- it is over, and has appended so many
 pub record IsDone (heap : HeapId) (number count : ℕ) (seat : SeatView Appended) : Type 0 where
-  pub seat_is : IsSeatOf heap seat
-  pub number_is : seat.me.number ≡ number
-  pub over : seat.me.presence.over ≡ true
+  pub is_over : IsOver heap number seat
   pub pass_is : seat.me.pass ≡ record { count = count }
   pub few : count ≤ 4294967295
-
--- it was just split off
-pub record IsNew (heap : HeapId) (number : ℕ) (seat : SeatView Appended) : Type 0 where
-  pub seat_is : IsSeatOf heap seat
-  pub number_is : seat.me.number ≡ number
-  pub room : seat.me.room ≡ 8
-  pub out : seat.me.presence.inside ≡ false
-  pub not_over : seat.me.presence.over ≡ false
-  pub pass_is : seat.me.pass ≡ record { count = 0 }
-
--- a heap with an empty log was opened, and the seats of its four mutators are split off
-pub record IsOpened (heap : HeapId) (collector first second third fourth : SeatView Appended)
-    : Type 0 where
-  pub collector_is : IsSeatOf heap collector
-  pub four_mutators : heap.shape.mutators ≡ 4
-  pub four_places : length collector.me.places ≡ 4
-  pub collector_idle : collector.me.control.stage ≡ stage.Idle
-  pub no_cycles : collector.me.control.cycles ≡ 0
-  pub no_events : collector.me.trail ≡ []
-  pub first_new : IsNew heap 0 first
-  pub second_new : IsNew heap 1 second
-  pub third_new : IsNew heap 2 third
-  pub fourth_new : IsNew heap 3 fourth

@@ -2,4 +2,3 @@ pub mod Appending
 pub mod Leaving
 pub mod Logging
 pub mod Shrinks
-pub mod Working

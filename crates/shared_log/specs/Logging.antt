@@ -4,7 +4,7 @@
 -- number is 0.
 -- Source: this project's.
 use Rattle.std.specs.Prelude.{ℕ, ◌≡◌, ◌<◌, ◌+◌, ◌==◌, Bool, true, false, List, [], ◌∷◌, length}
-use Rattle.std.specs.Prelude.{Option, Some, None, if◌then◌else◌, slice_index_or}
+use Rattle.std.specs.Prelude.{Option, Some, None, if◌then◌else◌, slice_index_or, sum_by}
 use mathlib.Core.Option.{some}
 use lib.ListN.{get_elem?}
 use Rattle.cell_words.specs.Term.{Term, null, num}
@@ -18,6 +18,10 @@ use Rattle.heap_rule.specs.declared.known.Known.TheVariants as knows
 use Rattle.heap_rule.specs.declared.known.Learned.{Learned}
 use Rattle.heap_rule.specs.declared.view.View.{View}
 use Rattle.shared_log.specs.declared.log.Appended.{Appended}
+
+-- the pass of a mutator at the start
+abbrev pub nothing_appended : ℕ → ℕ → Appended
+nothing_appended number setting = record { count = 0 }
 
 -- an entry's number is never written
 abbrev pub is_fixed : ℕ → Bool
@@ -55,8 +59,7 @@ Chain map cell (writer ∷ writers) =
     (entry : IsEntry map cell writer writers) × Chain map entry.before writers
 
 abbrev pub sum_of : List Appended → ℕ
-sum_of [] = 0
-sum_of (pass ∷ passes) = pass.count + sum_of passes
+sum_of passes = sum_by (λ (pass : Appended). pass.count) passes
 
 -- The anchor names the newest entry, there are as many as all mutators appended, and each one's are
 -- as many as it appended.

@@ -2,9 +2,9 @@
 //! exchanges the entry that the anchor names.
 ghost use Rattle.std.specs.Prelude.{◌≡◌, ◌<◌, ◌≤◌};
 ghost use Rattle.std.specs.Bool.{OnFalse, OnTrue};
-ghost use Rattle.shared_log.specs.Appending.{Appends, HoldsEntry, HoldsNext, HoldsSome, IsDone};
-ghost use Rattle.shared_log.specs.Appending.{IsNew};
 ghost use Rattle.cell_making.specs.Resting.{Loose, Rests};
+ghost use Rattle.mutator_threads.specs.Mutators.{IsNew};
+ghost use Rattle.shared_log.specs.Appending.{Appends, HoldsEntry, HoldsNext, HoldsSome, IsDone};
 
 use crate::log::Appended;
 use cell_making::fill_box;
@@ -19,7 +19,7 @@ const GREATEST: u64 = 1_000_000;
 
 /// The mutator of the seat, in.
 fn come_in<'a>(heap: &'a CellHeap<Appended>, seat: MutSeat<Appended>) -> Mutator<'a, Appended>
-    requires new { IsNew heap.now seat.me.number seat }
+    requires new { IsNew heap.now seat.me.number 8 (record { count = 0 }) seat }
     ensures rests { Rests 8 result }
     ensures heap { result.heap ≡ heap.now }
     ensures number { result.seat.me.number ≡ seat.me.number }
@@ -176,7 +176,7 @@ pub(crate) fn work<R: Wait>(
     writer: u32,
     tries: u32,
 ) -> (MutSeat<Appended>, u64)
-    requires new { IsNew heap.now writer seat }
+    requires new { IsNew heap.now writer 8 (record { count = 0 }) seat }
     requires small_writer { writer < 4 }
     ensures done { IsDone heap.now writer result.1 result.0 }
 {

@@ -1,6 +1,6 @@
 //! The rule: the log is one chain of boxes, an entry for each append, and the anchor names the
 //! newest.
-ghost use Rattle.shared_log.specs.Logging.{KeepsLog, is_fixed};
+ghost use Rattle.shared_log.specs.Logging.{KeepsLog, is_fixed, nothing_appended};
 ghost use Rattle.shared_log.specs.Shrinks.{log_shrinks};
 
 use heap_rule::Keeping;
@@ -12,7 +12,7 @@ pub struct Appended {
 }
 
 impl Keeping for Appended {
-    ghost opening = { λ number setting. record { count = 0 } };
+    ghost opening = { nothing_appended };
 
     ghost holds = { KeepsLog };
 

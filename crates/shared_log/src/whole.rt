@@ -2,35 +2,23 @@
 ghost use Rattle.std.specs.Prelude.{◌≡◌, ◌<◌, ◌≤◌, ◌+◌, IfOk};
 ghost use Rattle.core_machine.specs.State.{State, field_of};
 ghost use Rattle.heap_table.specs.Images.{Shows};
+ghost use Rattle.mutator_threads.specs.Mutators.{IsWorker};
+ghost use Rattle.shared_log.specs.Appending.{IsDone};
 ghost use Rattle.shared_log.specs.Leaving.{Leaves, boxes_from, four};
-ghost use Rattle.shared_log.specs.Working.{AreDone, AreWorkers};
 
-use crate::closing::{Done, Opened, close_four, open_four};
+use crate::closing::{Done, close_log, open_log};
 use crate::log::Appended;
-use crate::running::{Worker, append_all};
-use beside_collector::{Doing, Keeper, begin_duty, run_counting};
+use crate::running::append;
 use cell_heap::{Image, NoMemory, Passes};
-use cell_words::{Colour, Field, GREATEST_CYCLES};
-use collector::MarkStack;
-use free_cells::FreeQueue;
+use cell_words::{Colour, Field};
+use closed_heap::field_at;
+use mutator_threads::{OnFour, Opened, Worker, run_four};
 use std::alloc::Global;
 use std::sync::Wait;
 use std::thread::Threads;
 
 /// How many cells there are: enough for what the threads append, not for all boxes that they make.
 const CELLS: u32 = 1000;
-
-/// A field of a cell, and null where there is no such cell.
-fn field_at(image: &Image, cell: u32, i: usize) -> Field
-    requires { i < 6 }
-    ensures field { (s : State) → Shows image.now s → result ≡ field_of s cell i }
-{
-    if cell < image.cells() {
-        image.field(cell, i)
-    } else {
-        Field::Null
-    }
-}
 
 /// How many boxes the log has, from the newest entry on, if so many are looked at.
 fn count_boxes(image: &Image, most: u64) -> u64
@@ -88,62 +76,35 @@ pub(crate) fn run<R: Threads + Wait + Sync>(alloc: Global, rt: &R) -> Result<Ran
         ran.sum ≡ ran.counts.0 + ran.counts.1 + ran.counts.2 + ran.counts.3) }
     ensures small { IfOk result (λ ran. ran.sum ≤ 17179869180) }
 {
-    let (queue, mut pass) = FreeQueue::open(alloc, rt, CELLS, 2)?;
-    let passes = (
-        queue.split(&mut pass)?,
-        queue.split(&mut pass)?,
-        queue.split(&mut pass)?,
-        queue.split(&mut pass)?,
-    );
-    let stack = MarkStack::with_room(alloc, 8)?;
-    let opened = open_four(alloc, CELLS)?;
+    let opened = open_log(alloc, rt, CELLS)?;
     let Opened {
         heap,
-        mut collector,
+        queue,
+        keeper,
         first,
         second,
         third,
         fourth,
     } = opened;
-    let first = Worker { seat: first, pass };
-    let second = Worker {
-        seat: second,
-        pass: passes.0,
-    };
-    let third = Worker {
-        seat: third,
-        pass: passes.1,
-    };
-    let fourth = Worker {
-        seat: fourth,
-        pass: passes.2,
-    };
-    begin_duty(&heap, GREATEST_CYCLES, &mut collector);
-    let keeper = Keeper {
-        seat: collector,
-        stack,
-        pass: passes.3,
-    };
     let at = &heap;
     let hints = &queue;
-    let run = move || -> ((Done, Done), (Done, Done))
-        requires { AreWorkers at.now hints.now first second third fourth }
-        ensures { AreDone at.entry.now result }
-    { append_all(rt, at, hints, first, second, third, fourth) };
-    let work = Doing { run };
-    let (done, collector, _standby, freed) = run_counting(
-        alloc,
-        rt,
-        at,
-        hints,
-        keeper,
-        GREATEST_CYCLES,
-        work,
-    );
+    let each = move |number: u32, worker: Worker<Appended>| -> Done
+        requires { (number < 4)
+            × IsWorker at.now hints.now number 8 (record { count = 0 }) worker }
+        ensures { IsDone at.entry.now number result.1 result.0 }
+    { append(rt, at, hints, number, worker) };
+    let work = OnFour {
+        first,
+        second,
+        third,
+        fourth,
+        each,
+    };
+    let (done, collector, freed) = run_four(alloc, rt, at, hints, keeper, work);
     let ((first, second), (third, fourth)) = done;
     let counts = (first.1, second.1, third.1, fourth.1);
     let sum = counts.0 + counts.1 + counts.2 + counts.3;
-    let (image, passes) = close_four(heap, collector, first, second, third, fourth);
+    let (image, passes) = close_log(heap, collector, first, second, third, fourth);
     let boxes = count_boxes(&image, sum + 2);
     let used = count_used(&image);
     Ok(Ran {
