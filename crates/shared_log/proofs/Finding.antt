@@ -129,11 +129,6 @@ module _ (a b : Bound Appended) (heap : b.heap ≡ a.heap) (table : b.seat.table
     };
   }
 
-pub may_read_anchor : (a : Bound Appended) → Rests 8 a → MayRead a.seat.me 0 0
-may_read_anchor a at =
-    may_read 8 a 0 0 at.loose at.loose.is_in.some
-    (let one = at.alone in omega (arith, one)) (omega arith)
-
 -- The number of the entry that is held.
 
 module _ (a b : Bound Appended) (heap : b.heap ≡ a.heap) (table : b.seat.table ≡ a.seat.table)

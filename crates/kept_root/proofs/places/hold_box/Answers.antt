@@ -1,12 +1,13 @@
+use Rattle.std.proofs.Common.{arith}
 use Rattle.heap_rule.specs.NoRule.{no_field_is_fixed}
-use Rattle.cell_making.proofs.OneRead.{reads_none}
+use Rattle.cell_making.proofs.OneRead.{may_read_anchor, reads_none}
 use Rattle.heap_rule.proofs.Picking.{read_picks}
 use Rattle.kept_root.specs.Rule.{HasKept}
-use Rattle.kept_root.proofs.Finding.{holds_box, may_read_anchor, has_of}
+use Rattle.kept_root.proofs.Finding.{holds_box, has_of}
 use Rattle.kept_root.proofs.places.hold_box.Goals as goal
 
 pub read-requires-clause-may : goal.read-requires-clause-may
-read-requires-clause-may c = may_read_anchor c.args.m.now c.requires.rests
+read-requires-clause-may c = may_read_anchor 8 c.args.m.now c.requires.rests (omega arith)
 
 pub read-requires-clause-rule : goal.read-requires-clause-rule
 read-requires-clause-rule c =

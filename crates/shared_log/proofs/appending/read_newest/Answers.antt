@@ -1,11 +1,12 @@
-use Rattle.cell_making.proofs.OneRead.{reads_none}
+use Rattle.std.proofs.Common.{arith}
+use Rattle.cell_making.proofs.OneRead.{may_read_anchor, reads_none}
 use Rattle.heap_rule.proofs.Picking.{read_picks}
 use Rattle.shared_log.specs.Logging.{KeepsLog, is_fixed}
-use Rattle.shared_log.proofs.Finding.{appends_none, holds_newest, may_read_anchor}
+use Rattle.shared_log.proofs.Finding.{appends_none, holds_newest}
 use Rattle.shared_log.proofs.appending.read_newest.Goals as goal
 
 pub read-requires-clause-may : goal.read-requires-clause-may
-read-requires-clause-may c = may_read_anchor c.args.m.now c.requires.rests
+read-requires-clause-may c = may_read_anchor 8 c.args.m.now c.requires.rests (omega arith)
 
 pub read-requires-clause-rule : goal.read-requires-clause-rule
 read-requires-clause-rule c =
