@@ -1,6 +1,6 @@
 -- A heap that opens with two boxes: the anchor, which names the other, and one whose field 0 is
 -- given. No record is among them.
-use Rattle.std.proofs.Common.{◌≡◌, ◌∷◌, ℕ, zero, suc, List, [], Some, None, refl}
+use Rattle.std.proofs.Common.{◌≡◌, ◌∷◌, ℕ, zero, suc, [], Some, None, refl}
 use Rattle.cell_words.specs.declared.fields.Field.{Field}
 use Rattle.cell_words.specs.declared.fields.Field.TheVariants as word
 use Rattle.core_machine.specs.State.{State}
