@@ -79,10 +79,10 @@ fn make_demand<R: Wait>(rt: &R, queue: &FreeQueue, pass: HintPass, waking: Wakin
         Waking::None => 11,
         Waking::Over => 0,
     };
-    let mut taken = 0;
+    let mut taken: u32 = 0;
     for _ in 0..wanted {
         if hints.take(rt).is_some() {
-            taken += 1;
+            taken = taken.saturating_add(1);
         }
     }
     match waking {
