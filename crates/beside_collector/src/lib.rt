@@ -7,9 +7,9 @@
 //! claimed by no clause.
 //!
 //! What the work is, and by what rule the heap's boxes are kept, is left to the caller: `Work` says
-//! under which facts it may begin, and what it comes to. What the thread of a mutator does under any
-//! rule stands here too: `come_in` before its work and `leave` behind it, and between two parts of it
-//! `pause` and `wake`; and `script_at` gives its script.
+//! under which facts it may begin, and what it comes to. What the thread of a mutator does under
+//! any rule stands here too: `come_in` before its work and `leave` behind it, and between two parts
+//! of it `pause` and `wake`; and `script_at` gives its script.
 //!
 //! Reading order: specs/Duty, `duty`; `keeper`, specs/Freed, specs/Serving, `serving`; `work`,
 //! `beside`; specs/Coming, `coming`; specs/Scripts, `script`.

@@ -34,8 +34,8 @@ pub trait Work<P: Keeping> {
 }
 
 /// Work that a closure does: it has all that it needs with it. Only so may that go to threads: a
-/// bound of a trait's method is no promise to another thread, and one of the function that makes the
-/// closure is.
+/// bound of a trait's method is no promise to another thread, and one of the function that makes
+/// the closure is.
 #[derive(Drop)]
 pub struct Doing<F> {
     pub run: F,

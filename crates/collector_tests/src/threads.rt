@@ -21,8 +21,8 @@ use std::thread::{self, Threads};
 
 const CELLS: u32 = 64;
 
-/// The collector serves on duty, unbroken or on demand, beside a mutator that a thousand times makes
-/// a record and drops it.
+/// The collector serves on duty, unbroken or on demand, beside a mutator that a thousand times
+/// makes a record and drops it.
 fn drop_beside<R: Threads + Wait + Sync>(
     rt: &R,
     heap: &CellHeap<NoRule>,

@@ -6,9 +6,9 @@
 //! `Machine` is the state in memory. Its contracts say that a call is exactly one event of those
 //! definitions, and that a call which answers `NotNow` had no such event and changed nothing.
 //!
-//! What holds of every run, as that no reachable cell is free, is not said here. `Machine` asks of its
-//! caller the ranges that its indexing and counting rest on, `InRange`. They hold at the opening,
-//! and every event keeps them.
+//! What holds of every run, as that no reachable cell is free, is not said here. `Machine` asks of
+//! its caller the ranges that its indexing and counting rest on, `InRange`. They hold at the
+//! opening, and every event keeps them.
 //!
 //! Reading order: `events`; specs/State with its parts Own and Collector; the event table in
 //! specs/Operations, Mutation, Handshakes, Tracing, Sweep and Next; specs/Conditions, what each

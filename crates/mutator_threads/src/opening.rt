@@ -30,8 +30,8 @@ pub struct Opened<P: Keeping> {
     pub fourth: Worker<P>,
 }
 
-/// Opens a heap of so many cells, of which the first have the given rows, for four mutators that may
-/// each hold so many cells at a time.
+/// Opens a heap of so many cells, of which the first have the given rows, for four mutators that
+/// may each hold so many cells at a time.
 pub fn open_four<P: Keeping, R: Wait>(
     alloc: Global,
     rt: &R,

@@ -23,8 +23,8 @@ pub struct OnFour<W, F> {
     pub each: F,
 }
 
-/// Runs the four beside the collector, which is on duty meanwhile and off behind. It gives what each
-/// came to, the collector's seat, and how many cells that one freed.
+/// Runs the four beside the collector, which is on duty meanwhile and off behind. It gives what
+/// each came to, the collector's seat, and how many cells that one freed.
 pub fn run_four<
     P: Keeping + Sync,
     W: Send + Drop,

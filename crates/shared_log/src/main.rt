@@ -8,8 +8,8 @@
 //! rule of the client, `log`, says what the chain has of each mutator; from the passes at the close it
 //! is proved that the chain in the closed heap has what the threads count on their own.
 //!
-//! Reading order: `log`, specs/Logging, Shrinks, `appending`, specs/Appending, `running`, `closing`,
-//! specs/Leaving, `whole`, `main`.
+//! Reading order: `log`, specs/Logging, Shrinks, `appending`, specs/Appending, `running`,
+//! `closing`, specs/Leaving, `whole`, `main`.
 #![tactic(auto)]
 
 mod appending;
