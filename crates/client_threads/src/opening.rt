@@ -26,7 +26,6 @@ use free_cells::{FreeQueue, HintPass};
 use heap_table::CellHeap;
 use std::alloc::Global;
 use std::sync::Wait;
-use std::thread::{Threads, join};
 use version_store::opening_rows;
 
 /// How many cells can wait for a look of the collector.
@@ -38,8 +37,8 @@ const FIRST: u32 = 3;
 /// Opens a heap with so many mutators, and a client for each script: theirs are the first mutators,
 /// and the others are still to be split off. The collector is on duty where it may make cycles.
 ///
-/// The queue of hints and the heap are made side by side.
-pub fn open_store<R: Threads + Wait + Sync>(
+/// The queue of hints is made behind the heap, of memory that the making of the heap gave back.
+pub fn open_store<R: Wait>(
     alloc: Global,
     rt: &R,
     scripts: &[Vec<Command>],
@@ -59,21 +58,8 @@ pub fn open_store<R: Threads + Wait + Sync>(
         IsOpenStore cells cycles mutators limits scripts.now made) }
 {
     let keep = limits.keep;
-    let (queue, heap) = join(
-        rt,
-        move || -> Result<(FreeQueue, HintPass), NoMemory>
-            requires { IsSync R.row × (64 ≤ cells) }
-            ensures { IfOk result (λ made. IsHintPass made.0 made.1 × (cells_of made.0 ≡ cells)) }
-        { FreeQueue::open(alloc, rt, cells, FIRST) },
-        move || -> Result<(CellHeap<Documents>, ColSeat<Documents>), NoMemory>
-            requires { (mutators ≤ 64) × (64 ≤ cells) × (cells ≤ 4_194_304)
-                × (1 ≤ keep) × (keep ≤ 100) }
-            ensures { IfOk result (λ made. (made.0.shape ≡ store_shape cells mutators keep)
-                × IsOpenSeat made.0 made.1) }
-        { open_heap(alloc, cells, mutators, keep) },
-    );
-    let (queue, mut pass) = queue?;
-    let (heap, mut seat) = heap?;
+    let (heap, mut seat) = open_heap(alloc, cells, mutators, keep)?;
+    let (queue, mut pass) = FreeQueue::open(alloc, rt, cells, FIRST)?;
     let stack = MarkStack::with_room(alloc, MARKS)?;
     let clients = split_clients(alloc, &heap, &queue, limits, scripts, &mut seat, &mut pass)?;
     begin_duty(&heap, cycles, &mut seat);
