@@ -14,6 +14,14 @@ use crate::second::read_second_script;
 use doc_model::Command;
 use std::alloc::Global;
 
+// So many commands at most get their room at once. A run has no more; the list grows where it has to.
+const MOST_COMMANDS: usize = 100_000;
+
+/// As many as a script of this length may well have.
+pub(crate) fn commands_for(bytes: &[u8]) -> usize {
+    (bytes.len() / 8).min(MOST_COMMANDS)
+}
+
 /// The commands of a script, or its first faulty line. The length has its bound so that the number
 /// of every line fits.
 pub fn read_script(alloc: Global, bytes: &[u8]) -> Result<Vec<Command>, ScriptError>
@@ -32,7 +40,7 @@ fn read_first_script(alloc: Global, bytes: &[u8]) -> Result<Vec<Command>, Script
     requires { length bytes.now < 2 ^ 32 - 1 }
     ensures script { Reads result (first_script_of bytes.now) }
 {
-    let mut commands = Vec::new(alloc);
+    let mut commands = Vec::with_capacity(alloc, commands_for(bytes))?;
     let mut paths = RecentPaths::with_room(alloc, paths_for(bytes))?;
     let mut number = 0;
     for line in bytes.split(|byte| *byte == b'\n') {

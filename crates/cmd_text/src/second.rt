@@ -6,6 +6,7 @@ ghost use Rattle.std.specs.Prelude.{OnOk, length, ◌-◌, ◌<◌, ◌≡◌, �
 use crate::batch::{Batch, Turn, read_turn};
 use crate::fault::{ScriptError, ScriptFault, ScriptKind};
 use crate::recent_paths::{RecentPaths, paths_for};
+use crate::script::commands_for;
 use doc_model::{Command, NoMemory};
 use line_words::cut_line;
 use std::alloc::Global;
@@ -15,7 +16,7 @@ pub(crate) fn read_second_script(alloc: Global, bytes: &[u8]) -> Result<Vec<Comm
     requires { length bytes.now < 2 ^ 32 - 1 }
     ensures { Reads result (second_script_of bytes.now) }
 {
-    let mut commands = Vec::new(alloc);
+    let mut commands = Vec::with_capacity(alloc, commands_for(bytes))?;
     let mut batch = None;
     let mut paths = RecentPaths::with_room(alloc, paths_for(bytes))?;
     let mut number = 1;
