@@ -98,5 +98,5 @@ fn place_of(bytes: &[u8], places: usize) -> usize {
     for byte in bytes {
         mixed = (mixed.rotate_left(5) ^ u64::from(*byte)).wrapping_mul(SPREAD);
     }
-    ((mixed >> 20) % places.max(1) as u64) as usize
+    ((mixed >> 32).wrapping_mul(places as u64) >> 32) as usize
 }
