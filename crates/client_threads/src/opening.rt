@@ -26,6 +26,7 @@ use free_cells::{FreeQueue, HintPass};
 use heap_table::CellHeap;
 use std::alloc::Global;
 use std::sync::Wait;
+use std::thread::{Threads, join};
 use version_store::opening_rows;
 
 /// How many cells can wait for a look of the collector.
@@ -34,11 +35,18 @@ const MARKS: u32 = 65_536;
 /// How many of the first cells the opening of a store takes.
 const FIRST: u32 = 3;
 
+/// A heap of at most so many cells is opened sooner than another thread begins to work.
+const FEW: u32 = 262_144;
+
+/// A heap with its collector's seat.
+type OpenHeap = (CellHeap<Documents>, ColSeat<Documents>);
+
+/// A queue of hints with its only pass.
+type OpenQueue = (FreeQueue, HintPass);
+
 /// Opens a heap with so many mutators, and a client for each script: theirs are the first mutators,
 /// and the others are still to be split off. The collector is on duty where it may make cycles.
-///
-/// The queue of hints is made behind the heap, of memory that the making of the heap gave back.
-pub fn open_store<R: Wait>(
+pub fn open_store<R: Threads + Wait + Sync>(
     alloc: Global,
     rt: &R,
     scripts: &[Vec<Command>],
@@ -57,9 +65,9 @@ pub fn open_store<R: Wait>(
     ensures opened { IfOk result (λ made.
         IsOpenStore cells cycles mutators limits scripts.now made) }
 {
-    let keep = limits.keep;
-    let (heap, mut seat) = open_heap(alloc, cells, mutators, keep)?;
-    let (queue, mut pass) = FreeQueue::open(alloc, rt, cells, FIRST)?;
+    let (heap, queue) = open_both(alloc, rt, cells, mutators, limits.keep)?;
+    let (heap, mut seat) = heap;
+    let (queue, mut pass) = queue;
     let stack = MarkStack::with_room(alloc, MARKS)?;
     let clients = split_clients(alloc, &heap, &queue, limits, scripts, &mut seat, &mut pass)?;
     begin_duty(&heap, cycles, &mut seat);
@@ -71,13 +79,49 @@ pub fn open_store<R: Wait>(
     })
 }
 
-/// The heap of a store for so many mutators, where so many versions stay, and its collector's seat.
-fn open_heap(
+/// The heap of a store with its collector's seat, and the queue of its hints with its only pass. Of
+/// few cells the queue is opened behind the heap, in memory that the heap's opening gave back; of
+/// many, both side by side.
+fn open_both<R: Threads + Wait + Sync>(
     alloc: Global,
+    rt: &R,
     cells: u32,
     mutators: u32,
     keep: u32,
-) -> Result<(CellHeap<Documents>, ColSeat<Documents>), NoMemory>
+) -> Result<(OpenHeap, OpenQueue), NoMemory>
+    requires few { mutators ≤ 64 }
+    requires cells { (64 ≤ cells) × (cells ≤ 4_194_304) }
+    requires keep { (1 ≤ keep) × (keep ≤ 100) }
+    ensures shape { IfOk result (λ made. made.0.0.shape ≡ store_shape cells mutators keep) }
+    ensures seat { IfOk result (λ made. IsOpenSeat made.0.0 made.0.1) }
+    ensures pass { IfOk result (λ made. IsHintPass made.1.0 made.1.1) }
+    ensures hinted { IfOk result (λ made. cells_of made.1.0 ≡ cells) }
+{
+    if cells <= FEW {
+        let heap = open_heap(alloc, cells, mutators, keep)?;
+        let queue = FreeQueue::open(alloc, rt, cells, FIRST)?;
+        return Ok((heap, queue));
+    }
+    let (queue, heap) = join(
+        rt,
+        move || -> Result<OpenQueue, NoMemory>
+            requires { IsSync R.row × (64 ≤ cells) }
+            ensures { IfOk result (λ made. IsHintPass made.0 made.1 × (cells_of made.0 ≡ cells)) }
+        { FreeQueue::open(alloc, rt, cells, FIRST) },
+        move || -> Result<OpenHeap, NoMemory>
+            requires { (mutators ≤ 64) × (64 ≤ cells) × (cells ≤ 4_194_304)
+                × (1 ≤ keep) × (keep ≤ 100) }
+            ensures { IfOk result (λ made. (made.0.shape ≡ store_shape cells mutators keep)
+                × IsOpenSeat made.0 made.1) }
+        { open_heap(alloc, cells, mutators, keep) },
+    );
+    let queue = queue?;
+    let heap = heap?;
+    Ok((heap, queue))
+}
+
+/// The heap of a store for so many mutators, where so many versions stay, and its collector's seat.
+fn open_heap(alloc: Global, cells: u32, mutators: u32, keep: u32) -> Result<OpenHeap, NoMemory>
     requires few { mutators ≤ 64 }
     requires cells { (64 ≤ cells) × (cells ≤ 4_194_304) }
     requires keep { (1 ≤ keep) × (keep ≤ 100) }

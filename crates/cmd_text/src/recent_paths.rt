@@ -31,23 +31,26 @@ impl Place {
     fn find(&self, bytes: &[u8]) -> Result<Option<Path>, NoMemory>
         ensures { IfOk result (λ found. IfSome found (λ path. path_of bytes.now ≡ Some path)) }
     {
-        if let Some(path) = &self.newer {
-            if path.is_of(bytes) {
-                return Ok(Some(path.copy()?));
-            }
+        match copy_of(&self.newer, bytes)? {
+            Some(path) => Ok(Some(path)),
+            None => copy_of(&self.older, bytes),
         }
-        if let Some(path) = &self.older {
-            if path.is_of(bytes) {
-                return Ok(Some(path.copy()?));
-            }
-        }
-        Ok(None)
     }
 
     /// Keeps one more, and lets the older one go.
     fn keep(&mut self, path: Path) {
         self.older = self.newer.take();
         self.newer = Some(path);
+    }
+}
+
+// A copy of this path, if the bytes are it.
+fn copy_of(path: &Option<Path>, bytes: &[u8]) -> Result<Option<Path>, NoMemory>
+    ensures { IfOk result (λ found. IfSome found (λ path. path_of bytes.now ≡ Some path)) }
+{
+    match path {
+        Some(path) if path.is_of(bytes) => Ok(Some(path.copy()?)),
+        _ => Ok(None),
     }
 }
 

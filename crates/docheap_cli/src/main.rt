@@ -12,16 +12,28 @@ use outside::{FileShelf, OpenGate, StdSink};
 use script_files::{Fault, fault_text, final_fault, status};
 use std::env;
 use std::io::{ErrorKind, Write};
+use std::mem::forget;
 use std::process::ExitCode;
 use std::sync::Wait;
 use std::thread::Threads;
 
+// Freed blocks of up to this size serve again.
+const KEPT: usize = 24 << 20;
+
 fn main(rt: HostRuntime) -> ExitCode {
+    keep_freed_memory(&rt);
     let fault = run_on_devices(&rt, &rt);
     if let Some(fault) = &fault {
         say(&rt, fault);
     }
     ExitCode::from(status(fault))
+}
+
+// Has the C library keep what is freed. It hands the system back each freed block above a size, at
+// first 128 KiB, which rises with the largest block that it handed back so far; and memory that the
+// system gives anew costs a fault a page. So a large block of which no byte is touched is freed.
+fn keep_freed_memory(rt: &HostRuntime) {
+    let _block: Result<Vec<u8>, _> = Vec::with_capacity(rt.alloc(), KEPT);
 }
 
 // Runs the program's own words over the real files and standard output, clients in threads.
@@ -40,7 +52,10 @@ fn run_on_devices<R: Threads + Wait + Sync>(rt: &HostRuntime, threads: &R) -> Op
         &mut sink,
         &OpenGate,
     );
-    final_fault(outcome.fault, sink.finish())
+    let fault = outcome.fault;
+    // The process ends next, and all its memory with it: what the run came to is not taken apart.
+    forget(outcome);
+    final_fault(fault, sink.finish())
 }
 
 // The words behind the program's name. One that is no text is a faulty command line.
