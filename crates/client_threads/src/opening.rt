@@ -65,9 +65,7 @@ pub fn open_store<R: Threads + Wait + Sync>(
     ensures opened { IfOk result (λ made.
         IsOpenStore cells cycles mutators limits scripts.now made) }
 {
-    let (heap, queue) = open_both(alloc, rt, cells, mutators, limits.keep)?;
-    let (heap, mut seat) = heap;
-    let (queue, mut pass) = queue;
+    let ((heap, mut seat), (queue, mut pass)) = open_both(alloc, rt, cells, mutators, limits.keep)?;
     let stack = MarkStack::with_room(alloc, MARKS)?;
     let clients = split_clients(alloc, &heap, &queue, limits, scripts, &mut seat, &mut pass)?;
     begin_duty(&heap, cycles, &mut seat);

@@ -10,12 +10,10 @@ use Rattle.client_threads.proofs.opening.open_store.Goals as goal
 
 pub returns : goal.returns
 returns g c =
-    let opened = rw c.in_ok-heap.was at c.join-queue.ensures.second in
-    let queued = rw c.in_ok-queue.was at c.join-queue.ensures.first in
-    let seat = opened.1 in
+    let seat = c.in_ok-heap.ensures.seat in
     let duty = c.begin_duty.ensures.duty in
     let split = c.in_ok-clients.ensures.seat in
-    let shape = opened.0 in
+    let shape = c.in_ok-heap.ensures.shape in
     record {
       opened = record {
         shape = shape;
@@ -36,7 +34,7 @@ returns g c =
             c.split_clients.new.seat.me.places) shape split.unsplit);
         stack = c.in_ok-stack.ensures.stack;
         pass = c.in_ok-clients.ensures.pass;
-        hinted = queued.1;
+        hinted = c.in_ok-heap.ensures.hinted;
         ready = c.in_ok-clients.ensures.ready;
         many = c.in_ok-clients.ensures.many;
       };
