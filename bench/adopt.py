@@ -15,6 +15,18 @@ import sys
 from over_sources import toolchain
 
 
+def remember_stamps(kind):
+    """Has each crate's stamp computed once. By itself a high crate's goes over every way down."""
+    plain, known = kind.stamp, {}
+
+    def stamp(crate):
+        if crate.folder not in known:
+            known[crate.folder] = plain(crate)
+        return known[crate.folder]
+
+    kind.stamp = stamp
+
+
 def main():
     if len(sys.argv) != 4:
         print(__doc__.strip())
@@ -23,7 +35,10 @@ def main():
     with open(log, errors="replace") as it:
         proved = set(re.findall(r"^rt: (\w+) proved$", it.read(), re.M))
     count = 0
-    for crate in toolchain().crates_below(end):
+    crates = toolchain().crates_below(end)
+    for kind in {type(crate) for crate in crates}:
+        remember_stamps(kind)
+    for crate in crates:
         made, place = f"{start}/crates/{crate.name}/out/rlib", f"{crate.folder}/out/rlib"
         if crate.name in proved and os.path.isdir(made) and not os.path.exists(f"{place}/stamp"):
             shutil.rmtree(place, ignore_errors=True)
