@@ -12,111 +12,16 @@ picture ends with it. PROGRAM is docheap at the top of the repository where none
 """
 import argparse
 import os
-import subprocess
 import sys
-import tempfile
 
 from drawing import LETTER, LINE, dot, legend, rect, style, svg, text
+from replays import Replay, events_of, lines_of
 
 TOP = os.path.dirname(os.path.dirname(os.path.abspath(__file__)))
-STAGES = ["idle", "sync1", "clear", "sync2", "trace", "sweep"]
 REQUESTED = {"idle": "async", "sync1": "sync1", "clear": "sync1", "sync2": "sync2",
              "trace": "async", "sweep": "async"}
 NEXT = {"async": "sync1", "sync1": "sync2", "sync2": "async"}
 MUTATOR = ("begin look answer end over read mark claim write fill seal keep fetch store").split()
-
-
-class Replay:
-    """What the proved program says of a schedule with this first line."""
-
-    def __init__(self, program, head):
-        self.program, self.head = program, head
-        self.cells, self.mutators = (int(word) for word in head.split()[1:3])
-
-    def run(self, lines):
-        with tempfile.NamedTemporaryFile("w", suffix=".schedule") as it:
-            it.write("\n".join([self.head, *lines]) + "\n")
-            it.flush()
-            ran = subprocess.run([self.program, "replay", it.name], capture_output=True, text=True)
-        if ran.returncode:
-            sys.exit(f"schedule.py: {ran.stderr.strip()}")
-        return ran.stdout.splitlines()
-
-    def count(self, lines):
-        """How many events these lines are; none where one of them cannot happen."""
-        said = self.run(lines)
-        if any(line.startswith("not now") for line in said):
-            return None
-        return next(int(line.split()[1]) for line in said if line.startswith("done"))
-
-    def can(self, lines, event):
-        return self.count([*lines, event]) is not None
-
-    def states(self, lines):
-        """The rows of all cells, at first and behind each line."""
-        shows = [f"show {cell}" for cell in range(self.cells)]
-        asked = list(shows)
-        for line in lines:
-            asked += [line, *shows]
-        rows = [line.split()[2:] for line in self.run(asked) if line.startswith("cell ")]
-        return [rows[at:at + self.cells] for at in range(0, len(rows), self.cells)]
-
-
-def behind(replay, out, stage, cursor):
-    """The stage, and the cell that clearing or tracing has come to, behind the last event."""
-    line = out[-1]
-    words = line.split()
-    if words[0] == "post":
-        return words[1], 0
-    if words[0] == "see" and replay.can(out, "scan"):
-        return stage, 0 if line == "see 0" and cursor == replay.cells else cursor
-    if words[0] == "clear" or line == f"see {cursor}":
-        return stage, cursor + 1
-    return stage, 1 if line == "see 0" and cursor == replay.cells else cursor
-
-
-def plain_events(replay, out, stage, cursor):
-    """Adds the events of one `plain` to the lines; gives stage and cursor behind them."""
-    post = f"post {STAGES[(STAGES.index(stage) + 1) % 6]}"
-    turns = {"clear": ["clear"], "sync2": ["anchor"], "trace": ["shade", "scan", "blacken"],
-             "sweep": ["sweep", "wipe", "free", "whiten", "advance"]}.get(stage, [])
-    if stage in ("sync1", "sync2", "trace"):
-        for i in range(replay.mutators):
-            if replay.can(out, f"out {i}"):
-                out.append(f"poll {i}")
-            if out and out[-1] == f"poll {i}" and replay.can(out, f"out {i}"):
-                over = replay.can([*out, f"out {i}"], f"out {i}")
-                out.append(f"out {i} over" if over else f"out {i}")
-    while not replay.can(out, post):
-        look = f"see {cursor if cursor < replay.cells else 0}"
-        tries = [*turns, look] if stage == "trace" else turns
-        event = next((it for it in tries if replay.can(out, it)), None)
-        if event is None:
-            return None
-        out.append(event)
-        stage, cursor = behind(replay, out, stage, cursor)
-    out.append(post)
-    return behind(replay, out, stage, cursor)
-
-
-def events_of(replay, lines):
-    """The events, each `plain` as those that it stands for, and the one that cannot happen."""
-    out, stage, cursor = [], "idle", 0
-    for line in lines:
-        if line.startswith("show"):
-            continue
-        if not replay.can(out, line):
-            return out, line
-        if line == "plain":
-            wanted, found = replay.count([*out, line]), list(out)
-            stage, cursor = plain_events(replay, found, stage, cursor)
-            if replay.count(found) != wanted:
-                sys.exit("schedule.py: the events of a plain are not as many as the program counts")
-            out = found
-        else:
-            out.append(line)
-            stage, cursor = behind(replay, out, stage, cursor)
-    return out, None
 
 
 class Threads:
@@ -278,9 +183,7 @@ def main():
     p.add_argument("--docheap", default=f"{TOP}/docheap")
     p.add_argument("--columns", type=int, default=52, help="events in one row of the picture")
     args = p.parse_args()
-    with open(args.schedule, encoding="ascii") as it:
-        lines = [line.rstrip("\r\n") for line in it]
-    lines = [line for line in lines if line and not line.startswith("#")]
+    lines = lines_of(args.schedule)
     replay = Replay(args.docheap, lines[0])
     replay.run(lines[1:])
     events, refused = events_of(replay, lines[1:])
