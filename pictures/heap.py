@@ -6,21 +6,25 @@
 IMAGE is a text that `docheap image` wrote. The latest version stands first. A cell stands once,
 below the oldest version that it belongs to, and a line leads to it from wherever else it is named.
 Names of entries and texts of nodes are put together from the chunks that their cells hold. Cells
-that the anchor does not lead to stand apart. A text that is no image of a heap of documents is an
-error with its line, and nothing is drawn. Three or four versions are about 1,000 points wide.
+that the anchor does not lead to stand apart. Where more than 300 cells are in use, only the anchor
+and the versions are drawn, one under the other, and the rest is counted. A text that is no image of
+a heap of documents is an error with its line, and nothing is drawn. Three or four versions are about
+1,000 points wide.
 """
 import argparse
 import os
 import sys
 
 import images
-from drawing import LETTER, LINE, legend, rect, style, svg, text
+from drawing import LETTER, LINE, colours, legend, letter, rect, style, svg, text, title, wide_of
 from images import cell_of
 
 # Lines to cells that stand elsewhere: one colour for each such cell, by turns.
 LIGHT = ["#0b6bcb", "#b3261e", "#1a7f37", "#8250df", "#9a6700", "#bf3989"]
 DARK = ["#6cb6ff", "#ff8a80", "#57c46b", "#c297ff", "#d9a830", "#f27dbd"]
 ROW, STEP, MARK, LANE, LEFT, LONG = 20, 15, 13, 7, 14, 21
+# past so many cells in use not each is drawn
+MOST = 300
 # The fields of each role that name cells, as a tree is drawn: which field, and what it is called
 # where the role of the cell that it names does not tell.
 NAMING = {"version": [(1, "")], "node": [(0, ""), (1, "")], "text": [(4, "")],
@@ -115,7 +119,8 @@ class Picture:
     """One SVG, from the anchor down."""
 
     def __init__(self, heap):
-        self.heap, self.parts, self.placed = heap, [], {}
+        self.heap, self.parts, self.placed, self.seen = heap, [], {}, set()
+        self.wide = 0
         self.columns = [Column(number) for number in heap.versions()]
         for column in reversed(self.columns):
             column.fill(heap, self.placed)
@@ -226,6 +231,9 @@ class Picture:
         cell = self.heap.cells[number]
         words = f"cell {number} {cell.colour} {' '.join(cell.fields)}"
         self.parts.append(rect(x, y, MARK, MARK, f"box {cell.colour}", words))
+        if cell.colour != "white":
+            self.parts.append(letter(x + (MARK - LETTER) / 2, y + 10, cell.colour))
+        self.seen.add(cell.colour)
 
     def branch(self, x, row, above):
         """The line from the cell above that this row hangs on."""
@@ -284,30 +292,77 @@ class Picture:
         self.wide = max(self.wide, LEFT + min(across, len(numbers)) * wide)
         return y + -(-len(numbers) // across) * ROW + 12
 
-    def legend(self, y):
-        marks = [(lambda x, it=colour: rect(x, y, MARK, MARK, f"box {it}"), f"{colour}: {words}",
-                  "faint") for colour, words in [("white", "not marked"),
-                                                 ("gray", "marked, not scanned"),
-                                                 ("black", "scanned")]]
-        if self.links:
-            marks.append((lambda x: line_mark(x, y), "stands where the line leads", "faint"))
+    def legend(self, y, notes):
+        """Below the picture: the colours that it has, its lines, its words, and the census."""
+        marks = colours(y, self.seen, silent=["white"])
         self.parts += legend(LEFT, y, marks)
+        self.wide = max(self.wide, 2 * LEFT + wide_of(marks))
+        if self.links:
+            y += ROW
+            line = [(lambda x: line_mark(x, y), "leads to the place of a cell that several cells name", "faint")]
+            self.parts += legend(LEFT, y, line)
         words = ", ".join(f"{many} {what}" for what, many in self.heap.census().items())
-        words += "; free cells are blue and not drawn"
-        self.parts.append(text(LEFT, y + 34, words, "faint"))
-        self.wide = max(self.wide, 2 * LEFT + LETTER * len(words))
-        return y + 46
+        for note in [*notes, f"{words}; free cells are blue and not drawn"]:
+            y += ROW
+            self.parts.append(text(LEFT, y + 11, note, "faint"))
+            self.wide = max(self.wide, 2 * LEFT + LETTER * len(note))
+        return y + ROW + 6
 
-    def svg(self, name):
-        y = 44
+    def notes(self):
+        """What the words of the rows mean."""
+        fields = {row.field for column in self.columns for row in column.rows}
+        found = ["the number at a cell is the cell's; the number of a version comes after the word"]
+        if fields & {"left", "right"}:
+            found.append("left, right: the field of an entry that leads to the entries of smaller "
+                         "names, of greater names")
+        return found
+
+    def counted(self, column):
+        """What stands below a version in a heap of many cells: how many cells of each kind."""
+        own = [self.heap.cells[row.number] for row in column.rows if not row.is_link]
+        found = []
+        for one, more in [("node", "nodes"), ("entry", "entries"), ("text", "texts")]:
+            many = sum(one in cell.roles for cell in own)
+            found.append(f"{many} {one if many == 1 else more}")
+        return ", ".join(found)
+
+    def only_versions(self):
+        """The anchor and the versions, one under the other, each with a count of its own cells."""
+        y = 32
+        self.mark(0, LEFT, y)
+        self.parts.append(text(LEFT + MARK + 6, y + 11, "0 anchor", "ink name"))
+        for column in self.columns:
+            x = LEFT + MARK / 2
+            self.parts.append(f'<path d="M{x:g} {y + MARK:g} V{y + ROW:g}" class="tree"/>')
+            y += ROW
+            words = label(self.heap, column.number, "version")
+            self.mark(column.number, LEFT, y)
+            self.parts.append(text(LEFT + MARK + 6, y + 11, words, "ink name"))
+            at = LEFT + MARK + 6 + LETTER * (len(words) + 2)
+            counts = f"{self.counted(column)} that no older one has"
+            self.parts.append(text(at, y + 11, counts, "faint"))
+            self.wide = max(self.wide, at + LETTER * len(counts) + LEFT)
+        notes = [f"{len(self.heap.cells)} cells are in use, more than {MOST}: the versions are "
+                 "drawn, and the others are counted",
+                 "the number at a cell is the cell's; each version names the one below it"]
+        self.links = []
+        return self.legend(y + ROW + 12, notes)
+
+    def every_cell(self):
+        y = 66
         below = self.lay_out(y)
         for at, row in self.links:
             self.link(at, row)
         self.versions(y)
         for column in self.columns:
             self.tree(column, y)
-        below = self.legend(self.floating(below + 14))
-        return svg(self.wide, below, name, rules(), self.parts)
+        return self.legend(self.floating(below + 14), self.notes())
+
+    def svg(self, name):
+        below = self.only_versions() if len(self.heap.cells) > MOST else self.every_cell()
+        self.parts.append(text(LEFT, 18, title(name), "ink title"))
+        wide = max(self.wide, 2 * LEFT + 9 * len(title(name)))
+        return svg(wide, below, title(name), rules(), self.parts)
 
 
 def near(corner, other, by=4):
@@ -355,8 +410,7 @@ def main():
             heap = images.read(it.read())
     except (OSError, images.Faulty) as why:
         sys.exit(f"heap.py: {why}")
-    name = os.path.basename(args.image).replace("_", " ")
-    sys.stdout.write(Picture(heap).svg(name))
+    sys.stdout.write(Picture(heap).svg(os.path.basename(args.image)))
 
 
 main()

@@ -3,18 +3,19 @@
 
     schedule.py SCHEDULE [--docheap PROGRAM] [--columns N] > PICTURE.svg
 
-Every colour and field in the picture is the proved program's: behind each event the script puts a
-`show` of every cell, and has `docheap replay` run that. A line `plain` is drawn as the events that
-it stands for. Each is found by asking the program which event can happen next, and the program's
-count of the `plain` itself has to agree. Stage and status follow from the events that were taken: a
-post is the stage, an answer takes its mutator to the next status. Where an event cannot happen the
-picture ends with it. PROGRAM is docheap at the top of the repository where none is given.
+Every colour and field in the picture is the proved program's: after each event the script puts a
+`show` of every cell, and has `docheap replay` run that (replays.py). A line `plain` is drawn as the
+events that it stands for. Stage and status follow from the events that were taken: a post is the
+stage, an answer takes its mutator to the next status. Where an event cannot happen the picture ends
+with it. More than N events stand in several rows, one under the other. PROGRAM is docheap at the top
+of the repository where none is given. `play` makes a page of HTML that plays the same schedule.
 """
 import argparse
 import os
 import sys
 
-from drawing import LETTER, LINE, dot, legend, rect, style, svg, text
+from drawing import LETTER, LINE, colours, dot, legend, letter, rect, style, svg, text, title
+from drawing import wide_of
 from replays import Replay, events_of, lines_of
 
 TOP = os.path.dirname(os.path.dirname(os.path.abspath(__file__)))
@@ -80,7 +81,7 @@ class Picture:
         self.threads = [threads.take(line) for line in events]
         seen = [{state[cell][0] for state in self.states} for cell in range(replay.cells)]
         self.cells = [c for c in range(replay.cells) if replay.cells <= 12 or len(seen[c]) > 1]
-        self.parts, self.y = [], 12
+        self.parts, self.y = [], 34
 
     def lane_of(self, line):
         words = line.split()
@@ -95,6 +96,8 @@ class Picture:
         return 14 + LETTER * max([5, *map(len, labels)])
 
     def band(self, begin, end):
+        if begin:
+            self.parts.append(text(LEFT, self.y - 6, f"continued, from event {begin + 1} on", "faint"))
         self.parts.append(text(4, self.y + BAND / 2 + 4, "stage", "ink name"))
         for one, two, stage in runs([self.threads[at][0] for at in range(begin, end)]):
             x, wide = LEFT + one * COLUMN, (two - one) * COLUMN
@@ -106,7 +109,7 @@ class Picture:
         self.y += BAND + 4
 
     def presence(self, begin, end, i, high):
-        """Behind a mutator's events whether it is in, and its status under them."""
+        """Around a mutator's events whether it is in, and its status under them."""
         for one, two, (status, where) in runs([self.threads[at][1][i] for at in range(begin, end)]):
             x, wide, low = LEFT + one * COLUMN, (two - one) * COLUMN, self.y + high
             kind = f"box {status}" if where == "in" else "out"
@@ -129,14 +132,18 @@ class Picture:
         self.y += high + 4
 
     def cell(self, begin, end, cell):
-        self.parts.append(text(4, self.y + 13, f"cell {cell}" if cell else "anchor", "ink name"))
+        self.parts.append(text(4, self.y + 12, f"cell {cell}" if cell else "anchor", "ink name"))
+        told = None
         for at in range(begin, end):
             row, before = self.states[at + 1][cell], self.states[at][cell]
             x = LEFT + (at - begin) * COLUMN
-            words = f"cell {cell} {' '.join(row[:7])}, behind {self.shown[at]}"
+            words = f"cell {cell} {' '.join(row[:7])}, after {self.shown[at]}"
             self.parts.append(rect(x + 1, self.y, COLUMN - 2, CELL - 3, f"box {row[0]}", words))
             if row[1:7] != before[1:7]:
                 self.parts.append(dot(x + COLUMN / 2, self.y + CELL / 2 - 1.5))
+            elif row[0] != told:
+                told = row[0]
+                self.parts.append(letter(x + COLUMN / 2 - LETTER / 2, self.y + 11, told))
         self.y += CELL
 
     def columns(self, begin, end):
@@ -149,32 +156,46 @@ class Picture:
             self.y += STRIP + 2
         for cell in self.cells:
             self.cell(begin, known, cell)
-        self.y += 18
+        self.y += 32
 
-    def legend(self):
-        y = self.y
-        colours = [(lambda x, it=colour: rect(x, y, 13, 13, f"box {it}"), f"{colour}: {words}")
-                   for colour, words in [("blue", "free"), ("white", "not reached"),
-                                         ("gray", "reached, not scanned"), ("black", "scanned")]]
-        first = [*colours, (lambda x: dot(x + 7, y + 7), "a field changed")]
-        self.parts += legend(LEFT, y, [(*entry, "faint") for entry in first])
-        y += 21
-        second = [(lambda x, it=status: rect(x, y, 13, 13, f"box {it}"), status, "faint")
-                  for status in ("async", "sync1", "sync2")]
-        second.append((lambda x: rect(x, y, 13, 13, "out"), "the mutator is out", "faint"))
+    def legends(self):
+        """The rows of the legend, each of what there is in the picture and no more."""
+        shown = [state[cell] for state in self.states[1:] for cell in self.cells]
+        pairs = zip(self.states, self.states[1:])
+        changed = any(one[cell][1:7] != two[cell][1:7] for one, two in pairs for cell in self.cells)
+        found = {it for _, of in self.threads for it in of}
+        y = self.y - 14
+        first = colours(y, {row[0] for row in shown})
+        low = y + 21
+        second = [(lambda x, it=status: rect(x, low, 13, 13, f"box {it}"), f"status {status}", "faint")
+                  for status in ("async", "sync1", "sync2") if status in {it for it, _ in found}]
+        if changed:
+            second.append((lambda x: dot(x + 7, low + 7), "a field changed", "faint"))
+        if any(where != "in" for _, where in found):
+            second.append((lambda x: rect(x, low, 13, 13, "out"), "the mutator is out", "faint"))
         if self.known < len(self.shown):
             second.append((None, "red: cannot happen now", "no"))
-        self.parts += legend(LEFT, y, second)
-        self.y = y + 24
+        return [row for row in ((y, first), (low, second)) if row[1]]
+
+    def legend(self):
+        wide = 0
+        for y, row in self.legends():
+            self.parts += legend(4, y, row)
+            self.y, wide = y + 21, max(wide, wide_of(row))
+        words = ("numbers after an event: of a mutator its places, fields and values; "
+                 "of the collector cells and mutators")
+        self.parts.append(text(4, self.y + 11, words, "faint"))
+        self.y += 24
+        return 4 + max(wide, LETTER * len(words) + 12)
 
     def svg(self, columns, name):
         many = max(len(self.shown), 1)
         columns = -(-many // -(-many // columns))
         for begin in range(0, len(self.shown), columns):
             self.columns(begin, min(begin + columns, many))
-        self.legend()
-        wide = max(LEFT + min(many, columns) * COLUMN + 12, 860)
-        return svg(wide, self.y, name, style(LIGHT, DARK, OUT), self.parts)
+        wide = max(LEFT + min(many, columns) * COLUMN + 12, self.legend())
+        self.parts.append(text(4, 18, title(name), "ink title"))
+        return svg(wide, self.y, title(name), style(LIGHT, DARK, OUT), self.parts)
 
 
 def main():
@@ -187,7 +208,7 @@ def main():
     replay = Replay(args.docheap, lines[0])
     replay.run(lines[1:])
     events, refused = events_of(replay, lines[1:])
-    name = os.path.basename(args.schedule).replace("_", " ")
+    name = os.path.basename(args.schedule)
     sys.stdout.write(Picture(replay, events, refused).svg(args.columns, name))
 
 

@@ -103,12 +103,11 @@ const Model = (() => {
   const hasRoom = (s, e) =>
     [`it may hold one cell more (it holds ${mutator(s, e.i).held.length} of ${s.room})`,
       mutator(s, e.i).held.length < s.room];
-  const names = (s, e, value, what) =>
-    [`the ${what} value, ${say(value)}, is null, a number or a cell that it holds`,
-      holds(mutator(s, e.i), value)];
-  const isSealed = (s, value) =>
-    [`${cellOf(value) === null ? "no raw cell is named" : `${sayCell(cellOf(value))} is sealed`}`,
-      cellOf(value) === null || !isRaw(s, cellOf(value))];
+  const names = (s, e, value, what) => (cellOf(value) === null
+    ? [`the ${what} value, ${say(value)}, names no cell`, true]
+    : [`it holds ${sayCell(cellOf(value))}, the ${what} value`, holds(mutator(s, e.i), value)]);
+  const isSealed = (s, value) => (cellOf(value) === null ? []
+    : [[`${sayCell(cellOf(value))} is sealed`, !isRaw(s, cellOf(value))]]);
   const atStage = (s, stage) => [`the stage is ${stage}`, s.stage === stage];
   const answers = (s, rule) => [
     allAnswered(s) ? "every mutator has answered this handshake"
@@ -119,17 +118,13 @@ const Model = (() => {
   function marksStand(s, e, old, new_) {
     const m = mutator(s, e.i);
     const kind = barrier(m);
-    const found = [];
-    if (kind === "old") {
-      found.push([`the old value, ${say(old)}, is marked, as the collector traces`, marked(m, old),
-        "old-value"]);
-    }
-    if (kind === "both") {
-      found.push([`the old value, ${say(old)}, is marked, in ${m.status}`, marked(m, old)]);
-      found.push([`the new value, ${say(new_)}, is marked too, in ${m.status}`, marked(m, new_),
-        "new-value"]);
-    }
-    return found;
+    const needs_ = (value, what, why, rule) => (cellOf(value) === null
+      ? [`the ${what} value, ${say(value)}, needs no mark`, true, rule]
+      : [`${sayCell(cellOf(value))}, the ${what} value, is marked, ${why}`, marked(m, value), rule]);
+    if (kind === "old") return [needs_(old, "old", "as the collector traces", "old-value")];
+    if (kind === "nothing") return [];
+    return [needs_(old, "old", `as it is in ${m.status}`),
+      needs_(new_, "new", `as it is in ${m.status}`, "new-value")];
   }
 
   // By kind of event: its words behind the mutator's number, its conditions, what it does, and a
@@ -213,7 +208,7 @@ const Model = (() => {
         const c = target(mutator(s, e.i), e.place);
         return [isIn(s, e), hasMode(s, e), noPending(s, e), isPlace(s, e), isPayload(s, e),
           [`${sayCell(c)} is a box`, isBox(s, c)], names(s, e, e.old, "old"),
-          names(s, e, e.new, "new"), isSealed(s, e.new), ...marksStand(s, e, e.old, e.new)];
+          names(s, e, e.new, "new"), ...isSealed(s, e.new), ...marksStand(s, e, e.old, e.new)];
       },
       take: (s, e) => {
         const row = s.rows[target(s.who[e.i], e.place)];
@@ -234,7 +229,7 @@ const Model = (() => {
         const m = mutator(s, e.i);
         const old = m.pending ? m.pending.found : "-";
         return [isIn(s, e), ["it has a store begun", m.pending !== null],
-          names(s, e, e.new, "new"), isSealed(s, e.new), ...marksStand(s, e, old, e.new)];
+          names(s, e, e.new, "new"), ...isSealed(s, e.new), ...marksStand(s, e, old, e.new)];
       },
       take: (s, e) => {
         const m = s.who[e.i];
@@ -279,7 +274,7 @@ const Model = (() => {
         const c = target(mutator(s, e.i), e.place);
         return [isIn(s, e), isPlace(s, e),
           [`${sayCell(c)} is raw`, isRaw(s, c), "fill-raw"], isPayload(s, e),
-          names(s, e, e.value, "new"), isSealed(s, e.value),
+          names(s, e, e.value, "new"), ...isSealed(s, e.value),
           [`field ${e.f} of ${sayCell(c)} names no cell yet`, cellOf(s.rows[c][e.f]) === null,
             "fill-cell"]];
       },
