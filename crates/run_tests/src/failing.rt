@@ -1,6 +1,6 @@
 //! Each call of a device failing in turn, on a script of two lines: a shelf that gives a byte at a
-//! time and a sink that takes one; a script that is cut off, and a second file that is absent.
-use crate::outcomes::{files, refusal_by, words};
+//! time and a sink that takes one; and a second file that is absent.
+use crate::outcomes::{files, words};
 use doc_model::NoMemory;
 use doc_run::{Outcome, run};
 use outside::{MemShelf, MemSink, OpenGate, SureShelf, SureSink};
@@ -108,14 +108,6 @@ fn a_piece_that_is_not_offered_does_not_fail(rt: HostRuntime) -> Result<(), Fail
     let calls = OUTPUT.len() as u64;
     let row = sink_failing_at(rt.alloc(), &rt, calls + 1)?;
     assert_eq!(rt; row, (0, None, calls, OUTPUT.len()));
-    Ok(())
-}
-
-#[test]
-fn a_script_that_is_cut_off_is_refused(rt: HostRuntime) -> Result<(), Fail> {
-    let text = "docheap: file 1: line 2: NoCommand";
-    let refusal = refusal_by(rt.alloc(), &rt, &["run", "f"], b"put a hello\nge", text)?;
-    assert_eq!(rt; refusal, (2, true));
     Ok(())
 }
 

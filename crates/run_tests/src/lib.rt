@@ -1,32 +1,19 @@
-//! What no clause says of doc_run: whole runs, from the bytes of a file to the bytes written, in
-//! which pieces these are offered, the merged history of two clients, which gate they ask, and the
-//! text of each fault. And what heap_census says of the heaps that runs leave.
+//! What no clause says of doc_run, and the rows of examples/rows cannot show: each call of a device
+//! failing in turn, in which pieces the output is offered, what is handed back of a text that was
+//! not written whole, which gate is asked, how many files are opened, and the text of each fault.
 //!
-//! Reading order: `outcomes`; `runs`, `batches`, `pieces`, `failing`, `options`, `totals`,
-//! `clients`, `census`, `heap_files`, `dumps`, `mail`.
+//! Reading order: `outcomes`; `failing`, `pieces`, `gates`, `handed_back`, `refused`.
 #![tactic(auto)]
 
 #[cfg(test)]
-mod batches;
-#[cfg(test)]
-mod census;
-#[cfg(test)]
-mod clients;
-#[cfg(test)]
-mod dumps;
-#[cfg(test)]
 mod failing;
 #[cfg(test)]
-mod heap_files;
+mod gates;
 #[cfg(test)]
-mod mail;
-#[cfg(test)]
-mod options;
+mod handed_back;
 #[cfg(test)]
 mod outcomes;
 #[cfg(test)]
 mod pieces;
 #[cfg(test)]
-mod runs;
-#[cfg(test)]
-mod totals;
+mod refused;
