@@ -9,3 +9,5 @@ pub mod Staying
 pub mod Stores
 pub mod Updates
 pub mod Writes
+pub mod Takes
+pub mod Searching

@@ -1,19 +1,17 @@
 -- What a store leaves of a mutator, whichever way it went: all but marks, mode, pass, trail and
 -- what is known.
-use Rattle.std.proofs.Common.{◌≡◌, ◌⊎◌, ℕ, Bool, false, List, length, ◌∙◌, ap, inl, inr}
+use Rattle.std.proofs.Common.{◌≡◌, ◌⊎◌, ℕ, Bool, false, List, ◌∙◌, ap, inl, inr}
 use Rattle.std.proofs.Common.{Result, Ok, Err, OnOk, IfErr}
 use Rattle.cell_words.specs.declared.fields.Field.{Field}
-use Rattle.core_machine.specs.declared.events.Event.TheVariants as event
 use Rattle.core_machine.specs.declared.events.Found.{Found}
-use Rattle.core_machine.specs.declared.events.Found.TheVariants as finds
 use Rattle.core_machine.specs.Words.{same_field}
 use Rattle.heap_rule.specs.declared.known.Learned.{Learned}
 use Rattle.heap_rule.specs.Boxes.{Map}
 use Rattle.mutator_events.specs.declared.values.Moved.{Moved}
 use Rattle.mutator_events.specs.declared.values.Value.{Value}
-use Rattle.mutator_seat.specs.Bound.{Bound, held_cells, takes}
+use Rattle.mutator_seat.specs.Bound.{Bound, held_cells}
 use Rattle.mutator_seat.specs.Stores.{Exchanged, Overwritten}
-use Rattle.mutator_seat.proofs.Stores.{Leaves, exchange_leaves, store_leaves}
+use Rattle.mutator_seat.proofs.Stores.{exchange_leaves, store_leaves}
 
 pub record Stays {P : Type 0} (old after : Bound P) : Type 0 where
   pub heap : after.heap ≡ old.heap

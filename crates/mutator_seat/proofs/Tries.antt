@@ -36,6 +36,10 @@ pub some_all : {T : Type 0} {A B : T → Type 0} (r : Option T) → IfSome r A
 some_all (Some x) a f = f x a
 some_all None a f = a
 
+pub some_any : {T : Type 0} {A : Type 0} (r : Option T) → A → IfSome r (λ _. A)
+some_any (Some x) a = a
+some_any None a = tt
+
 pub none_then : {T : Type 0} {A B : Type 0} (r : Option T) → IfNone r A → (A → B) → IfNone r B
 none_then (Some x) a f = a
 none_then None a f = f a

@@ -2,13 +2,18 @@
 //!
 //! While it waits it answers handshakes, for a cycle cannot end without its answers. It pauses
 //! where the queue gave no hint, and nowhere else: on one processor a pause is a third of a cycle.
-ghost use Rattle.std.specs.Prelude.{◌≡◌, ◌<◌, ◌≤◌, ◌+◌, true, not};
+//! Nor does it walk over all cells at each of its turns, which would take as long as the heap is
+//! large: it does so where its patience is over, and where a look decides.
+ghost use Rattle.std.specs.Prelude.{◌≡◌, ◌<◌, ◌≤◌, ◌+◌, ◌∷◌, [], None, true, not};
 ghost use Rattle.std.specs.Prelude.{IfErr, IfNone, IfOk, IfSome, length};
-ghost use Rattle.free_cells.specs.Hints.{counts_of, queue_of};
-ghost use Rattle.mutator_seat.specs.Claims.{Claimed, Ends, FullBehind, HasMode, Seeking, Tried};
+ghost use Rattle.free_cells.specs.Hints.{cells_of, counts_of, queue_of};
+ghost use Rattle.mutator_seat.specs.Claims.{Claimed, Ends, FullBehind, HasMode, Seeking};
 ghost use Rattle.mutator_seat.specs.Claims.{TriedFirst};
 ghost use Rattle.mutator_seat.specs.Pacing.{Paces, Prompt};
+ghost use Rattle.mutator_seat.specs.Searches.{Searches, Tries, TriesFor, Walks, patience_after};
+ghost use Rattle.mutator_seat.specs.Searches.{tries_for};
 ghost use Rattle.mutator_seat.specs.Stretches.{Calm};
+ghost use Rattle.mutator_seat.specs.Takes.{Gives, after_take};
 ghost use Rattle.trails.specs.Claims.{AllUsed, FindsFull, begun_of, decides};
 
 use crate::full::HeapFull;
@@ -23,8 +28,8 @@ use std::thread;
 /// How often a waiting claim pauses between two looks.
 const PAUSES: u32 = 100;
 
-/// How often a waiting claim finds no hint before it tries every cell.
-const WAITS: u32 = 1000;
+/// How many takes of a claim find no hint until it tries every cell.
+const PATIENCE: u32 = 1000;
 
 /// The cycles that are ended or under way.
 fn begun(control: Control) -> u32
@@ -54,17 +59,21 @@ fn decides(began: u32, control: Control) -> bool
 
 /// Takes one hint, if there is one.
 fn take_hint<R: Wait>(rt: &R, hints: &mut Hints<'_>) -> Option<u32>
+    ensures gives { Gives (cells_of (queue_of hints.old)) (counts_of hints.old) result }
+    ensures counts { counts_of hints.new ≡ after_take (counts_of hints.old) result }
     ensures queue { queue_of hints.new ≡ queue_of hints.old }
     ensures takes { (counts_of hints.new).takes ≡ (counts_of hints.old).takes + 1 }
 {
     hints.take(rt)
 }
 
-/// How often a claim has waited behind a round that took this.
-fn waited_on(hint: Option<u32>, waited: u32) -> u32 {
+/// How many more takes without a hint it waits for after this one.
+fn patience_after(patience: u32, hint: Option<u32>) -> u32
+    ensures patience { result ≡ patience_after patience hint }
+{
     match hint {
-        Some(_) => waited,
-        None => waited.saturating_add(1),
+        Some(_) => patience,
+        None => patience.saturating_sub(1),
     }
 }
 
@@ -78,9 +87,9 @@ fn pause() {
 
 impl<'a, P: Keeping> Mutator<'a, P> {
     /// Takes a free cell: raw, with null fields, at the next place. Hints are tried first, also those
-    /// that come in for a while, and then every cell. While the collector is on duty it waits, and
-    /// answers handshakes, until two whole cycles have begun and ended within the call; then every
-    /// cell is tried once more.
+    /// that come in while it waits; and every cell once, where a thousand takes found no hint. While
+    /// the collector is on duty it waits, and answers handshakes, until two whole cycles have begun
+    /// and ended within the call; then every cell is tried once more.
     pub fn claim<R: Wait>(&mut self, rt: &R, hints: &mut Hints<'_>) -> Result<usize, HeapFull>
         requires inside { self.old.seat.me.presence.inside ≡ true }
         requires room { length self.old.seat.me.own.held < self.old.seat.me.room }
@@ -89,11 +98,12 @@ impl<'a, P: Keeping> Mutator<'a, P> {
             Calm (FindsFull self.old.seat.me.number self.old.seat.me.shape.cells
             full.off_duty full.began full.ended) self.old self.new) }
         ensures seeking { IfErr result (λ full. Calm Seeking self.old self.new) }
+        ensures search { Searches 1000 [] hints.old hints.new self.old self.new }
         ensures queue { queue_of hints.new ≡ queue_of hints.old }
         ensures takes { (counts_of hints.old).takes < (counts_of hints.new).takes }
         ensures prompt { Prompt self.old self.new }
     {
-        let first = hints.take(rt);
+        let first = take_hint(rt, hints);
         hints.tell_demand(rt);
         self.claim_hinted(rt, hints, first)
     }
@@ -115,6 +125,7 @@ impl<'a, P: Keeping> Mutator<'a, P> {
         ensures seeking { IfErr result (λ full. Calm Seeking self.old self.new) }
         ensures tries { IfSome hint (λ cell. cell < self.old.seat.me.shape.cells
             → TriedFirst cell self.old self.new) }
+        ensures search { Searches 1000 (hint ∷ []) hints.old hints.new self.old self.new }
         ensures queue { queue_of hints.new ≡ queue_of hints.old }
         ensures takes { (counts_of hints.old).takes ≤ (counts_of hints.new).takes }
         ensures prompt { Prompt self.old self.new }
@@ -123,7 +134,7 @@ impl<'a, P: Keeping> Mutator<'a, P> {
         let began = begun(first);
         match self.try_hinted(hint) {
             Some(place) => Ok(place),
-            None => self.wait_for_cell(rt, hints, began),
+            None => self.wait_for_cell(rt, hints, began, patience_after(PATIENCE, hint)),
         }
     }
 
@@ -133,6 +144,7 @@ impl<'a, P: Keeping> Mutator<'a, P> {
         rt: &R,
         hints: &mut Hints<'_>,
         began: u32,
+        first: u32,
     ) -> Result<usize, HeapFull>
         requires inside { self.old.seat.me.presence.inside ≡ true }
         requires room { length self.old.seat.me.own.held < self.old.seat.me.room }
@@ -142,20 +154,21 @@ impl<'a, P: Keeping> Mutator<'a, P> {
             Calm (FullBehind self.old.seat.me.number self.old.seat.me.shape.cells
             began full) self.old self.new) }
         ensures seeking { IfErr result (λ full. Calm Seeking self.old self.new) }
+        ensures search { Searches first [] hints.old hints.new self.old self.new }
         ensures queue { queue_of hints.new ≡ queue_of hints.old }
         ensures takes { (counts_of hints.old).takes ≤ (counts_of hints.new).takes }
         ensures pace { Paces 65 65 self.old self.new }
     {
-        let mut waited: u32 = 0;
+        let mut patience = first;
         for _ in rt.forever() {
             let control = self.handshake();
             if decides(began, control) {
                 return self.try_last(began, control);
             }
             let hint = take_hint(rt, hints);
-            match self.try_on(hint, waited) {
+            match self.try_on(hint, patience) {
                 Some(place) => return Ok(place),
-                None => waited = waited_on(hint, waited),
+                None => patience = patience_after(patience, hint),
             }
         }
         unreachable!()
@@ -167,6 +180,7 @@ impl<'a, P: Keeping> Mutator<'a, P> {
         ensures calm { Calm (Ends self.old.seat.me.number self.old.seat.me.presence.status result)
             self.old self.new }
         ensures seeking { Calm Seeking self.old self.new }
+        ensures idle { Tries [] self.old self.new }
         ensures mode { HasMode self.new }
         ensures pace { Paces 65 1 self.old self.new }
     {
@@ -185,6 +199,7 @@ impl<'a, P: Keeping> Mutator<'a, P> {
         ensures tried { IfErr result (λ full.
             Calm (AllUsed 0 self.old.seat.me.shape.cells) self.old self.new) }
         ensures seeking { IfErr result (λ full. Calm Seeking self.old self.new) }
+        ensures walk { Walks self.old self.new }
         ensures pace { Paces 1 65 self.old self.new }
     {
         match self.try_all() {
@@ -197,38 +212,38 @@ impl<'a, P: Keeping> Mutator<'a, P> {
         }
     }
 
-    /// Tries the cell of a hint. Where the queue gave none it waits a while, and tries every cell
-    /// once, where it waited so often.
-    fn try_on(&mut self, hint: Option<u32>, waited: u32) -> Option<usize>
+    /// Tries the cell of a hint. Where the queue gave none it waits a while, or tries every cell where
+    /// its patience is over.
+    fn try_on(&mut self, hint: Option<u32>, patience: u32) -> Option<usize>
         requires inside { self.old.seat.me.presence.inside ≡ true }
         requires room { length self.old.seat.me.own.held < self.old.seat.me.room }
         requires mode { HasMode self.old }
         ensures got { IfSome result (λ place. Claimed self.old place self.new) }
         ensures none { IfNone result (Calm Seeking self.old self.new) }
-        ensures tried { IfSome hint (λ cell. cell < self.old.seat.me.shape.cells
-            → Tried cell self.old self.new) }
-        ensures all { waited ≡ 1000 → IfNone hint (IfNone result
-            (Calm (AllUsed 0 self.old.seat.me.shape.cells) self.old self.new)) }
+        ensures missed { IfNone result (Tries (tries_for self.old.seat.me.shape.cells patience hint)
+            self.old self.new) }
+        ensures found { IfSome result (λ place. TriesFor patience (hint ∷ []) self.old self.new) }
         ensures pace { Paces 1 65 self.old self.new }
     {
         match hint {
             Some(cell) => self.try_within(cell),
-            None => self.try_unhinted(waited),
+            None => self.try_unhinted(patience),
         }
     }
 
-    /// Waits a while; the time after so many of them it tries every cell instead.
-    fn try_unhinted(&mut self, waited: u32) -> Option<usize>
+    /// Waits a while; where the patience ends with this take it tries every cell instead.
+    fn try_unhinted(&mut self, patience: u32) -> Option<usize>
         requires inside { self.old.seat.me.presence.inside ≡ true }
         requires room { length self.old.seat.me.own.held < self.old.seat.me.room }
         requires mode { HasMode self.old }
         ensures got { IfSome result (λ place. Claimed self.old place self.new) }
         ensures none { IfNone result (Calm Seeking self.old self.new) }
-        ensures all { waited ≡ 1000 → IfNone result
-            (Calm (AllUsed 0 self.old.seat.me.shape.cells) self.old self.new) }
+        ensures missed { IfNone result (Tries (tries_for self.old.seat.me.shape.cells patience None)
+            self.old self.new) }
+        ensures found { IfSome result (λ place. TriesFor patience (None ∷ []) self.old self.new) }
         ensures pace { Paces 1 65 self.old self.new }
     {
-        if waited == WAITS {
+        if patience == 1 {
             self.try_all()
         } else {
             pause();

@@ -2,7 +2,7 @@
 //!
 //! One look serves many tries, since a try that misses leaves it.
 ghost use Rattle.std.specs.Prelude.{◌≡◌, ◌<◌, ◌≤◌, ◌+◌, ◌∷◌, ◌++◌, [], true};
-ghost use Rattle.std.specs.Prelude.{IfNone, IfSome, length};
+ghost use Rattle.std.specs.Prelude.{IfNone, IfSome, Some, length};
 ghost use Rattle.cell_words.specs.declared.colours.Colour.{Colour};
 ghost use Rattle.core_machine.specs.Words.{is_blue};
 ghost use Rattle.core_machine.specs.declared.events.Event.TheVariants as event;
@@ -11,6 +11,7 @@ ghost use Rattle.heap_rule.specs.Apart.{IsNewTo};
 ghost use Rattle.mutator_seat.specs.Bound.{held_cells, takes};
 ghost use Rattle.mutator_seat.specs.Claims.{Claimed, HasMode, Seeking, Tried};
 ghost use Rattle.mutator_seat.specs.Pacing.{Paces};
+ghost use Rattle.mutator_seat.specs.Searches.{Tries, Walks, first_cells, hinted, tries_for};
 ghost use Rattle.mutator_seat.specs.Stretches.{Calm};
 ghost use Rattle.trails.specs.Claims.{AllUsed};
 
@@ -30,6 +31,7 @@ impl<'a, P: Keeping> Mutator<'a, P> {
         ensures none { IfNone result (Calm Seeking self.old self.new) }
         ensures tried { IfSome hint (λ cell. cell < self.old.seat.me.shape.cells
             → Tried cell self.old self.new) }
+        ensures tries { Tries (tries_for self.old.seat.me.shape.cells 1000 hint) self.old self.new }
         ensures pace { Paces 1 65 self.old self.new }
     {
         match hint {
@@ -48,6 +50,7 @@ impl<'a, P: Keeping> Mutator<'a, P> {
             ≡ held_cells self.old ++ cell ∷ []) }
         ensures none { IfNone result (Calm Seeking self.old self.new) }
         ensures tried { cell < self.old.seat.me.shape.cells → Tried cell self.old self.new }
+        ensures tries { Tries (hinted self.old.seat.me.shape.cells cell) self.old self.new }
         ensures used { cell < self.old.seat.me.shape.cells
             → IfNone result (Calm (AllUsed cell (cell + 1)) self.old self.new) }
         ensures pace { Paces 1 65 self.old self.new }
@@ -67,6 +70,9 @@ impl<'a, P: Keeping> Mutator<'a, P> {
         ensures got { IfSome result (λ place. Claimed self.old place self.new) }
         ensures none { IfNone result (Calm (AllUsed 0 self.old.seat.me.shape.cells) self.old self.new) }
         ensures seeking { IfNone result (Calm Seeking self.old self.new) }
+        ensures all { IfNone result (Tries (first_cells self.old.seat.me.shape.cells)
+            self.old self.new) }
+        ensures walk { Walks self.old self.new }
         ensures pace { Paces 1 65 self.old self.new }
     {
         let mut tries: u32 = 0;
@@ -85,6 +91,7 @@ impl<'a, P: Keeping> Mutator<'a, P> {
         requires mode { HasMode self.old }
         requires few { tries ≤ 64 }
         ensures calm { Calm Seeking self.old self.new }
+        ensures idle { Tries [] self.old self.new }
         ensures mode { HasMode self.new }
         ensures few { result ≤ 63 }
         ensures pace { Paces (tries + 1) (result + 1) self.old self.new }

@@ -1,5 +1,8 @@
+use Rattle.mutator_seat.proofs.Searching.{look_tries, searches_at, searches_on}
 use Rattle.mutator_seat.proofs.Seeking.{look_seeks, seeking_then}
-use Rattle.std.proofs.Common.{[], sym, ap, arith}
+use Rattle.std.proofs.Common.{ℕ, [], sym, ◌∙◌, ap, subst, arith}
+use Rattle.heap_rule.specs.Shape.{Shape}
+use Rattle.mutator_seat.specs.Searches.{Searches}
 use Rattle.std.proofs.lemmas.List.{append-nil}
 use Rattle.mutator_seat.specs.Bound.{Bound}
 use Rattle.mutator_seat.proofs.Pacing.{paces_look, paces_prompt, paces_then}
@@ -83,3 +86,26 @@ returns-in-None-clause-prompt g c =
     (paces_then was first.new.self tried 0 1 65
     (paces_look was first.new.self first.result 0 (omega arith) first.ensures.told)
     c.try_hinted.ensures.pace) c.wait_for_cell.ensures.pace)
+
+pub returns-in-Some-clause-search : goal.returns-in-Some-clause-search
+returns-in-Some-clause-search g c =
+    let was = c.args.self.now in
+    let first = c.look_once-first in
+    let tried = c.try_hinted.new.self in
+    searches_at 1000 c.args.hint c.args.hints.now was tried
+    (look_tries was first.new.self tried first.result 1000 c.args.hint first.ensures.told
+    c.try_hinted.ensures.tries)
+
+pub returns-in-None-clause-search : goal.returns-in-None-clause-search
+returns-in-None-clause-search g c =
+    let was = c.args.self.now in
+    let first = c.look_once-first in
+    let tried = c.try_hinted.new.self in
+    let last = c.wait_for_cell.new.self in
+    searches_on 1000 c.args.hint c.args.hints.now c.wait_for_cell.new.hints was tried last
+    (ap (λ (s : Shape). s.cells) c.in-None.ensures.none.kept.shape
+    ∙ ap (λ (m : Bound _). m.seat.me.shape.cells) first.ensures.told)
+    (look_tries was first.new.self tried first.result 1000 c.args.hint first.ensures.told
+    c.try_hinted.ensures.tries)
+    (subst (λ (q : ℕ). Searches q [] c.args.hints.now c.wait_for_cell.new.hints tried last)
+    c.patience_after.ensures.patience c.wait_for_cell.ensures.search)

@@ -1,8 +1,9 @@
 use Rattle.mutator_seat.specs.Stretches.{LookAndAnswer}
 use Rattle.mutator_seat.specs.Claims.{Seeking}
-use Rattle.std.proofs.Common.{arith}
+use Rattle.std.proofs.Common.{[], arith}
 use Rattle.mutator_seat.proofs.Calm.{calm_as}
 use Rattle.mutator_seat.proofs.Pacing.{paces_answer, paces_look, paces_then}
+use Rattle.mutator_seat.proofs.Searching.{tries_answer, tries_idle, tries_look}
 use Rattle.mutator_seat.proofs.Seeking.{answer_seeks, look_seeks, seeking_then}
 use Rattle.mutator_seat.proofs.Tries.{ends_then}
 use Rattle.mutator_seat.proofs.mutator.Mutator.handshake.Goals as goal
@@ -30,3 +31,10 @@ returns-clause-pace g c =
     c.answer.ensures.status)
     (paces_look c.answer.new.self c.look_once.new.self c.look_once.result 0 (omega arith)
     c.look_once.ensures.told)
+
+pub returns-clause-idle : goal.returns-clause-idle
+returns-clause-idle g c =
+    let was = c.args.self.now in
+    tries_idle [] was c.answer.new.self c.look_once.new.self
+    (tries_answer was c.answer.new.self c.answer.result c.answer.ensures.calm)
+    (tries_look c.answer.new.self c.look_once.new.self c.look_once.result c.look_once.ensures.told)

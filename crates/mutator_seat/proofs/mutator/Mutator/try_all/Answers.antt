@@ -1,5 +1,7 @@
-use Rattle.std.proofs.Common.{◌≤◌, ◌+◌, arith}
+use Rattle.std.proofs.Common.{◌≡◌, ◌≤◌, ◌+◌, ℕ, ap, arith}
 use Rattle.mutator_seat.proofs.Pacing.{paces_then, paces_try, paces_within}
+use Rattle.mutator_seat.specs.Searches.{first_cells}
+use Rattle.mutator_seat.proofs.Searching.{tries_as, tries_idle, tries_more}
 use Rattle.mutator_seat.proofs.Seeking.{seeking_then}
 use Rattle.mutator_seat.proofs.Tries.{claimed_then, tries_on}
 use Rattle.mutator_seat.proofs.mutator.Mutator.try_all.Goals as goal
@@ -46,4 +48,36 @@ loop-cell-preserved g c =
           (paces_then was loop.self tried 1 (loop.tries + 1) (loop.tries + 1 + 1) loop.invariant.4
           (paces_try loop.self tried loop.cell (loop.tries + 1) (omega (arith, few))
           c.try_cell.ensures.tried)) looked.ensures.pace,
+      tries_idle (first_cells (loop.cell + 1)) was tried looked.new.self
+          (tries_more loop.cell was loop.self tried loop.invariant.5 c.try_cell.ensures.tried)
+          looked.ensures.idle,
     )
+
+pub returns-in-Some-clause-walk : goal.returns-in-Some-clause-walk
+returns-in-Some-clause-walk g c =
+    let loop = c.loop-cell in (
+      loop.cell + 1,
+      (
+        omega (arith, c.loop-cell-test.true, c.cells-cell-end.ensures.cells),
+        tries_more loop.cell c.args.self.now loop.self c.try_cell.new.self loop.invariant.5
+            c.try_cell.ensures.tried,
+      ),
+    )
+
+pub returns-clause-all : goal.returns-clause-all
+returns-clause-all g c =
+    let loop = c.loop-cell in
+    let cells = c.args.self.now.seat.me.shape.cells in
+    let all : loop.cell ≡ cells =
+    omega (arith, c.loop-cell-test.false, loop.auto.cell-end, c.cells-cell-end.ensures.cells) in
+    tries_as (first_cells loop.cell) (first_cells cells) c.args.self.now loop.self
+    (ap (λ (n : ℕ). first_cells n) all) loop.invariant.5
+
+pub returns-clause-walk : goal.returns-clause-walk
+returns-clause-walk g c = (
+  c.loop-cell.cell,
+  (
+    omega (arith, c.loop-cell.auto.cell-end, c.cells-cell-end.ensures.cells),
+    c.loop-cell.invariant.5,
+  ),
+)

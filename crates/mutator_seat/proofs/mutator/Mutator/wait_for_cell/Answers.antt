@@ -1,7 +1,10 @@
-use Rattle.std.proofs.Common.{refl, sym, ◌∙◌, arith}
+use Rattle.std.proofs.Common.{ℕ, ap, refl, subst, sym, ◌∙◌, arith}
+use Rattle.heap_rule.specs.Shape.{Shape}
 use Rattle.mutator_seat.specs.Claims.{Seeking}
 use Rattle.mutator_seat.proofs.Calm.{calm_none}
 use Rattle.mutator_seat.proofs.Pacing.{paces_none, paces_then}
+use Rattle.mutator_seat.proofs.Searching.{sought_ends, sought_found, sought_idle, sought_more}
+use Rattle.mutator_seat.proofs.Searching.{Sought, sought_none}
 use Rattle.mutator_seat.proofs.Seeking.{seeking_then}
 use Rattle.mutator_seat.proofs.Tries.{claimed_then, err_both, full_behind, ok_all}
 use Rattle.mutator_seat.proofs.Updates.{err_then}
@@ -14,6 +17,7 @@ loop-init g c = (
   refl,
   omega arith,
   paces_none c.args.self.now 65 65 (omega arith),
+  sought_none c.args.first c.args.hints.now c.args.self.now,
 )
 
 pub handshake-control-requires : goal.handshake-control-requires
@@ -118,4 +122,36 @@ loop-preserved g c =
       paces_then c.args.self.now asked.new.self c.try_on.new.self 65 1 65
           (paces_then c.args.self.now c.loop.self asked.new.self 65 65 1 c.loop.invariant.3
           asked.ensures.pace) c.try_on.ensures.pace,
+      subst (λ (q : ℕ). Sought c.args.first q c.args.hints.now c.take_hint-hint.new.hints
+          c.args.self.now c.try_on.new.self) (sym c.patience_after-patience.ensures.patience)
+          (sought_more c.args.first c.loop.patience c.args.hints.now c.loop.hints
+          c.take_hint-hint.new.hints c.take_hint-hint.result c.args.self.now asked.new.self
+          c.try_on.new.self
+          (sought_idle c.args.first c.loop.patience c.args.hints.now c.loop.hints
+          c.args.self.now c.loop.self asked.new.self c.loop.invariant.4 asked.ensures.idle)
+          c.loop.invariant.1 c.take_hint-hint.ensures.gives c.take_hint-hint.ensures.counts
+          (ap (λ (s : Shape). s.cells) (asked.ensures.seeking.kept.shape
+          ∙ c.loop.invariant.0.kept.shape)) c.in-None-try_on.ensures.missed),
     )
+
+pub returns-then-decides-clause-search : goal.returns-then-decides-clause-search
+returns-then-decides-clause-search g c =
+    let asked = c.handshake-control in
+    sought_ends c.args.first c.loop.patience c.args.hints.now c.loop.hints c.args.self.now
+    asked.new.self c.try_last.new.self
+    (sought_idle c.args.first c.loop.patience c.args.hints.now c.loop.hints c.args.self.now
+    c.loop.self asked.new.self c.loop.invariant.4 asked.ensures.idle)
+    (ap (λ (s : Shape). s.cells) (asked.ensures.seeking.kept.shape
+    ∙ c.loop.invariant.0.kept.shape)) c.try_last.ensures.walk
+
+pub returns-in-Some-try_on-clause-search : goal.returns-in-Some-try_on-clause-search
+returns-in-Some-try_on-clause-search g c =
+    let asked = c.handshake-control in
+    sought_found c.args.first c.loop.patience c.args.hints.now c.loop.hints
+    c.take_hint-hint.new.hints c.take_hint-hint.result c.args.self.now asked.new.self
+    c.try_on.new.self
+    (sought_idle c.args.first c.loop.patience c.args.hints.now c.loop.hints c.args.self.now
+    c.loop.self asked.new.self c.loop.invariant.4 asked.ensures.idle) c.loop.invariant.1
+    c.take_hint-hint.ensures.gives c.take_hint-hint.ensures.counts
+    (ap (λ (s : Shape). s.cells) (asked.ensures.seeking.kept.shape
+    ∙ c.loop.invariant.0.kept.shape)) c.in-Some-try_on.ensures.found
