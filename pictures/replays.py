@@ -8,6 +8,8 @@ import subprocess
 import sys
 import tempfile
 
+# how many bytes of a schedule `show` lines may take, of 1,048,576
+SHOWN = 700_000
 STAGES = ["idle", "sync1", "clear", "sync2", "trace", "sweep"]
 
 
@@ -38,13 +40,19 @@ class Replay:
         return self.count([*lines, event]) is not None
 
     def states(self, lines):
-        """The rows of all cells, at first and after each line."""
+        """The rows of all cells, at first and after each line. A schedule has a greatest size, so
+        a few states are asked for at once."""
         shows = [f"show {cell}" for cell in range(self.cells)]
-        asked = list(shows)
-        for line in lines:
-            asked += [line, *shows]
-        rows = [line.split()[2:] for line in self.run(asked) if line.startswith("cell ")]
-        return [rows[at:at + self.cells] for at in range(0, len(rows), self.cells)]
+        at_once = max(1, SHOWN // (len(shows[-1]) * self.cells))
+        found = []
+        for begin in range(0, len(lines) + 1, at_once):
+            end = min(begin + at_once, len(lines) + 1)
+            asked = lines[:begin]
+            for at in range(begin, end):
+                asked += [*(lines[at - 1:at] if at > begin else []), *shows]
+            rows = [line.split()[2:] for line in self.run(asked) if line.startswith("cell ")]
+            found += [rows[at:at + self.cells] for at in range(0, len(rows), self.cells)]
+        return found
 
 
 def moved(replay, out, stage, cursor):

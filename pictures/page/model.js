@@ -37,10 +37,11 @@ const Model = (() => {
     };
   }
 
+  // A copy that can be changed, but for the row of a cell, which `set` puts in place.
   const copy = (s) => ({
     ...s,
     colours: [...s.colours],
-    rows: s.rows.map((row) => [...row]),
+    rows: [...s.rows],
     freed: [...s.freed],
     who: s.who.map((m) => ({
       ...m,
@@ -51,6 +52,9 @@ const Model = (() => {
     answered: [...s.answered],
     scan: s.scan && { ...s.scan },
   });
+  const set = (s, c, f, value) => {
+    s.rows[c] = s.rows[c].map((old, k) => (k === f ? value : old));
+  };
 
   // What a mutator knows and may do.
   const NOBODY = { status: "async", inside: false, over: true, held: [], mode: null, pending: null };
@@ -211,8 +215,8 @@ const Model = (() => {
           names(s, e, e.new, "new"), ...isSealed(s, e.new), ...marksStand(s, e, e.old, e.new)];
       },
       take: (s, e) => {
-        const row = s.rows[target(s.who[e.i], e.place)];
-        if (row[e.f] === e.old) row[e.f] = e.new;
+        const c = target(s.who[e.i], e.place);
+        if (s.rows[c][e.f] === e.old) set(s, c, e.f, e.new);
         spend(s.who[e.i]);
       },
       says: (s, e) => {
@@ -233,7 +237,7 @@ const Model = (() => {
       },
       take: (s, e) => {
         const m = s.who[e.i];
-        s.rows[target(m, m.pending.place)][m.pending.f] = e.new;
+        set(s, target(m, m.pending.place), m.pending.f, e.new);
         spend(m);
       },
       says: (s, e) => {
@@ -278,7 +282,7 @@ const Model = (() => {
           [`field ${e.f} of ${sayCell(c)} names no cell yet`, cellOf(s.rows[c][e.f]) === null,
             "fill-cell"]];
       },
-      take: (s, e) => { s.rows[target(s.who[e.i], e.place)][e.f] = e.value; },
+      take: (s, e) => set(s, target(s.who[e.i], e.place), e.f, e.value),
       says: (s, e) => `Mutator ${e.i} fills field ${e.f} of `
         + `${sayCell(target(mutator(s, e.i), e.place))} with ${say(e.value)}. No mark is needed.`,
     },
@@ -289,7 +293,7 @@ const Model = (() => {
         return [isIn(s, e), isPlace(s, e), [`${sayCell(c)} is raw`, isRaw(s, c)]];
       },
       take: (s, e) => {
-        s.rows[target(s.who[e.i], e.place)][5] = e.as === "record" ? "=1" : "=2";
+        set(s, target(s.who[e.i], e.place), 5, e.as === "record" ? "=1" : "=2");
       },
       says: (s, e) => `Mutator ${e.i} seals ${sayCell(target(mutator(s, e.i), e.place))}: it is a `
         + `${e.as} from now on.`,
@@ -520,7 +524,7 @@ const Model = (() => {
     wipe: {
       needs: (s) => [["the cell at the position is being wiped", s.sweep === "wiping"],
         [`one of its six fields is left (${s.wiped} of 6)`, s.wiped < 6]],
-      take: (s) => { s.rows[s.position][s.wiped] = "-"; s.wiped += 1; },
+      take: (s) => { set(s, s.position, s.wiped, "-"); s.wiped += 1; },
       says: (s) => `The sweep sets field ${s.wiped} of ${sayCell(s.position)} to null.`,
     },
     free: {
@@ -655,6 +659,19 @@ const Model = (() => {
   const lost = (s, ways = reach(s)) =>
     s.colours.flatMap((colour, c) => (colour === "blue" && ways[c] !== null ? [c] : []));
 
+  // The rows of all cells at first and after each event, of what `play` knows of a replay.
+  function rowsOf({ first, changes }) {
+    const rows = [first];
+    for (const changed of changes) {
+      const before = rows[rows.length - 1];
+      const cells = Object.entries(changed);
+      const after = cells.length ? [...before] : before;
+      for (const [cell, to] of cells) after[cell] = to;
+      rows.push(after);
+    }
+    return rows;
+  }
+
   const row = (s, c) => `cell ${c} ${s.colours[c]} ${s.rows[c].join(" ")} freed ${s.freed[c]}`;
 
   // Plays a schedule, with all rules or without one: the steps, each with the state before and
@@ -677,7 +694,8 @@ const Model = (() => {
       s = take(s, e, without);
       it.after = s;
       run.steps.push(it);
-      if (run.lost === null && lost(s).length) run.lost = run.steps.length;
+      // a cell that can be reached becomes free by this event alone
+      if (e.kind === "free" && run.lost === null && lost(s).length) run.lost = run.steps.length;
       return true;
     };
     const steps = (words, number) => {
@@ -724,7 +742,7 @@ const Model = (() => {
     return run;
   }
 
-  return { STAGES, HANDSHAKES, REQUESTED, OF_MUTATOR, words, play, reach, lost, row, barrier, marked,
-    say, sayCell, large };
+  return { STAGES, HANDSHAKES, REQUESTED, OF_MUTATOR, words, play, reach, lost, row, rowsOf, barrier,
+    marked, say, sayCell, large };
 })();
 if (typeof module !== "undefined") module.exports = Model;

@@ -3,10 +3,13 @@
 // cell is shown as the replay's text has it; all else is the model's.
 (() => {
   const DATA = JSON.parse(document.getElementById("data").textContent);
+  DATA.forEach((it) => { it.rows = Model.rowsOf(it); });
   const MOST_CELLS = 64;
+  const MOST_MUTATORS = 6;
   const get = (id) => document.getElementById(id);
   const shown = { schedule: 0, rule: "", at: 0, timer: null };
   const runs = new Map();
+  const summaries = new Map();
 
   function make(kind, name, ...children) {
     const it = document.createElement(kind);
@@ -22,10 +25,24 @@
     return it;
   }
 
+  // A run; the last few are kept.
   function runOf(schedule, rule) {
     const key = `${schedule} ${rule}`;
-    if (!runs.has(key)) runs.set(key, Model.play(DATA[schedule].text, rule || undefined));
+    if (!runs.has(key)) {
+      if (runs.size > 3) runs.clear();
+      runs.set(key, Model.play(DATA[schedule].text, rule || undefined));
+    }
     return runs.get(key);
+  }
+
+  // What a run comes to.
+  function summaryOf(schedule, rule) {
+    const key = `${schedule} ${rule}`;
+    if (!summaries.has(key)) {
+      const { lost, text, steps } = runOf(schedule, rule);
+      summaries.set(key, { lost, said: `${steps.length} ${text.join()}` });
+    }
+    return summaries.get(key);
   }
 
   const data = () => DATA[shown.schedule];
@@ -63,10 +80,8 @@
   }
 
   function differs(schedule, id) {
-    const one = runOf(schedule, "");
-    const two = runOf(schedule, id);
-    return one.text.join() !== two.text.join() || one.steps.length !== two.steps.length
-      || two.lost !== null;
+    const found = summaryOf(schedule, id);
+    return found.said !== summaryOf(schedule, "").said || found.lost !== null;
   }
 
   // Parts of the page.
@@ -90,7 +105,7 @@
     const groups = { lose: [], differ: [], else: [], other: [] };
     for (const it of RULES) {
       const at = DATA.findIndex((one) => one.name === it.schedule);
-      if (runOf(shown.schedule, it.id).lost !== null) groups.lose.push(it);
+      if (summaryOf(shown.schedule, it.id).lost !== null) groups.lose.push(it);
       else if (differs(shown.schedule, it.id)) groups.differ.push(it);
       else if (at >= 0) groups.other.push(it);
       else groups.else.push(it);
@@ -168,7 +183,7 @@
       list.append(make("li", kind, make("span", "what", need.words),
         gone ? " (does not hold: this is the rule that is left out)" : ""));
     }
-    const meant = it.line === "plain" ? [] : Model.words(it.event);
+    const meant = it.line.split(" ").length < 3 ? [] : Model.words(it.event);
     part.classList.toggle("no", !it.can);
     part.replaceChildren(
       make("h2", "", `Step ${shown.at}: ${who} (line ${it.number} of the schedule${from})`),
@@ -292,7 +307,14 @@
     const ways = Model.reach(s);
     const rows = rowsAt(shown.at);
     const before = rowsAt(Math.max(shown.at - 1, 0));
-    get("mutators").replaceChildren(...s.who.map((_, i) => showMutator(s, i)));
+    // of many mutators those that are out are counted
+    const step = stepAt(run(), shown.at);
+    const shownOnes = s.who.flatMap((m, i) => (s.mutators <= MOST_MUTATORS || m.inside
+      || (step && step.event.i === i) ? [i] : []));
+    get("mutators").replaceChildren(...shownOnes.map((i) => showMutator(s, i)));
+    if (shownOnes.length < s.mutators) {
+      get("mutators").append(make("p", "more", `${s.mutators - shownOnes.length} more are out.`));
+    }
     // in a heap of many cells the free ones, which are all alike, are counted
     const drawn = s.colours.flatMap((_, c) => (s.cells <= 12 || !rows[c].startsWith("blue")
       || rows[c] !== before[c] || ways[c] !== null ? [c] : [])).slice(0, MOST_CELLS);
@@ -373,13 +395,25 @@
 
   const LETTERS = { blue: "f", white: "w", gray: "g", black: "b" };
 
-  // All steps at a glance: a column for each, and the one that is shown.
+  // All steps at a glance: a column for each, and the one that is shown. It is drawn once a run and
+  // width.
+  const score = { run: null, room: 0, wide: 0, left: 84, frame: null };
   function showScore() {
+    const room = Math.max(get("score").clientWidth - 40 - score.left, 300);
+    if (score.run !== run() || score.room !== room) drawScore(room);
+    const x = score.left + (shown.at - 1) * score.wide;
+    score.frame.setAttribute("x", x);
+    score.frame.setAttribute("visibility", shown.at > 0 ? "visible" : "hidden");
+    const from = get("score").scrollLeft;
+    if (x < from + score.left || x > from + room) get("score").scrollLeft = x - room / 2;
+  }
+
+  function drawScore(room) {
     const it = run();
     const many = steps(it);
-    const left = 84;
-    const room = Math.max(get("score").clientWidth - 26 - left, 300);
+    const { left } = score;
     const wide = Math.max(Math.min(room / Math.max(many, 1), 22), 5);
+    Object.assign(score, { run: it, room, wide });
     const parts = [];
     let y = 0;
     const label = (words, high) => parts.push(draw("text", { x: 0, y: y + high / 2 + 4, class: "dim" }, words));
@@ -396,8 +430,10 @@
     const ticks = (who, high) => it.steps.forEach((step, k) => {
       const own = Model.OF_MUTATOR.includes(step.event.kind) ? step.event.i : null;
       if (own === who) {
-        parts.push(draw("rect", { x: left + k * wide + wide / 2 - 1.5, y: y + 4, width: 3,
-          height: high - 8, class: "tick" }));
+        const tick = draw("rect", { x: left + k * wide + wide / 2 - 1.5, y: y + 4, width: 3,
+          height: high - 8, class: "tick" });
+        tick.append(draw("title", {}, step.line));
+        parts.push(tick);
       }
     });
     label("stage", 18);
@@ -425,11 +461,12 @@
     const changes = (c) => it.steps.some((step) => step.before.colours[c] !== step.after.colours[c]);
     const cells = it.opening.colours.flatMap((_, c) =>
       (it.opening.cells <= 12 || changes(c) ? [c] : [])).slice(0, 24);
-    const ways = it.steps.map((step) => Model.lost(step.after));
+    const lost = it.steps.map((step, k) =>
+      (it.lost !== null && k + 1 >= it.lost ? Model.lost(step.after) : []));
     y += 3;
     for (const c of cells) {
       label(c === 0 ? "anchor" : `cell ${c}`, 14);
-      stretches((at) => (ways[at - 1].includes(c) ? "lost" : it.steps[at - 1].after.colours[c]), 17,
+      stretches((at) => (lost[at - 1].includes(c) ? "lost" : it.steps[at - 1].after.colours[c]), 17,
         (x, w, colour) => {
           parts.push(draw("rect", { x, y, width: w, height: 14, class: `edge c-${colour}` }));
           const words = colour === "lost" ? "lost" : w > 40 ? { blue: "free" }[colour] || colour
@@ -444,18 +481,14 @@
       parts.push(draw("text", { x: left + it.steps.length * wide + wide / 2 - 3, y: 13,
         class: "refused" }, "\u2717"));
     }
-    if (shown.at > 0) {
-      parts.push(draw("rect", { x: left + (shown.at - 1) * wide, y: 0.75, width: wide, height: y - 2,
-        class: "now" }));
-    }
+    score.frame = draw("rect", { x: left, y: 0.75, width: wide, height: y - 2, class: "now" });
+    parts.push(score.frame);
     const picture = draw("svg", { width: left + Math.max(many, 1) * wide + 12, height: y });
     picture.append(...parts);
     picture.addEventListener("click", (event) => {
       goTo(Math.ceil((event.clientX - picture.getBoundingClientRect().left - left) / wide));
     });
-    const at = get("score").scrollLeft;
     get("score").replaceChildren(picture);
-    get("score").scrollLeft = at;
   }
 
   function showWhy() {
