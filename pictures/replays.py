@@ -96,7 +96,7 @@ def events_of(replay, lines):
     """The events, each `plain` as those that it stands for, and the one that cannot happen."""
     out, stage, cursor = [], "idle", 0
     for line in lines:
-        if line.startswith("show"):
+        if line.startswith("show") and int(line.split()[1]) < replay.cells:
             continue
         if not replay.can(out, line):
             return out, line
@@ -114,6 +114,6 @@ def events_of(replay, lines):
 
 def lines_of(path):
     """The lines of a schedule that count."""
-    with open(path, encoding="ascii") as it:
+    with open(path, encoding="latin-1") as it:
         lines = [line.rstrip("\r\n") for line in it]
     return [line for line in lines if line and not line.startswith("#")]

@@ -700,7 +700,12 @@ const Model = (() => {
     };
     const steps = (words, number) => {
       if (words[0] === "show") {
-        if (Number(words[1]) >= s.cells) return false;
+        if (Number(words[1]) >= s.cells) {
+          run.refused = { line: words.join(" "), number, before: s, can: false, says: "",
+            event: { kind: "show" },
+            needs: [{ words: `there is a cell ${words[1]}`, holds: false, left: false }] };
+          return false;
+        }
         run.text.push(row(s, Number(words[1])));
         return true;
       }

@@ -42,9 +42,9 @@ const RULES = [
     schedule: "a_cell_claimed_while_tracing_is_black",
     rule: "A cell that is claimed by a mode of the stage trace, in async, is black.",
     change: "It is white.",
-    why: "The mutator has answered, so its roots were shown before it held this cell, and no field "
-      + "names the cell. The collector cannot come to it. Born white it looks like garbage when "
-      + "tracing ends.",
+    why: "The third handshake is over for this mutator: nobody asks for its roots again, and no "
+      + "field names the new cell. So the collector cannot come to it, and born white it looks like "
+      + "garbage when tracing ends.",
   },
   {
     id: "claim-sweeping", name: "the colour of a claim ahead of the sweep",
