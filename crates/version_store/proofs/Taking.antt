@@ -1,7 +1,7 @@
 -- The cut of a link: what its store needs, or the read and the exchange in its place, and what it
 -- leaves.
-use Rattle.std.proofs.Common.{◌≡◌, ◌<◌, ◌≤◌, ◌+◌, ◌-◌, ◌⊎◌, ℕ, false, List, [], ◌∷◌, ◌++◌, length}
-use Rattle.std.proofs.Common.{Result, Ok, Err, OnOk, IfErr, inl, inr, get_or, max}
+use Rattle.std.proofs.Common.{◌≡◌, ◌<◌, ◌≤◌, ◌+◌, ◌-◌, ◌⊎◌, ℕ, Bool, false, List, [], ◌∷◌, ◌++◌}
+use Rattle.std.proofs.Common.{Result, Ok, Err, OnOk, IfErr, Some, inl, inr, get_or, length, max}
 use Rattle.std.proofs.Common.{refl, sym, ◌∙◌, ap, subst, arith}
 use Rattle.std.proofs.lemmas.List.{append-nil, get_or_push}
 use Rattle.cell_words.specs.Modes.{barrier_of}
@@ -14,7 +14,7 @@ use Rattle.core_machine.specs.declared.events.Found.{Found}
 use Rattle.core_machine.specs.declared.events.Found.TheVariants as finds
 use Rattle.core_machine.specs.declared.pending.Pending.{Pending}
 use Rattle.core_machine.specs.Own.{pending_or_none}
-use Rattle.core_machine.specs.Words.{same_field}
+use Rattle.core_machine.specs.Words.{lets_store, same_field}
 use Rattle.doc_tree.specs.Tree.{DocTree}
 use Rattle.heap_rule.specs.declared.known.Known.{Known}
 use Rattle.heap_rule.specs.declared.view.View.{View}
@@ -31,6 +31,7 @@ use Rattle.mutator_seat.specs.Stores.{Exchanged, Looks, MayOverwrite, Overwritte
 use Rattle.mutator_seat.specs.Stores.{PicksOverwrite, PicksStore, Stepped, exchange_of, fetch_of}
 use Rattle.mutator_seat.specs.Stores.{read_of, store_of, told_by}
 use Rattle.mutator_seat.specs.Stretches.{Kept, SamePlaces}
+use Rattle.trails.specs.Claims.{look_of}
 use Rattle.version_rule.specs.Knowing.{HasReadLink, KnowsVersion, MayCut, link_cut, link_taken}
 use Rattle.version_rule.specs.Knowing.{number_told}
 use Rattle.version_rule.specs.Pass.{Pass, cutting}
@@ -41,12 +42,13 @@ use Rattle.version_store.specs.declared.held.HeldVersion.{HeldVersion}
 use Rattle.held_places.specs.Calls.{IsIn, Overwrote, cells_found}
 use Rattle.version_store.specs.Held.{IsHeld}
 use Rattle.version_store.specs.Walks.{LinkTaken}
-use Rattle.version_store.specs.Writes.{EndsLink, Writes, WritesLink}
+use Rattle.version_store.specs.Writes.{Chosen, EndsLink, Writes, WritesLink, is_act, is_write}
 use Rattle.held_places.proofs.Going.{many_cells, target_still}
 use Rattle.held_places.proofs.Overwriting.{Loaded, exchanged, fetch_begun, fetched}
 use Rattle.held_places.proofs.Overwriting.{overwrote, read_here}
 use Rattle.version_store.proofs.Remaining.{version_still}
-use Rattle.version_store.proofs.Leaving.{looks_writes, nothing_then, rewrites}
+use Rattle.version_store.proofs.Leaving.{chosen_then, looks_once, looks_writes, nothing_then}
+use Rattle.version_store.proofs.Leaving.{rewrites}
 use Rattle.version_store.proofs.Links.{ends, follows, link_is_no_number}
 use Rattle.version_store.proofs.Trimming.{picks_cut, version_kept}
 
@@ -241,11 +243,16 @@ module _ (a : Bound Pass) (newest oldest : HeldVersion) (is : IsIn a) (first : I
     -- One way or the other: what was loaded is `loaded`, and the write was made at `at`.
     writes_by : (b looked loaded at : Bound Pass) (control : Control) (e : Event) (found : Found)
         → Looks control a looked → loaded.seat.me.number ≡ looked.seat.me.number → Kept loaded at
-        → Writes (took e found ∷ []) looked b
-        → (at.seat.me.number ≡ a.seat.me.number → EndsLink a.seat.me.number e) → WritesLink a b
-    writes_by b looked loaded at control e found look number_loaded marks writes ends = record {
+        → Writes (took e found ∷ []) looked b → Chosen is_act (took e found ∷ []) looked b
+        → (at.seat.me.number ≡ a.seat.me.number
+        → EndsLink (lets_store a.seat.me.presence.status (Some control)) a.seat.me.number e)
+        → WritesLink a b
+    writes_by b looked loaded at control e found look number_loaded marks writes acts ends = record {
+      control = control;
       taken = took e found;
       ends = ends (marks.number ∙ number_loaded ∙ look.kept.number);
+      acts = chosen_then is_act (look_of a.seat.me.number control ∷ []) (took e found ∷ [])
+          a looked b (looks_once control a looked look) acts;
       writes = nothing_then (took e found ∷ []) a looked b (looks_writes control a looked look)
           writes;
     }
@@ -262,9 +269,14 @@ module _ (a : Bound Pass) (newest oldest : HeldVersion) (is : IsIn a) (first : I
           writes_by b looked done.loaded done.at is.control (store_of values.Null done.at)
               finds.Stored is.look (ap (λ (u : View Pass). u.number) done.load.event.new)
               done.marks.kept
-              (rewrites Rule wanted (fetch_of looked oldest.place 2) same_pass is.seen
-              (store_of values.Null) (link_taken number) finds.Stored values.Null looked b
-              is.rewritten refl refl) (λ same. (same, refl)),
+              (rewrites is_write (λ i p. refl) (λ i n p k. refl) Rule wanted
+              (fetch_of looked oldest.place 2) same_pass is.seen (store_of values.Null)
+              (link_taken number) finds.Stored values.Null looked b is.rewritten refl refl)
+              (rewrites is_act (λ i p. refl) (λ i n p k. refl) Rule wanted
+              (fetch_of looked oldest.place 2) same_pass is.seen (store_of values.Null)
+              (link_taken number) finds.Stored values.Null looked b is.rewritten refl refl)
+              (λ same. subst (λ (lets : Bool). EndsLink lets a.seat.me.number
+              (store_of values.Null done.at)) (sym is.lets) (same, refl)),
         )
 
     exchanged_link : (b : Bound Pass) (seen found : Field)
@@ -292,10 +304,17 @@ module _ (a : Bound Pass) (newest oldest : HeldVersion) (is : IsIn a) (first : I
           writes_by b looked done.loaded done.at is.control
               (exchange_of oldest.place 2 seen values.Null done.at) (finds.Field found) is.look
               (ap (λ (u : View Pass). u.number) load.event.new) done.marks.kept
-              (rewrites Rule wanted (read_of looked oldest.place 2) link_cut seen
+              (rewrites is_write (λ i p. refl) (λ i n p k. refl) Rule wanted
+              (read_of looked oldest.place 2) link_cut seen
               (exchange_of oldest.place 2 seen values.Null) (link_taken number)
               (finds.Field found) values.Null looked b is.rewritten refl refl)
-              (λ same. (same, refl, refl)),
+              (rewrites is_act (λ i p. refl) (λ i n p k. refl) Rule wanted
+              (read_of looked oldest.place 2) link_cut seen
+              (exchange_of oldest.place 2 seen values.Null) (link_taken number)
+              (finds.Field found) values.Null looked b is.rewritten refl refl)
+              (λ same. subst (λ (lets : Bool). EndsLink lets a.seat.me.number
+              (exchange_of oldest.place 2 seen values.Null done.at)) (sym is.lets)
+              (same, refl, refl)),
         )
 
     pub was_taken : (b : Bound Pass) (r : Result (Unit {0}) Moved)

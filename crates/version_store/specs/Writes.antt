@@ -1,18 +1,20 @@
 -- The writes of a call: none of a call that reads, one of a commit that is made, and of one that is
 -- refused none but the one that was lost; and of a trim at most one, that of a link.
 -- Source: this project's.
-use Rattle.std.specs.Prelude.{ℕ, ◌≡◌, ◌⊎◌, Bool, true, false, List, [], ◌∷◌, ◌++◌}
+use Rattle.std.specs.Prelude.{ℕ, ◌≡◌, ◌⊎◌, Bool, true, false, List, [], ◌∷◌, ◌++◌, Some}
+use Rattle.cell_words.specs.declared.controls.Control.{Control}
 use Rattle.cell_words.specs.declared.fields.Field.{Field}
 use Rattle.cell_words.specs.declared.fields.Field.TheVariants as field
 use Rattle.core_machine.specs.declared.events.Event.{Event}
 use Rattle.core_machine.specs.declared.events.Event.TheVariants as event
 use Rattle.core_machine.specs.declared.events.Found.TheVariants as finds
 use Rattle.core_machine.specs.declared.events.Taken.{Taken}
-use Rattle.core_machine.specs.Words.{same_field}
+use Rattle.core_machine.specs.Words.{lets_store, same_field}
 use Rattle.heap_rule.specs.Rule.{took}
 use Rattle.mutator_seat.specs.Bound.{Bound}
 use Rattle.mutator_seat.specs.Claims.{Seeking}
 use Rattle.mutator_seat.specs.Stretches.{Calm}
+use Rattle.trails.specs.Claims.{look_of}
 use Rattle.version_rule.specs.Pass.{Pass}
 use Rattle.version_store.specs.declared.fault.CommitFault.{CommitFault}
 use Rattle.version_store.specs.declared.fault.CommitFault.TheVariants as faults
@@ -22,20 +24,30 @@ is_write (event.Write i place f old new) = true
 is_write (event.Store i new) = true
 is_write _ = false
 
+-- a look, an answer, or a write
+abbrev pub is_act : Event → Bool
+is_act (event.Look i) = true
+is_act (event.Answer i) = true
+is_act e = is_write e
+
 abbrev pub kept_if : Bool → Taken → List Taken
 kept_if true t = t ∷ []
 kept_if false t = []
 
--- the writes among some events, in order
-abbrev pub writes_in : List Taken → List Taken
-writes_in [] = []
-writes_in (t ∷ ts) = kept_if (is_write t.event) t ++ writes_in ts
+-- those among some events of which this holds, in order
+abbrev pub chosen : (Event → Bool) → List Taken → List Taken
+chosen is [] = []
+chosen is (t ∷ ts) = kept_if (is t.event) t ++ chosen is ts
 
--- the trail grew by events, of which these are the writes
-pub record Writes (writes : List Taken) (old new : Bound Pass) : Type 0 where
+-- the trail grew by events, of which these are such ones
+pub record Chosen (is : Event → Bool) (these : List Taken) (old new : Bound Pass) : Type 0 where
   pub added : List Taken
   pub trail : new.seat.me.trail ≡ old.seat.me.trail ++ added
-  pub writes_are : writes_in added ≡ writes
+  pub are : chosen is added ≡ these
+
+-- the writes of a call are these
+abbrev pub Writes : List Taken → Bound Pass → Bound Pass → Type 0
+Writes writes old new = Chosen is_write writes old new
 
 abbrev pub WritesNothing : Bound Pass → Bound Pass → Type 0
 WritesNothing old new = Writes [] old new
@@ -58,17 +70,26 @@ pub record LosesOnce (old new : Bound Pass) : Type 0 where
   pub other : same_field found from ≡ false
   pub writes : Writes (exchange old.seat.me.number from box found ∷ []) old new
 
--- a store of null, or an exchange of a version's link for null
-abbrev pub EndsLink : ℕ → Event → Type 0
-EndsLink number (event.Store i new) = (i ≡ number) × (new ≡ field.Null)
-EndsLink number (event.Write i place f old new) = (i ≡ number) × (f ≡ 2) × (new ≡ field.Null)
-EndsLink number _ = ⊥
+-- where a store may be begun a store of null, and elsewhere an exchange of a version's link for null
+abbrev pub EndsLink : Bool → ℕ → Event → Type 0
+EndsLink true number (event.Store i new) = (i ≡ number) × (new ≡ field.Null)
+EndsLink false number (event.Write i place f old new) = (i ≡ number) × (f ≡ 2) × (new ≡ field.Null)
+EndsLink _ number _ = ⊥
 
--- one write alone, which ends a link
+-- One write alone, which ends a link. One look came before it and no answer to a handshake; by the
+-- status and what it found the write is a store, or an exchange.
 pub record WritesLink (old new : Bound Pass) : Type 0 where
+  pub control : Control
   pub taken : Taken
-  pub ends : EndsLink old.seat.me.number taken.event
+  pub ends : EndsLink (lets_store old.seat.me.presence.status (Some control))
+      old.seat.me.number taken.event
+  pub acts : Chosen is_act (look_of old.seat.me.number control ∷ taken ∷ []) old new
   pub writes : Writes (taken ∷ []) old new
+
+-- it neither wrote nor looked nor answered, and its status is as it was
+pub record ReadsAlone (old new : Bound Pass) : Type 0 where
+  pub acts : Chosen is_act [] old new
+  pub status : new.seat.me.presence.status ≡ old.seat.me.presence.status
 
 -- What a refused commit did. It read a newer version: before a write or behind a lost one. It found
 -- no free cell: then it looked, marked, answered and tried to claim. Or it did nothing at all.

@@ -10,7 +10,7 @@ ghost use Rattle.version_store.specs.Calls.{version_asks};
 ghost use Rattle.version_store.specs.Held.{GivesLatest, GivesRoot, IsHeld};
 ghost use Rattle.version_store.specs.Lasts.{IsSameMutator, LastsAcross, marks};
 ghost use Rattle.version_store.specs.Reads.{FindsLatest, FindsNumber};
-ghost use Rattle.version_store.specs.Writes.{WritesNothing};
+ghost use Rattle.version_store.specs.Writes.{ReadsAlone, WritesNothing};
 
 use crate::held::HeldVersion;
 use mutator_seat::{Mutator, Value};
@@ -72,6 +72,7 @@ pub(crate) fn read_number<S: Spelling>(m: &mut Mutator<'_, Versions<S>>, place: 
         × KnowsVersion m.old.seat.me place number root) }
     ensures number { FindsNumber m.old m.new place result }
     ensures writes { WritesNothing m.old m.new }
+    ensures alone { ReadsAlone m.old m.new }
 {
     match m.read::<Brand>(place, 0) {
         Value::Num(number) => number,

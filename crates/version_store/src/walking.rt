@@ -1,8 +1,12 @@
 //! Walking back along the links of versions: to an older version, and to the link that is due to be
 //! cut.
 ghost use Rattle.std.specs.Prelude.{◌≡◌, ◌<◌, ◌≤◌, ◌+◌, ◌⊎◌, IfErr, IfNone, IfOk, IfSome, OnErr};
-ghost use Rattle.std.specs.Prelude.{[], length, true};
-ghost use Rattle.version_rule.specs.Versions.{HoldsVersions};
+ghost use Rattle.std.specs.Prelude.{OnOk, [], false, length, true};
+ghost use Rattle.cell_words.specs.declared.fields.Field.{Field};
+ghost use Rattle.core_machine.specs.Words.{same_field};
+ghost use Rattle.mutator_events.specs.declared.values.Value.TheVariants as values;
+ghost use Rattle.mutator_seat.specs.Stores.{Exchanged, MayOverwrite, Overwritten, PicksOverwrite};
+ghost use Rattle.version_rule.specs.Versions.{HoldsVersions, is_fixed};
 ghost use Rattle.version_store.specs.Calls.{Holds};
 ghost use Rattle.held_places.specs.Calls.{IsIn};
 ghost use Rattle.version_store.specs.Commits.{FindsNewer, ShowsNewer};
@@ -11,12 +15,12 @@ ghost use Rattle.version_store.specs.Lasts.{IsSameMutator, LastsAcross};
 ghost use Rattle.version_store.specs.Older.{GivesOlder, Trims};
 ghost use Rattle.version_store.specs.Walks.{CutsOff, EndsThere, FollowsLink, LinkIsNull, LinkTaken};
 ghost use Rattle.version_store.specs.Walks.{PicksLink, Stopped, Walked};
-ghost use Rattle.version_store.specs.Writes.{WritesLink, WritesNothing};
+ghost use Rattle.version_store.specs.Writes.{ReadsAlone, WritesLink, WritesNothing};
 
 use crate::fault::Cut;
 use crate::held::HeldVersion;
 use crate::reading::{latest, read_number};
-use mutator_seat::{Choice, Mutator, Value};
+use mutator_seat::{Choice, Moved, Mutator, Value};
 use std::marker::Brand;
 use version_rule::{Spelling, Versions};
 
@@ -113,6 +117,7 @@ fn walk_back<S: Spelling, C: Choice<Versions<S>>>(
     ensures walked { IfSome result (λ at. Walked m.old m.new v at back) }
     ensures stopped { IfNone result (Stopped C.next m.old m.new v back) }
     ensures writes { WritesNothing m.old m.new }
+    ensures alone { ReadsAlone m.old m.new }
 {
     let _ = read_number(m, v.place);
     let mut at = v;
@@ -138,6 +143,7 @@ fn follow<S: Spelling, C: Choice<Versions<S>>>(
     ensures follows { IfSome result (λ before. FollowsLink m.old m.new v before) }
     ensures ends { IfNone result (EndsThere C.next m.old m.new v) }
     ensures writes { WritesNothing m.old m.new }
+    ensures alone { ReadsAlone m.old m.new }
 {
     match m.read::<C>(v.place, 2) {
         Value::Held(place) => Some(HeldVersion {
@@ -183,5 +189,23 @@ fn take_link<S: Spelling>(
     ensures writes { WritesLink m.old m.new }
 {
     let _ = newest;
-    let _ = m.store::<Brand, Brand>(oldest.place, 2, Value::Null);
+    let _ = end_link::<S, Brand, Brand>(m, oldest.place);
+}
+
+/// The one write of a trim: null goes into the link of the version at a place.
+fn end_link<S: Spelling, R: Choice<Versions<S>>, C: Choice<Versions<S>>>(
+    m: &mut Mutator<'_, Versions<S>>,
+    place: usize,
+) -> Result<(), Moved>
+    requires may { MayOverwrite is_fixed m.old.seat.me place 2 values.Null }
+    requires rule { PicksOverwrite (HoldsVersions S.is_tree S.tree_of) is_fixed R.next C.next m.old
+        place 2 values.Null }
+    ensures made { OnOk result (Overwritten (HoldsVersions S.is_tree S.tree_of) is_fixed C.next m.old
+        place 2 values.Null m.new ⊎ ((seen : Field) × Exchanged (HoldsVersions S.is_tree S.tree_of)
+        is_fixed R.next C.next m.old place 2 values.Null seen seen m.new)) }
+    ensures moved { IfErr result (λ moved. (seen : Field) × (same_field moved.found seen ≡ false)
+        × Exchanged (HoldsVersions S.is_tree S.tree_of) is_fixed R.next C.next m.old place 2
+        values.Null seen moved.found m.new) }
+{
+    m.store::<R, C>(place, 2, Value::Null)
 }

@@ -1,7 +1,7 @@
 use Rattle.std.proofs.Common.{sym, ◌∙◌}
 use Rattle.heap_rule.proofs.Picking.{read_picks}
 use Rattle.version_rule.specs.Versions.{HoldsVersions, is_fixed}
-use Rattle.version_store.proofs.Leaving.{read_writes}
+use Rattle.version_store.proofs.Leaving.{read_writes, reads_alone}
 use Rattle.version_store.proofs.Latest.{finds_number, number_is}
 use Rattle.held_places.proofs.ReadValues.{number_alone}
 use Rattle.version_store.proofs.reading.read_number.Goals as goal
@@ -30,4 +30,5 @@ returns g c =
           c.read.ensures.heap c.read.ensures.table c.args.place c.requires.version.1.1.there told.0
           told.2 c.in-Num.number (sym c.in-Num.is ∙ told.1);
       writes = read_writes _ _ c.args.m.now c.read.new.self c.args.place 0 _ told.2;
+      alone = reads_alone _ _ c.args.m.now c.read.new.self c.args.place 0 _ told.2;
     }

@@ -48,7 +48,7 @@ returns-in-Some g c = record {
   cut = link_taken_on c.args.m.now c.follow.new.m c.take_link.new.m c.args.oldest
       _ c.requires.oldest c.in-Some.ensures.follows c.take_link.ensures.taken;
   writes = at_most_behind c.args.m.now c.follow.new.m c.take_link.new.m
-      c.in-Some.ensures.follows.goes.number c.follow.ensures.writes
+      c.in-Some.ensures.follows.goes.number c.follow.ensures.writes c.follow.ensures.alone
       (inr c.take_link.ensures.writes);
 }
 

@@ -37,7 +37,8 @@ returns-in-Some g c = record {
       (subst (λ (n : ℕ). Walked c.args.m.now c.walk_back.new.m c.args.v c.in-Some.oldest n)
       c.saturating_sub.ensures c.in-Some.ensures.walked) c.cut_link.ensures.cut;
   writes = at_most_behind c.args.m.now c.walk_back.new.m c.cut_link.new.m
-      c.in-Some.ensures.walked.goes.number c.walk_back.ensures.writes c.cut_link.ensures.writes;
+      c.in-Some.ensures.walked.goes.number c.walk_back.ensures.writes c.walk_back.ensures.alone
+      c.cut_link.ensures.writes;
 }
 
 pub returns-in-None : goal.returns-in-None

@@ -1,5 +1,5 @@
 use Rattle.std.proofs.Common.{sym, ◌∙◌}
-use Rattle.version_store.proofs.Leaving.{read_writes}
+use Rattle.version_store.proofs.Leaving.{read_writes, reads_alone}
 use Rattle.version_store.proofs.Links.{ends, follows, link_is_no_number}
 use Rattle.version_store.proofs.walking.follow.Goals as goal
 
@@ -40,3 +40,11 @@ returns-in-Held-clause-writes g c =
 pub returns-in-Null-clause-writes : goal.returns-in-Null-clause-writes
 returns-in-Null-clause-writes g c =
     read_writes _ _ c.args.m.now c.read.new.self c.args.v.place 2 _ c.read.ensures.told.2
+
+pub returns-in-Held-clause-alone : goal.returns-in-Held-clause-alone
+returns-in-Held-clause-alone g c =
+    reads_alone _ _ c.args.m.now c.read.new.self c.args.v.place 2 _ c.read.ensures.told.2
+
+pub returns-in-Null-clause-alone : goal.returns-in-Null-clause-alone
+returns-in-Null-clause-alone g c =
+    reads_alone _ _ c.args.m.now c.read.new.self c.args.v.place 2 _ c.read.ensures.told.2

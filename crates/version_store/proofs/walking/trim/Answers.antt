@@ -1,7 +1,8 @@
 use Rattle.std.proofs.Common.{inl}
 use Rattle.held_places.proofs.Going.{comes_in}
 use Rattle.version_store.proofs.Lasting.{goes_same, trim_lasts}
-use Rattle.version_store.proofs.Leaving.{at_most_before, writes_none, writes_told}
+use Rattle.version_store.specs.Writes.{is_act}
+use Rattle.version_store.proofs.Leaving.{at_most_before, chosen_told, writes_none, writes_told}
 use Rattle.version_store.proofs.Trimming.{trims}
 use Rattle.version_store.proofs.walking.trim.Goals as goal
 
@@ -41,6 +42,7 @@ pub returns-then-keep-v-clause-writes : goal.returns-then-keep-v-clause-writes
 returns-then-keep-v-clause-writes g c =
     at_most_before c.args.m.now c.cut_off.new.m c.cut.new.self c.cut_off.ensures.writes
     (writes_told c.cut_off.new.m c.cut.new.self _ _ c.cut.ensures.told)
+    (chosen_told is_act c.cut_off.new.m c.cut.new.self _ _ c.cut.ensures.told)
 
 pub returns-else-keep-v-clause-writes : goal.returns-else-keep-v-clause-writes
 returns-else-keep-v-clause-writes g c = inl (writes_none c.args.m.now)

@@ -1,7 +1,7 @@
 use Rattle.std.proofs.Common.{arith, []}
 use Rattle.version_store.proofs.Backward.{walk_on, walk_starts, walk_stops, walked_room}
 use Rattle.held_places.proofs.Going.{in_still}
-use Rattle.version_store.proofs.Leaving.{nothing_then}
+use Rattle.version_store.proofs.Leaving.{alone_then, nothing_then}
 use Rattle.version_store.proofs.walking.walk_back.Goals as goal
 
 pub loop-init : goal.loop-init
@@ -9,6 +9,7 @@ loop-init g c = (
   walk_starts c.args.m.now c.read_number.new.m c.args.v c.read_number.result c.requires.version
       c.read_number.ensures.number,
   c.read_number.ensures.writes,
+  c.read_number.ensures.alone,
 )
 
 pub follow-requires-clause-inside : goal.follow-requires-clause-inside
@@ -35,8 +36,13 @@ loop-preserved g c = (
   walk_on c.args.m.now c.loop.m c.follow.new.m c.args.v c.loop.at c.in-Some.before c.loop.counter
       c.loop.invariant.0 c.in-Some.ensures.follows,
   nothing_then [] c.args.m.now c.loop.m c.follow.new.m c.loop.invariant.1 c.follow.ensures.writes,
+  alone_then c.args.m.now c.loop.m c.follow.new.m c.loop.invariant.2 c.follow.ensures.alone,
 )
 
 pub returns-in-None-clause-writes : goal.returns-in-None-clause-writes
 returns-in-None-clause-writes g c =
     nothing_then [] c.args.m.now c.loop.m c.follow.new.m c.loop.invariant.1 c.follow.ensures.writes
+
+pub returns-in-None-clause-alone : goal.returns-in-None-clause-alone
+returns-in-None-clause-alone g c =
+    alone_then c.args.m.now c.loop.m c.follow.new.m c.loop.invariant.2 c.follow.ensures.alone
