@@ -1,6 +1,6 @@
 //! Heaps of boxes that are closed as soon as they are open.
 //!
-//! The heaps of whole runs are counted in run_tests.
+//! The heaps of whole runs are counted in the rows of examples/rows.
 ghost use Rattle.dlg_core.specs.FirstRows.{are_first_rows};
 ghost use Rattle.heap_rule.specs.Opening.{FirstTerms};
 ghost use Rattle.std.specs.Prelude.{IsTrue, None, length, ◌≤◌};

@@ -1,12 +1,6 @@
-//! What no clause says of the crates about closed heaps and heap files: each public call on its
-//! happy path, and the texts and counts that were worked out by hand.
-//!
-//! Reading order: `texts`, `closed`, `files`.
+//! What no clause says of heap_census: heaps without a census. What is counted in a heap as text,
+//! and what is none, stands in the rows of examples/rows.
 #![tactic(auto)]
 
 #[cfg(test)]
 mod closed;
-#[cfg(test)]
-mod files;
-#[cfg(test)]
-mod texts;

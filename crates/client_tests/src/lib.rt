@@ -1,16 +1,14 @@
 //! What no clause says of client_trees, on a real heap: each public call on its happy path, at a
-//! private place and at a shared one; rows that were worked out by hand; and how much an edit
-//! makes.
+//! private place and at a shared one; and how much an edit makes. What is refused is shown by the
+//! rows of examples/rows.
 //!
-//! Reading order: `heaps`, `calls`; `places`, `limits`, `sharing`.
+//! Reading order: `heaps`, `calls`; `places`, `sharing`.
 #![tactic(auto)]
 
 #[cfg(test)]
 mod calls;
 #[cfg(test)]
 mod heaps;
-#[cfg(test)]
-mod limits;
 #[cfg(test)]
 mod places;
 #[cfg(test)]

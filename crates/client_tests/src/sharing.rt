@@ -1,8 +1,9 @@
 //! What an edit makes, worked out by hand.
+ghost use Rattle.client_tests.specs.Works.{Works};
 
 use crate::calls::{begin_tree, put, share};
 use crate::heaps::{Row, worked};
-use crate::limits::fill_folder;
+use client_trees::NodeAt;
 use doc_tree::EditFault;
 use heap_rule::NoRule;
 use minor_heap::MinorField::{Null, Num};
@@ -11,6 +12,29 @@ use mutator_seat::Mutator;
 use std::alloc::Global;
 use std::sync::Wait;
 use std::test::Fail;
+
+/// Puts x at d/000 to d/255.
+fn fill_folder(
+    alloc: Global,
+    m: &mut Mutator<'_, NoRule>,
+    minor: &mut MinorHeap,
+    root: &mut NodeAt,
+) -> Result<(), EditFault>
+    requires works { Works m.old minor.old root.old }
+    ensures works { Works m.new minor.new root.new }
+{
+    for i in 0u32..256 {
+        put(
+            alloc,
+            m,
+            minor,
+            root,
+            format!(in alloc; "d/{i:03}")?.as_str(),
+            "x",
+        )?;
+    }
+    Ok(())
+}
 
 /// How many records a put into a shared folder of 256 children makes.
 #[derive(Clone, Copy)]

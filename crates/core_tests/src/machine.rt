@@ -1,4 +1,5 @@
-//! Each kind of event once where it can happen. The worked schedules stand where they are replayed.
+//! What the rows of examples/rows cannot show of a machine: its calls on one cycle, what a mutator
+//! holds, and what it has begun to store.
 ghost use Rattle.core_machine.specs.InRange.{InRange};
 ghost use Rattle.std.specs.Prelude.{IfOk, ◌<◌, ◌≡◌, ◌≤◌};
 
@@ -41,31 +42,6 @@ fn opened(alloc: Global, cells: u32, mutators: u32, room: u32) -> Result<Machine
     ensures cells { IfOk result (λ machine. machine.cells ≡ cells) }
 {
     Machine::open(alloc, cells, mutators, room, &[ANCHOR])
-}
-
-/// What is seen of the first two cells of a machine.
-#[derive(Clone, Copy, Debug, PartialEq, Eq)]
-struct Seen {
-    colours: [Colour; 2],
-    /// the last field of the second cell
-    kind: Field,
-    free: u32,
-}
-
-/// How many of the events happen, and what is then seen.
-fn seen_after(machine: &mut Machine, events: &[Event]) -> (usize, Seen)
-    requires range { InRange machine.old }
-    requires cells { 1 < machine.old.cells }
-    ensures range { InRange machine.new }
-    ensures cells { machine.new.cells ≡ machine.old.cells }
-{
-    let count = happening(machine, events);
-    let seen = Seen {
-        colours: [machine.colour(0), machine.colour(1)],
-        kind: machine.field(1, 5),
-        free: machine.free_count(),
-    };
-    (count, seen)
 }
 
 const OPERATION: [Event; 5] = [
@@ -122,126 +98,66 @@ const SWEEP: [Event; 14] = [
     Event::Duty(true),
 ];
 
-/// How often the second cell was freed, and how many cells were.
-fn freed(machine: &Machine) -> (u64, u64)
-    requires range { InRange machine.now }
-    requires cells { 1 < machine.now.cells }
-{
-    (machine.freed(1), machine.number_freed())
+/// How many events of a cycle happen, and what is seen of the machine then.
+#[derive(Clone, Copy, Debug, PartialEq, Eq)]
+struct Seen {
+    happened: usize,
+    colours: [Colour; 2],
+    /// the last field of the second cell
+    kind: Field,
+    /// cells that are free, how often the second was freed, all of them, and cells claimed
+    counts: (u32, u64, u64, u64),
+    /// of the only mutator
+    status: Status,
+    cycles: u32,
+    duty: bool,
 }
 
-/// What is seen behind each part of a cycle, what was freed, how many cycles there were, and
-/// whether the collector is on duty.
-fn one_cycle(alloc: Global) -> Result<([(usize, Seen); 4], (u64, u64), u32, bool), NoMemory> {
-    let mut machine = opened(alloc, 2, 1, 8)?;
-    let parts = [
-        seen_after(&mut machine, &OPERATION),
-        seen_after(&mut machine, &HANDSHAKES),
-        seen_after(&mut machine, &TRACING),
-        seen_after(&mut machine, &SWEEP),
-    ];
+fn cycle_seen(machine: &mut Machine) -> Seen
+    requires range { InRange machine.old }
+    requires cells { 1 < machine.old.cells }
+{
+    let operation = happening(machine, &OPERATION);
+    let handshakes = happening(machine, &HANDSHAKES);
+    let tracing = happening(machine, &TRACING);
+    let sweep = happening(machine, &SWEEP);
     let control = machine.control();
-    Ok((parts, freed(&machine), control.cycles, control.duty))
+    Seen {
+        happened: operation
+            .saturating_add(handshakes)
+            .saturating_add(tracing)
+            .saturating_add(sweep),
+        colours: [machine.colour(0), machine.colour(1)],
+        kind: machine.field(1, 5),
+        counts: (
+            machine.free_count(),
+            machine.freed(1),
+            machine.number_freed(),
+            machine.claims(0),
+        ),
+        status: machine.presence(0).status,
+        cycles: control.cycles,
+        duty: control.duty,
+    }
+}
+
+fn one_cycle(alloc: Global) -> Result<Seen, NoMemory> {
+    let mut machine = opened(alloc, 2, 1, 8)?;
+    Ok(cycle_seen(&mut machine))
 }
 
 #[test]
 fn a_cell_that_nobody_reaches_is_swept_in_one_cycle(rt: HostRuntime) -> Result<(), Fail> {
-    let white = Seen {
-        colours: [Colour::White, Colour::White],
-        kind: Field::Num(1),
-        free: 0,
-    };
-    let gray = Seen {
-        colours: [Colour::Gray, Colour::White],
-        kind: Field::Num(1),
-        free: 0,
-    };
-    let black = Seen {
-        colours: [Colour::Black, Colour::White],
-        kind: Field::Num(1),
-        free: 0,
-    };
-    let swept = Seen {
+    let wanted = Seen {
+        happened: 42,
         colours: [Colour::White, Colour::Blue],
         kind: Field::Null,
-        free: 1,
+        counts: (1, 1, 1, 1),
+        status: Status::Async,
+        cycles: 1,
+        duty: true,
     };
-    let parts = [(5, white), (11, gray), (12, black), (14, swept)];
-    assert_eq!(rt; one_cycle(rt.alloc())?, (parts, (1, 1), 1, true));
-    Ok(())
-}
-
-const LINKING: [Event; 8] = [
-    Event::Over(1),
-    Event::Begin(0),
-    Event::Look(0),
-    Event::Claim(0, 1),
-    Event::Fill(0, 1, 0, Field::Num(7)),
-    Event::Seal(0, 1, Kind::Boxed),
-    Event::Look(0),
-    Event::Write(0, 0, 0, Field::Null, Field::Cell(1)),
-];
-
-const ANSWERS: [Event; 23] = [
-    Event::Post(Stage::Sync1),
-    Event::Look(0),
-    Event::Answer(0),
-    Event::Poll(0),
-    Event::AnswerOut(1, true),
-    Event::Post(Stage::Clear),
-    Event::ClearCell,
-    Event::ClearCell,
-    Event::ClearCell,
-    Event::Post(Stage::Sync2),
-    Event::Look(0),
-    Event::Mark(0, 0),
-    Event::Answer(0),
-    Event::End(0),
-    Event::Poll(0),
-    Event::AnswerOut(1, true),
-    Event::Anchor,
-    Event::Post(Stage::Trace),
-    Event::AnswerOut(0, false),
-    Event::AnswerOut(1, true),
-    Event::See(0),
-    Event::Scan,
-    Event::Shade,
-];
-
-/// How many of the events that link a cell happen, what the anchor then leads to, and how many
-/// cells were claimed.
-fn linked(machine: &mut Machine) -> (usize, Field, u64)
-    requires range { InRange machine.old }
-    requires cells { 1 < machine.old.cells }
-    ensures range { InRange machine.new }
-    ensures cells { machine.new.cells ≡ machine.old.cells }
-{
-    let count = happening(machine, &LINKING);
-    (count, machine.field(0, 0), machine.claims(0))
-}
-
-/// How many of the events up to the mark of the linked cell happen, and what is then seen of its
-/// mutator and of it.
-fn marked(machine: &mut Machine) -> (usize, Status, Colour)
-    requires range { InRange machine.old }
-    requires cells { 1 < machine.old.cells }
-{
-    let count = happening(machine, &ANSWERS);
-    (count, machine.presence(0).status, machine.colour(1))
-}
-
-fn linked_and_marked(
-    alloc: Global,
-) -> Result<((usize, Field, u64), (usize, Status, Colour)), NoMemory> {
-    let mut machine = opened(alloc, 3, 2, 4)?;
-    Ok((linked(&mut machine), marked(&mut machine)))
-}
-
-#[test]
-fn a_linked_cell_is_marked_through_the_anchor(rt: HostRuntime) -> Result<(), Fail> {
-    let linked = (8, Field::Cell(1), 1);
-    let marked = (23, Status::Async, Colour::Gray);
-    assert_eq!(rt; linked_and_marked(rt.alloc())?, (linked, marked));
+    assert_eq!(rt; one_cycle(rt.alloc())?, wanted);
     Ok(())
 }
 
@@ -330,33 +246,5 @@ fn kept(alloc: Global) -> Result<[(usize, usize, [u32; 5]); 2], NoMemory> {
 fn copies_may_come_from_among_the_kept_places(rt: HostRuntime) -> Result<(), Fail> {
     let wanted = [(6, 5, [0, 1, 2, 1, 2]), (1, 3, [0, 1, 2, 0, 0])];
     assert_eq!(rt; kept(rt.alloc())?, wanted);
-    Ok(())
-}
-
-/// How many of each list of events happen.
-fn named(alloc: Global, lists: [&[Event]; 3]) -> Result<[usize; 3], NoMemory> {
-    let mut machine = opened(alloc, 2, 1, 2)?;
-    Ok([
-        happening(&mut machine, lists[0]),
-        happening(&mut machine, lists[1]),
-        happening(&mut machine, lists[2]),
-    ])
-}
-
-#[test]
-fn a_number_that_names_nobody_makes_an_event_impossible(rt: HostRuntime) -> Result<(), Fail> {
-    let outside = [
-        Event::Begin(1),
-        Event::Over(9),
-        Event::Look(0),
-        Event::Claim(0, 1),
-    ];
-    let begun = [Event::Begin(0), Event::Look(0)];
-    let inside = [
-        Event::Claim(0, 2),
-        Event::Mark(0, 1),
-        Event::Keep(0, 1, usize::MAX, 2),
-    ];
-    assert_eq!(rt; named(rt.alloc(), [&outside, &begun, &inside])?, [0, 2, 0]);
     Ok(())
 }

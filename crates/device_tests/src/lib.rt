@@ -1,8 +1,10 @@
-//! What no clause says of outside: each shelf and sink on its happy path, what a file and a device
-//! do, and who meets at a gate.
+//! What no clause says of outside and run_words: each shelf and sink on its happy path, what a file
+//! and a device do, who meets at a gate, and which numbers a command line asks for.
 #![tactic(auto)]
 
 #[cfg(test)]
 mod devices;
 #[cfg(test)]
 mod gates;
+#[cfg(test)]
+mod words;

@@ -144,29 +144,6 @@ fn a_copy_stands_in_both_places(rt: HostRuntime) -> Result<(), Fail> {
     Ok(())
 }
 
-/// What an edit meets that is refused, and the sizes before and behind it.
-type Refusal = (Sizes, Result<(), Unmade>, Sizes);
-
-fn copy_deep(document: &mut Document, alloc: Global) -> Result<Refusal, Unmade> {
-    put(document, alloc, "a/b/c/d", "x")?;
-    copy(document, alloc, "a", "p/q/r/s/t")?;
-    let before = document.sizes();
-    let deeper = copy(document, alloc, "a", "p/q/r/s/t/u");
-    Ok((before, deeper, document.sizes()))
-}
-
-fn copied_deep(alloc: Global) -> Result<Refusal, Unmade> {
-    let mut document = Document::empty(alloc, 4000)?;
-    copy_deep(&mut document, alloc)
-}
-
-#[test]
-fn a_copy_that_would_make_nine_levels_is_deep(rt: HostRuntime) -> Result<(), Fail> {
-    let deep = Err(Unmade::Refused(EditFault::Deep));
-    assert_eq!(rt; copied_deep(rt.alloc())?, ((13, 8), deep, (13, 8)));
-    Ok(())
-}
-
 /// Puts a text at `d/000` to `d/255`.
 fn put_all(document: &mut Document, alloc: Global) -> Result<(), Unmade> {
     for i in 0u32..256 {
@@ -202,48 +179,5 @@ fn put_too_many(alloc: Global) -> Result<(Sizes, Result<(), Unmade>, u64, Sizes)
 fn a_257th_name_is_one_too_many(rt: HostRuntime) -> Result<(), Fail> {
     let many = Err(Unmade::Refused(EditFault::Many));
     assert_eq!(rt; put_too_many(rt.alloc())?, ((258, 2), many, 13, (258, 2)));
-    Ok(())
-}
-
-/// Copies `a` to `b/00` and so on.
-fn copy_all(document: &mut Document, alloc: Global, count: u32) -> Result<(), Unmade> {
-    for i in 0..count {
-        let names = format!(in alloc; "b/{i:02}")?;
-        copy(document, alloc, "a", &names)?;
-    }
-    Ok(())
-}
-
-/// Makes `a` a node with 64 copies of itself, four times.
-fn grow(document: &mut Document, alloc: Global) -> Result<(), Unmade> {
-    for _ in 0u32..4 {
-        copy_all(document, alloc, 64)?;
-        copy(document, alloc, "b", "a")?;
-        delete(document, alloc, "b")?;
-    }
-    Ok(())
-}
-
-/// The sizes of what has grown, and what a copy meets that would make it too big.
-fn copy_big(document: &mut Document, alloc: Global) -> Result<(Sizes, Refusal), Unmade> {
-    put(document, alloc, "a", "x")?;
-    grow(document, alloc)?;
-    let grown = document.sizes();
-    copy_all(document, alloc, 57)?;
-    let before = document.sizes();
-    let more = copy(document, alloc, "a", "b/57");
-    Ok((grown, (before, more, document.sizes())))
-}
-
-fn copied_big(alloc: Global) -> Result<(Sizes, Refusal), Unmade> {
-    let mut document = Document::empty(alloc, 20_000)?;
-    copy_big(&mut document, alloc)
-}
-
-#[test]
-fn a_copy_past_a_billion_nodes_is_too_big(rt: HostRuntime) -> Result<(), Fail> {
-    let big = Err(Unmade::Refused(EditFault::Big));
-    let refusal = ((988_524_220, 6), big, (988_524_220, 6));
-    assert_eq!(rt; copied_big(rt.alloc())?, ((17_043_522, 5), refusal));
     Ok(())
 }

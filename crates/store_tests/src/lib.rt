@@ -1,7 +1,7 @@
-//! What no clause says of doc_model: each public call on its happy path, and histories that are
-//! wrong in one place.
+//! What no clause says of doc_tree and doc_model: each public call on its happy path, and histories
+//! that are wrong in one place.
 //!
-//! Reading order: `made`, `stores`, `batches`.
+//! Reading order: `tree_words`, `trees`; `made`, `stores`, `batches`.
 #![tactic(auto)]
 
 #[cfg(test)]
@@ -10,3 +10,7 @@ mod batches;
 mod made;
 #[cfg(test)]
 mod stores;
+#[cfg(test)]
+mod tree_words;
+#[cfg(test)]
+mod trees;

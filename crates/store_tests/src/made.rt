@@ -17,7 +17,6 @@ pub(crate) enum Change<'a> {
     Put(&'a str, &'a str),
     Del(&'a str),
     Copy(&'a str, &'a str),
-    Publish(&'a str),
 }
 
 impl From<NoMemory> for Unmade {
@@ -36,19 +35,12 @@ fn text(alloc: Global, word: &str) -> Result<Text, Unmade> {
     Text::read(alloc, word.as_bytes())?.ok_or(Unmade::NoText)
 }
 
-pub(crate) fn path(alloc: Global, word: &str) -> Result<Path, Unmade> {
+fn path(alloc: Global, word: &str) -> Result<Path, Unmade> {
     Path::read(alloc, word.as_bytes())?.ok_or(Unmade::NoPath)
 }
 
 pub(crate) fn put(alloc: Global, to: &str, word: &str) -> Result<Command, Unmade> {
     Ok(Command::Put {
-        path: path(alloc, to)?,
-        text: text(alloc, word)?,
-    })
-}
-
-pub(crate) fn draft_put(alloc: Global, to: &str, word: &str) -> Result<Command, Unmade> {
-    Ok(Command::DraftPut {
         path: path(alloc, to)?,
         text: text(alloc, word)?,
     })
@@ -66,9 +58,6 @@ fn edit(alloc: Global, change: Change<'_>) -> Result<Edit, Unmade> {
         Change::Copy(at, to) => Edit::Copy {
             from: path(alloc, at)?,
             to: path(alloc, to)?,
-        },
-        Change::Publish(to) => Edit::Publish {
-            path: path(alloc, to)?,
         },
     })
 }

@@ -1,23 +1,9 @@
-//! What no clause says of line_words, quoted_text, cmd_text, mail_text and script_generator: scripts,
-//! replies and lines whose readings and texts were worked out by hand.
-//!
-//! Reading order: `made`, `lines`, `quotes`, `scripts`, `second_scripts`, `summaries`, `generated`,
-//! `mail`.
+//! What no clause says of line_words, each call on its happy path, and of version_dump, the texts of
+//! a tree that was loaded. What is read and written by quoted_text, cmd_text, mail_text and
+//! script_generator, and what is no dump, stands in the rows of examples/rows.
 #![tactic(auto)]
 
 #[cfg(test)]
-mod generated;
+mod dumps;
 #[cfg(test)]
 mod lines;
-#[cfg(test)]
-mod made;
-#[cfg(test)]
-mod mail;
-#[cfg(test)]
-mod quotes;
-#[cfg(test)]
-mod scripts;
-#[cfg(test)]
-mod second_scripts;
-#[cfg(test)]
-mod summaries;

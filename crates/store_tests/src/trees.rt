@@ -1,5 +1,7 @@
-//! What no clause says: each call on its happy path, and the limits with numbers from outside.
-use crate::made::{name, path, text};
+//! What no clause says of trees: each call on its happy path, and what is a name, a text and a path.
+//!
+//! The limits of a tree are shown by the rows of examples/rows.
+use crate::tree_words::{name, path, text};
 use doc_tree::{EditFault, Name, Names, NoMemory, Path, Text, Tree};
 use std::alloc::Global;
 use std::test::Fail;
@@ -204,66 +206,9 @@ fn attached(alloc: Global) -> Result<(Size, Option<Size>, bool), Fail> {
     Ok((size(&whole), gone, has_text))
 }
 
-/// How a site is refused as a node of itself.
-fn fault_at(alloc: Global, at: &str) -> Result<Option<EditFault>, Fail> {
-    let tree = site(alloc)?;
-    Ok(tree.attach(alloc, &path(alloc, at)?, &tree).err())
-}
-
 #[test]
 fn an_attached_tree_stands_in_place_of_what_was_there(rt: HostRuntime) -> Result<(), Fail> {
-    let alloc = rt.alloc();
-    // Eight levels are allowed, and nine are not.
-    let faults = [
-        fault_at(alloc, "p/q/r/s/t")?,
-        fault_at(alloc, "p/q/r/s/t/u")?,
-    ];
-    assert_eq!(rt;
-        (attached(alloc)?, faults),
-        (((10, 5), None, true), [None, Some(EditFault::Deep)])
-    );
-    Ok(())
-}
-
-// The tree with its node a also below b, under names that are numbers.
-fn with_copies(alloc: Global, tree: &Tree, most: u32) -> Result<Tree, Fail> {
-    let at = path(alloc, "a")?;
-    let sub = tree.node(&at).ok_or("a")?;
-    let mut whole = tree.copy()?;
-    for i in 0..most {
-        let to = path(alloc, &format!(in alloc; "b/{i:02}")?)?;
-        whole = made(whole.attach(alloc, &to, sub))?;
-    }
-    Ok(whole)
-}
-
-// The tree with its node b as a, and none as b.
-fn b_as_a(alloc: Global, tree: &Tree) -> Result<Tree, Fail> {
-    let from = path(alloc, "b")?;
-    let sub = tree.node(&from).ok_or("b")?;
-    let whole = made(tree.attach(alloc, &path(alloc, "a")?, sub))?;
-    made(whole.delete(alloc, &from))
-}
-
-/// The nodes of copies of copies, and with 57 more of them, and how one more is refused.
-fn copies(alloc: Global) -> Result<(u64, u64, Option<EditFault>), Fail> {
-    let at = path(alloc, "a")?;
-    let mut tree = made(Tree::empty(alloc)?.set_text(alloc, &at, &text(alloc, "x")?))?;
-    for _ in 0u32..4 {
-        tree = b_as_a(alloc, &with_copies(alloc, &tree, 64)?)?;
-    }
-    let sub = tree.node(&at).ok_or("a")?;
-    let whole = with_copies(alloc, &tree, 57)?;
-    let more = whole.attach(alloc, &path(alloc, "b/57")?, sub);
-    Ok((sub.count(), whole.count(), more.err()))
-}
-
-#[test]
-fn copies_of_copies_are_counted_up_to_the_limit(rt: HostRuntime) -> Result<(), Fail> {
-    assert_eq!(rt;
-        copies(rt.alloc())?,
-        (17_043_521, 988_524_220, Some(EditFault::Big))
-    );
+    assert_eq!(rt; attached(rt.alloc())?, ((10, 5), None, true));
     Ok(())
 }
 
@@ -278,32 +223,5 @@ fn is_in_order(alloc: Global) -> Result<bool, Fail> {
 #[test]
 fn names_come_in_the_order_of_their_bytes(rt: HostRuntime) -> Result<(), Fail> {
     assert!(rt; is_in_order(rt.alloc())?);
-    Ok(())
-}
-
-fn with_text(alloc: Global, tree: &Tree, to: &str) -> Result<Result<Tree, EditFault>, Fail> {
-    Ok(tree.set_text(alloc, &path(alloc, to)?, &Text::empty()))
-}
-
-/// A node of 256 children.
-fn full(alloc: Global) -> Result<Tree, Fail> {
-    let mut tree = Tree::empty(alloc)?;
-    for i in 0u32..256 {
-        let to = format!(in alloc; "d/{i:03}")?;
-        tree = made(with_text(alloc, &tree, &to)?)?;
-    }
-    Ok(tree)
-}
-
-/// How a text is refused at a child more, and at one that is there.
-fn faults_of_texts(alloc: Global) -> Result<[Option<EditFault>; 2], Fail> {
-    let tree = full(alloc)?;
-    let more = with_text(alloc, &tree, "d/256")?.err();
-    Ok([more, with_text(alloc, &tree, "d/000")?.err()])
-}
-
-#[test]
-fn a_node_has_256_children_and_no_more(rt: HostRuntime) -> Result<(), Fail> {
-    assert_eq!(rt; faults_of_texts(rt.alloc())?, [Some(EditFault::Many), None]);
     Ok(())
 }

@@ -5,7 +5,7 @@ use std::test::Fail;
 use version_dump::{LoadError, load};
 
 /// The dump of version 2 of a store after `put a x` and `put a/b y`.
-pub(crate) const SMALL: &str = "docs-dump 1 2\n. \"\"\na \"x\"\na/b \"y\"\nend 3\n";
+const SMALL: &str = "docs-dump 1 2\n. \"\"\na \"x\"\na/b \"y\"\nend 3\n";
 
 /// A dump with a text at the root, with escapes, with a node whose name is `end`, and in the order
 /// of lists of names.
