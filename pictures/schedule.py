@@ -7,8 +7,9 @@ Every colour and field in the picture is the proved program's: after each event 
 `show` of every cell, and has `docheap replay` run that (replays.py). A line `plain` is drawn as the
 events that it stands for. Stage and status follow from the events that were taken: a post is the
 stage, an answer takes its mutator to the next status. Where an event cannot happen the picture ends
-with it. More than N events stand in several rows, one under the other. PROGRAM is docheap at the top
-of the repository where none is given. `play` makes a page of HTML that plays the same schedule.
+with it. More than N events stand in several rows, one under the other. PROGRAM is the proved one
+where none is given, or else the one without proof; nothing is built here. `play` makes a page of
+HTML that plays the same schedule.
 """
 import argparse
 import os
@@ -201,9 +202,12 @@ class Picture:
 def main():
     p = argparse.ArgumentParser()
     p.add_argument("schedule")
-    p.add_argument("--docheap", default=f"{TOP}/docheap")
+    built = [f"{TOP}/crates/docheap_cli/out/docheap_cli", f"{TOP}/out/unproved/docheap_cli"]
+    p.add_argument("--docheap", default=next(filter(os.path.isfile, built), built[0]))
     p.add_argument("--columns", type=int, default=52, help="events in one row of the picture")
     args = p.parse_args()
+    if not os.path.isfile(args.docheap):
+        sys.exit(f"schedule.py: no program is built, {args.docheap}; ./prove builds the proved one")
     lines = lines_of(args.schedule)
     replay = Replay(args.docheap, lines[0])
     replay.run(lines[1:])
