@@ -8,6 +8,10 @@ output of a run that is refused nothing, or status 5 with a front of that output
 
 What differs from run to run (which client was faster, how many cycles there were) is left out: the
 scripts have a client each, or do not meet, and cycles are not compared.
+
+A client that is refused memory makes no further try. So of a run with one client no more single
+calls are passed over than have to do with no command: one for the block that the program frees at
+once, one for room for the client's whole log, and two of the collector's thread.
 """
 import os
 import re
@@ -18,6 +22,7 @@ from concurrent.futures import ThreadPoolExecutor
 TOP = os.path.dirname(os.path.dirname(os.path.abspath(__file__)))
 SECONDS = 60
 PLAIN_RUNS = 3
+PASSED_OVER = 4
 
 Ended = namedtuple("Ended", "status output errors")
 Found = namedtuple("Found", "at is_rest ended is_right")
@@ -92,6 +97,12 @@ def is_right(plain, ended, is_rest):
         return plain.output.startswith(ended.output) and ended.errors in texts
     same = without_cycles(ended.output) == without_cycles(plain.output)
     return same and ended.status == plain.status and ended.errors in (plain.errors, b"")
+
+
+def passed_over(tried, calls):
+    """The single calls whose refusal changed nothing."""
+    return [found.at for found in tried
+            if not found.is_rest and found.at <= calls and found.ended and found.ended.status == 0]
 
 
 def shown(name, found):

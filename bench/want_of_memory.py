@@ -12,7 +12,8 @@ import argparse
 import sys
 import tempfile
 
-from refusing import COLLECTED, PUBLISHED, TWO_PUTS, Refusing, shown, write_texts
+from refusing import COLLECTED, PASSED_OVER, PUBLISHED, TWO_PUTS, Refusing, passed_over, shown
+from refusing import write_texts
 
 ALL_COMMANDS = """put a hello
 put a/b some text that is longer than a cell of twenty-one bytes
@@ -39,6 +40,10 @@ TEXTS = {
 }
 
 SCHEDULE = "examples/schedules/an_unlinked_cell_is_swept"
+
+# Runs with one client.
+ALONE = ("one client", "many puts", "two puts", "a draft that is published",
+         "drafts that are collected")
 
 
 def requests(at):
@@ -77,6 +82,10 @@ def main():
             wrong += len(tried) - len(right)
             print(f"{name}: {calls} calls; {len(right)} runs were right, {without} of them without "
                   f"memory, {len(right) - without} as if nothing was refused", flush=True)
+            over = passed_over(tried, calls)
+            if name in ALONE and len(over) > PASSED_OVER:
+                wrong += 1
+                print(f"{name}: passed over {over}")
     print(f"wrong: {wrong}")
     return wrong > 0
 

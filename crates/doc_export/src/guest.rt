@@ -8,6 +8,8 @@ ghost use Rattle.version_rule.specs.Pass.{reading};
 ghost use Rattle.version_store.specs.Held.{IsHeld, root_at};
 ghost use Rattle.version_store.specs.Lasts.{IsSameMutator, LastsAcross};
 
+use crate::ending::EndingGate;
+use crate::waiting::await_end;
 use beside_collector::{come_in, leave};
 use client_run::Limits;
 use client_threads::await_gate;
@@ -47,12 +49,13 @@ pub(crate) struct Through {
     pub(crate) copied: Option<Copied>,
 }
 
-/// The guest's turn, on this thread: when the gate lets it begin, it takes the latest version. Its
-/// mutator comes in before and is over behind.
+/// The guest's turn, on this thread: when some client has ended its script, or none does for long,
+/// and the gate then lets it begin, it takes the latest version. Its mutator comes in before and is
+/// over afterwards.
 pub(crate) fn take_version<R: Wait, G: Gate>(
     alloc: Global,
     rt: &R,
-    gate: &G,
+    gate: &EndingGate<'_, G>,
     heap: &CellHeap<Documents>,
     limits: Limits,
     guest: Guest,
@@ -68,6 +71,7 @@ pub(crate) fn take_version<R: Wait, G: Gate>(
         mut minor,
     } = guest;
     let mut m = come_in(heap, seat);
+    let _ended = await_end(gate, &mut m);
     await_gate(rt, gate, &mut m, 0, 1);
     let copied = copy_latest(alloc, &mut m, &mut minor);
     tell(gate, &copied);

@@ -11,6 +11,7 @@ ghost use Rattle.doc_export.specs.Guests.{IsThrough};
 ghost use Rattle.doc_export.specs.Parts.{IsOpened, MayDump};
 
 use crate::beside::run_with_guest;
+use crate::ending::EndingGate;
 use crate::guest::{Copied, Guest, Through};
 use beside_collector::{Doing, Keeper, run_beside, serve_after};
 use cell_heap::Passes;
@@ -129,6 +130,8 @@ pub(crate) fn run_opened<R: Threads + Wait + Sync, G: Gate + Sync>(
     } = opened;
     let at = &heap;
     let hints = &queue;
+    let ending = EndingGate::new(gate, scripts);
+    let gate = &ending;
     let run = move || -> (Vec<Client>, Through)
         requires { AllReady at.now hints.now limits scripts.now clients.items
             × (4_096 ≤ limits.minor) × IsNewSeat at.now limits guest.place guest.seat }

@@ -17,8 +17,9 @@ use std::thread::Threads;
 
 /// Runs the scripts' commands on one store, each script by a client on a thread of its own, beside
 /// the collector, and dumps one version on a thread more: the one that is the latest when the gate
-/// lets the command 1 of client 0 begin. All memory but that of the answers and of the dump is taken
-/// before the first thread begins.
+/// lets the command 1 of client 0 begin. The gate is asked for that when some client has ended its
+/// script, or after a million looks for it. So a script alone is dumped as it leaves the store. All
+/// memory but that of the answers and of the dump is taken before the first thread begins.
 ///
 /// Where no thread could be made for the collector, it serves when all seats are joined.
 ///

@@ -1,7 +1,7 @@
-//! Dumps beside clients that have the same script.
-ghost use Rattle.std.specs.Prelude.{◌≤◌};
+//! Dumps alongside clients.
+ghost use Rattle.std.specs.Prelude.{◌≤◌, length};
 
-use crate::scripts::alike;
+use crate::scripts::scripts_of;
 use doc_export::{Dumped, Options, dump_run};
 use outside::Gate;
 use std::alloc::Global;
@@ -9,19 +9,19 @@ use std::sync::Wait;
 use std::test::Fail;
 use std::thread::Threads;
 
-/// A dump beside so many clients, on a heap of so many cells.
+/// A dump alongside a client for each text, on a heap of so many cells.
 pub(crate) fn dumped_of<R: Threads + Wait + Sync, G: Gate + Sync>(
     alloc: Global,
     rt: &R,
-    clients: u32,
-    text: &[u8],
+    texts: &[&[u8]],
     cells: u32,
     gate: &G,
 ) -> Result<Dumped, Fail>
-    requires clients { (1 ≤ clients) × (clients ≤ 63) }
+    requires some { 1 ≤ length texts.now }
+    requires few { length texts.now ≤ 63 }
     requires cells { (64 ≤ cells) × (cells ≤ 4_194_304) }
 {
-    let scripts = alike(alloc, clients, text)?;
+    let scripts = scripts_of(alloc, texts)?;
     let options = Options {
         cells,
         minor: 4_096,

@@ -1,78 +1,88 @@
 //! Rows, worked out by hand.
 use crate::dumping::dumped_of;
-use doc_export::Dumped;
+use crate::gates::BetweenGate;
+use crate::scripts::repeated;
 use outside::{AfterGate, OpenGate};
 use std::alloc::Global;
 use std::sync::Wait;
 use std::test::Fail;
 use std::thread::Threads;
-use version_dump::{LoadError, load};
 
-const DUMP: &str = "docs-dump 1 2\n. \"\"\na \"x\"\na/b \"y\"\nend 3\n";
-
-/// A dump beside two puts, the second of which is done.
-fn behind_two_puts<R: Threads + Wait + Sync>(alloc: Global, rt: &R) -> Result<Dumped, Fail> {
-    let gate = AfterGate::new(1, 2);
-    dumped_of(alloc, rt, 1, b"put a x\nput a/b y\nget a\n", 4_096, &gate)
+/// A put so many times.
+fn puts(alloc: Global, times: u32) -> Result<Vec<u8>, Fail> {
+    Ok(repeated(alloc, b"put a x\n", times)?)
 }
 
-/// The number, the nodes and the height of what was loaded.
-fn sizes_of(alloc: Global, bytes: &[u8]) -> Result<(u64, u64, u32), LoadError> {
-    let loaded = load(alloc, bytes)?;
-    Ok((loaded.version, loaded.tree.count(), loaded.tree.height()))
+/// The number and the nodes of the version that is dumped alongside a thousand puts of one client.
+fn alongside_a_thousand_puts<R: Threads + Wait + Sync>(
+    alloc: Global,
+    rt: &R,
+) -> Result<(u64, u64), Fail> {
+    let text = puts(alloc, 1_000)?;
+    let dumped = dumped_of(alloc, rt, &[&text], 65_536, &OpenGate)?;
+    Ok((dumped.version, dumped.count))
 }
 
+// A guest that takes its version at once finds the empty store.
 #[test]
-fn the_second_put_is_dumped(rt: HostRuntime) -> Result<(), Fail> {
-    let dumped = behind_two_puts(rt.alloc(), &rt)?;
-    let logs = dumped.logs.len();
-    assert_eq!(rt; (dumped.version, dumped.count, logs), (2, 3, 1));
-    let bytes = dumped.bytes.ok_or("no dump")?;
-    assert_eq!(rt; bytes.as_slice(), DUMP.as_bytes());
+fn a_script_alone_is_dumped_whole(rt: HostRuntime) -> Result<(), Fail> {
+    assert_eq!(rt; alongside_a_thousand_puts(rt.alloc(), &rt)?, (1_000, 2));
     Ok(())
 }
 
+/// The number of the version that is dumped between two puts of a client, how many commands it is
+/// answered, and whether it or the guest was late. Another client has nothing to do.
+fn between_two_puts<R: Threads + Wait + Sync>(
+    alloc: Global,
+    rt: &R,
+) -> Result<(u64, usize, bool), Fail> {
+    let text = puts(alloc, 2)?;
+    let gate = BetweenGate::new();
+    let dumped = dumped_of(alloc, rt, &[&text, b""], 64, &gate)?;
+    let answered = dumped.logs.iter().map(|log| log.entries().len()).sum();
+    Ok((dumped.version, answered, gate.late()))
+}
+
+// A run that has the guest after its clients, or before them, lets one of the two wait in vain; and
+// so does one whose guest asks no gate, or does not tell it that it is done.
 #[test]
-fn a_dump_of_a_run_is_loaded(rt: HostRuntime) -> Result<(), Fail> {
-    let dumped = behind_two_puts(rt.alloc(), &rt)?;
-    let bytes = dumped.bytes.ok_or("no dump")?;
-    assert_eq!(rt; sizes_of(rt.alloc(), &bytes)?, (2, 3, 2));
+fn a_version_is_dumped_between_two_commands(rt: HostRuntime) -> Result<(), Fail> {
+    assert_eq!(rt; between_two_puts(rt.alloc(), &rt)?, (1, 2, false));
     Ok(())
 }
 
+/// The number of the version that is dumped after a hundred puts, on the smallest heap.
+fn on_the_smallest_heap<R: Threads + Wait + Sync>(alloc: Global, rt: &R) -> Result<u64, Fail> {
+    let text = puts(alloc, 100)?;
+    let dumped = dumped_of(alloc, rt, &[&text], 64, &AfterGate::new(1, 100))?;
+    Ok(dumped.version)
+}
+
+// A hundred puts claim more cells than the heap has, so cells were freed meanwhile. Where the
+// collector stands still, or begins after the clients, a put finds the heap full.
 #[test]
-fn an_empty_store_has_a_dump(rt: HostRuntime) -> Result<(), Fail> {
-    let dumped = dumped_of(rt.alloc(), &rt, 1, b"", 64, &OpenGate)?;
-    let bytes = dumped.bytes.ok_or("no dump")?;
-    assert_eq!(rt;
-        bytes.as_slice(),
-        b"docs-dump 1 0\n. \"\"\nend 1\n".as_slice()
-    );
+fn cells_are_freed_alongside_a_client_and_a_guest(rt: HostRuntime) -> Result<(), Fail> {
+    assert_eq!(rt; on_the_smallest_heap(rt.alloc(), &rt)?, 100);
     Ok(())
 }
 
-/// Puts and copies that make a tree of ten children on each of four levels, beside all that it was
-/// made of.
-fn of_four_levels(alloc: Global) -> Result<Vec<u8>, Fail> {
-    let mut text = Vec::new(alloc);
-    for child in 0..10 {
-        text.extend_from_slice(format!(in alloc; "put l1/{child} x\n")?.as_bytes())?;
-    }
-    for child in 0..30 {
-        let level = child / 10 + 1;
-        let line = format!(in alloc; "copy l{} l{}/{}\n", level, level + 1, child % 10)?;
-        text.extend_from_slice(line.as_bytes())?;
-    }
-    Ok(text)
+/// The number of the version that is dumped after the fiftieth put of one of sixteen clients, who
+/// put a hundred times each on a heap of a thousand cells; how many logs there are, and whether it
+/// is dumped.
+fn alongside_sixteen<R: Threads + Wait + Sync>(
+    alloc: Global,
+    rt: &R,
+) -> Result<(u64, usize, bool), Fail> {
+    let text = puts(alloc, 100)?;
+    let texts = [text.as_slice(); 16];
+    let dumped = dumped_of(alloc, rt, &texts, 1_000, &AfterGate::new(7, 50))?;
+    Ok((dumped.version, dumped.logs.len(), dumped.bytes.is_some()))
 }
 
-// 11 nodes, 111, 1,111 and 11,111, and the root.
 #[test]
-fn a_tree_with_more_nodes_than_a_dump_may_have_is_counted(rt: HostRuntime) -> Result<(), Fail> {
-    let text = of_four_levels(rt.alloc())?;
-    let gate = AfterGate::new(1, 40);
-    let dumped = dumped_of(rt.alloc(), &rt, 1, &text, 4_096, &gate)?;
-    let told = (dumped.version, dumped.count, dumped.bytes.is_some());
-    assert_eq!(rt; told, (40, 12_345, false));
+fn a_guest_stands_alongside_sixteen_clients_that_write(rt: HostRuntime) -> Result<(), Fail> {
+    let (version, logs, is_dumped) = alongside_sixteen(rt.alloc(), &rt)?;
+    let some = 50 <= version && version <= 1_600;
+    assert_eq!(rt; (some, logs, is_dumped), (true, 16, true));
     Ok(())
 }

@@ -28,16 +28,15 @@ fn script_of(alloc: Global, text: &[u8]) -> Result<Vec<Command>, Fail>
     }
 }
 
-/// So many scripts of the same text.
-pub(crate) fn alike(alloc: Global, clients: u32, text: &[u8]) -> Result<Vec<Vec<Command>>, Fail>
-    ensures many { IfOk result (λ scripts. length scripts.items ≡ clients) }
+/// The scripts of texts.
+pub(crate) fn scripts_of(alloc: Global, texts: &[&[u8]]) -> Result<Vec<Vec<Command>>, Fail>
+    ensures many { IfOk result (λ scripts. length scripts.items ≡ length texts.now) }
     ensures short { IfOk result (λ scripts.
         All (λ script. length script.items ≤ 100_000) scripts.items) }
 {
     let mut scripts = Vec::new(alloc);
-    for place in 0..clients {
-        let _ = place;
-        let script = script_of(alloc, text)?;
+    for place in 0..texts.len() {
+        let script = script_of(alloc, texts[place])?;
         scripts.push(script)?;
     }
     Ok(scripts)

@@ -55,13 +55,19 @@ fn meeting<R: Threads + Wait + Sync>(
 }
 
 // The clients ask the gate that the run was given, and it lets each command begin. So do those of
-// generated scripts. A body that runs them one after another makes one of them late.
+// generated scripts, of an image and of a dump, whose guest asks it too. A body that runs them one
+// after another makes one of them late.
 #[test]
 fn the_first_commands_of_two_clients_meet(rt: HostRuntime) -> Result<(), Fail> {
-    let table: [&[&str]; 2] = [&["run", "f", "f"], &["gen", "1", "2", "2"]];
-    for all in table {
+    let table: [(&[&str], u32); 4] = [
+        (&["run", "f", "f"], 4),
+        (&["gen", "1", "2", "2"], 4),
+        (&["image", "f", "f"], 4),
+        (&["dump", "f", "f"], 5),
+    ];
+    for (all, times) in table {
         let met = meeting(rt.alloc(), &rt, all)?;
-        assert_eq!(rt; met, (0, false, 4, 4), "{all:?}");
+        assert_eq!(rt; met, (0, false, times, times), "{all:?}");
     }
     Ok(())
 }
