@@ -8,8 +8,8 @@ below the oldest version that it belongs to, and a line leads to it from whereve
 Names of entries and texts of nodes are put together from the chunks that their cells hold. Cells
 that the anchor does not lead to stand apart. Where more than 300 cells are in use, only the anchor
 and the versions are drawn, one under the other, and the rest is counted. A text that is no image of
-a heap of documents is an error with its line, and nothing is drawn. Three or four versions are about
-1,000 points wide.
+a heap of documents is an error with its line, and nothing is drawn. Three or four versions are
+about 1,000 points wide.
 """
 import argparse
 import os
@@ -299,8 +299,8 @@ class Picture:
         self.wide = max(self.wide, 2 * LEFT + wide_of(marks))
         if self.links:
             y += ROW
-            line = [(lambda x: line_mark(x, y), "leads to the place of a cell that several cells name", "faint")]
-            self.parts += legend(LEFT, y, line)
+            words = "leads to the place of a cell that several cells name"
+            self.parts += legend(LEFT, y, [(lambda x: line_mark(x, y), words, "faint")])
         words = ", ".join(f"{many} {what}" for what, many in self.heap.census().items())
         for note in [*notes, f"{words}; free cells are blue and not drawn"]:
             y += ROW

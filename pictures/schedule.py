@@ -98,7 +98,8 @@ class Picture:
 
     def band(self, begin, end):
         if begin:
-            self.parts.append(text(LEFT, self.y - 6, f"continued, from event {begin + 1} on", "faint"))
+            words = f"continued, from event {begin + 1} on"
+            self.parts.append(text(LEFT, self.y - 6, words, "faint"))
         self.parts.append(text(4, self.y + BAND / 2 + 4, "stage", "ink name"))
         for one, two, stage in runs([self.threads[at][0] for at in range(begin, end)]):
             x, wide = LEFT + one * COLUMN, (two - one) * COLUMN
@@ -168,8 +169,9 @@ class Picture:
         y = self.y - 14
         first = colours(y, {row[0] for row in shown})
         low = y + 21
-        second = [(lambda x, it=status: rect(x, low, 13, 13, f"box {it}"), f"status {status}", "faint")
-                  for status in ("async", "sync1", "sync2") if status in {it for it, _ in found}]
+        statuses = [it for it in ("async", "sync1", "sync2") if it in {one for one, _ in found}]
+        second = [(lambda x, it=it: rect(x, low, 13, 13, f"box {it}"), f"status {it}", "faint")
+                  for it in statuses]
         if changed:
             second.append((lambda x: dot(x + 7, low + 7), "a field changed", "faint"))
         if any(where != "in" for _, where in found):

@@ -3,8 +3,14 @@
 // DATA is what `play --data` writes of the schedules that lie in the folder SCHEDULES.
 const fs = require("fs");
 const path = require("path");
-const Model = require("./model.js");
-const RULES = require("./rules.js");
+const vm = require("vm");
+
+// the same texts that `play` puts into the page
+for (const name of ["state", "mutator_events", "collector_events", "model", "rules"]) {
+  const file = path.join(__dirname, `${name}.js`);
+  vm.runInThisContext(fs.readFileSync(file, "utf8"), { filename: file });
+}
+const [Model, RULES] = vm.runInThisContext("[Model, RULES]");
 
 const [, , dataFile, folder] = process.argv;
 const data = JSON.parse(fs.readFileSync(dataFile, "utf8"));

@@ -17,13 +17,13 @@ const RULES = [
   {
     id: "new-value", name: "write barrier: the mark of the new value in sync2",
     schedule: "the_barrier_in_sync2_wants_both_marks",
-    rule: "A mutator in sync1 or sync2 marks the new value of a field as well as the old one before "
-      + "it writes.",
+    rule: "A mutator in sync1 or sync2 marks the new value of a field as well as the old one "
+      + "before it writes.",
     change: "It marks the old value alone.",
     why: "Mutators differ by one answer: one is async already and has claimed a black cell, the "
-      + "other is still in sync2 and has not shown its roots. It writes a white cell into the black "
-      + "one, and lets go of it. A black cell is not scanned again, so nothing leads the collector "
-      + "to the white one.",
+      + "other is still in sync2 and has not shown its roots. It writes a white cell into the "
+      + "black one, and lets go of it. A black cell is not scanned again, so nothing leads the "
+      + "collector to the white one.",
   },
   {
     id: "second-handshake", name: "the second handshake",
@@ -43,8 +43,8 @@ const RULES = [
     rule: "A cell that is claimed by a mode of the stage trace, in async, is black.",
     change: "It is white.",
     why: "The third handshake is over for this mutator: nobody asks for its roots again, and no "
-      + "field names the new cell. So the collector cannot come to it, and born white it looks like "
-      + "garbage when tracing ends.",
+      + "field names the new cell. So the collector cannot come to it, and born white it looks "
+      + "like garbage when tracing ends.",
   },
   {
     id: "claim-sweeping", name: "the colour of a claim ahead of the sweep",
@@ -148,4 +148,3 @@ const RULES = [
       + "lets go of the white one. A black cell is not scanned again.",
   },
 ];
-if (typeof module !== "undefined") module.exports = RULES;
