@@ -23,17 +23,17 @@ const MutatorEvents = (() => {
     : [[`${sayCell(cellOf(value))} is sealed`, !isRaw(s, cellOf(value))]]);
 
   // The marks that stand before a write.
-  function marksStand(s, e, old, new_) {
+  function marksStand(s, e, old, wanted) {
     const m = mutator(s, e.i);
     const kind = barrier(m);
-    const needs_ = (value, what, why, rule) => (cellOf(value) === null
+    const markOf = (value, what, why, rule) => (cellOf(value) === null
       ? [`the ${what} value, ${say(value)}, needs no mark`, true, rule]
       : [`${sayCell(cellOf(value))}, the ${what} value, is marked, ${why}`, marked(m, value),
         rule]);
-    if (kind === "old") return [needs_(old, "old", "as the collector traces", "old-value")];
+    if (kind === "old") return [markOf(old, "old", "as the collector traces", "old-value")];
     if (kind === "nothing") return [];
-    return [needs_(old, "old", `as it is in ${m.status}`),
-      needs_(new_, "new", `as it is in ${m.status}`, "new-value")];
+    return [markOf(old, "old", `as it is in ${m.status}`),
+      markOf(wanted, "new", `as it is in ${m.status}`, "new-value")];
   }
 
   // By kind of event: its words after the mutator's number, its conditions, what it does, and a

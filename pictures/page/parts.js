@@ -51,13 +51,15 @@ function jump(words, at) {
 function showBanner() {
   const parts = [];
   if (shown.rule !== "") {
-    const true_ = runOf(shown.schedule, "");
-    const part = make("div", "left", make("b", "", `Left out: ${rule().name}. `),
+    const whole = runOf(shown.schedule, "");
+    const part = make("div", "left",
+      make("p", "", make("b", "", `Left out: ${rule().name}. `), `${rule().rule} Without it: `
+        + `${rule().change.slice(0, 1).toLowerCase()}${rule().change.slice(1)}`),
       "This is a model of this page, not the proved program. ");
-    if (true_.refused && true_.steps.length < run().steps.length) {
-      part.append(`With the rule, line ${true_.refused.number} (${true_.refused.line}) cannot `
+    if (whole.refused && whole.steps.length < run().steps.length) {
+      part.append(`With the rule, line ${whole.refused.number} (${whole.refused.line}) cannot `
         + "happen, and the replay ends there.",
-        jump("go to that step", true_.steps.length + 1));
+        jump("go to that step", whole.steps.length + 1));
     }
     if (run().lost !== null && shown.at < run().lost) {
       part.append(jump("go to the loss", run().lost));
@@ -136,7 +138,8 @@ function showCollector(s) {
   if (s.stage === "trace") {
     say("this pass", `${s.cursor < s.cells ? `has come to cell ${s.cursor}` : "is at its end"}; `
       + `${s.clean ? "met no gray cell" : "met a gray cell"}`);
-    say("scans", s.scan ? `${Model.sayCell(s.scan.cell)}, field ${s.scan.next}`
+    const field = s.scan && s.scan.next < 5 ? `field ${s.scan.next}` : "all fields read";
+    say("scans", s.scan ? `${Model.sayCell(s.scan.cell)}, ${field}`
       + `${s.scan.child === null ? "" : `; child: ${Model.sayCell(s.scan.child)}`}` : "no cell");
   }
   if (s.stage === "sweep") {
@@ -176,10 +179,10 @@ function showMutator(s, i) {
   }
   const places = make("div", "places");
   m.held.forEach((place, k) => {
-    const chip_ = make("span", `place${place.marked ? " marked" : ""}`,
+    const chosen = make("span", `place${place.marked ? " marked" : ""}`,
       `${k}: @${place.cell}${place.marked ? " marked" : ""}`);
-    chip_.dataset.to = place.cell;
-    places.append(chip_);
+    chosen.dataset.to = place.cell;
+    places.append(chosen);
   });
   part.append(places);
   return part;
@@ -250,14 +253,12 @@ function showHeap(s) {
   showArrows();
 }
 
+// Why the rule is there; where the loss is shown, that stands beside it.
 function showWhy() {
   const it = rule();
-  get("why").hidden = !it;
+  const told = it && it.schedule === data().name && get("banner").querySelector(".lost");
+  get("why").hidden = !it || told;
   if (!it) return;
-  // where the loss is shown, why it came stands there
-  const told = it.schedule === data().name && get("banner").querySelector(".lost");
-  get("why").replaceChildren(make("h2", "", "The rule that is left out"),
-    make("p", "", make("b", "", it.rule)), make("p", "", `Without it: ${it.change}`),
-    ...(told ? [] : [make("p", "", "Why it is there, by the run of examples/schedules/"
-      + `${it.schedule}: ${it.why}`)]));
+  get("why").replaceChildren(make("h2", "", "Why the rule is there"), make("p", "", it.why),
+    make("p", "faint", `The run of examples/schedules/${it.schedule} shows it.`));
 }
