@@ -2,8 +2,8 @@
 // The events of the collector: what each needs, what it does, and a sentence of that, as those of a
 // mutator. A part of the page's model, which is not the proved program (model.js).
 const CollectorEvents = (() => {
-  const { HANDSHAKES, REQUESTED, CYCLES, cellOf, say, sayCell, set, mutator, allAnswered, missing,
-    next, shade } = State;
+  const { HANDSHAKES, REQUESTED, CYCLES, cellOf, say, sayCell, sayColour, set, mutator, allAnswered,
+    missing, next, shade } = State;
 
   const atStage = (s, stage) => [`the stage is ${stage}`, s.stage === stage];
   const answers = (s, rule) => [
@@ -48,7 +48,8 @@ const CollectorEvents = (() => {
       says: (s, e) => ({
         idle: "The sweep has gone over all cells: the cycle ends.",
         sync1: "A cycle begins. The collector asks each mutator for sync1.",
-        clear: "All are in sync1. The collector clears: each black cell becomes white.",
+        clear: `${allAnswered(s) ? "All are in sync1. " : ""}The collector clears: each black cell `
+          + "becomes white.",
         sync2: "All is cleared. The collector asks each mutator for sync2.",
         trace: "The collector asks each mutator for async, with its roots marked, and then traces.",
         sweep: "Tracing ends. The collector sweeps: what is white now is freed.",
@@ -85,8 +86,8 @@ const CollectorEvents = (() => {
       says: (s, e, without) => {
         const m = mutator(s, e.i);
         if (!mayAnswer(s, e, without)) {
-          return `The collector tries to answer for mutator ${e.i}, which is not `
-            + "as it expects: nothing changes.";
+          return `The collector tries to answer for mutator ${e.i}, which is `
+            + `${m.inside ? "in" : "not as it expects"}: nothing changes.`;
         }
         return `The collector answers for mutator ${e.i}, which is `
           + `${m.inside ? "in (the rule that is left out forbids it)" : "out"}: its status becomes `
@@ -100,8 +101,11 @@ const CollectorEvents = (() => {
         if (s.colours[s.cursor] === "black") s.colours[s.cursor] = "white";
         s.cursor += 1;
       },
-      says: (s) => `Clearing comes to ${sayCell(s.cursor)}: it is ${s.colours[s.cursor]}, and `
-        + `${s.colours[s.cursor] === "black" ? "becomes white" : "stays so"}.`,
+      says: (s) => {
+        const found = s.colours[s.cursor];
+        return `Clearing comes to ${sayCell(s.cursor)}: it is ${sayColour(found)}, and `
+          + `${found === "black" ? "becomes white" : "stays so"}.`;
+      },
     },
     anchor: {
       needs: (s) => [atStage(s, "sync2"), answers(s, "second-handshake")],
@@ -124,7 +128,7 @@ const CollectorEvents = (() => {
       },
       says: (s, e) => {
         const again = s.cursor === s.cells && !s.clean ? "A new pass begins. " : "";
-        return `${again}The collector looks at ${sayCell(e.c)}: it is ${s.colours[e.c]}`
+        return `${again}The collector looks at ${sayCell(e.c)}: it is ${sayColour(s.colours[e.c])}`
           + `${s.colours[e.c] === "gray" ? ", so it is scanned." : "."}`;
       },
     },

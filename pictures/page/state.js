@@ -18,6 +18,7 @@ const State = (() => {
     return value[0] === "=" ? `the number ${value.slice(1)}` : `cell ${value.slice(1)}`;
   };
   const sayCell = (cell) => (cell === 0 ? "the anchor" : `cell ${cell}`);
+  const sayColour = (colour) => (colour === "blue" ? "free" : colour);
   const large = (text) => text.slice(0, 1).toUpperCase() + text.slice(1);
 
   function opening(cells, mutators, room) {
@@ -98,7 +99,7 @@ const State = (() => {
   };
   const shade = (s, c) => { if (s.colours[c] === "white") s.colours[c] = "gray"; };
 
-  return { STAGES, HANDSHAKES, REQUESTED, CYCLES, cellOf, say, sayCell, large, opening, copy, set,
-    mutator, target, holds, marked, isRaw, isBox, allAnswered, missing, barrier, next, born, unmark,
-    spend, hold, shade };
+  return { STAGES, HANDSHAKES, REQUESTED, CYCLES, cellOf, say, sayCell, sayColour, large, opening,
+    copy, set, mutator, target, holds, marked, isRaw, isBox, allAnswered, missing, barrier, next,
+    born, unmark, spend, hold, shade };
 })();
