@@ -11,6 +11,32 @@ function written() {
   });
 }
 
+// The buttons, the slider and the other keys.
+function testButtons(it, test, key) {
+  const many = steps(run());
+  const goes = (words, at, act) => {
+    act();
+    test(shown.at === at && get("count").textContent === `step ${at} of ${many}`
+      && get("slider").value === String(at), `${it.name}: ${words}`);
+  };
+  goes("the button to the start", 0, () => get("first").click());
+  goes("the button on", Math.min(1, many), () => get("on").click());
+  goes("the button back", 0, () => get("back").click());
+  goes("the button to the end", many, () => get("final").click());
+  goes("the slider", Math.min(2, many), () => {
+    get("slider").value = 2;
+    get("slider").dispatchEvent(new Event("input"));
+  });
+  key("Home");
+  key("PageDown");
+  test(shown.at === many || stepAt(run(), shown.at).line.startsWith("post"),
+    `${it.name}: Page Down goes to a stage`);
+  key(" ");
+  test(shown.timer !== null && get("go").textContent === "pause", `${it.name}: space plays`);
+  key(" ");
+  test(shown.timer === null && get("go").textContent === "play", `${it.name}: space pauses`);
+}
+
 // Steps through each schedule by its keys, and writes what it found at the end of the page.
 function testItself() {
   const found = { passed: 0, failed: [], lines: [] };
@@ -37,8 +63,12 @@ function testItself() {
     test(shown.at === Math.max(steps(run()) - 1, 0) && same(), `${it.name}: a step back`);
     key("End");
     test(shown.at === steps(run()), `${it.name}: End`);
+    testButtons(it, test, key);
     for (const one of RULES.filter((other) => other.schedule === it.name)) {
-      choose(k, one.id, 0);
+      key("Home");
+      get("rule").value = one.id;
+      get("rule").dispatchEvent(new Event("change"));
+      test(shown.rule === one.id && shown.schedule === k, `${one.id}: is chosen`);
       test(get("banner").textContent.includes("not the proved program"), `${one.id}: is not told`);
       test(!get("banner").querySelector(".lost"), `${one.id}: lost at the start`);
       key("End");
