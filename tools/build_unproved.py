@@ -33,8 +33,11 @@ FLAGS = f"""--target={TARGET} -march=x86-64 -mllvm -no-trap-after-noreturn
 --no-default-config -fPIE -O3""".split()
 # Stands in clang's place below `rt try`: keeps the module, and ends there.
 KEEPER = """#!/bin/bash
-for a in "$@"; do case "$a" in *.bc)
-  [ -f "$a" ] && [ $(stat -c %s "$a") -gt 10000 ] && cp "$a" "{kept}/module.bc" && exit 1;; esac; done
+for a in "$@"; do
+  case "$a" in *.bc)
+    [ -f "$a" ] && [ $(stat -c %s "$a") -gt 10000 ] && cp "$a" "{kept}/module.bc" && exit 1;;
+  esac
+done
 exec -a "$0" {kit}/toolchain/bin/clang "$@"
 """
 SPIN = 'define internal void @"core::hint::spin_loop"()'
