@@ -1,14 +1,15 @@
 #!/usr/bin/env python3
 """Runs the tests of all crates of tests, and counts them.
 
-    run_tests.py
+    run_tests.py [--note SOURCES]
 
-Where `rt ci` has proved and built the tests of these very sources here, those programs are run
-(.ci/run notes that in out/tests.sources). Else they are compiled without proof, by `rt try`, which
+Where `rt ci` has proved and built the tests of these very sources here, those programs are run:
+.ci/run notes that by --note, with the checksum that ./docheap has of sources. Else they are compiled without proof, by `rt try`, which
 looks at what a proof would have shown while they run. A try reads and compiles all crates below,
 so the crates of tests are laid together, as modules of one crate for each processor.
 """
 import glob
+import hashlib
 import os
 import re
 import subprocess
@@ -20,6 +21,7 @@ import build_unproved
 
 TOP = build_unproved.TOP
 SECONDS = "600"
+NOTE = f"{TOP}/out/tests.sources"
 
 
 def said_by(words, **how):
@@ -36,13 +38,22 @@ def crates():
     return {name: words.split() for name, words in found}
 
 
-def is_proved():
-    """Whether the tests that stand here were built of these sources."""
-    known = f"{TOP}/out/tests.sources"
-    if not os.path.isfile(known):
+def note_of(built, sources):
+    """What is noted of the tests that stand here, if all do."""
+    try:
+        sums = [hashlib.sha256(open(it, "rb").read()).hexdigest() for it in built]
+    except OSError:
+        return None
+    return "\n".join([*sums, sources.strip(), ""])
+
+
+def are_proved(built):
+    """Whether these very tests are noted, and were built of these sources."""
+    if not os.path.isfile(NOTE):
         return False
-    with open(known) as it:
-        return it.read() == said_by(["bash", "-c", 'source "$1/docheap"; sources', "", TOP])[0]
+    sources, _ = said_by(["bash", "-c", 'source "$1/docheap"; sources', "", TOP])
+    with open(NOTE) as it:
+        return it.read() == note_of(built, sources)
 
 
 def lay_together(folder, names, below):
@@ -92,7 +103,12 @@ def main():
     below = crates()
     names = [it for it in below if it.endswith("_tests")]
     built = {it: f"{TOP}/crates/{it}/out/{it}" for it in names}
-    if is_proved() and all(map(os.path.isfile, built.values())):
+    if sys.argv[1:2] == ["--note"]:
+        os.makedirs(f"{TOP}/out", exist_ok=True)
+        with open(NOTE, "w") as it:
+            it.write(note_of(built.values(), sys.argv[2]) or "")
+        return 0
+    if are_proved(built.values()):
         print("the tests that rt ci proved and built")
         runner = f"{build_unproved.kit()}/bin/rattle-test"
         ran = [(it, *said_by([runner, "--seconds", "60", built[it]])) for it in names]
