@@ -16,7 +16,6 @@ use Rattle.core_machine.specs.declared.events.Found.TheVariants as finds
 use Rattle.core_machine.specs.declared.events.Taken.{Taken}
 use Rattle.free_cells.specs.declared.counts.Counts.{Counts}
 use Rattle.free_cells.specs.declared.hints.Hints.{Hints}
-use Rattle.free_cells.specs.Counts.{IsFront, none_taken, taken}
 use Rattle.free_cells.specs.Hints.{cells_of, counts_of, queue_of}
 use Rattle.heap_rule.specs.Rule.{took}
 use Rattle.heap_rule.specs.Shape.{Shape}
@@ -27,42 +26,17 @@ use Rattle.minor_heap.specs.Reaches.{AreReached}
 use Rattle.mutator_seat.specs.Bound.{Bound, takes}
 use Rattle.mutator_seat.specs.Claims.{Claimed, TriedFirst}
 use Rattle.mutator_seat.specs.Stretches.{takes_all}
+use Rattle.mutator_seat.specs.Takes.{GiveAll, Gives, after_take, after_takes}
 use Rattle.mutator_seat.proofs.Calm.{takes_all_append, trail_all}
+use Rattle.mutator_seat.proofs.Takes.{after_more, give_more}
 use Rattle.promotion.specs.Copying.{marked_count}
-use Rattle.promotion.specs.Hinting.{AreCopies, CopyBy, GiveAll, Gives, Hinted, IsCopy, KeepHints}
-use Rattle.promotion.specs.Hinting.{TryFirst, after_take, hint_at, hints_of, makes_record}
+use Rattle.promotion.specs.Hinting.{AreCopies, CopyBy, Hinted, IsCopy, KeepHints, TryFirst}
+use Rattle.promotion.specs.Hinting.{hint_at, hints_of, makes_record}
 use Rattle.promotion.specs.Linking.{AreKeeping, KeepsFrom}
 use Rattle.promotion.specs.Promoting.{Adds}
 use Rattle.promotion.proofs.Counting.{count_is}
 use Rattle.promotion.proofs.Linked.{Keeping}
 use Rattle.promotion.proofs.Stretching.{adds_then}
-
--- Takes.
-
--- the pass behind all of them
-abbrev pub after_takes : Counts → List (Option ℕ) → Counts
-after_takes counts [] = counts
-after_takes counts (hint ∷ hints) = after_takes (after_take counts hint) hints
-
-pub give_more : (cells : ℕ) (counts : Counts) (hints : List (Option ℕ)) (hint : Option ℕ)
-    → GiveAll cells counts hints → Gives cells (after_takes counts hints) hint
-    → GiveAll cells counts (hints ++ hint ∷ [])
-give_more cells counts [] hint all one = (one, tt)
-give_more cells counts (h ∷ hints) hint all one =
-    (all.0, give_more cells (after_take counts h) hints hint all.1 one)
-
-pub after_more : (counts : Counts) (hints : List (Option ℕ)) (hint : Option ℕ)
-    → after_takes counts (hints ++ hint ∷ []) ≡ after_take (after_takes counts hints) hint
-after_more counts [] hint = refl
-after_more counts (h ∷ hints) hint = after_more (after_take counts h) hints hint
-
-pub gave : (cells : ℕ) (a b : Counts) (r : Option ℕ) → IfSome r (λ cell. cell < cells)
-    → IfSome r (λ cell. IsFront cell a.content)
-    → IfNone r (IfSome a.content (λ known. length known ≡ 0))
-    → MatchOption r (b ≡ none_taken a) (λ _. b ≡ taken a)
-    → Gives cells a r × (b ≡ after_take a r)
-gave cells a b (Some cell) range front empty told = ((range, front), told)
-gave cells a b None range front empty told = (empty, told)
 
 -- The marks of a front of the records.
 

@@ -11,9 +11,7 @@ use Rattle.core_machine.specs.declared.events.Event.{Event}
 use Rattle.core_machine.specs.declared.events.Event.TheVariants as event
 use Rattle.core_machine.specs.declared.events.Found.TheVariants as finds
 use Rattle.core_machine.specs.declared.events.Taken.{Taken}
-use Rattle.free_cells.specs.declared.counts.Counts.{Counts}
 use Rattle.free_cells.specs.declared.hints.Hints.{Hints}
-use Rattle.free_cells.specs.Counts.{IsFront, none_taken, taken}
 use Rattle.free_cells.specs.Hints.{cells_of, counts_of, queue_of}
 use Rattle.heap_rule.specs.Rule.{took}
 use Rattle.minor_heap.specs.declared.fields.MinorField.{MinorField}
@@ -22,28 +20,12 @@ use Rattle.minor_heap.specs.Marking.{marked_of}
 use Rattle.minor_heap.specs.Reaches.{AreReached}
 use Rattle.mutator_seat.specs.Bound.{Bound}
 use Rattle.mutator_seat.specs.Claims.{Seeking}
+use Rattle.mutator_seat.specs.Takes.{GiveAll}
 use Rattle.promotion.specs.Linking.{AreKeeping}
 use Rattle.promotion.specs.Promoting.{Adds}
 use Rattle.trails.specs.Claims.{look_of}
 
--- Takes.
-
--- A take gives this to a pass: a number in range, and the one at the front where the pass knows
--- what the queue holds; or none, unless the pass knows that a number is there.
-abbrev pub Gives : ℕ → Counts → Option ℕ → Type 0
-Gives cells counts (Some cell) = (cell < cells) × IsFront cell counts.content
-Gives cells counts None = IfSome counts.content (λ known. length known ≡ 0)
-
--- the pass behind it
-abbrev pub after_take : Counts → Option ℕ → Counts
-after_take counts (Some cell) = taken counts
-after_take counts None = none_taken counts
-
--- takes give these, one after the other and with no other between them
-abbrev pub GiveAll : ℕ → Counts → List (Option ℕ) → Type 0
-GiveAll cells counts [] = Unit {0}
-GiveAll cells counts (hint ∷ hints) =
-    Gives cells counts hint × GiveAll cells (after_take counts hint) hints
+-- Hints of records.
 
 -- the hint of a record, and those of the records that are marked
 abbrev pub hint_at : List (Option ℕ) → MinorRef → Option ℕ

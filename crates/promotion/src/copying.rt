@@ -15,9 +15,10 @@ ghost use Rattle.mutator_events.specs.declared.values.Value.TheVariants as value
 ghost use Rattle.mutator_seat.specs.Bound.{held_cells, takes};
 ghost use Rattle.mutator_seat.specs.Claims.{anything};
 ghost use Rattle.mutator_seat.specs.Stretches.{Calm};
+ghost use Rattle.mutator_seat.specs.Takes.{GiveAll};
 ghost use Rattle.promotion.specs.Copying.{Appended, AreCopied, Copied, Grown, GrownBy, Halted, IsReady};
 ghost use Rattle.promotion.specs.Copying.{copied_term, marked_count, value_of};
-ghost use Rattle.promotion.specs.Hinting.{AreCopies, GiveAll, Hinted, IsCopy, KeepHints, hints_of};
+ghost use Rattle.promotion.specs.Hinting.{AreCopies, Hinted, IsCopy, KeepHints, hints_of};
 ghost use Rattle.promotion.specs.Linking.{AreCopying};
 ghost use Rattle.promotion.specs.Promoting.{Adds, ClaimsFor, knows_term};
 ghost use Rattle.promotion.specs.Sharing.{ShareRecords, SharesRecord, known_terms};

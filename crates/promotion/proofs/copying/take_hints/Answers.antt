@@ -6,11 +6,11 @@ use Rattle.free_cells.specs.Hints.{cells_of, counts_of, queue_of}
 use Rattle.free_cells.specs.declared.counts.Counts.{Counts}
 use Rattle.free_cells.specs.declared.hints.Hints.{Hints}
 use Rattle.free_cells.specs.declared.queue.FreeQueue.{FreeQueue}
+use Rattle.mutator_seat.specs.Takes.{GiveAll, after_takes}
+use Rattle.mutator_seat.proofs.Takes.{gave}
 use Rattle.promotion.specs.Copying.{marked_count}
-use Rattle.promotion.specs.Hinting.{GiveAll}
 use Rattle.promotion.proofs.Counting.{count_all, count_before, count_set, count_unset, one_take}
-use Rattle.promotion.proofs.Hinting.{after_takes, below_all, below_none, below_passed, gave}
-use Rattle.promotion.proofs.Hinting.{hints_below, put_more}
+use Rattle.promotion.proofs.Hinting.{below_all, below_none, below_passed, hints_below, put_more}
 use Rattle.promotion.proofs.copying.take_hints.Goals as goal
 use Rattle.promotion.proofs.copying.take_hints.Goals.{then-marks-number, else-marks-number}
 

@@ -1,8 +1,8 @@
 use Rattle.std.proofs.Common.{◌≡◌, ◌+◌, length, take}
 use Rattle.free_cells.specs.Hints.{cells_of, counts_of, queue_of}
 use Rattle.promotion.specs.Copying.{marked_count}
-use Rattle.promotion.specs.Hinting.{GiveAll}
-use Rattle.promotion.proofs.Hinting.{after_takes, hints_below}
+use Rattle.mutator_seat.specs.Takes.{GiveAll, after_takes}
+use Rattle.promotion.proofs.Hinting.{hints_below}
 use Rattle.promotion.proofs.copying.take_hints.Given as goal
 
 abbrev pub invariant-loop-number : goal.invariant-loop-number
