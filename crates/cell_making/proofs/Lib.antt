@@ -4,3 +4,4 @@ pub mod Naming
 pub mod OneRead
 pub mod Resting
 pub mod Sealing
+pub mod Searching

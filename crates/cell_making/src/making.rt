@@ -1,8 +1,9 @@
 //! A box or a record, from the claim of its cell to its seal.
-ghost use Rattle.std.specs.Prelude.{◌≡◌, ◌<◌, ◌≤◌, IfErr, IfOk, false, length, true, ℕ};
+ghost use Rattle.std.specs.Prelude.{◌≡◌, ◌<◌, ◌≤◌, IfErr, IfOk, [], false, length, true, ℕ};
 ghost use Rattle.cell_making.specs.Makes.{Filled, MakesBox, MakesRecord, MayFillAll, MayName};
 ghost use Rattle.cell_making.specs.Makes.{MayTerm, value_at};
 ghost use Rattle.free_cells.specs.Hints.{counts_of, queue_of};
+ghost use Rattle.mutator_seat.specs.Searches.{Searches, Tries};
 ghost use Rattle.mutator_seat.specs.Stretches.{Calm};
 ghost use Rattle.trails.specs.Claims.{FindsFull};
 
@@ -29,6 +30,7 @@ pub fn fill_box<P: Keeping, R: Wait>(
     ensures full { IfErr result (λ full.
         Calm (FindsFull m.old.seat.me.number m.old.seat.me.shape.cells
         full.off_duty full.began full.ended) m.old m.new) }
+    ensures search { Searches 1000 [] hints.old hints.new m.old m.new }
     ensures queue { queue_of hints.new ≡ queue_of hints.old }
     ensures takes { (counts_of hints.old).takes < (counts_of hints.new).takes }
 {
@@ -46,6 +48,7 @@ pub fn fill_box<P: Keeping, R: Wait>(
 fn fill_fields<P: Keeping>(m: &mut Mutator<'_, P>, place: usize, fields: [Value; 5])
     requires may { MayFillAll m.old place fields }
     ensures filled { Filled m.old place fields 5 m.new }
+    ensures idle { Tries [] m.old m.new }
 {
     for i in 0..5 {
         if is_filled_in(fields[i]) {
@@ -68,6 +71,7 @@ pub fn fill_record<P: Keeping, R: Wait>(
     ensures full { IfErr result (λ full.
         Calm (FindsFull m.old.seat.me.number m.old.seat.me.shape.cells
         full.off_duty full.began full.ended) m.old m.new) }
+    ensures search { Searches 1000 [] hints.old hints.new m.old m.new }
     ensures queue { queue_of hints.new ≡ queue_of hints.old }
     ensures takes { (counts_of hints.old).takes < (counts_of hints.new).takes }
 {

@@ -1,4 +1,4 @@
-use Rattle.std.proofs.Common.{◌≡◌, ◌≤◌, ◌+◌, ℕ, List, arith, refl, sym, ◌∙◌, subst}
+use Rattle.std.proofs.Common.{◌≡◌, ◌≤◌, ◌+◌, ℕ, List, [], arith, refl, sym, ◌∙◌, subst}
 use Rattle.cell_words.specs.declared.fields.Field.{Field}
 use Rattle.heap_rule.specs.Lore.{five_nulls}
 use Rattle.mutator_events.specs.declared.values.Value.{Value}
@@ -8,6 +8,8 @@ use Rattle.promotion.proofs.Filling.{fill_rule, filled_more, filled_none, filled
 use Rattle.promotion.proofs.Filling.{may_seal}
 use Rattle.promotion.proofs.Filling.{opened, ready_now, sealed_as}
 use Rattle.cell_making.specs.Makes.{value_at}
+use Rattle.mutator_seat.specs.Searches.{Searches}
+use Rattle.cell_making.proofs.Searching.{fill_tries, seal_tries, searches_idle}
 use Rattle.cell_making.proofs.making.fill_record.Goals.{then-is_filled_in, else-is_filled_in}
 use Rattle.cell_making.proofs.making.fill_record.Goals as goal
 
@@ -17,6 +19,7 @@ loop-i-init g c = (
   (
     opened c.args.m.now c.claim.new.self c.in-Ok.place c.in-Ok.ensures.got,
     filled_none (held_cells c.args.m.now) (value_at c.args.fields),
+    c.claim.ensures.search,
   ),
 )
 
@@ -44,17 +47,28 @@ loop-i-preserved g c =
     let ready = c.requires.terms i c.loop-i-test.true in
     let more : Bound _ → Type 0 =
     λ n. (fields : List Field) × (Opened was c.in-Ok.place fields n
-    × AreFilled (held_cells was) given (i + 1) fields) in
+    × AreFilled (held_cells was) given (i + 1) fields
+    × Searches 1000 [] c.args.hints.now c.claim.new.hints was n) in
     elim c.if-is_filled_in.branch [
       | then-is_filled_in w ↦ subst more (sym w.m-is)
-          (filled_more was c.loop-i.m c.in-Ok.place so.0 so.1.0 given i w.fill.new.self
-          c.loop-i-test.true ready so.1.1 w.fill.ensures.told)
+          (let next = filled_more was c.loop-i.m c.in-Ok.place so.0 so.1.0 given i w.fill.new.self
+          c.loop-i-test.true ready so.1.1 w.fill.ensures.told in (
+            next.0,
+            (
+              next.1.0,
+              next.1.1,
+              searches_idle 1000 [] c.args.hints.now c.claim.new.hints was c.loop-i.m
+                  w.fill.new.self so.1.2
+                  (fill_tries c.loop-i.m w.fill.new.self _ _ _ _ _ w.fill.ensures.told),
+            ),
+          ))
       | else-is_filled_in w ↦ subst more (sym w.m-is) (
         so.0,
         (
           so.1.0,
           filled_null was c.loop-i.m c.in-Ok.place so.0 so.1.0 given i c.loop-i-test.true
               (w.if-is_filled_in.ensures.null refl) so.1.1,
+          so.1.2,
         ),
       )
     ]
@@ -80,3 +94,9 @@ returns-after-loop-i-clause-made g c =
     (let e : c.loop-i.i ≡ 5 = omega (arith, all, c.loop-i.auto.i-end) in e) so.1.1 in
     sealed_as c.args.m.now c.loop-i.m c.in-Ok.place so.0 so.1.0 (value_at c.args.fields)
     c.seal_record.new.self filled c.requires.terms c.seal_record.ensures.told
+
+pub returns-after-loop-i-clause-search : goal.returns-after-loop-i-clause-search
+returns-after-loop-i-clause-search g c =
+    searches_idle 1000 [] c.args.hints.now c.claim.new.hints c.args.m.now c.loop-i.m
+    c.seal_record.new.self c.loop-i.invariant.1.2
+    (seal_tries c.loop-i.m c.seal_record.new.self _ _ _ c.seal_record.ensures.told)
