@@ -37,7 +37,8 @@ use Rattle.cell_mailbox.specs.Ends.{AllKnown, FullTry, LostTry, SentTry}
 use Rattle.cell_making.specs.Makes.{MakesBox}
 use Rattle.cell_making.proofs.Naming.{sealed_value}
 use Rattle.cell_mailbox.specs.Makes.{item_values}
-use Rattle.cell_mailbox.specs.Walks.{EndsAt}
+use Rattle.cell_mailbox.specs.Pacing.{Prompt}
+use Rattle.cell_mailbox.specs.Walks.{EndsAt, Walked}
 use Rattle.cell_mailbox.proofs.Finding.{item_still}
 use Rattle.cell_mailbox.proofs.Making.{names_none}
 use Rattle.cell_mailbox.proofs.Trying.{item_kept}
@@ -63,6 +64,22 @@ full_try a b c held position ends full calm = record {
   shape_is = ends.stands.goes.shape;
   stretch = calm;
   after = goes_none c;
+}
+
+pub walked_full : (a b c : Bound MailPass) (held position : ℕ) → EndsAt a b held position
+    → Prompt a b → (full : HeapFull)
+    → Calm (FindsFull b.seat.me.number b.seat.me.shape.cells full.off_duty full.began full.ended)
+    b c
+    → Walked a c
+walked_full a b c held position ends prompt full calm = record {
+  from = a;
+  to = b;
+  held = held;
+  position = position;
+  before = goes_none a;
+  ends = ends;
+  prompt = prompt;
+  after = calm_goes _ b c calm;
 }
 
 module _ (a b d : Bound MailPass) (held position fresh : ℕ) (inside : IsIn a)
@@ -197,6 +214,20 @@ module _ (a b d : Bound MailPass) (held position fresh : ℕ) (inside : IsIn a)
     pass_is made_it how =
         wrote.pass ∙ ap (λ (x : Bool). sent_if x sent d.seat.me.pass) how
         ∙ ap (sent_if made_it sent) pass_d
+
+    pub walked_linked : Prompt a b → Walked a e
+    walked_linked prompt = record {
+      from = a;
+      to = b;
+      held = held;
+      position = position;
+      before = goes_none a;
+      ends = ends;
+      prompt = prompt;
+      after = goes_then made.goes
+          (wrote_goes is_fixed HoldsMail (next_sent sent) d e held 3 values.Null
+          (values.Held fresh) found wrote);
+    }
 
     pub lost_post : same_field found field.Null ≡ false → LostTry a e
     lost_post other = record {

@@ -22,6 +22,7 @@ use Rattle.mail_rule.specs.Mail.{is_fixed}
 use Rattle.cell_mailbox.specs.Ends.{AllKnown, AtOneWrite, EmptyTry, FindsEmpty, Leaves, LostTry}
 use Rattle.cell_mailbox.specs.Ends.{FindsFullHeap, FullTry, PostEnds, Returns, Sends, SentTry}
 use Rattle.cell_mailbox.specs.Ends.{Rests, Takes, TookTry, TurnEnds, send_asks, take_asks}
+use Rattle.cell_mailbox.specs.Walks.{Walked}
 use Rattle.cell_mailbox.specs.declared.turns.Post.{Post}
 use Rattle.cell_mailbox.specs.declared.turns.Post.TheVariants as posts
 use Rattle.cell_mailbox.specs.declared.turns.Turn.{Turn}
@@ -182,4 +183,17 @@ module _ (a c : Bound MailPass) (came : Rests a c) where
       shape_is = try.shape_is ∙ came.returns.goes.shape;
       stretch = try.stretch;
       after = goes_then try.after (cut_goes d e n p told);
+    }
+
+    -- the walk of the last try
+    pub walked_all : Walked c d → Walked a e
+    walked_all walk = record {
+      from = walk.from;
+      to = walk.to;
+      held = walk.held;
+      position = walk.position;
+      before = goes_then came.returns.goes walk.before;
+      ends = walk.ends;
+      prompt = walk.prompt;
+      after = goes_then walk.after (cut_goes d e n p told);
     }

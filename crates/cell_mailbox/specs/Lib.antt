@@ -1,4 +1,5 @@
 pub mod Ends
 pub mod Finds
 pub mod Makes
+pub mod Pacing
 pub mod Walks

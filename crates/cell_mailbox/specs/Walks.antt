@@ -9,6 +9,7 @@ use Rattle.mail_rule.specs.declared.mail_pass.MailPass.{MailPass}
 use Rattle.mutator_seat.specs.Bound.{Bound, held_cells}
 use Rattle.held_places.specs.Calls.{Goes, known_fresh}
 use Rattle.cell_mailbox.specs.Ends.{AllKnown}
+use Rattle.cell_mailbox.specs.Pacing.{Prompt}
 
 -- one item is held behind all that was held before
 pub record Stands (old new : Bound MailPass) (held : ℕ) : Type 0 where
@@ -30,3 +31,14 @@ pub record EndsAt (old new : Bound MailPass) (held position : ℕ) : Type 0 wher
   pub apart : (place : ℕ) → place < length old.seat.me.own.held
       → known_fresh (known_of old.seat.me place) ≡ true
       → target old.seat.me place ≢ target new.seat.me held
+
+-- Among the events of a call is such a walk, and on its way it answers in time.
+pub record Walked (old new : Bound MailPass) : Type 0 where
+  pub from : Bound MailPass
+  pub to : Bound MailPass
+  pub held : ℕ
+  pub position : ℕ
+  pub before : Goes [] old from
+  pub ends : EndsAt from to held position
+  pub prompt : Prompt from to
+  pub after : Goes [] to new

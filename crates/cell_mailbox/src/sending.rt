@@ -13,7 +13,8 @@ ghost use Rattle.cell_making.specs.Makes.{MakesBox};
 ghost use Rattle.held_places.specs.Calls.{IsIn};
 ghost use Rattle.cell_mailbox.specs.Ends.{FindsFullHeap, PostEnds, Sends};
 ghost use Rattle.cell_mailbox.specs.Makes.{item_values};
-ghost use Rattle.cell_mailbox.specs.Walks.{EndsAt};
+ghost use Rattle.cell_mailbox.specs.Pacing.{Prompt};
+ghost use Rattle.cell_mailbox.specs.Walks.{EndsAt, Walked};
 
 use crate::reading::{read_latest, read_next, read_part};
 use crate::turns::Post;
@@ -41,6 +42,7 @@ pub fn send<R: Wait>(
     ensures sent { IfOk result (λ position. Sends m.old m.new
         (record { position = position; value = value })) }
     ensures full { IfErr result (λ full. FindsFullHeap m.old m.new full) }
+    ensures walk { Walked m.old m.new }
     ensures queue { queue_of hints.new ≡ queue_of hints.old }
 {
     let held = m.held_len();
@@ -72,6 +74,7 @@ fn try_to_send<R: Wait>(
     requires value { value < 2 ^ 32 }
     requires few { length m.old.seat.me.pass.sends < 100000 }
     ensures ends { PostEnds m.old m.new value result }
+    ensures walk { Walked m.old m.new }
     ensures queue { queue_of hints.new ≡ queue_of hints.old }
 {
     let before = find_last(rt, m, held);
@@ -102,6 +105,7 @@ fn find_last<R: Wait>(rt: &R, m: &mut Mutator<'_, MailPass>, held: usize) -> u64
     requires held { held ≡ length m.old.seat.me.own.held }
     requires room { length m.old.seat.me.own.held + 1 < m.old.seat.me.room }
     ensures last { EndsAt m.old m.new held result }
+    ensures prompt { Prompt m.old m.new }
 {
     let _latest = read_latest(m);
     for _ in rt.forever() {

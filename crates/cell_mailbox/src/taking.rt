@@ -9,6 +9,7 @@ ghost use Rattle.mutator_events.specs.declared.values.Value.TheVariants as value
 ghost use Rattle.mutator_seat.specs.Writes.{MayUpdate, PicksUpdate, Updated};
 ghost use Rattle.held_places.specs.Calls.{IsIn};
 ghost use Rattle.cell_mailbox.specs.Ends.{FindsEmpty, Takes, TurnEnds};
+ghost use Rattle.cell_mailbox.specs.Pacing.{Paces, Prompt};
 
 use crate::reading::{read_item, read_latest, read_next};
 use crate::turns::Turn;
@@ -24,6 +25,7 @@ pub fn take<R: Wait>(rt: &R, m: &mut Mutator<'_, MailPass>) -> Option<Item>
     requires room { length m.old.seat.me.own.held + 8 ≤ m.old.seat.me.room }
     ensures took { IfSome result (λ item. Takes m.old m.new item) }
     ensures none { IfNone result (FindsEmpty m.old m.new) }
+    ensures prompt { Prompt m.old m.new }
 {
     let held = m.held_len();
     for _ in rt.forever() {
@@ -44,6 +46,7 @@ fn try_to_take(m: &mut Mutator<'_, MailPass>) -> Turn
     requires inside { IsIn m.old }
     requires room { length m.old.seat.me.own.held + 2 < m.old.seat.me.room }
     ensures ends { TurnEnds m.old m.new result }
+    ensures pace { Paces 0 5 m.old m.new }
 {
     let latest = read_latest(m);
     match read_next(m, latest) {
@@ -75,6 +78,7 @@ fn go_on<C: Choice<MailPass>>(
         (same_field moved.found (field.Cell (target m.old.seat.me latest)) ≡ false)
         × Updated HoldsMail is_fixed C.next m.old 0 0 (values.Held latest) (values.Held next)
         moved.found m.new) }
+    ensures pace { Paces 5 5 m.old m.new }
 {
     let _ = item;
     m.update::<C>(0, 0, Value::Held(latest), Value::Held(next))

@@ -1,5 +1,6 @@
 use Rattle.std.proofs.Common.{[], arith}
 use Rattle.cell_mailbox.proofs.Calling.{reads_still, whole}
+use Rattle.cell_mailbox.proofs.Pacing.{paces_three}
 use Rattle.cell_mailbox.proofs.reading.read_item.Goals as goal
 
 pub read_part-sender-requires-clause-item : goal.read_part-sender-requires-clause-item
@@ -35,4 +36,7 @@ returns c = record {
       c.read_part-value.new.m c.args.place c.read_part-position.result
       c.read_part-sender.result c.read_part-value.result c.read_part-position.ensures.part
       c.read_part-sender.ensures.part c.read_part-value.ensures.part;
+  pace = paces_three c.args.m.now c.read_part-position.new.m c.read_part-sender.new.m
+      c.read_part-value.new.m c.read_part-position.ensures.pace c.read_part-sender.ensures.pace
+      c.read_part-value.ensures.pace;
 }

@@ -2,6 +2,7 @@ use Rattle.std.proofs.Common.{sym, ◌∙◌}
 use Rattle.heap_rule.proofs.Picking.{read_picks}
 use Rattle.mail_rule.specs.Mail.{HoldsMail, is_fixed}
 use Rattle.cell_mailbox.proofs.Finding.{finds_latest, latest_cell}
+use Rattle.cell_mailbox.proofs.Pacing.{paces_read}
 use Rattle.held_places.proofs.ReadValues.{held_alone}
 use Rattle.cell_mailbox.proofs.reading.read_latest.Goals as goal
 
@@ -22,4 +23,5 @@ returns c =
     record {
       item = finds_latest c.args.m.now c.read.new.self c.read.ensures.heap c.read.ensures.table
           c.requires.inside told.0 told.2 c.in-Held.place (sym c.in-Held.is ∙ told.1);
+      pace = paces_read c.args.m.now c.read.new.self 0 0 told.0 told.2;
     }

@@ -2,6 +2,7 @@ use Rattle.std.proofs.Common.{sym, ◌∙◌}
 use Rattle.heap_rule.proofs.Picking.{read_picks}
 use Rattle.mail_rule.specs.Mail.{HoldsMail, is_fixed}
 use Rattle.cell_mailbox.proofs.Finding.{finds_part, part_is}
+use Rattle.cell_mailbox.proofs.Pacing.{paces_read}
 use Rattle.held_places.proofs.ReadValues.{number_alone}
 use Rattle.cell_mailbox.proofs.reading.read_part.Goals as goal
 
@@ -26,4 +27,5 @@ returns c =
       part = finds_part c.args.m.now c.read.new.self c.read.ensures.heap c.read.ensures.table
           c.args.place c.args.part c.requires.part is.0 is.1 told.0 told.2 c.in-Num.number
           (sym c.in-Num.is ∙ told.1);
+      pace = paces_read c.args.m.now c.read.new.self c.args.place c.args.part told.0 told.2;
     }

@@ -1,5 +1,6 @@
 use Rattle.std.proofs.Common.{◌∙◌, refl}
 use Rattle.cell_mailbox.proofs.Turning.{cut_post, full_all, rests_all, rests_first, sends_all}
+use Rattle.cell_mailbox.proofs.Turning.{walked_all}
 use Rattle.cell_mailbox.proofs.sending.send.Goals as goal
 
 pub loop-init : goal.loop-init
@@ -30,3 +31,15 @@ loop-preserved g c = (
       c.in-Lost.ensures.ends,
   c.try_to_send-post.ensures.queue ∙ c.loop.invariant.1,
 )
+
+pub returns-in-Sent-clause-walk : goal.returns-in-Sent-clause-walk
+returns-in-Sent-clause-walk g c =
+    walked_all c.args.m.now c.loop.m c.loop.invariant.0 c.try_to_send-post.new.m c.cut.new.self
+    c.held_len-held.result _ c.held_len-held.ensures.len c.cut.ensures.told
+    c.try_to_send-post.ensures.walk
+
+pub returns-in-Full-clause-walk : goal.returns-in-Full-clause-walk
+returns-in-Full-clause-walk g c =
+    walked_all c.args.m.now c.loop.m c.loop.invariant.0 c.try_to_send-post.new.m c.cut.new.self
+    c.held_len-held.result _ c.held_len-held.ensures.len c.cut.ensures.told
+    c.try_to_send-post.ensures.walk
