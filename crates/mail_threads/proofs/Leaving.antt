@@ -1,5 +1,7 @@
 -- A sender and the receiver, each from its beginning to its end.
-use Rattle.std.proofs.Common.{◌≡◌, ℕ, Bool, false, ◌||◌, not, List, [], ◌++◌, sym, ◌∙◌, ap, subst}
+use Rattle.std.proofs.Common.{◌≡◌, ℕ, Bool, false, ◌||◌, not, List, [], ◌∷◌, ◌++◌, None, sym, ◌∙◌}
+use Rattle.std.proofs.Common.{ap, arith, subst}
+use Rattle.std.proofs.lemmas.List.{length-append}
 use Rattle.std.proofs.lemmas.Bool.{OnTrue_at, not-false, or_parts}
 use Rattle.std.specs.Bool.{OnTrue}
 use Rattle.beside_collector.specs.Coming.{Entered, IsSame, Left}
@@ -7,16 +9,17 @@ use Rattle.cell_mailbox.specs.Ends.{Returns}
 use Rattle.mail_rule.specs.declared.items.Item.{Item}
 use Rattle.trails.specs.Stretches.{InTurn}
 use Rattle.trails.proofs.Stretches.{turns_grown}
-use Rattle.mail_threads.specs.Receipts.{Receives, TurnShows}
+use Rattle.mail_threads.specs.Receipts.{Empties, Receives, TurnShows}
 use Rattle.mail_threads.specs.declared.workers.Receiver.{Receiver}
 use Rattle.mail_threads.proofs.Going.{goes_grown}
+use Rattle.mail_threads.proofs.Turns.{emptied_turns}
 use Rattle.free_cells.specs.declared.queue.FreeQueue.{FreeQueue}
 use Rattle.heap_rule.specs.Shape.{Shape}
 use Rattle.heap_table.specs.Seats.{HeapId}
 use Rattle.mail_rule.specs.declared.mail_pass.MailPass.{MailPass}
 use Rattle.mutator_seat.specs.Bound.{Bound}
 use Rattle.trails.specs.Marks.{Mark, marks_of}
-use Rattle.mail_threads.specs.Calls.{Drained, Posted, marks}
+use Rattle.mail_threads.specs.Calls.{Emptied, Posted, marks}
 use Rattle.mail_threads.specs.Posts.{Posts}
 use Rattle.mail_threads.specs.Workers.{HasReceived, IsDone, IsHalfway, IsReady}
 use Rattle.mail_threads.specs.declared.workers.Sender.{Sender}
@@ -49,23 +52,41 @@ module _ (heap : HeapId) (queue : FreeQueue) (script : List ℕ) (place : ℕ) (
 
 module _ (heap : HeapId) (place lines : ℕ) (a b c : Bound MailPass) (before items : List Item)
     (failed whole : Bool) (half : IsHalfway heap place lines a before failed) (woke : IsSame a b)
-    (returns : Returns [] b c) (drained : OnTrue whole (Drained before items b c))
+    (returns : Returns [] b c) (emptied : OnTrue whole (Emptied before items b c))
     (new : Receiver) (left : Left c new.seat) (items_are : new.items.items ≡ items) where
-  more_received : Receives lines before a.seat.me.pass (marks a) → Drained before items b c
+  more_received : Receives lines before a.seat.me.pass (marks a) → Emptied before items b c
       → Receives lines new.items.items new.seat.me.pass (marks_of new.seat.me.trail)
-  more_received first rest = record {
-    sends = ap (λ (p : MailPass). p.sends) left.pass ∙ rest.sends
-        ∙ ap (λ (p : MailPass). p.sends) woke.pass ∙ first.sends;
-    takes = ap (λ (p : MailPass). p.takes) left.pass ∙ rest.takes
-        ∙ ap (λ (p : MailPass). p.takes ++ rest.more) woke.pass
-        ∙ ap (λ (ts : List Item). ts ++ rest.more) first.takes ∙ sym rest.items_are
-        ∙ sym items_are;
-    turns = first.turns;
-    many = first.many;
-    shown = subst (λ (ms : List Mark). InTurn TurnShows first.turns ms) (sym left.marks)
-        (turns_grown TurnShows first.turns (marks b)
+  more_received first all =
+      let rest = all.drained in
+      let last = all.last.pass in
+      record {
+        sends = ap (λ (p : MailPass). p.sends) left.pass ∙ ap (λ (p : MailPass). p.sends) last
+            ∙ rest.sends ∙ ap (λ (p : MailPass). p.sends) woke.pass ∙ first.sends;
+        takes = ap (λ (p : MailPass). p.takes) left.pass ∙ ap (λ (p : MailPass). p.takes) last
+            ∙ rest.takes
+            ∙ ap (λ (p : MailPass). p.takes ++ rest.more) woke.pass
+            ∙ ap (λ (ts : List Item). ts ++ rest.more) first.takes ∙ sym rest.items_are
+            ∙ sym items_are;
+        turns = first.turns;
+        many = first.many;
+        shown = subst (λ (ms : List Mark). InTurn TurnShows first.turns ms) (sym left.marks)
+            (turns_grown TurnShows first.turns (marks b)
+            (subst (λ (ms : List Mark). InTurn TurnShows first.turns ms) (sym woke.marks)
+            first.shown) (goes_grown b c returns.goes));
+      }
+
+  all_turns : Receives lines before a.seat.me.pass (marks a) → Emptied before items b c
+      → Empties lines (marks_of new.seat.me.trail)
+  all_turns first rest = record {
+    turns = first.turns ++ rest.drained.turns;
+    many =
+        let both = length-append first.turns rest.drained.turns in
+        let many = first.many in omega (arith, both, many);
+    shown = subst (λ (ms : List Mark). InTurn TurnShows
+        ((first.turns ++ rest.drained.turns) ++ None ∷ []) ms) (sym left.marks)
+        (emptied_turns before items b c rest first.turns
         (subst (λ (ms : List Mark). InTurn TurnShows first.turns ms) (sym woke.marks)
-        first.shown) (goes_grown b c returns.goes));
+        first.shown));
   }
 
   pub has_received : new.failed ≡ (failed || not whole) → HasReceived heap place lines new
@@ -78,5 +99,8 @@ module _ (heap : HeapId) (place lines : ℕ) (a b c : Bound MailPass) (before it
     over = left.over;
     received = λ fine.
         let both = or_parts failed (not whole) (sym fails ∙ fine) in
-        more_received (half.received both.0) (OnTrue_at (not-false whole both.1) drained);
+        more_received (half.received both.0) (OnTrue_at (not-false whole both.1) emptied);
+    emptied = λ fine.
+        let both = or_parts failed (not whole) (sym fails ∙ fine) in
+        all_turns (half.received both.0) (OnTrue_at (not-false whole both.1) emptied);
   }

@@ -1,6 +1,6 @@
 -- The turns of the receiver, one after the other.
 use Rattle.std.proofs.Common.{◌≡◌, ◌+◌, ℕ, List, [], ◌∷◌, ◌++◌, Option, Some, None}
-use Rattle.std.proofs.Common.{refl, sym, ◌∙◌, ap, arith}
+use Rattle.std.proofs.Common.{refl, sym, ◌∙◌, ap, arith, subst}
 use Rattle.std.proofs.lemmas.List.{append-nil, append_assoc, length_push}
 use Rattle.cell_words.specs.declared.fields.Field.TheVariants as field
 use Rattle.core_machine.specs.Own.{no_own}
@@ -9,9 +9,11 @@ use Rattle.mail_rule.specs.declared.items.Item.{Item}
 use Rattle.mail_rule.specs.declared.mail_pass.MailPass.{MailPass}
 use Rattle.mutator_seat.specs.Bound.{Bound}
 use Rattle.trails.specs.Asks.{gave_at}
+use Rattle.trails.specs.Stretches.{InTurn}
 use Rattle.trails.proofs.Stretches.{turns_had}
 use Rattle.cell_mailbox.specs.Ends.{FindsEmpty, Takes, take_asks}
-use Rattle.mail_threads.specs.Calls.{Drained, IsFresh, Received, TakesOne, marks, with_item}
+use Rattle.mail_threads.specs.Calls.{Drained, Emptied, IsFresh, Received, TakesOne, marks}
+use Rattle.mail_threads.specs.Calls.{with_item}
 use Rattle.mail_threads.specs.Receipts.{TurnShows}
 use Rattle.mail_threads.proofs.Going.{goes_had, returns_calm, returns_none, returns_then}
 
@@ -107,6 +109,9 @@ drained_first items a = record {
   items_are = sym (append-nil items);
   takes = sym (append-nil a.seat.me.pass.takes);
   sends = refl;
+  turns = [];
+  shown = λ earlier so_far. subst (λ (ts : List (Option Item)). InTurn TurnShows ts (marks a))
+      (sym (append-nil earlier)) so_far;
 }
 
 pub drained_item : (before items more : List Item) (item : Item) (a b c : Bound MailPass)
@@ -120,13 +125,19 @@ drained_item before items more item a b c first second is = record {
       ∙ ap (λ (ts : List Item). ts ++ item ∷ []) first.takes
       ∙ append_assoc a.seat.me.pass.takes first.more (item ∷ []);
   sends = ap (λ (p : MailPass). p.sends) second.pass ∙ first.sends;
+  turns = first.turns ++ Some item ∷ [];
+  shown = λ earlier so_far.
+      subst (λ (ts : List (Option Item)). InTurn TurnShows ts (marks c))
+      (append_assoc earlier first.turns (Some item ∷ []))
+      (turns_had TurnShows (earlier ++ first.turns) (Some item) (marks b)
+      (first.shown earlier so_far) second.shows);
 }
 
-pub drained_none : (before items : List Item) (a b c : Bound MailPass)
-    → Drained before items a b → TakesOne None b c → Drained before items a c
-drained_none before items a b c first second = record {
-  more = first.more;
-  items_are = first.items_are;
-  takes = ap (λ (p : MailPass). p.takes) second.pass ∙ first.takes;
-  sends = ap (λ (p : MailPass). p.sends) second.pass ∙ first.sends;
-}
+-- all turns, and the last one
+pub emptied_turns : (before items : List Item) (a c : Bound MailPass)
+    → (rest : Emptied before items a c) → (earlier : List (Option Item))
+    → InTurn TurnShows earlier (marks a)
+    → InTurn TurnShows ((earlier ++ rest.drained.turns) ++ None ∷ []) (marks c)
+emptied_turns before items a c rest earlier so_far =
+    turns_had TurnShows (earlier ++ rest.drained.turns) None (marks rest.from)
+    (rest.drained.shown earlier so_far) rest.last.shows

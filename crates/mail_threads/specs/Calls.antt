@@ -8,7 +8,7 @@ use Rattle.mail_rule.specs.declared.items.Item.{Item}
 use Rattle.mail_rule.specs.declared.mail_pass.MailPass.{MailPass}
 use Rattle.mutator_seat.specs.Bound.{Bound}
 use Rattle.trails.specs.Marks.{Mark, marks_of}
-use Rattle.trails.specs.Stretches.{Had}
+use Rattle.trails.specs.Stretches.{Had, InTurn}
 use Rattle.mail_threads.specs.Posts.{AnswerShows, Posts}
 use Rattle.mail_threads.specs.Receipts.{Receives, TurnShows}
 
@@ -56,9 +56,18 @@ pub record Received (lines : ℕ) (items : List Item) (old new : Bound MailPass)
   pub returns : Returns [] old new
   pub receives : Receives lines items new.seat.me.pass (marks new)
 
--- more items were taken: the list gained just what the pass did
+-- More items were taken: the list gained just what the pass did, and the trail has more turns.
 pub record Drained (before items : List Item) (old new : Bound MailPass) : Type 0 where
   pub more : List Item
   pub items_are : items ≡ before ++ more
   pub takes : new.seat.me.pass.takes ≡ old.seat.me.pass.takes ++ more
   pub sends : new.seat.me.pass.sends ≡ old.seat.me.pass.sends
+  pub turns : List (Option Item)
+  pub shown : (earlier : List (Option Item)) → InTurn TurnShows earlier (marks old)
+      → InTurn TurnShows (earlier ++ turns) (marks new)
+
+-- and behind them a turn that found nothing, which was the last
+pub record Emptied (before items : List Item) (old new : Bound MailPass) : Type 0 where
+  pub from : Bound MailPass
+  pub drained : Drained before items old from
+  pub last : TakesOne None from new

@@ -1,9 +1,10 @@
 -- The heap of a mailbox, opened for its senders, its receiver and its collector.
 -- Source: this project's.
-use Rattle.std.specs.Prelude.{ℕ, ◌≡◌, ◌+◌, List, length, Vec}
+use Rattle.std.specs.Prelude.{ℕ, ◌≡◌, ◌+◌, List, [], length, Vec}
 use Rattle.std.specs.declared.alloc.Global.{Global}
 use Rattle.beside_collector.specs.Duty.{duty_on}
 use Rattle.cell_words.specs.declared.controls.Stage.TheVariants as stage
+use Rattle.collector.specs.Stack.{Stack}
 use Rattle.free_cells.specs.Hints.{cells_of as hinted_of}
 use Rattle.free_cells.specs.Passes.{IsHintPass}
 use Rattle.heap_rule.specs.Shape.{Shape}
@@ -21,6 +22,10 @@ mail_shape cells senders = record {
   first = first_rows;
 }
 
+-- how many cells may wait for a look of the collector
+abbrev pub opened_stack : Stack
+opened_stack = record { room = 65_536; cells = [] }
+
 -- The heap is opened, and neither its senders nor its receiver, which has the last mutator, have
 -- begun.
 pub record IsOpenMail (cells cycles : ℕ) (scripts : List (Vec ℕ Global)) (made : OpenMail)
@@ -31,6 +36,7 @@ pub record IsOpenMail (cells cycles : ℕ) (scripts : List (Vec ℕ Global)) (ma
   pub no_cycles : made.keeper.seat.me.control.cycles ≡ 0
   pub trail : made.keeper.seat.me.trail ≡ duty_on cycles
   pub places : length made.keeper.seat.me.places ≡ length scripts + 1
+  pub stack : made.keeper.stack ≡ opened_stack
   pub pass : IsHintPass made.queue made.keeper.pass
   pub hinted : hinted_of made.queue ≡ cells
   pub ready : AllReady made.heap made.queue scripts made.senders.items

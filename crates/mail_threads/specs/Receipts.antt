@@ -1,6 +1,6 @@
 -- What the receiver has taken, and what its trail shows of it.
 -- Source: this project's.
-use Rattle.std.specs.Prelude.{ℕ, ◌≡◌, List, [], ◌∷◌, length, Option, Some, None}
+use Rattle.std.specs.Prelude.{ℕ, ◌≡◌, ◌≤◌, ◌++◌, List, [], ◌∷◌, length, Option, Some, None}
 use Rattle.cell_words.specs.declared.fields.Field.TheVariants as field
 use Rattle.cell_mailbox.specs.Ends.{take_asks}
 use Rattle.mail_rule.specs.declared.items.Item.{Item}
@@ -34,3 +34,10 @@ pub record Receives (lines : ℕ) (items : List Item) (pass : MailPass) (marks :
   pub turns : List (Option Item)
   pub many : length turns ≡ lines
   pub shown : InTurn TurnShows turns marks
+
+-- Behind the turns of so many lines there were more, one behind the other, and the last of all found
+-- nothing.
+pub record Empties (lines : ℕ) (marks : List Mark) : Type 0 where
+  pub turns : List (Option Item)
+  pub many : lines ≤ length turns
+  pub shown : InTurn TurnShows (turns ++ None ∷ []) marks

@@ -13,7 +13,7 @@ use Rattle.mail_rule.specs.declared.mail_pass.MailPass.{MailPass}
 use Rattle.mutator_seat.specs.Bound.{Bound}
 use Rattle.trails.specs.Marks.{marks_of}
 use Rattle.mail_threads.specs.Posts.{Posts}
-use Rattle.mail_threads.specs.Receipts.{Receives}
+use Rattle.mail_threads.specs.Receipts.{Empties, Receives}
 use Rattle.mail_threads.specs.declared.workers.Receiver.{Receiver}
 use Rattle.mail_threads.specs.declared.workers.Sender.{Sender}
 
@@ -81,10 +81,11 @@ pub record IsHalfway (heap : HeapId) (place lines : ℕ) (m : Bound MailPass) (i
   pub received : failed ≡ false → Receives lines items m.seat.me.pass (marks_of m.seat.me.trail)
 
 -- The receiver is through: its mutator is over. Unless memory was wanting, it took a turn for each
--- line, and it has what it took.
+-- line, and more until one found nothing, and it has what it took.
 pub record HasReceived (heap : HeapId) (place lines : ℕ) (receiver : Receiver) : Type 0 where
   pub seat_is : IsSeatOf heap receiver.seat
   pub number_is : receiver.seat.me.number ≡ place
   pub over : receiver.seat.me.presence.over ≡ true
   pub received : receiver.failed ≡ false → Receives lines receiver.items.items
       receiver.seat.me.pass (marks_of receiver.seat.me.trail)
+  pub emptied : receiver.failed ≡ false → Empties lines (marks_of receiver.seat.me.trail)

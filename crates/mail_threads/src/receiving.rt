@@ -1,7 +1,7 @@
 //! The receiver's takes on its mutator, one after the other.
 ghost use Rattle.std.specs.Prelude.{◌≡◌, ◌≤◌, ◌+◌, ◌++◌, [], ◌∷◌, length, true};
 ghost use Rattle.std.specs.Bool.{OnTrue};
-ghost use Rattle.mail_threads.specs.Calls.{Drained, IsFresh, Received, TakesOne};
+ghost use Rattle.mail_threads.specs.Calls.{Emptied, IsFresh, Received, TakesOne};
 ghost use Rattle.cell_mailbox.specs.Ends.{Returns};
 
 use cell_mailbox::{Item, MailPass, take};
@@ -60,7 +60,7 @@ pub(crate) fn take_rest<R: Wait>(
     requires inside { m.old.seat.me.presence.inside ≡ true }
     requires room { length m.old.seat.me.own.held + 8 ≤ m.old.seat.me.room }
     ensures returns { Returns [] m.old m.new }
-    ensures drained { OnTrue result (Drained items.old.items items.new.items m.old m.new) }
+    ensures emptied { OnTrue result (Emptied items.old.items items.new.items m.old m.new) }
 {
     for _ in rt.forever() {
         match take_one(rt, m) {

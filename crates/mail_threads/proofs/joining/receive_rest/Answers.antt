@@ -8,7 +8,7 @@ returns g c = record {
   received = has_received c.args.heap.now c.args.number c.args.lines c.args.m c.wake.new.m
       c.take_rest-whole.new.m c.args.items.items c.take_rest-whole.new.items.items c.args.failed
       c.take_rest-whole.result c.requires.halfway c.wake.ensures.same
-      c.take_rest-whole.ensures.returns c.take_rest-whole.ensures.drained
+      c.take_rest-whole.ensures.returns c.take_rest-whole.ensures.emptied
       (record {
         seat = c.leave.result;
         items = c.take_rest-whole.new.items;

@@ -38,6 +38,7 @@ returns g c =
             (ap (λ (s : SeatView MailPass). s.me.trail) own ∙ split.still.trail
             ∙ ap (λ (s : SeatView MailPass). s.me.trail) seat);
         places = search rules;
+        stack = c.in_ok-stack.ensures.stack;
         pass = c.in_ok-senders.ensures.pass;
         hinted = c.in_ok-queue.ensures.cells;
         ready = c.in_ok-senders.ensures.ready;

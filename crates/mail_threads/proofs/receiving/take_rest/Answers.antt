@@ -1,6 +1,6 @@
 use Rattle.std.proofs.Common.{◌∙◌, []}
 use Rattle.mail_threads.proofs.Going.{still_room, returns_none, returns_then}
-use Rattle.mail_threads.proofs.Turns.{drained_first, drained_item, drained_none}
+use Rattle.mail_threads.proofs.Turns.{drained_first, drained_item}
 use Rattle.mail_threads.proofs.receiving.take_rest.Goals as goal
 
 pub loop-init : goal.loop-init
@@ -35,7 +35,9 @@ returns-in-None-take_one-clause-returns g c =
     returns_then [] c.args.m.now c.loop.m c.take_one.new.m c.loop.invariant.0
     c.take_one.ensures.takes.returns
 
-pub returns-in-None-take_one-clause-drained : goal.returns-in-None-take_one-clause-drained
-returns-in-None-take_one-clause-drained g c =
-    drained_none c.args.items.now.items c.loop.items.items c.args.m.now c.loop.m c.take_one.new.m
-    c.loop.invariant.1 c.in-None-take_one.ensures.takes
+pub returns-in-None-take_one-clause-emptied : goal.returns-in-None-take_one-clause-emptied
+returns-in-None-take_one-clause-emptied g c = record {
+  from = c.loop.m;
+  drained = c.loop.invariant.1;
+  last = c.in-None-take_one.ensures.takes;
+}
