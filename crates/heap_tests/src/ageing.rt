@@ -185,18 +185,3 @@ fn what_ages_is_counted_until_it_is_promoted(rt: HostRuntime) -> Result<(), Fail
     assert_eq!(rt; age_chain(rt.alloc())?, wanted);
     Ok(())
 }
-
-/// The room of a full heap that has aged without a root, and how many records stand and are counted
-/// then.
-fn age_without_roots(alloc: Global) -> Result<(u32, (u32, u32)), NoMemory> {
-    let mut nursery = AgedNursery::with_room(alloc, 4)?;
-    let _newest = make_chain(nursery.heap_mut());
-    nursery.age(&mut []);
-    Ok((nursery.heap().spare(), lengths(&nursery)))
-}
-
-#[test]
-fn without_a_root_nothing_is_left(rt: HostRuntime) -> Result<(), Fail> {
-    assert_eq!(rt; age_without_roots(rt.alloc())?, (4, (0, 0)));
-    Ok(())
-}

@@ -1,7 +1,7 @@
 //! What no clause says of the crates beside the shared heap: each public call on its happy path,
-//! rows that were worked out by hand, and threads that share a queue of hints.
+//! rows that were worked out by hand, threads that share a queue of hints, and one that sleeps.
 //!
-//! Reading order: `hints`, `threads`, `records`, `ageing`.
+//! Reading order: `hints`, `threads`, `missing`, `sleeping`, `records`, `ageing`.
 #![tactic(auto)]
 
 #[cfg(test)]
@@ -9,6 +9,10 @@ mod ageing;
 #[cfg(test)]
 mod hints;
 #[cfg(test)]
+mod missing;
+#[cfg(test)]
 mod records;
+#[cfg(test)]
+mod sleeping;
 #[cfg(test)]
 mod threads;

@@ -1,7 +1,5 @@
-ghost use Rattle.std.specs.Prelude.{length, ◌<◌};
-
 use minor_heap::MinorField::{Minor, Null, Num, Shared};
-use minor_heap::{MinorField, MinorFull, MinorHeap, MinorRef, NoMemory, RecordSpan};
+use minor_heap::{MinorFull, MinorHeap, MinorRef, NoMemory, RecordSpan};
 use std::alloc::Global;
 use std::test::Fail;
 
@@ -60,52 +58,6 @@ fn a_full_heap_refuses_a_record_and_reaches_the_others(rt: HostRuntime) -> Resul
         reached: Some([r0, r1]),
     };
     assert_eq!(rt; fill_up(rt.alloc())?, wanted);
-    Ok(())
-}
-
-fn all_fields(heap: &MinorHeap, r: MinorRef) -> [MinorField; 5]
-    requires { r.number < length heap.now.records }
-{
-    [
-        heap.field(r, 0),
-        heap.field(r, 1),
-        heap.field(r, 2),
-        heap.field(r, 3),
-        heap.field(r, 4),
-    ]
-}
-
-/// The fields of a record with one of each kind, a field of the record that it names, and the room
-/// that is left.
-fn make_each_kind(heap: &mut MinorHeap) -> Result<([MinorField; 5], MinorField, u32), MinorFull> {
-    let r0 = heap.make([Null, Null, Null, Null, Null])?;
-    let r1 = heap.make([
-        Num((1 << 62) - 1),
-        Shared(usize::MAX),
-        Minor(r0),
-        Num(0),
-        Null,
-    ])?;
-    Ok((all_fields(heap, r1), heap.field(r0, 4), heap.spare()))
-}
-
-fn each_kind(
-    alloc: Global,
-) -> Result<Result<([MinorField; 5], MinorField, u32), MinorFull>, NoMemory> {
-    let mut heap = MinorHeap::with_room(alloc, 9)?;
-    Ok(make_each_kind(&mut heap))
-}
-
-#[test]
-fn each_kind_of_field_comes_back(rt: HostRuntime) -> Result<(), Fail> {
-    let fields = [
-        Num((1 << 62) - 1),
-        Shared(usize::MAX),
-        Minor(MinorRef { number: 0 }),
-        Num(0),
-        Null,
-    ];
-    assert_eq!(rt; each_kind(rt.alloc())?, Ok((fields, Null, 7)));
     Ok(())
 }
 
@@ -227,33 +179,5 @@ fn marks_lie_in_a_span_and_are_taken_back(rt: HostRuntime) -> Result<(), Fail> {
         marks: Some((span, set, none)),
     };
     assert_eq!(rt; mark_and_unmark(rt.alloc())?, wanted);
-    Ok(())
-}
-
-/// The room behind a clearing, the record that is then made, and its first field.
-fn clear_one(heap: &mut MinorHeap) -> Result<(u32, MinorRef, MinorField), MinorFull> {
-    heap.make([Num(1), Null, Null, Null, Null])?;
-    heap.clear();
-    let spare = heap.spare();
-    let made = heap.make([Num(2), Null, Null, Null, Null])?;
-    Ok((spare, made, heap.field(made, 0)))
-}
-
-fn cleared(alloc: Global) -> Result<Result<(u32, MinorRef, MinorField), MinorFull>, NoMemory> {
-    let mut heap = MinorHeap::with_room(alloc, 1)?;
-    Ok(clear_one(&mut heap))
-}
-
-/// What a heap without room answers.
-fn made_in_none(alloc: Global) -> Result<Result<MinorRef, MinorFull>, NoMemory> {
-    let mut none = MinorHeap::with_room(alloc, 0)?;
-    Ok(none.make([Null, Null, Null, Null, Null]))
-}
-
-#[test]
-fn a_cleared_heap_has_its_room_again(rt: HostRuntime) -> Result<(), Fail> {
-    let made = MinorRef { number: 0 };
-    assert_eq!(rt; cleared(rt.alloc())?, Ok((1, made, Num(2))));
-    assert_eq!(rt; made_in_none(rt.alloc())?, Err(MinorFull));
     Ok(())
 }
