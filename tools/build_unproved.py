@@ -89,12 +89,10 @@ def kit_of_links(real, folder, kept=None):
 
 
 def lay_out(repository, folder):
-    """Copies what a check reads of each crate, the list of crates and HANDLES."""
+    """Copies what `rt try` reads: the code of each crate, the list of crates and HANDLES."""
     for name in os.listdir(f"{repository}/crates"):
-        for part in ("src", "specs", "proofs"):
-            if os.path.isdir(f"{repository}/crates/{name}/{part}"):
-                shutil.copytree(f"{repository}/crates/{name}/{part}",
-                                f"{folder}/crates/{name}/{part}")
+        if os.path.isdir(f"{repository}/crates/{name}/src"):
+            shutil.copytree(f"{repository}/crates/{name}/src", f"{folder}/crates/{name}/src")
     for name in ("crates.txt", "HANDLES"):
         shutil.copy(f"{repository}/{name}", folder)
 

@@ -4,9 +4,10 @@
     run_tests.py [--note SOURCES]
 
 Where `rt ci` has proved and built the tests of these very sources here, those programs are run:
-.ci/run notes that by --note, with the checksum that ./docheap has of sources. Else they are compiled without proof, by `rt try`, which
-looks at what a proof would have shown while they run. A try reads and compiles all crates below,
-so the crates of tests are laid together, as modules of one crate for each processor.
+.ci/run notes that by --note, with the checksum that ./docheap has of sources. Else they are
+compiled without proof, by `rt try`, which looks at what a proof would have shown while they run. A
+try reads and compiles all crates below, so the crates of tests are laid together, as modules of one
+crate for each processor.
 """
 import glob
 import hashlib
@@ -111,7 +112,9 @@ def main():
     if are_proved(built.values()):
         print("the tests that rt ci proved and built")
         runner = f"{build_unproved.kit()}/bin/rattle-test"
-        ran = [(it, *said_by([runner, "--seconds", "60", built[it]])) for it in names]
+        with tempfile.TemporaryDirectory() as room:
+            ran = [(it, *said_by([runner, "--seconds", "60", built[it]], cwd=room))
+                   for it in names]
     else:
         print("tests without proof", flush=True)
         with ThreadPoolExecutor(4) as pool:
