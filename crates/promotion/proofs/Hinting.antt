@@ -1,8 +1,8 @@
 -- Hints that are taken one after the other, and copies that are made with them.
 use Rattle.std.proofs.Common.{◌≡◌, ◌<◌, ◌≤◌, ◌+◌, ◌≢◌, ◌⊎◌, ℕ, zero, suc, Bool, true, false, List}
 use Rattle.std.proofs.Common.{[], ◌∷◌, ◌++◌, length, map, take, refl, sym, ◌∙◌, ap, subst, arith}
-use Rattle.std.proofs.Common.{◌&&◌, ⊎_elim, inl, inr, Option, Some, None, IfSome, IfNone}
-use Rattle.std.specs.Prelude.{MatchOption, slice_index_or, slice_set}
+use Rattle.std.proofs.Common.{◌&&◌, ⊎_elim, inl, inr, Option, Some, None, IfSome}
+use Rattle.std.specs.Prelude.{slice_index_or, slice_set}
 use Rattle.std.specs.List.{list_all}
 use Rattle.std.proofs.lemmas.Bool.{and_parts}
 use Rattle.std.proofs.lemmas.List.{append-nil, append_assoc, append_cancel_left, get_or-set_other}
