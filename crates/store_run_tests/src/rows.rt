@@ -1,8 +1,7 @@
 //! Rows, worked out by hand, and what stands on every schedule.
-use crate::counting::{answered, answers_so, totals_of};
+use crate::counting::totals_of;
 use crate::gates::OrderGate;
-use crate::scripts::repeated;
-use doc_model::{NoMemory, Totals};
+use doc_model::Totals;
 use outside::OpenGate;
 use std::alloc::Global;
 use std::sync::Wait;
@@ -73,51 +72,5 @@ fn several_clients_share_a_small_heap(rt: HostRuntime) -> Result<(), Fail> {
         (totals.commands, some, taken, cells),
         (200, true, left, 64)
     );
-    Ok(())
-}
-
-/// A put for which the smallest heap has not the cells, between two others.
-fn full_script(alloc: Global) -> Result<Vec<u8>, NoMemory> {
-    let mut text = Vec::from_slice(alloc, b"put a x\nput b ")?;
-    for _ in 0..2_000 {
-        text.push(b't')?;
-    }
-    text.extend_from_slice(b"\nput a y\nget a\nget b\n")?;
-    Ok(text)
-}
-
-/// Whether that is answered so.
-fn full_row<R: Threads + Wait + Sync>(alloc: Global, rt: &R, wanted: &[u8]) -> Result<bool, Fail> {
-    let text = full_script(alloc)?;
-    answers_so(alloc, rt, &text, CYCLES, wanted)
-}
-
-// The text at b needs more cells than the heap has: one for each 21 of its bytes. What was claimed
-// for it is freed again.
-#[test]
-fn a_client_commits_again_behind_a_full_heap(rt: HostRuntime) -> Result<(), Fail> {
-    let wanted = b"ok 1\nfull 1\nok 2\nval 2 y\nnone 2\n";
-    assert!(rt; full_row(rt.alloc(), &rt, wanted)?);
-    Ok(())
-}
-
-/// How many cells a client claims for so many edits of its draft at one name, and whether each is
-/// answered as an edit of a draft that nobody published.
-fn drafts_alone<R: Threads + Wait + Sync>(
-    alloc: Global,
-    rt: &R,
-    edits: u32,
-) -> Result<(u64, bool), Fail> {
-    let text = repeated(alloc, b"dput k t\n", edits)?;
-    let wanted = repeated(alloc, b"drafted 0\n", edits)?;
-    let (totals, replies) = answered(alloc, rt, &text, 0)?;
-    Ok((totals.claimed, replies.as_slice() == wanted.as_slice()))
-}
-
-// Five hundred edits make more private records than there is room for. The five of the draft age,
-// the others are let go of, and no collection copies these five into the shared heap.
-#[test]
-fn a_draft_that_ages_claims_no_cell(rt: HostRuntime) -> Result<(), Fail> {
-    assert_eq!(rt; drafts_alone(rt.alloc(), &rt, 500)?, (0, true));
     Ok(())
 }
