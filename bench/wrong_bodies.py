@@ -24,6 +24,10 @@ stands first. Each wrong body is tried on a copy, over what that check kept, so 
 changed. One check tries as many as there are functions, one in each, so ten take little longer than
 one. A function that is not proved counts as the refusal of its wrong body; where it is proved the
 wrong body is tried once more, alone, since the refusal may come in a caller.
+
+A wrong body with a line `law: CRATE PATH` changes definitions, and the code alike, so that its own
+crate is still proved; the law of the other crate has to refuse it. That is checked over the sources
+of all crates below, from nothing.
 """
 import argparse
 import importlib.machinery
@@ -66,22 +70,31 @@ def kit():
     return rtlib, module
 
 
+class Body:
+    """A wrong body: its changes, each a file, its old and its new text; and if it is one of
+    definitions that another crate's law has to refuse, that crate and the law."""
+
+    def __init__(self):
+        self.changes, self.law = [], None
+
+
 def wrong_bodies(name):
-    """Gives the wrong bodies of a crate by name, each with its changes: a file, its old and its
-    new text."""
+    """Gives the wrong bodies of a crate by name."""
     found, source, old = {}, None, None
     if not os.path.exists(f"{BODIES}/{name}"):
         return found
     for line in open(f"{BODIES}/{name}", encoding="utf-8"):
         word, _, text = line.rstrip("\n").partition(" ")
         if word == "#":
-            changes = found.setdefault(text, [])
+            body = found.setdefault(text, Body())
+        elif word == "law:":
+            body.law = text.split(" ")
         elif word == "file:":
             source = text
         elif word == "old:":
             old = text
         elif word == "new:":
-            changes.append((source, old, text))
+            body.changes.append((source, old, text))
     return found
 
 
@@ -138,6 +151,29 @@ class Refused(Exception):
     """A crate or a wrong body that could not be tried, and why."""
 
 
+def checked(rtlib, words, folder, seconds):
+    """Runs a check in a folder, and gives its status and what it says."""
+    ran = subprocess.Popen(
+        [rtlib.RATTLE, "check", *words],
+        cwd=folder,
+        stdin=subprocess.DEVNULL,
+        stdout=subprocess.PIPE,
+        stderr=subprocess.STDOUT,
+        text=True,
+        errors="replace",
+        start_new_session=True,
+    )
+    try:
+        said = ran.communicate(timeout=seconds)[0]
+    except subprocess.TimeoutExpired:
+        raise Refused(f"no answer within {seconds} seconds")
+    finally:
+        if ran.poll() is None:
+            os.killpg(ran.pid, signal.SIGKILL)
+            ran.communicate()
+    return ran.returncode, said
+
+
 class Crate:
     def __init__(self, name, kit):
         self.rtlib, self.rt = kit
@@ -182,46 +218,64 @@ class Crate:
                     file.write(text)
             self.rt.linked(self.kept, f"{room}/kept")
             words = self.crate.words(["--jobs", "1"], keeps=False) + ["--incremental", "kept"]
-            ran = subprocess.Popen(
-                [self.rtlib.RATTLE, "check", *words],
-                cwd=room,
-                stdin=subprocess.DEVNULL,
-                stdout=subprocess.PIPE,
-                stderr=subprocess.STDOUT,
-                text=True,
-                errors="replace",
-                start_new_session=True,
-            )
-            try:
-                said = ran.communicate(timeout=seconds)[0]
-            except subprocess.TimeoutExpired:
-                raise Refused(f"no answer within {seconds} seconds")
-            finally:
-                if ran.poll() is None:
-                    os.killpg(ran.pid, signal.SIGKILL)
-                    ran.communicate()
-            return ran.returncode, said
+            return checked(self.rtlib, words, room, seconds)
+
+    def changed(self, changes):
+        """Gives the texts of the files that these changes leave."""
+        texts = {}
+        for source, old, new in changes:
+            texts[source] = texts.get(source, self.text(source)).replace(old, new, 1)
+        return texts
 
     def check(self, changes, seconds):
         """Gives whether the crate is still proved with these changes, and else what is said of
         which function."""
-        texts = {}
-        for source, old, new in changes:
-            texts[source] = texts.get(source, self.text(source)).replace(old, new, 1)
-        status, output = self.run(texts, seconds)
+        texts = self.changed(changes)
+        return self.read(texts, *self.run(texts, seconds))
+
+    def check_law(self, changes, law, seconds):
+        """Gives whether a law of a crate above is still proved with these changes, and else what
+        is said of which function."""
+        name, path = law
+        texts = self.changed(changes)
+        with tempfile.TemporaryDirectory(prefix="wrong-bodies-") as room:
+            shutil.copy(f"{TOP}/crates.txt", room)
+            for crate in os.listdir(f"{TOP}/crates"):
+                for part in self.rtlib.PARTS:
+                    if os.path.isdir(f"{TOP}/crates/{crate}/{part}"):
+                        shutil.copytree(
+                            f"{TOP}/crates/{crate}/{part}", f"{room}/crates/{crate}/{part}"
+                        )
+            for source, text in texts.items():
+                with open(f"{room}/crates/{self.name}/{source}", "w", encoding="utf-8") as file:
+                    file.write(text)
+            crate = next(it for it in self.rtlib.crates_below(room) if it.name == name)
+            words = crate.words(["--jobs", "1", "--only", path], as_source=True)
+            crate.out = open(os.devnull, "w")
+            status, output = checked(self.rtlib, words, crate.folder, seconds)
+        return self.read(None, status, output)
+
+    def named(self, texts, source, row):
+        """Gives the function that a place belongs to, or else the file."""
+        parts = source.split("/")
+        if parts[0] == "src" and texts is not None:
+            text = texts.get(source, self.text(source))
+            return function_at(text.split("\n"), row) or source
+        if parts[-1] in ("Answers.antt", "Invariants.antt"):
+            return parts[-2].lstrip("+")
+        return source
+
+    def read(self, texts, status, output):
+        """Gives whether all is proved, and else what is said of which function. The texts are those
+        of the crate's files, where what is said is of this crate."""
         if status and not output.rstrip("\n").split("\n")[-1].startswith("logic=not-proved"):
             lines = [it for it in output.split("\n") if "error" in it] or [f"status {status}"]
             raise Refused(f"it did not come to the prover: {lines[0][:160]}")
         said = {}
         for source, row, words in PLACE.findall(output):
-            parts = source.split("/")
-            if parts[0] == "src":
-                name = function_at(texts.get(source, self.text(source)).split("\n"), int(row))
-            else:
-                name = parts[-2].lstrip("+")
             # a remark at a place is no refusal
             if not words.startswith("note: "):
-                said.setdefault(name, []).append(words)
+                said.setdefault(self.named(texts, source, int(row)), []).append(words)
         return status == 0, said
 
 
@@ -281,11 +335,11 @@ class Trial:
         except Refused as why:
             return [self.fail(name, body, why) for body in bodies]
         left, alone = {}, []
-        for body, changes in bodies.items():
-            functions = crate.functions(changes)
+        for body, it in bodies.items():
+            functions = crate.functions(it.changes)
             if functions is None:
                 self.fail(name, body, "an old text does not stand once")
-            elif any(it[0].startswith("specs/") for it in changes):
+            elif any(source.startswith("specs/") for source, _, _ in it.changes):
                 # a definition is cited by many functions, so it is changed alone
                 alone.append(body)
             else:
@@ -303,7 +357,7 @@ class Trial:
 
     def together(self, crate, together, bodies):
         """Tries these in one check, and gives those of which it says nothing."""
-        changes = [change for body in together for change in bodies[body]]
+        changes = [change for body in together for change in bodies[body].changes]
         try:
             proved, said = crate.check(changes, self.given.seconds + 60 * len(together))
         except Refused:
@@ -319,9 +373,14 @@ class Trial:
                 silent.append(body)
         return silent
 
-    def alone(self, crate, body, changes):
+    def alone(self, crate, body, it):
         try:
-            proved, said = crate.check(changes, self.given.seconds)
+            proved, said = crate.check(it.changes, self.given.seconds)
+            if it.law and not proved:
+                words = told(said, sorted(said, key=str)) or [("", "nothing is said of where")]
+                raise Refused(f"its own crate refuses it: {': '.join(words[0])[:160]}")
+            if it.law:
+                proved, said = crate.check_law(it.changes, it.law, 3 * self.given.seconds)
         except Refused as why:
             return self.fail(crate.name, body, why)
         refusals = told(said, sorted(said, key=str))
