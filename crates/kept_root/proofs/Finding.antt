@@ -20,13 +20,15 @@ use Rattle.heap_rule.proofs.EntryWords.{learned_box, learned_record}
 use Rattle.heap_rule.proofs.Seats.{knows_place, reached_place}
 use Rattle.mutator_events.specs.Events.{AtEvent}
 use Rattle.mutator_seat.specs.Bound.{Bound, held_cells}
-use Rattle.held_places.specs.Calls.{StillKnown}
+use Rattle.held_places.specs.Calls.{Goes, StillKnown}
 use Rattle.held_places.proofs.Going.{many_held, target_still}
 use Rattle.held_places.proofs.ReadValues.{last_held}
+use Rattle.trails.specs.Asks.{gave_at}
 use Rattle.cell_making.specs.Resting.{HasPass, Rests}
 use Rattle.cell_making.proofs.OneRead.{found_word, held_as, may_read, newest_known, one_longer}
 use Rattle.cell_making.proofs.OneRead.{stays_loose, was, word_found}
 use Rattle.kept_root.specs.Holding.{Has, HasBox, HoldsBox, HoldsRecord, HoldsSome}
+use Rattle.kept_root.specs.ReadBack.{ReadsBox}
 use Rattle.kept_root.specs.Rule.{HasKept, kept_term, number_record}
 use Rattle.kept_root.specs.declared.kept.Kept.{Kept}
 use Rattle.kept_root.proofs.Words.{anchor_word, box_in, kept_word, record_number}
@@ -101,21 +103,52 @@ module _ (a b : Bound Kept) (heap : b.heap ≡ a.heap) (table : b.seat.table ≡
         };
       }
 
+  -- and what the trail shows of it
+  pub reads_anchor : Goes (gave_at 0 0 (field.Cell 1) ∷ []) a b
+  reads_anchor =
+      subst (λ (x : ℕ). Goes (gave_at x 0 (field.Cell 1) ∷ []) a b) at.loose.is_in.anchor
+      (subst (λ (w : Field). Goes (gave_at (target a.seat.me 0) 0 w ∷ []) a b) found_is
+      (was a b heap table 0 0 first_there found step).goes)
+
 -- The box.
 
 module _ (a b : Bound Kept) (heap : b.heap ≡ a.heap) (table : b.seat.table ≡ a.seat.table)
     (at : HoldsBox a) (found : Field)
     (step : AtEvent HasKept no_field_is_fixed a.seat.me (event.Read a.seat.me.number 1 0)
     same_pass (finds.Field found) b.seat.me) where
+  kept_here : a.seat.me.number ≡ 0 → (n : ℕ) → a.seat.me.pass.number ≡ Some n
+      → (c : ℕ) × ((field_of step.core 1 0 ≡ field.Cell c)
+      × (step.lore.terms c ≡ Some (number_record n)))
+  kept_here first n keeps =
+      let own : get_elem? step.passes 0 ≡ some a.seat.me.pass =
+      subst (λ (i : ℕ). get_elem? step.passes i ≡ some a.seat.me.pass) first step.pass in
+      kept_word step.core step.lore step.mine.shown.facts step.passes step.kept n
+      (step.kept.kept a.seat.me.pass own
+      ∙ ap (λ (k : Option ℕ). Plain (kept_term k)) keeps)
+
+  -- what the trail shows of it
+  pub reads_box : a.seat.me.number ≡ 0 → (n : ℕ) → a.seat.me.pass.number ≡ Some n
+      → ReadsBox a b
+  reads_box first n keeps =
+      let word = kept_here first n keeps in
+      let c = word.0 in
+      let is = found_word a b heap table 1 0 at.box.there found step 1 (field.Cell c) at.box.cell
+      word.1.0 in
+      record {
+        cell = c;
+        reads = subst (λ (x : ℕ). Goes (gave_at x 0 (field.Cell c) ∷ []) a b) at.box.cell
+            (subst (λ (w : Field). Goes (gave_at (target a.seat.me 1) 0 w ∷ []) a b) is
+            (was a b heap table 1 0 at.box.there found step).goes);
+        held = ap (λ (k : ℕ). target b.seat.me k) (sym at.two)
+            ∙ last_held a b c
+            (held_as a b heap table 1 0 at.box.there found step (field.Cell c) is);
+      }
+
   pub holds_kept : a.seat.me.number ≡ 0 → (n : ℕ) → a.seat.me.pass.number ≡ Some n
       → HoldsRecord n b
   holds_kept first n keeps =
       let facts = step.mine.shown.facts in
-      let own : get_elem? step.passes 0 ≡ some a.seat.me.pass =
-      subst (λ (i : ℕ). get_elem? step.passes i ≡ some a.seat.me.pass) first step.pass in
-      let word = kept_word step.core step.lore facts step.passes step.kept n
-      (step.kept.kept a.seat.me.pass own
-      ∙ ap (λ (k : Option ℕ). Plain (kept_term k)) keeps) in
+      let word = kept_here first n keeps in
       let c = word.0 in
       let is = found_word a b heap table 1 0 at.box.there found step 1 (field.Cell c) at.box.cell
       word.1.0 in
@@ -202,3 +235,13 @@ pub may_read_record : (a : Bound Kept) → HoldsSome a → MayRead a.seat.me 2 0
 may_read_record a has =
     may_read 8 a 2 0 has.holds.loose (record_there has.number a has.holds)
     (let three = has.holds.three in omega (arith, three)) (omega arith)
+
+-- what the trail shows of the record
+pub reads_number : (a b : Bound Kept) (heap : b.heap ≡ a.heap)
+    (table : b.seat.table ≡ a.seat.table) (has : HoldsSome a) (found : Field)
+    (step : AtEvent HasKept no_field_is_fixed a.seat.me (event.Read a.seat.me.number 2 0)
+    same_pass (finds.Field found) b.seat.me) (read : ℕ) → found ≡ field.Num read
+    → Goes (gave_at (target a.seat.me 2) 0 (field.Num read) ∷ []) a b
+reads_number a b heap table has found step read is =
+    subst (λ (w : Field). Goes (gave_at (target a.seat.me 2) 0 w ∷ []) a b) is
+    (was a b heap table 2 0 (record_there has.number a has.holds) found step).goes

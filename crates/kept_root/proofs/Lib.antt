@@ -1,6 +1,7 @@
-pub mod Ending
-pub mod Finding
-pub mod Making
-pub mod Openings
-pub mod Putting
-pub mod Words
+mod Ending
+mod Finding
+mod Making
+mod Openings
+mod Putting
+pub mod Reading
+mod Words

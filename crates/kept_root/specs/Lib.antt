@@ -1,4 +1,5 @@
 pub mod Holding
 pub mod Leaving
+pub mod ReadBack
 pub mod Rule
 pub mod Working

@@ -5,6 +5,7 @@ use Rattle.free_cells.specs.Passes.{IsHintPass}
 use Rattle.free_cells.specs.declared.queue.FreeQueue.{FreeQueue}
 use Rattle.heap_table.specs.Seats.{HeapId}
 use Rattle.kept_root.specs.Holding.{IsDone, IsNew}
+use Rattle.kept_root.specs.ReadBack.{ReadBack}
 use Rattle.kept_root.specs.declared.wasting.Worker.{Worker}
 use Rattle.kept_root.specs.declared.working.Blocking.{Blocking}
 use Rattle.kept_root.specs.declared.working.Report.{Report}
@@ -19,8 +20,10 @@ pub record AreWorkers (heap : HeapId) (queue : FreeQueue) (work : Blocking) : Ty
   pub second : IsWorker heap queue 1 work.second
   pub small : work.number < 1000000
 
--- The seats are over. What was read behind the call, if a number was kept before, is that number.
+-- The seats are over. What was read behind the call, if a number was kept before, is that number,
+-- and the trail of the first shows that it was read.
 pub record Reports (heap : HeapId) (number : ℕ) (report : Report) : Type 0 where
   pub first : IsDone heap 0 report.left report.first
   pub second : IsDone heap 1 None report.second
-  pub found : IfSome report.found (λ read. read ≡ number)
+  pub found : IfSome report.found
+      (λ read. (read ≡ number) × ReadBack read report.first.me.trail)

@@ -1,5 +1,9 @@
 //! A heap with the box and two mutators: how it opens, and what it shows at its close.
 ghost use Rattle.std.specs.Prelude.{◌≡◌, ◌≤◌, IfOk, length};
+ghost use mathlib.Core.Option.{some};
+ghost use lib.ListN.{get_elem?};
+ghost use Rattle.heap_rule.specs.Rule.{share_of};
+ghost use Rattle.heap_rule.specs.declared.view.Place.TheVariants as places;
 ghost use Rattle.heap_table.specs.Seats.{IsSeatOf};
 ghost use Rattle.kept_root.specs.Holding.{IsDone};
 ghost use Rattle.kept_root.specs.Leaving.{IsOpened, Leaves};
@@ -56,6 +60,7 @@ pub(crate) fn close_two(
     requires first { IsDone heap 0 left first }
     requires second { IsDone heap 1 second.me.pass.number second }
     ensures leaves { Leaves heap.shape.cells left result.0 result.1 }
+    ensures first { get_elem? result.1.places 0 ≡ some (places.Joined (share_of first.me)) }
 {
     let _ = left;
     let mut collector = collector;

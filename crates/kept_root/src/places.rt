@@ -1,8 +1,13 @@
 //! Coming in, going out, and what a mutator finds from the anchor on: the box, what stands in it,
 //! and the number of that.
-ghost use Rattle.std.specs.Prelude.{◌≡◌, Some, ℕ};
+ghost use Rattle.std.specs.Prelude.{◌≡◌, ◌∷◌, [], Some, ℕ};
+ghost use Rattle.cell_words.specs.declared.fields.Field.TheVariants as field;
+ghost use Rattle.heap_rule.specs.Asks.{target};
+ghost use Rattle.held_places.specs.Calls.{Goes};
+ghost use Rattle.trails.specs.Asks.{gave_at};
 ghost use Rattle.kept_root.specs.Holding.{Has, HoldsBox, HoldsRecord, HoldsSome, IsDone, IsNew};
 ghost use Rattle.kept_root.specs.Holding.{KeepsSome};
+ghost use Rattle.kept_root.specs.ReadBack.{EndsTrail, ReadsBox};
 ghost use Rattle.cell_making.specs.Resting.{Loose, Rests};
 
 use crate::kept::Kept;
@@ -27,6 +32,7 @@ pub(crate) fn come_in<'a>(heap: &'a CellHeap<Kept>, seat: MutSeat<Kept>) -> Muta
 pub(crate) fn leave(m: Mutator<'_, Kept>) -> MutSeat<Kept>
     requires rests { Rests 8 m }
     ensures done { IsDone m.entry.heap m.entry.seat.me.number m.entry.seat.me.pass.number result }
+    ensures trail { EndsTrail m.entry result }
 {
     let mut m = m;
     m.end();
@@ -38,6 +44,7 @@ pub(crate) fn let_go(m: &mut Mutator<'_, Kept>)
     requires loose { Loose 8 m.old }
     ensures rests { Rests 8 m.new }
     ensures same { Has m.old.seat.me.pass.number m.old m.new }
+    ensures goes { Goes [] m.old m.new }
 {
     m.cut(1);
 }
@@ -47,6 +54,7 @@ pub(crate) fn hold_box(m: &mut Mutator<'_, Kept>)
     requires rests { Rests 8 m.old }
     ensures found { HoldsBox m.new }
     ensures same { Has m.old.seat.me.pass.number m.old m.new }
+    ensures reads { Goes (gave_at 0 0 (field.Cell 1) ∷ []) m.old m.new }
 {
     let _ = m.read::<Brand>(0, 0);
 }
@@ -58,6 +66,7 @@ pub(crate) fn hold_kept(m: &mut Mutator<'_, Kept>)
     requires keeps { KeepsSome m.old }
     ensures found { (n : ℕ) → m.old.seat.me.pass.number ≡ Some n → HoldsRecord n m.new }
     ensures same { Has m.old.seat.me.pass.number m.old m.new }
+    ensures reads { ReadsBox m.old m.new }
 {
     let _ = m.read::<Brand>(1, 0);
 }
@@ -68,6 +77,7 @@ pub(crate) fn read_number(m: &mut Mutator<'_, Kept>) -> u64
     ensures number { (n : ℕ) → HoldsRecord n m.old → result ≡ n }
     ensures holds { HoldsRecord result m.new }
     ensures same { Has m.old.seat.me.pass.number m.old m.new }
+    ensures reads { Goes (gave_at (target m.old.seat.me 2) 0 (field.Num result) ∷ []) m.old m.new }
 {
     match m.read::<Brand>(2, 0) {
         Value::Num(number) => number,

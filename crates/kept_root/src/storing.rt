@@ -4,10 +4,11 @@
 //! other changes: where nothing is kept it is null, so the exchange of null for the record is made
 //! always. Of a record the rule says the term and not the cell; so taking it out may end otherwise,
 //! as far as is proved, and then it is kept still.
-ghost use Rattle.std.specs.Prelude.{◌≡◌, ◌<◌, None, Some};
+ghost use Rattle.std.specs.Prelude.{◌≡◌, ◌<◌, [], None, Some};
 ghost use Rattle.std.specs.Bool.{OnFalse, OnTrue};
 ghost use Rattle.kept_root.specs.Holding.{Has, HoldsBox, HoldsRecord, HoldsSome};
 ghost use Rattle.cell_making.specs.Resting.{Loose};
+ghost use Rattle.held_places.specs.Calls.{Goes};
 
 use crate::kept::Kept;
 use cell_making::fill_record;
@@ -64,6 +65,7 @@ pub(crate) fn forget(m: &mut Mutator<'_, Kept>) -> bool
     ensures loose { Loose 8 m.new }
     ensures gone { OnTrue result (Has None m.old m.new) }
     ensures kept { OnFalse result (Has m.old.seat.me.pass.number m.old m.new) }
+    ensures goes { Goes [] m.old m.new }
 {
     match m.update::<Brand>(1, 0, Value::Held(2), Value::Null) {
         Ok(()) => true,

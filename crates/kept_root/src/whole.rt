@@ -1,6 +1,7 @@
 //! The whole run: a heap is opened, the mutators work beside the collector, and it is closed.
 ghost use Rattle.std.specs.Prelude.{◌≡◌, IfOk, IfSome};
 ghost use Rattle.kept_root.specs.Leaving.{Leaves};
+ghost use Rattle.kept_root.specs.ReadBack.{WasReadBack};
 
 use crate::closing::{Opened, close_two, open_two};
 use crate::kept::Kept;
@@ -36,8 +37,10 @@ pub(crate) struct Ran {
 }
 
 /// A number is kept over a call that blocks, on a new heap beside its collector.
+#[tactic(auto, using(crate::proofs::Reading::found_back))]
 pub(crate) fn run<R: Threads + Wait + Sync>(alloc: Global, rt: &R) -> Result<Ran, NoMemory>
-    ensures found { IfOk result (λ ran. IfSome ran.found (λ number. number ≡ 42)) }
+    ensures found { IfOk result (λ ran. IfSome ran.found
+        (λ number. (number ≡ 42) × WasReadBack number ran.passes)) }
     ensures leaves { IfOk result (λ ran. Leaves 32 ran.left ran.image ran.passes) }
 {
     let (queue, mut pass) = FreeQueue::open(alloc, rt, CELLS, 2)?;

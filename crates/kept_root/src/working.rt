@@ -5,6 +5,9 @@ ghost use Rattle.free_cells.specs.declared.queue.FreeQueue.{FreeQueue as Queue};
 ghost use Rattle.heap_table.specs.Seats.{HeapId};
 ghost use Rattle.kept_root.specs.Holding.{Has, HoldsSome, IsDone, KeepsSome};
 ghost use Rattle.cell_making.specs.Resting.{Rests};
+ghost use Rattle.core_machine.specs.Own.{no_own};
+ghost use Rattle.core_machine.specs.Trail.{own_along};
+ghost use Rattle.kept_root.specs.ReadBack.{ReadsDown, WentOut};
 ghost use Rattle.kept_root.specs.Working.{AreWorkers, IsWorker, Reports};
 
 use crate::kept::Kept;
@@ -57,6 +60,7 @@ fn over_call<R: Wait>(
     ensures rests { Rests 8 m.new }
     ensures same { Has m.old.seat.me.pass.number m.old m.new }
     ensures done { IsDone heap.now 1 None result.0 }
+    ensures away { WentOut m.old m.new }
 {
     m.end();
     let done = waste(rt, heap, queue, other);
@@ -72,6 +76,7 @@ fn read_back(m: &mut Mutator<'_, Kept>) -> u64
     ensures number { (n : ℕ) → m.old.seat.me.pass.number ≡ Some n → result ≡ n }
     ensures holds { HoldsSome m.new }
     ensures same { Has m.old.seat.me.pass.number m.old m.new }
+    ensures reads { ReadsDown result m.old m.new }
 {
     hold_box(m);
     hold_kept(m);
@@ -93,6 +98,7 @@ pub(crate) struct Report {
 }
 
 /// Reads what was kept, and takes it out of the box. It tells the number, and what is kept still.
+#[tactic(auto, using(crate::proofs::Reading::reads_on))]
 fn take_back(m: &mut Mutator<'_, Kept>) -> (u64, Option<u64>)
     requires rests { Rests 8 m.old }
     requires first { m.old.seat.me.number ≡ 0 }
@@ -100,6 +106,7 @@ fn take_back(m: &mut Mutator<'_, Kept>) -> (u64, Option<u64>)
     ensures number { (n : ℕ) → m.old.seat.me.pass.number ≡ Some n → result.0 ≡ n }
     ensures rests { Rests 8 m.new }
     ensures left { Has result.1 m.old m.new }
+    ensures reads { ReadsDown result.0 m.old m.new }
 {
     let number = read_back(m);
     let gone = forget(m);
@@ -107,7 +114,31 @@ fn take_back(m: &mut Mutator<'_, Kept>) -> (u64, Option<u64>)
     (number, if gone { None } else { Some(number) })
 }
 
+/// Reads what was kept, if something was, and takes it out of the box. It tells the number, and what
+/// is kept still.
+fn read_kept(m: &mut Mutator<'_, Kept>, kept: bool, number: u64) -> (Option<u64>, Option<u64>)
+    requires rests { Rests 8 m.old }
+    requires first { m.old.seat.me.number ≡ 0 }
+    requires keeps { OnTrue kept (m.old.seat.me.pass.number ≡ Some number) }
+    requires none { OnFalse kept (m.old.seat.me.pass.number ≡ None) }
+    ensures found { IfSome result.0 (λ read. (read ≡ number) × ReadsDown read m.old m.new) }
+    ensures own { m.old.seat.me.own ≡ own_along no_own m.old.seat.me.trail }
+    ensures rests { Rests 8 m.new }
+    ensures left { Has result.1 m.old m.new }
+{
+    // What the trail shows begins with what the mutator has.
+    let _held = m.held_len();
+    let _ = number;
+    if kept {
+        let (read, left) = take_back(m);
+        (Some(read), left)
+    } else {
+        (None, None)
+    }
+}
+
 /// Keeps a number over a call that blocks, and reads it behind.
+#[tactic(auto, using(crate::proofs::Reading::kept_after, crate::proofs::Reading::none_after))]
 fn work<R: Wait>(
     rt: &R,
     heap: &CellHeap<Kept>,
@@ -125,12 +156,7 @@ fn work<R: Wait>(
     let mut m = come_in(heap, first.seat);
     let kept = keep_number(rt, &mut hints, &mut m, number);
     let (second, made) = over_call(rt, heap, queue, &mut m, second);
-    let (found, left) = if kept {
-        let (read, left) = take_back(&mut m);
-        (Some(read), left)
-    } else {
-        (None, None)
-    };
+    let (found, left) = read_kept(&mut m, kept, number);
     Report {
         first: leave(m),
         second,

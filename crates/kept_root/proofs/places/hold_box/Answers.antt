@@ -3,7 +3,7 @@ use Rattle.heap_rule.specs.NoRule.{no_field_is_fixed}
 use Rattle.cell_making.proofs.OneRead.{may_read_anchor, reads_none}
 use Rattle.heap_rule.proofs.Picking.{read_picks}
 use Rattle.kept_root.specs.Rule.{HasKept}
-use Rattle.kept_root.proofs.Finding.{holds_box, has_of}
+use Rattle.kept_root.proofs.Finding.{holds_box, has_of, reads_anchor}
 use Rattle.kept_root.proofs.places.hold_box.Goals as goal
 
 pub read-requires-clause-may : goal.read-requires-clause-may
@@ -24,3 +24,9 @@ returns-clause-same c =
     let told = c.read.ensures.told in
     has_of _ _ _ (reads_none c.args.m.now c.read.new.self c.read.ensures.heap
     c.read.ensures.table 0 0 c.requires.rests.loose.is_in.some told.0 told.2)
+
+pub returns-clause-reads : goal.returns-clause-reads
+returns-clause-reads c =
+    let told = c.read.ensures.told in
+    reads_anchor c.args.m.now c.read.new.self c.read.ensures.heap c.read.ensures.table
+    c.requires.rests told.0 told.2

@@ -2,7 +2,7 @@ use Rattle.heap_rule.specs.NoRule.{no_field_is_fixed}
 use Rattle.cell_making.proofs.OneRead.{reads_none}
 use Rattle.heap_rule.proofs.Picking.{read_picks}
 use Rattle.kept_root.specs.Rule.{HasKept}
-use Rattle.kept_root.proofs.Finding.{holds_kept, may_read_box, has_of}
+use Rattle.kept_root.proofs.Finding.{holds_kept, may_read_box, has_of, reads_box}
 use Rattle.kept_root.proofs.places.hold_kept.Goals as goal
 
 pub read-requires-clause-may : goal.read-requires-clause-may
@@ -23,3 +23,9 @@ returns-clause-same c =
     let told = c.read.ensures.told in
     has_of _ _ _ (reads_none c.args.m.now c.read.new.self c.read.ensures.heap
     c.read.ensures.table 1 0 c.requires.holds.box.there told.0 told.2)
+
+pub returns-clause-reads : goal.returns-clause-reads
+returns-clause-reads c =
+    let told = c.read.ensures.told in
+    reads_box c.args.m.now c.read.new.self c.read.ensures.heap c.read.ensures.table
+    c.requires.holds told.0 told.2 c.requires.first c.requires.keeps.number c.requires.keeps.is

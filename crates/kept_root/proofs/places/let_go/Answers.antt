@@ -1,4 +1,5 @@
 use Rattle.cell_making.proofs.Resting.{has_cut, rests_cut}
+use Rattle.held_places.proofs.Going.{cut_goes}
 use Rattle.kept_root.proofs.Finding.{has_of}
 use Rattle.kept_root.proofs.places.let_go.Goals as goal
 
@@ -15,3 +16,7 @@ returns-clause-rests c =
 pub returns-clause-same : goal.returns-clause-same
 returns-clause-same c =
     has_of _ _ _ (has_cut c.args.m.now c.cut.new.self c.cut.ensures.told)
+
+pub returns-clause-goes : goal.returns-clause-goes
+returns-clause-goes c =
+    cut_goes c.args.m.now c.cut.new.self 1 _ c.cut.ensures.told

@@ -5,7 +5,7 @@ use Rattle.heap_rule.proofs.Picking.{read_picks}
 use Rattle.held_places.proofs.ReadValues.{found_number, number_alone}
 use Rattle.kept_root.specs.Rule.{HasKept}
 use Rattle.kept_root.proofs.Finding.{holds_read, may_read_record, number_found, number_is}
-use Rattle.kept_root.proofs.Finding.{has_of, record_there}
+use Rattle.kept_root.proofs.Finding.{has_of, reads_number, record_there}
 use Rattle.kept_root.proofs.places.read_number.Goals as goal
 
 pub read-requires-clause-may : goal.read-requires-clause-may
@@ -42,3 +42,10 @@ returns-clause-same c =
     has_of _ _ _ (reads_none c.args.m.now c.read.new.self c.read.ensures.heap
     c.read.ensures.table 2 0
     (record_there c.requires.holds.number c.args.m.now c.requires.holds.holds) told.0 told.2)
+
+pub returns-clause-reads : goal.returns-clause-reads
+returns-clause-reads c =
+    let told = c.read.ensures.told in
+    reads_number c.args.m.now c.read.new.self c.read.ensures.heap c.read.ensures.table
+    c.requires.holds told.0 told.2 c.in-Num.number
+    (found_number _ c.in-Num.number told.0 (sym c.in-Num.is ∙ told.1))
