@@ -1,28 +1,9 @@
 //! Whole runs on real threads.
 use crate::reading::{are_sent, fills};
 use crate::scripts::script;
-use mail_run::{Item, mail_run};
+use mail_run::mail_run;
 use std::alloc::Global;
 use std::test::Fail;
-
-#[test]
-fn two_lines_have_the_positions_1_and_2(rt: HostRuntime) -> Result<(), Fail> {
-    let lines = vec![in rt.alloc(); 5u64, 7u64]?;
-    let run = mail_run(rt.alloc(), &rt, &[lines], 64, 1000)?;
-    assert!(rt; fills(&run, 2));
-    let first = Item {
-        position: 1,
-        sender: 1,
-        value: 5,
-    };
-    let second = Item {
-        position: 2,
-        sender: 1,
-        value: 7,
-    };
-    assert_eq!(rt; run.items.as_slice(), [first, second].as_slice());
-    Ok(())
-}
 
 #[test]
 fn without_a_collector_62_of_63_lines_fill_64_cells(rt: HostRuntime) -> Result<(), Fail> {

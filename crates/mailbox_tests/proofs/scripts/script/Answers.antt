@@ -2,7 +2,7 @@ use Rattle.std.proofs.Common.{◌<◌, ◌^◌, ℕ, List, length, ap, arith, su
 use Rattle.std.proofs.lemmas.List.{length_push}
 use Rattle.std.proofs.lemmas.List.Elements.{All-push}
 use Rattle.mail_threads.specs.Workers.{AreSmall}
-use Rattle.mail_run_tests.proofs.scripts.script.Goals as goal
+use Rattle.mailbox_tests.proofs.scripts.script.Goals as goal
 
 pub loop-line-init : goal.loop-line-init
 loop-line-init c = record {

@@ -1,6 +1,6 @@
 use Rattle.std.proofs.Common.{◌≡◌, length}
 use Rattle.mail_threads.specs.Workers.{AreSmall}
-use Rattle.mail_run_tests.proofs.scripts.script.Given as goal
+use Rattle.mailbox_tests.proofs.scripts.script.Given as goal
 
 abbrev pub invariant-loop-line : goal.invariant-loop-line
 invariant-loop-line l = record {
