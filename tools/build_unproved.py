@@ -50,10 +50,15 @@ def tell(step):
         print(f"\r\033[K{step and 'docheap: ' + step}", end="", file=sys.stderr, flush=True)
 
 
+def fail(why):
+    tell("")
+    sys.exit(f"docheap: {why}")
+
+
 def kit():
     found = shutil.which("rt")
     if not found:
-        sys.exit("docheap: building needs the toolchain's rt on the PATH")
+        fail("building needs the toolchain's rt on the PATH")
     return os.path.dirname(os.path.dirname(os.path.realpath(found)))
 
 
@@ -142,7 +147,7 @@ def with_pause(text):
     at = text.find(SPIN)
     if at < 0:
         if '@"core::hint::spin_loop"' in text:
-            sys.exit("docheap: the module's spin_loop is written in a way that this does not know")
+            fail("the module's spin_loop is written in a way that this does not know")
         return text
     body = text.index("start:\n", at) + len("start:\n")
     return text[:body] + PAUSE + text[body:]
@@ -161,7 +166,7 @@ def run(words, **how):
 
 def must(words):
     if run(words, stdout=subprocess.DEVNULL, stderr=subprocess.DEVNULL)[0]:
-        sys.exit(f"docheap: this failed: {' '.join(words)}")
+        fail(f"this failed: {' '.join(words)}")
 
 
 def build(repository, to, program, laid=None, changed=None, objects=()):
@@ -179,7 +184,7 @@ def build(repository, to, program, laid=None, changed=None, objects=()):
                               stdout=subprocess.PIPE, stderr=subprocess.PIPE, text=True)
         module = f"{folder}/kept/module.bc"
         if not os.path.isfile(module):
-            sys.exit(f"docheap: {program} was not compiled:\n{said}{faults}")
+            fail(f"{program} was not compiled:\n{said}{faults}")
         tell("step 2 of 3, a few seconds: checks that a proof makes needless go")
         clang = f"{real}/toolchain/bin/clang"
         plain, small, unit = (f"{folder}/{n}" for n in ("a.ll", "b.ll", "b.o"))
