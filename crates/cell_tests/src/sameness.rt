@@ -1,5 +1,5 @@
 //! Whether two places hold one cell, asked by the bare seat and by a mutator.
-ghost use Rattle.std.specs.Prelude.{◌≡◌, ◌<◌, ◌≤◌, IfSome, false, true};
+ghost use Rattle.std.specs.Prelude.{◌≡◌, ◌≤◌, true};
 ghost use Rattle.heap_rule.specs.Asks.{MayComeIn};
 ghost use Rattle.heap_table.specs.Seats.{IsSeatOf};
 
@@ -26,30 +26,7 @@ pub(crate) fn ask_of_anchor(heap: &CellHeap<NoRule>, seat: &mut MutSeat<NoRule>)
     same
 }
 
-/// Comes in, takes cell 1 if that is free, asks of it and the anchor, and goes out.
-pub(crate) fn ask_of_new(heap: &CellHeap<NoRule>, seat: &mut MutSeat<NoRule>) -> Option<bool>
-    requires seat { IsSeatOf heap.now seat.old }
-    requires may { MayComeIn seat.old.me }
-    requires room { 2 ≤ seat.old.me.room }
-    requires cells { 1 < heap.now.shape.cells }
-    ensures seat { IsSeatOf heap.now seat.new }
-    ensures may { MayComeIn seat.new.me }
-    ensures room { 2 ≤ seat.new.me.room }
-    ensures other { IfSome result (λ same. same ≡ false) }
-{
-    let _inside = seat.is_in();
-    seat.begin(heap);
-    seat.look(heap);
-    let same = if seat.claim(heap, 1) {
-        Some(seat.is_same(heap, 0, 1))
-    } else {
-        None
-    };
-    seat.end(heap);
-    same
-}
-
-/// The first of these by a mutator, which is over then.
+/// The same by a mutator, which is over then.
 pub(crate) fn ask_and_leave(
     heap: &CellHeap<NoRule>,
     seat: MutSeat<NoRule>,

@@ -4,7 +4,7 @@
 ghost use Rattle.std.specs.Prelude.{◌≡◌};
 
 use crate::fetching::fetch_and_store;
-use crate::sameness::{ask_and_leave, ask_of_anchor, ask_of_new};
+use crate::sameness::{ask_and_leave, ask_of_anchor};
 use crate::storing::store_and_leave;
 use crate::unlinked::{close_one, close_over, open_one};
 use cell_heap::{NoMemory, Value};
@@ -45,19 +45,17 @@ fn a_seat_stores_in_the_field_that_it_fetched(rt: HostRuntime) -> Result<(), Fai
     Ok(())
 }
 
-/// Whether the anchor is itself by the bare seat, whether a new cell is the anchor, and whether the
-/// anchor is itself by a mutator.
-fn asked(alloc: Global) -> Result<(bool, Option<bool>, bool), NoMemory> {
+/// Whether the anchor is itself by the bare seat, and by a mutator.
+fn asked(alloc: Global) -> Result<(bool, bool), NoMemory> {
     let (heap, collector, mut seat) = open_one(alloc)?;
     let once = ask_of_anchor(&heap, &mut seat);
-    let other = ask_of_new(&heap, &mut seat);
     let (seat, again) = ask_and_leave(&heap, seat);
     close_over(heap, collector, seat);
-    Ok((once, other, again))
+    Ok((once, again))
 }
 
 #[test]
-fn a_cell_is_the_same_as_itself_alone(rt: HostRuntime) -> Result<(), Fail> {
-    assert_eq!(rt; asked(rt.alloc())?, (true, Some(false), true));
+fn a_cell_is_the_same_as_itself(rt: HostRuntime) -> Result<(), Fail> {
+    assert_eq!(rt; asked(rt.alloc())?, (true, true));
     Ok(())
 }

@@ -1,6 +1,7 @@
 //! What the collector does in these tests.
-ghost use Rattle.std.specs.Prelude.{◌≡◌};
+ghost use Rattle.std.specs.Prelude.{◌≡◌, ◌≤◌};
 ghost use Rattle.collector_tests.specs.Seats.{IsIdle, IsOut};
+ghost use Rattle.core_machine.specs.State.{greatest_cycles};
 ghost use Rattle.free_cells.specs.Hints.{cells_of as hinted_of};
 ghost use Rattle.free_cells.specs.Passes.{IsHintPass};
 ghost use Rattle.heap_table.specs.Seats.{IsSeatOf};
@@ -34,44 +35,41 @@ pub(crate) fn collect_once<R: Wait>(
     (collector.into_seat(), report)
 }
 
-/// Makes cycle after cycle, as many as there may be. It gives how many cells were freed.
-pub(crate) fn serve_on<R: Wait>(
-    rt: &R,
-    heap: &CellHeap<NoRule>,
-    seat: ColSeat<NoRule>,
-    stack: MarkStack,
-    queue: &FreeQueue,
-    pass: HintPass,
-) -> (ColSeat<NoRule>, u64)
-    requires idle { IsIdle heap.now seat }
-    requires pass { IsHintPass queue.now pass }
-    requires cells { hinted_of queue.now ≡ heap.now.shape.cells }
-    ensures seat { IsSeatOf heap.now result.0 }
-{
-    serve_by(rt, heap, seat, stack, queue, pass, false)
+/// How the collector serves: for at most so many cycles, and whether each waits until one is wanted.
+#[derive(Clone, Copy)]
+pub(crate) struct Service {
+    pub cycles: u32,
+    pub on_demand: bool,
 }
 
-/// The same, where it may be that each cycle waits until one is wanted.
-pub(crate) fn serve_by<R: Wait>(
+/// Cycle after cycle, as many as there may be.
+pub(crate) const UNBROKEN: Service = Service {
+    cycles: GREATEST_CYCLES,
+    on_demand: false,
+};
+
+/// Serves. It gives how many cells were freed.
+pub(crate) fn serve<R: Wait>(
     rt: &R,
     heap: &CellHeap<NoRule>,
     seat: ColSeat<NoRule>,
     stack: MarkStack,
     queue: &FreeQueue,
     pass: HintPass,
-    on_demand: bool,
+    service: Service,
 ) -> (ColSeat<NoRule>, u64)
     requires idle { IsIdle heap.now seat }
+    requires cycles { service.cycles ≤ greatest_cycles }
     requires pass { IsHintPass queue.now pass }
     requires cells { hinted_of queue.now ≡ heap.now.shape.cells }
     ensures seat { IsSeatOf heap.now result.0 }
 {
     let mut hints = queue.hints(pass);
     let mut collector = Collector::new(heap, seat, heap.mutators(), stack);
-    let freed = if on_demand {
-        collector.serve_on_demand(rt, &mut hints, GREATEST_CYCLES)
+    let freed = if service.on_demand {
+        collector.serve_on_demand(rt, &mut hints, service.cycles)
     } else {
-        collector.serve(rt, &mut hints, GREATEST_CYCLES)
+        collector.serve(rt, &mut hints, service.cycles)
     };
     (collector.into_seat(), freed)
 }

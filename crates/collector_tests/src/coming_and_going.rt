@@ -11,11 +11,11 @@ ghost use Rattle.heap_table.specs.Seats.{IsSeatOf};
 ghost use lib.ListN.{get_elem?};
 ghost use mathlib.Core.Option.{some};
 
+use crate::collecting::{Service, UNBROKEN, serve};
 use crate::heaps::{ANCHOR, blue_cells, close, open, open_hints};
 use crate::mutating::{leave, make_all};
 use cell_heap::{CellHeap, ColSeat, MutSeat, NoMemory};
-use cell_words::GREATEST_CYCLES;
-use collector::{Collector, MarkStack};
+use collector::MarkStack;
 use free_cells::{FreeQueue, HintPass, Hints};
 use heap_rule::NoRule;
 use mutator_seat::Mutator;
@@ -32,8 +32,11 @@ const ROUNDS: u32 = 100;
 /// How many records it makes each time, and drops.
 const RECORDS: u32 = 5;
 
-/// How many cycles the collector makes where it does not stop by itself.
-const CYCLES: u32 = 60;
+/// How the collector serves where it does not stop by itself.
+const SOME: Service = Service {
+    cycles: 60,
+    on_demand: false,
+};
 
 /// A heap with the anchor alone for four mutators, of which the last one stays with the collector.
 #[derive(Drop)]
@@ -66,28 +69,6 @@ fn open_four(alloc: Global) -> Result<Opened, NoMemory>
         second,
         third,
     })
-}
-
-/// The collector serves, for at most so many cycles. It gives how many cells were freed.
-fn serve_for<R: Wait>(
-    rt: &R,
-    heap: &CellHeap<NoRule>,
-    seat: ColSeat<NoRule>,
-    stack: MarkStack,
-    queue: &FreeQueue,
-    pass: HintPass,
-    cycles: u32,
-) -> (ColSeat<NoRule>, u64)
-    requires idle { IsIdle heap.now seat }
-    requires cycles { cycles ≤ greatest_cycles }
-    requires pass { IsHintPass queue.now pass }
-    requires cells { hinted_of queue.now ≡ heap.now.shape.cells }
-    ensures seat { IsSeatOf heap.now result.0 }
-{
-    let mut hints = queue.hints(pass);
-    let mut collector = Collector::new(heap, seat, heap.mutators(), stack);
-    let freed = collector.serve(rt, &mut hints, cycles);
-    (collector.into_seat(), freed)
 }
 
 /// Comes in, makes records and drops them, and goes out. It gives how many it made.
@@ -169,7 +150,7 @@ fn serve_beside<R: Threads + Wait + Sync>(
     second: MutSeat<NoRule>,
     stack: MarkStack,
     hints: (FreeQueue, HintPass, HintPass, HintPass),
-    cycles: u32,
+    service: Service,
 ) -> (ColSeat<NoRule>, Counts)
     requires idle { IsIdle heap.now collector }
     requires first { IsOut heap.now 2 first }
@@ -177,7 +158,7 @@ fn serve_beside<R: Threads + Wait + Sync>(
     requires passes { IsHintPass hints.0 hints.1 × IsHintPass hints.0 hints.2
         × IsHintPass hints.0 hints.3 }
     requires cells { hinted_of hints.0 ≡ heap.now.shape.cells }
-    requires cycles { cycles ≤ greatest_cycles }
+    requires cycles { service.cycles ≤ greatest_cycles }
     ensures seat { IsSeatOf heap.now result.0 }
 {
     let (queue, own, pass, other) = hints;
@@ -188,9 +169,9 @@ fn serve_beside<R: Threads + Wait + Sync>(
         rt,
         move ||
             requires { IsIdle heap.now collector × IsHintPass queue.now own
-                × (cycles ≤ greatest_cycles) × (hinted_of queue.now ≡ heap.now.shape.cells) }
+                × (service.cycles ≤ greatest_cycles) × (hinted_of queue.now ≡ heap.now.shape.cells) }
             ensures { IsSeatOf heap.entry.now result.0 }
-        { serve_for(rt, heap, collector, stack, queue, own, cycles) },
+        { serve(rt, heap, collector, stack, queue, own, service) },
         move ||
             requires { IsOut heap.now 2 first × IsOut heap.now 2 second
                 × IsHintPass queue.now pass × IsHintPass queue.now other }
@@ -235,7 +216,7 @@ fn beside_some_who_stay_out<R: Threads + Wait + Sync>(
         third,
     } = open_four(alloc)?;
     let (seat, (made, freed)) = serve_beside(
-        rt, &heap, collector, first, second, stack, hints, CYCLES,
+        rt, &heap, collector, first, second, stack, hints, SOME,
     );
     let third = leave(&heap, third);
     let image = close(heap, seat, third);
@@ -248,7 +229,7 @@ fn beside_some_who_stay_out<R: Threads + Wait + Sync>(
 fn cycles_go_on_beside_mutators_that_stay_out(rt: HostRuntime) -> Result<(), Fail> {
     assert_eq!(rt;
         beside_some_who_stay_out(rt.alloc(), &rt)?,
-        (CYCLES, false, true)
+        (60, false, true)
     );
     Ok(())
 }
@@ -272,14 +253,7 @@ fn beside_some_who_are_over<R: Threads + Wait + Sync>(
     let third = leave(&heap, third);
     let last = leave(&heap, last);
     let (mut seat, (made, freed)) = serve_beside(
-        rt,
-        &heap,
-        collector,
-        first,
-        second,
-        stack,
-        hints,
-        GREATEST_CYCLES,
+        rt, &heap, collector, first, second, stack, hints, UNBROKEN,
     );
     seat.join(&heap, last);
     let image = close(heap, seat, third);

@@ -14,6 +14,12 @@ mod cycles;
 mod heaps;
 mod mutating;
 #[cfg(test)]
+mod running;
+#[cfg(test)]
+mod sleeping;
+#[cfg(test)]
 mod threads;
+#[cfg(test)]
+mod watching;
 #[cfg(test)]
 mod who_is_out;

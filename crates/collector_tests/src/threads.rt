@@ -1,29 +1,79 @@
 //! Mutators on threads of their own, beside a collector that serves. What is asserted stands on
 //! every schedule.
-ghost use Rattle.std.specs.Prelude.{◌≡◌};
+ghost use Rattle.std.specs.Prelude.{◌≡◌, ◌≤◌};
 ghost use Rattle.collector_tests.specs.Seats.{IsIdle, IsOut, IsOver};
+ghost use Rattle.core_machine.specs.State.{greatest_cycles};
 ghost use Rattle.free_cells.specs.Hints.{cells_of as hinted_of};
 ghost use Rattle.free_cells.specs.Passes.{IsHintPass};
 ghost use Rattle.heap_table.specs.Seats.{IsSeatOf};
 
-use crate::collecting::{serve_by, serve_on};
+use crate::collecting::{Service, UNBROKEN, serve};
 use crate::heaps::{blue_cells, close, close_two, open_hints, open_plain, open_two};
 use crate::mutating::{Claims, claim_and_keep, make_and_drop};
+use crate::watching::{End, watch};
 use cell_heap::{CellHeap, ColSeat, MutSeat, NoMemory};
+use cell_words::GREATEST_CYCLES;
 use collector::MarkStack;
-use free_cells::{FreeQueue, HintPass};
+use free_cells::{FreeQueue, HintPass, Hints};
 use heap_rule::NoRule;
 use mutator_seat::HeapFull;
 use std::alloc::Global;
 use std::sync::Wait;
+use std::sync::atomic::{AtomicBool, Ordering};
 use std::test::Fail;
 use std::thread::{self, Threads};
+use std::time::Clock;
 
 const CELLS: u32 = 64;
 
+/// Makes a record and drops it, a thousand times; then the work is over.
+fn drop_all<R: Wait>(
+    rt: &R,
+    heap: &CellHeap<NoRule>,
+    mutator: MutSeat<NoRule>,
+    queue: &FreeQueue,
+    pass: HintPass,
+    ended: &AtomicBool,
+) -> (MutSeat<NoRule>, u32)
+    requires out { IsOut heap.now 2 mutator }
+    requires pass { IsHintPass queue.now pass }
+    ensures over { IsOver heap.now result.0 }
+{
+    let made = make_and_drop(rt, heap, mutator, queue, pass, 1000);
+    ended.store(true, Ordering::SeqCst);
+    queue.end_work();
+    made
+}
+
+/// The same, and when it comes to its end, by one who watches it.
+fn drop_watched<R: Threads + Wait + Clock + Sync>(
+    rt: &R,
+    heap: &CellHeap<NoRule>,
+    mutator: MutSeat<NoRule>,
+    queue: &FreeQueue,
+    pass: HintPass,
+    hints: Hints<'_>,
+) -> ((MutSeat<NoRule>, u32), End)
+    requires out { IsOut heap.now 2 mutator }
+    requires pass { IsHintPass queue.now pass }
+    ensures over { IsOver heap.now result.0.0 }
+{
+    let at_end = AtomicBool::new(false);
+    let ended = &at_end;
+    let mut hints = hints;
+    thread::join(
+        rt,
+        move ||
+            requires { IsOut heap.now 2 mutator × IsHintPass queue.now pass }
+            ensures { IsOver heap.entry.now result.0 }
+        { drop_all(rt, heap, mutator, queue, pass, ended) },
+        move || -> End { watch(rt, queue, &mut hints, ended) },
+    )
+}
+
 /// The collector serves on duty, unbroken or on demand, beside a mutator that a thousand times
 /// makes a record and drops it.
-fn drop_beside<R: Threads + Wait + Sync>(
+fn drop_beside<R: Threads + Wait + Clock + Sync>(
     rt: &R,
     heap: &CellHeap<NoRule>,
     collector: ColSeat<NoRule>,
@@ -32,57 +82,68 @@ fn drop_beside<R: Threads + Wait + Sync>(
     queue: &FreeQueue,
     pass: HintPass,
     other: HintPass,
+    third: HintPass,
     on_demand: bool,
-) -> ((ColSeat<NoRule>, u64), (MutSeat<NoRule>, u32))
+) -> ((ColSeat<NoRule>, u64), ((MutSeat<NoRule>, u32), End))
     requires idle { IsIdle heap.now collector }
     requires out { IsOut heap.now 2 mutator }
     requires pass { IsHintPass queue.now pass }
     requires other { IsHintPass queue.now other }
+    requires third { IsHintPass queue.now third }
     requires cells { hinted_of queue.now ≡ heap.now.shape.cells }
     ensures seat { IsSeatOf heap.now result.0.0 }
-    ensures over { IsOver heap.now result.1.0 }
+    ensures over { IsOver heap.now result.1.0.0 }
 {
+    let service = Service {
+        cycles: GREATEST_CYCLES,
+        on_demand,
+    };
     let mut collector = collector;
     collector.duty(heap, true);
     thread::join(
         rt,
         move ||
             requires { IsIdle heap.now collector × IsHintPass queue.now pass
+                × (service.cycles ≤ greatest_cycles)
                 × (hinted_of queue.now ≡ heap.now.shape.cells) }
             ensures { IsSeatOf heap.entry.now result.0 }
-        { serve_by(rt, heap, collector, stack, queue, pass, on_demand) },
+        { serve(rt, heap, collector, stack, queue, pass, service) },
         move ||
-            requires { IsOut heap.now 2 mutator × IsHintPass queue.now other }
-            ensures { IsOver heap.entry.now result.0 }
-        {
-            let made = make_and_drop(rt, heap, mutator, queue, other, 1000);
-            queue.end_work();
-            made
-        },
+            requires { IsOut heap.now 2 mutator × IsHintPass queue.now other
+                × IsHintPass queue.now third }
+            ensures { IsOver heap.entry.now result.0.0 }
+        { drop_watched(rt, heap, mutator, queue, other, queue.hints(third)) },
     )
 }
 
-/// How many records were made and how many cells freed; and in the end, how many cells are blue
-/// and whether the collector is on duty.
-fn dropped<R: Threads + Wait + Sync>(
+/// How many records were made and how many cells freed; when the last one was made; and in the end,
+/// how many cells are blue and whether the collector is on duty.
+fn dropped<R: Threads + Wait + Clock + Sync>(
     alloc: Global,
     rt: &R,
     on_demand: bool,
-) -> Result<((u32, u64), u32, bool), NoMemory> {
+) -> Result<((u32, u64), End, u32, bool), NoMemory> {
     let stack = MarkStack::with_room(alloc, 8)?;
-    let (queue, pass, other) = open_hints(alloc, rt, CELLS, 1)?;
+    let (queue, mut pass, other) = open_hints(alloc, rt, CELLS, 1)?;
+    let third = queue.split(&mut pass)?;
     let (heap, collector, mutator) = open_plain(alloc, CELLS, 2)?;
-    let ((collector, freed), (mutator, made)) = drop_beside(
-        rt, &heap, collector, stack, mutator, &queue, pass, other, on_demand,
+    let ((collector, freed), ((mutator, made), end)) = drop_beside(
+        rt, &heap, collector, stack, mutator, &queue, pass, other, third, on_demand,
     );
     let image = close(heap, collector, mutator);
-    Ok(((made, freed), blue_cells(&image), image.control().duty))
+    Ok(((made, freed), end, blue_cells(&image), image.control().duty))
 }
 
 #[test]
 fn what_a_mutator_drops_is_freed_beside_it(rt: HostRuntime) -> Result<(), Fail> {
-    let wanted = ((1000, 1000), CELLS - 1, false);
+    let wanted = ((1000, 1000), End::InTime, CELLS - 1, false);
     assert_eq!(rt; dropped(rt.alloc(), &rt, false)?, wanted);
+    Ok(())
+}
+
+#[test]
+fn one_who_claims_in_vain_wakes_the_collector_and_goes_on(rt: HostRuntime) -> Result<(), Fail> {
+    let wanted = ((1000, 1000), End::InTime, CELLS - 1, false);
     assert_eq!(rt; dropped(rt.alloc(), &rt, true)?, wanted);
     Ok(())
 }
@@ -114,7 +175,7 @@ fn claim_beside<R: Threads + Wait + Sync>(
             requires { IsIdle heap.now collector × IsHintPass queue.now pass
                 × (hinted_of queue.now ≡ heap.now.shape.cells) }
             ensures { IsSeatOf heap.entry.now result.0 }
-        { serve_on(rt, heap, collector, stack, queue, pass) },
+        { serve(rt, heap, collector, stack, queue, pass, UNBROKEN) },
         move ||
             requires { IsOut heap.now 100 mutator × IsHintPass queue.now other }
             ensures { IsOver heap.entry.now result.0 }

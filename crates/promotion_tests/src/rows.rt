@@ -67,27 +67,10 @@ fn a_collection_without_a_free_cell_claims_nothing(rt: HostRuntime) -> Result<()
     Ok(())
 }
 
-// The copy of one of the two records finds a cell, and nobody names it.
-#[test]
-fn a_collection_in_a_full_heap_leaves_the_private_heap(rt: HostRuntime) -> Result<(), Fail> {
-    let cells = [ANCHOR, FIRST, None, None];
-    let wanted = ((Err(FULL), 1, 1, 2), [None, None, None], cells);
-    assert_eq!(rt; collected(rt.alloc(), &rt, 2)?, wanted);
-    Ok(())
-}
-
 #[test]
 fn a_box_names_the_record_that_was_made_before(rt: HostRuntime) -> Result<(), Fail> {
     let named = Some([Num(7), Cell(1), Null, Null, Null, Num(2)]);
     let wanted = ((Ok(2), 2, 3, 0), [ANCHOR, FIRST, named, FREE]);
     assert_eq!(rt; made(rt.alloc(), &rt, 4)?, wanted);
-    Ok(())
-}
-
-// The record takes the last free cell, and stands as a record.
-#[test]
-fn a_box_without_a_free_cell_is_refused(rt: HostRuntime) -> Result<(), Fail> {
-    let wanted = ((Err(FULL), 1, 2, 0), [ANCHOR, FIRST, None, None]);
-    assert_eq!(rt; made(rt.alloc(), &rt, 2)?, wanted);
     Ok(())
 }
