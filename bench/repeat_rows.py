@@ -1,8 +1,8 @@
-"""Runs the threaded rows of collector_tests many times.
+"""Runs the rows with threads of collector_tests and heap_tests many times.
 
     python3 bench/repeat_rows.py [TIMES]
 
-In a copy of the crates each test of src/threads.rt stands so many times, 50 where nothing is said,
+In a copy of the crates each test of the files below stands so many times, 50 where nothing is said,
 and `rt try --test` runs them all. It proves nothing.
 """
 import pathlib
@@ -13,17 +13,19 @@ import sys
 import tempfile
 import time
 
+ROWS = {
+    "collector_tests": ["threads", "sleeping", "running"],
+    "heap_tests": ["missing", "sleeping", "threads"],
+}
+
 times = int(sys.argv[1]) if len(sys.argv) > 1 else 50
 top = pathlib.Path(__file__).resolve().parent.parent
-with tempfile.TemporaryDirectory() as folder:
-    copy = pathlib.Path(folder)
-    shutil.copytree(top / "crates", copy / "crates", ignore=shutil.ignore_patterns("out"))
-    shutil.copy(top / "crates.txt", copy)
-    shutil.copy(top / "HANDLES", copy)
-    crate = copy / "crates" / "collector_tests"
-    rows = crate / "src" / "threads.rt"
+
+
+def repeat(rows):
+    """Has each test of the file so many times; gives how many there are. A row ends at the first
+    line that is a brace alone; what other rows call stands between them."""
     text = rows.read_text()
-    # A row ends at the first line that is a brace alone; what other rows call stands between them.
     tests = re.findall(r"(?ms)^#\[test\]\n.*?^\}\n", text)
     rest = re.sub(r"(?ms)^#\[test\]\n.*?^\}\n", "", text)
     again = [
@@ -32,15 +34,28 @@ with tempfile.TemporaryDirectory() as folder:
         for number in range(1, times + 1)
     ]
     rows.write_text(rest + "\n" + "\n".join(again))
-    began = time.monotonic()
-    run = subprocess.run(
-        ["rt", "try", "--test", "--seconds", "1800"],
-        cwd=crate,
-        capture_output=True,
-        text=True,
-    )
-    lines = (run.stdout + run.stderr).splitlines()
-    failed = [line for line in lines if "failed" in line and " 0 failed" not in line]
-    print("\n".join(failed + lines[-2:]))
-    print(f"{len(again)} runs of {len(tests)} rows, {time.monotonic() - began:.0f} s")
-    sys.exit(run.returncode)
+    return len(tests)
+
+
+status = 0
+with tempfile.TemporaryDirectory() as folder:
+    copy = pathlib.Path(folder)
+    shutil.copytree(top / "crates", copy / "crates", ignore=shutil.ignore_patterns("out"))
+    shutil.copy(top / "crates.txt", copy)
+    shutil.copy(top / "HANDLES", copy)
+    for name, files in ROWS.items():
+        crate = copy / "crates" / name
+        count = sum(repeat(crate / "src" / f"{file}.rt") for file in files)
+        began = time.monotonic()
+        run = subprocess.run(
+            ["rt", "try", "--test", "--seconds", "1800"],
+            cwd=crate,
+            capture_output=True,
+            text=True,
+        )
+        lines = (run.stdout + run.stderr).splitlines()
+        failed = [line for line in lines if "failed" in line and " 0 failed" not in line]
+        print("\n".join(failed + lines[-2:]))
+        print(f"{name}: {count * times} runs of {count} rows, {time.monotonic() - began:.0f} s")
+        status = status or run.returncode
+sys.exit(status)

@@ -35,7 +35,7 @@ pub(crate) fn collect_once<R: Wait>(
     (collector.into_seat(), report)
 }
 
-/// How the collector serves: for at most so many cycles, and whether each waits until one is wanted.
+/// How the collector serves: for at most so many cycles, and whether each waits until it is wanted.
 #[derive(Clone, Copy)]
 pub(crate) struct Service {
     pub cycles: u32,

@@ -1,9 +1,10 @@
 //! Whole cycles on a heap of words: what the reports of cycles count, worked out by hand; cycles
 //! beside a mutator that is out; and mutators that claim on threads of their own beside a collector
-//! that serves, or come in and go out again beside it.
+//! that serves, or come in and go out again beside it; and where the collector sleeps, and where it
+//! may not.
 //!
-//! Reading order: `heaps`, `collecting`, `mutating`; `cycles`, `who_is_out`, `threads`,
-//! `coming_and_going`.
+//! Reading order: `heaps`, `collecting`, `mutating`, `watching`; `cycles`, `who_is_out`, `threads`,
+//! `coming_and_going`, `sleeping`, `running`.
 #![tactic(auto)]
 
 mod collecting;

@@ -1,4 +1,4 @@
-//! A run beside the collector.
+//! A run alongside the collector.
 ghost use Rattle.std.specs.Prelude.{◌≡◌};
 ghost use Rattle.collector_tests.specs.Seats.{IsIdle};
 ghost use Rattle.free_cells.specs.Hints.{cells_of as hinted_of};
@@ -20,7 +20,7 @@ use std::time::Clock;
 
 const CELLS: u32 = 64;
 
-/// Runs work that wants no cell beside a collector that may make three cycles, and sets the word at
+/// Runs work that wants no cell alongside a collector that may make three cycles, and sets the word at
 /// the end.
 fn run_work<R: Threads + Wait + Sync>(
     alloc: Global,

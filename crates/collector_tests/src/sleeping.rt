@@ -56,7 +56,7 @@ fn serve_when<R: Wait + Clock>(
     seat
 }
 
-/// When a service ends beside which nobody wants a cell. One that waits for demand is told behind a
+/// When a service ends during which nobody wants a cell. One that waits for demand is told after a
 /// while that the work is over.
 fn watch_idle<R: Wait + Clock>(
     rt: &R,
@@ -176,7 +176,7 @@ fn put_plenty<R: Wait>(rt: &R, hints: &mut Hints<'_>)
     }
 }
 
-/// Answers the handshakes of a cycle. Behind the first answer numbers are plenty.
+/// Answers the handshakes of a cycle. After the first answer numbers are plenty.
 fn answer_cycle<R: Wait + Clock>(
     rt: &R,
     heap: &CellHeap<NoRule>,
@@ -218,7 +218,7 @@ fn come_in<R: Wait + Clock>(
     (mutator.finish(), watch(rt, queue, &mut hints, ended))
 }
 
-/// The collector serves on demand for one cycle, beside a mutator that answers.
+/// The collector serves on demand for one cycle, alongside a mutator that answers.
 fn serve_one<R: Threads + Wait + Clock + Sync>(
     rt: &R,
     heap: &CellHeap<NoRule>,

@@ -1,4 +1,4 @@
-//! Whether a thread comes to its end. One that waits for demand in vain is woken behind a bound,
+//! Whether a thread comes to its end. One that waits for demand in vain is woken after a bound,
 //! so that each row ends, and says `Late`.
 use free_cells::{FreeQueue, Hints};
 use std::sync::Wait;
