@@ -169,7 +169,8 @@ fn serve_beside<R: Threads + Wait + Sync>(
         rt,
         move ||
             requires { IsIdle heap.now collector × IsHintPass queue.now own
-                × (service.cycles ≤ greatest_cycles) × (hinted_of queue.now ≡ heap.now.shape.cells) }
+                × (service.cycles ≤ greatest_cycles)
+                × (hinted_of queue.now ≡ heap.now.shape.cells) }
             ensures { IsSeatOf heap.entry.now result.0 }
         { serve(rt, heap, collector, stack, queue, own, service) },
         move ||

@@ -20,8 +20,8 @@ use std::time::Clock;
 
 const CELLS: u32 = 64;
 
-/// Runs work that wants no cell alongside a collector that may make three cycles, and sets the word at
-/// the end.
+/// Runs work that wants no cell alongside a collector that may make three cycles, and sets the word
+/// at the end.
 fn run_work<R: Threads + Wait + Sync>(
     alloc: Global,
     rt: &R,
