@@ -4,7 +4,7 @@ ghost use Rattle.client_threads.specs.Clients.{AllDone, AllReady, IsNewSeat};
 ghost use Rattle.doc_export.specs.Guests.{IsThrough};
 ghost use Rattle.std.specs.Thread.{IsSync};
 
-use crate::ending::EndingGate;
+use crate::ending::Ending;
 use crate::guest::{Guest, Through, take_version};
 use client_run::Limits;
 use client_threads::{Client, run_each};
@@ -12,17 +12,16 @@ use doc_model::Command;
 use document_versions::Documents;
 use free_cells::FreeQueue;
 use heap_table::CellHeap;
-use outside::Gate;
 use std::alloc::Global;
 use std::sync::Wait;
 use std::thread::{Threads, join};
 
 /// Runs the clients, each on a thread of its own, and the guest alongside all of them: on a thread
 /// that is made for it, or after them where none can be made.
-pub(crate) fn run_with_guest<R: Threads + Wait + Sync, G: Gate + Sync>(
+pub(crate) fn run_with_guest<R: Threads + Wait + Sync, G: Ending + Sync>(
     alloc: Global,
     rt: &R,
-    gate: &EndingGate<'_, G>,
+    gate: &G,
     heap: &CellHeap<Documents>,
     queue: &FreeQueue,
     scripts: &[Vec<Command>],

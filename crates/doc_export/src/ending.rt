@@ -3,6 +3,12 @@ use doc_model::Command;
 use outside::Gate;
 use std::sync::atomic::{AtomicBool, Ordering};
 
+/// A gate of a run that knows how far its clients are.
+pub(crate) trait Ending: Gate {
+    /// Whether some client has ended its script.
+    fn has_ended(&self) -> bool;
+}
+
 /// The gate of a run, that notes when the last command of some script has its reply. A client with
 /// an empty script has ended at once; one that runs out of memory is never noted.
 #[derive(Drop)]
@@ -21,11 +27,6 @@ impl<'a, G: Gate> EndingGate<'a, G> {
             scripts,
             has_ended: AtomicBool::new(has_empty),
         }
-    }
-
-    /// Whether some client has ended its script.
-    pub(crate) fn has_ended(&self) -> bool {
-        self.has_ended.load(Ordering::SeqCst)
     }
 
     /// Whether this is the last command of this client. The guest is no client.
@@ -47,5 +48,11 @@ impl<G: Gate> Gate for EndingGate<'_, G> {
         if self.is_last(client, number) {
             self.has_ended.store(true, Ordering::SeqCst);
         }
+    }
+}
+
+impl<G: Gate> Ending for EndingGate<'_, G> {
+    fn has_ended(&self) -> bool {
+        self.has_ended.load(Ordering::SeqCst)
     }
 }

@@ -8,7 +8,7 @@ ghost use Rattle.version_rule.specs.Pass.{reading};
 ghost use Rattle.version_store.specs.Held.{IsHeld, root_at};
 ghost use Rattle.version_store.specs.Lasts.{IsSameMutator, LastsAcross};
 
-use crate::ending::EndingGate;
+use crate::ending::Ending;
 use crate::waiting::await_end;
 use beside_collector::{come_in, leave};
 use client_run::Limits;
@@ -52,10 +52,10 @@ pub(crate) struct Through {
 /// The guest's turn, on this thread: when some client has ended its script, or none does for long,
 /// and the gate then lets it begin, it takes the latest version. Its mutator comes in before and is
 /// over afterwards.
-pub(crate) fn take_version<R: Wait, G: Gate>(
+pub(crate) fn take_version<R: Wait, G: Ending>(
     alloc: Global,
     rt: &R,
-    gate: &EndingGate<'_, G>,
+    gate: &G,
     heap: &CellHeap<Documents>,
     limits: Limits,
     guest: Guest,

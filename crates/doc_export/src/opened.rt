@@ -11,7 +11,7 @@ ghost use Rattle.doc_export.specs.Guests.{IsThrough};
 ghost use Rattle.doc_export.specs.Parts.{IsOpened, MayDump};
 
 use crate::beside::run_with_guest;
-use crate::ending::EndingGate;
+use crate::ending::Ending;
 use crate::guest::{Copied, Guest, Through};
 use beside_collector::{Doing, Keeper, run_beside, serve_after};
 use cell_heap::Passes;
@@ -23,7 +23,6 @@ use document_versions::Documents;
 use free_cells::FreeQueue;
 use heap_table::CellHeap;
 use minor_heap::MinorHeap;
-use outside::Gate;
 use std::alloc::Global;
 use std::sync::Wait;
 use std::thread::Threads;
@@ -100,7 +99,7 @@ pub(crate) fn open_run<R: Threads + Wait + Sync>(
 
 /// Runs the scripts' commands on the opened heap, takes a version beside them, and closes the heap,
 /// whatever became of the clients and of the guest. The list has room for the logs.
-pub(crate) fn run_opened<R: Threads + Wait + Sync, G: Gate + Sync>(
+pub(crate) fn run_opened<R: Threads + Wait + Sync, G: Ending + Sync>(
     alloc: Global,
     rt: &R,
     scripts: &[Vec<Command>],
@@ -130,8 +129,6 @@ pub(crate) fn run_opened<R: Threads + Wait + Sync, G: Gate + Sync>(
     } = opened;
     let at = &heap;
     let hints = &queue;
-    let ending = EndingGate::new(gate, scripts);
-    let gate = &ending;
     let run = move || -> (Vec<Client>, Through)
         requires { AllReady at.now hints.now limits scripts.now clients.items
             × (4_096 ≤ limits.minor) × IsNewSeat at.now limits guest.place guest.seat }

@@ -5,6 +5,7 @@ ghost use Rattle.client_threads.specs.Taken.{lists_of};
 ghost use Rattle.doc_export.specs.Dumps.{Dumps};
 
 use crate::dumped::Dumped;
+use crate::ending::EndingGate;
 use crate::guest::Copied;
 use crate::opened::{Closed, open_run, run_opened};
 use client_run::Options;
@@ -41,12 +42,13 @@ pub fn dump_run<R: Threads + Wait + Sync, G: Gate + Sync>(
 {
     let logs = Vec::with_capacity(alloc, scripts.len())?;
     let opened = open_run(alloc, rt, scripts, options)?;
+    let ending = EndingGate::new(gate, scripts);
     let Closed {
         logs,
         passes,
         copied,
         failed,
-    } = run_opened(alloc, rt, scripts, options, gate, opened, logs);
+    } = run_opened(alloc, rt, scripts, options, &ending, opened, logs);
     if failed {
         return Err(NoMemory);
     }

@@ -4,10 +4,9 @@ ghost use Rattle.client_threads.specs.Going.{Waits};
 ghost use Rattle.version_export.specs.Looks.{looks};
 ghost use Rattle.version_store.specs.Lasts.{marks};
 
-use crate::ending::EndingGate;
+use crate::ending::Ending;
 use document_versions::Documents;
 use mutator_seat::Mutator;
-use outside::Gate;
 use std::hint::spin_loop;
 use std::thread;
 
@@ -22,7 +21,7 @@ const YIELDS: u32 = 1_024;
 
 /// Answers handshakes until some client has ended its script, or it looked for that often enough.
 /// It says whether one has.
-pub(crate) fn await_end<G: Gate>(ending: &EndingGate<'_, G>, m: &mut Mutator<'_, Documents>) -> bool
+pub(crate) fn await_end<G: Ending>(ending: &G, m: &mut Mutator<'_, Documents>) -> bool
     requires inside { m.old.seat.me.presence.inside ≡ true }
     ensures waits { Waits m.old m.new }
     ensures looked { result ≡ false

@@ -1,4 +1,3 @@
-use Rattle.std.proofs.Common.{◌∙◌}
 use Rattle.client_threads.proofs.Waiting.{waits_then}
 use Rattle.doc_export.proofs.Leaving.{through, waited_inside, waited_one, waited_room}
 use Rattle.doc_export.proofs.guest.take_version.Goals as goal
