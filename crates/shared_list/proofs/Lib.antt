@@ -1,0 +1,4 @@
+pub mod Finding
+pub mod Making
+pub mod Openings
+pub mod Settled
