@@ -11,7 +11,7 @@ ghost use Rattle.heap_table.specs.Seats.{IsSeatOf};
 use crate::collecting::{Service, serve};
 use crate::heaps::{close, open_hints, open_plain};
 use crate::mutating::leave;
-use crate::watching::{End, LOOKS, is_set, watch};
+use crate::watching::{End, LOOKS, QUIET, is_set, watch};
 use cell_heap::{CellHeap, ColSeat, MutSeat, NoMemory};
 use collector::MarkStack;
 use free_cells::{FreeQueue, HintPass, Hints};
@@ -25,9 +25,6 @@ use std::thread::{self, Threads};
 use std::time::{Clock, Duration};
 
 const CELLS: u32 = 64;
-
-/// For how many milliseconds nobody wants a cell.
-const QUIET: u64 = 20;
 
 /// How many numbers are plenty: at least three tenths.
 const PLENTY: u32 = 20;

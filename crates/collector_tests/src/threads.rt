@@ -10,7 +10,7 @@ ghost use Rattle.heap_table.specs.Seats.{IsSeatOf};
 use crate::collecting::{Service, UNBROKEN, serve};
 use crate::heaps::{blue_cells, close, close_two, open_hints, open_plain, open_two};
 use crate::mutating::{Claims, claim_and_keep, make_and_drop};
-use crate::watching::{End, watch};
+use crate::watching::{End, QUIET, watch};
 use cell_heap::{CellHeap, ColSeat, MutSeat, NoMemory};
 use cell_words::GREATEST_CYCLES;
 use collector::MarkStack;
@@ -22,12 +22,13 @@ use std::sync::Wait;
 use std::sync::atomic::{AtomicBool, Ordering};
 use std::test::Fail;
 use std::thread::{self, Threads};
-use std::time::Clock;
+use std::time::{Clock, Duration};
 
 const CELLS: u32 = 64;
 
-/// Makes a record and drops it, a thousand times; then the work is over.
-fn drop_all<R: Wait>(
+/// Makes a record and drops it, a thousand times, once the collector had time to fall asleep; then
+/// the work is over.
+fn drop_all<R: Wait + Clock>(
     rt: &R,
     heap: &CellHeap<NoRule>,
     mutator: MutSeat<NoRule>,
@@ -39,6 +40,7 @@ fn drop_all<R: Wait>(
     requires pass { IsHintPass queue.now pass }
     ensures over { IsOver heap.now result.0 }
 {
+    thread::sleep(rt, Duration::from_millis(QUIET));
     let made = make_and_drop(rt, heap, mutator, queue, pass, 1000);
     ended.store(true, Ordering::SeqCst);
     queue.end_work();

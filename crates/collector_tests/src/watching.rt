@@ -9,6 +9,9 @@ use std::time::{Clock, Duration};
 /// How often is looked for what another thread does, with a millisecond between two looks.
 pub(crate) const LOOKS: u32 = 5_000;
 
+/// For how many milliseconds nobody wants a cell: time enough to fall asleep.
+pub(crate) const QUIET: u64 = 20;
+
 /// More numbers than any queue of these tests holds.
 const MANY: u32 = 100;
 
