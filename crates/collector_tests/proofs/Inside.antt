@@ -1,5 +1,5 @@
 -- A call that keeps what a mutator holds and knows leaves it in.
-use Rattle.std.proofs.Common.{◌≡◌, ◌∙◌}
+use Rattle.std.proofs.Common.{◌∙◌}
 use Rattle.collector_tests.specs.Away.{IsIn}
 use Rattle.heap_rule.specs.declared.keeping.NoRule.{NoRule}
 use Rattle.heap_table.specs.Seats.{HeapId}
