@@ -1,27 +1,20 @@
 -- A round of a mutator that holds one cell: it claims, seals and cuts.
-use Rattle.std.proofs.Common.{◌≡◌, ◌<◌, ◌≤◌, ◌+◌, ℕ, zero, suc, true, List, [], ◌∷◌, ◌++◌, length}
+use Rattle.std.proofs.Common.{◌≡◌, ◌≤◌, ◌+◌, ℕ, List, [], ◌∷◌, ◌++◌, length}
 use Rattle.std.proofs.Common.{slice_index_or, take, drop, refl, sym, ◌∙◌, ap, subst, arith}
 use Rattle.std.proofs.lemmas.List.{length-append, length-map}
-use Rattle.cell_words.specs.declared.fields.Field.{Field}
-use Rattle.cell_words.specs.declared.fields.Field.TheVariants as field
 use Rattle.cell_words.specs.declared.fields.Kind.TheVariants as kind
 use Rattle.collector_tests.specs.Holding.{Holds, HoldsOne}
-use Rattle.collector_tests.specs.Seats.{IsOut, IsOver}
 use Rattle.core_machine.specs.declared.events.Event.TheVariants as event
 use Rattle.core_machine.specs.declared.events.Found.{Found}
 use Rattle.core_machine.specs.declared.events.Found.TheVariants as finds
 use Rattle.core_machine.specs.declared.places.Held.{Held}
-use Rattle.heap_rule.specs.Asks.{IsRaw, KnowsTerms, MaySeal, known_of, raw_fields}
-use Rattle.heap_rule.specs.Facts.{IsTermKnown}
-use Rattle.heap_rule.specs.Lore.{at_cell, cells_in, five_nulls, known_at, known_sealed}
+use Rattle.heap_rule.specs.Lore.{at_cell, cells_in, five_nulls, known_sealed}
 use Rattle.heap_rule.specs.declared.keeping.NoRule.{NoRule}
 use Rattle.heap_rule.specs.declared.known.Known.{Known}
 use Rattle.heap_rule.specs.declared.known.Known.TheVariants as knows
-use Rattle.heap_table.specs.Seats.{HeapId, SeatView}
-use Rattle.mutator_events.specs.Events.{tells}
+use Rattle.heap_table.specs.Seats.{HeapId}
 use Rattle.mutator_seat.specs.Bound.{Bound, held_cells, takes}
 use Rattle.mutator_seat.specs.Claims.{Claimed}
-use Rattle.mutator_seat.specs.Stretches.{Kept}
 
 held_length : (m : Bound NoRule) → length (held_cells m) ≡ length m.seat.me.own.held
 held_length m = length-map m.seat.me.own.held (λ (place : Held). place.cell)

@@ -1,5 +1,5 @@
 -- The terms of the first rows: each record names none, or the one before it.
-use Rattle.std.proofs.Common.{◌≡◌, ◌+◌, ◌-◌, ◌<◌, ◌≤◌, ◌&&◌, ◌⊎◌, inl, inr, ℕ, zero, suc, Bool}
+use Rattle.std.proofs.Common.{◌≡◌, ◌+◌, ◌-◌, ◌<◌, ◌≤◌, ◌&&◌, inl, inr, ℕ, zero, suc, Bool}
 use Rattle.std.proofs.Common.{true, nat_lt, cond, List, [], ◌∷◌, length, get_or, Option, Some, None}
 use Rattle.std.proofs.Common.{refl, sym, ◌∙◌, ap, subst, arith}
 use Rattle.std.proofs.lemmas.Bool.{and_from, cases_lt, cond-false, cond-true, le-ltb, lt-ltb}
@@ -12,7 +12,7 @@ use Rattle.cell_words.specs.declared.fields.Field.{Field}
 use Rattle.cell_words.specs.declared.fields.Field.TheVariants as field
 use Rattle.collector_tests.specs.Rows.{HaveTerms, chain_row, chain_rows, row_of, star_rows}
 use Rattle.core_machine.specs.Words.{is_box_kind}
-use Rattle.core_machine.specs.State.{field_in, row_in}
+use Rattle.core_machine.specs.State.{field_in}
 use Rattle.dlg_core.specs.FirstRows.{are_first_rows, is_first_row}
 use Rattle.heap_rule.specs.Facts.{IsPlain, TermFits, is_record_kind}
 use Rattle.heap_rule.specs.Lore.{Terms, entry_of, named_or, term_of}

@@ -1,6 +1,6 @@
 -- What a mutator of these tests knows between two claims.
 -- Source: this project's.
-use Rattle.std.specs.Prelude.{ℕ, ◌≡◌, ◌≤◌, true, List, [], ◌∷◌, length}
+use Rattle.std.specs.Prelude.{ℕ, ◌≡◌, ◌≤◌, true, [], ◌∷◌, length}
 use Rattle.heap_rule.specs.declared.keeping.NoRule.{NoRule}
 use Rattle.heap_rule.specs.declared.known.Known.{Known}
 use Rattle.heap_table.specs.Seats.{HeapId, IsSeatOf}

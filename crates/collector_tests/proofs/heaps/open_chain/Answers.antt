@@ -1,4 +1,4 @@
-use Rattle.std.proofs.Common.{◌≡◌, ◌≤◌, List, length, sym, ◌∙◌, ap, subst, arith}
+use Rattle.std.proofs.Common.{◌≡◌, List, length, sym, ◌∙◌, ap, subst, arith}
 use Rattle.cell_words.specs.declared.fields.Field.{Field}
 use Rattle.collector_tests.specs.Rows.{HaveTerms, chain_rows}
 use Rattle.collector_tests.proofs.Terms.{chain_first, chain_have, chain_length}
