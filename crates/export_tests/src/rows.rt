@@ -39,7 +39,10 @@ fn between_two_puts<R: Threads + Wait + Sync>(
     let text = puts(alloc, 2)?;
     let gate = BetweenGate::new();
     let dumped = dumped_of(alloc, rt, &[&text, b""], 64, &gate)?;
-    let answered = dumped.logs.iter().map(|log| log.entries().len()).sum();
+    let answered = match dumped.logs.first() {
+        Some(log) => log.entries().len(),
+        None => 0,
+    };
     Ok((dumped.version, answered, gate.late()))
 }
 
