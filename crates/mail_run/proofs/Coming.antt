@@ -259,6 +259,7 @@ module _ (cells : ℕ) (scripts : List (List ℕ)) (sent : List (Vec (Option ℕ
           share = through.drained.share;
           share_at = through.drained.share_at;
           receives = through.drained.receives refl;
+          emptied = through.drained.emptied refl;
         };
         full = full_here;
         service = service cycles (length scripts + 1) v served ended.shows.core.control.cycles made;

@@ -28,7 +28,7 @@ use Rattle.mail_rule.specs.Passes.{opening_pass}
 use Rattle.mail_rule.specs.declared.items.Item.{Item}
 use Rattle.mail_rule.specs.declared.mail_pass.MailPass.{MailPass}
 use Rattle.mail_threads.specs.Opened.{mail_shape}
-use Rattle.mail_threads.specs.Receipts.{Receives}
+use Rattle.mail_threads.specs.Receipts.{Empties, Receives}
 use Rattle.mail_threads.specs.Taken.{AreTaken, lists_of}
 use Rattle.mail_threads.specs.Workers.{HasReceived}
 use Rattle.mail_threads.specs.declared.workers.Receiver.{Receiver}
@@ -94,6 +94,9 @@ back heap scripts sent receiver lines items failed old mid new taken fit through
                       (subst (λ (k : ℕ). Receives k receiver.items.items
                       receiver.seat.me.pass (marks_of receiver.seat.me.trail)) lines_are
                       (through.received (sym failed_is ∙ whole)));
+                  emptied = λ whole.
+                      subst (λ (k : ℕ). Empties k (marks_of receiver.seat.me.trail)) lines_are
+                      (through.emptied (sym failed_is ∙ whole));
                 };
           };
     }

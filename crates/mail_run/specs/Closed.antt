@@ -17,19 +17,20 @@ use Rattle.mail_rule.specs.Passes.{opening_pass}
 use Rattle.mail_rule.specs.declared.items.Item.{Item}
 use Rattle.mail_rule.specs.declared.mail_pass.MailPass.{MailPass}
 use Rattle.mail_threads.specs.Opened.{mail_shape}
-use Rattle.mail_threads.specs.Receipts.{Receives}
+use Rattle.mail_threads.specs.Receipts.{Empties, Receives}
 use Rattle.mail_threads.specs.Taken.{HasPosted, answers_of}
 use Rattle.mail_run.specs.Comes.{lines_in}
 use Rattle.mail_run.specs.declared.closed.Closed.{Closed}
 use Rattle.trails.specs.Marks.{marks_of}
 
 -- The receiver's seat was joined. Unless memory was wanting, it took a turn for each of so many
--- lines, and took these items.
+-- lines, and more until one found nothing, and took these items.
 pub record HasDrained (lines : ℕ) (items : List Item) (failed : Bool)
     (joined : List (Place MailPass)) (i : ℕ) : Type 0 where
   pub share : Share MailPass
   pub share_at : get_elem? joined i ≡ some (places.Joined share)
   pub receives : failed ≡ false → Receives lines items share.pass (marks_of share.trail)
+  pub emptied : failed ≡ false → Empties lines (marks_of share.trail)
 
 -- Each sender has sent its script, and the receiver, which has the last mutator, is through.
 pub record AreThrough (cells : ℕ) (scripts : List (List ℕ))

@@ -24,7 +24,7 @@ use Rattle.mail_rule.specs.Passes.{opening_pass}
 use Rattle.mail_rule.specs.declared.items.Item.{Item}
 use Rattle.mail_rule.specs.declared.mail_pass.MailPass.{MailPass}
 use Rattle.mail_threads.specs.Opened.{mail_shape}
-use Rattle.mail_threads.specs.Receipts.{Receives}
+use Rattle.mail_threads.specs.Receipts.{Empties, Receives}
 use Rattle.mail_threads.specs.Taken.{HasPosted, answers_of}
 use Rattle.beside_collector.specs.Service.{IsService}
 use Rattle.trails.specs.Marks.{marks_of}
@@ -60,12 +60,13 @@ pub record IsLine (scripts : List (List ℕ)) (sent : List (List (Option ℕ))) 
   pub position_at : get_elem? answers place ≡ some (Some item.position)
 
 -- The receiver's seat was joined: its pass has these takes, and its trail a stretch for each of so
--- many lines, one after the other.
+-- many lines, one after the other, and behind them more, of which the last found nothing.
 pub record HasTaken (lines : ℕ) (taken : List Item) (joined : List (Place MailPass)) (i : ℕ)
     : Type 0 where
   pub share : Share MailPass
   pub share_at : get_elem? joined i ≡ some (places.Joined share)
   pub receives : Receives lines taken share.pass (marks_of share.trail)
+  pub emptied : Empties lines (marks_of share.trail)
 
 pub record ComesMail (cells cycles : ℕ) (scripts : List (List ℕ))
     (sent : List (Vec (Option ℕ) Global)) (items : List Item) (passes : View MailPass)
