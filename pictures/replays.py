@@ -4,13 +4,27 @@ Shared by schedule.py and play. After each event a `show` of every cell is put, 
 runs that. A line `plain` is told as the events that it stands for: each is found by asking the
 program which event can happen next, and the program's count of the `plain` itself has to agree.
 """
+import os
 import subprocess
 import sys
 import tempfile
 
+TOP = os.path.dirname(os.path.dirname(os.path.abspath(__file__)))
+BUILT = [f"{TOP}/crates/docheap_cli/out/docheap_cli", f"{TOP}/out/unproved/docheap_cli"]
+
 # how many bytes of a schedule `show` lines may take, of 1,048,576
 SHOWN = 700_000
 STAGES = ["idle", "sync1", "clear", "sync2", "trace", "sweep"]
+
+
+def built_program(given):
+    """The program that was named, or else the proved one, or the one without proof. Nothing is
+    built here."""
+    program = given or next(filter(os.path.isfile, BUILT), BUILT[0])
+    if not os.path.isfile(program):
+        sys.exit(f"{os.path.basename(sys.argv[0])}: no program is built, {program}; ./docheap builds "
+                 "one, and ./prove the proved one")
+    return program
 
 
 class Replay:

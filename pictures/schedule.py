@@ -17,9 +17,8 @@ import sys
 
 from drawing import LETTER, LINE, colours, dot, legend, letter, rect, style, svg, text, title
 from drawing import wide_of
-from replays import Replay, events_of, lines_of
+from replays import Replay, built_program, events_of, lines_of
 
-TOP = os.path.dirname(os.path.dirname(os.path.abspath(__file__)))
 REQUESTED = {"idle": "async", "sync1": "sync1", "clear": "sync1", "sync2": "sync2",
              "trace": "async", "sweep": "async"}
 NEXT = {"async": "sync1", "sync1": "sync2", "sync2": "async"}
@@ -204,14 +203,11 @@ class Picture:
 def main():
     p = argparse.ArgumentParser()
     p.add_argument("schedule")
-    built = [f"{TOP}/crates/docheap_cli/out/docheap_cli", f"{TOP}/out/unproved/docheap_cli"]
-    p.add_argument("--docheap", default=next(filter(os.path.isfile, built), built[0]))
+    p.add_argument("--docheap")
     p.add_argument("--columns", type=int, default=52, help="events in one row of the picture")
     args = p.parse_args()
-    if not os.path.isfile(args.docheap):
-        sys.exit(f"schedule.py: no program is built, {args.docheap}; ./prove builds the proved one")
     lines = lines_of(args.schedule)
-    replay = Replay(args.docheap, lines[0])
+    replay = Replay(built_program(args.docheap), lines[0])
     replay.run(lines[1:])
     events, refused = events_of(replay, lines[1:])
     name = os.path.basename(args.schedule)
