@@ -10,27 +10,14 @@ of the session (what was proved anew) and of the offers, the second reading that
 a function has no written answer for a goal that fails. The lines below it tell the function and its
 goals, or the written answer that fails. docs/GATE.md says what to make of it.
 """
-import importlib.machinery
-import importlib.util
 import os
 import re
-import shutil
 import sys
 import tempfile
 
+from wrong_bodies import kit
+
 STAGES = ["front-end", "session", "offers"]
-
-
-def kit():
-    """The kit's own modules: `rt`, and rtlib, on which it stands."""
-    folder = os.path.dirname(os.path.realpath(shutil.which("rt")))
-    sys.path.insert(0, folder)
-    import rtlib
-
-    loader = importlib.machinery.SourceFileLoader("rt_of_kit", f"{folder}/rt")
-    module = importlib.util.module_from_spec(importlib.util.spec_from_loader("rt_of_kit", loader))
-    loader.exec_module(module)
-    return rtlib, module
 
 
 def told(output):
