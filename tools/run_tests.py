@@ -103,7 +103,7 @@ def shares(names):
 def main():
     below = crates()
     names = [it for it in below if it.endswith("_tests")]
-    built = {it: f"{TOP}/crates/{it}/out/{it}" for it in names}
+    built = {it: f"{TOP}/crates/{it}/out/{it}_tests" for it in names}
     if sys.argv[1:2] == ["--note"]:
         os.makedirs(f"{TOP}/out", exist_ok=True)
         with open(NOTE, "w") as it:
