@@ -22,8 +22,9 @@ def built_program(given):
     built here."""
     program = given or next(filter(os.path.isfile, BUILT), BUILT[0])
     if not os.path.isfile(program):
-        sys.exit(f"{os.path.basename(sys.argv[0])}: no program is built, {program}; ./docheap builds "
-                 "one, and ./prove the proved one")
+        name = os.path.basename(sys.argv[0])
+        sys.exit(f"{name}: no program is built, {program}; ./docheap builds one, and ./prove the "
+                 "proved one")
     return program
 
 
