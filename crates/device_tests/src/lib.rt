@@ -1,4 +1,4 @@
-//! What no clause says of outside and run_words: each shelf and sink on its happy path, what a file
+//! What no clause says of outside, run_words and thread_waits: each shelf and sink on its happy path, what a file
 //! and a device do, who meets at a gate, and which numbers a command line asks for.
 #![tactic(auto)]
 
@@ -6,5 +6,7 @@
 mod devices;
 #[cfg(test)]
 mod gates;
+#[cfg(test)]
+mod waits;
 #[cfg(test)]
 mod words;

@@ -21,12 +21,8 @@ use crate::mutator::Mutator;
 use cell_words::{Control, Stage};
 use free_cells::Hints;
 use heap_rule::Keeping;
-use std::hint::spin_loop;
 use std::sync::Wait;
-use std::thread;
-
-/// How often a waiting claim pauses between two looks.
-const PAUSES: u32 = 100;
+use thread_waits::{offer, wait};
 
 /// How many takes of a claim find no hint until it tries every cell.
 const PATIENCE: u32 = 1000;
@@ -77,12 +73,10 @@ fn patience_after(patience: u32, hint: Option<u32>) -> u32
     }
 }
 
-/// Lets other threads run for a while.
+/// Waits a while, and lets other threads run.
 fn pause() {
-    for _pause in 0..PAUSES {
-        spin_loop();
-    }
-    thread::yield_now();
+    wait();
+    offer();
 }
 
 impl<'a, P: Keeping> Mutator<'a, P> {
