@@ -1,5 +1,6 @@
-//! What no clause says of outside, run_words and thread_waits: each shelf and sink on its happy path, what a file
-//! and a device do, who meets at a gate, and which numbers a command line asks for.
+//! What no clause says of outside, run_words and thread_waits: each shelf and sink on its happy
+//! path, what a file and a device do, who meets at a gate, which numbers a command line asks for,
+//! and that a wait takes its time.
 #![tactic(auto)]
 
 #[cfg(test)]
