@@ -1,7 +1,9 @@
--- The terms of records: one more record leaves those of the older ones, and each is its fields'.
+-- The terms of records: one more record leaves those of the older ones, and so does one less, and
+-- each is its fields'.
 use Rattle.std.proofs.Common.{◌≡◌, ℕ, zero, suc, ◌+◌, ◌<◌, List, [], ◌∷◌, ◌++◌, length, refl, sym}
-use Rattle.std.proofs.Common.{ap, subst, ◌∙◌, arith, length-append}
+use Rattle.std.proofs.Common.{ap, subst, take, ◌∙◌, arith, length-append}
 use Rattle.std.specs.Prelude.{slice_index_or, All}
+use Rattle.std.proofs.lemmas.List.{get_or-take, take-take, take_all, take_at}
 use Rattle.cell_words.specs.Term.{Term, null, five, part, IsFive}
 use Rattle.minor_heap.specs.declared.fields.MinorField.{MinorField}
 use Rattle.minor_heap.specs.declared.fields.MinorField.TheVariants as field
@@ -165,3 +167,55 @@ pub ordered_snoc : (records : List (List MinorField)) (fields : List MinorField)
     → IsOrdered 0 (records ++ fields ∷ [])
 ordered_snoc records fields ordered fits =
     ordered_from 0 (length records) records fields ordered (omega arith) fits
+
+-- The first records alone.
+
+-- the terms begin with those of the older records
+terms_begin : (shared older : List Term) (records : List (List MinorField)) (n : ℕ)
+    → n ≡ length older → take n (terms_after shared older records) ≡ older
+terms_begin shared older [] n is = take_all n older (omega (arith, is))
+terms_begin shared older (r ∷ records) n is =
+    let t = record_term shared older r in
+    let all = terms_after shared (older ++ t ∷ []) records in
+    let next : suc n ≡ length (older ++ t ∷ []) = omega (arith, is, length-append older (t ∷ [])) in
+    sym (take-take n (suc n) all (omega arith))
+    ∙ ap (λ (ts : List Term). take n ts)
+    (terms_begin shared (older ++ t ∷ []) records (suc n) next)
+    ∙ take_at older (t ∷ []) n (sym is)
+
+take_terms : (shared older : List Term) (records : List (List MinorField)) (k n : ℕ)
+    → n ≡ length older + k
+    → terms_after shared older (take k records) ≡ take n (terms_after shared older records)
+take_terms shared older [] zero n is = sym (take_all n older (omega (arith, is)))
+take_terms shared older [] (suc k) n is = sym (take_all n older (omega (arith, is)))
+take_terms shared older (r ∷ records) zero n is =
+    sym (terms_begin shared older (r ∷ records) n (omega (arith, is)))
+take_terms shared older (r ∷ records) (suc k) n is =
+    let t = record_term shared older r in
+    take_terms shared (older ++ t ∷ []) records k n
+    (omega (arith, is, length-append older (t ∷ [])))
+
+pub terms_take : (shared : List Term) (records : List (List MinorField)) (k : ℕ)
+    → terms_of shared (take k records) ≡ take k (terms_of shared records)
+terms_take shared records k = take_terms shared [] records k k (omega arith)
+
+pub ordered_take : (n : ℕ) (records : List (List MinorField)) (k : ℕ) → IsOrdered n records
+    → IsOrdered n (take k records)
+ordered_take n [] zero ordered = tt
+ordered_take n [] (suc k) ordered = tt
+ordered_take n (r ∷ records) zero ordered = tt
+ordered_take n (r ∷ records) (suc k) ordered =
+    (ordered.0, ordered_take (n + 1) records k ordered.1)
+
+-- each of them has the fields and the term that it had
+pub field_take : (records : List (List MinorField)) (k j i : ℕ) → j < k
+    → field_at (take k records) j i ≡ field_at records j i
+field_take records k j i lt =
+    ap (λ (fields : List MinorField). slice_index_or fields i field.Null)
+    (get_or-take k records j [] lt)
+
+pub term_take : (shared : List Term) (records : List (List MinorField)) (k : ℕ) (r : MinorRef)
+    → r.number < k → term_of shared (take k records) r ≡ term_of shared records r
+term_take shared records k r lt =
+    ap (λ (ts : List Term). slice_index_or ts r.number null) (terms_take shared records k)
+    ∙ get_or-take k (terms_of shared records) r.number null lt

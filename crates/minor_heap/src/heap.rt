@@ -1,5 +1,5 @@
 ghost use Rattle.std.specs.Prelude.{◌≡◌, ◌<◌, ◌+◌, ◌++◌, ◌↔◌, ◌∷◌, [], List, All, length};
-ghost use Rattle.std.specs.Prelude.{IfOk, IsErr, OnErr, OnOk};
+ghost use Rattle.std.specs.Prelude.{IfOk, IsErr, OnErr, OnOk, take};
 ghost use Rattle.cell_words.specs.Term.{Term, part, IsFive};
 ghost use Rattle.minor_heap.specs.Nursery.{Stands, field_at, FitsRecord, IsOrdered};
 ghost use Rattle.minor_heap.specs.Terms.{field_term, record_term, term_of, terms_of};
@@ -98,6 +98,16 @@ impl MinorHeap {
         ensures spare { result + length self.now.records ≡ self.now.room }
     {
         self.room - self.len()
+    }
+
+    /// Lets all records go but the first so many, and keeps the room. Those name none that goes.
+    pub fn truncate(&mut self, kept: u32)
+        ensures records { self.new.records ≡ take kept self.old.records }
+        ensures room { self.new.room ≡ self.old.room }
+        ensures terms { (shared : List Term) → terms_of shared self.new.records
+            ≡ take kept (terms_of shared self.old.records) }
+    {
+        self.records.truncate(kept as usize);
     }
 
     /// Lets all records go, and keeps the room.
