@@ -10,7 +10,7 @@ pub record Aged : Type 0 where
   pub heap : Nursery
   -- how many records it may copy
   pub records : ℕ
-  -- how many records the last ageing kept
+  -- how many of the first records the last ageing kept
   pub aged : ℕ
 
 -- the other heap is empty, and it and what is kept beside each record have the same room

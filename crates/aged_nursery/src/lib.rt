@@ -2,9 +2,9 @@
 //! the same room, and the first is let go of.
 //!
 //! The layer above may rely on this: `age` keeps each root's term and leads it to no new shared
-//! place, leaves exactly as many records as the roots reach, and is never refused. All memory is
-//! taken by `with_room`. What else stands in the heap in use is its owner's business: `heap_mut`
-//! lends it.
+//! place, leaves exactly as many records as the roots reach, and is never refused. `cut_back` keeps
+//! the first records, with their terms. All memory is taken by `with_room`. What else stands in the
+//! heap in use is its owner's business: `heap_mut` lends it.
 //!
 //! Reading order: `copies`, `nursery`.
 #![tactic(auto)]

@@ -1,6 +1,8 @@
-ghost use Rattle.std.specs.Prelude.{◌≡◌, [], All, IfOk, length};
+ghost use Rattle.std.specs.Prelude.{◌≡◌, [], All, IfOk, List, length, min, take};
 ghost use Rattle.std.specs.Borrow.{sem};
+ghost use Rattle.cell_words.specs.Term.{Term};
 ghost use Rattle.minor_heap.specs.Nursery.{Stands};
+ghost use Rattle.minor_heap.specs.Terms.{terms_of};
 ghost use Rattle.aged_nursery.specs.Aged.{Aged};
 ghost use Rattle.aged_nursery.specs.Lending.{LendsHeap};
 ghost use Rattle.aged_nursery.specs.Survivors.{AreSurvivors};
@@ -106,7 +108,21 @@ impl AgedNursery {
         self.aged = self.heap.len();
     }
 
-    /// How many records the last `age` kept, if they were not promoted since.
+    /// Lets all records go but the first so many.
+    pub fn cut_back(&mut self, kept: u32)
+        ensures first { self.new.heap.records ≡ take kept self.old.heap.records }
+        ensures terms { (shared : List Term) → terms_of shared self.new.heap.records
+            ≡ take kept (terms_of shared self.old.heap.records) }
+        ensures room { self.new.heap.room ≡ self.old.heap.room }
+        ensures records { self.new.records ≡ self.old.records }
+        ensures aged { self.new.aged ≡ min self.old.aged kept }
+    {
+        self.heap.truncate(kept);
+        self.aged = self.aged.min(kept);
+    }
+
+    /// How many records the last `age` kept, less those that were cut off since; 0 if they were
+    /// promoted since. They are the first ones.
     pub fn aged_len(&self) -> u32
         ensures aged { result ≡ self.now.aged }
     {
