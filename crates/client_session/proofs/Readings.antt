@@ -155,7 +155,3 @@ cut_ends v read one two room newer = record {
   lost = rests_lost (omega (arith, room)) (rests_then one two);
   newer = let x = read.not_below in omega (arith, x, newer);
 }
-
--- what only gave room back
-pub rests_ready : {s t : ClientState} → 9_100 ≤ t.room → Rests 0 s t → Lost s t
-rests_ready room rests = none_lost (omega (arith, room)) (rests_none rests)

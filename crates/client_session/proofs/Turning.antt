@@ -2,13 +2,15 @@
 use Rattle.std.proofs.Common.{◌≡◌, ap, subst, arith, length, Option, Some, None, Result, Ok}
 use Rattle.std.proofs.Common.{Err}
 use Rattle.cell_words.specs.Term.{Term}
+use Rattle.client_session.specs.Handles.{GivesBack}
 use Rattle.client_session.specs.Turns.{Answered, Ends, MayTurn, account_of, bounds}
 use Rattle.client_session.specs.declared.given.Given.{Given}
 use Rattle.client_session.specs.declared.journal.Journal.{Journal}
 use Rattle.client_session.proofs.Rooms.{may_on}
-use Rattle.client_turns.specs.State.{ClientState, IsReady, Rests}
+use Rattle.client_turns.specs.Progress.{MakesNone}
+use Rattle.client_turns.specs.State.{ClientState, IsReady, OnlyReads}
 use Rattle.client_turns.specs.Turns.{Lost, Turned}
-use Rattle.client_turns.proofs.States.{lost_none, lost_then, none_lost, rests_none}
+use Rattle.client_turns.proofs.States.{lost_none, lost_then, none_lost}
 use Rattle.client_turns.proofs.Turning.{lost_turned, turned_on}
 use Rattle.doc_model.specs.declared.answer.Account.{Account}
 use Rattle.doc_model.specs.declared.command.Command.{Command}
@@ -29,9 +31,25 @@ ends_ready j c s t (Ok (Some g)) ended = ended.turned.ready
 ends_ready j c s t (Ok None) ended = ended.lost.ready
 ends_ready j c s t (Err e) ended = ended.ready
 
-pub rests_on : {s t : ClientState} → IsReady s → Rests 0 s t → Lost s t
-rests_on ready rests =
-    none_lost (let room = rests.room in omega (arith, ready, room)) (rests_none rests)
+-- What is given back takes nothing.
+
+gives_none : {s t : ClientState} → GivesBack s t → MakesNone s t
+gives_none gives = record {
+  lasts = gives.lasts;
+  commits = gives.commits;
+  draft = gives.draft;
+  small = let is = gives.base in omega (arith, is);
+}
+
+pub gives_ready : {s t : ClientState} → 9_100 ≤ t.room → GivesBack s t → Lost s t
+gives_ready room gives = none_lost (omega (arith, room)) (gives_none gives)
+
+pub gives_on : {s t : ClientState} → IsReady s → GivesBack s t → Lost s t
+gives_on ready gives =
+    none_lost (let room = gives.room in omega (arith, ready, room)) (gives_none gives)
+
+pub gives_reads : {s t : ClientState} → GivesBack s t → OnlyReads s t
+gives_reads gives = record { claims = gives.claims; base = gives.base; spare = gives.spare }
 
 module _ (j : Journal) (c : Command) (s t u : ClientState) where
   pub answered_late : (g : Given) → Lost s t → Answered j c t u g → Answered j c s u g

@@ -1,5 +1,5 @@
--- What a client holds while it works on a command: nodes and versions; and what the calls that make
--- nodes leave.
+-- What a client holds while it works on a command: nodes and versions; and what the calls leave that
+-- make nodes, and those that give back.
 -- Source: this project's.
 use Rattle.std.specs.Prelude.{ℕ, ◌≡◌, ◌≤◌, ◌+◌, ◌==◌, Bool, false, Option, Some, None}
 use Rattle.std.specs.Prelude.{Result, Ok, Err}
@@ -7,6 +7,7 @@ use Rattle.doc_tree.specs.declared.edit.EditFault.{EditFault}
 use Rattle.client_session.specs.declared.held.HeldVersion.{HeldVersion}
 use Rattle.client_turns.specs.State.{ClientState, Lasts}
 use Rattle.doc_tree.specs.Tree.{DocTree}
+use Rattle.version_rule.specs.Pass.{commit_numbers}
 
 pub record Handles (At : Type 0) : Type 1 where
   -- a node stands there, and this is its tree
@@ -32,6 +33,16 @@ pub record Edits (places : ℕ) (old new : ClientState) : Type 0 where
   pub base : new.base ≡ old.base
   pub room : old.room ≤ new.room + (places + 10_477)
   pub spare : old.spare ≤ new.spare + 2_285
+
+-- A call that gives back: as `Rests 0`, but that more private records may have room.
+pub record GivesBack (old new : ClientState) : Type 0 where
+  pub lasts : Lasts old new
+  pub claims : new.claims ≡ old.claims
+  pub commits : commit_numbers new.pass ≡ commit_numbers old.pass
+  pub draft : new.draft ≡ old.draft
+  pub base : new.base ≡ old.base
+  pub room : old.room ≤ new.room
+  pub spare : old.spare ≤ new.spare
 
 -- the tree of the node that an edit gave, or why there is none
 abbrev pub answered : {A : Type 0} → (A → DocTree) → Result A EditFault

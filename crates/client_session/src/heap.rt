@@ -4,7 +4,7 @@ ghost use Rattle.std.specs.Prelude.{IfSome, OnErr, OnOk, [], ◌∷◌, Err, IsN
 ghost use Rattle.std.specs.Prelude.{◌&&◌, Option, nat_le};
 ghost use Rattle.std.specs.Option.{option_map};
 ghost use Rattle.cell_words.specs.declared.fields.Field.TheVariants as field;
-ghost use Rattle.client_session.specs.Handles.{Edits, Handles, Still, is_one};
+ghost use Rattle.client_session.specs.Handles.{Edits, GivesBack, Handles, Still, is_one};
 ghost use Rattle.client_turns.specs.Demands.{version_asks};
 ghost use Rattle.client_turns.specs.State.{ClientState, IsReady, IsSettled, Lasts, Rests};
 ghost use Rattle.client_turns.specs.State.{StaysSmall};
@@ -309,11 +309,19 @@ pub trait ClientHeap {
         ensures lasts { Lasts (state self.old) (state self.new) }
         ensures lent { lent self.new ≡ lent self.old };
 
-    /// Gives back all places but those that the draft needs.
+    /// Gives back all places but those that the draft needs, and may drop private records that it
+    /// does not need.
     fn settle(&mut self)
         ensures settled { IsSettled (state self.new) }
         ensures room { 9100 ≤ (state self.new).room }
         ensures pass { (state self.new).pass ≡ (state self.old).pass }
+        ensures gives_back { GivesBack (state self.old) (state self.new) }
+        ensures lent { lent self.new ≡ lent self.old };
+
+    /// Answers a handshake, if one is asked for. Who waits calls it between two pieces of its wait.
+    fn safe_point(&mut self)
+        ensures pass { (state self.new).pass ≡ (state self.old).pass }
         ensures rests { Rests 0 (state self.old) (state self.new) }
+        ensures still { Still (shown self.old) (shown self.new) }
         ensures lent { lent self.new ≡ lent self.old };
 }

@@ -1,10 +1,11 @@
 //! Answering: a turn for each try, until one has an answer; then the entry.
 ghost use Rattle.std.specs.Prelude.{◌≡◌, ◌≤◌, ◌<◌, ◌+◌, IfOk, IsOk, OnErr, length};
 ghost use Rattle.std.specs.Prelude.{[], ◌∷◌, ◌++◌, false, true};
+ghost use Rattle.client_session.specs.Handles.{GivesBack};
 ghost use Rattle.client_session.specs.Turns.{Answered, Ends, EndsPlain, Enters, InStep, IsPlain};
 ghost use Rattle.client_session.specs.Turns.{MayTurn};
 ghost use Rattle.client_turns.specs.Demands.{may_hold_more, is_reading};
-ghost use Rattle.client_turns.specs.State.{IsReady, IsSettled, OnlyReads, Rests, StaysSmall};
+ghost use Rattle.client_turns.specs.State.{IsReady, IsSettled, OnlyReads, StaysSmall};
 ghost use Rattle.client_turns.specs.Turns.{Lost};
 
 use crate::given::Given;
@@ -18,7 +19,7 @@ use std::sync::Wait;
 /// Gives back what a try holds beside the places that stay.
 fn give_back<H: ClientHeap>(held: &mut H)
     ensures settled { IsSettled (H.state held.new) }
-    ensures rests { Rests 0 (H.state held.old) (H.state held.new) }
+    ensures gives_back { GivesBack (H.state held.old) (H.state held.new) }
     ensures lent { H.lent held.new ≡ H.lent held.old }
 {
     held.settle();

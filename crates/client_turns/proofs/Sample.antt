@@ -91,7 +91,7 @@ pub opened_settled : IsSettled opened
 opened_settled = refl
 
 pub got_only : OnlyReads opened read
-got_only = record { claims = refl; base = refl; spare = refl }
+got_only = record { claims = refl; base = refl; spare = omega arith }
 
 none_made : MakesNone opened read
 none_made = record {

@@ -90,17 +90,21 @@ rests_none rests = record {
 -- Readings.
 
 pub reads_still : (s : ClientState) → OnlyReads s s
-reads_still s = record { claims = refl; base = refl; spare = refl }
+reads_still s = record { claims = refl; base = refl; spare = omega arith }
 
 pub reads_then : {s t u : ClientState} → OnlyReads s t → OnlyReads t u → OnlyReads s u
 reads_then one two = record {
   claims = two.claims ∙ one.claims;
   base = two.base ∙ one.base;
-  spare = two.spare ∙ one.spare;
+  spare = let x = one.spare in let y = two.spare in omega (arith, x, y);
 }
 
 pub rests_reads : {a : ℕ} {s t : ClientState} → Rests a s t → OnlyReads s t
-rests_reads rests = record { claims = rests.claims; base = rests.base; spare = rests.spare }
+rests_reads rests = record {
+  claims = rests.claims;
+  base = rests.base;
+  spare = let is = rests.spare in omega (arith, is);
+}
 
 -- Calls that make neither a version nor a draft.
 

@@ -43,12 +43,13 @@ pub record Rests (places : ℕ) (old new : ClientState) : Type 0 where
   pub room : old.room ≤ new.room + places
   pub spare : new.spare ≡ old.spare
 
--- What no reading changes: no cell was claimed, as many places stay, and there is room for as many
--- private records.
+-- What every reading leaves: no cell was claimed, as many places stay, and there is room for no
+-- fewer private records. There may be room for more, since a turn gives back at both ends what is
+-- not the draft's.
 pub record OnlyReads (old new : ClientState) : Type 0 where
   pub claims : new.claims ≡ old.claims
   pub base : new.base ≡ old.base
-  pub spare : new.spare ≡ old.spare
+  pub spare : old.spare ≤ new.spare
 
 -- between commands there is room for every reading
 abbrev pub IsReady : ClientState → Type 0
