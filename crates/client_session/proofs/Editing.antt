@@ -1,6 +1,6 @@
 -- An edit of the latest version, and what is begun by it.
 use Rattle.std.proofs.Common.{◌≡◌, ℕ, ◌+◌, ◌≤◌, false, List, sym, ◌∙◌, ap, arith}
-use Rattle.std.proofs.Common.{Result}
+use Rattle.std.proofs.Common.{Result, refl}
 use Rattle.client_session.specs.Handles.{Edits, Handles, Still}
 use Rattle.client_session.specs.Turns.{Begins, MayTurn, account_of, bounds}
 use Rattle.client_session.specs.declared.given.Opened.{Opened}
@@ -90,6 +90,14 @@ rests_edits a pass rests = record {
   base = rests.base;
   room = let x = rests.room in omega (arith, x);
   spare = let x = rests.spare in omega (arith, x);
+}
+
+pub still_same : {At : Type 0} (h : Handles At) → Still h h
+still_same h = record {
+  nodes = λ x stands. stands;
+  trees = λ x stands. refl;
+  versions = λ v held. held;
+  roots = λ v held. refl;
 }
 
 pub still_then : {At : Type 0} {a b c : Handles At} → Still a b → Still b c → Still a c

@@ -19,9 +19,9 @@ use Rattle.client_session.proofs.Commits.{stopped_ends, worn_ends}
 use Rattle.client_session.proofs.Editing.{edited_begun, edits_none, still_then, worked_begun}
 use Rattle.client_session.proofs.Rooms.{begins_of}
 use Rattle.client_turns.specs.Progress.{KnowsTree, MakesNone}
-use Rattle.client_turns.specs.State.{ClientState, IsReady}
+use Rattle.client_turns.specs.State.{ClientState, IsReady, Rests}
 use Rattle.client_turns.specs.Turns.{Begun}
-use Rattle.client_turns.proofs.States.{none_lost, none_then}
+use Rattle.client_turns.proofs.States.{none_lost, none_then, rests_none}
 use Rattle.client_turns.proofs.Turning.{begun_on}
 use Rattle.doc_model.specs.Answers.{attached, full_place}
 use Rattle.doc_model.specs.declared.command.Command.{Command}
@@ -70,6 +70,20 @@ tries_late j v u l (tried.Lost made) none still same lost = record {
   still = still_then still lost.still;
   node = lost.node;
   same = lost.same ∙ same;
+}
+
+-- what is lost is lost after a wait too
+pub lost_waited : {v : ℕ} {At : Type 0} {s t u : ClientState} {h k l : Handles At} {at made : At}
+    → IsLost v s t h k at made → Rests 0 t u → Still k l → IsLost v s u h l at made
+lost_waited {made = made} lost rests still = record {
+  none = none_then lost.none (rests_none rests);
+  ready = let ready = lost.ready in let room = rests.room in omega (arith, ready, room);
+  newer = let newer = lost.newer in
+      let seen = rests.lasts.passes.seen in
+      omega (arith, newer, seen);
+  still = still_then lost.still still;
+  node = still.nodes made lost.node;
+  same = still.trees made lost.node ∙ lost.same;
 }
 
 -- Each edit is carried over. At the end of a path without names it is made of one and the same

@@ -1,5 +1,5 @@
--- What a client holds while it works on a command: nodes and versions; and what the calls leave that
--- make nodes, and those that give back.
+-- What a client holds while it works on a command: nodes and versions; and what the calls leave
+-- that make nodes, and those that give back.
 -- Source: this project's.
 use Rattle.std.specs.Prelude.{ℕ, ◌≡◌, ◌≤◌, ◌+◌, ◌==◌, Bool, false, Option, Some, None}
 use Rattle.std.specs.Prelude.{Result, Ok, Err}

@@ -20,10 +20,12 @@ use crate::heap::ClientHeap;
 use crate::held::{CommitRefusal, HeapFull, HeldVersion};
 use crate::journal::Journal;
 use crate::reading::open;
+use crate::waiting::{back_off, waits_over};
 use doc_model::Reply;
 use doc_tree::{EditFault, NoMemory, Path, Text};
 use std::alloc::Global;
 use std::sync::Wait;
+use thread_waits::Backoff;
 
 /// Makes room for an edit and reads the latest version. Where the heap is full, that version's
 /// number.
@@ -134,6 +136,33 @@ impl Journal {
         }
     }
 
+    /// Tries to make a node's tree the next version, and waits where the try is lost.
+    fn commit_or_wait<H: ClientHeap, R: Wait>(
+        &self,
+        rt: &R,
+        heap: &mut H,
+        version: HeldVersion,
+        at: H::At,
+        backoff: &mut Backoff,
+    ) -> Tried<H::At>
+        requires may { MayTurn self.now (H.state heap.old) }
+        requires room { 9100 ≤ (H.state heap.old).room }
+        requires version { (H.shown heap.old).is_version version }
+        requires node { (H.shown heap.old).is_node at }
+        requires seen { version.number ≤ (H.state heap.old).pass.seen }
+        ensures tries { Tries self.now version.number (H.state heap.old) (H.state heap.new)
+            (H.shown heap.old) (H.shown heap.new) at result }
+        ensures lent { H.lent heap.new ≡ H.lent heap.old }
+    {
+        match self.try_commit(rt, heap, version, at) {
+            Tried::Answered(given) => Tried::Answered(given),
+            Tried::Lost(made) => {
+                back_off(heap, backoff);
+                Tried::Lost(made)
+            }
+        }
+    }
+
     /// Makes a node's tree the next version, over one that was the latest. The turn is lost where
     /// another client was faster.
     pub(crate) fn commit<H: ClientHeap, R: Wait>(
@@ -156,14 +185,16 @@ impl Journal {
         ensures spared { IsOk result }
         ensures lent { H.lent heap.new ≡ H.lent heap.old }
     {
-        match self.try_commit(rt, heap, version, at) {
+        let mut backoff = waits_over(self.log.client(), version);
+        match self.commit_or_wait(rt, heap, version, at, &mut backoff) {
             Tried::Answered(given) => Ok(Some(given)),
             Tried::Lost(_) => Ok(None),
         }
     }
 
-    /// Makes what an edit made the next version. Where another client was faster it is carried over
-    /// to that one's version, and tried again there; the turn is lost where that cannot be.
+    /// Makes what an edit made the next version. Where another client was faster it is carried
+    /// over, after a wait, to the version that is then the latest, and tried again there; the turn
+    /// is lost where that cannot be.
     fn commit_along<H: ClientHeap, R: Wait>(
         &self,
         alloc: Global,
@@ -181,8 +212,9 @@ impl Journal {
         ensures lent { H.lent heap.new ≡ H.lent heap.old }
     {
         let mut edited = edited;
+        let mut backoff = waits_over(self.log.client(), edited.opened.version);
         for _ in rt.forever() {
-            match self.try_commit(rt, heap, edited.opened.version, edited.node) {
+            match self.commit_or_wait(rt, heap, edited.opened.version, edited.node, &mut backoff) {
                 Tried::Answered(given) => return Ok(Some(given)),
                 Tried::Lost(made) => {
                     let next = carried(alloc, heap, edited.opened.root, made, along);

@@ -3,14 +3,14 @@
 //!
 //! What a session needs of the heap is the trait `ClientHeap`, in the words of trees and versions.
 //! A command is one turn: it reads the latest version, and what it makes becomes the next one, or
-//! else the draft. Where another client was faster, what was made is carried over
-//! to the newer version, or the turn begins again. The layer above may rely
-//! on this: every answer is that of the store's definitions, over each list of versions that the
-//! pass allows; the log stays in step with the pass and with the trail; and after want of memory
-//! nothing was made.
+//! else the draft. Where another client was faster, the client waits a little; then what was made
+//! is carried over to the newer version, or the turn begins again. The layer above may rely on
+//! this: every answer is that of the store's definitions, over each list of versions that the pass
+//! allows; the log stays in step with the pass and with the trail; and after want of memory nothing
+//! was made.
 //!
 //! Reading order: specs/Handles, Turns, Carries, Batches; then `held`, `heap`, `journal`, `given`,
-//! `reading`, `drafting`, `carrying`, `committing`, `batching`, `turns`.
+//! `reading`, `drafting`, `waiting`, `carrying`, `committing`, `batching`, `turns`.
 #![tactic(auto)]
 
 mod batching;
@@ -23,6 +23,7 @@ mod held;
 mod journal;
 mod reading;
 mod turns;
+mod waiting;
 
 pub use crate::heap::ClientHeap;
 pub use crate::held::{CommitRefusal, HeapFull, HeldVersion};

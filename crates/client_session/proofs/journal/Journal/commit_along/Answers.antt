@@ -24,7 +24,7 @@ loop-preserved g c =
       makes = λ command f b makes.
           makes_on was.stands lost none carries c.args.self.now command f b
           (was.makes command f b makes);
-      lent = c.carried-next.ensures.lent ∙ c.try_commit.ensures.lent ∙ was.lent;
+      lent = c.carried-next.ensures.lent ∙ c.commit_or_wait.ensures.lent ∙ was.lent;
     }
 
 pub returns-in-Answered-clause-ends : goal.returns-in-Answered-clause-ends
