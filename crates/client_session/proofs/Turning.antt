@@ -1,5 +1,5 @@
 -- How a command ends, where nothing was made before it or behind it.
-use Rattle.std.proofs.Common.{◌≡◌, ap, subst, arith, length, Option, Some, None, Result, Ok}
+use Rattle.std.proofs.Common.{◌≡◌, ◌≤◌, ap, subst, arith, length, Option, Some, None, Result, Ok}
 use Rattle.std.proofs.Common.{Err}
 use Rattle.cell_words.specs.Term.{Term}
 use Rattle.client_session.specs.Handles.{GivesBack}
