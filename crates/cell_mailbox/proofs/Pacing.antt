@@ -1,5 +1,5 @@
 -- Parts of a call that answers in time: one after the other, and what each event adds.
-use Rattle.std.proofs.Common.{◌≡◌, ◌≤◌, ◌+◌, ℕ, Bool, true, false, List, [], ◌∷◌, ◌++◌, length}
+use Rattle.std.proofs.Common.{◌≡◌, ◌≤◌, ◌+◌, ℕ, Bool, true, false, List, [], ◌∷◌, ◌++◌}
 use Rattle.std.proofs.Common.{refl, sym, ◌∙◌, ap, subst, arith, if◌then◌else◌, ◌&&◌}
 use Rattle.std.proofs.Common.{Result, Ok, Err, IfErr}
 use Rattle.std.specs.Prelude.{OnOk}
@@ -311,6 +311,11 @@ pub paces_turn : (a b c d e : Bound MailPass) → Paces 0 5 a b → Paces 5 0 b 
 paces_turn a b c d e so_far answer try cut =
     paces_then a b e 0 5 5 so_far
     (paces_then b c e 5 0 5 answer (paces_then c d e 0 5 5 try cut))
+
+-- an answer alone
+pub paces_on : (a b c : Bound MailPass) → Paces 0 5 a b → Paces 5 0 b c → Paces 0 5 a c
+paces_on a b c so_far answer =
+    paces_within a c 0 0 0 5 (omega arith) (omega arith) (paces_then a b c 0 5 0 so_far answer)
 
 -- The walk: its first read, a step, and its end.
 

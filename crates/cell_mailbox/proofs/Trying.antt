@@ -44,6 +44,35 @@ item_kept a b kept place item knows =
     item_still a b [] (kept.held ∙ sym (append-nil (held_cells a)))
     (kept_known is_fixed (length a.seat.me.own.held) a b kept) place item knows
 
+-- A look at the item behind the last that was taken, which does nothing.
+
+looked : (a c : Bound MailPass) (cells : List ℕ) → Reads [] cells a c → LostTry a c
+looked a c cells reads = record {
+  leaves = record {
+    goes = reads.goes;
+    cells = cells;
+    held = reads.holds.held;
+    known = reads.holds.known;
+  };
+  pass = reads.pass;
+}
+
+pub looked_next : (a b c : Bound MailPass) (latest next : ℕ) → FindsItem a b 0 0 latest
+    → FindsNext b c latest next → LostTry a c
+looked_next a b c latest next first second =
+    let cells = first.cell ∷ second.finds.cell ∷ [] in
+    looked a c cells
+    (reads_unasked _ cells a c
+    (reads_then _ _ (first.cell ∷ []) (second.finds.cell ∷ []) a b c first.reads
+    second.finds.reads))
+
+pub looked_last : (a b c : Bound MailPass) (latest : ℕ) → FindsItem a b 0 0 latest
+    → FindsLast b c latest → LostTry a c
+looked_last a b c latest first none =
+    looked a c (first.cell ∷ [])
+    (reads_unasked _ (first.cell ∷ []) a c
+    (reads_then _ _ (first.cell ∷ []) [] a b c first.reads none.reads))
+
 -- The anchor names an item that no item follows.
 
 pub empty_try : (a b c : Bound MailPass) (latest : ℕ) → IsIn a → FindsItem a b 0 0 latest

@@ -59,6 +59,17 @@ module _ (a c : Bound MailPass) (came : Rests a c) where
   pub same_many : length c.seat.me.own.held ≡ length a.seat.me.own.held
   same_many = let many = many_held a c [] same_held in omega (arith, many)
 
+  pub rests_then : (d : Bound MailPass) → Rests c d → Rests a d
+  rests_then d more = record {
+    returns = record {
+      goes = goes_then came.returns.goes more.returns.goes;
+      held = more.returns.held ∙ came.returns.held;
+    };
+    pass = more.pass ∙ came.pass;
+    known = known_then is_fixed (length a.seat.me.own.held) a c d came.known
+        (subst (λ (k : ℕ). StaysKnown is_fixed k c d) same_many more.known);
+  }
+
   pub rests_in : IsIn a → IsIn c
   rests_in is = in_still a c [] [] is came.returns.goes same_held
 

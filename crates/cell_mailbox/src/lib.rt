@@ -1,10 +1,12 @@
 //! A mailbox in the boxes of a collected heap: what one mutator may do with it.
 //!
 //! `send` puts an item behind the last one, `take` takes the first that nobody has taken. Each is
-//! one exchange of one field, tried again where another was faster. A walk to the last item answers
-//! handshakes, so no cycle waits for it.
+//! one exchange of one field, tried again where another was faster; a send waits before, so that
+//! many senders do not meet again. `await_item` waits for the next item. A walk to the last item
+//! and either wait answer handshakes, so no cycle waits for them.
 //!
-//! Reading order: specs/Finds, Ends, Makes, Walks; `rows`, `reading`, `taking`, `sending`.
+//! Reading order: specs/Finds, Ends, Makes, Walks; `rows`, `reading`, `waiting`, `taking`,
+//! `sending`.
 #![tactic(auto)]
 
 mod reading;
@@ -12,9 +14,11 @@ mod rows;
 mod sending;
 mod taking;
 mod turns;
+mod waiting;
 
 pub use mail_rule::{Item, MailPass, Sent};
 pub use mutator_seat::HeapFull;
 pub use rows::opening_rows;
 pub use sending::send;
 pub use taking::take;
+pub use waiting::await_item;

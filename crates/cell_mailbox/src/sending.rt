@@ -18,15 +18,18 @@ ghost use Rattle.cell_mailbox.specs.Walks.{EndsAt, Walked};
 
 use crate::reading::{read_latest, read_next, read_part};
 use crate::turns::Post;
+use crate::waiting::back_off;
 use cell_making::fill_box;
 use free_cells::Hints;
 use mail_rule::{Item, MailPass, Sent};
 use mutator_seat::{Choice, HeapFull, Moved, Mutator, Value};
 use std::marker::Brand;
 use std::sync::Wait;
+use thread_waits::Backoff;
 
 /// Sends a value, and tells its position. The box is claimed behind a walk to the last item. Where
-/// another mutator sends first, the box is given up, and a new one is claimed for the new position.
+/// another mutator sends first, the box is given up, and a new one is claimed for the new position,
+/// behind a wait of some 100 microseconds at most, 250 from the second time on.
 pub fn send<R: Wait>(
     rt: &R,
     hints: &mut Hints<'_>,
@@ -46,13 +49,14 @@ pub fn send<R: Wait>(
     ensures queue { queue_of hints.new ≡ queue_of hints.old }
 {
     let held = m.held_len();
+    let mut backoff = Backoff::new(u64::from(sender));
     for _ in rt.forever() {
         let post = try_to_send(rt, hints, m, held, sender, value);
         m.cut(held);
         match post {
             Post::Sent(position) => return Ok(position),
             Post::Full(full) => return Err(full),
-            Post::Lost => (),
+            Post::Lost => back_off(m, &mut backoff),
         }
     }
     unreachable!()

@@ -1,6 +1,6 @@
 use Rattle.std.proofs.Common.{◌∙◌, refl}
 use Rattle.cell_mailbox.proofs.Turning.{cut_post, full_all, rests_all, rests_first, sends_all}
-use Rattle.cell_mailbox.proofs.Turning.{walked_all}
+use Rattle.cell_mailbox.proofs.Turning.{rests_then, walked_all}
 use Rattle.cell_mailbox.proofs.sending.send.Goals as goal
 
 pub loop-init : goal.loop-init
@@ -26,9 +26,10 @@ returns-in-Full-clause-full g c =
 
 pub loop-preserved : goal.loop-preserved
 loop-preserved g c = (
-  rests_all c.args.m.now c.loop.m c.loop.invariant.0 c.try_to_send-post.new.m c.cut.new.self
-      c.held_len-held.result _ c.held_len-held.ensures.len c.cut.ensures.told
-      c.in-Lost.ensures.ends,
+  rests_then c.args.m.now c.cut.new.self
+      (rests_all c.args.m.now c.loop.m c.loop.invariant.0 c.try_to_send-post.new.m
+      c.cut.new.self c.held_len-held.result _ c.held_len-held.ensures.len c.cut.ensures.told
+      c.in-Lost.ensures.ends) c.back_off.new.m c.back_off.ensures.rests,
   c.try_to_send-post.ensures.queue ∙ c.loop.invariant.1,
 )
 
