@@ -1,5 +1,5 @@
 -- A sender and the receiver, each from its beginning to its end.
-use Rattle.std.proofs.Common.{◌≡◌, ℕ, Bool, false, ◌||◌, not, List, [], ◌∷◌, ◌++◌, None, sym, ◌∙◌}
+use Rattle.std.proofs.Common.{◌≡◌, ℕ, Bool, ◌||◌, not, List, [], ◌∷◌, ◌++◌, None, sym, ◌∙◌}
 use Rattle.std.proofs.Common.{ap, arith, subst}
 use Rattle.std.proofs.lemmas.List.{length-append}
 use Rattle.std.proofs.lemmas.Bool.{OnTrue_at, not-false, or_parts}

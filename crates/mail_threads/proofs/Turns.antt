@@ -10,12 +10,13 @@ use Rattle.mail_rule.specs.declared.mail_pass.MailPass.{MailPass}
 use Rattle.mutator_seat.specs.Bound.{Bound}
 use Rattle.trails.specs.Asks.{gave_at}
 use Rattle.trails.specs.Stretches.{InTurn}
-use Rattle.trails.proofs.Stretches.{turns_had}
-use Rattle.cell_mailbox.specs.Ends.{FindsEmpty, Takes, take_asks}
+use Rattle.trails.proofs.Stretches.{had_late, turns_had}
+use Rattle.cell_mailbox.specs.Ends.{FindsEmpty, Rests, Takes, take_asks}
 use Rattle.mail_threads.specs.Calls.{Drained, Emptied, IsFresh, Received, TakesOne, marks}
 use Rattle.mail_threads.specs.Calls.{with_item}
 use Rattle.mail_threads.specs.Receipts.{TurnShows}
-use Rattle.mail_threads.proofs.Going.{goes_had, returns_calm, returns_none, returns_then}
+use Rattle.mail_threads.proofs.Going.{goes_grown, goes_had, returns_calm, returns_none}
+use Rattle.mail_threads.proofs.Going.{returns_then}
 
 -- One turn.
 
@@ -49,6 +50,15 @@ pub turn_all : (answer : Option Item) (a b : Bound MailPass)
     → TakesOne answer a b
 turn_all (Some item) a b left took none = turn_took item a b left (took item refl)
 turn_all None a b left took none = turn_none a b left (none refl)
+
+-- with a wait before it
+pub turn_late : (answer : Option Item) (a b c : Bound MailPass) → Rests a b
+    → TakesOne answer b c → TakesOne answer a c
+turn_late answer a b c rests turn = record {
+  returns = returns_then [] a b c rests.returns turn.returns;
+  pass = turn.pass ∙ ap (with_item answer) rests.pass;
+  shows = had_late (TurnShows answer) (goes_grown a b rests.returns.goes) turn.shows;
+}
 
 -- One turn more.
 

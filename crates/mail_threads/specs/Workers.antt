@@ -1,7 +1,7 @@
 -- What a sender and the receiver have before they begin, and what they leave.
 -- Source: this project's.
-use Rattle.std.specs.Prelude.{ℕ, zero, suc, ◌≡◌, ◌≤◌, ◌<◌, ◌^◌, Bool, true, false, All}
-use Rattle.std.specs.Prelude.{List, [], ◌∷◌, length, Vec, vec_capacity}
+use Rattle.std.specs.Prelude.{ℕ, ◌≡◌, ◌≤◌, ◌<◌, ◌^◌, Bool, true, false, All}
+use Rattle.std.specs.Prelude.{List, [], length, Vec, vec_capacity}
 use Rattle.std.specs.declared.alloc.Global.{Global}
 use Rattle.beside_collector.specs.Places.{AllFrom}
 use Rattle.beside_collector.specs.Scripts.{script_of}

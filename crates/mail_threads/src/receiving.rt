@@ -4,9 +4,28 @@ ghost use Rattle.std.specs.Bool.{OnTrue};
 ghost use Rattle.mail_threads.specs.Calls.{Emptied, IsFresh, Received, TakesOne};
 ghost use Rattle.cell_mailbox.specs.Ends.{Returns};
 
-use cell_mailbox::{Item, MailPass, take};
+use cell_mailbox::{Item, MailPass, await_item, take};
 use mutator_seat::Mutator;
 use std::sync::Wait;
+
+/// How often the receiver looks for an item before a take at most: for some 4 milliseconds.
+const LOOKS: u32 = 1_024;
+
+/// How many looks fewer come before the take behind one that found nothing.
+const FEWER: u32 = 64;
+
+/// How many looks come before each take, however many found nothing.
+const LEAST: u32 = 1;
+
+/// How many looks come before the next take. The fewer the longer nothing came: where lines were
+/// refused the receiver has takes left when all senders are through, and is to end soon.
+fn looks_behind(looks: u32, found: bool) -> u32 {
+    if found {
+        LOOKS
+    } else {
+        looks.saturating_sub(FEWER).max(LEAST)
+    }
+}
 
 /// Takes once.
 fn take_one<R: Wait>(rt: &R, m: &mut Mutator<'_, MailPass>) -> Option<Item>
@@ -19,6 +38,19 @@ fn take_one<R: Wait>(rt: &R, m: &mut Mutator<'_, MailPass>) -> Option<Item>
     take(rt, m)
 }
 
+/// Takes once, when an item is there or so many looks found none. How many looks come before the
+/// next take it leaves in their place.
+fn take_next<R: Wait>(rt: &R, m: &mut Mutator<'_, MailPass>, looks: &mut u32) -> Option<Item>
+    requires inside { m.old.seat.me.presence.inside ≡ true }
+    requires room { length m.old.seat.me.own.held + 8 ≤ m.old.seat.me.room }
+    ensures takes { TakesOne result m.old m.new }
+{
+    await_item(m, *looks);
+    let taken = take_one(rt, m);
+    *looks = looks_behind(*looks, taken.is_some());
+    taken
+}
+
 /// Keeps an item, unless memory is wanting.
 fn keep(items: &mut Vec<Item>, item: Item) -> bool
     ensures kept { OnTrue result (items.new.items ≡ items.old.items ++ item ∷ []) }
@@ -26,7 +58,8 @@ fn keep(items: &mut Vec<Item>, item: Item) -> bool
     items.push(item).is_ok()
 }
 
-/// Takes so many times, and keeps what it takes, unless memory is wanting.
+/// Takes so many times, each time when an item is there or it looked for one long enough, and keeps
+/// what it takes, unless memory is wanting.
 pub(crate) fn take_turns<R: Wait>(
     rt: &R,
     m: &mut Mutator<'_, MailPass>,
@@ -38,8 +71,9 @@ pub(crate) fn take_turns<R: Wait>(
     ensures returns { Returns [] m.old m.new }
     ensures received { OnTrue result (Received lines items.new.items m.old m.new) }
 {
+    let mut looks = LOOKS;
     for _line in 0..lines {
-        match take_one(rt, m) {
+        match take_next(rt, m, &mut looks) {
             Some(item) => {
                 if !keep(items, item) {
                     return false;
