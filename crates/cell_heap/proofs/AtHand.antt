@@ -10,6 +10,11 @@ use Rattle.core_machine.specs.Table.{ColourOf, FieldOf, index_of}
 use Rattle.core_machine.specs.Tracing.{child_or_anchor, scan_or_none}
 use Rattle.heap_rule.specs.declared.view.View.{View}
 
+-- by equal numbers
+pub colour_lies : {word m n cell here : ℕ} → word ≡ index_of m (ColourOf cell) → m ≡ n
+    → cell ≡ here → index_of n (ColourOf here) ≡ word
+colour_lies lies many at = sym (lies ∙ (λ j. index_of (many j) (ColourOf (at j))))
+
 module _ {P : Type 0} {v : View P} {cells mutators : ℕ} {control : Control} {progress : Progress}
     (is : IsCollector v cells mutators control progress) where
   colour_at : {cell here word : ℕ} → cell ≡ here → word ≡ index_of mutators (ColourOf here)

@@ -1,6 +1,7 @@
 mod Answering
 mod AtHand
 mod Changes
+pub mod InARow
 mod Joined
 mod Kept
 mod Made

@@ -138,3 +138,9 @@ module _ {P : Type 0} where
       → inside ≡ old → new.table ≡ inside.table → AtCollectorStep fixed inside.me e number new.me
       → Made fixed old inside new e number
   made is same step = record { is = is; same = same; step = step }
+
+  -- of a seat that was given as such
+  abbrev pub made_of : {fixed : ℕ → Bool} {e : Event} {number : ℕ} (old new : SeatView P)
+      → new.table ≡ old.table → AtCollectorStep fixed old.me e number new.me
+      → Made fixed old old new e number
+  made_of old new same step = record { is = λ j. old; same = same; step = step }

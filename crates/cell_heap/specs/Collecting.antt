@@ -41,3 +41,8 @@ pub record IsCollector {P : Type 0} (me : View P) (cells mutators : ℕ) (contro
   -- once all were, the state is known
   pub knows : 0 < mutators → list_all (λ found. found) me.over ≡ true → is_some me.alone ≡ true
   pub within : IsWithin cells control progress
+
+-- a collector's view, whatever its numbers are
+abbrev pub IsCollectors : {P : Type 0} → View P → Type 0
+IsCollectors me =
+    IsCollector me me.shape.cells me.shape.mutators me.control (progress_of me.part)

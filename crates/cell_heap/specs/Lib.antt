@@ -1,3 +1,4 @@
 pub mod Collecting
 pub mod Progress
+pub mod Runs
 pub mod Telling
