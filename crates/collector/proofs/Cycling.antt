@@ -16,7 +16,7 @@ use Rattle.heap_rule.specs.Shape.{Shape}
 use Rattle.collector.specs.Answering.{AnswersWhoIsOut}
 use Rattle.collector.specs.Bound.{Bound, HaveAnswered, control_of, mutators_of, part_of}
 use Rattle.collector.specs.Bound.{takes}
-use Rattle.collector.specs.Counting.{Comes, Counts, Does, nothing, plus}
+use Rattle.collector.specs.Counting.{Comes, Counts, nothing, plus}
 use Rattle.collector.specs.Cycles.{Heard, IsAsked}
 use Rattle.collector.specs.Over.{AllOver, Hears, HearsBeside}
 use Rattle.collector.specs.Replay.{Work, count_along, fresh_work_of, spills, work_after, work_of}

@@ -1,3 +1,4 @@
+pub mod AllTold
 pub mod Answered
 pub mod Alone
 pub mod Counted

@@ -5,8 +5,8 @@ use Rattle.std.proofs.Common.{refl, sym, ◌∙◌, ap, arith, get_or-set_other,
 use Rattle.std.proofs.Common.{eq-eqb, eqb-true, ne_eqb}
 use Rattle.std.proofs.lemmas.Bool.{false≢true, le-ltb, lt-ltb}
 use Rattle.std.proofs.lemmas.List.{length-set}
-use Rattle.collector.specs.Stack.{AllBelow, Stack, down_to, has_room, pushed, top_first, top_of}
-use Rattle.collector.specs.Stack.{top_or, without}
+use Rattle.collector.specs.Stack.{AllBelow, Stack, down_to, has_room, is_empty, pushed, top_first}
+use Rattle.collector.specs.Stack.{top_of, top_or, without}
 
 pub top_first-length : (items : List ℕ) (h : ℕ) → length (top_first items h) ≡ h
 top_first-length items zero = refl
@@ -144,3 +144,15 @@ down_below n c (y ∷ ys) all = down_step n c y ys (y == c) all (down_below n c 
 pub top_below : (n x : ℕ) (xs : List ℕ) → AllBelow n xs → top_of xs ≡ Some x → x < n
 top_below n x [] all is = absurd (cc is)
 top_below n x (y ∷ ys) all is = let first : y ≡ x = cc is in omega (arith, first, all.0)
+
+-- A stack is empty where its height is 0.
+
+pub empty_of : (items : List ℕ) (h : ℕ) → is_empty (top_first items h) ≡ (h == 0)
+empty_of items zero = refl
+empty_of items (suc h) =
+    let some : suc h ≢ 0 = omega arith in
+    sym (ne_eqb (suc h) 0 some)
+
+pub nothing_waits : (xs : List ℕ) → is_empty xs ≡ true → xs ≡ []
+nothing_waits [] is = refl
+nothing_waits (x ∷ xs) is = absurd (false≢true is)

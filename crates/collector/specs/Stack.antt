@@ -1,7 +1,7 @@
 -- The mark stack: cells that wait for a look, in a room that is fixed.
 -- Source: this project's.
-use Rattle.std.specs.Prelude.{ℕ, ◌<◌, ◌==◌, Bool, List, [], ◌∷◌, length, Option, Some, None}
-use Rattle.std.specs.Prelude.{nat_lt, slice_index, zero, suc, if◌then◌else◌}
+use Rattle.std.specs.Prelude.{ℕ, ◌<◌, ◌==◌, Bool, true, false, List, [], ◌∷◌, length}
+use Rattle.std.specs.Prelude.{Option, Some, None, nat_lt, slice_index, zero, suc, if◌then◌else◌}
 
 pub record Stack : Type 0 where
   pub room : ℕ
@@ -17,6 +17,10 @@ has_room s = nat_lt (length s.cells) s.room
 -- a cell goes on top where there is room, and else is left out
 abbrev pub pushed : ℕ → Stack → Stack
 pushed c s = if has_room s then record s { cells = c ∷ s.cells } else s
+
+abbrev pub is_empty : List ℕ → Bool
+is_empty [] = true
+is_empty (x ∷ xs) = false
 
 abbrev pub top_of : List ℕ → Option ℕ
 top_of [] = None

@@ -37,7 +37,7 @@ pub(crate) struct Tried {
 }
 
 /// Whether both are so.
-fn both(one: bool, other: bool) -> bool
+pub(crate) fn both(one: bool, other: bool) -> bool
     ensures both { result ≡ (one && other) }
 {
     one && other

@@ -16,8 +16,6 @@ impl<'a, P: Keeping> Collector<'a, P> {
         ensures control { control_of self.new ≡ control_of self.old }
         ensures part { part_of self.new ≡ record (part_of self.old) { cursor = cells_of self.old } }
     {
-        for _cell in 0..self.cells() {
-            self.clear_once();
-        }
+        self.seat.clear_on(self.heap);
     }
 }

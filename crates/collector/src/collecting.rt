@@ -4,7 +4,7 @@ ghost use Rattle.std.specs.List.{list_all};
 ghost use Rattle.cell_heap.specs.Telling.{FindsKnown};
 ghost use Rattle.cell_words.specs.declared.controls.Stage.TheVariants as stage;
 ghost use Rattle.collector.specs.Bound.{cells_of, control_of, mutators_of, part_of, takes};
-ghost use Rattle.collector.specs.Stack.{emptied, has_room, looked_at, next_of, pushed};
+ghost use Rattle.collector.specs.Stack.{emptied, has_room, is_empty, looked_at, next_of, pushed};
 ghost use Rattle.core_machine.specs.declared.events.Event.TheVariants as event;
 ghost use Rattle.core_machine.specs.declared.events.Found.TheVariants as finds;
 ghost use Rattle.heap_table.specs.Seats.{IsSeatOf};
@@ -76,6 +76,13 @@ impl<'a, P: Keeping> Collector<'a, P> {
         ensures none { self.new ≡ record self.old { stack = emptied self.old.stack } }
     {
         self.stack.clear();
+    }
+
+    /// Whether no cell waits on the stack.
+    pub(crate) fn is_stack_empty(&self) -> bool
+        ensures empty { result ≡ is_empty self.now.stack.cells }
+    {
+        self.stack.is_empty()
     }
 
     /// Puts a cell on the stack, if there is room.

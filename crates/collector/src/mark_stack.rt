@@ -4,8 +4,8 @@
 //! A cell that the pass itself has come to leaves the stack without a look as long as others lie
 //! below it: a look would lead the pass on while they are still gray.
 ghost use Rattle.std.specs.Prelude.{◌≡◌, ◌≤◌, ℕ, ◌<◌, IfOk, [], length};
-ghost use Rattle.collector.specs.Stack.{AllBelow, emptied, has_room, looked_at, next_of, pushed};
-ghost use Rattle.collector.specs.Stack.{top_first, top_of, without};
+ghost use Rattle.collector.specs.Stack.{AllBelow, emptied, has_room, is_empty, looked_at, next_of};
+ghost use Rattle.collector.specs.Stack.{pushed, top_first, top_of, without};
 
 use crate::NoMemory;
 use std::alloc::Global;
@@ -89,6 +89,13 @@ impl MarkStack {
         } else {
             false
         }
+    }
+
+    /// Whether no cell waits on it.
+    pub(crate) fn is_empty(&self) -> bool
+        ensures empty { result ≡ is_empty self.now.cells }
+    {
+        self.height == 0
     }
 
     /// The cell on top.

@@ -1,12 +1,15 @@
-//! The seat's calls as this crate uses them: an event each.
-ghost use Rattle.std.specs.Prelude.{◌≡◌, ◌<◌, ◌^◌, None, true, false};
+//! The seat's calls as this crate uses them: an event each, but the last two.
+ghost use Rattle.std.specs.Prelude.{◌≡◌, ◌≤◌, ◌<◌, ◌^◌, None, true};
+ghost use Rattle.cell_heap.specs.Runs.{SeesOn, SweepsOn};
 ghost use Rattle.cell_heap.specs.Telling.{AnswersOut, AtCollectorEvent, FindsKnown};
 ghost use Rattle.cell_words.specs.declared.controls.Stage.TheVariants as stage;
-ghost use Rattle.collector.specs.Bound.{TakesColour, cells_of, control_of, may, part_of, takes};
+ghost use Rattle.collector.specs.Bound.{HaveAnswered, TakesColour, cells_of, control_of, may};
+ghost use Rattle.collector.specs.Bound.{part_of, takes};
+ghost use Rattle.collector.specs.Counting.{Does, nothing};
 ghost use Rattle.core_machine.specs.InRange.{NamesBelow};
-ghost use Rattle.core_machine.specs.Words.{is_gray};
 ghost use Rattle.core_machine.specs.declared.events.Event.TheVariants as event;
 ghost use Rattle.core_machine.specs.declared.events.Found.TheVariants as finds;
+ghost use Rattle.core_machine.specs.declared.progress.Sweeping.TheVariants as sweeping;
 
 use crate::collecting::Collector;
 use cell_words::{Colour, Field, Presence, Stage};
@@ -74,13 +77,6 @@ impl<'a, P: Keeping> Collector<'a, P> {
         self.seat.answer_out(self.heap, mutator, over)
     }
 
-    pub(crate) fn clear_once(&mut self)
-        requires may { may self.old event.ClearCell ≡ true }
-        ensures told { TakesColour self.old event.ClearCell self.new }
-    {
-        self.seat.clear(self.heap);
-    }
-
     pub(crate) fn anchor_once(&mut self)
         requires may { may self.old event.Anchor ≡ true }
         ensures told { TakesColour self.old event.Anchor self.new }
@@ -120,15 +116,6 @@ impl<'a, P: Keeping> Collector<'a, P> {
         self.seat.blacken(self.heap);
     }
 
-    pub(crate) fn sweep_look_once(&mut self) -> Colour
-        requires may { may self.old event.SweepLook ≡ true }
-        ensures told { self.new ≡ takes self.old event.SweepLook (finds.Colour result) }
-        ensures known { FindsKnown self.old.seat.me event.SweepLook (finds.Colour result) }
-        ensures not_gray { is_gray result ≡ false }
-    {
-        self.seat.sweep_look(self.heap)
-    }
-
     pub(crate) fn wipe_once(&mut self)
         requires may { may self.old event.Wipe ≡ true }
         ensures told { self.new ≡ takes self.old event.Wipe finds.Stored }
@@ -145,19 +132,35 @@ impl<'a, P: Keeping> Collector<'a, P> {
         self.seat.free(self.heap);
     }
 
-    pub(crate) fn whiten_once(&mut self)
-        requires may { may self.old event.Whiten ≡ true }
-        ensures told { self.new ≡ takes self.old event.Whiten finds.Stored }
-        ensures known { FindsKnown self.old.seat.me event.Whiten finds.Stored }
-    {
-        self.seat.whiten(self.heap);
-    }
-
     pub(crate) fn advance_once(&mut self)
         requires may { may self.old event.Advance ≡ true }
         ensures told { self.new ≡ takes self.old event.Advance finds.Stored }
         ensures known { FindsKnown self.old.seat.me event.Advance finds.Stored }
     {
         self.seat.advance(self.heap);
+    }
+
+    /// Sweeps on over cells that stay, up to a white one, whose number it gives.
+    pub(crate) fn sweep_on(&mut self) -> Option<u32>
+        requires stage { (control_of self.old).stage ≡ stage.Sweep }
+        requires fresh { (part_of self.old).sweep ≡ sweeping.Fresh }
+        requires within { (control_of self.old).position ≤ cells_of self.old }
+        ensures does { Does nothing self.old self.new }
+        ensures swept { SweepsOn result self.old.seat self.new.seat }
+    {
+        self.seat.sweep_on(self.heap)
+    }
+
+    /// Goes on with a pass by cells that are not gray, up to a gray one, whose number it gives.
+    pub(crate) fn see_on(&mut self) -> Option<u32>
+        requires stage { (control_of self.old).stage ≡ stage.Trace }
+        requires answered { HaveAnswered self.old }
+        requires scan { (part_of self.old).scan ≡ None }
+        requires within { (part_of self.old).cursor ≤ cells_of self.old }
+        ensures heap { self.new.heap ≡ self.old.heap }
+        ensures stack { self.new.stack ≡ self.old.stack }
+        ensures seen { SeesOn result self.old.seat self.new.seat }
+    {
+        self.seat.see_on(self.heap)
     }
 }

@@ -1,4 +1,5 @@
-//! Sweeping: all cells in order, the white ones wiped and freed, the black ones made white.
+//! Sweeping: all cells in order, the white ones wiped and freed, the black ones made white. What
+//! stands between two white cells is one call of the seat.
 ghost use Rattle.std.specs.Prelude.{◌≡◌, ◌<◌, ◌≤◌, ◌+◌, ◌^◌};
 ghost use Rattle.cell_words.specs.declared.controls.Stage.TheVariants as stage;
 ghost use Rattle.collector.specs.Bound.{KeepsAnswers, cells_of, control_of, part_of};
@@ -8,7 +9,6 @@ ghost use Rattle.core_machine.specs.declared.progress.Sweeping.TheVariants as sw
 ghost use Rattle.free_cells.specs.Hints.{cells_of as hinted_of, counts_of, queue_of};
 
 use crate::collecting::Collector;
-use cell_words::Colour;
 use free_cells::Hints;
 use heap_rule::Keeping;
 use std::sync::Wait;
@@ -59,55 +59,23 @@ impl<'a, P: Keeping> Collector<'a, P> {
         self.offer(rt, hints);
     }
 
-    /// Looks at the cell at the position and does what its colour asks for. It gives how many cells
-    /// were freed: one, or none.
-    fn sweep_found<R: Wait>(&mut self, rt: &R, hints: &mut Hints<'_>) -> u64
+    /// Frees the white cell at the position, offers its number, and goes on to the next.
+    fn free_next<R: Wait>(&mut self, rt: &R, hints: &mut Hints<'_>)
         requires stage { (control_of self.old).stage ≡ stage.Sweep }
-        requires fresh { (part_of self.old).sweep ≡ sweeping.Fresh }
+        requires found { (part_of self.old).sweep ≡ sweeping.Wiping 0 }
         requires hints { hinted_of (queue_of hints.old) ≡ cells_of self.old }
         requires there { (control_of self.old).position < cells_of self.old }
-        ensures does { Does (frees result) self.old self.new }
-        ensures few { result ≤ 1 }
-        ensures control { control_of self.new ≡ control_of self.old }
-        ensures done { (part_of self.new).sweep ≡ sweeping.Done }
-        ensures kept { KeepsAnswers (part_of self.old) (part_of self.new) }
-        ensures queue { queue_of hints.new ≡ queue_of hints.old }
-        ensures offered { OffersAll (freed_since self.old self.new) (counts_of hints.old) (counts_of hints.new) }
-        ensures puts { (counts_of hints.new).puts ≡ (counts_of hints.old).puts + result }
-    {
-        match self.sweep_look_once() {
-            Colour::Blue => 0,
-            Colour::White => {
-                self.free_cell(rt, hints);
-                1
-            }
-            Colour::Gray => unreachable!(),
-            Colour::Black => {
-                self.whiten_once();
-                0
-            }
-        }
-    }
-
-    /// Sweeps the cell at the position, and goes on to the next.
-    fn sweep_cell<R: Wait>(&mut self, rt: &R, hints: &mut Hints<'_>) -> u64
-        requires stage { (control_of self.old).stage ≡ stage.Sweep }
-        requires fresh { (part_of self.old).sweep ≡ sweeping.Fresh }
-        requires hints { hinted_of (queue_of hints.old) ≡ cells_of self.old }
-        requires there { (control_of self.old).position < cells_of self.old }
-        ensures does { Does (frees result) self.old self.new }
-        ensures few { result ≤ 1 }
+        ensures does { Does (frees 1) self.old self.new }
         ensures control { control_of self.new
             ≡ record (control_of self.old) { position = (control_of self.old).position + 1 } }
         ensures fresh { (part_of self.new).sweep ≡ sweeping.Fresh }
         ensures kept { KeepsAnswers (part_of self.old) (part_of self.new) }
         ensures queue { queue_of hints.new ≡ queue_of hints.old }
         ensures offered { OffersAll (freed_since self.old self.new) (counts_of hints.old) (counts_of hints.new) }
-        ensures puts { (counts_of hints.new).puts ≡ (counts_of hints.old).puts + result }
+        ensures puts { (counts_of hints.new).puts ≡ (counts_of hints.old).puts + 1 }
     {
-        let freed = self.sweep_found(rt, hints);
+        self.free_cell(rt, hints);
         self.advance_once();
-        freed
     }
 
     /// Sweeps all cells. It gives how many were freed.
@@ -127,8 +95,14 @@ impl<'a, P: Keeping> Collector<'a, P> {
         ensures puts { (counts_of hints.new).puts ≡ (counts_of hints.old).puts + result }
     {
         let mut freed = 0;
-        for _cell in 0..self.cells() {
-            freed += self.sweep_cell(rt, hints);
+        for _white in 0..self.cells() {
+            match self.sweep_on() {
+                None => return freed,
+                Some(_) => {
+                    self.free_next(rt, hints);
+                    freed += 1;
+                }
+            }
         }
         freed
     }

@@ -4,12 +4,15 @@
 //! where the stack is empty; and it still goes over all cells, since a child that found the stack
 //! full, or was shaded by a mutator, stands in no stack.
 ghost use Rattle.std.specs.Prelude.{◌≡◌, ◌<◌, ◌≤◌, ◌+◌, ◌*◌, ◌^◌, ◌==◌, ◌&&◌, Some, None, true, false};
+ghost use Rattle.std.specs.Prelude.{[], nat_lt};
 ghost use Rattle.cell_words.specs.declared.controls.Stage.TheVariants as stage;
 ghost use Rattle.collector.specs.Bound.{HaveAnswered, KeepsTracing, cells_of, control_of, part_of, scan_at};
 ghost use Rattle.collector.specs.Counting.{CountsOn, Does, TracesAtMost, is_traced};
 ghost use Rattle.collector.specs.Looking.{counted, scan_of};
+ghost use Rattle.collector.specs.Stack.{is_empty};
 ghost use Rattle.core_machine.specs.Collector.{restarted};
 
+use crate::asking::both;
 use crate::collecting::Collector;
 use crate::report::CycleReport;
 use cell_words::{Colour, Field};
@@ -102,7 +105,37 @@ impl<'a, P: Keeping> Collector<'a, P> {
         if cursor < self.cells() { cursor } else { 0 }
     }
 
-    /// Looks at the next cell: the one on top of the stack, or the one that the pass has come to.
+    /// Whether the pass goes on: no cell waits on the stack, and it has not come to the end.
+    fn goes_on(&self) -> bool
+        ensures goes { result ≡ (is_empty self.now.stack.cells
+            && nat_lt (part_of self.now).cursor (cells_of self.now)) }
+    {
+        let waits_none = self.is_stack_empty();
+        let further = self.cursor() < self.cells();
+        both(waits_none, further)
+    }
+
+    /// Looks at the cells that the pass comes to, up to a gray one, or to the end of the pass.
+    fn look_on(&mut self) -> Looked
+        requires stage { (control_of self.old).stage ≡ stage.Trace }
+        requires answered { HaveAnswered self.old }
+        requires empty { self.old.stack.cells ≡ [] }
+        requires there { (part_of self.old).cursor < cells_of self.old }
+        requires scan { (part_of self.old).scan ≡ None }
+        ensures does { Does (counted result) self.old self.new }
+        ensures control { control_of self.new ≡ control_of self.old }
+        ensures kept { KeepsTracing (part_of self.old) (part_of self.new) }
+        ensures scan { (part_of self.new).scan ≡ scan_of result }
+        ensures within { (part_of self.new).cursor ≤ cells_of self.new }
+    {
+        match self.see_on() {
+            Some(cell) => Looked::Gray(cell),
+            None => Looked::Other(true),
+        }
+    }
+
+    /// Looks at the next cell: the one on top of the stack, or the one that the pass has come to;
+    /// and where nothing waits, at those behind it too, up to a gray one.
     fn look_next(&mut self) -> Looked
         requires stage { (control_of self.old).stage ≡ stage.Trace }
         requires answered { HaveAnswered self.old }
@@ -116,6 +149,9 @@ impl<'a, P: Keeping> Collector<'a, P> {
         ensures scan { (part_of self.new).scan ≡ scan_of result }
         ensures within { (part_of self.new).cursor ≤ cells_of self.new }
     {
+        if self.goes_on() {
+            return self.look_on();
+        }
         let at = self.at();
         let cell = self.next_besides(at);
         let ends = is_last(at, cell, self.cells());

@@ -1,10 +1,12 @@
-use Rattle.std.proofs.Common.{ℕ, false, refl, ◌∙◌, ap}
+use Rattle.std.proofs.Common.{ℕ, false, refl, sym, ◌∙◌, ap}
+use Rattle.std.proofs.lemmas.Bool.{and_parts, ltb-true}
 use Rattle.cell_words.specs.declared.colours.Colour.TheVariants as colour
 use Rattle.core_machine.specs.Collector.{restarted}
 use Rattle.core_machine.specs.declared.events.Found.TheVariants as finds
 use Rattle.collector.specs.Bound.{Bound, cells_of, part_of}
 use Rattle.collector.specs.Stack.{next_of}
 use Rattle.collector.proofs.Scanning.{does_look, last_is}
+use Rattle.collector.proofs.Stacked.{nothing_waits}
 use Rattle.collector.proofs.collecting.Collector.look_next.Goals as goal
 
 pub returns-in-Blue-clause-does : goal.returns-in-Blue-clause-does
@@ -53,3 +55,14 @@ returns-in-Gray-clause-does g c =
     c.next_besides-cell.ensures.left c.in-Gray.ensures.told c.in-Gray.ensures.known
     (c.next_besides-cell.ensures.next
     ∙ ap (λ (k : ℕ). next_of k c.args.self.now.stack.cells) c.at-at.ensures.at) refl
+
+pub look_on-requires : goal.look_on-requires
+look_on-requires g c =
+    let goes = and_parts _ _ (sym c.goes_on.ensures.goes ∙ c.if-goes_on.true) in
+    record {
+      stage = c.requires.stage;
+      answered = c.requires.answered;
+      empty = nothing_waits c.args.self.now.stack.cells goes.0;
+      there = ltb-true _ _ goes.1;
+      scan = c.requires.scan;
+    }
