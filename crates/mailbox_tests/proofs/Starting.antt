@@ -18,7 +18,7 @@ use Rattle.mail_rule.proofs.Openings.{firsts, opened}
 use Rattle.mutator_seat.specs.Bound.{Bound, held_cells, takes}
 use Rattle.mutator_seat.specs.declared.full.HeapFull.{HeapFull}
 use Rattle.trails.specs.Asks.{Ask}
-use Rattle.cell_mailbox.specs.Ends.{FindsEmpty, FindsFullHeap, Returns, Sends, Takes}
+use Rattle.cell_mailbox.specs.Ends.{FindsEmpty, FindsFullHeap, Rests, Returns, Sends, Takes}
 use Rattle.mailbox_tests.specs.Ready.{IsNew, IsReady}
 
 pub opens : (cells mutators setting : ℕ) (rows : List (List Field)) → rows ≡ first_rows
@@ -86,4 +86,11 @@ taken_ready number sends a b ready (Some item) took none =
 taken_ready number sends a b ready None took none =
     still_ready number sends sends _ a b ready none.returns
     (let same = ap (λ (p : MailPass). length p.sends) none.pass in
+    let few = ready.few in omega (arith, same, few))
+
+pub waited_ready : (number sends : ℕ) (a b : Bound MailPass) → IsReady number sends a
+    → Rests a b → IsReady number sends b
+waited_ready number sends a b ready rests =
+    still_ready number sends sends [] a b ready rests.returns
+    (let same = ap (λ (p : MailPass). length p.sends) rests.pass in
     let few = ready.few in omega (arith, same, few))

@@ -1,8 +1,8 @@
-//! A send and a take of a mutator whose number is known, and how much it has sent.
+//! A send, a take and a wait of a mutator whose number is known, and how much it has sent.
 ghost use Rattle.std.specs.Prelude.{◌≤◌, ◌+◌};
 ghost use Rattle.mailbox_tests.specs.Ready.{IsReady};
 
-use cell_mailbox::{HeapFull, Item, MailPass, send, take};
+use cell_mailbox::{HeapFull, Item, MailPass, await_item, send, take};
 use free_cells::Hints;
 use mutator_seat::Mutator;
 use std::sync::Wait;
@@ -36,4 +36,13 @@ pub(crate) fn get<R: Wait>(
 {
     let _ = (number, before);
     take(rt, m)
+}
+
+/// Looks three times at most.
+pub(crate) fn wait(m: &mut Mutator<'_, MailPass>, number: u32, before: u64)
+    requires ready { IsReady number before m.old }
+    ensures ready { IsReady number before m.new }
+{
+    let _ = (number, before);
+    await_item(m, 3);
 }

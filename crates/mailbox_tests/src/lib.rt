@@ -2,7 +2,7 @@
 //! threads: outcomes that were worked out by hand, and one that is checked against what a run
 //! promises.
 //!
-//! Reading order: `opening`, `calling`, `by_turns`; `scripts`, `reading`, `runs`.
+//! Reading order: `opening`, `calling`, `by_turns`, `waits`; `scripts`, `reading`, `runs`.
 #![tactic(auto)]
 
 #[cfg(test)]
@@ -15,3 +15,5 @@ mod reading;
 mod runs;
 #[cfg(test)]
 mod scripts;
+#[cfg(test)]
+mod waits;
