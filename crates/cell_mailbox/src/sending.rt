@@ -29,7 +29,7 @@ use thread_waits::Backoff;
 
 /// Sends a value, and tells its position. The box is claimed behind a walk to the last item. Where
 /// another mutator sends first, the box is given up, and a new one is claimed for the new position,
-/// behind a wait of some 100 microseconds at most, 250 from the second time on.
+/// behind a wait: of some 128 microseconds at most, and from the second time on of some 256.
 pub fn send<R: Wait>(
     rt: &R,
     hints: &mut Hints<'_>,
