@@ -48,14 +48,15 @@ pub record Unanswered (c : Command) (s : Session) (m : Bound Pass) (t : Session)
   pub lost : Lost (client_state s m) (client_state t n)
   pub untouched : is_reading c ≡ false → IsUntouched s m t n
 
--- Nothing was collected: no cell was claimed, as many places are held, and there is room for as
--- many private records.
+-- Nothing was collected: no cell was claimed, as many places are held, and there is room for no
+-- fewer private records. There may be room for more, since a turn gives back what is not the
+-- draft's.
 pub record CollectsNone (s : Session) (m : Bound Pass) (t : Session) (n : Bound Pass)
     : Type 0 where
   pub claims : n.seat.me.own.claims ≡ m.seat.me.own.claims
   pub held : length n.seat.me.own.held ≡ length m.seat.me.own.held
-  pub spare : t.nursery.heap.room - length t.nursery.heap.records
-      ≡ s.nursery.heap.room - length s.nursery.heap.records
+  pub spare : s.nursery.heap.room - length s.nursery.heap.records
+      ≤ t.nursery.heap.room - length t.nursery.heap.records
 
 -- the held list has at most as many places as before, or at most the anchor's and one
 abbrev pub HoldsNoMore : Bound Pass → Bound Pass → Type 0
