@@ -1,6 +1,6 @@
 //! A mailbox in the boxes of a collected heap: what one mutator may do with it.
 //!
-//! `send` puts an item behind the last one, `take` takes the first that nobody has taken. Each is
+//! `send` puts an item after the last one, `take` takes the first that nobody has taken. Each is
 //! one exchange of one field, tried again where another was faster; a send waits before, so that
 //! many senders do not meet again. `await_item` waits for the next item. A walk to the last item
 //! and either wait answer handshakes, so no cycle waits for them.

@@ -27,9 +27,9 @@ use std::marker::Brand;
 use std::sync::Wait;
 use thread_waits::Backoff;
 
-/// Sends a value, and tells its position. The box is claimed behind a walk to the last item. Where
+/// Sends a value, and tells its position. The box is claimed after a walk to the last item. Where
 /// another mutator sends first, the box is given up, and a new one is claimed for the new position,
-/// behind a wait: of some 128 microseconds at most, and from the second time on of some 256.
+/// after a wait: of some 128 microseconds at most, and from the second time on of some 256.
 pub fn send<R: Wait>(
     rt: &R,
     hints: &mut Hints<'_>,
@@ -62,7 +62,7 @@ pub fn send<R: Wait>(
     unreachable!()
 }
 
-/// Tries once to put a new box behind the last one.
+/// Tries once to put a new box after the last one.
 fn try_to_send<R: Wait>(
     rt: &R,
     hints: &mut Hints<'_>,
@@ -102,7 +102,7 @@ fn try_to_send<R: Wait>(
     }
 }
 
-/// Walks to the last item, which is then held behind all that was held before. Its position is
+/// Walks to the last item, which is then held after all that was held before. Its position is
 /// told.
 fn find_last<R: Wait>(rt: &R, m: &mut Mutator<'_, MailPass>, held: usize) -> u64
     requires inside { IsIn m.old }

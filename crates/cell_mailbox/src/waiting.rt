@@ -1,4 +1,4 @@
-//! Waits for another mutator: for an item, and behind an exchange that was lost. Handshakes are
+//! Waits for another mutator: for an item, and after an exchange that was lost. Handshakes are
 //! answered between two pieces of a wait, so no cycle waits for it.
 ghost use Rattle.std.specs.Prelude.{◌≡◌, ◌<◌, ◌≤◌, ◌+◌, length, true};
 ghost use Rattle.held_places.specs.Calls.{IsIn};
@@ -31,7 +31,7 @@ pub fn await_item(m: &mut Mutator<'_, MailPass>, looks: u32)
     }
 }
 
-/// Whether an item follows the one that was taken last. The boxes that it read are held behind.
+/// Whether an item follows the one that was taken last. The boxes that it read stay held.
 fn sees_item(m: &mut Mutator<'_, MailPass>) -> bool
     requires inside { IsIn m.old }
     requires room { length m.old.seat.me.own.held + 2 < m.old.seat.me.room }
@@ -45,7 +45,7 @@ fn sees_item(m: &mut Mutator<'_, MailPass>) -> bool
     }
 }
 
-/// Waits behind an exchange that another mutator made first.
+/// Waits after an exchange that another mutator made first.
 pub(crate) fn back_off(m: &mut Mutator<'_, MailPass>, backoff: &mut Backoff)
     requires inside { m.old.seat.me.presence.inside ≡ true }
     ensures rests { Rests m.old m.new }

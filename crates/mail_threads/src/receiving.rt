@@ -11,7 +11,7 @@ use std::sync::Wait;
 /// How often the receiver looks for an item before a take at most: for some 4 milliseconds.
 const LOOKS: u32 = 1_024;
 
-/// How many looks fewer come before the take behind one that found nothing.
+/// How many looks fewer come before the take after one that found nothing.
 const FEWER: u32 = 64;
 
 /// How many looks come before each take, however many found nothing.
@@ -19,7 +19,7 @@ const LEAST: u32 = 1;
 
 /// How many looks come before the next take. The fewer the longer nothing came: where lines were
 /// refused the receiver has takes left when all senders are through, and is to end soon.
-fn looks_behind(looks: u32, found: bool) -> u32 {
+fn looks_after(looks: u32, found: bool) -> u32 {
     if found {
         LOOKS
     } else {
@@ -47,7 +47,7 @@ fn take_next<R: Wait>(rt: &R, m: &mut Mutator<'_, MailPass>, looks: &mut u32) ->
 {
     await_item(m, *looks);
     let taken = take_one(rt, m);
-    *looks = looks_behind(*looks, taken.is_some());
+    *looks = looks_after(*looks, taken.is_some());
     taken
 }
 
