@@ -3,7 +3,9 @@ pub mod Calls
 pub mod Carrying
 pub mod Commits
 pub mod Copies
+pub mod Cuts
 pub mod Drafts
+pub mod Handshakes
 pub mod Keeping
 pub mod Lending
 pub mod Pairs

@@ -1,6 +1,6 @@
--- What an ageing of the private heap leaves of a node.
+-- What an ageing of the private heap, or a cut of it, leaves of a node.
 -- Source: this project's.
-use Rattle.std.specs.Prelude.{ℕ, ◌≡◌, List}
+use Rattle.std.specs.Prelude.{ℕ, ◌≡◌, ◌+◌, List}
 use Rattle.client_records.specs.declared.at.NodeAt.{NodeAt}
 use Rattle.client_records.specs.declared.at.NodeAt.TheVariants as at
 use Rattle.client_records.specs.Records.{stands_on, term_at}
@@ -12,6 +12,11 @@ use Rattle.minor_heap.specs.Nursery.{Stands}
 abbrev pub is_there : List (List MinorField) → NodeAt → Type 0
 is_there records (at.Shared place) = Unit {0}
 is_there records (at.Minor r) = Stands records r
+
+-- how many private records there are up to the node's own; none, if it is a shared one
+abbrev pub up_to : NodeAt → ℕ
+up_to (at.Shared place) = 0
+up_to (at.Minor r) = r.number + 1
 
 -- Of the private records before and behind it, and of the node as it was named and as it is: it
 -- stands on the places on which it stood, whatever is known of them, and says what it said.

@@ -3,6 +3,7 @@ ghost use Rattle.std.specs.Prelude.{◌≡◌, ◌≤◌};
 ghost use Rattle.client_heap.specs.Once.{sound_once};
 ghost use Rattle.client_heap.specs.Sound.{IsSound};
 
+use crate::cutting::cut_newer;
 use crate::seat::StoreSeat;
 use aged_nursery::AgedNursery;
 use client_session::{ClientHeap, CommitRefusal, HeapFull, HeldVersion};
@@ -238,5 +239,10 @@ impl<'a, M: StoreSeat<Q>, Q> ClientHeap for OwnHeap<'a, M, Q> {
 
     fn settle(&mut self) {
         self.m.cut_back(self.nursery.heap(), self.base);
+        cut_newer(self.nursery, self.draft);
+    }
+
+    fn safe_point(&mut self) {
+        self.m.safe_point(self.nursery.heap());
     }
 }

@@ -444,6 +444,18 @@ impl<'h, 'q> StoreSeat<Hints<'q>> for Mutator<'h, Documents> {
         making::make_room_for(rt, hints, self, nursery, promoter, draft, base, tree)
     }
 
+    fn safe_point(&mut self, minor: &MinorHeap)
+        requires inside { self.old.seat.me.presence.inside ≡ true }
+        ensures carries { Carries (length self.old.seat.me.own.held)
+            self.old self.new minor.now minor.now }
+        ensures held { length self.new.seat.me.own.held
+            ≡ length self.old.seat.me.own.held }
+        ensures pass { self.new.seat.me.pass ≡ self.old.seat.me.pass }
+        ensures claims { self.new.seat.me.own.claims ≡ self.old.seat.me.own.claims }
+    {
+        places::safe_point(self, minor);
+    }
+
     fn cut_back(&mut self, minor: &MinorHeap, places: usize)
         requires inside { self.old.seat.me.presence.inside ≡ true }
         requires some { 1 ≤ places }

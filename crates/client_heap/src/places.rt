@@ -1,4 +1,4 @@
-//! Giving places of the held list back, and comparing two.
+//! Giving places of the held list back, comparing two, and answering handshakes, which leaves all.
 ghost use Rattle.std.specs.Prelude.{ℕ, ◌≡◌, ◌<◌, ◌≤◌, ◌+◌, ◌==◌, length, true};
 ghost use Rattle.client_heap.specs.Carries.{Carries};
 ghost use Rattle.client_heap.specs.Shows.{node_term};
@@ -47,6 +47,18 @@ pub(crate) fn is_same(
     let _held = m.held_len();
     let _records = minor.len();
     m.is_same(first, second)
+}
+
+/// Answers a handshake, if one is asked for.
+pub(crate) fn safe_point(m: &mut Mutator<'_, Documents>, minor: &MinorHeap)
+    requires inside { m.old.seat.me.presence.inside ≡ true }
+    ensures carries { Carries (length m.old.seat.me.own.held) m.old m.new minor.now minor.now }
+    ensures held { length m.new.seat.me.own.held ≡ length m.old.seat.me.own.held }
+    ensures pass { m.new.seat.me.pass ≡ m.old.seat.me.pass }
+    ensures claims { m.new.seat.me.own.claims ≡ m.old.seat.me.own.claims }
+{
+    let _records = minor.len();
+    let _answered = m.answer();
 }
 
 /// Holds the cell of a place behind the anchor, and nothing else.

@@ -414,6 +414,17 @@ pub trait StoreSeat<Q> {
         ensures promoter { promoter.new ≡ promoter.old }
         ensures queue { queue hints.new ≡ queue hints.old };
 
+    /// Answers a handshake, if one is asked for.
+    fn safe_point(&mut self, minor: &MinorHeap)
+        requires inside { (bound self.old).seat.me.presence.inside ≡ true }
+        ensures carries { Carries (length (bound self.old).seat.me.own.held)
+            (bound self.old) (bound self.new) minor.now minor.now }
+        ensures held { length (bound self.new).seat.me.own.held
+            ≡ length (bound self.old).seat.me.own.held }
+        ensures pass { (bound self.new).seat.me.pass ≡ (bound self.old).seat.me.pass }
+        ensures claims { (bound self.new).seat.me.own.claims
+            ≡ (bound self.old).seat.me.own.claims };
+
     /// Gives back all places but the first so many.
     fn cut_back(&mut self, minor: &MinorHeap, places: usize)
         requires inside { (bound self.old).seat.me.presence.inside ≡ true }

@@ -185,3 +185,62 @@ fn what_ages_is_counted_until_it_is_promoted(rt: HostRuntime) -> Result<(), Fail
     assert_eq!(rt; age_chain(rt.alloc())?, wanted);
     Ok(())
 }
+
+/// How many records of a chain of four stand and how many are counted as aged: when the third has
+/// aged, when one more is made, when this one is cut off, when one that aged is too, when one more
+/// is made in its place, and when none is left.
+#[derive(Clone, Copy, Debug, PartialEq, Eq)]
+struct Cut {
+    newest: Result<MinorRef, MinorFull>,
+    third: Option<(u32, u32)>,
+    fourth: Result<MinorRef, MinorFull>,
+    more: (u32, u32),
+    as_aged: (u32, u32),
+    fewer: (u32, u32),
+    next: Result<MinorRef, MinorFull>,
+    in_place: (u32, u32),
+    none: (u32, u32),
+}
+
+fn cut_chain(alloc: Global) -> Result<Cut, NoMemory> {
+    let mut nursery = AgedNursery::with_room(alloc, 4)?;
+    let newest = make_chain(nursery.heap_mut());
+    let third = age_one(&mut nursery, 2);
+    let fourth = nursery.heap_mut().make([Num(9), Null, Null, Null, Null]);
+    let more = lengths(&nursery);
+    nursery.cut_back(3);
+    let as_aged = lengths(&nursery);
+    nursery.cut_back(2);
+    let fewer = lengths(&nursery);
+    let next = nursery.heap_mut().make([Num(9), Null, Null, Null, Null]);
+    let in_place = lengths(&nursery);
+    nursery.cut_back(0);
+    Ok(Cut {
+        newest,
+        third,
+        fourth,
+        more,
+        as_aged,
+        fewer,
+        next,
+        in_place,
+        none: lengths(&nursery),
+    })
+}
+
+#[test]
+fn what_is_made_behind_a_cut_has_not_aged(rt: HostRuntime) -> Result<(), Fail> {
+    let wanted = Cut {
+        newest: Ok(MinorRef { number: 3 }),
+        third: Some((3, 3)),
+        fourth: Ok(MinorRef { number: 3 }),
+        more: (4, 3),
+        as_aged: (3, 3),
+        fewer: (2, 2),
+        next: Ok(MinorRef { number: 2 }),
+        in_place: (3, 2),
+        none: (0, 0),
+    };
+    assert_eq!(rt; cut_chain(rt.alloc())?, wanted);
+    Ok(())
+}

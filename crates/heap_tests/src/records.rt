@@ -1,5 +1,5 @@
 use minor_heap::MinorField::{Minor, Null, Num, Shared};
-use minor_heap::{MinorFull, MinorHeap, MinorRef, NoMemory, RecordSpan};
+use minor_heap::{MinorField, MinorFull, MinorHeap, MinorRef, NoMemory, RecordSpan};
 use std::alloc::Global;
 use std::test::Fail;
 
@@ -179,5 +179,60 @@ fn marks_lie_in_a_span_and_are_taken_back(rt: HostRuntime) -> Result<(), Fail> {
         marks: Some((span, set, none)),
     };
     assert_eq!(rt; mark_and_unmark(rt.alloc())?, wanted);
+    Ok(())
+}
+
+/// The last field of the third of three records.
+fn last_of_three(heap: &MinorHeap) -> Option<MinorField> {
+    if heap.len() != 3 {
+        return None;
+    }
+    Some(heap.field(MinorRef { number: 2 }, 4))
+}
+
+/// What a heap with room for six records shows when five are made and all go but three, when one
+/// more is made then, and when five are to stay of those four.
+#[derive(Clone, Copy, Debug, PartialEq, Eq)]
+struct Truncated {
+    made: Result<[MinorRef; 3], MinorFull>,
+    len: u32,
+    spare: u32,
+    third: Option<MinorField>,
+    next: Result<MinorRef, MinorFull>,
+    all: u32,
+}
+
+fn truncate_chain(alloc: Global) -> Result<Truncated, NoMemory> {
+    let mut heap = MinorHeap::with_room(alloc, 6)?;
+    let made = make_chain(&mut heap);
+    heap.truncate(3);
+    let (len, spare) = (heap.len(), heap.spare());
+    let third = last_of_three(&heap);
+    let next = heap.make([Num(9), Null, Null, Null, Null]);
+    heap.truncate(5);
+    Ok(Truncated {
+        made,
+        len,
+        spare,
+        third,
+        next,
+        all: heap.len(),
+    })
+}
+
+#[test]
+fn the_first_records_stay_and_the_next_one_follows_them(rt: HostRuntime) -> Result<(), Fail> {
+    let r0 = MinorRef { number: 0 };
+    let r2 = MinorRef { number: 2 };
+    let r4 = MinorRef { number: 4 };
+    let wanted = Truncated {
+        made: Ok([r0, r2, r4]),
+        len: 3,
+        spare: 3,
+        third: Some(Minor(r0)),
+        next: Ok(MinorRef { number: 3 }),
+        all: 4,
+    };
+    assert_eq!(rt; truncate_chain(rt.alloc())?, wanted);
     Ok(())
 }
