@@ -2,13 +2,14 @@
 //! stand to the close, and the outcomes that stand on every schedule.
 //!
 //! Reading order: `counter`, `working`, `closing`, `threads`;
-//! `collecting`, `unlinked`, `schedule`; `storing`, `fetching`, `sameness`, `stores`.
+//! `collecting`, `unlinked`, `in_runs`, `schedule`; `storing`, `fetching`, `sameness`, `stores`.
 #![tactic(auto)]
 
 mod closing;
 mod collecting;
 mod counter;
 mod fetching;
+mod in_runs;
 mod sameness;
 #[cfg(test)]
 mod schedule;

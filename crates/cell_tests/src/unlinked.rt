@@ -11,7 +11,7 @@ use heap_rule::NoRule;
 use std::alloc::Global;
 
 /// What a new heap has not.
-const NOTHING: Flags = Flags {
+pub(crate) const NOTHING: Flags = Flags {
     answered: false,
     marked: false,
     polled: false,
