@@ -26,8 +26,8 @@ brackets the least and the greatest: items a second by the clock, nanoseconds of
 all threads an item, and the ratios of the times to those of SegQueue (or mpsc) within each round. A
 mailbox may be full, and the last column says how many of the lines were refused.
 
-A send walks over all items that nobody has taken, and the receiver has a turn for each line and no
-more before the senders are through. So docheap's time an item grows with LINES.
+A send walks over all items that nobody has taken. The receiver waits for an item before each of its
+takes, so these are few.
 """
 import argparse, os, shutil, statistics, subprocess, sys, tempfile, time
 
