@@ -23,16 +23,16 @@ fn a_wait_takes_its_time(rt: HostRuntime) {
 fn who_lost_waits_at_random(rt: HostRuntime) {
     let mut first = Backoff::new(1);
     let mut second = Backoff::new(2);
-    let mut differ = 0;
-    let mut long = 0;
+    let mut differ = 0u32;
+    let mut long = 0u32;
     assert!(rt; first.pieces() < 32 && second.pieces() < 32);
     for _loss in 0..100 {
         let pieces = first.pieces();
         if pieces != second.pieces() {
-            differ += 1;
+            differ = differ.saturating_add(1);
         }
         if pieces >= 32 {
-            long += 1;
+            long = long.saturating_add(1);
         }
     }
     assert!(rt; differ > 90, "{differ}");
