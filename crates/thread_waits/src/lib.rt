@@ -5,7 +5,7 @@
 //! to a word of the thread's own, some 8 nanoseconds each everywhere. It comes in pieces of some 4
 //! microseconds, so that whoever waits can answer a handshake after each.
 //!
-//! No contract speaks of time: that a piece takes as long as it should is tested (text_tests).
+//! No contract speaks of time: that a piece takes as long as it should is tested (device_tests).
 //!
 //! Reading order: `pieces`, `backoff`.
 #![tactic(auto)]
