@@ -1,5 +1,5 @@
 -- What a load of a field leaves of what a write of it needs: the places stand, what was found is
--- held behind them, and what was known to be sealed or a box is known to be so.
+-- held after them, and what was known to be sealed or a box is known to be so.
 use Rattle.std.proofs.Common.{◌≡◌, ◌<◌, ◌==◌, ◌&&◌, ◌^◌, ℕ, zero, suc, Bool}
 use Rattle.std.proofs.Common.{true, false, List, [], ◌∷◌, ◌++◌, length, get_or, refl, sym}
 use Rattle.std.proofs.Common.{ap, subst, arith, inl, inr, if◌then◌else◌}

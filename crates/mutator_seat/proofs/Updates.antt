@@ -59,7 +59,7 @@ module _ {P : Type 0} where
       })
       (looked_at a b control told) marks
 
-  -- the value that was expected is the same behind the look and the marks
+  -- the value that was expected is the same after the look and the marks
   pub other_as : (m at : Bound P) (old new : Value) (found : Field)
       → Calm (LookAndMarks m.seat.me.number m.seat.me.presence.status old new) m at
       → same_field found (field_at at.seat.me.own.held old) ≡ false
@@ -73,7 +73,8 @@ module _ {P : Type 0} (holds : Map → List P → Type 0) (fixed : ℕ → Bool)
     (old new : Value)
     (calm : Calm (LookAndMarks m.seat.me.number m.seat.me.presence.status old new) m at) where
   pub updated : (found : Field)
-      → AtEvent holds fixed at.seat.me (write_of at place f old new) next (finds.Field found) seat.me
+      → AtEvent holds fixed at.seat.me (write_of at place f old new) next (finds.Field found)
+      seat.me
       → seat.table ≡ at.seat.table
       → Updated holds fixed next m place f old new found (record { heap = at.heap; seat = seat })
   updated found step table = record {

@@ -1,4 +1,4 @@
--- What a write needs stands behind its look and its marks: no cell moved, and the marks are there.
+-- What a write needs stands after its look and its marks: no cell moved, and the marks are there.
 use Rattle.std.proofs.Common.{◌≡◌, ◌<◌, ◌==◌, ◌&&◌, ℕ, Bool, true, false, List, []}
 use Rattle.std.proofs.Common.{◌∷◌, length, map, get_or, refl, sym, ◌∙◌, ap, subst}
 use Rattle.std.proofs.Common.{⊎_elim, if◌then◌else◌, is_some, Option, None, Some}
@@ -87,7 +87,7 @@ marked_now : (b : Bool) (p : Held) → b ≡ true
 marked_now b p is =
     subst (λ (c : Bool). (if c then record p { marked = true } else p).marked ≡ true) (sym is) refl
 
--- the cell at a place is marked behind its mark
+-- the cell at a place is marked after its mark
 pub value_marked : (held : List Held) (place : ℕ) → place < length held
     → is_marked_value (map (mark_of (cell_at held place)) held)
     (field_at (map (mark_of (cell_at held place)) held) (values.Held place)) ≡ true

@@ -43,14 +43,14 @@ seeks _ found = false
 abbrev pub Seeking : List Taken → Type 0
 Seeking events = list_all (λ (t : Taken). seeks t.event t.found) events ≡ true
 
--- a handshake is answered where one is asked for, and behind that comes this look
+-- a handshake is answered where one is asked for, and after that comes this look
 pub record Ends (number : ℕ) (own : Status) (control : Control) (events : List Taken) : Type 0 where
   pub before : List Taken
   pub answered : Bool
   pub handshake : LookAndAnswer number own answered before
   pub split : events ≡ before ++ look_of number control ∷ []
 
--- A look decides, where so many cycles were begun before, and behind it each cell was found used.
+-- A look decides, where so many cycles were begun before, and after it each cell was found used.
 pub record FullBehind (number cells : ℕ) (begun : ℕ) (full : HeapFull) (events : List Taken)
     : Type 0 where
   pub between : List Taken
@@ -83,7 +83,8 @@ module _ {P : Type 0} where
   -- one claim of this cell, whatever it found
   abbrev pub Tried : ℕ → Bound P → Bound P → Type 0
   Tried cell old new =
-      (found : Colour) × (new ≡ takes old (event.Claim old.seat.me.number cell) (finds.Colour found))
+      (found : Colour)
+      × (new ≡ takes old (event.Claim old.seat.me.number cell) (finds.Colour found))
 
   -- a look, such a claim, and what followed
   pub record TriedFirst (cell : ℕ) (old new : Bound P) : Type 0 where

@@ -84,7 +84,7 @@ module _ {P : Type 0} where
     pub presence : at.seat.me.presence ≡ loaded.seat.me.presence
     pub write : Stepped holds fixed (writes at) next found at after
 
-  -- the places that were held before are kept behind it
+  -- the places that were held before are kept after it
   pub record Rewritten (holds : Map → List P → Type 0) (fixed : ℕ → Bool) (wanted : Barrier)
       (loads : Event) (reads : Learned → Found → P → P) (seen : Field) (writes : Bound P → Event)
       (next : Learned → Found → P → P) (found : Found) (new : Value)

@@ -1,5 +1,5 @@
 /// Why no cell was claimed: a look of this call found the collector off duty, or two whole cycles
-/// ended that had begun in this call; and behind this look each cell was found used.
+/// ended that had begun in this call; and after this look each cell was found used.
 #[derive(Clone, Copy, Debug, PartialEq, Eq)]
 pub struct HeapFull {
     /// whether that look found the collector off duty

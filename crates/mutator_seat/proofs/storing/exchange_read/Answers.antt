@@ -102,8 +102,8 @@ write-requires-clause-rule g c =
     let loads = read_loads c.args.place c.args.field c.read-found.result c.args.new told.0
     c.requires.may told.1 told.2 in
     let kept = c.mark_wanted.ensures.calm.kept in
-    let stands = field_same at.seat.me.own.held loaded.seat.me.own.held kept.held c.read-found.result
-    ∙ loads.stands in
+    let stands = field_same at.seat.me.own.held loaded.seat.me.own.held kept.held
+    c.read-found.result ∙ loads.stands in
     subst (λ (x : Field). Picks g.P.Keeping.holds g.P.Keeping.fixed g.C.Choice.next at.seat.me
     (event.Write at.seat.me.number c.args.place c.args.field x
     (field_at at.seat.me.own.held c.args.new))) (sym stands)
