@@ -1,4 +1,4 @@
--- A store of a field: what it needs stands behind its look, its load and its marks, and what it
+-- A store of a field: what it needs stands after its look, its load and its marks, and what it
 -- leaves.
 use Rattle.std.proofs.Common.{◌≡◌, ◌<◌, ◌≤◌, ℕ, Bool, true, false, List, [], ◌∷◌, ◌++◌, length}
 use Rattle.std.proofs.Common.{take, refl, sym, ◌∙◌, ap, subst, arith, Option, Some, None}
@@ -61,7 +61,7 @@ seen_valid e seen at =
     } in
     subst (λ (x : Found). IsValidFound x) at.found_is (found_valid at.core e r at.mine.shown.words)
 
--- What a write of the field needs stands behind the load.
+-- What a write of the field needs stands after the load.
 
 module _ {P : Type 0} (fixed : ℕ → Bool) (v : View P) (place f : ℕ) (new : Value) (seen : Field)
     (valid : IsValidField seen) (may : MayOverwrite fixed v place f new) (k : Learned) (p : P) where
@@ -172,7 +172,7 @@ found_claims own field.Null = refl
 found_claims own (field.Num n) = refl
 found_claims own (field.Cell c) = refl
 
--- What is left behind the write: the cells that were held, and then what was found.
+-- What is left after the write: the cells that were held, and then what was found.
 pub record Leaves {P : Type 0} (old after : Bound P) (seen : Field) : Type 0 where
   pub heap : after.heap ≡ old.heap
   pub table : after.seat.table ≡ old.seat.table
@@ -329,7 +329,7 @@ module _ {P : Type 0} {holds : Map → List P → Type 0} {fixed : ℕ → Bool}
       ∙ ap (next (told_by r.write) found)
       (r.marks.kept.pass ∙ ap (λ (u : View P). u.pass) r.load.event.new)
 
--- behind a stretch that kept them
+-- after a stretch that kept them
 pub places_then : {P : Type 0} {a b c : Bound P} → Kept a b → SamePlaces b c → SamePlaces a c
 places_then kept same = record {
   heap = same.heap ∙ kept.heap;
@@ -344,7 +344,7 @@ places_then kept same = record {
   over = same.over ∙ kept.over;
 }
 
--- what it needs stands behind the look
+-- what it needs stands after the look
 pub may_still : {P : Type 0} (fixed : ℕ → Bool) (m at : Bound P) (place f : ℕ) (new : Value)
     → Kept m at → MayOverwrite fixed m.seat.me place f new
     → MayOverwrite fixed at.seat.me place f new
@@ -370,18 +370,13 @@ may_still {P} fixed m at place f new kept may =
       room = omega (arith, many, kept.room, may.room);
     }
 
--- it is bound to its heap behind the write as before
-pub bound_left : {P : Type 0} (heap : HeapId) (seat : SeatView P) (m after : Bound P)
-    (seen : Field) → bound heap seat ≡ m → IsBound heap seat → Leaves m after seen
-    → IsBound heap after.seat
-bound_left {P} heap seat m after seen is was left = record {
-  seat_is = (
-    left.table ∙ sym (ap (λ (b : Bound P). b.seat.table) is) ∙ was.seat_is.0,
-    left.shape ∙ sym (ap (λ (b : Bound P). b.seat.me.shape) is) ∙ was.seat_is.1,
-  );
+-- it is bound to its heap after the write as before
+pub bound_left : {P : Type 0} (heap : HeapId) (seat : SeatView P) (after : Bound P) (seen : Field)
+    → IsBound heap seat → Leaves (bound heap seat) after seen → IsBound heap after.seat
+bound_left heap seat after seen was left = record {
+  seat_is = (left.table ∙ was.seat_is.0, left.shape ∙ was.seat_is.1);
   settled = left.settled;
-  not_over = ap (λ (p : Presence). p.over) left.presence
-      ∙ sym (ap (λ (b : Bound P). b.seat.me.presence.over) is) ∙ was.not_over;
+  not_over = ap (λ (p : Presence). p.over) left.presence ∙ was.not_over;
 }
 
 -- whichever of the two it is
@@ -390,7 +385,7 @@ pub either_of : {T E L A : Type 0} {B : E → Type 0} (r : Result T E) → OnOk 
 either_of (Ok x) a b f g = f a
 either_of (Err e) a b f g = g e b
 
--- What a look found, behind it.
+-- What a look found, after it.
 
 module _ {P : Type 0} (m looked : Bound P) (control : Control) (own : Status)
     (told : looked ≡ takes m (event.Look m.seat.me.number) (finds.Control control))
@@ -424,7 +419,7 @@ module _ {P : Type 0} (m looked : Bound P) (control : Control) (own : Status)
   pub presence_there : looked.seat.me.presence ≡ m.seat.me.presence
   presence_there = ap (λ (b : Bound P). b.seat.me.presence) told
 
--- What is left behind the look and all that came after it. The barrier is given by what it is.
+-- What is left after the look and all that came after it. The barrier is given by what it is.
 module _ {P : Type 0} {holds : Map → List P → Type 0} {fixed : ℕ → Bool}
     {next : Learned → Found → P → P} (m looked after : Bound P) (control : Control) (place f : ℕ)
     (new : Value) (wanted : Barrier) (is : wanted ≡ barrier_of m.seat.me.presence.status control)

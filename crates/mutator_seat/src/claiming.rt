@@ -7,6 +7,7 @@
 ghost use Rattle.std.specs.Prelude.{◌≡◌, ◌<◌, ◌≤◌, ◌+◌, ◌∷◌, [], None, true, not};
 ghost use Rattle.std.specs.Prelude.{IfErr, IfNone, IfOk, IfSome, length};
 ghost use Rattle.free_cells.specs.Hints.{cells_of, counts_of, queue_of};
+ghost use Rattle.mutator_seat.specs.Bound.{IsBound, bound};
 ghost use Rattle.mutator_seat.specs.Claims.{Claimed, Ends, FullBehind, HasMode, Seeking};
 ghost use Rattle.mutator_seat.specs.Claims.{TriedFirst};
 ghost use Rattle.mutator_seat.specs.Pacing.{Paces, Prompt};
@@ -17,10 +18,13 @@ ghost use Rattle.mutator_seat.specs.Takes.{Gives, after_take};
 ghost use Rattle.trails.specs.Claims.{AllUsed, FindsFull, begun_of, decides};
 
 use crate::full::HeapFull;
+use crate::looking::{answer, look_once};
 use crate::mutator::Mutator;
 use cell_words::{Control, Stage};
 use free_cells::Hints;
 use heap_rule::Keeping;
+use heap_table::CellHeap;
+use mutator_events::MutSeat;
 use std::sync::Wait;
 use thread_waits::{offer, wait};
 
@@ -28,7 +32,7 @@ use thread_waits::{offer, wait};
 const PATIENCE: u32 = 1000;
 
 /// The cycles that are ended or under way.
-fn begun(control: Control) -> u32
+pub fn begun(control: Control) -> u32
     requires few { control.cycles ≤ 4000000000 }
     ensures begun { result ≡ begun_of control }
     ensures few { result ≤ 4000000001 }
@@ -44,9 +48,9 @@ fn begun(control: Control) -> u32
     }
 }
 
-/// Whether waiting is of no more use: the collector is off duty, or two whole cycles began and ended
-/// since so many were begun.
-fn decides(began: u32, control: Control) -> bool
+/// Whether waiting is of no more use: the collector is off duty, or two whole cycles began and
+/// ended since so many were begun.
+pub fn decides(began: u32, control: Control) -> bool
     requires few { began ≤ 4000000001 }
     ensures decides { result ≡ decides began control }
 {
@@ -80,10 +84,10 @@ fn pause() {
 }
 
 impl<'a, P: Keeping> Mutator<'a, P> {
-    /// Takes a free cell: raw, with null fields, at the next place. Hints are tried first, also those
-    /// that come in while it waits; and every cell once, where a thousand takes found no hint. While
-    /// the collector is on duty it waits, and answers handshakes, until two whole cycles have begun
-    /// and ended within the call; then every cell is tried once more.
+    /// Takes a free cell: raw, with null fields, at the next place. Hints are tried first, also
+    /// those that come in while it waits; and every cell once, where a thousand takes found no
+    /// hint. While the collector is on duty it waits, and answers handshakes, until two whole
+    /// cycles have begun and ended within the call; then every cell is tried once more.
     pub fn claim<R: Wait>(&mut self, rt: &R, hints: &mut Hints<'_>) -> Result<usize, HeapFull>
         requires inside { self.old.seat.me.presence.inside ≡ true }
         requires room { length self.old.seat.me.own.held < self.old.seat.me.room }
@@ -103,7 +107,8 @@ impl<'a, P: Keeping> Mutator<'a, P> {
     }
 
     /// The same with a first hint that was taken before, if there was one. Who needs many cells
-    /// takes their hints in one go, for threads that take by turns wait for each other at the queue.
+    /// takes their hints in one go, for threads that take by turns wait for each other at the
+    /// queue.
     pub fn claim_hinted<R: Wait>(
         &mut self,
         rt: &R,
@@ -178,11 +183,10 @@ impl<'a, P: Keeping> Mutator<'a, P> {
         ensures mode { HasMode self.new }
         ensures pace { Paces 65 1 self.old self.new }
     {
-        let _ = self.answer();
-        self.look_once()
+        handshake(self.heap, &mut self.seat)
     }
 
-    /// Tries every cell behind the look that decided.
+    /// Tries every cell after the look that decided.
     fn try_last(&mut self, began: u32, control: Control) -> Result<usize, HeapFull>
         requires inside { self.old.seat.me.presence.inside ≡ true }
         requires room { length self.old.seat.me.own.held < self.old.seat.me.room }
@@ -206,8 +210,8 @@ impl<'a, P: Keeping> Mutator<'a, P> {
         }
     }
 
-    /// Tries the cell of a hint. Where the queue gave none it waits a while, or tries every cell where
-    /// its patience is over.
+    /// Tries the cell of a hint. Where the queue gave none it waits a while, or tries every cell
+    /// where its patience is over.
     fn try_on(&mut self, hint: Option<u32>, patience: u32) -> Option<usize>
         requires inside { self.old.seat.me.presence.inside ≡ true }
         requires room { length self.old.seat.me.own.held < self.old.seat.me.room }
@@ -244,4 +248,20 @@ impl<'a, P: Keeping> Mutator<'a, P> {
             None
         }
     }
+}
+
+/// Answers a handshake, if one is asked for, and looks again.
+pub fn handshake<P: Keeping>(heap: &CellHeap<P>, seat: &mut MutSeat<P>) -> Control
+    requires seat { IsBound heap.now seat.old }
+    requires inside { seat.old.me.presence.inside ≡ true }
+    ensures seat { IsBound heap.now seat.new }
+    ensures calm { Calm (Ends seat.old.me.number seat.old.me.presence.status result)
+        (bound heap.now seat.old) (bound heap.now seat.new) }
+    ensures seeking { Calm Seeking (bound heap.now seat.old) (bound heap.now seat.new) }
+    ensures idle { Tries [] (bound heap.now seat.old) (bound heap.now seat.new) }
+    ensures mode { HasMode (bound heap.now seat.new) }
+    ensures pace { Paces 65 1 (bound heap.now seat.old) (bound heap.now seat.new) }
+{
+    let _ = answer(heap, seat);
+    look_once(heap, seat)
 }

@@ -8,10 +8,11 @@ ghost use Rattle.core_machine.specs.declared.events.Found.TheVariants as finds;
 ghost use Rattle.heap_rule.specs.Asks.{MayKeep, known_of, target};
 ghost use Rattle.heap_rule.specs.declared.known.Known.TheVariants as knows;
 ghost use Rattle.mutator_events.specs.Events.{tells};
-ghost use Rattle.mutator_seat.specs.Bound.{held_cells, takes};
+ghost use Rattle.mutator_seat.specs.Bound.{IsBound, bound, held_cells, takes};
 
 use crate::mutator::Mutator;
 use heap_rule::Keeping;
+use heap_table::CellHeap;
 use mutator_events::MutSeat;
 
 impl<'a, P: Keeping> Mutator<'a, P> {
@@ -24,7 +25,7 @@ impl<'a, P: Keeping> Mutator<'a, P> {
         ensures inside { self.new.seat.me.presence.inside ≡ true }
         ensures held { held_cells self.new ≡ 0 ∷ [] }
     {
-        self.seat.begin(self.heap);
+        begin(self.heap, &mut self.seat);
     }
 
     /// Goes out, and holds nothing.
@@ -35,7 +36,7 @@ impl<'a, P: Keeping> Mutator<'a, P> {
         ensures out { self.new.seat.me.presence.inside ≡ false }
         ensures held { held_cells self.new ≡ [] }
     {
-        self.seat.end(self.heap);
+        end(self.heap, &mut self.seat);
     }
 
     /// Is over: the seat never comes in again, and may be joined.
@@ -47,7 +48,7 @@ impl<'a, P: Keeping> Mutator<'a, P> {
         ensures over { result.me.presence.over ≡ true }
     {
         let Mutator { heap, mut seat } = self;
-        seat.over(heap);
+        finish(heap, &mut seat);
         seat
     }
 
@@ -59,18 +60,16 @@ impl<'a, P: Keeping> Mutator<'a, P> {
         ensures told { self.new ≡ takes self.old (event.Keep self.old.seat.me.number n 0 0)
             (finds.Presence self.old.seat.me.presence) }
     {
-        // As many are kept as are held at most, and so there is room.
-        let _room = self.seat.room();
-        self.seat.keep(self.heap, n, 0, 0);
+        cut(self.heap, &mut self.seat, n);
     }
 
-    /// Keeps the first `n` places, and behind them the `count` cells that stood from `place` on.
+    /// Keeps the first `n` places, and after them the `count` cells that stood from `place` on.
     pub fn keep(&mut self, n: usize, place: usize, count: usize)
         requires may { MayKeep self.old.seat.me n place count }
         ensures told { self.new ≡ takes self.old (event.Keep self.old.seat.me.number n place count)
             (finds.Presence self.old.seat.me.presence) }
     {
-        self.seat.keep(self.heap, n, place, count);
+        keep(self.heap, &mut self.seat, n, place, count);
     }
 
     /// Whether two places hold one cell. What is known of them as records is then one term.
@@ -87,6 +86,103 @@ impl<'a, P: Keeping> Mutator<'a, P> {
             (length self.old.seat.me.own.held) 0 0)
             (finds.Presence self.old.seat.me.presence) }
     {
-        self.seat.is_same(self.heap, first, second)
+        is_same(self.heap, &mut self.seat, first, second)
     }
+}
+
+/// Comes in, with the anchor at place 0 and nothing else.
+pub fn begin<P: Keeping>(heap: &CellHeap<P>, seat: &mut MutSeat<P>)
+    requires seat { IsBound heap.now seat.old }
+    requires out { seat.old.me.presence.inside ≡ false }
+    ensures seat { IsBound heap.now seat.new }
+    ensures told { (status : Status)
+        × (bound heap.now seat.new
+        ≡ takes (bound heap.now seat.old) (event.Begin seat.old.me.number)
+        (finds.Presence (record seat.old.me.presence { status = status }))) }
+    ensures inside { seat.new.me.presence.inside ≡ true }
+    ensures held { held_cells (bound heap.now seat.new) ≡ 0 ∷ [] }
+{
+    seat.begin(heap);
+}
+
+/// Goes out, and holds nothing.
+pub fn end<P: Keeping>(heap: &CellHeap<P>, seat: &mut MutSeat<P>)
+    requires seat { IsBound heap.now seat.old }
+    requires inside { seat.old.me.presence.inside ≡ true }
+    ensures seat { IsBound heap.now seat.new }
+    ensures told { bound heap.now seat.new
+        ≡ takes (bound heap.now seat.old) (event.End seat.old.me.number)
+        (finds.Presence seat.old.me.presence) }
+    ensures out { seat.new.me.presence.inside ≡ false }
+    ensures held { held_cells (bound heap.now seat.new) ≡ [] }
+{
+    seat.end(heap);
+}
+
+/// Is over: the seat never comes in again, and may be joined.
+pub fn finish<P: Keeping>(heap: &CellHeap<P>, seat: &mut MutSeat<P>)
+    requires seat { IsBound heap.now seat.old }
+    requires out { seat.old.me.presence.inside ≡ false }
+    ensures told { (status : Status)
+        × (seat.new ≡ tells seat.old (event.Over seat.old.me.number)
+        (finds.Presence (record seat.old.me.presence { status = status }))) }
+    ensures over { seat.new.me.presence.over ≡ true }
+{
+    seat.over(heap);
+}
+
+/// Keeps the first `n` places.
+pub fn cut<P: Keeping>(heap: &CellHeap<P>, seat: &mut MutSeat<P>, n: usize)
+    requires seat { IsBound heap.now seat.old }
+    requires inside { seat.old.me.presence.inside ≡ true }
+    requires some { 1 ≤ n }
+    requires kept { n ≤ length seat.old.me.own.held }
+    ensures seat { IsBound heap.now seat.new }
+    ensures told { bound heap.now seat.new
+        ≡ takes (bound heap.now seat.old) (event.Keep seat.old.me.number n 0 0)
+        (finds.Presence seat.old.me.presence) }
+{
+    // As many are kept as are held at most, and so there is room.
+    let _room = seat.room();
+    seat.keep(heap, n, 0, 0);
+}
+
+/// Keeps the first `n` places, and after them the `count` cells that stood from `place` on.
+pub fn keep<P: Keeping>(
+    heap: &CellHeap<P>,
+    seat: &mut MutSeat<P>,
+    n: usize,
+    place: usize,
+    count: usize,
+)
+    requires seat { IsBound heap.now seat.old }
+    requires may { MayKeep seat.old.me n place count }
+    ensures seat { IsBound heap.now seat.new }
+    ensures told { bound heap.now seat.new
+        ≡ takes (bound heap.now seat.old) (event.Keep seat.old.me.number n place count)
+        (finds.Presence seat.old.me.presence) }
+{
+    seat.keep(heap, n, place, count);
+}
+
+/// Whether two places hold one cell. What is known of them as records is then one term.
+pub fn is_same<P: Keeping>(
+    heap: &CellHeap<P>,
+    seat: &mut MutSeat<P>,
+    first: usize,
+    second: usize,
+) -> bool
+    requires seat { IsBound heap.now seat.old }
+    requires inside { seat.old.me.presence.inside ≡ true }
+    requires first { first < length seat.old.me.own.held }
+    requires second { second < length seat.old.me.own.held }
+    ensures seat { IsBound heap.now seat.new }
+    ensures same { result ≡ (target seat.old.me first == target seat.old.me second) }
+    ensures terms { result ≡ true → (t u : Term) → known_of seat.old.me first ≡ knows.Record t
+        → known_of seat.old.me second ≡ knows.Record u → t ≡ u }
+    ensures told { bound heap.now seat.new
+        ≡ takes (bound heap.now seat.old) (event.Keep seat.old.me.number
+        (length seat.old.me.own.held) 0 0) (finds.Presence seat.old.me.presence) }
+{
+    seat.is_same(heap, first, second)
 }

@@ -5,10 +5,11 @@
 //! pass, and the events that the trail grew by. When to look, to mark and to answer a handshake is
 //! decided here, and the layers above know nothing of colours or stages.
 //!
-//! Only `claim` waits. No call takes memory.
+//! Only `claim` waits. No call takes memory. An owner of heap and seat that can keep no borrow
+//! calls the functions of `operations`, of which the methods are made.
 //!
-//! Reading order: specs/Bound, Stretches, Writes, Stores, Claims, Pacing; then `mutator`, `steps`,
-//! `coming`, `making`, `looking`, `writing`, `storing`, `trying`, `claiming`.
+//! Reading order: specs/Bound, Stretches, Writes, Stores, Claims, Pacing; then `mutator`, `coming`,
+//! `making`, `looking`, `writing`, `storing`, `trying`, `claiming`, `operations`.
 #![tactic(auto)]
 
 mod claiming;
@@ -17,7 +18,7 @@ mod full;
 mod looking;
 mod making;
 mod mutator;
-mod steps;
+pub mod operations;
 mod storing;
 mod trying;
 mod writing;

@@ -10,12 +10,14 @@ ghost use Rattle.core_machine.specs.declared.events.Found.TheVariants as finds;
 ghost use Rattle.core_machine.specs.Words.{barrier_in, lets_store, same_field};
 ghost use Rattle.heap_rule.specs.Steps.{Picks, same_pass};
 ghost use Rattle.heap_table.specs.Seats.{IsSeatOf};
-ghost use Rattle.mutator_seat.specs.Bound.{bound};
+ghost use Rattle.mutator_seat.specs.Bound.{IsBound, bound};
 ghost use Rattle.mutator_seat.specs.Stores.{Exchanged, MayOverwrite, Overwritten, PicksExchange};
 ghost use Rattle.mutator_seat.specs.Stores.{PicksOverwrite, PicksStore, Replaced, Rewritten};
 ghost use Rattle.mutator_seat.specs.Stores.{exchange_of, fetch_of, read_of, store_of};
 ghost use Rattle.mutator_seat.specs.Stretches.{SamePlaces};
 
+use crate::coming::cut;
+use crate::looking::look_once;
 use crate::mutator::Mutator;
 use crate::writing::mark_wanted;
 use cell_words::modes::barrier;
@@ -49,7 +51,8 @@ impl<'a, P: Keeping> Mutator<'a, P> {
     ) -> Result<(), Moved>
         requires may { MayOverwrite P.fixed self.old.seat.me place field new }
         requires rule { PicksOverwrite P.holds P.fixed R.next C.next self.old place field new }
-        ensures made { OnOk result (Overwritten P.holds P.fixed C.next self.old place field new self.new
+        ensures made { OnOk result (Overwritten P.holds P.fixed C.next self.old place field new
+            self.new
             ⊎ ((seen : Field) × Exchanged P.holds P.fixed R.next C.next self.old place field new
             seen seen self.new)) }
         ensures moved { IfErr result (λ moved. (seen : Field)
@@ -58,60 +61,103 @@ impl<'a, P: Keeping> Mutator<'a, P> {
             self.new) }
         ensures places { SamePlaces self.old self.new }
     {
-        let control = self.look_once();
-        let own = self.status();
-        let wanted = barrier(own, control);
-        if lets_store(own, control) {
-            self.overwrite::<C>(wanted, place, field, new);
-            Ok(())
-        } else {
-            self.exchange::<R, C>(wanted, place, field, new)
-        }
+        store::<P, R, C>(self.heap, &mut self.seat, place, field, new)
     }
+}
 
-    /// Behind a look that lets it: the store, and the places from before are kept.
-    fn overwrite<C: Choice<P>>(&mut self, wanted: Barrier, place: usize, field: usize, new: Value)
-        requires may { MayOverwrite P.fixed self.old.seat.me place field new }
-        requires lets { lets_store self.old.seat.me.presence.status self.old.seat.me.own.mode ≡ true }
-        requires wanted { barrier_in self.old.seat.me.presence.status self.old.seat.me.own.mode
-            ≡ wanted }
-        requires rule { PicksStore P.holds P.fixed C.next self.old place field new }
-        ensures rewritten { (seen : Field) × Rewritten P.holds P.fixed wanted
-            (fetch_of self.old place field) same_pass seen (store_of new) C.next finds.Stored new
-            self.old self.new }
-    {
-        let many = self.held_len();
-        store_fetched::<P, C>(self.heap, &mut self.seat, wanted, place, field, new);
-        self.cut(many);
+/// Stores `new` in a field of the box at a place. What another thread wrote there between the
+/// fetch and the store is lost: who must not lose it takes `update`. `Moved` comes where no
+/// store may be begun and another wrote the field since it was read; nothing is written then.
+/// The caller picks its pass at the store, or at the read and the exchange.
+pub fn store<P: Keeping, R: Choice<P>, C: Choice<P>>(
+    heap: &CellHeap<P>,
+    seat: &mut MutSeat<P>,
+    place: usize,
+    field: usize,
+    new: Value,
+) -> Result<(), Moved>
+    requires seat { IsBound heap.now seat.old }
+    requires may { MayOverwrite P.fixed seat.old.me place field new }
+    requires rule { PicksOverwrite P.holds P.fixed R.next C.next (bound heap.now seat.old) place
+        field new }
+    ensures seat { IsBound heap.now seat.new }
+    ensures made { OnOk result (Overwritten P.holds P.fixed C.next (bound heap.now seat.old) place
+        field new (bound heap.now seat.new)
+        ⊎ ((seen : Field) × Exchanged P.holds P.fixed R.next C.next (bound heap.now seat.old) place
+        field new seen seen (bound heap.now seat.new))) }
+    ensures moved { IfErr result (λ moved. (seen : Field)
+        × (same_field moved.found seen ≡ false)
+        × Exchanged P.holds P.fixed R.next C.next (bound heap.now seat.old) place field new seen
+        moved.found (bound heap.now seat.new)) }
+    ensures places { SamePlaces (bound heap.now seat.old) (bound heap.now seat.new) }
+{
+    let control = look_once(heap, seat);
+    let own = seat.status();
+    let wanted = barrier(own, control);
+    if lets_store(own, control) {
+        overwrite::<P, C>(heap, seat, wanted, place, field, new);
+        Ok(())
+    } else {
+        exchange::<P, R, C>(heap, seat, wanted, place, field, new)
     }
+}
 
-    /// Behind a look that does not: a read and an exchange, and the places from before are kept.
-    fn exchange<R: Choice<P>, C: Choice<P>>(
-        &mut self,
-        wanted: Barrier,
-        place: usize,
-        field: usize,
-        new: Value,
-    ) -> Result<(), Moved>
-        requires may { MayOverwrite P.fixed self.old.seat.me place field new }
-        requires mode { is_some self.old.seat.me.own.mode ≡ true }
-        requires wanted { barrier_in self.old.seat.me.presence.status self.old.seat.me.own.mode
-            ≡ wanted }
-        requires read { Picks P.holds P.fixed R.next self.old.seat.me (read_of self.old place field) }
-        requires rule { PicksExchange P.holds P.fixed R.next C.next self.old place field new }
-        ensures made { OnOk result ((seen : Field) × Rewritten P.holds P.fixed wanted
-            (read_of self.old place field) R.next seen (exchange_of place field seen new) C.next
-            (finds.Field seen) new self.old self.new) }
-        ensures moved { IfErr result (λ moved. (seen : Field)
-            × (same_field moved.found seen ≡ false)
-            × Rewritten P.holds P.fixed wanted (read_of self.old place field) R.next seen
-            (exchange_of place field seen new) C.next (finds.Field moved.found) new self.old self.new) }
-    {
-        let many = self.held_len();
-        let result = exchange_read::<P, R, C>(self.heap, &mut self.seat, wanted, place, field, new);
-        self.cut(many);
-        result
-    }
+/// After a look that lets it: the store, and the places from before are kept.
+fn overwrite<P: Keeping, C: Choice<P>>(
+    heap: &CellHeap<P>,
+    seat: &mut MutSeat<P>,
+    wanted: Barrier,
+    place: usize,
+    field: usize,
+    new: Value,
+)
+    requires seat { IsBound heap.now seat.old }
+    requires may { MayOverwrite P.fixed seat.old.me place field new }
+    requires lets { lets_store seat.old.me.presence.status seat.old.me.own.mode ≡ true }
+    requires wanted { barrier_in seat.old.me.presence.status seat.old.me.own.mode ≡ wanted }
+    requires rule { PicksStore P.holds P.fixed C.next (bound heap.now seat.old) place field new }
+    ensures seat { IsBound heap.now seat.new }
+    ensures rewritten { (seen : Field) × Rewritten P.holds P.fixed wanted
+        (fetch_of (bound heap.now seat.old) place field) same_pass seen (store_of new) C.next
+        finds.Stored new (bound heap.now seat.old) (bound heap.now seat.new) }
+{
+    let many = seat.held_len();
+    store_fetched::<P, C>(heap, seat, wanted, place, field, new);
+    cut(heap, seat, many);
+}
+
+/// After a look that does not: a read and an exchange, and the places from before are kept.
+fn exchange<P: Keeping, R: Choice<P>, C: Choice<P>>(
+    heap: &CellHeap<P>,
+    seat: &mut MutSeat<P>,
+    wanted: Barrier,
+    place: usize,
+    field: usize,
+    new: Value,
+) -> Result<(), Moved>
+    requires seat { IsBound heap.now seat.old }
+    requires may { MayOverwrite P.fixed seat.old.me place field new }
+    requires mode { is_some seat.old.me.own.mode ≡ true }
+    requires wanted { barrier_in seat.old.me.presence.status seat.old.me.own.mode ≡ wanted }
+    requires read { Picks P.holds P.fixed R.next seat.old.me
+        (read_of (bound heap.now seat.old) place field) }
+    requires rule { PicksExchange P.holds P.fixed R.next C.next (bound heap.now seat.old) place
+        field new }
+    ensures seat { IsBound heap.now seat.new }
+    ensures made { OnOk result ((seen : Field) × Rewritten P.holds P.fixed wanted
+        (read_of (bound heap.now seat.old) place field) R.next seen
+        (exchange_of place field seen new) C.next (finds.Field seen) new
+        (bound heap.now seat.old) (bound heap.now seat.new)) }
+    ensures moved { IfErr result (λ moved. (seen : Field)
+        × (same_field moved.found seen ≡ false)
+        × Rewritten P.holds P.fixed wanted (read_of (bound heap.now seat.old) place field) R.next
+        seen (exchange_of place field seen new) C.next (finds.Field moved.found) new
+        (bound heap.now seat.old) (bound heap.now seat.new)) }
+{
+    let many = seat.held_len();
+    let result = exchange_read::<P, R, C>(heap, seat, wanted, place, field, new);
+    cut(heap, seat, many);
+    result
 }
 
 /// Fetches the field, marks what the barrier wants, and stores.
@@ -157,11 +203,12 @@ fn exchange_read<P: Keeping, R: Choice<P>, C: Choice<P>>(
     requires rule { PicksExchange P.holds P.fixed R.next C.next (bound heap.now seat.old) place
         field new }
     ensures made { OnOk result ((seen : Field) × Replaced P.holds P.fixed wanted
-        (read_of (bound heap.now seat.old) place field) R.next seen (exchange_of place field seen new)
-        C.next (finds.Field seen) new (bound heap.now seat.old) (bound heap.now seat.new)) }
+        (read_of (bound heap.now seat.old) place field) R.next seen
+        (exchange_of place field seen new) C.next (finds.Field seen) new
+        (bound heap.now seat.old) (bound heap.now seat.new)) }
     ensures moved { IfErr result (λ moved. (seen : Field) × (same_field moved.found seen ≡ false)
-        × Replaced P.holds P.fixed wanted (read_of (bound heap.now seat.old) place field) R.next seen
-        (exchange_of place field seen new) C.next (finds.Field moved.found) new
+        × Replaced P.holds P.fixed wanted (read_of (bound heap.now seat.old) place field) R.next
+        seen (exchange_of place field seen new) C.next (finds.Field moved.found) new
         (bound heap.now seat.old) (bound heap.now seat.new)) }
 {
     let found = seat.read::<R>(heap, place, field);

@@ -3,12 +3,7 @@
 //! One look serves many tries, since a try that misses leaves it.
 ghost use Rattle.std.specs.Prelude.{◌≡◌, ◌<◌, ◌≤◌, ◌+◌, ◌∷◌, ◌++◌, [], true};
 ghost use Rattle.std.specs.Prelude.{IfNone, IfSome, Some, length};
-ghost use Rattle.cell_words.specs.declared.colours.Colour.{Colour};
-ghost use Rattle.core_machine.specs.Words.{is_blue};
-ghost use Rattle.core_machine.specs.declared.events.Event.TheVariants as event;
-ghost use Rattle.core_machine.specs.declared.events.Found.TheVariants as finds;
-ghost use Rattle.heap_rule.specs.Apart.{IsNewTo};
-ghost use Rattle.mutator_seat.specs.Bound.{held_cells, takes};
+ghost use Rattle.mutator_seat.specs.Bound.{IsBound, bound, held_cells};
 ghost use Rattle.mutator_seat.specs.Claims.{Claimed, HasMode, Seeking, Tried};
 ghost use Rattle.mutator_seat.specs.Pacing.{Paces};
 ghost use Rattle.mutator_seat.specs.Searches.{Tries, Walks, first_cells, hinted, tries_for};
@@ -17,6 +12,8 @@ ghost use Rattle.trails.specs.Claims.{AllUsed};
 
 use crate::mutator::Mutator;
 use heap_rule::Keeping;
+use heap_table::CellHeap;
+use mutator_events::MutSeat;
 
 /// How many cells are tried between two handshakes.
 const TRIES: u32 = 64;
@@ -68,7 +65,8 @@ impl<'a, P: Keeping> Mutator<'a, P> {
         requires room { length self.old.seat.me.own.held < self.old.seat.me.room }
         requires mode { HasMode self.old }
         ensures got { IfSome result (λ place. Claimed self.old place self.new) }
-        ensures none { IfNone result (Calm (AllUsed 0 self.old.seat.me.shape.cells) self.old self.new) }
+        ensures none { IfNone result (Calm (AllUsed 0 self.old.seat.me.shape.cells)
+            self.old self.new) }
         ensures seeking { IfNone result (Calm Seeking self.old self.new) }
         ensures all { IfNone result (Tries (first_cells self.old.seat.me.shape.cells)
             self.old self.new) }
@@ -118,26 +116,7 @@ impl<'a, P: Keeping> Mutator<'a, P> {
         ensures seeking { IfNone result (Calm Seeking self.old self.new) }
         ensures mode { IfNone result (HasMode self.new) }
     {
-        let place = self.held_len();
-        if self.claim_once(cell) {
-            Some(place)
-        } else {
-            None
-        }
-    }
-
-    /// One claim of the seat.
-    fn claim_once(&mut self, cell: u32) -> bool
-        requires inside { self.old.seat.me.presence.inside ≡ true }
-        requires mode { HasMode self.old }
-        requires cell { cell < self.old.seat.me.shape.cells }
-        requires room { length self.old.seat.me.own.held < self.old.seat.me.room }
-        ensures told { (found : Colour) × (result ≡ is_blue found)
-            × (self.new ≡ takes self.old (event.Claim self.old.seat.me.number cell)
-            (finds.Colour found)) }
-        ensures new { result ≡ true → IsNewTo (held_cells self.old) self.old.seat.me.known cell }
-    {
-        self.seat.claim(self.heap, cell)
+        try_cell(self.heap, &mut self.seat, cell)
     }
 
     /// How many cells the heap has.
@@ -145,5 +124,32 @@ impl<'a, P: Keeping> Mutator<'a, P> {
         ensures cells { result ≡ self.now.seat.me.shape.cells }
     {
         self.heap.cells()
+    }
+}
+
+/// Claims the cell, if it is blue, and gives its place.
+pub fn try_cell<P: Keeping>(heap: &CellHeap<P>, seat: &mut MutSeat<P>, cell: u32) -> Option<usize>
+    requires seat { IsBound heap.now seat.old }
+    requires inside { seat.old.me.presence.inside ≡ true }
+    requires mode { HasMode (bound heap.now seat.old) }
+    requires cell { cell < seat.old.me.shape.cells }
+    requires room { length seat.old.me.own.held < seat.old.me.room }
+    ensures seat { IsBound heap.now seat.new }
+    ensures got { IfSome result (λ place.
+        Claimed (bound heap.now seat.old) place (bound heap.now seat.new)) }
+    ensures cell { IfSome result (λ place. held_cells (bound heap.now seat.new)
+        ≡ held_cells (bound heap.now seat.old) ++ cell ∷ []) }
+    ensures none { IfNone result (Calm (AllUsed cell (cell + 1))
+        (bound heap.now seat.old) (bound heap.now seat.new)) }
+    ensures tried { Tried cell (bound heap.now seat.old) (bound heap.now seat.new) }
+    ensures seeking { IfNone result (Calm Seeking
+        (bound heap.now seat.old) (bound heap.now seat.new)) }
+    ensures mode { IfNone result (HasMode (bound heap.now seat.new)) }
+{
+    let place = seat.held_len();
+    if seat.claim(heap, cell) {
+        Some(place)
+    } else {
+        None
     }
 }

@@ -9,11 +9,12 @@ ghost use Rattle.core_machine.specs.Places.{is_marked_value, marks_stand};
 ghost use Rattle.core_machine.specs.Words.{barrier_in, marks_some, same_field};
 ghost use Rattle.heap_table.specs.Seats.{IsSeatOf};
 ghost use Rattle.mutator_events.specs.Values.{field_at};
-ghost use Rattle.mutator_seat.specs.Bound.{bound};
+ghost use Rattle.mutator_seat.specs.Bound.{IsBound, bound};
 ghost use Rattle.mutator_seat.specs.Stretches.{Calm, MarksOf, SamePlaces};
 ghost use Rattle.mutator_seat.specs.Writes.{IsNamed, LookAndMarks, MayUpdate, PicksUpdate, Updated};
 ghost use Rattle.mutator_seat.specs.Writes.{places_in, wanted_by};
 
+use crate::looking::look_once;
 use crate::mutator::Mutator;
 use cell_words::Barrier;
 use cell_words::modes::barrier;
@@ -22,8 +23,8 @@ use heap_table::CellHeap;
 use mutator_events::{Choice, Moved, MutSeat, Value};
 
 impl<'a, P: Keeping> Mutator<'a, P> {
-    /// Exchanges a field of the box at a place for `new`, where it holds `old`; `Moved` says what it
-    /// held at the step. The caller picks its pass by what the write finds.
+    /// Exchanges a field of the box at a place for `new`, where it holds `old`; `Moved` says what
+    /// it held at the step. The caller picks its pass by what the write finds.
     pub fn update<C: Choice<P>>(
         &mut self,
         place: usize,
@@ -40,27 +41,55 @@ impl<'a, P: Keeping> Mutator<'a, P> {
             × Updated P.holds P.fixed C.next self.old place field old new moved.found self.new) }
         ensures places { SamePlaces self.old self.new }
     {
-        self.look_and_mark(old, new);
-        self.seat.write::<C>(self.heap, place, field, old, new)
+        update::<P, C>(self.heap, &mut self.seat, place, field, old, new)
     }
+}
 
-    /// Looks, and marks what the barrier wants before `new` is written over `old`.
-    fn look_and_mark(&mut self, old: Value, new: Value)
-        requires inside { self.old.seat.me.presence.inside ≡ true }
-        requires old_named { IsNamed self.old.seat.me.own.held old }
-        requires new_named { IsNamed self.old.seat.me.own.held new }
-        ensures calm { Calm (LookAndMarks self.old.seat.me.number
-            self.old.seat.me.presence.status old new) self.old self.new }
-        ensures mode { is_some self.new.seat.me.own.mode ≡ true }
-        ensures presence { self.new.seat.me.presence ≡ self.old.seat.me.presence }
-        ensures marks { marks_stand (barrier_in self.new.seat.me.presence.status self.new.seat.me.own.mode)
-            self.new.seat.me.own.held (field_at self.new.seat.me.own.held old)
-            (field_at self.new.seat.me.own.held new) ≡ true }
-    {
-        let control = self.look_once();
-        let wanted = barrier(self.status(), control);
-        mark_wanted(self.heap, &mut self.seat, wanted, old, new);
-    }
+/// Exchanges a field of the box at a place for `new`, where it holds `old`; `Moved` says what it
+/// held at the step. The caller picks its pass by what the write finds.
+pub fn update<P: Keeping, C: Choice<P>>(
+    heap: &CellHeap<P>,
+    seat: &mut MutSeat<P>,
+    place: usize,
+    field: usize,
+    old: Value,
+    new: Value,
+) -> Result<(), Moved>
+    requires seat { IsBound heap.now seat.old }
+    requires may { MayUpdate P.fixed seat.old.me place field old new }
+    requires rule { PicksUpdate P.holds P.fixed C.next (bound heap.now seat.old) place field old
+        new }
+    ensures seat { IsBound heap.now seat.new }
+    ensures made { OnOk result (Updated P.holds P.fixed C.next (bound heap.now seat.old) place field
+        old new (field_at seat.old.me.own.held old) (bound heap.now seat.new)) }
+    ensures moved { IfErr result (λ moved.
+        (same_field moved.found (field_at seat.old.me.own.held old) ≡ false)
+        × Updated P.holds P.fixed C.next (bound heap.now seat.old) place field old new moved.found
+        (bound heap.now seat.new)) }
+    ensures places { SamePlaces (bound heap.now seat.old) (bound heap.now seat.new) }
+{
+    look_and_mark(heap, seat, old, new);
+    seat.write::<C>(heap, place, field, old, new)
+}
+
+/// Looks, and marks what the barrier wants before `new` is written over `old`.
+fn look_and_mark<P: Keeping>(heap: &CellHeap<P>, seat: &mut MutSeat<P>, old: Value, new: Value)
+    requires seat { IsBound heap.now seat.old }
+    requires inside { seat.old.me.presence.inside ≡ true }
+    requires old_named { IsNamed seat.old.me.own.held old }
+    requires new_named { IsNamed seat.old.me.own.held new }
+    ensures seat { IsBound heap.now seat.new }
+    ensures calm { Calm (LookAndMarks seat.old.me.number seat.old.me.presence.status old new)
+        (bound heap.now seat.old) (bound heap.now seat.new) }
+    ensures mode { is_some seat.new.me.own.mode ≡ true }
+    ensures presence { seat.new.me.presence ≡ seat.old.me.presence }
+    ensures marks { marks_stand (barrier_in seat.new.me.presence.status seat.new.me.own.mode)
+        seat.new.me.own.held (field_at seat.new.me.own.held old)
+        (field_at seat.new.me.own.held new) ≡ true }
+{
+    let control = look_once(heap, seat);
+    let wanted = barrier(seat.status(), control);
+    mark_wanted(heap, seat, wanted, old, new);
 }
 
 /// Marks what the barrier wants.

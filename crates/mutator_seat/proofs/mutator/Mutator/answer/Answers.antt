@@ -1,31 +1,10 @@
-use Rattle.std.proofs.Common.{◌∙◌, ap, sym}
-use Rattle.cell_words.specs.Modes.{next_status_of}
-use Rattle.cell_words.specs.declared.presences.Status.{Status}
-use Rattle.core_machine.specs.Words.{requests}
-use Rattle.mutator_seat.specs.Bound.{Bound}
-use Rattle.mutator_seat.specs.Stretches.{asks_next}
-use Rattle.mutator_seat.proofs.Handshakes.{answered, unasked}
+use Rattle.std.proofs.Common.{subst}
+use Rattle.mutator_seat.specs.Bound.{Bound, bound}
+use Rattle.mutator_seat.specs.Stretches.{Calm, LookAndAnswer}
 use Rattle.mutator_seat.proofs.mutator.Mutator.answer.Goals as goal
 
-pub answer_asked-requires-clause-asked : goal.answer_asked-requires-clause-asked
-answer_asked-requires-clause-asked g c =
-    let now = c.look_once-control.new.self in
-    ap (λ (m : Bound _). requests m.seat.me.own.mode (next_status_of now.seat.me.presence.status))
-    c.look_once-control.ensures.told
-    ∙ ap (λ (own : Status). asks_next c.look_once-control.result own) (sym c.status.ensures.status)
-    ∙ sym c.if-asks_next.ensures.asks
-
-pub returns-then-asks_next-clause-calm : goal.returns-then-asks_next-clause-calm
-returns-then-asks_next-clause-calm g c =
-    answered c.args.self.now c.look_once-control.new.self c.answer_asked.new.self
-    c.look_once-control.result c.look_once-control.ensures.told
-    (c.if-asks_next.ensures.asks
-    ∙ ap (λ (own : Status). asks_next c.look_once-control.result own) c.status.ensures.status)
-    c.answer_asked.ensures.calm
-
-pub returns-else-asks_next-clause-calm : goal.returns-else-asks_next-clause-calm
-returns-else-asks_next-clause-calm g c =
-    unasked c.args.self.now c.look_once-control.new.self
-    c.look_once-control.result c.look_once-control.ensures.told
-    (c.if-asks_next.ensures.asks
-    ∙ ap (λ (own : Status). asks_next c.look_once-control.result own) c.status.ensures.status)
+pub returns-clause-calm : goal.returns-clause-calm
+returns-clause-calm g c =
+    let after = bound c.self.inside.heap.now c.answer.new.seat in
+    subst (λ (m : Bound _). Calm (LookAndAnswer m.seat.me.number m.seat.me.presence.status
+    c.answer.result) m after) c.self.view_is c.answer.ensures.calm

@@ -4,7 +4,6 @@ use Rattle.core_machine.specs.declared.events.Found.TheVariants as finds
 use Rattle.heap_rule.specs.Asks.{MayFill}
 use Rattle.heap_rule.specs.Lore.{nothing_learned}
 use Rattle.heap_rule.specs.Steps.{Picks}
-use Rattle.heap_table.specs.Seats.{SeatView}
 use Rattle.mutator_events.specs.Values.{field_at}
 use Rattle.mutator_seat.specs.Bound.{Bound, takes_with}
 use Rattle.mutator_seat.proofs.mutator.Mutator.fill.Goals as goal
@@ -22,8 +21,7 @@ fill-requires-clause-rule g c =
 
 pub returns : goal.returns
 returns g c = record {
-  told = ap (λ (s : SeatView _). record { heap = c.self.inside.heap.now; seat = s })
-      c.fill.ensures.told
+  told = c.fill.ensures.told
       ∙ ap (λ (m : Bound _). takes_with m (event.Fill m.seat.me.number c.args.place c.args.field
       (field_at m.seat.me.own.held c.args.value)) finds.Stored
       (g.C.Choice.next nothing_learned finds.Stored m.seat.me.pass)) c.self.view_is;

@@ -6,5 +6,6 @@ use Rattle.mutator_seat.proofs.mutator.Mutator.read.Goals as goal
 
 pub read-requires-clause-rule : goal.read-requires-clause-rule
 read-requires-clause-rule g c =
-    subst (λ (m : Bound _). Picks g.P.Keeping.holds g.P.Keeping.fixed g.C.Choice.next m.seat.me (event.Read m.seat.me.number c.args.place c.args.field))
+    subst (λ (m : Bound _). Picks g.P.Keeping.holds g.P.Keeping.fixed g.C.Choice.next m.seat.me
+    (event.Read m.seat.me.number c.args.place c.args.field))
     (sym c.self.view_is) c.requires.rule

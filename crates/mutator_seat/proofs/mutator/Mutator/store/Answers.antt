@@ -1,146 +1,40 @@
-use Rattle.std.proofs.Common.{true, false, inl, inr, ◌∙◌}
-use Rattle.mutator_seat.proofs.Handshakes.{looked_at}
-use Rattle.mutator_seat.proofs.Stores.{either_of, exchanged, lets_looked, lets_there, may_still}
-use Rattle.mutator_seat.proofs.Stores.{mode_there, overwritten, places_then, presence_there}
-use Rattle.mutator_seat.proofs.Stores.{wanted_looked, wanted_there}
-use Rattle.mutator_seat.proofs.Updates.{err_then, ok_then}
+use Rattle.std.proofs.Common.{◌≡◌, ◌⊎◌, false, OnOk, IfErr, sym, subst}
+use Rattle.cell_words.specs.declared.fields.Field.{Field}
+use Rattle.core_machine.specs.Words.{same_field}
+use Rattle.mutator_seat.specs.Bound.{Bound, bound}
+use Rattle.mutator_seat.specs.Stores.{Exchanged, MayOverwrite, Overwritten, PicksOverwrite}
+use Rattle.mutator_seat.specs.Stretches.{SamePlaces}
 use Rattle.mutator_seat.proofs.mutator.Mutator.store.Goals as goal
 
-pub overwrite-requires-clause-may : goal.overwrite-requires-clause-may
-overwrite-requires-clause-may g c =
-    let was = c.args.self.now in
-    let looked = c.look_once-control in
-    may_still g.P.Keeping.fixed was looked.new.self c.args.place c.args.field c.args.new
-    (looked_at was looked.new.self looked.result looked.ensures.told).kept c.requires.may
+pub store-requires-clause-may : goal.store-requires-clause-may
+store-requires-clause-may g c =
+    subst (λ (m : Bound _). MayOverwrite g.P.Keeping.fixed m.seat.me c.args.place c.args.field
+    c.args.new) (sym c.self.view_is) c.requires.may
 
-pub overwrite-requires-clause-lets : goal.overwrite-requires-clause-lets
-overwrite-requires-clause-lets g c =
-    let was = c.args.self.now in
-    let looked = c.look_once-control in
-    lets_there was looked.new.self looked.result c.status-own.result looked.ensures.told
-    c.status-own.ensures.status
-    ∙ lets_looked was looked.new.self looked.result c.status-own.result looked.ensures.told
-    c.status-own.ensures.status true c.if-lets_store.ensures.lets
+pub store-requires-clause-rule : goal.store-requires-clause-rule
+store-requires-clause-rule g c =
+    subst (λ (m : Bound _). PicksOverwrite g.P.Keeping.holds g.P.Keeping.fixed g.R.Choice.next
+    g.C.Choice.next m c.args.place c.args.field c.args.new) (sym c.self.view_is) c.requires.rule
 
-pub overwrite-requires-clause-wanted : goal.overwrite-requires-clause-wanted
-overwrite-requires-clause-wanted g c =
-    let looked = c.look_once-control in
-    wanted_there c.args.self.now looked.new.self looked.result c.status-own.result
-    looked.ensures.told c.status-own.ensures.status c.barrier-wanted.result
-    c.barrier-wanted.ensures.barrier
+pub returns-clause-made : goal.returns-clause-made
+returns-clause-made g c =
+    let after = bound c.self.inside.heap.now c.store.new.seat in
+    subst (λ (m : Bound _). OnOk c.store.result (Overwritten g.P.Keeping.holds
+    g.P.Keeping.fixed g.C.Choice.next m c.args.place c.args.field c.args.new after
+    ⊎ ((seen : Field) × Exchanged g.P.Keeping.holds g.P.Keeping.fixed g.R.Choice.next
+    g.C.Choice.next m c.args.place c.args.field c.args.new seen seen after))) c.self.view_is
+    c.store.ensures.made
 
-pub overwrite-requires-clause-rule : goal.overwrite-requires-clause-rule
-overwrite-requires-clause-rule g c =
-    let was = c.args.self.now in
-    let looked = c.look_once-control in
-    c.requires.rule.store looked.new.self
-    (looked_at was looked.new.self looked.result looked.ensures.told).kept
-    (presence_there was looked.new.self looked.result c.status-own.result looked.ensures.told
-    c.status-own.ensures.status)
+pub returns-clause-moved : goal.returns-clause-moved
+returns-clause-moved g c =
+    let after = bound c.self.inside.heap.now c.store.new.seat in
+    subst (λ (m : Bound _). IfErr c.store.result (λ moved. (seen : Field)
+    × (same_field moved.found seen ≡ false)
+    × Exchanged g.P.Keeping.holds g.P.Keeping.fixed g.R.Choice.next g.C.Choice.next m
+    c.args.place c.args.field c.args.new seen moved.found after)) c.self.view_is
+    c.store.ensures.moved
 
-pub exchange-requires-clause-may : goal.exchange-requires-clause-may
-exchange-requires-clause-may g c =
-    let was = c.args.self.now in
-    let looked = c.look_once-control in
-    may_still g.P.Keeping.fixed was looked.new.self c.args.place c.args.field c.args.new
-    (looked_at was looked.new.self looked.result looked.ensures.told).kept c.requires.may
-
-pub exchange-requires-clause-mode : goal.exchange-requires-clause-mode
-exchange-requires-clause-mode g c =
-    let looked = c.look_once-control in
-    mode_there c.args.self.now looked.new.self looked.result c.status-own.result
-    looked.ensures.told c.status-own.ensures.status
-
-pub exchange-requires-clause-wanted : goal.exchange-requires-clause-wanted
-exchange-requires-clause-wanted g c =
-    let looked = c.look_once-control in
-    wanted_there c.args.self.now looked.new.self looked.result c.status-own.result
-    looked.ensures.told c.status-own.ensures.status c.barrier-wanted.result
-    c.barrier-wanted.ensures.barrier
-
-pub exchange-requires-clause-read : goal.exchange-requires-clause-read
-exchange-requires-clause-read g c =
-    let was = c.args.self.now in
-    let looked = c.look_once-control in
-    c.requires.rule.read looked.new.self
-    (looked_at was looked.new.self looked.result looked.ensures.told).kept
-    (presence_there was looked.new.self looked.result c.status-own.result looked.ensures.told
-    c.status-own.ensures.status)
-
-pub exchange-requires-clause-rule : goal.exchange-requires-clause-rule
-exchange-requires-clause-rule g c =
-    let was = c.args.self.now in
-    let looked = c.look_once-control in
-    c.requires.rule.exchange looked.new.self
-    (looked_at was looked.new.self looked.result looked.ensures.told).kept
-    (presence_there was looked.new.self looked.result c.status-own.result looked.ensures.told
-    c.status-own.ensures.status)
-
-pub returns-then-lets_store-clause-made : goal.returns-then-lets_store-clause-made
-returns-then-lets_store-clause-made g c =
-    let was = c.args.self.now in
-    let looked = c.look_once-control in
-    let own = c.status-own.ensures.status in
-    let one = c.overwrite.ensures.rewritten in
-    inl (overwritten was looked.new.self c.overwrite.new.self looked.result c.args.place
-    c.args.field c.args.new c.barrier-wanted.result
-    (wanted_looked was looked.new.self looked.result c.status-own.result
-    looked.ensures.told own c.barrier-wanted.result c.barrier-wanted.ensures.barrier)
-    (looked_at was looked.new.self looked.result looked.ensures.told)
-    (presence_there was looked.new.self looked.result c.status-own.result looked.ensures.told own)
-    one.0
-    (lets_looked was looked.new.self looked.result c.status-own.result looked.ensures.told
-    own true c.if-lets_store.ensures.lets) one.1)
-
-pub returns-else-lets_store-clause-made : goal.returns-else-lets_store-clause-made
-returns-else-lets_store-clause-made g c =
-    let was = c.args.self.now in
-    let looked = c.look_once-control in
-    let own = c.status-own.ensures.status in
-    ok_then c.exchange.result c.exchange.ensures.made (λ one. inr (
-      one.0,
-      exchanged was looked.new.self c.exchange.new.self looked.result c.args.place c.args.field
-          c.args.new c.barrier-wanted.result
-          (wanted_looked was looked.new.self looked.result c.status-own.result
-          looked.ensures.told own c.barrier-wanted.result c.barrier-wanted.ensures.barrier)
-          (looked_at was looked.new.self looked.result looked.ensures.told)
-          (presence_there was looked.new.self looked.result c.status-own.result
-          looked.ensures.told own) one.0 one.0
-          (lets_looked was looked.new.self looked.result c.status-own.result looked.ensures.told
-          own false c.if-lets_store.ensures.lets) one.1,
-    ))
-
-pub returns-else-lets_store-clause-moved : goal.returns-else-lets_store-clause-moved
-returns-else-lets_store-clause-moved g c =
-    let was = c.args.self.now in
-    let looked = c.look_once-control in
-    let own = c.status-own.ensures.status in
-    err_then c.exchange.result c.exchange.ensures.moved (λ moved one. (
-      one.0,
-      one.1,
-      exchanged was looked.new.self c.exchange.new.self looked.result c.args.place c.args.field
-          c.args.new c.barrier-wanted.result
-          (wanted_looked was looked.new.self looked.result c.status-own.result
-          looked.ensures.told own c.barrier-wanted.result c.barrier-wanted.ensures.barrier)
-          (looked_at was looked.new.self looked.result looked.ensures.told)
-          (presence_there was looked.new.self looked.result c.status-own.result
-          looked.ensures.told own) one.0 moved.found
-          (lets_looked was looked.new.self looked.result c.status-own.result looked.ensures.told
-          own false c.if-lets_store.ensures.lets) one.2,
-    ))
-
-pub returns-then-lets_store-clause-places : goal.returns-then-lets_store-clause-places
-returns-then-lets_store-clause-places g c =
-    let was = c.args.self.now in
-    let looked = c.look_once-control in
-    let calm = looked_at was looked.new.self looked.result looked.ensures.told in
-    places_then calm.kept c.overwrite.ensures.rewritten.1.places
-
-pub returns-else-lets_store-clause-places : goal.returns-else-lets_store-clause-places
-returns-else-lets_store-clause-places g c =
-    let was = c.args.self.now in
-    let looked = c.look_once-control in
-    let calm = looked_at was looked.new.self looked.result looked.ensures.told in
-    places_then calm.kept
-    (either_of c.exchange.result c.exchange.ensures.made c.exchange.ensures.moved
-    (λ one. one.1.places) (λ moved one. one.2.places))
+pub returns-clause-places : goal.returns-clause-places
+returns-clause-places g c =
+    let after = bound c.self.inside.heap.now c.store.new.seat in
+    subst (λ (m : Bound _). SamePlaces m after) c.self.view_is c.store.ensures.places

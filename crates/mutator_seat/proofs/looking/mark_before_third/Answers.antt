@@ -1,6 +1,6 @@
 use Rattle.std.proofs.Common.{◌≡◌, Bool, true, false, refl}
 use Rattle.std.specs.Prelude.{◌||◌}
-use Rattle.mutator_seat.proofs.mutator.Mutator.mark_before_third.Goals as goal
+use Rattle.mutator_seat.proofs.looking.mark_before_third.Goals as goal
 
 by_right : (a b : Bool) → b ≡ true → (a || b) ≡ true
 by_right true b is = refl
