@@ -68,7 +68,7 @@ module _ (a b c d : Bound MailPass) (place p s v : ℕ) (first : FindsPart a b p
         value = three t;
       }
 
--- a fresh cell is none that is known as an item, where what is known fits together
+-- a fresh cell is none that is known as an item, where what is known is coherent
 pub fresh_apart : (v : View MailPass) → IsCoherent v → (place at : ℕ) (item : Item)
     → place < length v.own.held → KnowsItem v at item
     → known_fresh (known_of v place) ≡ true → target v place ≢ target v at
@@ -85,7 +85,7 @@ fresh_apart v coherent place at item lt has fresh same =
     boxed (knows.Record t) fresh kind = absurd cc
     boxed (knows.Boxed terms) fresh kind = absurd cc
 
--- and stays so
+-- and that stays so
 pub fresh_still : (k l : Known) → StillKnown is_fixed k l → known_fresh k ≡ true
     → known_fresh l ≡ true
 fresh_still knows.Nothing l still fresh = absurd cc

@@ -35,7 +35,7 @@ use Rattle.held_places.proofs.Going.{many_held}
 use Rattle.held_places.proofs.Steps.{same_value, was_read}
 use Rattle.held_places.proofs.ReadValues.{found_held, found_null, found_number}
 
--- what is known of an item is known still
+-- what is known of an item is still known
 pub item_known : (j k : Known) (item : Item) → StillKnown is_fixed j k → IsItemKnown j item
     → IsItemKnown k item
 item_known j k item still is =
@@ -48,7 +48,7 @@ item_known j k item still is =
       value_is = boxed.1.1 2 (num item.value) (omega arith) refl is.value_is;
     }
 
--- an item that is held is held still
+-- an item that is held is still held
 pub item_still : (a b : Bound MailPass) (cells : List ℕ) → held_cells b ≡ held_cells a ++ cells
     → StaysKnown is_fixed (length a.seat.me.own.held) a b → (place : ℕ) (item : Item)
     → KnowsItem a.seat.me place item → KnowsItem b.seat.me place item
@@ -60,7 +60,7 @@ item_still a b cells held stays place item knows = record {
       (stays place knows.there) knows.known;
 }
 
--- one item is known at a place
+-- at most one item is known at a place
 pub one_item : (v : View MailPass) (place : ℕ) (one other : Item) → KnowsItem v place one
     → KnowsItem v place other → one ≡ other
 one_item v place one other p q =
@@ -161,7 +161,7 @@ module _ (a b : Bound MailPass) (heap : b.heap ≡ a.heap) (table : b.seat.table
       is.anchor in
       finds_item a b heap table 0 0 is.some found step told.item told.tells_item next value
 
--- The field behind an item.
+-- The field that names the next item.
 
 module _ (a b : Bound MailPass) (heap : b.heap ≡ a.heap) (table : b.seat.table ≡ a.seat.table)
     (place : ℕ) (item : Item) (knows : KnowsItem a.seat.me place item) (found : Field)

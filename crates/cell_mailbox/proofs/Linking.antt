@@ -1,4 +1,4 @@
--- One try of a send: the claimed box behind the last item.
+-- One try of a send: the claimed box is put after the last item.
 use Rattle.std.proofs.Common.{◌≡◌, ◌≢◌, ◌<◌, ◌+◌, ℕ, Bool, true, false, List, [], ◌∷◌, ◌++◌}
 use Rattle.std.proofs.Common.{length, refl, sym, ◌∙◌, ap, subst, arith}
 use Rattle.std.proofs.lemmas.List.{append_assoc, append-nil}
@@ -94,7 +94,7 @@ module _ (a b d : Bound MailPass) (held position fresh : ℕ) (inside : IsIn a)
   last_there =
       let one = many_held a b (ends.stands.cell ∷ []) ends.stands.cells in omega (arith, is, one)
 
-  -- a place of before is one of those before the box
+  -- an earlier place is one of those before the box
   before : (place : ℕ) → place < length a.seat.me.own.held → place < length b.seat.me.own.held
   before place lt =
       let many = many_held a b (ends.stands.cell ∷ []) ends.stands.cells in omega (arith, many, lt)

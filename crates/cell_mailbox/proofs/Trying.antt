@@ -44,7 +44,7 @@ item_kept a b kept place item knows =
     item_still a b [] (kept.held ∙ sym (append-nil (held_cells a)))
     (kept_known is_fixed (length a.seat.me.own.held) a b kept) place item knows
 
--- A look at the item behind the last that was taken, which does nothing.
+-- A look at the item after the last that was taken, which does nothing.
 
 looked : (a c : Bound MailPass) (cells : List ℕ) → Reads [] cells a c → LostTry a c
 looked a c cells reads = record {

@@ -73,7 +73,7 @@ module _ (a b : Bound MailPass) (held : ℕ) (is : held ≡ length a.seat.me.own
   stands_room room =
       let many = stands_many in let same = stands.goes.room in omega (arith, room, many, same)
 
-  -- what was known before is known behind a read
+  -- what was known before is known after a read
   known_behind : (c : Bound MailPass) (asks : List Ask) (cells : List ℕ) → Reads asks cells b c
       → AllKnown a c
   known_behind c asks cells reads =
@@ -81,7 +81,7 @@ module _ (a b : Bound MailPass) (held : ℕ) (is : held ≡ length a.seat.me.own
       (known_below is_fixed (length b.seat.me.own.held) (length a.seat.me.own.held) b c
       (let many = stands_many in omega (arith, many)) reads.holds.known)
 
-  -- The item behind it.
+  -- The item after it.
 
   module _ (c : Bound MailPass) (next : ℕ) (finds : FindsNext b c held next) where
     abbrev cell : ℕ
@@ -152,7 +152,7 @@ module _ (a b : Bound MailPass) (held : ℕ) (is : held ≡ length a.seat.me.own
           many = keep_many c d held next p told there front finds.finds.reads.many;
         }
 
-  -- No item is behind it.
+  -- No item comes after it.
 
   module _ (c d : Bound MailPass) (position : ℕ) (last : FindsLast b c held)
       (part : FindsPart c d held 0 position) where

@@ -28,11 +28,11 @@ use Rattle.cell_mailbox.specs.declared.turns.Post.TheVariants as posts
 use Rattle.cell_mailbox.specs.declared.turns.Turn.{Turn}
 use Rattle.cell_mailbox.specs.declared.turns.Turn.TheVariants as turns
 
--- what was known of the places that were held is known of them still
+-- what was known of the places that were held is still known
 abbrev pub AllKnown : Bound MailPass → Bound MailPass → Type 0
 AllKnown old new = StaysKnown is_fixed (length old.seat.me.own.held) old new
 
--- The trail grew by events that show these, and of the places before it only more may follow.
+-- The trail grew by events that show these, and of the earlier places no less is known.
 pub record Leaves (asks : List Ask) (old new : Bound MailPass) : Type 0 where
   pub goes : Goes asks old new
   pub cells : List ℕ
@@ -44,8 +44,8 @@ pub record Returns (asks : List Ask) (old new : Bound MailPass) : Type 0 where
   pub goes : Goes asks old new
   pub held : held_cells new ≡ held_cells old
 
--- Up to a write the pass is as it was. The write found what it was to find, and behind it the pass
--- is the one that was picked there. No more of it changes.
+-- Up to a write the pass is as it was. The write found what it was to find, and after it the pass
+-- is the one that was picked there. Nothing after the write changes the pass.
 pub record AtOneWrite (old new : Bound MailPass) (writes : View MailPass → Event)
     (next : Learned → Found → MailPass → MailPass) (found : Field) : Type 0 where
   pub at : View MailPass
@@ -67,7 +67,7 @@ pub record TookOnce (old new : Bound MailPass) (item : Item) : Type 0 where
       (next_taken (field.Cell from) item) (field.Cell from)
   pub pass : new.seat.me.pass ≡ having_taken item old.seat.me.pass
 
--- an item was sent: a box became the one behind the last
+-- an item was sent: a box became the one after the last
 pub record SentOnce (old new : Bound MailPass) (sent : Sent) : Type 0 where
   pub place : ℕ
   pub box : ℕ

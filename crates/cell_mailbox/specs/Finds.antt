@@ -12,8 +12,8 @@ use Rattle.held_places.specs.Calls.{Goes, Holds, IsCoherent}
 use Rattle.mail_rule.specs.declared.mail_pass.MailPass.{MailPass}
 use Rattle.mail_rule.specs.Mail.{is_fixed}
 
--- Reads that show these in the trail and left these cells held behind all others. The pass is as it
--- was.
+-- Reads that show these in the trail, and after which these cells are held after all others. The
+-- pass is as it was.
 pub record Reads (asks : List Ask) (cells : List ℕ) (old new : Bound MailPass) : Type 0 where
   pub goes : Goes asks old new
   pub holds : Holds is_fixed cells old new
@@ -31,13 +31,13 @@ pub record FindsItem (old new : Bound MailPass) (place f found : ℕ) : Type 0 w
   pub knows : KnowsItem new.seat.me found item
   pub small : IsSmall item
 
--- it is the item behind the one at that place
+-- it is the item after the one at that place
 pub record FindsNext (old new : Bound MailPass) (place next : ℕ) : Type 0 where
   pub finds : FindsItem old new place 3 next
   pub follows : (item : Item) → KnowsItem old.seat.me place item
       → finds.item.position ≡ item.position + 1
 
--- no item is behind it
+-- no item comes after it
 pub record FindsLast (old new : Bound MailPass) (place : ℕ) : Type 0 where
   pub reads : Reads (gave_at (target old.seat.me place) 3 field.Null ∷ []) [] old new
 

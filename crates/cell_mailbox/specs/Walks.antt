@@ -11,7 +11,7 @@ use Rattle.held_places.specs.Calls.{Goes, known_fresh}
 use Rattle.cell_mailbox.specs.Ends.{AllKnown}
 use Rattle.cell_mailbox.specs.Pacing.{Prompt}
 
--- one item is held behind all that was held before
+-- one item is held after all that was held before
 pub record Stands (old new : Bound MailPass) (held : ℕ) : Type 0 where
   pub goes : Goes [] old new
   pub cell : ℕ
@@ -32,7 +32,7 @@ pub record EndsAt (old new : Bound MailPass) (held position : ℕ) : Type 0 wher
       → known_fresh (known_of old.seat.me place) ≡ true
       → target old.seat.me place ≢ target new.seat.me held
 
--- Among the events of a call is such a walk, and on its way it answers in time.
+-- Such a walk is among the events of a call, and it answers in time.
 pub record Walked (old new : Bound MailPass) : Type 0 where
   pub from : Bound MailPass
   pub to : Bound MailPass

@@ -1,9 +1,10 @@
 //! A mailbox in the boxes of a collected heap: what one mutator may do with it.
 //!
 //! `send` puts an item after the last one, `take` takes the first that nobody has taken. Each is
-//! one exchange of one field, tried again where another was faster; a send waits before, so that
-//! many senders do not meet again. `await_item` waits for the next item. A walk to the last item
-//! and either wait answer handshakes, so no cycle waits for them.
+//! one exchange of one field, and is tried again where another mutator was faster. A send waits
+//! before it tries again, so that many senders do not collide again. `await_item` waits for the
+//! next item. The walk to the last item and both waits answer handshakes, so no cycle waits for
+//! them.
 //!
 //! Reading order: specs/Finds, Ends, Makes, Walks; `rows`, `reading`, `waiting`, `taking`,
 //! `sending`.

@@ -1,4 +1,4 @@
-//! Reading the mailbox: the item that was taken last, the item behind one, and what an item is.
+//! Reading the mailbox: the item that was taken last, the item after one, and what an item is.
 ghost use Rattle.std.specs.Prelude.{ℕ, ◌≡◌, ◌<◌, ◌≤◌, IfNone, IfSome, length};
 ghost use Rattle.held_places.specs.Calls.{IsIn};
 ghost use Rattle.cell_mailbox.specs.Finds.{FindsItem, FindsLast, FindsNext, FindsPart, FindsWhole};
@@ -23,7 +23,7 @@ pub(crate) fn read_latest(m: &mut Mutator<'_, MailPass>) -> usize
     }
 }
 
-/// The place of the item behind the one at a place, if there is one.
+/// The place of the item after the one at a place, if there is one.
 pub(crate) fn read_next(m: &mut Mutator<'_, MailPass>, place: usize) -> Option<usize>
     requires inside { IsIn m.old }
     requires room { length m.old.seat.me.own.held < m.old.seat.me.room }

@@ -28,8 +28,8 @@ use std::sync::Wait;
 use thread_waits::Backoff;
 
 /// Sends a value, and tells its position. The box is claimed after a walk to the last item. Where
-/// another mutator sends first, the box is given up, and a new one is claimed for the new position,
-/// after a wait: of some 128 microseconds at most, and from the second time on of some 256.
+/// another mutator sends first, the box is dropped, and after a wait a new one is claimed for the
+/// new position. The wait is at most some 128 microseconds, and from the second time on some 256.
 pub fn send<R: Wait>(
     rt: &R,
     hints: &mut Hints<'_>,
@@ -102,8 +102,8 @@ fn try_to_send<R: Wait>(
     }
 }
 
-/// Walks to the last item, which is then held after all that was held before. Its position is
-/// told.
+/// Walks to the last item, which is then held after all that was held before. It tells the position
+/// of that item.
 fn find_last<R: Wait>(rt: &R, m: &mut Mutator<'_, MailPass>, held: usize) -> u64
     requires inside { IsIn m.old }
     requires held { held ≡ length m.old.seat.me.own.held }
@@ -150,8 +150,8 @@ fn make_item<R: Wait>(
     fill_box(rt, hints, m, fields)
 }
 
-/// Exchanges null in the box of an item for the fresh box. What is sent serves the pass that the
-/// caller picks, and nothing at run time.
+/// Exchanges null in the box of an item for the fresh box. What is sent only serves the pass that
+/// the caller picks; at run time it does nothing.
 fn link<C: Choice<MailPass>>(
     m: &mut Mutator<'_, MailPass>,
     last: usize,

@@ -19,7 +19,7 @@ use std::marker::Brand;
 use std::sync::Wait;
 
 /// Takes the first item that nobody has taken, if there is one. Where another mutator takes it
-/// first, it goes for the next one.
+/// first, it tries the next one.
 pub fn take<R: Wait>(rt: &R, m: &mut Mutator<'_, MailPass>) -> Option<Item>
     requires inside { m.old.seat.me.presence.inside ≡ true }
     requires room { length m.old.seat.me.own.held + 8 ≤ m.old.seat.me.room }
@@ -41,7 +41,7 @@ pub fn take<R: Wait>(rt: &R, m: &mut Mutator<'_, MailPass>) -> Option<Item>
     unreachable!()
 }
 
-/// Tries once to take the item behind the one that was taken last.
+/// Tries once to take the item after the one that was taken last.
 fn try_to_take(m: &mut Mutator<'_, MailPass>) -> Turn
     requires inside { IsIn m.old }
     requires room { length m.old.seat.me.own.held + 2 < m.old.seat.me.room }
@@ -61,8 +61,8 @@ fn try_to_take(m: &mut Mutator<'_, MailPass>) -> Turn
     }
 }
 
-/// Exchanges the anchor's field, from the box of one item to that of the item behind it. The item
-/// serves the pass that the caller picks, and nothing at run time.
+/// Exchanges the anchor's field, from the box of one item to that of the item after it. The item
+/// only serves the pass that the caller picks; at run time it does nothing.
 fn go_on<C: Choice<MailPass>>(
     m: &mut Mutator<'_, MailPass>,
     latest: usize,

@@ -10,9 +10,10 @@ use mail_rule::MailPass;
 use mutator_seat::Mutator;
 use thread_waits::{Backoff, wait_piece};
 
-/// Waits until an item is there to take, for so many looks at most. Each look in vain is followed
-/// by some 4 microseconds of waiting, and after each fourth the processor is offered to others.
-/// Without looks it does nothing. What it saw is not told, since another mutator may be faster.
+/// Waits until there is an item to take, for at most so many looks. Each look that finds none is
+/// followed by some 4 microseconds of waiting, and after each fourth the processor is offered to
+/// others. Without looks it does nothing. What it saw is not told, since another mutator may be
+/// faster.
 pub fn await_item(m: &mut Mutator<'_, MailPass>, looks: u32)
     requires inside { m.old.seat.me.presence.inside ≡ true }
     requires room { length m.old.seat.me.own.held + 8 ≤ m.old.seat.me.room }

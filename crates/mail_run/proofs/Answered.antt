@@ -57,7 +57,7 @@ pub is_send : (lines : List ℕ) (answers : List (Option ℕ)) (sent : Sent)
     → Contains (sends_in lines answers) sent → IsSend lines answers sent
 is_send lines answers sent has = send_at lines answers has.0 sent has.1 has.2
 
--- Of all senders, where the last pass is the receiver's and has no sends.
+-- Of all senders; the last pass is the receiver's and has no sends.
 pub positions_of_all : (passes : List MailPass) (sent : List (List (Option ℕ)))
     → length passes ≡ length sent + 1
     → ((i : ℕ) (pass : MailPass) (answers : List (Option ℕ)) → get_elem? passes i ≡ some pass

@@ -1,4 +1,4 @@
--- The items behind the anchor's box, from the map of boxes to the words.
+-- The items after the anchor's box, from the map of boxes to the words.
 use Rattle.std.proofs.Common.{◌≡◌, ℕ, zero, suc, ◌+◌, ◌-◌, ◌≤◌, List, [], ◌∷◌, length, Some, None}
 use Rattle.std.proofs.Common.{Bool, map as mapped, refl, ◌∙◌, ap, arith}
 use Rattle.std.proofs.Common.{if◌then◌else◌}

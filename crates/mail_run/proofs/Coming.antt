@@ -1,4 +1,4 @@
--- What a run comes to, from what stands at the close of its heap.
+-- What a run comes to, from what holds at the close of its heap.
 use Rattle.std.proofs.Common.{◌≡◌, ◌≤◌, ◌<◌, ◌+◌, ◌-◌, ◌++◌, ℕ, zero, suc, false, List, [], ◌∷◌}
 use Rattle.std.proofs.Common.{All, length}
 use Rattle.std.proofs.Common.{Contains, flat_map, map, Option, None, inl, inr, refl, sym, ◌∙◌, ap}
@@ -57,12 +57,12 @@ sound cells senders least most = record {
   few = most;
 }
 
--- one index has one element
+-- there is one element at an index
 once_at : {A : Type 0} (xs : List A) (i : ℕ) (x y : A) → get_elem? xs i ≡ some x
     → get_elem? xs i ≡ some y → x ≡ y
 once_at xs i x y one other = some-injective x y (sym one ∙ other)
 
--- numbers of which nothing is made are none
+-- a list of numbers that maps to no element is empty
 none_in_row : {B : Type 0} (f : ℕ → B) (ns : List ℕ) → [] ≡ map f ns → ns ≡ []
 none_in_row f [] is = refl
 none_in_row f (n ∷ ns) is = absurd (

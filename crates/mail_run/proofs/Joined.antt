@@ -40,7 +40,7 @@ use Rattle.trails.specs.Marks.{marks_of}
 pub so_many : (scripts : List (Vec ℕ Global)) → length (lists_of scripts) ≡ length scripts
 so_many scripts = length-map scripts (λ (script : Vec ℕ Global). script.items)
 
--- a join behind others changes no more of the collector's seat
+-- a join after others changes no more of the collector's seat
 pub still_joined : (old mid new seat : SeatView MailPass) → IsStill old mid
     → new ≡ record mid { me = joined_view mid.me seat.me } → IsStill old new
 still_joined old mid new seat still new_is = record {
@@ -50,7 +50,7 @@ still_joined old mid new seat still new_is = record {
   trail = ap (λ (s : SeatView MailPass). s.me.trail) new_is ∙ still.trail;
 }
 
--- the receiver's join, behind those of the senders
+-- the receiver's join, after those of the senders
 pub back : (heap : HeapId) (scripts : List (Vec ℕ Global)) (sent : List (Vec (Option ℕ) Global))
     (receiver : Receiver) (lines : ℕ) (items : List Item) (failed : Bool)
     (old mid new : SeatView MailPass) → AreTaken heap.shape.cells scripts sent old mid
@@ -101,7 +101,7 @@ back heap scripts sent receiver lines items failed old mid new taken fit through
           };
     }
 
--- the collector behind all joins
+-- the collector after all joins
 pub served : (heap : HeapId) (queue : FreeQueue) (cells cycles : ℕ) (scripts : List (List ℕ))
     (sent : List (Vec (Option ℕ) Global)) (items : List Item) (failed : Bool)
     (first mid joined last : SeatView MailPass) (standby : Option Standby)
@@ -138,7 +138,7 @@ served heap queue cells cycles scripts sent items failed first mid joined last s
           trail none w,
     )
 
--- and the image of that
+-- and the image then
 pub closed : (cells cycles : ℕ) (scripts : List (List ℕ)) (c : Closed) (h : Shape)
     → h ≡ mail_shape cells (length scripts)
     → (ended : Ended opening_pass HoldsMail is_fixed h (Unit {0}) c.image.words c.passes)

@@ -19,7 +19,7 @@ module _ (who one first : ℕ) (others : List ℕ) where
       ap (λ (here : Bool). if here then first ∷ positions_of who (first + 1) others
       else positions_of who (first + 1) others) (ne_eqb one who other)
 
--- Whose positions are none took nothing behind the first either.
+-- A mutator without positions among these items has none after the first either.
 none_behind : (who one first : ℕ) (others : List ℕ)
     → positions_of who first (one ∷ others) ≡ [] → positions_of who (first + 1) others ≡ []
 none_behind who one first others none = elim (cases_eq one who) [

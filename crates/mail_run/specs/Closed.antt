@@ -1,4 +1,4 @@
--- What stands where the heap of a run is closed, before its image is read.
+-- What holds when the heap of a run is closed, before its image is read.
 -- Source: this project's.
 use Rattle.std.specs.Prelude.{ℕ, ◌≡◌, ◌<◌, ◌+◌, Bool, false, List, length, Vec, Option}
 use Rattle.std.specs.declared.alloc.Global.{Global}
@@ -23,8 +23,8 @@ use Rattle.mail_run.specs.Comes.{lines_in}
 use Rattle.mail_run.specs.declared.closed.Closed.{Closed}
 use Rattle.trails.specs.Marks.{marks_of}
 
--- The receiver's seat was joined. Unless memory was wanting, it took a turn for each of so many
--- lines, and more until one found nothing, and took these items.
+-- The receiver's seat was joined. Unless memory ran out, it took a turn for each of so many lines,
+-- and more until one found nothing, and took these items.
 pub record HasDrained (lines : ℕ) (items : List Item) (failed : Bool)
     (joined : List (Place MailPass)) (i : ℕ) : Type 0 where
   pub share : Share MailPass
@@ -41,7 +41,7 @@ pub record AreThrough (cells : ℕ) (scripts : List (List ℕ))
       → HasPosted cells scripts (answers_of sent) joined i
   pub drained : HasDrained (lines_in scripts) items failed joined (length scripts)
 
--- So it is behind the joins; the collector's seat is as it was, but for where the parts of its
+-- This is so after the joins; the collector's seat is as it was, except for where the parts of its
 -- mutators are.
 pub record AreBack (cells : ℕ) (scripts : List (List ℕ))
     (sent : List (Vec (Option ℕ) Global)) (items : List Item) (failed : Bool)
@@ -49,7 +49,7 @@ pub record AreBack (cells : ℕ) (scripts : List (List ℕ))
   pub still : IsStill old new
   pub through : AreThrough cells scripts sent items failed new.me.places
 
--- And so it is at the close, where the image shows a mailbox's heap, and the collector has served.
+-- This is so at the close, where the image shows a mailbox's heap, and the collector has served.
 pub record IsClosed (cells cycles : ℕ) (scripts : List (List ℕ)) (closed : Closed)
     : Type 0 where
   pub ended : Ended opening_pass HoldsMail is_fixed (mail_shape cells (length scripts)) (Unit {0})

@@ -1,8 +1,8 @@
 -- What a run of a mailbox comes to: what each line was answered, the items, and what the seats had
 -- at the close.
 --
--- All is said of one heap that was opened for this run and closed behind it, with a mutator for
--- each sender and the last one for the receiver.
+-- All is said of one heap that was opened for this run and closed after it, with a mutator for each
+-- sender and the last one for the receiver.
 -- Source: this project's.
 use Rattle.std.specs.Prelude.{ℕ, ◌≡◌, ◌≤◌, ◌<◌, ◌+◌, ◌++◌, List, [], ◌∷◌, length, map, flat_map}
 use Rattle.std.specs.Prelude.{Contains, Option, Some, None, Vec}
@@ -59,8 +59,8 @@ pub record IsLine (scripts : List (List ℕ)) (sent : List (List (Option ℕ))) 
   pub value_at : get_elem? lines place ≡ some item.value
   pub position_at : get_elem? answers place ≡ some (Some item.position)
 
--- The receiver's seat was joined: its pass has these takes, and its trail a stretch for each of so
--- many lines, one after the other, and behind them more, of which the last found nothing.
+-- The receiver's seat was joined: its pass has these takes. Its trail has a stretch for each of so
+-- many lines, one after the other, and after them more, of which the last found nothing.
 pub record HasTaken (lines : ℕ) (taken : List Item) (joined : List (Place MailPass)) (i : ℕ)
     : Type 0 where
   pub share : Share MailPass
@@ -75,14 +75,14 @@ pub record ComesMail (cells cycles : ℕ) (scripts : List (List ℕ))
   pub words : List ℕ
   pub ended : Ended opening_pass HoldsMail is_fixed (mail_shape cells (length scripts)) (Unit {0})
       words passes
-  -- each line has its position or none; each position from 1 on is had by one line
+  -- each line has its position or none; each position from 1 on belongs to one line
   pub many : length sent ≡ length scripts
   pub posted : (i : ℕ) → i < length scripts
       → HasPosted cells scripts (answers_of sent) passes.places i
   pub rise : (i : ℕ) → i < length scripts → HasRisen (answers_of sent) i
   pub once : EachOnce (flat_map positions_in (answers_of sent))
-  -- the items have the positions from 1 to how many they are, in order, and each is the line that
-  -- has its position
+  -- the items have the positions from 1 to their count, in order, and each is the line that has its
+  -- position
   pub positions : map (λ item. item.position) items
       ≡ range_with_len 1 (length (flat_map positions_in (answers_of sent)))
   pub lines : (item : Item) → Contains items item → IsLine scripts (answers_of sent) item
@@ -94,7 +94,7 @@ pub record ComesMail (cells cycles : ℕ) (scripts : List (List ℕ))
   -- a line found the heap full only where every cell was claimed
   pub full : (i : ℕ) (answers : List (Option ℕ)) → get_elem? (answers_of sent) i ≡ some answers
       → Contains answers None → cells ≤ claims_of ended.shows.core + 2
-  -- the collector served, in at most as many cycles as it may; and fewer leave no garbage
+  -- the collector served, in at most as many cycles as it may make; and fewer leave no garbage
   pub service : IsService cycles (length scripts + 1) ended.shows.core.control.cycles passes.trail
   pub cycles_are : ended.shows.core.control.cycles ≤ cycles
   pub tidy : ended.shows.core.control.cycles < cycles → IsTidy ended.shows.core

@@ -1,4 +1,4 @@
--- The items behind a box, as the fields of a state have them.
+-- The items after a box, as the fields of a state have them.
 -- Source: this project's.
 use Rattle.std.specs.Prelude.{ℕ, zero, suc, nat_le, if◌then◌else◌, List, [], ◌∷◌, Option, Some}
 use Rattle.std.specs.Prelude.{None}
@@ -35,7 +35,7 @@ rest_of s (suc n) (Some cell) = item_of s cell ∷ rest_of s n (cell_in (field_o
 abbrev pub most_items : ℕ
 most_items = 6_400_000
 
--- those behind the box that the anchor names
+-- those after the box that the anchor names
 abbrev pub behind_named : State → Option ℕ → List Item
 behind_named s None = []
 behind_named s (Some taken) = rest_of s most_items (cell_in (field_of s taken 3))

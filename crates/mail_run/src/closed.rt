@@ -1,7 +1,7 @@
 use cell_heap::{Image, Passes};
 use cell_mailbox::{Item, MailPass};
 
-/// What a run comes to where its heap is closed.
+/// What a run comes to when its heap is closed.
 #[derive(Drop)]
 pub(crate) struct Closed {
     pub(crate) image: Image,
@@ -9,6 +9,6 @@ pub(crate) struct Closed {
     pub(crate) sent: Vec<Vec<Option<u64>>>,
     /// what the receiver has taken
     pub(crate) items: Vec<Item>,
-    /// memory was wanting for an item
+    /// memory ran out for an item
     pub(crate) failed: bool,
 }

@@ -30,7 +30,7 @@ fn lines_of(scripts: &[Vec<u64>]) -> u32
     lines
 }
 
-/// Joins the seat of the receiver, and gives what it has taken, and whether memory was wanting.
+/// Joins the seat of the receiver, and gives what it has taken, and whether memory ran out.
 fn received(
     heap: &CellHeap<MailPass>,
     receiver: Receiver,
@@ -52,8 +52,8 @@ fn received(
     (items, failed)
 }
 
-/// Runs the senders and the receiver on the opened heap, and closes it. The list has room for what
-/// the lines are answered.
+/// Runs the senders and the receiver on the opened heap, and closes it. The list has room for the
+/// answers to the lines.
 pub(crate) fn run_opened<R: Threads + Wait + Sync>(
     alloc: Global,
     rt: &R,

@@ -1,7 +1,7 @@
 use cell_heap::Passes;
 use cell_mailbox::{Item, MailPass};
 
-/// What a run comes to: what each line of each script was answered, the items in the order of their
+/// The result of a run: what each line of each script was answered, the items in the order of their
 /// positions, and what all seats had at the close.
 #[derive(Drop)]
 pub struct MailRun {

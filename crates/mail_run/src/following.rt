@@ -15,7 +15,7 @@ use closed_heap::{field_at, number_of};
 /// How many items a mailbox has at most: each of 64 mutators sends at most 100,000.
 const MOST: u32 = 6_400_000;
 
-/// The number in a field of a cell, and 0 where none is.
+/// The number in a field of a cell; 0 if there is none.
 fn number_at(image: &Image, cell: u32, i: usize) -> u64
     requires { i < 6 }
     ensures number { (s : State) → Shows image.now s → result ≡ number_in (field_of s cell i) }
@@ -52,7 +52,7 @@ fn item_at(image: &Image, cell: u32) -> Item
     }
 }
 
-/// Puts the items of a box and of those behind it to the others, unless memory is wanting.
+/// Appends the items of a box and of those after it to the others, unless memory runs out.
 fn follow(image: &Image, first: Option<u32>, items: &mut Vec<Item>) -> bool
     ensures rest { OnTrue result ((s : State) → Shows image.now s
         → items.new.items ≡ items.old.items ++ rest_of s most_items first) }
@@ -72,7 +72,7 @@ fn follow(image: &Image, first: Option<u32>, items: &mut Vec<Item>) -> bool
     true
 }
 
-/// Puts the items that nobody took to the others, unless memory is wanting.
+/// Appends the items that nobody took to the others, unless memory runs out.
 pub(crate) fn append_rest(image: &Image, items: &mut Vec<Item>) -> bool
     ensures rest { OnTrue result ((s : State) → Shows image.now s
         → items.new.items ≡ items.old.items ++ rest_in s) }

@@ -1,5 +1,5 @@
-//! A run of a mailbox: senders and one receiver beside the collector, from the opening of a heap to
-//! its close.
+//! A run of a mailbox: senders, one receiver and the collector run concurrently, from the opening
+//! of a heap to its close.
 //!
 //! The layer above may rely on what `ComesMail` says: each line has its position or none, the items
 //! have the positions from 1 on in order, and the item at a position is the line that has it. Items

@@ -15,9 +15,9 @@ use std::alloc::Global;
 use std::sync::Wait;
 use std::thread::Threads;
 
-/// Sends the lines of each script to one mailbox, by a sender on a thread of its own, beside one
-/// receiver and the collector. The receiver takes once for each line, and behind the senders until
-/// nothing is left. What is left then all the same is read off the closed heap.
+/// Sends the lines of each script to one mailbox, by a sender on a thread of its own, alongside one
+/// receiver and the collector. The receiver takes once for each line, and after the senders are
+/// through until nothing is left. If something is left even then, it is read off the closed heap.
 ///
 /// Where no thread could be made for the collector, it serves when all seats are joined.
 pub fn mail_run<R: Threads + Wait + Sync>(
@@ -42,8 +42,8 @@ pub fn mail_run<R: Threads + Wait + Sync>(
     finish(scripts, cells, cycles, closed)
 }
 
-/// Puts the items that nobody took behind those that the receiver has. The scripts and the numbers
-/// are those of the run: contracts alone read them.
+/// Puts the items that nobody took after those that the receiver has. The scripts and the numbers
+/// are those of the run: only contracts read them.
 fn finish(
     scripts: &[Vec<u64>],
     cells: u32,

@@ -26,7 +26,7 @@ goes_grown a b goes = record {
   is = ap marks_of goes.trail ∙ marks_append no_own a.seat.me.trail goes.added;
 }
 
--- what a call asks of its events, a stretch of the whole trail shows
+-- a stretch of the whole trail shows what a call asks of its events
 pub goes_had : {asks : List Ask} (P : List Mark → Type 0) (a b : Bound MailPass)
     → a.seat.me.own ≡ own_along no_own a.seat.me.trail → Goes asks a b
     → ((ms : List Mark) → InOrder asks ms → P ms) → Had P (marks a) (marks b)
@@ -52,7 +52,7 @@ full_had a b full calm =
 pub returns_none : (a : Bound MailPass) → Returns [] a a
 returns_none a = record { goes = goes_none a; held = refl }
 
--- what is asked of the second call is not asked of both
+-- what the second call asks is not asked of both together
 pub returns_then : (asks : List Ask) (a b c : Bound MailPass) → Returns [] a b → Returns asks b c
     → Returns [] a c
 returns_then asks a b c first second = record {

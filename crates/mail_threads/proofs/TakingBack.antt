@@ -1,4 +1,4 @@
--- The senders that are taken back, one after the other.
+-- The senders, taken back one after the other.
 use Rattle.std.proofs.Common.{◌≡◌, ◌<◌, ◌++◌, ℕ, zero, suc, List, [], ◌∷◌, length}
 use Rattle.std.proofs.Common.{Option, refl, arith}
 use Rattle.std.specs.Prelude.{Vec}

@@ -45,7 +45,7 @@ pub record TakesOne (answer : Option Item) (old new : Bound MailPass) : Type 0 w
   pub pass : new.seat.me.pass ≡ with_item answer old.seat.me.pass
   pub shows : Had (TurnShows answer) (marks old) (marks new)
 
--- these lines were sent, of a mutator that had sent nothing
+-- these lines were sent by a mutator that had sent nothing
 pub record Posted (lines : List ℕ) (answers : List (Option ℕ)) (old new : Bound MailPass)
     : Type 0 where
   pub returns : Returns [] old new
@@ -66,7 +66,7 @@ pub record Drained (before items : List Item) (old new : Bound MailPass) : Type 
   pub shown : (earlier : List (Option Item)) → InTurn TurnShows earlier (marks old)
       → InTurn TurnShows (earlier ++ turns) (marks new)
 
--- and behind them a turn that found nothing, which was the last
+-- and after them a turn that found nothing, which was the last
 pub record Emptied (before items : List Item) (old new : Bound MailPass) : Type 0 where
   pub from : Bound MailPass
   pub drained : Drained before items old from

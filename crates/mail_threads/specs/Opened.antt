@@ -26,8 +26,7 @@ mail_shape cells senders = record {
 abbrev pub opened_stack : Stack
 opened_stack = record { room = 65_536; cells = [] }
 
--- The heap is opened, and neither its senders nor its receiver, which has the last mutator, have
--- begun.
+-- The heap is opened. Neither its senders nor its receiver, which has the last mutator, have begun.
 pub record IsOpenMail (cells cycles : ℕ) (scripts : List (Vec ℕ Global)) (made : OpenMail)
     : Type 0 where
   pub shape : made.heap.shape ≡ mail_shape cells (length scripts)

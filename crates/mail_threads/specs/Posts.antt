@@ -15,7 +15,7 @@ sends_in (value ∷ values) (Some position ∷ answers) =
     record { position = position; value = value } ∷ sends_in values answers
 sends_in (value ∷ values) (None ∷ answers) = sends_in values answers
 
--- what a stretch of the trail shows for an answer: for none that the heap was full
+-- what a stretch of the trail shows for an answer: where there is none, that the heap was full
 abbrev pub AnswerShows : ℕ → Option ℕ → List Mark → Type 0
 AnswerShows cells (Some position) marks = Unit {0}
 AnswerShows cells None marks = IsFull cells marks

@@ -35,7 +35,7 @@ pub record Receives (lines : ℕ) (items : List Item) (pass : MailPass) (marks :
   pub many : length turns ≡ lines
   pub shown : InTurn TurnShows turns marks
 
--- Behind the turns of so many lines there were more, one behind the other, and the last of all found
+-- After the turns of so many lines there were more, one after the other, and the last of all found
 -- nothing.
 pub record Empties (lines : ℕ) (marks : List Mark) : Type 0 where
   pub turns : List (Option Item)

@@ -1,4 +1,4 @@
--- The senders behind their run: what their lines were answered, and the collector's seat, to which
+-- The senders after their run: the answers to their lines, and the collector's seat, to which
 -- theirs are joined.
 -- Source: this project's.
 use Rattle.std.specs.Prelude.{ℕ, ◌≡◌, ◌<◌, List, length, map, Option, Vec}
@@ -34,7 +34,7 @@ pub record HasPosted (cells : ℕ) (scripts : List (List ℕ)) (sent : List (Lis
   pub share_at : get_elem? joined i ≡ some (places.Joined share)
   pub posts : Posts cells lines answers share.pass (marks_of share.trail)
 
--- So it is of each sender; the collector's seat is as it was, but for where the parts of its
+-- This is so of each sender; the collector's seat is as it was, except for where the parts of its
 -- mutators are.
 pub record AreTaken (cells : ℕ) (scripts : List (Vec ℕ Global))
     (sent : List (Vec (Option ℕ) Global)) (old new : SeatView MailPass) : Type 0 where

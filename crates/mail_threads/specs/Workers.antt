@@ -25,7 +25,7 @@ places_held = 16
 abbrev pub AreSmall : List ℕ → Type 0
 AreSmall script = All (λ (value : ℕ). value < 2 ^ 32) script
 
--- The seat is the one of the mutator with this number, as it was split off.
+-- The seat is that of the mutator with this number, as it was split off.
 pub record IsNewSeat (heap : HeapId) (place : ℕ) (seat : SeatView MailPass) : Type 0 where
   pub seat_is : IsSeatOf heap seat
   pub number_is : seat.me.number ≡ place
@@ -35,7 +35,7 @@ pub record IsNewSeat (heap : HeapId) (place : ℕ) (seat : SeatView MailPass) : 
   pub sends : seat.me.pass.sends ≡ []
   pub takes : seat.me.pass.takes ≡ []
 
--- The sender has not begun with its script. There is room for what its lines are answered.
+-- The sender has not begun its script. There is room for the answers to its lines.
 pub record IsReady (heap : HeapId) (queue : FreeQueue) (script : List ℕ) (place : ℕ)
     (sender : Sender) : Type 0 where
   pub place_is : sender.place ≡ place
@@ -69,8 +69,8 @@ pub record IsWaiting (heap : HeapId) (place : ℕ) (receiver : Receiver) : Type 
   pub seat : IsNewSeat heap place receiver.seat
   pub none : receiver.items.items ≡ []
 
--- The receiver's mutator is out. Unless memory was wanting, it took a turn for each line, and has
--- what it took.
+-- The receiver's mutator is out. Unless memory ran out, it took a turn for each line, and has what
+-- it took.
 pub record IsHalfway (heap : HeapId) (place lines : ℕ) (m : Bound MailPass) (items : List Item)
     (failed : Bool) : Type 0 where
   pub table : m.seat.table ≡ heap.table
@@ -80,7 +80,7 @@ pub record IsHalfway (heap : HeapId) (place lines : ℕ) (m : Bound MailPass) (i
   pub out : m.seat.me.presence.inside ≡ false
   pub received : failed ≡ false → Receives lines items m.seat.me.pass (marks_of m.seat.me.trail)
 
--- The receiver is through: its mutator is over. Unless memory was wanting, it took a turn for each
+-- The receiver is through: its mutator is over. Unless memory ran out, it took a turn for each
 -- line, and more until one found nothing, and it has what it took.
 pub record HasReceived (heap : HeapId) (place lines : ℕ) (receiver : Receiver) : Type 0 where
   pub seat_is : IsSeatOf heap receiver.seat

@@ -1,4 +1,4 @@
-//! The receiver beside the senders, and behind them.
+//! The receiver alongside the senders, and after them.
 ghost use Rattle.std.specs.Prelude.{◌≡◌, length};
 ghost use Rattle.mail_threads.specs.Workers.{AllDone, AllReady, HasReceived, IsHalfway, IsWaiting};
 ghost use Rattle.std.specs.Thread.{IsSync};
@@ -14,7 +14,7 @@ use mutator_seat::Mutator;
 use std::sync::Wait;
 use std::thread::{Threads, join};
 
-/// Takes a turn for each line, on this thread. The mutator is out behind, but not over.
+/// Takes a turn for each line, on this thread. The mutator is out afterwards, but not over.
 fn receive_lines<'a, R: Wait>(
     rt: &R,
     heap: &'a CellHeap<MailPass>,
@@ -36,7 +36,7 @@ fn receive_lines<'a, R: Wait>(
     (m, items, !whole)
 }
 
-/// Takes what is left, when all senders are through, and is over.
+/// Takes what is left when all senders are through; its mutator is over then.
 fn receive_rest<R: Wait>(
     rt: &R,
     heap: &CellHeap<MailPass>,
@@ -63,8 +63,8 @@ fn receive_rest<R: Wait>(
     }
 }
 
-/// Runs the senders, each on a thread of its own, and the receiver beside them: it takes once for
-/// each line. Behind them it takes until nothing is left.
+/// Runs the senders, each on a thread of its own, and the receiver alongside them: it takes once
+/// for each line. After they are through it takes until nothing is left.
 pub fn run_all<R: Threads + Wait + Sync>(
     rt: &R,
     heap: &CellHeap<MailPass>,

@@ -2,9 +2,9 @@
 //! them.
 //!
 //! A sender sends the lines of its script by a mutator of its own; what each line was answered is
-//! kept. The receiver takes once for each line that anybody sends, beside the senders, each time
-//! when an item is there or none came for a while; and behind them until it finds nothing more.
-//! That anything runs beside anything else is claimed by no clause.
+//! kept. Alongside the senders, the receiver takes once for each line that anybody sends, each time
+//! when there is an item or none came for a while. After they are through it takes until it finds
+//! nothing more. No clause says that anything runs concurrently.
 //!
 //! Reading order: specs/Posts, Receipts; specs/Calls, `posting`, `receiving`; `workers`,
 //! specs/Workers, `running`, `joining`; specs/Opened, `opened`, `opening`; specs/Taken,

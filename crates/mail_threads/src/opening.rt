@@ -26,14 +26,14 @@ use std::sync::Wait;
 /// How many cells can wait for a look of the collector.
 const MARKS: u32 = 65_536;
 
-/// How many of the first cells the opening of a mailbox takes.
+/// How many cells the opening of a mailbox takes: the first ones.
 const FIRST: u32 = 2;
 
 /// How many places a mutator has: the anchor's, and those of one call.
 const PLACES: u32 = 16;
 
 /// Opens a heap with a mailbox, a sender for each script and a receiver: the senders have the first
-/// mutators, and the receiver has the last. The collector is on duty where it may make cycles.
+/// mutators, and the receiver has the last. The collector is on duty if it may make cycles.
 pub fn open_mail<R: Wait>(
     alloc: Global,
     rt: &R,
@@ -99,7 +99,7 @@ fn split_senders(
     Ok(senders)
 }
 
-/// The sender of the mutator with this number, with room for what its lines are answered.
+/// The sender of the mutator with this number, with room for the answers to its lines.
 fn new_sender(
     alloc: Global,
     heap: &CellHeap<MailPass>,

@@ -8,17 +8,18 @@ use cell_mailbox::{Item, MailPass, await_item, take};
 use mutator_seat::Mutator;
 use std::sync::Wait;
 
-/// How often the receiver looks for an item before a take at most: for some 4 milliseconds.
+/// How many looks for an item come before a take at most: for some 4 milliseconds.
 const LOOKS: u32 = 1_024;
 
-/// How many looks fewer come before the take after one that found nothing.
+/// By how many the looks get fewer after a take that found nothing.
 const FEWER: u32 = 64;
 
-/// How many looks come before each take, however many found nothing.
+/// How many looks come before each take at least, however many found nothing.
 const LEAST: u32 = 1;
 
-/// How many looks come before the next take. The fewer the longer nothing came: where lines were
-/// refused the receiver has takes left when all senders are through, and is to end soon.
+/// How many looks come before the next take. The longer nothing came, the fewer they are: where
+/// lines were refused, the receiver has takes left when all senders are through, and should end
+/// soon.
 fn looks_after(looks: u32, found: bool) -> u32 {
     if found {
         LOOKS
@@ -38,8 +39,8 @@ fn take_one<R: Wait>(rt: &R, m: &mut Mutator<'_, MailPass>) -> Option<Item>
     take(rt, m)
 }
 
-/// Takes once, when an item is there or so many looks found none. How many looks come before the
-/// next take it leaves in their place.
+/// Takes once, when there is an item or so many looks found none. It stores in `looks` how many
+/// come before the next take.
 fn take_next<R: Wait>(rt: &R, m: &mut Mutator<'_, MailPass>, looks: &mut u32) -> Option<Item>
     requires inside { m.old.seat.me.presence.inside ≡ true }
     requires room { length m.old.seat.me.own.held + 8 ≤ m.old.seat.me.room }
@@ -51,15 +52,15 @@ fn take_next<R: Wait>(rt: &R, m: &mut Mutator<'_, MailPass>, looks: &mut u32) ->
     taken
 }
 
-/// Keeps an item, unless memory is wanting.
+/// Keeps an item, unless memory runs out.
 fn keep(items: &mut Vec<Item>, item: Item) -> bool
     ensures kept { OnTrue result (items.new.items ≡ items.old.items ++ item ∷ []) }
 {
     items.push(item).is_ok()
 }
 
-/// Takes so many times, each time when an item is there or it looked for one long enough, and keeps
-/// what it takes, unless memory is wanting.
+/// Takes so many times, each time when there is an item or it looked for one long enough, and keeps
+/// what it takes, unless memory runs out.
 pub(crate) fn take_turns<R: Wait>(
     rt: &R,
     m: &mut Mutator<'_, MailPass>,
@@ -85,7 +86,7 @@ pub(crate) fn take_turns<R: Wait>(
     true
 }
 
-/// Takes until there is nothing more, and keeps what it takes, unless memory is wanting.
+/// Takes until there is nothing more, and keeps what it takes, unless memory runs out.
 pub(crate) fn take_rest<R: Wait>(
     rt: &R,
     m: &mut Mutator<'_, MailPass>,

@@ -14,7 +14,7 @@ use std::sync::Wait;
 use std::thread::{Threads, join};
 
 /// Sends the lines of a sender's script, on this thread. Its mutator comes in before and is over
-/// behind.
+/// afterwards.
 fn run_sender<R: Wait>(
     rt: &R,
     heap: &CellHeap<MailPass>,
@@ -44,8 +44,8 @@ fn run_sender<R: Wait>(
     }
 }
 
-/// Runs the senders, each on a thread of its own: the last one beside all others. Sender k of the
-/// list has script k.
+/// Runs the senders, each on a thread of its own, all concurrently. Sender k of the list has script
+/// k.
 pub fn run_each<R: Threads + Wait + Sync>(
     rt: &R,
     heap: &CellHeap<MailPass>,

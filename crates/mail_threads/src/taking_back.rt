@@ -1,4 +1,4 @@
-//! The senders behind their threads: each seat is joined, and what its lines were answered is kept.
+//! The senders after their threads: each seat is joined, and the answers to its lines are kept.
 ghost use Rattle.std.specs.Prelude.{◌≡◌, ◌≤◌, ◌<◌, [], length, true, vec_capacity};
 ghost use Rattle.heap_rule.specs.Moves.{joined_view};
 ghost use Rattle.heap_table.specs.Seats.{IsSeatOf};
@@ -10,8 +10,8 @@ use cell_heap::ColSeat;
 use cell_mailbox::MailPass;
 use heap_table::CellHeap;
 
-/// Joins the seats of all senders, and puts what their lines were answered into the list, in which
-/// there is room for them. The scripts are those of the run: contracts alone read them.
+/// Joins the seats of all senders, and puts the answers to their lines into the list, in which
+/// there is room for them. The scripts are those of the run: only contracts read them.
 pub fn take_back(
     heap: &CellHeap<MailPass>,
     scripts: &[Vec<u64>],
@@ -34,7 +34,7 @@ pub fn take_back(
     }
 }
 
-/// Joins the seat of a sender that is through, and gives what its lines were answered.
+/// Joins the seat of a sender that is through, and gives the answers to its lines.
 fn joined(
     heap: &CellHeap<MailPass>,
     sender: Sender,

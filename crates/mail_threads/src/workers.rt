@@ -3,7 +3,7 @@ use cell_mailbox::{Item, MailPass};
 use free_cells::HintPass;
 use mutator_seat::MutSeat;
 
-/// A sender with the seat of its mutator, and what its lines were answered.
+/// A sender with the seat of its mutator, and the answers to its lines.
 #[derive(Drop)]
 pub struct Sender {
     /// the number of its mutator, and the place of its script
@@ -19,6 +19,6 @@ pub struct Sender {
 pub struct Receiver {
     pub seat: MutSeat<MailPass>,
     pub items: Vec<Item>,
-    /// memory was wanting for an item, and it stopped there
+    /// memory ran out for an item, and it stopped there
     pub failed: bool,
 }

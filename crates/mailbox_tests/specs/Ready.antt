@@ -14,7 +14,7 @@ pub record IsNew (heap : HeapId) (number : ℕ) (seat : SeatView MailPass) : Typ
   pub not_over : seat.me.presence.over ≡ false
   pub nothing_sent : seat.me.pass.sends ≡ []
 
--- it is in, with the anchor alone, and has sent at most so many items
+-- it is in, holds only the anchor, and has sent at most so many items
 pub record IsReady (number sends : ℕ) (m : Bound MailPass) : Type 0 where
   pub inside : m.seat.me.presence.inside ≡ true
   pub held : held_cells m ≡ 0 ∷ []

@@ -1,4 +1,4 @@
--- the item is sent, where null is still behind the last one
+-- the item is sent, where there is still null after the last one
 use Rattle.mail_rule.specs.Knowing.{next_sent}
 use Rattle.cell_mailbox.proofs.sending.try_to_send.Given as goal
 
