@@ -1,4 +1,4 @@
--- Behind an ageing: what rested on some places and leads no further rests on them again, so nodes
+-- After an ageing: what rested on some places and leads to no others rests on them again. So nodes
 -- stand and say what they said, and so does the draft.
 use Rattle.std.proofs.Common.{◌≡◌, ◌<◌, ◌≤◌, ◌+◌, ℕ, zero, suc, List, [], length}
 use Rattle.std.proofs.Common.{sym, ◌∙◌, ap, subst, arith}
@@ -25,13 +25,13 @@ use Rattle.client_heap.specs.Shows.{node_term}
 use Rattle.client_heap.specs.Sound.{IsSound}
 
 module _ (records : List (List MinorField)) (ok : ℕ → Type 0) where
-  -- what rests leads to such places alone
+  -- what rests leads only to such places
   leads_ok : (place : ℕ) (r : MinorRef) → Leads records place r → Rests records ok r → ok place
   leads_ok place r (here i lt names) stands = rests_place records ok r i place stands lt names
   leads_ok place r (by {older = t} i lt names leads) stands =
       leads_ok place t leads (rests_older records ok r i t stands lt names)
 
-  -- and what leads to such places alone rests
+  -- and what leads only to such places rests
   rests_below : IsOrdered 0 records → (n : ℕ) (r : MinorRef) → r.number < n
       → r.number < length records → ((place : ℕ) → Leads records place r → ok place)
       → Rests records ok r

@@ -95,7 +95,7 @@ module _ (m n : Bound Pass) (old new : Nursery) (left : LeavesAll m n old new) w
         sound sound.kept 0 (ap commit_numbers left.leaves.pass) left.leaves.claims all_records
         (let same = all_held in omega (arith, same))
 
--- what an edit answers, in both words for it
+-- what an edit answers, in the words of both layers
 pub answered_same : {A : Type 0} (tree : A → DocTree) (r : Result A EditFault)
     → answered tree r ≡ edit_answered tree r
 answered_same tree (Ok a) = refl

@@ -61,7 +61,7 @@ module _ (known other : List Known) (records : List (List MinorField))
       (λ p is. known_term_at known p ∙ ap known_term (sym (still p is.0 is.1))
       ∙ sym (known_term_at other p)) ordered r stands)
 
--- a record that is known is known still
+-- a record that is known is still known
 pub record_same : (j k : Known) → StillKnown j k → IsRecord j → k ≡ j
 record_same knows.Nothing k still is = absurd is
 record_same (knows.Raw fields) k still is = absurd is

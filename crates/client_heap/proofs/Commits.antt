@@ -62,7 +62,7 @@ module _ (m n : Bound Pass) (minor : Nursery) (cells : List ℕ) (holds : Holds 
       carries_known (length m.seat.me.own.held) m n minor ordered same lasts holds.known
       (let more = many_held m n cells holds.held in omega (arith, more))
 
--- a claim that found the heap full behind such a call, in the words of before
+-- a claim that found the heap full after such a call, told of the state before it
 pub full_late : (m n o : Bound Pass) (old new : Nursery) → Follows m n old new
     → Had (IsFull n.seat.me.shape.cells) (marks n) (marks o)
     → Had (IsFull m.seat.me.shape.cells) (marks m) (marks o)

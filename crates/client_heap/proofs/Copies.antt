@@ -307,7 +307,7 @@ module _ (m n : Bound Pass) (minor : Nursery) (r : MinorRef)
       ∙ second_at knows.Nothing m.seat.me.known (knows_term m minor.records r)
       (omega (arith, fit, some))
 
--- Of no roots the first places are left.
+-- With no roots only the first places are left.
 module _ (m n : Bound Pass) (minor : Nursery) (base : ℕ)
     (collected : Collected m minor.records [] base n)
     (fit : length m.seat.me.known ≡ length m.seat.me.own.held)
@@ -324,7 +324,7 @@ module _ (m n : Bound Pass) (minor : Nursery) (base : ℕ)
   cleared_known p lt = ap (λ (ks : List Known). known_at ks p) collected.known
       ∙ at_kept knows.Nothing m.seat.me.known [] base p lt (omega (arith, fit, kept))
 
--- What it needs: the places that are shared are known as records.
+-- What it needs: the shared places are known as records.
 
 record_term : (k : Known) → IsRecord k → is_term k ≡ true
 record_term knows.Nothing is = absurd is

@@ -1,5 +1,5 @@
--- Behind a cut of the private heap at a node's own record: what the node stands on stands still,
--- since records name older ones alone. And what settling gives back.
+-- After a cut of the private heap at a node's own record: what the node stands on still stands,
+-- since records name only older ones. And what settling gives back.
 use Rattle.std.proofs.Common.{◌≡◌, ◌<◌, ◌≤◌, ◌+◌, ℕ, List, length, take, refl, sym, ◌∙◌, ap, subst}
 use Rattle.std.proofs.Common.{arith}
 use Rattle.std.proofs.lemmas.List.{length-take, length-take-le}
@@ -60,7 +60,7 @@ pub sound_there : (m : Bound Pass) (minor : Nursery) (d : NodeAt) (b : ℕ) → 
 sound_there m minor (at.Shared place) b sound = tt
 sound_there m minor (at.Minor r) b sound = rests_stands minor.records _ r sound.stands
 
--- The places behind the first so many are given back, and then records: the draft stays.
+-- The places after the first so many are given back, and then records: the draft stays.
 module _ (m n : Bound Pass) (minor new : Nursery) (d : NodeAt) (b : ℕ)
     (sound : IsSound m minor d b) (c : Carries b m n minor minor)
     (ages : Ages minor.records new.records d d) (room : new.room ≡ minor.room)

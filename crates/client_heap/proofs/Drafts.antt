@@ -41,7 +41,7 @@ held_sound m minor d a b held sound node is ready = record {
   ready = omega (arith, is, ready);
 }
 
--- a shared one behind the anchor
+-- a shared one after the anchor
 module _ (m n : Bound Pass) (minor : Nursery) (d : NodeAt) (b place : ℕ)
     (sound : IsSound m minor d b) (stands : IsRecord (known_of m.seat.me place))
     (node : IsTreeNode (known_term (known_of m.seat.me place)))

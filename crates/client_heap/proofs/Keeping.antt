@@ -26,7 +26,7 @@ use Rattle.client_heap.specs.Carries.{Carries}
 use Rattle.client_heap.proofs.Carrying.{carries_known}
 use Rattle.version_rule.specs.Versions.{is_fixed}
 
--- the first places, and so many cells behind them from a place on
+-- the first places, and so many cells after them from a place on
 module _ (m n : Bound Pass) (many from copies : ℕ) (p : Found)
     (told : n ≡ takes m (event.Keep m.seat.me.number many from copies) p)
     (fit : length m.seat.me.known ≡ length m.seat.me.own.held)
@@ -61,7 +61,7 @@ module _ (m n : Bound Pass) (many from copies : ℕ) (p : Found)
   keep_carries minor ordered longer =
       carries_known many m n minor ordered (goes_same m n keep_goes) keep_lasts keep_known longer
 
--- the first places alone
+-- only the first places
 module _ (m n : Bound Pass) (many : ℕ) (p : Found)
     (told : n ≡ takes m (event.Keep m.seat.me.number many 0 0) p)
     (fit : length m.seat.me.known ≡ length m.seat.me.own.held)
@@ -97,7 +97,7 @@ module _ (m n : Bound Pass) (place : ℕ) (p : Found)
       keep_carries m n 1 place 1 p told fit some minor ordered
       (let is = alone_held in omega (arith, is))
 
--- Two elements from a place on, behind the first one.
+-- Two elements from a place on, after the first one.
 
 module _ {A : Type 0} (d : A) where
   two_after : (xs : List A) (from : ℕ) → suc from < length xs
@@ -129,7 +129,7 @@ module _ {A : Type 0} (d : A) where
   three_many [] a b some = absurd (omega (arith, some))
   three_many (x ∷ xs) a b some = refl
 
--- all places and one cell once more, behind them
+-- all places, and one cell once more after them
 module _ (m n : Bound Pass) (many place : ℕ) (p : Found)
     (told : n ≡ takes m (event.Keep m.seat.me.number many place 1) p)
     (fit : length m.seat.me.known ≡ length m.seat.me.own.held)

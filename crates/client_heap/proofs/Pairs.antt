@@ -1,5 +1,5 @@
--- The draft and a tree in the making, which stay while all else goes: their copies, and what is
--- known of these.
+-- The draft and a tree in the making, which stay while all else is dropped: their copies, and what
+-- is known of these.
 use Rattle.std.proofs.Common.{◌≡◌, ◌<◌, ◌≤◌, ◌+◌, ◌-◌, ℕ, zero, suc, List, [], ◌∷◌, ◌++◌, length}
 use Rattle.std.proofs.Common.{map, take, refl, sym, ◌∙◌, ap, subst, arith}
 use Rattle.std.proofs.Common.{Option, Result, Ok, Err}
@@ -56,7 +56,7 @@ module _ {A : Type 0} (d : A) where
   mapped_at f (z ∷ ys) zero y lt is = ap f is
   mapped_at f (z ∷ ys) (suc k) y lt is = mapped_at f ys k y (omega (arith, lt)) is
 
--- Copies of private nodes, behind all that is held.
+-- Copies of private nodes, after all that is held.
 module _ (m n : Bound Pass) (minor : Nursery) (roots : List MinorRef) (base : ℕ)
     (collected : Collected m minor.records roots base n)
     (fit : length m.seat.me.known ≡ length m.seat.me.own.held)
@@ -88,7 +88,7 @@ module _ (m n : Bound Pass) (minor : Nursery) (roots : List MinorRef) (base : �
         ∙ mapped_at knows.Nothing (knows_term m minor.records) roots k r lt stands;
   }
 
--- the second of two stands last
+-- the second of two is held last
 pub last_copied : {E : Type 0} (m n : Bound Pass) (minor : Nursery) (q r : MinorRef)
     (result : Result ℕ E) → IfOk result (λ first. first ≡ length m.seat.me.own.held)
     → OnOk result (length n.seat.me.own.held
@@ -176,7 +176,7 @@ module _ (n : Bound Pass) (minor : Nursery) (place : ℕ) (t : Term)
       node = subst IsTreeNode (sym held_term) is;
     }
 
--- The draft on the place behind the anchor, with no private record left.
+-- The draft on the place after the anchor, with no private record left.
 module _ (m n : Bound Pass) (old new : Nursery) (d : NodeAt) (b : ℕ) (sound : IsSound m old d b)
     (f : Follows m n old new) (none : length new.records ≡ 0)
     (held : length n.seat.me.own.held ≡ 3) where

@@ -1,4 +1,4 @@
--- What a call that carries all on leaves of the client's state and of what it holds.
+-- What a call that carries everything on leaves of the client's state and of what it holds.
 use Rattle.std.proofs.Common.{◌≡◌, ◌≤◌, ◌+◌, ℕ, length, refl, sym}
 use Rattle.std.proofs.Common.{◌∙◌, ap, subst, arith}
 use Rattle.client_records.specs.declared.at.NodeAt.{NodeAt}

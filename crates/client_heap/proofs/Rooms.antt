@@ -17,7 +17,7 @@ le_same a b c d more less = by_size (cases_lt b a)
     by_size (inr le) = le-leb a b le ∙ sym (le-leb c d (more le))
 
 module _ (m : Bound Pass) (minor : Nursery) where
-  -- by the free places, and where these are enough by the free records
+  -- by the free places, and if these are enough by the free records
   module _ (records left : ℕ) (many : records ≡ length minor.records)
       (room : length m.seat.me.own.held + left ≡ m.seat.me.room) where
     pub cleared_places : left < 20_480 + records

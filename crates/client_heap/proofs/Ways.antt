@@ -1,4 +1,4 @@
--- A way down a tree.
+-- A path down a tree.
 use Rattle.std.proofs.Common.{◌≡◌, ◌≤◌, ◌+◌, ◌-◌, ℕ, List, [], ◌∷◌}
 use Rattle.std.proofs.Common.{length, take, drop, refl, ◌∙◌}
 use Rattle.std.proofs.Common.{Option, Some, None, ap, arith, get_or}

@@ -18,7 +18,7 @@ abbrev pub up_to : NodeAt → ℕ
 up_to (at.Shared place) = 0
 up_to (at.Minor r) = r.number + 1
 
--- Of the private records before and behind it, and of the node as it was named and as it is: it
+-- Of the private records before and after it, and of the node as it was named and as it is: it
 -- stands on the places on which it stood, whatever is known of them, and says what it said.
 pub record Ages (old new : List (List MinorField)) (a b : NodeAt) : Type 0 where
   pub still : (known : List Known) (places : ℕ) → stands_on known old places a

@@ -1,5 +1,5 @@
--- What a call carries on: whatever stood on the first so many places of the held list stands there
--- still, and says what it said.
+-- What a call carries on: whatever stood on the first so many places of the held list still stands
+-- there, and says what it said.
 -- Source: this project's.
 use Rattle.std.specs.Prelude.{ℕ, ◌≡◌, ◌<◌, ◌≤◌, length}
 use Rattle.client_records.specs.declared.at.NodeAt.{NodeAt}
@@ -21,7 +21,7 @@ pub record Follows (m n : Bound Pass) (old new : Nursery) : Type 0 where
   pub same : IsSameMutator m n
   pub lasts : LastsAcross m n
 
--- and what stood on the first places stands there still
+-- and what stood on the first places still stands there
 pub record Carries (places : ℕ) (m n : Bound Pass) (old new : Nursery) : Type 0 where
   pub follows : Follows m n old new
   pub longer : places ≤ length n.seat.me.own.held

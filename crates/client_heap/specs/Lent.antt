@@ -32,8 +32,8 @@ identity_of m = record {
   over = m.seat.me.presence.over;
 }
 
--- beside the names of what is borrowed: the mutator, the queue of its hints, for how many private
--- records there is room, and how many can be copied
+-- in addition to the names of what is borrowed: the mutator, the queue of its hints, how many
+-- private records there is room for, and how many can be copied
 pub record Lent : Type 0 where
   pub mutator_name : ℕ
   pub hints_name : ℕ

@@ -1,4 +1,4 @@
--- The facts on a client's draft have one proof at most, as a ghost field asks of its own.
+-- There is at most one proof of the facts on a client's draft, which a ghost field asks of its own.
 -- Source: this project's.
 use Rattle.std.proofs.Common.{ℕ, List, []}
 use Rattle.std.proofs.Common.{drop}

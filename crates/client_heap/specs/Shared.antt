@@ -14,7 +14,7 @@ pub record HoldsTerm (m : Bound Pass) (place : ℕ) (t : Term) : Type 0 where
   pub there : place < length m.seat.me.own.held
   pub known : known_of m.seat.me place ≡ knows.Record t
 
--- where a node stands of which a copy was made at a place if it was private
+-- where a node stands after a copy of it was made at a place, if it was private
 abbrev pub shared_place : ℕ → NodeAt → ℕ
 shared_place copy (at.Shared place) = place
 shared_place copy (at.Minor r) = copy

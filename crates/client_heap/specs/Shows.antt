@@ -27,7 +27,7 @@ abbrev pub cell_of : Bound Pass → NodeAt → Option ℕ
 cell_of m (at.Shared place) = Some (target m.seat.me place)
 cell_of m (at.Minor r) = None
 
--- where a draft stands that a number of first places stay for
+-- the state of a draft for which a number of first places stay
 abbrev pub state_of : Bound Pass → Nursery → NodeAt → ℕ → ClientState
 state_of m minor draft base = record {
   cells = m.seat.me.shape.cells;

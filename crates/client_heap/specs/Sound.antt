@@ -9,7 +9,7 @@ use Rattle.mutator_seat.specs.Bound.{Bound}
 use Rattle.version_rule.specs.Pass.{Pass}
 
 -- The mutator is in. The draft is the node of a lawful tree, and stands on the first places, which
--- stay; behind these there is room for every reading.
+-- stay; after these there is room for every reading.
 pub record IsSound (m : Bound Pass) (minor : Nursery) (draft : NodeAt) (base : ℕ) : Type 0 where
   pub inside : m.seat.me.presence.inside ≡ true
   pub some : 1 ≤ base

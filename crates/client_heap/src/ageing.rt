@@ -1,5 +1,5 @@
 //! Ageing: the private records that the draft and a tree in the making reach are copied within the
-//! private heap, and the others are let go of. The shared heap has no part in it.
+//! private heap, and the others are dropped. The shared heap has no part in it.
 ghost use Rattle.std.specs.Prelude.{◌≡◌, ◌<◌, ◌≤◌, ◌+◌, false, length, true};
 ghost use Rattle.client_heap.specs.Ages.{Ages, is_there};
 ghost use Rattle.client_records.specs.declared.at.NodeAt.TheVariants as at;
@@ -9,8 +9,8 @@ use aged_nursery::AgedNursery;
 use client_trees::NodeAt;
 use minor_heap::MinorRef;
 
-/// Lets all private records go but those that one of them reaches. It is then the one that is the
-/// answer.
+/// Drops all private records except those that one of them reaches. The answer is where that one is
+/// then.
 fn age_record(nursery: &mut AgedNursery, r: MinorRef) -> MinorRef
     requires there { Stands nursery.old.heap.records r }
     requires whole { nursery.old.heap.room ≡ nursery.old.records }
@@ -27,7 +27,7 @@ fn age_record(nursery: &mut AgedNursery, r: MinorRef) -> MinorRef
     roots[0]
 }
 
-/// The same of two records.
+/// The same for two records.
 fn age_records(nursery: &mut AgedNursery, q: MinorRef, r: MinorRef) -> (MinorRef, MinorRef)
     requires first { Stands nursery.old.heap.records q }
     requires second { Stands nursery.old.heap.records r }
@@ -47,7 +47,7 @@ fn age_records(nursery: &mut AgedNursery, q: MinorRef, r: MinorRef) -> (MinorRef
     (roots[0], roots[1])
 }
 
-/// Lets all private records go.
+/// Drops all private records.
 fn age_none(nursery: &mut AgedNursery)
     requires whole { nursery.old.heap.room ≡ nursery.old.records }
     ensures aged { nursery.new.aged ≡ length nursery.new.heap.records }
@@ -58,7 +58,8 @@ fn age_none(nursery: &mut AgedNursery)
     nursery.age(&mut []);
 }
 
-/// Lets all private records go but those that a node reaches, which is then at the answer.
+/// Drops all private records except those that a node reaches. The answer is where the node is
+/// then.
 fn age_node(nursery: &mut AgedNursery, node: NodeAt) -> NodeAt
     requires there { is_there nursery.old.heap.records node }
     requires whole { nursery.old.heap.room ≡ nursery.old.records }
@@ -77,7 +78,7 @@ fn age_node(nursery: &mut AgedNursery, node: NodeAt) -> NodeAt
     }
 }
 
-/// The same of two nodes.
+/// The same for two nodes.
 fn age_nodes(nursery: &mut AgedNursery, x: NodeAt, y: NodeAt) -> (NodeAt, NodeAt)
     requires first { is_there nursery.old.heap.records x }
     requires second { is_there nursery.old.heap.records y }
@@ -103,7 +104,7 @@ fn age_nodes(nursery: &mut AgedNursery, x: NodeAt, y: NodeAt) -> (NodeAt, NodeAt
     }
 }
 
-/// Whether there are places enough, and nothing has aged since the last collection.
+/// Whether there are enough places, and nothing has aged since the last collection.
 fn is_due(nursery: &AgedNursery, places: bool) -> bool
     ensures due { result ≡ true → (places ≡ true) × (nursery.now.aged ≡ 0) }
     ensures waits { result ≡ false → places ≡ true → 0 < nursery.now.aged }
@@ -111,8 +112,8 @@ fn is_due(nursery: &AgedNursery, places: bool) -> bool
     places && nursery.aged_len() == 0
 }
 
-/// Ages, with the draft as the root, where there are places enough and nothing has aged since the
-/// last collection. Whether there is room for an edit's records then.
+/// Ages, with the draft as the root, where there are enough places and nothing has aged since the
+/// last collection. It tells whether there is room for an edit's records then.
 pub(crate) fn age_draft(nursery: &mut AgedNursery, draft: &mut NodeAt, places: bool) -> bool
     requires there { is_there nursery.old.heap.records draft.old }
     requires whole { nursery.old.heap.room ≡ nursery.old.records }
@@ -133,7 +134,7 @@ pub(crate) fn age_draft(nursery: &mut AgedNursery, draft: &mut NodeAt, places: b
     2285 <= nursery.heap().spare()
 }
 
-/// The same with a tree in the making as a second root, which is then at the first answer.
+/// The same with a tree in the making as a second root; the first answer is where that is then.
 pub(crate) fn age_both(
     nursery: &mut AgedNursery,
     draft: &mut NodeAt,

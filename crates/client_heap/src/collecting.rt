@@ -1,4 +1,4 @@
-//! Minor collections: of the draft, of some nodes beside all that is held, and of nothing.
+//! Minor collections: of the draft, of some nodes in addition to all that is held, and of nothing.
 ghost use Rattle.std.specs.Prelude.{ℕ, ◌≡◌, ◌<◌, ◌≤◌, ◌+◌, [], IfOk, OnErr, OnOk};
 ghost use Rattle.std.specs.Prelude.{length, slice_index_or, true};
 ghost use Rattle.std.specs.List.{All};
@@ -22,8 +22,8 @@ use mutator_seat::Mutator;
 use promotion::Promoter;
 use std::sync::Wait;
 
-/// Copies what a private node reaches into the shared heap, and lets all private records go. The
-/// copy is held behind the anchor, and nothing else is.
+/// Copies what a private node reaches into the shared heap, and drops all private records. The copy
+/// is held after the anchor, and nothing else is.
 pub(crate) fn share_node<R: Wait>(
     rt: &R,
     hints: &mut Hints<'_>,
@@ -54,7 +54,7 @@ pub(crate) fn share_node<R: Wait>(
     ensures promoter { promoter.new ≡ promoter.old }
     ensures queue { queue_of hints.new ≡ queue_of hints.old }
 {
-    // What is held is what the trail left, and no more records stand than there is room for.
+    // What is held is what the trail left, and there are no more records than there is room for.
     let _held = m.held_len();
     let _records = minor.len();
     let _spare = minor.spare();
@@ -64,7 +64,7 @@ pub(crate) fn share_node<R: Wait>(
     }
 }
 
-/// Lets all private records go. Of the held list so many first places stay.
+/// Drops all private records. Of the held list so many first places stay.
 pub(crate) fn clear_records<R: Wait>(
     rt: &R,
     hints: &mut Hints<'_>,
@@ -103,8 +103,8 @@ pub(crate) fn clear_records<R: Wait>(
     }
 }
 
-/// Copies what private nodes reach into the shared heap, and lets all private records go. All that
-/// is held stays, and the copies stand behind it, from the place that is the answer on.
+/// Copies what private nodes reach into the shared heap, and drops all private records. All that is
+/// held stays, and the copies are held after it; the answer is the place of the first one.
 pub(crate) fn share_nodes<R: Wait>(
     rt: &R,
     hints: &mut Hints<'_>,

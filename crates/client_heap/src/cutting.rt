@@ -1,5 +1,5 @@
-//! Cutting the private heap back. Records name older ones alone, so no record on which a node
-//! stands is newer than its own.
+//! Cutting the private heap back. Records name only older ones, so no record on which a node stands
+//! is newer than its own.
 ghost use Rattle.std.specs.Prelude.{◌≡◌, ◌≤◌, length};
 ghost use Rattle.client_heap.specs.Ages.{Ages, is_there, up_to};
 
@@ -19,7 +19,7 @@ fn up_to(heap: &MinorHeap, node: NodeAt) -> u32
     }
 }
 
-/// Lets all private records go that are newer than a node's own.
+/// Drops all private records that are newer than a node's own.
 pub(crate) fn cut_newer(nursery: &mut AgedNursery, node: NodeAt)
     requires there { is_there nursery.old.heap.records node }
     ensures node { Ages nursery.old.heap.records nursery.new.heap.records node node }

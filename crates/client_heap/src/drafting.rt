@@ -24,8 +24,8 @@ use mutator_seat::Mutator;
 use promotion::Promoter;
 use std::sync::Wait;
 
-/// Makes a node the draft. For a shared one the place behind the anchor is enough; for a private
-/// one all places stay that are held.
+/// Makes a node the draft. For a shared one the place after the anchor is enough; for a private one
+/// all places that are held stay.
 pub(crate) fn make_draft(
     m: &mut Mutator<'_, Documents>,
     minor: &MinorHeap,
@@ -100,7 +100,7 @@ fn share_draft<R: Wait>(
     }
 }
 
-/// Lets all private records go beside a shared draft.
+/// Drops all private records, with a shared draft.
 fn clear_around<R: Wait>(
     rt: &R,
     hints: &mut Hints<'_>,
@@ -136,7 +136,7 @@ fn clear_around<R: Wait>(
     }
 }
 
-/// Holds a shared draft behind the anchor, and nothing else.
+/// Holds a shared draft after the anchor, and nothing else.
 fn draw_in(m: &mut Mutator<'_, Documents>, minor: &MinorHeap, place: usize, base: usize)
     requires sound { IsSound m.old minor.now (at.Shared place) base }
     requires many { 2 < base }
@@ -151,7 +151,7 @@ fn draw_in(m: &mut Mutator<'_, Documents>, minor: &MinorHeap, place: usize, base
     keep_alone(m, minor, place);
 }
 
-/// Lets all private records go but those of the draft, which become shared.
+/// Drops all private records except those of the draft, which become shared.
 fn share_or_clear<R: Wait>(
     rt: &R,
     hints: &mut Hints<'_>,
@@ -249,8 +249,9 @@ pub(crate) fn has_room(m: &Mutator<'_, Documents>, minor: &MinorHeap) -> bool
     20480 + records <= m.room() && 2285 <= minor.spare()
 }
 
-/// Where there is too little room for an edit, lets all private records go but those of the draft.
-/// Where places are not wanting these age once, and become shared only if that leaves too few.
+/// Where there is too little room for an edit, drops all private records except those of the draft.
+/// If there are enough places, these age once, and become shared only if that leaves too little
+/// room.
 pub(crate) fn make_room<R: Wait>(
     rt: &R,
     hints: &mut Hints<'_>,

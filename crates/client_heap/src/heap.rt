@@ -21,7 +21,7 @@ pub struct OwnHeap<'a, M: StoreSeat<Q>, Q> {
     nursery: &'a mut AgedNursery,
     promoter: &'a mut Promoter,
     draft: NodeAt,
-    /// so many places of the held list stay between commands
+    /// how many places of the held list stay between commands
     base: usize,
     ghost sound: { IsSound (M.bound m.now) nursery.now.heap draft base } by { sound_once
         (M.bound m.now) nursery.now.heap draft base },

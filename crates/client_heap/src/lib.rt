@@ -2,11 +2,11 @@
 //! it holds, a private heap, and the draft.
 //!
 //! The layer above may rely on this: `OwnHeap` is a `ClientHeap`, so all that is proved of a
-//! session holds over it. No call changes which mutator it is, of which queue its hints are, or how
-//! much room there is. Between commands the first places of the held list stay, which are the
-//! anchor's and those that the draft needs, and of the private records those up to the draft's own.
+//! session holds over it. No call changes which mutator it is, which queue its hints are from, or
+//! how much room there is. Between commands the first places of the held list stay, which are the
+//! anchor's and those that the draft needs; and of the private records those up to the draft's own.
 //! A draft that a minor collection moved stands on two places, and one that aged on those on which
-//! it stood. What has aged once is collected when room is wanting again.
+//! it stood. What has aged once is collected when room is needed again.
 //!
 //! Reading order: specs/Shows, Carries, Sound, Shared, Ages, Lent; then `places`, `walking`,
 //! `collecting`, `ageing`, `cutting`, `drafting`, `making`, `publishing`, `seat`, `mutator`,

@@ -25,7 +25,7 @@ use mutator_seat::Mutator;
 use promotion::Promoter;
 use std::sync::Wait;
 
-/// Where a node stands of which a copy was made at the place if it was private.
+/// Where a node stands after a copy of it was made at the place, if it was private.
 fn place_of(copy: usize, node: NodeAt) -> usize
     ensures { result ≡ shared_place copy node }
 {
@@ -35,8 +35,8 @@ fn place_of(copy: usize, node: NodeAt) -> usize
     }
 }
 
-/// Copies what two nodes reach into the shared heap, as far as it is private, and lets all private
-/// records go. All that is held stays, and the copies stand behind it, the second one last.
+/// Copies what two nodes reach into the shared heap, as far as it is private, and drops all private
+/// records. All that is held stays, and the copies are held after it, the second one last.
 fn share_both<R: Wait>(
     rt: &R,
     hints: &mut Hints<'_>,
@@ -92,8 +92,8 @@ fn share_both<R: Wait>(
     }
 }
 
-/// Lets all private records go but those of the draft and of a tree in the making, which become
-/// shared. They are held behind the anchor, and nothing else is.
+/// Drops all private records except those of the draft and of a tree in the making, which become
+/// shared. They are held after the anchor, and nothing else is.
 fn share_pair<R: Wait>(
     rt: &R,
     hints: &mut Hints<'_>,
@@ -199,9 +199,9 @@ fn collect_pair<R: Wait>(
     }
 }
 
-/// Where there is too little room for one more edit, lets all private records go but those of the
-/// draft and of a tree in the making. Where places are not wanting these age once, and become
-/// shared only if that leaves too few. The tree is then at the node that is the answer.
+/// Where there is too little room for one more edit, drops all private records except those of the
+/// draft and of a tree in the making. If there are enough places, these age once, and become shared
+/// only if that leaves too little room. The answer is the node where the tree is then.
 pub(crate) fn make_room_for<R: Wait>(
     rt: &R,
     hints: &mut Hints<'_>,

@@ -1,4 +1,5 @@
-//! Giving places of the held list back, comparing two, and answering handshakes, which leaves all.
+//! Giving places of the held list back, comparing two, and answering handshakes, which leaves all
+//! places.
 ghost use Rattle.std.specs.Prelude.{ℕ, ◌≡◌, ◌<◌, ◌≤◌, ◌+◌, ◌==◌, length, true};
 ghost use Rattle.client_heap.specs.Carries.{Carries};
 ghost use Rattle.client_heap.specs.Shows.{node_term};
@@ -10,7 +11,7 @@ use document_versions::Documents;
 use minor_heap::MinorHeap;
 use mutator_seat::Mutator;
 
-/// Gives back all places but the first so many.
+/// Gives back all places except the first so many.
 pub(crate) fn cut_back(m: &mut Mutator<'_, Documents>, minor: &MinorHeap, places: usize)
     requires inside { m.old.seat.me.presence.inside ≡ true }
     requires some { 1 ≤ places }
@@ -20,7 +21,7 @@ pub(crate) fn cut_back(m: &mut Mutator<'_, Documents>, minor: &MinorHeap, places
     ensures pass { m.new.seat.me.pass ≡ m.old.seat.me.pass }
     ensures claims { m.new.seat.me.own.claims ≡ m.old.seat.me.own.claims }
 {
-    // As much is known as is held, and records name older ones.
+    // As much is known as is held, and records name only older ones.
     let _held = m.held_len();
     let _records = minor.len();
     m.cut(places);
@@ -61,7 +62,7 @@ pub(crate) fn safe_point(m: &mut Mutator<'_, Documents>, minor: &MinorHeap)
     let _answered = m.answer();
 }
 
-/// Holds the cell of a place behind the anchor, and nothing else.
+/// Holds the cell of a place after the anchor, and nothing else.
 pub(crate) fn keep_alone(m: &mut Mutator<'_, Documents>, minor: &MinorHeap, place: usize)
     requires inside { m.old.seat.me.presence.inside ≡ true }
     requires there { place < length m.old.seat.me.own.held }
@@ -76,7 +77,7 @@ pub(crate) fn keep_alone(m: &mut Mutator<'_, Documents>, minor: &MinorHeap, plac
     m.keep(1, place, 1);
 }
 
-/// Holds the cell of a place once more, behind all others.
+/// Holds the cell of a place once more, after all others.
 fn hold_again(m: &mut Mutator<'_, Documents>, minor: &MinorHeap, place: usize)
     requires inside { m.old.seat.me.presence.inside ≡ true }
     requires there { place < length m.old.seat.me.own.held }
@@ -94,7 +95,7 @@ fn hold_again(m: &mut Mutator<'_, Documents>, minor: &MinorHeap, place: usize)
     m.keep(held, place, 1);
 }
 
-/// Holds the cells of two places that follow each other behind the anchor, and nothing else.
+/// Holds the cells of two consecutive places after the anchor, and nothing else.
 fn keep_two(m: &mut Mutator<'_, Documents>, minor: &MinorHeap, place: usize)
     requires inside { m.old.seat.me.presence.inside ≡ true }
     requires there { place + 1 < length m.old.seat.me.own.held }
@@ -110,7 +111,7 @@ fn keep_two(m: &mut Mutator<'_, Documents>, minor: &MinorHeap, place: usize)
     m.keep(1, place, 2);
 }
 
-/// Holds the cells of two places behind the anchor, and nothing else.
+/// Holds the cells of two places after the anchor, and nothing else.
 pub(crate) fn keep_pair(m: &mut Mutator<'_, Documents>, minor: &MinorHeap, x: usize, y: usize)
     requires inside { m.old.seat.me.presence.inside ≡ true }
     requires first { x < length m.old.seat.me.own.held }

@@ -1,5 +1,5 @@
-//! Making the next version: the node is promoted, and then committed. A promotion stands where the
-//! commit comes too late, and may serve the next one.
+//! Making the next version: the node is promoted, and then committed. The promoted copy stays if
+//! the commit comes too late, and the next commit may use it.
 ghost use Rattle.std.specs.Prelude.{◌≡◌, ◌<◌, ◌≤◌, ◌+◌, Err, IfOk, OnErr};
 ghost use Rattle.std.specs.Prelude.{OnOk, length, true};
 ghost use Rattle.client_heap.specs.Carries.{Carries};

@@ -41,8 +41,8 @@ use std::alloc::Global;
 use std::sync::Wait;
 use version_store::Cut;
 
-/// A mutator of documents, and the hints that it works with, as types that name no lifetime: what
-/// is lent in a struct is known again at the end where its type is a parameter.
+/// A mutator of documents, and the hints that it works with, as types that name no lifetime: the
+/// state of what is lent in a struct is known again when the loan ends, if its type is a parameter.
 pub trait StoreSeat<Q> {
     ghost bound: { Self → Bound Pass };
 
@@ -106,7 +106,7 @@ pub trait StoreSeat<Q> {
         ensures lasts { LastsAcross (bound self.old) (bound self.new) }
         ensures same { IsSameMutator (bound self.old) (bound self.new) };
 
-    /// The node at the end of a way down from a node.
+    /// The node at the end of a path down from a node.
     fn node_below(&mut self, minor: &mut MinorHeap, at: NodeAt, names: &[Name]) -> Option<NodeAt>
         requires inside { (bound self.old).seat.me.presence.inside ≡ true }
         requires node { IsTreeAt (bound self.old) minor.old at }
@@ -337,7 +337,7 @@ pub trait StoreSeat<Q> {
     fn has_room(&self, minor: &MinorHeap) -> bool
         ensures room { result ≡ is_cleared (bound self.now) minor.now };
 
-    /// Makes room for an edit where there is too little: the private records age once, or else are
+    /// Makes room for an edit where there is too little: the private records age once, or are
     /// collected.
     fn make_room<R: Wait>(
         &mut self,
@@ -373,7 +373,7 @@ pub trait StoreSeat<Q> {
         ensures queue { queue hints.new ≡ queue hints.old };
 
     /// Makes room for one more edit of a tree in the making where there is too little: the private
-    /// records age once, or else are collected.
+    /// records age once, or are collected.
     fn make_room_for<R: Wait>(
         &mut self,
         rt: &R,
@@ -425,7 +425,7 @@ pub trait StoreSeat<Q> {
         ensures claims { (bound self.new).seat.me.own.claims
             ≡ (bound self.old).seat.me.own.claims };
 
-    /// Gives back all places but the first so many.
+    /// Gives back all places except the first so many.
     fn cut_back(&mut self, minor: &MinorHeap, places: usize)
         requires inside { (bound self.old).seat.me.presence.inside ≡ true }
         requires some { 1 ≤ places }

@@ -12,7 +12,8 @@ use document_versions::Documents;
 use minor_heap::MinorHeap;
 use mutator_seat::Mutator;
 
-/// The node at the end of a way down from a node. A place is held for each shared node on it.
+/// The node at the end of a path down from a node. A place is held for each shared node on the
+/// path.
 pub(crate) fn node_below(
     m: &mut Mutator<'_, Documents>,
     minor: &mut MinorHeap,

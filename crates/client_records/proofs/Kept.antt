@@ -1,5 +1,5 @@
--- What the pool shows after an event of the mutator: what stood on places that stay still stands and
--- says what it said.
+-- What the pool shows after an event of the mutator: what stood on places that stay still stands
+-- and says what it said.
 use Rattle.std.proofs.Common.{◌≡◌, ◌<◌, ◌≤◌, ℕ, zero, suc, List, [], ◌∷◌, ◌++◌}
 use Rattle.std.proofs.Common.{length, take, drop, refl, sym, ◌∙◌, ap, subst, arith}
 use Rattle.std.specs.Prelude.{slice_index_or}
@@ -40,8 +40,8 @@ use Rattle.client_records.proofs.Places.{at_kept, at_more, known_term_at, record
 use Rattle.client_records.proofs.Places.{still_something}
 use Rattle.client_records.proofs.Resting.{rests_map, rests_same}
 
--- the first so many places hold what they held, whatever is known there is, and nothing else of the
--- view is new but the trail
+-- the first so many places hold what they held, whatever was known there still is, and nothing else
+-- of the view is new except the trail
 pub record Holds {P : Type 0} (places : ℕ) (v w : View P) : Type 0 where
   pub known : (p : ℕ) → p < places → IsSomething (known_at v.known p)
       → known_at w.known p ≡ known_at v.known p

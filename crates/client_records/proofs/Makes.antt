@@ -1,5 +1,5 @@
--- A private record more: what it says, that it stands where its parts do, and that the others stand
--- and say what they said.
+-- One more private record: what it says, that it stands where its parts do, and that the others
+-- stand and say what they said.
 use Rattle.std.proofs.Common.{◌≡◌, ◌<◌, ◌+◌, ℕ, zero, suc, List, [], ◌∷◌, ◌++◌, length}
 use Rattle.std.proofs.Common.{refl, sym, ◌∙◌, ap, subst, arith}
 use Rattle.std.specs.Prelude.{slice_index_or}
@@ -135,7 +135,7 @@ module _ {P : Type 0} (v : View P) (outside : Outside) (old new : Nursery)
           let same : r ≡ o = cc in
           subst (Rests old.records (IsAmong v.known (length v.own.held))) same stands.0
 
--- a part as a field says the same
+-- a part as a field says the same as before
 pub part_says : {P : Type 0} (v : View P) (outside : Outside) (old : Nursery) (p : Part NodeAt)
     → field_term (terms_known v.known) (terms_of (terms_known v.known) old.records) (field_of p)
     ≡ part_term (shown_of v old outside).term p
@@ -144,7 +144,7 @@ part_says v outside old (parts.Num n) = refl
 part_says v outside old (parts.Record (at.Shared q)) = known_term_at v.known q
 part_says v outside old (parts.Record (at.Minor r)) = refl
 
--- and may be one
+-- and may be a field
 part_fits : {P : Type 0} (v : View P) (outside : Outside) (old : Nursery) (p : Part NodeAt)
     → Stands (shown_of v old outside) p → FitsRecord (length old.records) (field_of p)
 part_fits v outside old parts.Null stands = tt

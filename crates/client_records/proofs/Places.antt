@@ -1,4 +1,4 @@
--- Lists by place: what stands at a place after one more, and after some were kept.
+-- Lists by place: what stands at a place after one more was added, and after some were kept.
 use Rattle.std.proofs.Common.{◌≡◌, ◌<◌, ◌≤◌, ◌+◌, ◌==◌, ℕ, zero, suc, Bool, true, false, List}
 use Rattle.std.proofs.Common.{[], ◌∷◌, ◌++◌, length, take, drop, refl, ◌∙◌, ap, arith}
 use Rattle.std.proofs.Common.{if◌then◌else◌}
@@ -21,7 +21,7 @@ module _ {A : Type 0} (d : A) where
   at_last [] x = refl
   at_last (y ∷ xs) x = at_last xs x
 
-  -- the first so many, and others behind them
+  -- the first so many, and others after them
   pub at_kept : (xs ys : List A) (n k : ℕ) → k < n → n ≤ length xs
       → slice_index_or (take n xs ++ ys) k d ≡ slice_index_or xs k d
   at_kept [] ys n k lt few = absurd (omega (arith, lt, few))
@@ -42,7 +42,7 @@ module _ {A : Type 0} (d : A) where
   behind_taken [] (suc n) x few = absurd (omega (arith, few))
   behind_taken (y ∷ xs) (suc n) x few = behind_taken xs n x (omega (arith, few))
 
-  -- and the one that was kept behind them
+  -- and the one that was kept after them
   pub at_copy : (xs : List A) (n from : ℕ) → n ≤ length xs → from < length xs
       → slice_index_or (take n xs ++ take 1 (drop from xs)) n d ≡ slice_index_or xs from d
   at_copy xs n from few lt =
@@ -76,7 +76,7 @@ known_term_at [] place = refl
 known_term_at (k ∷ known) zero = refl
 known_term_at (k ∷ known) (suc place) = known_term_at known place
 
--- What is known of a place stays so when it is told that the cell that was read is a record.
+-- What is known of a place stays so after it is told that the cell that was read is a record.
 
 told_something : (t : Term) (k : Known) → IsSomething k → told (knows.Record t) k ≡ k
 told_something t knows.Nothing is = absurd is

@@ -67,7 +67,7 @@ record_five (knows.Fresh fields) is = absurd is
 record_five (knows.Record t) is = is
 record_five (knows.Boxed terms) is = absurd is
 
--- every record that stands is one
+-- the term of every record that stands has five parts
 pub stands_five : (known : List Known) (records : List (List MinorField)) (n : ℕ) (a : NodeAt)
     → IsOrdered 0 records → stands_on known records n a
     → IsFive (term_at known records a)
@@ -225,7 +225,7 @@ pub outside_same : {P : Type 0} (m w : Bound P) (names : ℕ × ℕ) → w.heap 
     → w.seat.table ≡ m.seat.table → outside_of m names ≡ outside_of w names
 outside_same m w names heap table = rw (heap, table) refl
 
--- nothing is owed of a part that outside no private record
+-- nothing is required of a part that leads out of the private records
 pub part_on : {A F : Type 0} (shared : A → Bool) (s : Shown A F) (places : ℕ) (p : Part A)
     → parts_shared shared p ≡ true → PartOn shared s places p
 part_on shared s places parts.Null is = tt

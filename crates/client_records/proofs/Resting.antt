@@ -1,5 +1,5 @@
--- Private records that stand on places: that they stand on when more is known, when a record is made,
--- and that they say what they said wherever the places do.
+-- Private records that stand on places: they still stand when more is known or a record is made,
+-- and they say what they said wherever the places do.
 use Rattle.std.proofs.Common.{◌≡◌, ◌<◌, ℕ, zero, suc, List, [], ◌∷◌, ◌++◌, length}
 use Rattle.std.proofs.Common.{refl, sym, ◌∙◌, ap, arith}
 use Rattle.std.specs.Prelude.{slice_index_or}
@@ -42,7 +42,7 @@ rests_reached records ok IsRoot each o (root is) = each o is
 rests_reached records ok IsRoot each o (named {r = r} i lt before is) =
     rests_older records ok r i o (rests_reached records ok IsRoot each r before) lt is
 
--- one record more
+-- one more record
 
 row_old : (records : List (List MinorField)) (fields : List MinorField) (k : ℕ)
     → k < length records → slice_index_or (records ++ fields ∷ []) k [] ≡ slice_index_or records k []

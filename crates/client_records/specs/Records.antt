@@ -36,7 +36,7 @@ IsRecord (knows.Fresh fields) = ⊥
 IsRecord (knows.Record t) = IsFive t
 IsRecord (knows.Boxed terms) = ⊥
 
--- that term; null of what is no such record
+-- that term; null where no such record is known
 abbrev pub known_term : Known → Term
 known_term k = term_or null k
 
@@ -44,8 +44,8 @@ known_term k = term_or null k
 abbrev pub terms_known : List Known → List Term
 terms_known known = map known_term known
 
--- The private record stands, and so does all that it leads to; of the shared places among that this
--- is so.
+-- The private record stands, and so does all that it leads to; `ok` holds of the shared places
+-- among that.
 pub data Rests (records : List (List MinorField)) (ok : ℕ → Type 0) : MinorRef → Type 0 where
   rests : {r : MinorRef} → r.number < length records
       → ((i place : ℕ) → i < 5 → field_at records r.number i ≡ field.Shared place → ok place)
@@ -70,20 +70,20 @@ abbrev pub is_shared : NodeAt → Bool
 is_shared (at.Shared place) = true
 is_shared (at.Minor r) = false
 
--- What a client's pool says beside its records.
+-- What a client's pool says in addition to its records.
 
--- what there is outside of a mutator's view and a private heap: which heap the mutator's is, and
--- the names of both as they are borrowed
+-- what there is outside of a mutator's view and a private heap: the mutator's heap, and the names
+-- under which both are borrowed
 pub record Outside : Type 0 where
   pub heap : HeapId
   pub table : TableId
   pub names : ℕ × ℕ
 
--- a mutator but for what it holds, what it knows of that, and its trail
+-- a mutator without what it holds, what it knows of that, and its trail
 abbrev pub blank : {P : Type 0} → View P → View P
 blank v = record v { own = record v.own { held = [] }; known = []; trail = [] }
 
--- what no call changes: all of the mutator but these, and the room of the private heap
+-- what no call changes: all of the mutator except these, and the room of the private heap
 pub record Around (P : Type 0) : Type 0 where
   pub outside : Outside
   pub view : View P
@@ -161,7 +161,7 @@ part_read (field.Num n) = parts.Num n
 part_read (field.Minor r) = parts.Record (at.Minor r)
 part_read (field.Shared place) = parts.Record (at.Shared place)
 
--- a read of a shared record gave a part that says this, beside any private heap
+-- a read of a shared record gave a part that says this, with any private heap
 pub record SharedRead {P : Type 0} (minor : Nursery) (before behind : Outside) (v w : View P)
     (t : Term) (result : Part NodeAt) : Type 0 where
   pub term : part_term (shown_of w minor behind).term result ≡ t

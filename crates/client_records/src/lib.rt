@@ -1,11 +1,11 @@
-//! The records that a client works on: sealed cells of the shared heap that its mutator holds, and
-//! private records beside them, as one pool.
+//! The records that a client works on, as one pool: sealed cells of the shared heap that its
+//! mutator holds, and private records.
 //!
 //! A shared record is named by its place in the held list, a private one by its number. The layer
 //! above may rely on this: a pool of both is a `RecordPool`, so all that is proved of trees in such
 //! a pool holds of them. A private record stands as long as the shared places that it leads to. A
-//! read of a shared record is one event of the mutator, which the pool's marks show; a new record is
-//! always private. Nothing here takes memory or waits.
+//! read of a shared record is one event of the mutator, which the pool's marks show; a new record
+//! is always private. Nothing here allocates or waits.
 //!
 //! Reading order: specs/Records; then `at`, `seat`, `records`, `pool`.
 #![tactic(auto)]

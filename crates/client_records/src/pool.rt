@@ -24,7 +24,7 @@ impl<'a, M: ClientSeat> RecordPool for ClientRecords<'a, M> {
 
     #[inline(always)]
     fn read(&mut self, at: NodeAt, index: usize) -> Part<NodeAt> {
-        // So many places are known of as are held, and a record names older ones.
+        // As many places are known as are held, and a record names only older ones.
         let _held = self.mutator.held_count();
         let _records = self.minor.len();
         match at {

@@ -15,8 +15,8 @@ use heap_rule::Keeping;
 use mutator_seat::{Mutator, Value};
 use std::marker::Brand;
 
-/// A mutator, as one of a type that names no lifetime: what is lent in a struct is known again at
-/// the end where its type is a parameter.
+/// A mutator, as one of a type that names no lifetime: the state of what is lent in a struct is
+/// known again when the loan ends, if its type is a parameter.
 pub trait ClientSeat {
     ghost Pass: { Type 0 };
 
@@ -52,7 +52,7 @@ pub trait ClientSeat {
             (event.Keep (bound self.old).seat.me.number n 0 0)
             (finds.Presence (bound self.old).seat.me.presence) };
 
-    /// Keeps the first `n` places, and behind them the cell that stood at `place`.
+    /// Keeps the first `n` places, and after them the cell that stood at `place`.
     fn keep_one(&mut self, n: usize, place: usize)
         requires may { MayKeep (bound self.old).seat.me n place 1 }
         ensures told { bound self.new ≡ takes (bound self.old)

@@ -58,7 +58,7 @@ module _ (known : List Known) (records : List (List MinorField)) (places : ℕ) 
       field_shares (field_at records r.number i)
       (λ place is. rests_place records (IsAmong known places) r i place rests lt is)
 
--- behind the anchor it is known as the record that it was
+-- after the anchor it is known as the record that it was
 
 node_record : (k : Known) (t : Term) → k ≡ knows.Record t → IsTreeNode t → IsRecord k
 node_record k null is node = absurd node.node

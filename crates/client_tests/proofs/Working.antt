@@ -1,4 +1,4 @@
--- What the tests know between two calls stands behind each call.
+-- What the tests know between two calls holds after each call.
 use Rattle.std.proofs.Common.{◌≡◌, ◌∙◌, true, ap}
 use Rattle.client_records.specs.declared.at.NodeAt.{NodeAt}
 use Rattle.client_tests.specs.Works.{Works}

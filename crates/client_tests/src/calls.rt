@@ -88,7 +88,7 @@ pub(crate) fn remove(
     Ok(())
 }
 
-/// Puts what stands at one path at another too.
+/// Puts what stands at one path at another path, too.
 #[tactic(auto, using(crate::proofs::Working::working))]
 pub(crate) fn copy(
     alloc: Global,
@@ -113,7 +113,7 @@ pub(crate) fn copy(
     Ok(())
 }
 
-/// The node at the end of a way down from a node, if there is one.
+/// The node at the end of a path down from a node, if there is one.
 #[tactic(auto, using(crate::proofs::Working::working))]
 fn node_at(
     m: &mut Mutator<'_, NoRule>,
@@ -194,8 +194,8 @@ pub(crate) fn names_at(
     Ok(names(alloc, m, minor, node)?)
 }
 
-/// Copies a private node into the shared heap, and lets all private records go. Behind the anchor
-/// the copy is held, and nothing else.
+/// Copies a private node into the shared heap, and drops all private records. The copy is held
+/// after the anchor, and nothing else is.
 fn collect_private<R: Wait>(
     rt: &R,
     hints: &mut Hints<'_>,
@@ -210,7 +210,7 @@ fn collect_private<R: Wait>(
         ≤ m.old.seat.me.room }
     ensures works { OnOk result (Works m.new minor.new (at.Shared 1)) }
 {
-    // As many places are known of as are held.
+    // As many places are known as are held.
     let _held = m.held_len();
     promoter.collect(rt, hints, m, minor, &[r], 1)?;
     Ok(())

@@ -19,7 +19,7 @@ pub(crate) const CELLS: u32 = 4000;
 const ROOM: u32 = 40_000;
 
 /// A heap of so many cells, with the seat of its one mutator, which may hold so many places. The
-/// collector's seat is let go, so the collector stays off duty.
+/// collector's seat is dropped, so the collector stays off duty.
 fn open_one(
     alloc: Global,
     cells: u32,

@@ -28,7 +28,7 @@ fn reads(
     Ok(found.as_str() == letters)
 }
 
-/// Below a path stand these two names and no others.
+/// Below a path there are these two names and no others.
 fn lists(
     alloc: Global,
     m: &mut Mutator<'_, NoRule>,
@@ -86,7 +86,7 @@ fn see(
     })
 }
 
-/// Makes that tree of the empty one, by an edit of each kind.
+/// Makes that tree from the empty one, by an edit of each kind.
 fn make(
     alloc: Global,
     m: &mut Mutator<'_, NoRule>,

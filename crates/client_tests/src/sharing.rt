@@ -58,7 +58,7 @@ impl Row for PutIntoShared {
     }
 }
 
-// The way to the entry of 000 has eight entries, and there are two nodes, an entry of d, and the
+// The path to the entry of 000 has eight entries, and there are two nodes, an entry of d, and the
 // new node with its text.
 #[test]
 fn a_put_into_a_shared_folder_makes_thirteen_records(rt: HostRuntime) -> Result<(), Fail> {
@@ -82,7 +82,7 @@ fn fields_of(minor: &MinorHeap, number: u32) -> Option<[MinorField; 5]> {
     ])
 }
 
-/// The record of the text hello at a, which is made first behind the empty tree.
+/// The record of the text hello at a, which is made first after the empty tree.
 #[derive(Clone, Copy)]
 struct RecordOfHello;
 

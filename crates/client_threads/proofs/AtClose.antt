@@ -1,5 +1,5 @@
--- What is known where the heap of a run is closed, and what its logs and the collector's trail come
--- to by it.
+-- What is known where the heap of a run is closed, and what follows from it for its logs and the
+-- collector's trail.
 --
 -- agreed   the logs agree on the versions of the heap
 -- tied     each log is tied to what its mutator left

@@ -38,7 +38,7 @@ module _ (s : Session) (m : Bound Pass) (t : Session) (n : Bound Pass) where
     commands = ap commands_of entries ∙ sym (append-nil (commands_of s.journal.log.entries));
   }
 
--- The same client, behind a wait and over two calls.
+-- The same client, after a wait and over two calls.
 
 still_client : (s : Session) (a b : Bound Pass) → Waits a b → IsSameClient s a s b
 still_client s a b waits = record {
@@ -59,7 +59,7 @@ client_then s t u a b c first second = record {
   promoter = second.promoter ∙ first.promoter;
 }
 
--- behind a wait
+-- after a wait
 pub waited_went : (more : List Command) (s t : Session) (a m n : Bound Pass) → Waits a m
     → Went more s m t n → Went more s a t n
 waited_went more s t a m n waits went = record {
@@ -76,7 +76,7 @@ waited_went more s t a m n waits went = record {
 abbrev pub with_log : Session → ClientLog → Session
 with_log s log = record s { journal = record s.journal { log = log } }
 
--- a log that has these entries and is of this client has room alone besides
+-- only the room differs in a log that has these entries and is of this client
 same_log : (old new : ClientLog) → new.client ≡ old.client → new.entries ≡ old.entries
     → record old { spare = new.spare } ≡ new
 same_log old new client entries =

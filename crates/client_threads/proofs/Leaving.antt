@@ -38,7 +38,7 @@ entered_may heap queue l script place client m ready came =
 
 -- The end.
 
--- so many of the first commands, and where all were answered these are all
+-- so many of the first commands, and if all were answered these are all
 record Front (whole : Bool) (script : List Command) (s : Session) (m : Bound Pass) (t : Session)
     (n : Bound Pass) : Type 0 where
   count : ℕ

@@ -1,4 +1,4 @@
--- Clients by their places: the last one apart, and behind all others again.
+-- Clients by their places: the last one apart, and after all others again.
 use Rattle.std.proofs.Common.{◌≡◌, ℕ, List, [], ◌∷◌, ◌++◌, length}
 use Rattle.std.specs.Prelude.{Vec}
 use Rattle.std.specs.declared.alloc.Global.{Global}

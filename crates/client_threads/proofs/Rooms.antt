@@ -1,7 +1,7 @@
--- What a session needs of its mutator's room is a bound.
+-- A session asks of its mutator's room only a lower bound.
 --
--- The mutator with less room is the same one but for that. So all that names no room is handed over
--- as it stands, and the bounds grow.
+-- The mutator with less room is the same one except for that. So all that names no room is handed
+-- over as it is, and the bounds grow.
 use Rattle.std.proofs.Common.{◌≤◌, ◌+◌, ℕ, List, refl, subst, arith}
 use Rattle.client_heap.specs.Sound.{IsSound}
 use Rattle.client_run.specs.Own.{IsBegun, IsNewSession, MayAnswer, client_state}

@@ -1,4 +1,4 @@
--- The clients that are taken back, one after the other.
+-- The clients, taken back one after the other.
 use Rattle.std.proofs.Common.{◌≡◌, ◌≤◌, ◌+◌, ◌++◌, ℕ, suc, Bool, false, List, [], ◌∷◌}
 use Rattle.std.proofs.Common.{length, map, take, refl, sym, ◌∙◌, ap, subst, arith}
 use Rattle.std.specs.Prelude.{Vec}
@@ -32,7 +32,7 @@ fronts_push (f ∷ fronts) (w ∷ wholes) front whole are is =
 
 module _ (heap : HeapId) (limits : ClientLimits) (scripts : List (Vec Command Global)) where
   -- The first clients gave these logs, and these clients are left. What the first were asked and
-  -- answered is a front of each one's script, and where none failed all of it.
+  -- answered is a front of each one's script, and all of it where none failed.
   pub record ClientsSoFar (rest : List Client) (logs : List ClientLog) (failed : Bool)
       (old new : SeatView Pass) : Type 0 where
     pub back : TakenSoFar (DoneAt heap limits scripts) (λ (c : Client). c.seat)

@@ -33,9 +33,9 @@ places_for minor = 4 * minor + 16_384
 abbrev pub commands_of : List Entry → List Command
 commands_of entries = map (λ (e : Entry). e.command) entries
 
--- The session is as it was made for this client, and answered nothing yet: its private heap is of
--- as many records as it is to have, and it may answer by every mutator of so much room that has
--- just begun.
+-- The session is as it was made for this client, and has answered nothing yet: its private heap has
+-- room for as many records as it is to have, and it may answer by every mutator of so much room
+-- that has just begun.
 pub record IsSessionFor (l : Limits) (client room : ℕ) (s : Session) : Type 0 where
   pub entries : s.journal.log.entries ≡ []
   pub client_is : s.journal.log.client ≡ client
@@ -45,7 +45,7 @@ pub record IsSessionFor (l : Limits) (client room : ℕ) (s : Session) : Type 0 
   pub may : (m : Bound Pass) → IsBegun l.keep l.minor m → m.seat.me.room ≡ room
       → MayAnswer s m
 
--- The seat is the one of the mutator with this number, as it was split off.
+-- The seat is that of the mutator with this number, as it was split off.
 pub record IsNewSeat (heap : HeapId) (l : Limits) (place : ℕ) (seat : SeatView Pass)
     : Type 0 where
   pub seat_is : IsSeatOf heap seat
@@ -56,7 +56,7 @@ pub record IsNewSeat (heap : HeapId) (l : Limits) (place : ℕ) (seat : SeatView
   pub keep : seat.me.pass.keep ≡ l.keep
   pub commits : seat.me.pass.commits ≡ []
 
--- The client has not begun with its script. Its number is its mutator's and one.
+-- The client has not begun its script. Its number is its mutator's and one.
 pub record IsReady (heap : HeapId) (queue : FreeQueue) (l : Limits) (script : List Command)
     (place : ℕ) (client : Client) : Type 0 where
   pub place_is : client.place ≡ place
@@ -67,7 +67,7 @@ pub record IsReady (heap : HeapId) (queue : FreeQueue) (l : Limits) (script : Li
   pub short : length script ≤ 100_000
 
 -- The client is through: its mutator is over, and its log is in step with what the seat has; its
--- private heap and its mutator have the room that they were to have. Where memory was wanting it
+-- private heap and its mutator have the room that they were to have. Where memory ran out it
 -- stopped early, and its log is of the script's first commands.
 pub record IsDone (heap : HeapId) (l : Limits) (script : List Command) (place : ℕ)
     (client : Client) : Type 0 where

@@ -15,8 +15,8 @@ use Rattle.version_rule.specs.Pass.{Pass}
 use Rattle.version_rule.specs.Tied.{Tied}
 
 -- The log with this index and what the mutator with this index left: its seat was joined, the log
--- is tied to its pass, and its trail shows what the log tells of. So many cells has the heap, and so
--- many places the mutator.
+-- is tied to its pass, and its trail shows what the log tells. The heap has so many cells, and the
+-- mutator so many places.
 pub record IsTiedTo (l : Limits) (cells room : ℕ) (logs : List ClientLog) (joined : List (Place Pass))
     (i : ℕ) : Type 0 where
   pub log : ClientLog

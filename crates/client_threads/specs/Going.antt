@@ -12,7 +12,7 @@ use Rattle.trails.specs.Asks.{Grown}
 use Rattle.trails.specs.Marks.{marks_of}
 use Rattle.version_rule.specs.Pass.{Pass}
 
--- Answers to handshakes: the mutator holds and knows what it did, and its trail grew.
+-- Answers to handshakes: what the mutator holds and knows is as before, and its trail grew.
 pub record Waits (old new : Bound Pass) : Type 0 where
   pub kept : Kept old new
   pub grown : Grown (marks_of old.seat.me.trail) (marks_of new.seat.me.trail)
@@ -22,14 +22,14 @@ abbrev pub answered : Bool → Command → List Command
 answered true command = command ∷ []
 answered false command = []
 
--- The session answered these commands by this mutator, and may answer on.
+-- The session answered these commands by this mutator, and may answer more.
 pub record Went (more : List Command) (s : Session) (m : Bound Pass) (t : Session) (n : Bound Pass)
     : Type 0 where
   pub may : MayAnswer t n
   pub same : IsSameClient s m t n
   pub commands : commands_of t.journal.log.entries ≡ commands_of s.journal.log.entries ++ more
 
--- so it was with a number of the first ones
+-- this is so with some number of the first commands
 pub record WentSome (script : List Command) (s : Session) (m : Bound Pass) (t : Session)
     (n : Bound Pass) : Type 0 where
   pub count : ℕ

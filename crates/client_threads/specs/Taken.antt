@@ -1,4 +1,4 @@
--- The clients behind their run: their logs, and the collector's seat with theirs joined.
+-- The clients after their run: their logs, and the collector's seat with theirs joined.
 -- Source: this project's.
 use Rattle.std.specs.Prelude.{ℕ, ◌≡◌, ◌<◌, List, [], ◌∷◌, length, map, take}
 use Rattle.std.specs.Prelude.{Vec}
@@ -25,7 +25,7 @@ lists_of scripts = map (λ script. script.items) scripts
 abbrev pub commands_in : ClientLog → List Command
 commands_in log = commands_of log.entries
 
--- each of these lists is a front of the one that stands beside it
+-- each of these lists is a front of the one at its index
 abbrev pub AreFronts : List (List Command) → List (List Command) → Type 0
 AreFronts [] [] = Unit {0}
 AreFronts [] (whole ∷ wholes) = ⊥
@@ -39,12 +39,12 @@ pub record HadRoom (room : ℕ) (joined : List (Place Pass)) (i : ℕ) : Type 0 
   pub share_at : get_elem? joined i ≡ some (places.Joined share)
   pub room_is : share.room ≡ room
 
--- so had the first mutators, as many as this
+-- so had the first mutators, up to this number
 abbrev pub AllHadRoom : ℕ → List (Place Pass) → ℕ → Type 0
 AllHadRoom room joined count = (i : ℕ) → i < count → HadRoom room joined i
 
--- All clients are taken back, of which there were so many: their seats are joined, which had so
--- many places each, and the logs are theirs.
+-- All clients are taken back, of which there were so many: their seats are joined, each of which
+-- had so many places, and the logs are theirs.
 pub record AreTaken (l : Limits) (cells room clients : ℕ) (logs : List ClientLog)
     (old new : SeatView Pass) : Type 0 where
   pub still : IsStill old new

@@ -1,7 +1,7 @@
 //! A client's commands on its mutator, one after the other.
 //!
-//! Between two commands the mutator answers handshakes, also while the gate sends its client away:
-//! else the collector would wait for it.
+//! Between two commands the mutator answers handshakes, also while the gate keeps its client
+//! waiting: otherwise the collector would wait for it.
 ghost use Rattle.std.specs.Prelude.{◌≡◌, ◌≤◌, ◌<◌, [], length, true};
 ghost use Rattle.client_run.specs.Answers.{IsSameClient};
 ghost use Rattle.client_run.specs.Own.{MayAnswer};
@@ -48,7 +48,7 @@ pub fn await_gate<R: Wait, G: Gate>(
     unreachable!()
 }
 
-/// Answers the next command, unless memory is wanting.
+/// Answers the next command, unless memory runs out.
 fn answer_next<R: Wait>(
     alloc: Global,
     rt: &R,
@@ -91,8 +91,8 @@ fn take_turn<R: Wait, G: Gate>(
     answered
 }
 
-/// Takes memory for so many entries of the log at once, where it can be had: else the log grows as
-/// it has to.
+/// Takes memory for so many entries of the log at once, if there is enough; otherwise the log grows
+/// as it has to.
 fn reserve_entries(session: &mut Session, entries: usize)
     ensures may { (m : Bound Pass) → MayAnswer session.old m → MayAnswer session.new m }
     ensures same { (m : Bound Pass) → IsSameClient session.old m session.new m }
@@ -101,7 +101,7 @@ fn reserve_entries(session: &mut Session, entries: usize)
     let _refused = session.journal.log.reserve(entries);
 }
 
-/// Answers the commands of a script, up to the first for which memory is wanting.
+/// Answers the commands of a script, up to the first for which memory runs out.
 pub(crate) fn answer_all<R: Wait, G: Gate>(
     alloc: Global,
     rt: &R,

@@ -12,6 +12,6 @@ pub struct Client {
     pub session: Session,
     pub seat: MutSeat<Documents>,
     pub pass: HintPass,
-    /// memory was wanting for an answer, and it stopped there
+    /// memory ran out for an answer, and it stopped there
     pub failed: bool,
 }

@@ -3,9 +3,9 @@
 //! The layer above may rely on this: when `run_each` returns, each client's mutator is over, and
 //! its log is in step with what its seat has; a client that did not fail answered its whole script.
 //! The heap may have more mutators than clients: `open_store` leaves the others to be split off,
-//! and `take_back` joins the clients' seats. Who runs such a mutator itself has `await_gate` for
-//! it, with `come_in` and `leave` of beside_collector, where the collector's side stands, too. That
-//! anything runs beside anything else is claimed by no clause.
+//! and `take_back` joins the clients' seats. To run such a mutator there is `await_gate` here, and
+//! `come_in` and `leave` of beside_collector; the collector's side is in that crate, too. No clause
+//! says that anything runs concurrently.
 //!
 //! Reading order: `clients`, specs/Clients; specs/Opened, `opened`, `opening`; specs/Going,
 //! `answering`, `running`; specs/Taken, `taking_back`; specs/Ends; `theorems`.

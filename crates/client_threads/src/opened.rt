@@ -4,7 +4,7 @@ use document_versions::Documents;
 use free_cells::FreeQueue;
 use heap_table::CellHeap;
 
-/// A store's heap with all that its clients and its collector need. It can't be let go as a whole:
+/// A store's heap with all that its clients and its collector need. It can't be dropped as a whole:
 /// whoever takes it apart has a heap to close.
 pub struct OpenStore {
     pub heap: CellHeap<Documents>,

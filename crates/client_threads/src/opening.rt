@@ -32,7 +32,7 @@ use version_store::opening_rows;
 /// How many cells can wait for a look of the collector.
 const MARKS: u32 = 65_536;
 
-/// How many of the first cells the opening of a store takes.
+/// How many cells the opening of a store takes: the first ones.
 const FIRST: u32 = 3;
 
 /// A heap of at most so many cells is opened sooner than another thread begins to work.
@@ -45,7 +45,7 @@ type OpenHeap = (CellHeap<Documents>, ColSeat<Documents>);
 type OpenQueue = (FreeQueue, HintPass);
 
 /// Opens a heap with so many mutators, and a client for each script: theirs are the first mutators,
-/// and the others are still to be split off. The collector is on duty where it may make cycles.
+/// and the others are still to be split off. The collector is on duty if it may make cycles.
 pub fn open_store<R: Threads + Wait + Sync>(
     alloc: Global,
     rt: &R,
@@ -77,9 +77,9 @@ pub fn open_store<R: Threads + Wait + Sync>(
     })
 }
 
-/// The heap of a store with its collector's seat, and the queue of its hints with its only pass. Of
-/// few cells the queue is opened behind the heap, in memory that the heap's opening gave back; of
-/// many, both side by side.
+/// The heap of a store with its collector's seat, and the queue of its hints with its only pass.
+/// For few cells the queue is opened after the heap, in memory that the heap's opening gave back;
+/// for many, the two are opened concurrently.
 fn open_both<R: Threads + Wait + Sync>(
     alloc: Global,
     rt: &R,

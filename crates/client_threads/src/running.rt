@@ -17,7 +17,7 @@ use std::alloc::Global;
 use std::sync::Wait;
 use std::thread::{Threads, join};
 
-/// Answers a client's script, on this thread. Its mutator comes in before and is over behind.
+/// Answers a client's script, on this thread. Its mutator comes in before and is over afterwards.
 fn run_client<R: Wait, G: Gate>(
     alloc: Global,
     rt: &R,
@@ -54,9 +54,8 @@ fn run_client<R: Wait, G: Gate>(
     }
 }
 
-/// Runs the clients, each on a thread of its own: the last one beside all others. Client k of the
-/// list has script k. The limits are those that the sessions were made with: contracts alone read
-/// them.
+/// Runs the clients, each on a thread of its own, all concurrently. Client k of the list has script
+/// k. The limits are those that the sessions were made with: only contracts read them.
 pub fn run_each<R: Threads + Wait + Sync, G: Gate + Sync>(
     alloc: Global,
     rt: &R,
@@ -76,7 +75,7 @@ pub fn run_each<R: Threads + Wait + Sync, G: Gate + Sync>(
     let Some(last) = clients.pop() else {
         return clients;
     };
-    // A client that is the only one needs no thread but this.
+    // A single client needs no thread but this.
     if clients.is_empty() {
         let last = run_client(alloc, rt, gate, heap, queue, scripts, limits, last);
         if clients.push(last).is_err() {

@@ -1,4 +1,4 @@
-//! The clients behind their threads: each seat is joined, whatever its client came to, and its log
+//! The clients after their threads: each seat is joined, whatever its client came to, and its log
 //! is kept.
 ghost use Rattle.std.specs.Prelude.{◌≡◌, ◌≤◌, [], false, true, length, map};
 ghost use Rattle.std.specs.Prelude.{vec_capacity};
@@ -15,8 +15,9 @@ use document_versions::Documents;
 use heap_table::CellHeap;
 
 /// Joins the seats of all clients, and puts the logs into the list, in which there is room for
-/// them. It says whether some client stopped for want of memory. The heap may have more mutators
-/// than clients. The limits and the scripts are those of the run: contracts alone read them.
+/// them. It says whether some client stopped because memory ran out. The heap may have more
+/// mutators than clients. The limits and the scripts are those of the run: only contracts read
+/// them.
 pub fn take_back(
     heap: &CellHeap<Documents>,
     limits: Limits,

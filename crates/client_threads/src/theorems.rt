@@ -9,9 +9,9 @@ ghost use Rattle.doc_model.specs.declared.command.Command.{Command};
 ghost use Rattle.free_cells.specs.declared.queue.FreeQueue.{FreeQueue};
 ghost use Rattle.heap_table.specs.Seats.{HeapId};
 
-/// What a session needs of its mutator's room is a bound: a session that may answer by each mutator
-/// of the room that its private heap needs may answer by each that has more. So a session for that
-/// room is just a new session of client_run, and a ready client has one.
+/// A session asks of its mutator's room only a lower bound: a session that may answer by each
+/// mutator of the room that its private heap needs may answer by each that has more. So a session
+/// for that room is just a new session of client_run, and a ready client has one.
 pub fn a_session_answers_with_more_room()
     ensures new { (l : Limits) (client : ℕ) (s : Session)
         → IsSessionFor l client (places_for l.minor) s → IsNewSession l client s }

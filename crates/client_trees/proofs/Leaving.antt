@@ -26,7 +26,7 @@ record HasBehind (cells more : List ℕ) : Type 0 where
   added : List ℕ
   is : more ≡ cells ++ added
 
--- a list that has the cells of another place by place is that with some behind it
+-- a list that has the cells of another place by place is that list with some after it
 cells_behind : (xs ys : List Held)
     → ((place : ℕ) → place < length xs → cell_at ys place ≡ cell_at xs place)
     → length xs ≤ length ys → HasBehind (cells_in xs) (cells_in ys)
@@ -129,7 +129,7 @@ module _ {P : Type 0} (m n : Bound P) (old new : Nursery) (names others : ℕ ×
     minor = minor_same;
   }
 
--- a shared child that is held at no earlier place is held at the last
+-- a shared child that is held at none of the earlier places is held at the last
 pub last_is : {P : Type 0} (n : Bound P) (new : Nursery) (before : ℕ) (o : Option NodeAt)
     → ForSome o (λ a. is_shared a ≡ true
     → (k : ℕ) → stands_on n.seat.me.known new.records k a → before < k)
@@ -145,7 +145,7 @@ last_is n new before (Some (at.Shared place)) last stands held =
     (omega (arith, low, there, held), held)
 last_is n new before (Some (at.Minor r)) last stands held = omega (arith, held)
 
--- a tree stands still, and is the same
+-- a tree still stands, and is the same
 module _ {P : Type 0} (m n : Bound P) (old new : Nursery) (a : NodeAt) (left : Leaves m n old new)
     (is : IsTreeAt m old a) where
   pub tree_still : IsTreeAt n new a

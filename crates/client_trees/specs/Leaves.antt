@@ -13,8 +13,8 @@ use Rattle.trails.specs.Marks.{marks_of}
 
 module _ {P : Type 0} where
   -- The same mutator of the same heap, in or out as it was, with its pass and its claims. Whatever
-  -- was held and known is so still, with some places behind it; the trail grew. The private heap
-  -- has its records still, with some behind them, and whatever stood stands and says what it said.
+  -- was held and known still is, with some places after it; the trail grew. The private heap still
+  -- has its records, with some after them, and whatever stood still stands and says what it said.
   pub record Leaves (m n : Bound P) (old new : Nursery) : Type 0 where
     pub heap : n.heap ≡ m.heap
     pub table : n.seat.table ≡ m.seat.table
@@ -43,14 +43,14 @@ module _ {P : Type 0} where
         → stands_on m.seat.me.known old.records (length m.seat.me.own.held) at
         → term_at n.seat.me.known new.records at ≡ term_at m.seat.me.known old.records at
 
-  -- and nothing is behind what was held, and no record was made
+  -- and nothing comes after what was held, and no record was made
   pub record LeavesAll (m n : Bound P) (old new : Nursery) : Type 0 where
     pub leaves : Leaves m n old new
     pub held : held_cells n ≡ held_cells m
     pub minor : new ≡ old
 
--- where so many places were held before and so many behind: a shared child is held at the one next
--- place, and for any other answer there is none more
+-- by how many places were held before and after: a shared child is held at the one next place, and
+-- for any other answer there is none more
 abbrev pub IsLast : (before behind : ℕ) → Option NodeAt → Type 0
 IsLast before behind None = behind ≡ before
 IsLast before behind (Some (at.Shared place)) = (place ≡ before) × (behind ≡ before + 1)

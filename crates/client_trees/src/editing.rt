@@ -62,7 +62,7 @@ pub fn set_text<M: ClientSeat>(
 }
 
 /// Puts the node `sub`, with all that is below it, at the path, in place of what stands there.
-/// Missing nodes before it are made with empty texts.
+/// Missing nodes on the way are made with empty texts.
 #[tactic(auto, using(crate::proofs::Leaving::leaving))]
 pub fn attach<M: ClientSeat>(
     m: &mut M,

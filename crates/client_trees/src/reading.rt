@@ -1,4 +1,4 @@
-//! Reading a node. What was read is given back, but for a shared child.
+//! Reading a node. The places of what was read are given back, except that of a shared child.
 ghost use Rattle.std.specs.Prelude.{◌≡◌, ◌+◌, ◌≤◌, [], ◌∷◌, true};
 ghost use Rattle.std.specs.Prelude.{IfOk, OnOk, length};
 ghost use Rattle.std.specs.Option.{ForSome, option_map};
@@ -103,7 +103,7 @@ pub fn height<M: ClientSeat>(m: &mut M, minor: &mut MinorHeap, at: NodeAt) -> u3
     height
 }
 
-/// The child of that name. A shared one stands at the end of the held list, behind all that was
+/// The child of that name. A shared one stands at the end of the held list, after all that was
 /// held.
 #[tactic(auto, using(crate::proofs::Leaving::finding))]
 pub fn child<M: ClientSeat>(
