@@ -1,4 +1,4 @@
--- Mutators whose seats were all joined, one after the other, behind which the heap was closed: the
+-- Mutators whose seats were all joined, one after the other, and then the heap was closed: the
 -- passes at the close are those that the seats had.
 use Rattle.std.proofs.Common.{◌≡◌, ◌<◌, ◌+◌, ◌++◌, ℕ, Bool, zero, suc, List, [], ◌∷◌, length, map}
 use Rattle.std.proofs.Common.{refl, sym, ◌∙◌, ap, subst, arith, slice_set}
@@ -27,7 +27,7 @@ module _ {A : Type 0} where
   there (x ∷ xs) zero lt = (x, refl)
   there (x ∷ xs) (suc i) lt = there xs i (omega (arith, lt))
 
-  -- lists of one length are the same where the same stands at each index
+  -- two lists of one length are the same where they have the same at each index
   same_list : (xs ys : List A) → length xs ≡ length ys
       → ((i : ℕ) → i < length ys → get_elem? xs i ≡ get_elem? ys i) → xs ≡ ys
   same_list [] [] many same = refl

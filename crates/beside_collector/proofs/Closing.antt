@@ -41,7 +41,7 @@ module _ {P : Type 0} where
     pub cycles_are : last.me.control.cycles ≡ first.me.control.cycles + made
 
   module _ (heap : HeapId) (queue : FreeQueue) (cycles : ℕ) (first mid joined : SeatView P) where
-    -- behind the work the seat is where it was
+    -- after the work the seat is where it was
     pub stands_seat : (standby : Option Standby) → IsSeatOf heap first
         → Stands heap queue cycles first mid standby → IsSeatOf heap mid
     stands_seat None is s = (s.table ∙ is.0, s.shape ∙ is.1)
@@ -110,7 +110,7 @@ module _ {P : Type 0} where
           cycles_are = omega (arith, was, now);
         }
 
-  -- from a seat that went on duty behind an opening
+  -- from a seat that went on duty after an opening
   pub has_served : (most mutators : ℕ) (first joined last : SeatView P)
       → first.me.shape.mutators ≡ mutators → first.me.trail ≡ duty_on most
       → first.me.control.cycles ≡ 0 → Worked most first joined last
@@ -126,7 +126,7 @@ module _ {P : Type 0} where
     cycles = let begun = w.cycles_are in omega (arith, begun, cycles);
   }
 
--- What that comes to at the close, where the number of cycles is known under any name.
+-- What follows from that at the close, where the number of cycles has another name.
 
 off_or_not : (held : Bool) → (off_first held ≡ []) ⊎ (off_first held
     ≡ took (event.Duty false) finds.Stored ∷ [])

@@ -1,4 +1,4 @@
--- What the collector's seat has freed, behind a service and behind a change of its duty.
+-- What the collector's seat has freed, after a service and after a change of its duty.
 use Rattle.std.proofs.Common.{ℕ, zero, suc, Bool, true, false, List, [], ◌∷◌, ◌≡◌, ◌++◌, ◌+◌, ◌∙◌}
 use Rattle.std.proofs.Common.{ap, refl, arith}
 use Rattle.std.proofs.lemmas.List.{append-nil}

@@ -1,4 +1,4 @@
--- Those who work, by their places: the last one apart, and together with all others.
+-- Workers by their places: the last one apart, and together with all others.
 use Rattle.std.proofs.Common.{◌≡◌, ◌+◌, ℕ, suc, List, [], ◌∷◌, ◌++◌, length}
 use Rattle.std.proofs.Common.{sym, ◌∙◌, ap, arith, subst}
 use Rattle.beside_collector.specs.Places.{AllFrom}
@@ -42,7 +42,7 @@ module _ {W : Type 0} (F : ℕ → W → Type 0) where
       let here : place ≡ 0 + length xs = omega (arith, many) in
       all_both 0 xs (one ∷ []) all (subst (λ (k : ℕ). F k one) here is, tt)
 
--- who is ready knows its place
+-- a worker that is ready knows its place
 module _ {W : Type 0} (place_of : W → ℕ) (Ready Done : ℕ → W → Type 0)
     (placed : (place : ℕ) (one : W) → Ready place one → place_of one ≡ place) where
   -- the last one is ready at the place that it has
@@ -52,7 +52,7 @@ module _ {W : Type 0} (place_of : W → ℕ) (Ready Done : ℕ → W → Type 0)
       let at = (all_back Ready 0 front (last ∷ []) all).0 in
       subst (λ (k : ℕ). Ready k last) (sym (placed (0 + length front) last at)) at
 
-  -- and done there, behind all others
+  -- and done there, after all others
   pub last_done : (front : List W) (last : W) (left : List W) (now : W)
       → AllFrom Ready 0 (front ++ last ∷ []) → length left ≡ length front
       → AllFrom Done 0 left → Done (place_of last) now → AllFrom Done 0 (left ++ now ∷ [])

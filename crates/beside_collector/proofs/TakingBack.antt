@@ -1,5 +1,5 @@
--- Workers that are taken back, one after the other: the seat of each is joined, and what it gives is
--- put behind what the others gave.
+-- Workers that are taken back, one after the other: the seat of each is joined, and what it gives
+-- is put after what the others gave.
 use Rattle.std.proofs.Common.{◌≡◌, ◌≤◌, ◌<◌, ◌+◌, ◌++◌, ℕ, suc, List, [], ◌∷◌, length}
 use Rattle.std.proofs.Common.{inl, inr, refl, sym, ◌∙◌, ap, subst, arith, slice_set}
 use Rattle.std.proofs.lemmas.Bool.{cases_lt}
@@ -15,7 +15,8 @@ use Rattle.heap_rule.specs.declared.view.Place.{Place}
 use Rattle.heap_rule.specs.declared.view.Place.TheVariants as places
 use Rattle.heap_table.specs.Seats.{SeatView}
 
--- `Done` is what is so of a worker that is through, at its place; it has a seat, and gives something.
+-- `Done` is what is so of a worker that is through, at its place; it has a seat, and gives
+-- something.
 module _ {P : Type 0} {W : Type 0} {G : Type 0} (Done : ℕ → W → Type 0) (seat_of : W → SeatView P)
     (gives : W → G) where
   -- The worker of this place was through. What it gives has the place's index, and its seat was
@@ -28,7 +29,7 @@ module _ {P : Type 0} {W : Type 0} {G : Type 0} (Done : ℕ → W → Type 0) (s
         ≡ some (places.Joined (share_of (seat_of worker).me))
 
   -- Of so many workers the first are taken back, and these are left. The collector's seat is as it
-  -- was, but for where the parts of its mutators are.
+  -- was, except for where the parts of its mutators are.
   pub record TakenSoFar (workers : ℕ) (rest : List W) (given : List G) (old new : SeatView P)
       : Type 0 where
     pub still : IsStill old new
@@ -50,7 +51,7 @@ module _ {P : Type 0} {W : Type 0} {G : Type 0} (Done : ℕ → W → Type 0) (s
     taken = λ place lt. absurd (omega (arith, lt));
   }
 
-  -- who is through has the mutator with the number of its place
+  -- a worker that is through has the mutator with the number of its place
   module _ (numbered : (place : ℕ) (one : W) → Done place one
       → (seat_of one).me.number ≡ place) where
     pub one_taken : (workers : ℕ) (one : W) (rest : List W) (given : List G) (gift : G)

@@ -6,7 +6,7 @@ use Rattle.mutator_seat.specs.Bound.{Bound}
 use Rattle.trails.specs.Marks.{marks_of}
 
 module _ {P : Type 0} where
-  -- The mutator of this seat came in, and holds the anchor alone.
+  -- The mutator of this seat came in, and holds only the anchor.
   pub record Entered (heap : HeapId) (seat : SeatView P) (m : Bound P) : Type 0 where
     pub heap_is : m.heap ≡ heap
     pub table : m.seat.table ≡ seat.table

@@ -8,13 +8,13 @@ use Rattle.core_machine.specs.declared.events.Taken.{Taken}
 use Rattle.heap_rule.specs.Rule.{took}
 use Rattle.heap_table.specs.Seats.{SeatView}
 
--- on duty from the first event on, where there are cycles to make
+-- on duty from the first event on, if there are cycles to make
 abbrev pub duty_on : ℕ → List Taken
 duty_on zero = []
 duty_on (suc more) = took (event.Duty true) finds.Stored ∷ []
 
 module _ {P : Type 0} where
-  -- The collector's seat, between two cycles, went on duty where it may make cycles.
+  -- The collector's seat, between two cycles, went on duty if it may make cycles.
   pub record IsOnDuty (cycles : ℕ) (old new : SeatView P) : Type 0 where
     pub table : new.table ≡ old.table
     pub shape : new.me.shape ≡ old.me.shape

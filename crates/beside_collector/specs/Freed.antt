@@ -14,8 +14,8 @@ module _ {P : Type 0} where
   abbrev pub HasFreed : SeatView P → SeatView P → ℕ → Type 0
   HasFreed old new freed = freed_by new.me.trail ≡ freed_by old.me.trail + freed
 
-  -- Whether it served or may serve yet: the seat is of the same heap, the parts of its mutators are
-  -- where they were, it is off duty, and it has freed so many cells more.
+  -- Whether it has served or may still serve: the seat is of the same heap, the parts of its
+  -- mutators are where they were, it is off duty, and it has freed so many more cells.
   pub record Settled (old new : SeatView P) (freed : ℕ) : Type 0 where
     pub table : new.table ≡ old.table
     pub shape : new.me.shape ≡ old.me.shape

@@ -1,4 +1,4 @@
--- Those who work beside the collector, by their places in a list.
+-- The workers that run alongside the collector, by their places in a list.
 -- Source: this project's.
 use Rattle.std.specs.Prelude.{ℕ, ◌+◌, List, [], ◌∷◌}
 

@@ -1,4 +1,4 @@
--- Scripts, by the places of those who work.
+-- Scripts, by the places of the workers.
 -- Source: this project's.
 use Rattle.std.specs.Prelude.{ℕ, zero, suc, List, [], ◌∷◌, Vec}
 use Rattle.std.specs.declared.alloc.Global.{Global}

@@ -1,4 +1,4 @@
--- The collector's trail of a whole run, whatever ran beside it.
+-- The collector's trail of a whole run, whatever ran alongside it.
 -- Source: this project's.
 use Rattle.std.specs.Prelude.{ℕ, ◌≡◌, ◌++◌, ◌⊎◌, Bool, true, false, List, [], ◌∷◌}
 use Rattle.beside_collector.specs.Duty.{duty_on}
@@ -11,9 +11,9 @@ use Rattle.core_machine.specs.declared.events.Taken.{Taken}
 use Rattle.heap_rule.specs.Rule.{took}
 use Rattle.heap_rule.specs.declared.view.View.{View}
 
--- On duty where it may make cycles; then perhaps off duty, where it has no thread of its own; then
--- the service. Off duty stands nowhere else, since there is none among the cycles of a service. One
--- that went off duty first serves behind the work.
+-- On duty if it may make cycles; then off duty, if it had no thread of its own; then the service.
+-- It goes off duty nowhere else, since the cycles of a service contain no such event. A collector
+-- that went off duty first serves after the work.
 pub record IsService (most mutators count : ℕ) (trail : List Taken) : Type 0 where
   pub off : List Taken
   pub off_is : (off ≡ []) ⊎ (off ≡ took (event.Duty false) finds.Stored ∷ [])
@@ -26,7 +26,7 @@ pub record IsService (most mutators count : ℕ) (trail : List Taken) : Type 0 w
   -- where it went off duty first, each Poll and each AnswerOut found its mutator over
   pub late : off ≡ took (event.Duty false) finds.Stored ∷ [] → MeetOver served
 
--- What the collector's seat has where its heap is closed: this trail, and a cycle counted for each
+-- What the collector's seat has when its heap is closed: this trail, and a cycle counted for each
 -- that it made.
 pub record HasServed {P : Type 0} (most mutators : ℕ) (v : View P) : Type 0 where
   pub held_back : Bool

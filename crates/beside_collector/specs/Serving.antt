@@ -1,4 +1,4 @@
--- What the collector's thread has, and what becomes of its seat.
+-- What the collector's thread owns, and what becomes of its seat.
 -- Source: this project's.
 use Rattle.std.specs.Prelude.{ℕ, ◌≡◌, ◌≤◌, ◌+◌, ◌++◌, Bool, true, false}
 use Rattle.std.specs.Prelude.{List, [], ◌∷◌, Option, Some, None}
@@ -36,8 +36,8 @@ module _ {P : Type 0} where
     pub control : new.me.control ≡ old.me.control
     pub trail : new.me.trail ≡ old.me.trail
 
-  -- The collector's seat of this heap, between two cycles, which may make so many more; with a pass
-  -- of the hints of the heap's cells.
+  -- The collector's seat of this heap, between two cycles, which may make so many more cycles; with
+  -- a pass of the hints of the heap's cells.
   pub record IsKeeper (heap : HeapId) (queue : FreeQueue) (cycles : ℕ) (seat : SeatView P)
       (pass : QueuePass ℕ Counts) : Type 0 where
     pub seat_is : IsSeatOf heap seat
@@ -74,21 +74,21 @@ module _ {P : Type 0} where
   abbrev pub gone_off : SeatView P → SeatView P
   gone_off seat = collector_tells seat (event.Duty false) finds.Stored
 
-  -- the turn is to be ended: it served, or went off duty and may serve yet
+  -- after the turn: it served, or went off duty and may still serve
   abbrev pub StandsBy : HeapId → FreeQueue → ℕ → SeatView P → Turn P → Type 0
   StandsBy heap queue cycles was (turns.Served now freed) =
       Serves cycles was now × HasFreed was now freed
   StandsBy heap queue cycles was (turns.HandedBack keeper) =
       IsKeeper heap queue cycles keeper.seat keeper.pass × (keeper.seat ≡ gone_off was)
 
-  -- the seat has served, where nothing is left with it; else it went off duty, and may serve
+  -- the seat has served, where nothing is returned with it; else it went off duty, and may serve
   abbrev pub Stands : HeapId → FreeQueue → ℕ → SeatView P → SeatView P
       → Option Standby → Type 0
   Stands heap queue cycles was seat None = Serves cycles was seat
   Stands heap queue cycles was seat (Some standby) =
       IsKeeper heap queue cycles seat standby.pass × (seat ≡ gone_off was)
 
-  -- The service that is left.
+  -- The service that is still to come.
 
   abbrev pub MayServe : HeapId → FreeQueue → ℕ → SeatView P → Option Standby → Type 0
   MayServe heap queue cycles seat None = Unit {0}

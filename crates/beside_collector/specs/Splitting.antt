@@ -14,7 +14,7 @@ module _ {P : Type 0} where
   AreUnsplit from mutators at =
       (i : ℕ) → from ≤ i → i < mutators → get_elem? at i ≡ some places.Unsplit
 
-  -- The first mutators are split off, and so many there are still.
+  -- The first mutators are split off, and so many are left.
   pub record HasSplit (workers mutators : ℕ) (old new : SeatView P) : Type 0 where
     pub still : IsStill old new
     pub many : length new.me.places ≡ mutators

@@ -1,4 +1,4 @@
-//! The run: work on a heap, beside the collector.
+//! The run: work on a heap, concurrently with the collector.
 ghost use Rattle.std.specs.Prelude.{◌≡◌};
 ghost use Rattle.beside_collector.specs.Freed.{Settled};
 ghost use Rattle.beside_collector.specs.Serving.{IsKeeper, Stands, TurnOf};
@@ -17,8 +17,8 @@ use std::sync::atomic::{AtomicBool, Ordering};
 use std::thread::{self, Threads};
 
 /// Does the work, and runs the collector on a thread of its own. Where no thread can be made for
-/// the collector it goes off duty first, and what is left with its seat says that it did not serve
-/// yet.
+/// the collector, it goes off duty first, and what is returned with its seat says that it has not
+/// served yet.
 pub fn run_beside<P: Keeping + Sync, W: Work<P> + Drop, R: Threads + Wait + Sync>(
     alloc: Global,
     rt: &R,
@@ -37,7 +37,8 @@ pub fn run_beside<P: Keeping + Sync, W: Work<P> + Drop, R: Threads + Wait + Sync
     (done, seat, standby)
 }
 
-/// The same, and tells how many cells the collector freed meanwhile: none where it did not serve.
+/// The same, and also tells how many cells the collector freed meanwhile: none where it did not
+/// serve.
 pub fn run_counting<P: Keeping + Sync, W: Work<P> + Drop, R: Threads + Wait + Sync>(
     alloc: Global,
     rt: &R,

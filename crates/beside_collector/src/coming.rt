@@ -1,4 +1,4 @@
-//! A mutator in and out, under any rule: what its thread does before its work and behind it.
+//! A mutator in and out, under any rule: what its thread does before its work and after it.
 ghost use Rattle.std.specs.Prelude.{◌≡◌, false, length, true};
 ghost use Rattle.beside_collector.specs.Coming.{Entered, IsSame, Left};
 ghost use Rattle.heap_rule.specs.Asks.{MayComeIn};
@@ -29,7 +29,7 @@ pub fn wake<P: Keeping>(m: &mut Mutator<'_, P>)
     m.begin();
 }
 
-/// The mutator goes out, so that nobody waits for it, and may come in again.
+/// The mutator goes out, so that nobody waits for it. It may come in again.
 pub fn pause<P: Keeping>(m: &mut Mutator<'_, P>)
     requires inside { m.old.seat.me.presence.inside ≡ true }
     ensures same { IsSame m.old m.new }

@@ -7,7 +7,7 @@ use cell_heap::ColSeat;
 use heap_rule::Keeping;
 use heap_table::CellHeap;
 
-/// The collector goes on duty, where it may make cycles. It is called before the work begins.
+/// The collector goes on duty, if it may make cycles. It is called before the work begins.
 pub fn begin_duty<P: Keeping>(heap: &CellHeap<P>, cycles: u32, seat: &mut ColSeat<P>)
     requires seat { IsSeatOf heap.now seat.old }
     requires idle { seat.old.me.control.stage ≡ stage.Idle }

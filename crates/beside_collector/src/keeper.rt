@@ -1,4 +1,4 @@
-//! What the collector's thread has of its own.
+//! What the collector's thread owns.
 use cell_heap::ColSeat;
 use collector::MarkStack;
 use free_cells::HintPass;
@@ -12,7 +12,7 @@ pub struct Keeper<P: Keeping> {
     pub pass: HintPass,
 }
 
-/// What is left with a seat that did not serve yet: the mark stack, and the pass of the hints.
+/// What is returned with a seat that has not served yet: the mark stack, and the pass of the hints.
 #[derive(Drop)]
 pub struct Standby {
     pub stack: MarkStack,

@@ -1,15 +1,15 @@
-//! Work on a heap beside the collector, which has a thread of its own.
+//! Work on a heap, and the collector alongside it on a thread of its own.
 //!
-//! The layer above may rely on this: when `run_beside` returns, the work is done, and the seat of the
-//! collector has served once, or went off duty and serves in `serve_after`, and is off duty then.
-//! Where the mutators' seats are joined before, that service finds each mutator over. `run_counting`
-//! tells as well how many cells were freed meanwhile. That anything runs beside anything else is
-//! claimed by no clause.
+//! The layer above may rely on this: when `run_beside` returns, the work is done. The seat of the
+//! collector has served once, or it went off duty and serves in `serve_after`; after that it is off
+//! duty. Where the mutators' seats are joined before, that service finds each mutator over.
+//! `run_counting` also tells how many cells were freed meanwhile. No clause says that anything runs
+//! concurrently.
 //!
-//! What the work is, and by what rule the heap's boxes are kept, is left to the caller: `Work` says
-//! under which facts it may begin, and what it comes to. What the thread of a mutator does under
-//! any rule stands here too: `come_in` before its work and `leave` behind it, and between two parts
-//! of it `pause` and `wake`; and `script_at` gives its script.
+//! The caller decides what the work is, and by what rule the heap's boxes are kept: `Work` says
+//! under which facts it may begin, and what holds when it is done. What the thread of a mutator
+//! does under any rule stands here too: `come_in` before its work and `leave` after it, and `pause`
+//! and `wake` between two parts of it. `script_at` gives its script.
 //!
 //! Reading order: specs/Duty, `duty`; `keeper`, specs/Freed, specs/Serving, `serving`; `work`,
 //! `beside`; specs/Coming, `coming`; specs/Scripts, `script`.

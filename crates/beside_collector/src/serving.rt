@@ -1,9 +1,9 @@
 //! The collector's turn.
 //!
-//! Where no thread can be made for it the closure comes back, and nothing opens a closure. So it
-//! looks at a flag first: with the flag set it gives all back as it got it. The seat then goes off
-//! duty, so that no claim waits for it, and serves when the clients are through and their seats are
-//! joined.
+//! Where no thread can be made for it, the thread's closure comes back, and a closure can't be
+//! taken apart. So the closure looks at a flag first: if the flag is set, it returns everything as
+//! it was. The seat then goes off duty, so that no claim waits for it. It serves when the clients
+//! are through and their seats are joined.
 ghost use Rattle.std.specs.Prelude.{◌≡◌};
 ghost use Rattle.beside_collector.specs.Freed.{HasFreed, Settled};
 ghost use Rattle.beside_collector.specs.Serving.{IsKeeper, MayServe, Serves, ServesLate, Stands};
@@ -25,11 +25,11 @@ use std::thread::Promise;
 pub(crate) enum Turn<P: Keeping> {
     /// it served, and freed so many cells
     Served(ColSeat<P>, u64),
-    /// it was held back, or went off duty since
+    /// it was held back, and may have gone off duty since
     HandedBack(Keeper<P>),
 }
 
-/// That the thread gives the seat that it got back, behind its turn.
+/// What the collector's thread is to do: it gives back the seat after its turn.
 #[derive(Drop)]
 pub(crate) struct Serving<P: Keeping> {
     pub(crate) cycles: u32,
@@ -42,7 +42,7 @@ impl<P: Keeping> Promise<Turn<P>> for Serving<P> {
     ghost kept_by = { λ p turn. TurnOf p.cycles p.keeper.value turn };
 }
 
-/// Serves for so many cycles, each when one is wanted, and tells how many cells it freed.
+/// Serves for at most so many cycles, each when one is wanted, and tells how many cells it freed.
 fn serve<P: Keeping, R: Wait>(
     rt: &R,
     heap: &CellHeap<P>,
@@ -80,8 +80,8 @@ pub(crate) fn take_turn<P: Keeping, R: Wait>(
     Turn::Served(seat, freed)
 }
 
-/// Goes off duty, if it was held back. No contract says which thread was: so behind each of them, a
-/// seat that did not serve is off duty.
+/// Goes off duty, if it was held back. No contract says which thread was. So this is called after
+/// each turn, and a seat that did not serve is off duty then.
 pub(crate) fn stand_down<P: Keeping>(
     heap: &CellHeap<P>,
     queue: &FreeQueue,
@@ -110,8 +110,8 @@ pub(crate) fn stand_down<P: Keeping>(
     }
 }
 
-/// The seat behind the clients' threads, what is left with it where it did not serve yet, and how
-/// many cells it freed.
+/// The seat after its turn, what is returned with it where it has not served yet, and how many
+/// cells it freed.
 pub(crate) fn apart<P: Keeping>(
     heap: &CellHeap<P>,
     queue: &FreeQueue,
@@ -136,8 +136,8 @@ pub(crate) fn apart<P: Keeping>(
     }
 }
 
-/// Serves, if it did not serve yet. It is called when the seats of all mutators are joined: each is
-/// found over then.
+/// Serves, if it has not served yet. It is called when the seats of all mutators are joined, so
+/// that each is found over.
 pub fn serve_after<P: Keeping, R: Wait>(
     rt: &R,
     heap: &CellHeap<P>,

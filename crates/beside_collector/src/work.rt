@@ -1,4 +1,4 @@
-//! What runs beside the collector.
+//! What runs alongside the collector.
 ghost use Rattle.free_cells.specs.declared.queue.FreeQueue.{FreeQueue as Queue};
 ghost use Rattle.heap_table.specs.Seats.{HeapId};
 
@@ -9,16 +9,16 @@ use std::alloc::Global;
 use std::sync::Wait;
 use std::thread::Threads;
 
-/// What is to be done on a heap of this rule while the collector serves it: by mutators whose seats
-/// the work has with it.
+/// What is to be done on a heap of this rule while the collector serves it. The work has the seats
+/// of the mutators that do it.
 pub trait Work<P: Keeping> {
-    /// what it comes to
+    /// what it returns
     type Done;
 
     // it may be begun on this heap, with this queue of hints
     ghost may: { HeapId → Queue → Self → Type 0 };
 
-    // it came to this
+    // it returned this
     ghost did: { HeapId → Queue → Self → Self.Done → Type 0 };
 
     /// Does it, on this thread and on others.
@@ -33,9 +33,9 @@ pub trait Work<P: Keeping> {
         ensures did { did heap.now queue.now self result };
 }
 
-/// Work that a closure does: it has all that it needs with it. Only so may that go to threads: a
-/// bound of a trait's method is no promise to another thread, and one of the function that makes
-/// the closure is.
+/// Work that a closure does, which has all that it needs with it. This is how such work can go to
+/// threads: the bound of a trait's method is no promise to another thread, and the bound of the
+/// function that makes the closure is.
 #[derive(Drop)]
 pub struct Doing<F> {
     pub run: F,

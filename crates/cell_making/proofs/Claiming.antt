@@ -37,7 +37,7 @@ module _ {P : Type 0} (a b : Bound P) (fresh : ℕ) (got : Claimed a fresh b) wh
     named = λ i lt. name_still (value_at given i) (named i lt);
   }
 
-  -- a field that a value stands for is the same behind the claim
+  -- a field that a value stands for is the same after the claim
   pub field_still : (v : Value) → MayName a.seat.me (length a.seat.me.own.held) v
       → field_at b.seat.me.own.held v ≡ field_at a.seat.me.own.held v
   field_still values.Null named = refl
@@ -45,7 +45,7 @@ module _ {P : Type 0} (a b : Bound P) (fresh : ℕ) (got : Claimed a fresh b) wh
   field_still (values.Held place) named =
       ap (λ (c : ℕ). field.Cell c) (claimed_target a b fresh got place named.0)
 
-  -- and who was not named is not
+  -- and a cell that was not named is not named now
   pub unnamed_still : (given : List Value) (place : ℕ) → place < length a.seat.me.own.held
       → ((i : ℕ) → i < 5
       → MayName a.seat.me (length a.seat.me.own.held) (value_at given i))

@@ -89,7 +89,7 @@ null_at (suc (suc (suc (suc (suc i))))) = refl
 up_to : (j i : ℕ) → j < i + 1 → (j < i) ⊎ (j ≡ i)
 up_to j i lt = search (arith, lt)
 
--- a value that is a cell is that of a place
+-- a value that is a cell is the cell of a place
 of_place : {P : Type 0} (m : Bound P) (value : Value) (c : ℕ)
     → field_at m.seat.me.own.held value ≡ field.Cell c
     → (place : ℕ) × ((value ≡ values.Held place) × (target m.seat.me place ≡ c))
@@ -163,7 +163,7 @@ module _ {P : Type 0} (old : Bound P) (fresh : ℕ) (given : List Value)
 
     -- What the fill needs.
 
-    -- a settled place is known as it was
+    -- a settled place is known as before
     settled_now : (place : ℕ) → place < fresh → settled (known_of old.seat.me place) ≡ true
         → settled (known_of a.seat.me place) ≡ true
     settled_now place before is =

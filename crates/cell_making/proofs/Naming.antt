@@ -22,7 +22,7 @@ all_at Q null [] all (suc i) = null
 all_at Q null (v ∷ vs) all zero = all.0
 all_at Q null (v ∷ vs) all (suc i) = all_at Q null vs all.1 i
 
--- a cell that is 0 is the anchor
+-- a cell with number 0 is the anchor
 pub is_box_of : (cell : ℕ) (k : Known) → cell ≡ 0 → IsBox cell k
 is_box_of cell knows.Nothing is = is
 is_box_of cell (knows.Raw fields) is = is

@@ -51,7 +51,7 @@ module _ {P : Type 0} {holds : Map → List P → Type 0} {fixed : ℕ → Bool}
   pub stays_loose : (room : ℕ) → Loose room a → Loose room b
   stays_loose room = loose_goes room a b (cells_found found) was.holds.held _ was.goes
 
-  -- what was found is held behind all else, if it is a cell
+  -- what was found is held after all else, if it is a cell
   pub held_as : (w : Field) → found ≡ w → held_cells b ≡ held_cells a ++ cells_found w
   held_as w is = was.holds.held ∙ ap (λ (v : Field). held_cells a ++ cells_found v) is
 

@@ -1,5 +1,5 @@
--- What calls leave of a mutator that works from the anchor on: it stays in, comes to rest by a cut,
--- and its pass is as it was.
+-- What calls leave of a mutator that works from the anchor on: it stays in, comes to rest after a
+-- cut, and its pass is as it was.
 use Rattle.std.proofs.Common.{◌≡◌, ◌≤◌, ◌∷◌, ◌++◌, ℕ, List, [], true, length, take, get_or}
 use Rattle.std.proofs.Common.{ap, sym, ◌∙◌, arith}
 use Rattle.std.proofs.lemmas.List.{append-nil}
@@ -65,7 +65,7 @@ module _ {P : Type 0} (room : ℕ) (a b : Bound P) where
   loose_same same =
       loose_on room a b [] (same.held ∙ sym (append-nil (held_cells a))) same.inside same.room
 
--- the pass is left, or picked
+-- the pass is unchanged, or picked
 pub has_goes : {P : Type 0} (asks : List Ask) (pass : P) (a b : Bound P) → Goes asks a b
     → b.seat.me.pass ≡ pass → HasPass pass a b
 has_goes asks pass a b goes is = record {

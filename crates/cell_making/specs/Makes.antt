@@ -49,7 +49,7 @@ abbrev pub IsUnnamed : {P : Type 0} → View P → List Value → ℕ → Type 0
 IsUnnamed v given place = known_fresh (known_of v place) ≡ true → (i other : ℕ) → i < 5
     → value_at given i ≡ values.Held other → target v place ≢ target v other
 
--- a raw cell at this place that may get these fields, each of which stands before it
+-- a raw cell at this place that may get these fields; each cell that they name is held before it
 pub record MayFillAll {P : Type 0} (m : Bound P) (fresh : ℕ) (given : List Value) : Type 0 where
   pub inside : m.seat.me.presence.inside ≡ true
   pub there : fresh < length m.seat.me.own.held
@@ -67,7 +67,7 @@ pub record AreFields (held : List Held) (given : List Value) (n : ℕ) (fields :
   pub rest : (i : ℕ) → n ≤ i → i < 5 → slice_index_or fields i field.Null ≡ field.Null
 
 -- The first n of the values are filled in. What is known of the places before the cell is as it
--- was, but for those that are known as fresh and are named now.
+-- was, except for those that are known as fresh and are named now.
 pub record Filled {P : Type 0} (old : Bound P) (fresh : ℕ) (given : List Value) (n : ℕ)
     (m : Bound P) : Type 0 where
   pub goes : Goes [] old m
@@ -82,7 +82,8 @@ pub record Filled {P : Type 0} (old : Bound P) (fresh : ℕ) (given : List Value
   pub claims : m.seat.me.own.claims ≡ old.seat.me.own.claims
 
 -- A new cell is held at the last place, as a box with these fields that no cell names. What was
--- known of the other places is as it was, but for those that are known as fresh and are named now.
+-- known of the other places is as it was, except for those that are known as fresh and are named
+-- now.
 pub record MakesBox {P : Type 0} (old : Bound P) (place : ℕ) (given : List Value) (new : Bound P)
     : Type 0 where
   pub cell : ℕ

@@ -5,12 +5,12 @@ use Rattle.held_places.specs.Calls.{IsIn}
 use Rattle.mutator_seat.specs.Bound.{Bound}
 
 module _ {P : Type 0} where
-  -- it is in and holds the anchor, and something of so many places behind it
+  -- it is in, holds the anchor, and has this room
   pub record Loose (room : ℕ) (m : Bound P) : Type 0 where
     pub is_in : IsIn m
     pub room_is : m.seat.me.room ≡ room
 
-  -- the anchor alone
+  -- only the anchor
   pub record Rests (room : ℕ) (m : Bound P) : Type 0 where
     pub loose : Loose room m
     pub alone : length m.seat.me.own.held ≡ 1

@@ -44,7 +44,7 @@ pub fn fill_box<P: Keeping, R: Wait>(
     }
 }
 
-/// Fills the fields of the cell that was claimed last. A raw cell's fields are null as they are.
+/// Fills the fields of the cell that was claimed last. The fields of a raw cell are null already.
 fn fill_fields<P: Keeping>(m: &mut Mutator<'_, P>, place: usize, fields: [Value; 5])
     requires may { MayFillAll m.old place fields }
     ensures filled { Filled m.old place fields 5 m.new }

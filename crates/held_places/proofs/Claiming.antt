@@ -1,4 +1,4 @@
--- What a claim leaves: one place more, whose cell stood at none; and all else as it was.
+-- What a claim leaves: one more place, whose cell stood at none; and all else as it was.
 use Rattle.std.proofs.Common.{◌≡◌, ◌≢◌, ◌<◌, ◌+◌, ℕ, Bool, true, false, List, [], ◌∷◌, length}
 use Rattle.std.proofs.Common.{refl, sym, ◌∙◌, ap, subst, arith}
 use Rattle.std.proofs.lemmas.List.{get_or_append_left, get_or_push, length_push}
@@ -35,7 +35,7 @@ module _ {P : Type 0} (a b : Bound P) (fresh : ℕ) (got : Claimed a fresh b) wh
   claimed_claims = ap (λ (m : Bound P). m.seat.me.own.claims) got.told
       ∙ ap (λ (n : ℕ). n + 1) got.calm.kept.claims
 
-  -- as much was known as there were places, and there is one place more
+  -- as much was known as there were places, and there is one more place
   pub claimed_many : length a.seat.me.known ≡ length a.seat.me.own.held
   claimed_many = got.is_new.fit ∙ many_cells a
 

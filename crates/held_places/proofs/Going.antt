@@ -68,7 +68,7 @@ goes_then {xs = xs} {ys = ys} {a = a} {b = b} first second = record {
       (subst (λ (o : Own). InOrder ys (marks_from o second.added)) first.own second.shown));
 }
 
--- the same events, asked for other reads
+-- the same events, for other reads that are asked for
 goes_as : {P : Type 0} {xs : List Ask} {a b : Bound P} (ys : List Ask) (goes : Goes xs a b)
     → InOrder ys (marks_from a.seat.me.own goes.added) → Goes ys a b
 goes_as ys goes shown = record {
@@ -86,14 +86,14 @@ goes_as ys goes shown = record {
   shown = shown;
 }
 
--- what a call before showed is not asked for
+-- what the first call showed is not asked for
 pub goes_late : {P : Type 0} {xs ys : List Ask} {a b c : Bound P} → Goes xs a b → Goes ys b c
     → Goes ys a c
 goes_late {xs = xs} {ys = ys} {a = a} first second =
     let both = goes_then first second in
     goes_as ys both (order_back xs ys (marks_from a.seat.me.own both.added) both.shown)
 
--- nor what a call behind showed
+-- nor what the second call showed
 pub goes_on : {P : Type 0} {xs ys : List Ask} {a b c : Bound P} → Goes xs a b → Goes ys b c
     → Goes xs a c
 unfolding goes_then
@@ -192,7 +192,7 @@ in_still a b cells asks is goes held = record {
   anchor = target_still a b cells held 0 is.some ∙ is.anchor;
 }
 
--- as a mutator that is in says of its places
+-- what a mutator that is in says of its places
 pub comes_in : {P : Type 0} (a : Bound P) (many : ℕ) → a.seat.me.presence.inside ≡ true
     → many ≡ length a.seat.me.own.held → (a.seat.me.presence.inside ≡ true → 1 ≤ many)
     → (a.seat.me.presence.inside ≡ true → target a.seat.me 0 ≡ 0) → IsIn a
@@ -224,7 +224,7 @@ still_then fixed (knows.Boxed told) k l first second =
     let next = subst (λ (x : Known). StillKnown fixed x l) first.1.0 second in
     (next.0, (next.1.0, λ f t lt is e. next.1.1 f t lt is (first.1.1 f t lt is e)))
 
--- a further step, which may go by what is known to be fresh
+-- a further step, which may use what is known to be fresh
 pub still_on : (fixed : ℕ → Bool) (j k l : Known) → StillKnown fixed j k
     → (known_fresh k ≡ known_fresh j → StillKnown fixed k l) → StillKnown fixed j l
 still_on fixed knows.Nothing k l first next = tt

@@ -1,4 +1,4 @@
--- What is known at the places of a held list, behind changes of what is known of one cell; and what
+-- What is known at the places of a held list, after changes of what is known of one cell; and what
 -- a state says of it.
 use Rattle.std.proofs.Common.{◌≡◌, ◌≢◌, ◌<◌, ◌==◌, ◌&&◌, ℕ, zero, suc, Bool, true, false}
 use Rattle.std.proofs.Common.{List, [], ◌∷◌, ◌++◌, length, get_or, slice_index_or}
@@ -42,7 +42,7 @@ changed_here change c (d ∷ cells) (k ∷ known) (suc place) lt same is =
     changed_here change c cells known place (omega (arith, lt)) (let e : length known
     ≡ length cells = omega (arith, same) in e) is
 
--- at a place of another
+-- at a place of another cell
 pub changed_else : (change : Known → Known) (c : ℕ) (cells : List ℕ) (known : List Known)
     (place : ℕ) → place < length cells → get_or cells place 0 ≢ c
     → known_at (at_cell change c cells known) place ≡ known_at known place
@@ -53,7 +53,7 @@ changed_else change c (d ∷ cells) (k ∷ known) zero lt other =
 changed_else change c (d ∷ cells) (k ∷ known) (suc place) lt other =
     changed_else change c cells known place (omega (arith, lt)) other
 
--- where the change leaves whether it is fresh, that stays
+-- a change that leaves whether the cell is fresh leaves that at every place
 pub changed_fresh : (change : Known → Known)
     → ((k : Known) → known_fresh (change k) ≡ known_fresh k)
     → (c : ℕ) (cells : List ℕ) (known : List Known) (place : ℕ) → place < length cells
@@ -83,7 +83,7 @@ changed_still fixed change c cells known place lt same step =
           (still_same fixed (known_at known place))
     ]
 
--- one place more
+-- one more place
 pub pushed_still : (fixed : ℕ → Bool) (known : List Known) (k : Known) (place : ℕ)
     → place < length known
     → StillKnown fixed (known_at known place) (known_at (known ++ k ∷ []) place)
@@ -107,7 +107,7 @@ sealed_at (d ∷ cells) (k ∷ known) (suc place) c lt is sealed =
 
 -- What a state says.
 
--- of one cell two things are known that fit together
+-- two things known of one cell fit together
 kinds_fit : (fixed : ℕ → Bool) (terms : Terms) (row : ℕ → Field) (term : Option Term)
     (fresh : Option ℕ) (i x : ℕ) (j k : Known) → KnownAt fixed terms row term fresh i x j
     → KnownAt fixed terms row term fresh i x k → one_kind j k ≡ true

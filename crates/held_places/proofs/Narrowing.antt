@@ -1,4 +1,4 @@
--- What a keep of the first places leaves, with one of the others behind them.
+-- What a keep of the first places leaves, with one of the others after them.
 use Rattle.std.proofs.Common.{◌≡◌, ◌<◌, ◌≤◌, ℕ, Bool, List, [], ◌∷◌, ◌++◌, length, get_or, take}
 use Rattle.std.proofs.Common.{drop, refl, sym, ◌∙◌, ap, subst, arith}
 use Rattle.std.proofs.lemmas.List.{drop_more, get_or-take, get_or_append_left, get_or_push}

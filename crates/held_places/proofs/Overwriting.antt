@@ -82,7 +82,7 @@ pub fetch_begun : {P : Type 0} {fixed : ℕ → Bool} {holds : Map → List P �
 fetch_begun {P = P} a b place f seen step =
     ap (λ (u : View P). pending_or_none u.own.pending) step.event.new
 
--- a value stands for the same field where cells are held behind the places that were there
+-- a value stands for the same field when cells are held after the places that were there
 field_front : {P : Type 0} (a b : Bound P) (cells : List ℕ) → held_cells b ≡ held_cells a ++ cells
     → (v : Value) → IsNamed a.seat.me.own.held v
     → field_at b.seat.me.own.held v ≡ field_at a.seat.me.own.held v
@@ -91,7 +91,7 @@ field_front a b cells is (values.Num n) named = refl
 field_front a b cells is (values.Held place) named =
     ap (λ (c : ℕ). field.Cell c) (target_still a b cells is place named)
 
--- Behind the load and the marks an event writes, and the places from before are kept.
+-- After the load and the marks an event writes, and the places from before are kept.
 module _ {P : Type 0} {fixed : ℕ → Bool} {holds : Map → List P → Type 0} {wanted : Barrier}
     {loads : Event} {reads next : Learned → Found → P → P} {writes : Bound P → Event}
     {found : Found} (seen : Field) (value : Value) (old after : Bound P)

@@ -1,4 +1,4 @@
--- Which field a value stands for that was read, and which cell a read holds last.
+-- Which field a value that was read stands for, and which cell a read holds last.
 use Rattle.std.proofs.Common.{◌≡◌, ℕ, [], ◌∷◌, ◌++◌, List, length, get_or}
 use Rattle.std.proofs.Common.{◌⊎◌, inl, inr, refl, sym, ◌∙◌, ap}
 use Rattle.std.proofs.lemmas.List.{get_or_push}

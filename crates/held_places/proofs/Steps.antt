@@ -40,7 +40,7 @@ use Rattle.held_places.specs.Calls.{cells_found}
 use Rattle.held_places.proofs.Going.{goes_told, many_held, still_same, still_then}
 use Rattle.held_places.proofs.Knowns.{changed_still, fit, not_fresh, pushed_still, told_still}
 
--- The word that a field is packed into is that of no other field.
+-- No other field is packed into the same word.
 pub same_word : (a b : Field) → pack_field_of a ≡ pack_field_of b → a ≡ b
 same_word a b is = same_field_is a b
     (sym (same_packed a b) ∙ eq-eqb (pack_field_of a) (pack_field_of b) is)
@@ -95,8 +95,8 @@ found_many known k field.Null = omega arith
 found_many known k (field.Num n) = omega arith
 found_many known k (field.Cell c) = length_push known k
 
--- What a load of a field leaves of the places, by a read or a fetch alike: more is known of the
--- cell, and the cell that was found is held.
+-- What a load of a field leaves of the places, by a read or by a fetch: more is known of the cell,
+-- and the cell that was found is held.
 module _ {P : Type 0} (fixed : ℕ → Bool) (a b : Bound P) (s : State) (l : Lore)
     (mine : Mine fixed a.seat.me s l) (place : ℕ)
     (found : Field) (tells : Learned) (there : place < length a.seat.me.own.held)

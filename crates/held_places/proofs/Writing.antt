@@ -1,4 +1,4 @@
--- What a write leaves that a picked pass goes with: the trail, the held list, and what is known.
+-- What a write with a picked pass leaves: the trail, the held list, and what is known.
 use Rattle.std.proofs.Common.{◌≡◌, ◌≢◌, ◌<◌, ℕ, Bool, true, false, List, [], ◌∷◌, get_or}
 use Rattle.std.proofs.Common.{length, Result, Ok, Err, OnOk, IfErr, refl, sym, ◌∙◌, ap, subst}
 use Rattle.std.proofs.Common.{arith}
@@ -75,8 +75,8 @@ module _ {P : Type 0} (fixed : ℕ → Bool) (holds : Map → List P → Type 0)
   cell_at_is other = ap (λ (cs : List ℕ). get_or cs other 0) wrote.calm.kept.held
       ∙ cell_there a.seat.me.own.held other
 
-  -- What was known at a place, which if it is fresh has another cell than the one that is written
-  -- and the one that the value names.
+  -- What was known at a place; a fresh cell there is neither the one that is written nor the one
+  -- that the value names.
   pub wrote_known : length a.seat.me.known ≡ length a.seat.me.own.held → (other : ℕ)
       → other < length a.seat.me.own.held
       → (known_fresh (known_of a.seat.me other) ≡ true

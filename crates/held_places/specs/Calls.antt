@@ -1,5 +1,5 @@
--- What a call leaves of a mutator under any rule, and what it puts into the trail. A rule is here
--- its fixed fields alone.
+-- What a call leaves of a mutator under any rule, and what it adds to the trail. Of a rule only the
+-- fixed fields matter here.
 -- Source: this project's.
 use Rattle.std.specs.Prelude.{ℕ, ◌≡◌, ◌≢◌, ◌<◌, ◌≤◌, ◌++◌, Bool, true, false, List, [], ◌∷◌, length}
 use Rattle.std.specs.Prelude.{Option, Some, None, slice_index_or}
@@ -34,7 +34,7 @@ pub record Goes {P : Type 0} (asks : List Ask) (old new : Bound P) : Type 0 wher
   pub own : new.seat.me.own ≡ own_along old.seat.me.own added
   pub shown : InOrder asks (marks_from old.seat.me.own added)
 
--- What was known of a cell is known of it still. Of a box the terms of its fixed fields.
+-- What was known of a cell is still known; of a box the terms of its fixed fields.
 abbrev pub StillKnown : (ℕ → Bool) → Known → Known → Type 0
 StillKnown fixed knows.Nothing new = Unit {0}
 StillKnown fixed (knows.Raw fields) new = new ≡ knows.Raw fields
@@ -61,13 +61,13 @@ known_fresh (knows.Fresh fields) = true
 known_fresh (knows.Record t) = false
 known_fresh (knows.Boxed told) = false
 
--- what was known at each place below an end is known there still
+-- what was known at each place below an end is still known there
 abbrev pub StaysKnown : {P : Type 0} → (ℕ → Bool) → ℕ → Bound P → Bound P → Type 0
 StaysKnown fixed end old new = (place : ℕ) → place < end
     → StillKnown fixed (known_of old.seat.me place) (known_of new.seat.me place)
 
--- The held list is as it was, with these cells behind it, and what was known of the old places is
--- known still.
+-- The held list is as it was, with these cells after it, and what was known of the old places is
+-- still known.
 pub record Holds {P : Type 0} (fixed : ℕ → Bool) (cells : List ℕ) (old new : Bound P) : Type 0
   where
     pub held : held_cells new ≡ held_cells old ++ cells
@@ -95,8 +95,8 @@ one_kind (knows.Boxed told) knows.Nothing = true
 one_kind (knows.Boxed told) (knows.Boxed others) = true
 one_kind (knows.Boxed told) _ = false
 
--- As a read shows: as much is known as there are places, what is known fits together, and the
--- anchor is not fresh.
+-- As a read shows: as much is known as there are places, what is known is coherent, and the anchor
+-- is not fresh.
 pub record IsCoherent {P : Type 0} (v : View P) : Type 0 where
   pub many : length v.known ≡ length v.own.held
   pub kinds : (one other : ℕ) → one < length v.own.held → other < length v.own.held
@@ -104,7 +104,7 @@ pub record IsCoherent {P : Type 0} (v : View P) : Type 0 where
   pub anchor : (place : ℕ) → place < length v.own.held → target v place ≡ 0
       → known_fresh (known_of v place) ≡ false
 
--- the cell that a field names is held behind it
+-- the cell that a read of this field holds: the one that the field names, if it names one
 abbrev pub cells_found : Field → List ℕ
 cells_found field.Null = []
 cells_found (field.Num n) = []
@@ -119,8 +119,8 @@ pub record WasRead {P : Type 0} (fixed : ℕ → Bool) (old new : Bound P) (plac
   pub coherent : IsCoherent old.seat.me
   pub many : length new.seat.me.known ≡ length new.seat.me.own.held
 
--- What was known of the places is known still where a field of one cell is written: a cell that is
--- fresh is another than that one and than the one that the value names.
+-- What was known of the places is still known where a field of one cell is written: a cell that is
+-- fresh is neither that one nor the one that the value names.
 abbrev pub KnownBehind : {P : Type 0} → (ℕ → Bool) → Bound P → Bound P → ℕ → Value → Type 0
 KnownBehind fixed old new place value =
     (other : ℕ) → other < length old.seat.me.own.held

@@ -26,7 +26,7 @@ pub fn calls_join<P: Keeping>()
         → Holds P.fixed second b c → Holds P.fixed (first ++ second) a c }
 {}
 
-/// A read holds the cell that it finds, behind all others, and the trail shows it.
+/// A read holds the cell that it finds, after all others, and the trail shows it.
 pub fn a_read_holds_what_it_finds<P: Keeping>()
     ensures { (next : Learned → Found → P → P) (a b : Bound P) (place f : ℕ) (found : Field)
         → b.heap ≡ a.heap → b.seat.table ≡ a.seat.table → place < length a.seat.me.own.held
@@ -34,8 +34,8 @@ pub fn a_read_holds_what_it_finds<P: Keeping>()
         (finds.Field found) b.seat.me → WasRead P.fixed a b place f found }
 {}
 
-/// A write is shown by the trail, with what it found: it was made where that is the old value. It
-/// keeps what is known of a place, but that of a fresh cell which it writes or names.
+/// The trail shows a write, with what it found: the write was made if that is the old value. What
+/// is known of a place stays, except that of a fresh cell which the write changes or names.
 pub fn a_write_is_shown<P: Keeping>()
     ensures trail { (next : Learned → Found → P → P) (a b : Bound P) (place f : ℕ)
         (old new : Value) (found : Field) → Updated P.holds P.fixed next a place f old new found b
@@ -67,7 +67,7 @@ pub fn a_store_keeps_places<P: Keeping>()
         → Overwrote P.fixed a b place new }
 {}
 
-/// A claim holds a cell that stood at no place, behind all others. What was known is known still.
+/// A claim holds a cell that stood at no place, after all others. What was known is still known.
 pub fn a_claim_holds_a_new_cell<P: Keeping>()
     ensures trail { (a b : Bound P) (fresh : ℕ) → Claimed a fresh b → Goes [] a b }
     ensures places { (a b : Bound P) (fresh : ℕ) → Claimed a fresh b
@@ -76,8 +76,8 @@ pub fn a_claim_holds_a_new_cell<P: Keeping>()
         → place < length a.seat.me.own.held → target b.seat.me place ≢ target b.seat.me fresh }
 {}
 
-/// A keep of the first places with one more holds that one's cell behind them, and what is known of
-/// each is known still.
+/// A keep of the first places with one more holds that one's cell after them, and what is known of
+/// each is still known.
 pub fn a_keep_moves_one_place<P: Keeping>()
     ensures trail { (b c : Bound P) (n place : ℕ) (p : Found)
         → c ≡ takes b (event.Keep b.seat.me.number n place 1) p → Goes [] b c }

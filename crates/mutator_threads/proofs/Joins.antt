@@ -1,4 +1,4 @@
--- The close behind four joins.
+-- The close after four joins.
 use Rattle.std.proofs.Common.{◌≡◌, ◌∷◌, ℕ, Bool, List, [], ap, length}
 use Rattle.beside_collector.proofs.AllJoined.{passes_are}
 use Rattle.heap_rule.specs.Boxes.{Map}

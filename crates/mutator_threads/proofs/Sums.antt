@@ -1,4 +1,4 @@
--- What all passes sum to, where one of them grows.
+-- The sum over all passes, where one of them grows.
 use Rattle.std.proofs.Common.{◌≡◌, ◌<◌, ◌+◌, ℕ, zero, suc, List, [], ◌∷◌, length}
 use Rattle.std.proofs.Common.{ap, refl, arith, slice_set}
 use Rattle.std.specs.Prelude.{slice_index_or, sum_by}

@@ -1,4 +1,4 @@
--- What the close of a heap says, whose mutators' seats were joined.
+-- What the close of a heap says when its mutators' seats were joined.
 -- Source: this project's.
 use Rattle.std.specs.Prelude.{ℕ, ◌≡◌, Bool, List}
 use Rattle.heap_rule.specs.Boxes.{Map}
@@ -7,8 +7,8 @@ use Rattle.heap_rule.specs.Shape.{Shape}
 use Rattle.heap_rule.specs.declared.view.View.{View}
 use Rattle.heap_table.specs.Images.{ImageView, Shows}
 
--- A heap of this shape was closed, whose collector knew this before the joins: the passes of its
--- last state are these.
+-- A heap of this shape was closed. Before the joins its collector knew this; the passes of the last
+-- state are these.
 pub record IsClosed {P : Type 0} (opens : ℕ → ℕ → P) (holding : Map → List P → Type 0)
     (fixed : ℕ → Bool) (shape : Shape) (was : View P) (passes : List P) (image : ImageView)
     (view : View P) : Type 0 where

@@ -33,7 +33,7 @@ module _ {P : Type 0} where
     pub number_is : seat.me.number ≡ number
     pub over : seat.me.presence.over ≡ true
 
-  -- the collector's seat, which the four were split off, has made no event
+  -- the collector's seat, from which the four were split off, has made no event
   pub record IsNewKeeper (heap : HeapId) (queue : FreeQueue) (keeper : Keeper P) : Type 0 where
     pub seat_is : IsSeatOf heap keeper.seat
     pub four : length keeper.seat.me.places ≡ 4

@@ -15,7 +15,8 @@ use heap_rule::Keeping;
 use std::alloc::Global;
 use std::sync::Wait;
 
-/// How many cells can wait for a look of the collector. One that finds no place is found later.
+/// How many cells can wait for a look of the collector. A cell that finds no place here is found
+/// later.
 const MARKS: u32 = 8;
 
 /// A new heap with its queue of hints, its collector and its mutators.

@@ -1,4 +1,4 @@
-//! Four threads beside the collector's.
+//! Four threads alongside the collector's.
 ghost use Rattle.std.specs.Thread.{IsSend, IsSync};
 ghost use Rattle.mutator_threads.specs.Mutators.{HasKept, IsNewKeeper};
 
@@ -12,8 +12,8 @@ use std::alloc::Global;
 use std::sync::Wait;
 use std::thread::Threads;
 
-/// What each of the four has of its own, and what is done with it: a closure that is given the
-/// number of the mutator too.
+/// What each of the four has of its own, and what is done with it: a closure, which is also given
+/// the number of the mutator.
 #[derive(Drop)]
 pub struct OnFour<W, F> {
     pub first: W,
@@ -23,8 +23,8 @@ pub struct OnFour<W, F> {
     pub each: F,
 }
 
-/// Runs the four beside the collector, which is on duty meanwhile and off behind. It gives what
-/// each came to, the collector's seat, and how many cells that one freed.
+/// Runs the four alongside the collector, which is on duty meanwhile and off duty afterwards. It
+/// gives what each returned, the collector's seat, and how many cells the collector freed.
 pub fn run_four<
     P: Keeping + Sync,
     W: Send + Drop,

@@ -57,7 +57,7 @@ count_before (true ∷ marks) (suc n) from = let l = from 0 refl in absurd (omeg
 count_before (false ∷ marks) (suc n) from =
     count_before marks n (λ k is. let l = from (suc k) is in omega (arith, l))
 
--- none is marked but among the first n
+-- no record is marked except among the first n
 pub count_all : (marks : List Bool) (n : ℕ)
     → ((k : ℕ) → slice_index_or marks k false ≡ true → k < n)
     → marked_count (take n marks) ≡ marked_count marks

@@ -226,7 +226,7 @@ module _ {P : Type 0} (old m : Bound P) (place : ℕ) (fields : List Field)
         ∙ ap is_cell (filled.rest i (omega arith) lt);
   }
 
-  -- one field more is filled
+  -- one more field is filled
   pub filled_more : (given : ℕ → Value) (i : ℕ) (m' : Bound P) → i < 5
       → IsReady old.seat.me.known (given i) → AreFilled (held_cells old) given i fields
       → m' ≡ takes m (event.Fill m.seat.me.number place i (field_at m.seat.me.own.held (given i)))
@@ -269,7 +269,7 @@ module _ {P : Type 0} (old m : Bound P) (place : ℕ) (fields : List Field)
         ),
       )
 
-  -- a field that gets null is null as it is
+  -- a field that gets null is null already
   pub filled_null : (given : ℕ → Value) (i : ℕ) → i < 5 → given i ≡ values.Null
       → AreFilled (held_cells old) given i fields → AreFilled (held_cells old) given (i + 1) fields
   filled_null given i lt none filled = record {

@@ -246,7 +246,7 @@ module _ {P : Type 0} where
             told;
       }
 
-  -- what stays held, of the first places so many at least
+  -- what stays held, of the first places at least so many
   pub collected_keeps : (a b d e : Bound P) (g : Grown anything a b) (cells : List ℕ)
       (known : List Known) (so : Appended b cells known d) (least base first count : ℕ)
       → least ≤ base → least ≤ length a.seat.me.own.held

@@ -1,4 +1,5 @@
--- One copy after the other: the held list grows by a record a copy, and what was known stays.
+-- One copy after the other: the held list grows by a record for each copy, and what was known
+-- stays.
 use Rattle.std.proofs.Common.{◌≡◌, ◌≢◌, ◌<◌, ◌≤◌, ◌+◌, ◌⊎◌, ℕ, suc, Bool, true, false, List}
 use Rattle.std.proofs.Common.{[], ◌∷◌, ◌++◌, length, map, refl, sym, ◌∙◌, ap, subst, arith, ⊎_elim}
 use Rattle.std.proofs.Common.{length-append, take, true≢false, Result, Ok, Err, OnOk}
@@ -288,7 +289,7 @@ none_copied marks span a within =
     (sym (count_before marks span.first (λ k is. (within (record { number = k }) is).0)))
     (grown_none a)
 
--- and behind the last all are
+-- and after the last one all are
 pub all_grown : {P : Type 0} (marks : List Bool) (span : RecordSpan) (n : ℕ) (a b : Bound P)
     → AreWithin span marks → span.end ≤ n → GrownBy (marked_count (take n marks)) a b
     → GrownBy (marked_count marks) a b
@@ -319,7 +320,7 @@ pub ok_two : {T E : Type 0} {A B C : Type 0} (r : Result T E) → OnOk r A → O
 ok_two (Ok x) a b f = f a b
 ok_two (Err e) a b f = a
 
--- as many places more as cells
+-- as many more places as cells
 pub grown_many : {P : Type 0} (F : List Taken → Type 0) (a b : Bound P) (g : Grown F a b)
     → length b.seat.me.own.held ≡ length a.seat.me.own.held + length g.cells
 grown_many F a b g =
@@ -350,7 +351,7 @@ few_held marks span a b records within stands so =
       grown_many anything a b so.grown,
     )
 
--- the copies that follow stand behind those that were made
+-- the copies that follow stand after those that were made
 pub copied_on : {P : Type 0} (a b c : Bound P) (count : ℕ) → GrownBy count a b
     → Copying (length a.seat.me.own.held) a b → Copying (length b.seat.me.own.held) b c
     → Copying (length a.seat.me.own.held) a c

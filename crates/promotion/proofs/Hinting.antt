@@ -99,7 +99,7 @@ none_at_all (true ∷ marks) none first = absurd (none 0 refl)
 none_at_all (false ∷ marks) none first =
     none_at_all marks (λ k is. none (suc k) is) (first + 1)
 
--- and behind the last no more
+-- and after the last one no more
 pub all_before : (marks : List Bool) (n : ℕ)
     → ((k : ℕ) → slice_index_or marks k false ≡ true → k < n) → (first : ℕ)
     → marked_of first (take n marks) ≡ marked_of first marks
@@ -160,7 +160,7 @@ below_put hints marks n hint =
     same_front (hint_at (slice_set hints n hint)) (hint_at hints) 0 n marks
     (λ k lt. get_or-set_other hints n k hint None (omega (arith, lt)))
 
--- one take more
+-- one more take
 pub put_more : (cells : ℕ) (first a b : Counts) (hints : List (Option ℕ)) (marks : List Bool)
     (n : ℕ) (hint : Option ℕ) → n < length hints → slice_index_or marks n false ≡ true
     → GiveAll cells first (hints_below hints marks n)
@@ -200,7 +200,7 @@ none_or_some (suc k) (suc n) =
 none_not_some : {X : Type 0} (cell : ℕ) → None ≡ Some cell → X
 none_not_some cell is = absurd cc
 
--- where there was none one may be put
+-- where there was none a hint may be put
 pub keep_put : (hints : List (Option ℕ)) (n : ℕ) (hint : Option ℕ)
     → slice_index_or hints n None ≡ None → KeepHints hints (slice_set hints n hint)
 keep_put hints n hint none k cell is =

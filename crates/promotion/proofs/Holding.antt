@@ -1,4 +1,4 @@
--- Choosing what stays held: the front, and copies of places behind it.
+-- Choosing what stays held: the front, and copies of places after it.
 use Rattle.std.proofs.Common.{◌≡◌, ◌<◌, ◌≤◌, ◌+◌, ℕ, zero, suc, List, [], ◌∷◌, ◌++◌, length, map, take}
 use Rattle.std.proofs.Common.{drop, refl, sym, ◌∙◌, ap, subst, arith, length-append}
 use Rattle.std.specs.Prelude.{slice_index_or}
@@ -37,7 +37,7 @@ kept_one xs ys n p d is lt =
     ∙ ap (λ (a : _). a ∷ []) (get_or-append xs ys d p lt)) i)
     ∙ append_assoc xs ys (slice_index_or xs p d ∷ [])
 
--- the front of the front, and all that stands behind
+-- the front of the front, and all that comes after it
 pub kept_tail : {A : Type 0} (xs ys zs : List A) (base first count : ℕ) → base ≤ length xs
     → first ≡ length (xs ++ ys) → count ≡ length zs
     → take base ((xs ++ ys) ++ zs) ++ take count (drop first ((xs ++ ys) ++ zs))

@@ -1,5 +1,5 @@
--- What is known of places, where one cell more is held at the end: a change at that cell leaves what
--- is known of the others, and so does a value that is ready.
+-- What is known of places, where one more cell is held at the end: a change at that cell leaves
+-- what is known of the others, and so does a value that is ready.
 use Rattle.std.proofs.Common.{◌≡◌, ◌==◌, ◌&&◌, ◌||◌, ◌<◌, ℕ, zero, suc, Bool, true, false, List, []}
 use Rattle.std.proofs.Common.{◌∷◌, ◌++◌, length, refl, sym, ◌∙◌, ap, arith, if◌then◌else◌}
 use Rattle.std.proofs.Common.{inl, inr, true≢false}
@@ -40,7 +40,7 @@ term_there [] q is = absurd cc
 term_there (k ∷ known) zero is = omega arith
 term_there (k ∷ known) (suc q) is = let lt = term_there known q is in omega (arith, lt)
 
--- and stays known as one
+-- and it stays known as one
 pub term_stays : (known more : List Known) (q : ℕ) (t : Term) → known_at known q ≡ knows.Record t
     → known_at (known ++ more) q ≡ knows.Record t
 term_stays [] more q t is = absurd (true≢false (sym (ap is_term is)))
@@ -79,7 +79,7 @@ at_still change d (x ∷ cells) (k ∷ known) still =
 
 -- Values that are ready.
 
--- a value of old places names the same cell where one place more is held
+-- a value of old places names the same cell where one more place is held
 pub among_more : (cells more : List ℕ) (known : List Known) (value : Value)
     → length cells ≡ length known → IsReady known value
     → field_among (cells ++ more) value ≡ field_among cells value

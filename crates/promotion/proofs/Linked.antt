@@ -92,7 +92,7 @@ module _ {P : Type 0} where
       (copying_event held got.at m (event.Claim got.at.seat.me.number got.cell)
       (finds.Colour colour.Blue) tt got.told)
 
-  -- a further copy stands further on
+  -- a further copy is held further on
   pub copying_on : (held more : ℕ) (a b c : Bound P) → held ≤ more → Copying held a b
       → Copying more b c → Copying held a c
   copying_on held more a b c le first second =
@@ -143,7 +143,7 @@ module _ {P : Type 0} where
     fact = λ k d lt. keeps_less number base more le _ (so.fact k d lt);
   }
 
-  -- what was copied is behind, and then it is chosen what stays
+  -- what was copied comes after, and then it is chosen what stays
   pub copies_kept : (number base held : ℕ) (a b c : Bound P) → Copying held a b
       → Keeping number base b c → Adds (KeepsCopies number base held) a c
   copies_kept number base held a b c first second =
@@ -151,7 +151,7 @@ module _ {P : Type 0} where
       (λ xs ys f s. record { copying = xs; keeping = ys; split = refl; copies = f; keeps = s })
       first second
 
-  -- all places of copies are let go
+  -- all places of copies are given up
   pub links_nothing : (held : ℕ) (a b c : Bound P) → b.seat.me.number ≡ a.seat.me.number
       → held ≤ length b.seat.me.own.held → Copying held a b
       → (length b.seat.me.own.held ≡ held → c ≡ b)

@@ -1,4 +1,4 @@
--- Stretches that follow one another: what they add goes together, and so does what stays.
+-- Stretches that follow one another: what they add is joined, and so is what stays.
 use Rattle.std.proofs.Common.{◌≡◌, List, [], ◌∷◌, ◌++◌, refl, sym, ◌∙◌, ap, subst}
 use Rattle.std.proofs.lemmas.List.{append_assoc}
 use Rattle.cell_words.specs.declared.presences.Presence.{Presence}

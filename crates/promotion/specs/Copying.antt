@@ -1,4 +1,4 @@
--- One record copied, and one after the other: what stands between the steps.
+-- One record copied, and one after the other: what holds between the steps.
 -- Source: this project's.
 use Rattle.std.specs.Prelude.{ℕ, suc, ◌≡◌, ◌<◌, ◌≤◌, ◌+◌, ◌^◌, Bool, true, false, List, [], ◌∷◌}
 use Rattle.std.specs.Prelude.{◌++◌, length, map, slice_index_or}
@@ -31,7 +31,7 @@ value_of places (field.Num n) = values.Num n
 value_of places (field.Minor r) = values.Held (slice_index_or places r.number 0)
 value_of places (field.Shared place) = values.Held place
 
--- a number fits a field, and a place is known as a record
+-- the value may be a field: a number fits, and a place is known as a record
 abbrev pub IsReady : List Known → Value → Type 0
 IsReady known values.Null = Unit {0}
 IsReady known (values.Num n) = n < 2 ^ 62
@@ -97,13 +97,13 @@ module _ {P : Type 0} where
     pub held : held_cells new ≡ held_cells old ++ cells
     pub known : new.seat.me.known ≡ old.seat.me.known ++ map (λ t. knows.Record t) terms
     pub many : length terms ≡ length cells
-    -- as many places were known as held, which a claim told
+    -- where cells were added, as many places were known before as held, which a claim told
     pub fit : 0 < length cells → length (held_cells old) ≡ length old.seat.me.known
     pub claims : new.seat.me.own.claims ≡ old.seat.me.own.claims + length cells
     pub stays : Stays old new
     pub adds : Adds F old new
 
-  -- so many
+  -- by so many cells
   pub record GrownBy (count : ℕ) (old new : Bound P) : Type 0 where
     pub grown : Grown anything old new
     pub count_is : length grown.cells ≡ count
@@ -111,7 +111,7 @@ module _ {P : Type 0} where
   abbrev pub Halted : Bound P → HeapFull → Bound P → Type 0
   Halted old full new = Grown (HasRefusal old full) old new
 
-  -- behind the places so far stands one of each of these
+  -- after the places so far there is one for each of these
   pub record Appended (old : Bound P) (cells : List ℕ) (known : List Known) (new : Bound P)
       : Type 0 where
     pub held : held_cells new ≡ held_cells old ++ cells

@@ -34,7 +34,7 @@ hint_at hints r = slice_index_or hints r.number None
 abbrev pub hints_of : List (Option ℕ) → List Bool → List (Option ℕ)
 hints_of hints marks = map (hint_at hints) (marked_of 0 marks)
 
--- who had a hint has the same one still
+-- a record that had a hint still has the same one
 abbrev pub KeepHints : List (Option ℕ) → List (Option ℕ) → Type 0
 KeepHints old new =
     (k cell : ℕ) → slice_index_or old k None ≡ Some cell → slice_index_or new k None ≡ Some cell
@@ -82,7 +82,7 @@ pub record CopyBy (number cells : ℕ) (hints : List (Option ℕ)) (events : Lis
   pub keeps : AreKeeping number 0 keeping
 
 module _ {P : Type 0} where
-  -- The first takes of the call give a hint for each record that is copied, and the copies are made
+  -- The first takes of the call give the hint of each record that is copied. The copies are made
   -- with these hints, in the same order.
   pub record Hinted (old : Bound P) (records : List (List MinorField)) (from : List MinorRef)
       (before after : Hints) (new : Bound P) : Type 0 where

@@ -31,7 +31,8 @@ module _ {P : Type 0} where
     pub told : new ≡ takes_all old added
     pub fact : F added
 
-  -- all is the same but the held list, what is known of it, the claims, and what handshakes change
+  -- all is the same except the held list, what is known of it, the claims, and what handshakes
+  -- change
   pub record Stays (old new : Bound P) : Type 0 where
     pub heap : new.heap ≡ old.heap
     pub table : new.seat.table ≡ old.seat.table
@@ -43,7 +44,7 @@ module _ {P : Type 0} where
     pub inside : new.seat.me.presence.inside ≡ old.seat.me.presence.inside
     pub over : new.seat.me.presence.over ≡ old.seat.me.presence.over
 
-  -- as many cells were claimed as these records reach, a cell a record
+  -- as many cells were claimed as these records reach, one for each record
   pub record ClaimsFor (old : Bound P) (records : List (List MinorField)) (from : List MinorRef)
       (new : Bound P) : Type 0 where
     pub copied : List MinorRef
@@ -74,7 +75,7 @@ module _ {P : Type 0} where
     pub stays : Stays old new
     pub adds : Adds anything old new
 
-  -- a claim within found the heap full
+  -- a claim among the events found the heap full
   abbrev pub HasRefusal : Bound P → HeapFull → List Taken → Type 0
   HasRefusal m full events =
       Within (FindsFull m.seat.me.number m.seat.me.shape.cells full.off_duty full.began full.ended)

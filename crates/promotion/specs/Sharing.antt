@@ -1,4 +1,4 @@
--- What a mutator's private records stand for beside its held list: the terms of its places, and the
+-- What a mutator's private records stand for, given its held list: the terms of its places, and the
 -- condition on the places that records share.
 -- Source: this project's.
 use Rattle.std.specs.Prelude.{ℕ, ◌≡◌, ◌<◌, true, List, map}
@@ -24,7 +24,7 @@ SharesRecord known (field.Num n) = Unit {0}
 SharesRecord known (field.Minor r) = Unit {0}
 SharesRecord known (field.Shared place) = is_term (known_at known place) ≡ true
 
--- and so of each record that these reach
+-- and this is so of each record that these reach
 abbrev pub ShareRecords : List Known → List (List MinorField) → List MinorRef → Type 0
 ShareRecords known records from =
     (r : MinorRef) (i : ℕ) → Reaches records (Contains from) r → i < 5

@@ -46,7 +46,7 @@ fn value_of(minor: &MinorHeap, places: &[usize], r: MinorRef, i: usize) -> Value
     }
 }
 
-/// Whether a raw cell gets this value by a fill. Its fields are null as they are.
+/// Whether a raw cell gets this value by a fill. The fields of a raw cell are null already.
 pub fn is_filled_in(value: Value) -> bool
     ensures null { (result ≡ false) → value ≡ values.Null }
 {
@@ -56,7 +56,7 @@ pub fn is_filled_in(value: Value) -> bool
     }
 }
 
-/// Copies a record whose older ones are copied. The hint is one that was taken for it.
+/// Copies a record whose older ones are copied. The hint is the one that was taken for it.
 fn copy_record<P: Keeping, R: Wait>(
     rt: &R,
     hints: &mut Hints<'_>,
@@ -99,7 +99,7 @@ fn copy_record<P: Keeping, R: Wait>(
 }
 
 /// Takes a hint for each record that is marked, all of them before the first cell is claimed. Where
-/// the queue is empty a record has none.
+/// the queue is empty a record gets none.
 fn take_hints<R: Wait>(
     rt: &R,
     hints: &mut Hints<'_>,
@@ -125,8 +125,8 @@ fn take_hints<R: Wait>(
     hints.tell_demand(rt);
 }
 
-/// Takes a hint again for each of these records that is marked and has none, up to the first that
-/// the queue has none for.
+/// Takes a hint once more for each of these records that is marked and has none, up to the first
+/// for which the queue has none.
 fn take_again<R: Wait>(
     rt: &R,
     hints: &mut Hints<'_>,
@@ -151,9 +151,9 @@ fn take_again<R: Wait>(
     }
 }
 
-/// The hint of the first of these records. Where it has none, the queue was empty when its turn came.
-/// By now a claim may have waited for the collector, and so hints are taken in one go again, for
-/// those that follow too.
+/// The hint of the first of these records. Where it has none, the queue was empty when its turn
+/// came. Since then a claim may have waited for the collector, so hints are taken once more at one
+/// go, also for the records that follow.
 fn hint_for<R: Wait>(
     rt: &R,
     hints: &mut Hints<'_>,
@@ -176,8 +176,8 @@ fn hint_for<R: Wait>(
     taken[span.first as usize]
 }
 
-/// Copies each record that is marked, the oldest first, with the hint that was taken for it. Of a
-/// record that is marked the place is that of its copy.
+/// Copies each record that is marked, the oldest first, with the hint that was taken for it. The
+/// place of a record that is marked is then that of its copy.
 pub(crate) fn copy_all<P: Keeping, R: Wait>(
     rt: &R,
     hints: &mut Hints<'_>,

@@ -20,7 +20,7 @@ use std::sync::Wait;
 /// Memory for the copying of so many records. Contracts see it as their number.
 pub struct Promoter {
     room: u32,
-    /// by record, whether it is reached; between calls none is marked
+    /// by record, whether it is reached; between calls no record is marked
     marks: Vec<bool>,
     /// by record, the hint that was taken for its copy
     taken: Vec<Option<u32>>,
@@ -63,8 +63,8 @@ impl Promoter {
         })
     }
 
-    /// Copies a record and all that it reaches, each record once, the oldest first. The copy stands at
-    /// the end of the held list, and its place is the answer.
+    /// Copies a record and all that it reaches, each record once, the oldest first. The copy is
+    /// held at the end of the held list; the answer is its place.
     pub fn promote<P: Keeping, R: Wait>(
         &mut self,
         rt: &R,
@@ -110,8 +110,8 @@ impl Promoter {
     }
 
     /// Copies all that the roots reach, each record once, the oldest first, and empties the private
-    /// heap. Of the held list the first `base` places stay, and the copies of the roots stand behind
-    /// them, from the place that is the answer on.
+    /// heap. Of the held list the first `base` places stay, and the copies of the roots are held
+    /// after them; the answer is the place of the first copy.
     pub fn collect<P: Keeping, R: Wait>(
         &mut self,
         rt: &R,

@@ -1,5 +1,5 @@
 //! The calls of promotion on the two records, and those that make a cell, by a mutator that holds
-//! the anchor alone.
+//! only the anchor.
 ghost use Rattle.std.specs.Prelude.{◌≡◌, ◌<◌, ◌∷◌, IfErr, OnErr, [], length, true};
 ghost use Rattle.heap_rule.specs.Asks.{known_of};
 ghost use Rattle.held_places.specs.Calls.{settled};
@@ -35,7 +35,7 @@ pub(crate) fn promote_second<R: Wait>(
     promoter.promote(rt, hints, m, minor, MinorRef { number: 1 })
 }
 
-/// Collects with these roots, which are in the heap, behind the anchor.
+/// Collects with these roots, which are in the private heap; the copies are held after the anchor.
 pub(crate) fn collect_roots<R: Wait>(
     rt: &R,
     hints: &mut Hints<'_>,
@@ -112,7 +112,7 @@ fn first_field(m: &mut Mutator<'_, NoRule>, place: usize) -> Option<Value>
     }
 }
 
-/// The first fields of the three cells behind the anchor.
+/// The first fields of the three cells after the anchor.
 pub(crate) fn first_fields(m: &mut Mutator<'_, NoRule>) -> [Option<Value>; 3]
     requires inside { m.old.seat.me.presence.inside ≡ true }
     ensures heap { m.new.heap ≡ m.old.heap }

@@ -17,7 +17,7 @@ use std::alloc::Global;
 use std::sync::Wait;
 
 /// What the call gave; then how many cells the mutator has claimed, how many places it holds, and
-/// how many private records stand.
+/// how many private records there are.
 pub(crate) type Found = (Result<usize, HeapFull>, u64, usize, u32);
 
 /// The fields of the first four cells of a closed heap, where it has them.
@@ -46,7 +46,7 @@ fn promote_by<R: Wait>(
     (leave(m), found)
 }
 
-/// It collects with the roots, and leaves. The last are the first fields behind the anchor.
+/// It collects with the roots, and leaves. The last values are the first fields after the anchor.
 fn collect_by<R: Wait>(
     rt: &R,
     heap: &CellHeap<NoRule>,

@@ -13,7 +13,7 @@ const FULL: HeapFull = HeapFull {
     ended: 0,
 };
 
-/// The cells that may show themselves: the anchor, the copies of both records, and a free cell.
+/// The cells that may turn up: the anchor, the copies of both records, and a free cell.
 const ANCHOR: Option<Row> = Some([Num(0), Null, Null, Null, Null, Num(2)]);
 
 const FIRST: Option<Row> = Some([Num(5), Null, Null, Null, Null, Num(1)]);
@@ -29,7 +29,7 @@ fn a_record_that_is_named_twice_is_copied_once(rt: HostRuntime) -> Result<(), Fa
     Ok(())
 }
 
-// The only hint names the last cell, and the record behind it takes the first that is free.
+// The only hint names the last cell, and the record after it takes the first cell that is free.
 #[test]
 fn a_record_without_a_hint_finds_a_cell(rt: HostRuntime) -> Result<(), Fail> {
     let second = Some([Cell(3), Cell(3), Null, Null, Null, Num(1)]);
@@ -40,7 +40,7 @@ fn a_record_without_a_hint_finds_a_cell(rt: HostRuntime) -> Result<(), Fail> {
 
 #[test]
 fn roots_stand_in_order_and_equal_ones_share_a_cell(rt: HostRuntime) -> Result<(), Fail> {
-    // cell 2 alone names a cell
+    // only cell 2 names a cell
     let fields = [
         Some(Value::Held(4)),
         Some(Value::Num(5)),
