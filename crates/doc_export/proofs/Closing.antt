@@ -1,5 +1,5 @@
--- What a run comes to beside which a version was dumped: from the opening and the parts of the run to
--- what is known where the heap is closed, and from there to all of it.
+-- The result of a run during which a version was dumped: from the opening and the parts of the run
+-- to what is known where the heap is closed, and from there to all of it.
 use Rattle.std.proofs.Common.{◌≡◌, ◌<◌, ◌+◌, ◌++◌, ℕ, List, [], ◌∷◌}
 use Rattle.std.proofs.Common.{length, map, Option, Some, None, refl, sym, ◌∙◌, ap, subst, arith}
 use Rattle.std.proofs.Common.{slice_set}

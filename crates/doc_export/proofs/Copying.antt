@@ -32,7 +32,7 @@ use Rattle.version_store.proofs.Lasting.{lasts_then, same_then}
 use Rattle.doc_export.specs.Guests.{Copies, IsDumpOf, MayTell, Tells, TellsWithout}
 use Rattle.doc_export.specs.declared.guest.Copied.{Copied}
 
--- A reader of trees behind a call of versions.
+-- A reader of trees after a call of versions.
 module _ (a b c : Bound Pass) (old new : Nursery) (left : LeavesAll b c old new) where
   pub left_same : IsSameMutator a b → IsSameMutator a c
   left_same first = same_then a b c first (keeps_left b c old new left.leaves).same

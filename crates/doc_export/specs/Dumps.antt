@@ -1,7 +1,7 @@
--- What a run of clients comes to beside which a version was dumped: its logs, what the seats had at
+-- The result of a run of clients during which a version was dumped: its logs, what the seats had at
 -- the close, and the version.
 --
--- All is said of one heap that was opened for this run and closed behind it, with a mutator for each
+-- All is said of one heap that was opened for this run and closed after it, with a mutator for each
 -- client and the last one for the guest.
 -- Source: this project's.
 use Rattle.std.specs.Prelude.{ℕ, ◌≡◌, ◌≤◌, ◌<◌, ◌+◌, List, [], length, map, Option, Vec}
@@ -32,8 +32,9 @@ use Rattle.version_rule.specs.Pass.{Pass}
 use Rattle.version_store.specs.Calls.{version_asks}
 use Rattle.doc_export.specs.Guests.{IsDumpOf}
 
--- The guest's mutator, with this index, took this version: none that it saw is newer. It read the
--- box of the version from the anchor's field, and then its number from the box; and it made none.
+-- The guest's mutator, with this index, took this version: it saw none that is newer. It read the
+-- box of the version from the anchor's field, and then the version's number from the box; and it
+-- made no version.
 pub record IsTaken (joined : List (Place Pass)) (i version : ℕ) : Type 0 where
   pub share : Share Pass
   pub share_at : get_elem? joined i ≡ some (places.Joined share)
@@ -50,20 +51,20 @@ pub record Dumps (o : Options) (scripts : List (List Command)) (logs : List Clie
   -- the heap was a store's, which opened with a mutator for each client and one for the guest
   pub words : List ℕ
   pub ended : HasEnded (shape_of o (length scripts + 1)) words passes
-  -- each log is tied to what its own mutator left, which had the places that go with a private heap
-  -- of so many records
+  -- each log is tied to what its own mutator left, which had the places that belong to a private
+  -- heap of so many records
   pub tied : (i : ℕ) → i < length scripts
       → IsTiedTo (limits_of o) o.cells (places_for o.minor) logs passes.places i
   -- the logs agree on the versions of that heap, and merged they are a legal history
   pub agree : Agree (limits_of o) ended.shows.kept.trees logs
   pub merged : (entries : List Entry) → IsMerge logs entries
       → MergedIsLegal (limits_of o) ended.shows.kept.trees logs entries
-  -- the collector served, in at most as many cycles as it may; and fewer leave no garbage
+  -- the collector served, in at most as many cycles as it may make; and fewer leave no garbage
   pub service : IsService o.cycles (length scripts + 1) ended.shows.core.control.cycles passes.trail
   pub cycles : ended.shows.core.control.cycles ≤ o.cycles
   pub tidy : ended.shows.core.control.cycles < o.cycles → IsTidy ended.shows.core
-  -- the guest took this version; it is one of the history, whose tree has so many nodes, and whose
-  -- dump these bytes are, unless it has too many
+  -- the guest took this version, which is one of the history; its tree has so many nodes, and these
+  -- bytes are its dump, unless it has too many
   pub taken : IsTaken passes.places (length scripts) version
   pub there : version < length ended.shows.kept.trees
   pub counted : nodes ≡ count (tree_at ended.shows.kept.trees version)

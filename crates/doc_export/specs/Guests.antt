@@ -19,15 +19,15 @@ use Rattle.version_store.specs.Lasts.{IsSameMutator, marks}
 use Rattle.doc_export.specs.declared.guest.Copied.{Copied}
 use Rattle.doc_export.specs.declared.guest.Through.{Through}
 
--- the bytes are the dump of the version with this number and this tree; there are none exactly where
--- the tree has more nodes than a dump may have
+-- the bytes are the dump of the version with this number and this tree; there are none exactly
+-- where the tree has more nodes than a dump may have
 abbrev pub IsDumpOf : ℕ → DocTree → Option (Vec ℕ Global) → Type 0
 IsDumpOf version t None = 10_000 < count t
 IsDumpOf version t (Some bytes) = (count t ≤ 10_000) × (bytes.items ≡ dump_of version t)
 
--- By the pass and the trail of who tells of a version: it is the latest that was seen, whose box the
--- anchor named. Of whatever list of versions fits the pass, it is the tree of that version which has
--- so many nodes, and which was dumped.
+-- By the pass and the trail of the mutator that tells of a version: it is the latest that was seen,
+-- and the anchor named its box. For every list of versions that fits the pass, the tree of that
+-- version is the one that has so many nodes and was dumped.
 pub record Tells (p : Pass) (shown : List Mark) (version nodes : ℕ)
     (bytes : Option (Vec ℕ Global)) : Type 0 where
   pub latest : p.seen ≡ version
@@ -38,13 +38,13 @@ pub record Tells (p : Pass) (shown : List Mark) (version nodes : ℕ)
   pub counted : nodes ≡ count tree
   pub dumped : IsDumpOf version tree bytes
 
--- so it is of the version, if there is one
+-- this is so of the version, if there is one
 abbrev pub MayTell : Pass → List Mark → Option Copied → Type 0
 MayTell p shown None = Unit {0}
 MayTell p shown (Some c) = Tells p shown c.version c.count c.bytes
 
--- the version is told of without a dump where its tree has too many nodes, and not at all where
--- memory was wanting
+-- the version is told without a dump where its tree has too many nodes, and not at all where memory
+-- ran out
 abbrev pub TellsWithout : DumpFault → ℕ → ℕ → Option Copied → Type 0
 TellsWithout (faults.TooMany count) version nodes copied =
     copied ≡ Some (record { version = version; count = nodes; bytes = None })

@@ -1,4 +1,4 @@
--- What stands between the parts of a run: behind the opening, and where the heap is closed.
+-- What holds between the parts of a run: after the opening, and where the heap is closed.
 -- Source: this project's.
 use Rattle.std.specs.Prelude.{◌≡◌, ◌+◌, List, length, Option, Some, None, Vec}
 use Rattle.std.specs.declared.alloc.Global.{Global}

@@ -1,4 +1,4 @@
-//! The clients, and the guest beside them.
+//! The clients, and the guest alongside them.
 ghost use Rattle.std.specs.Prelude.{◌≡◌, ◌≤◌, length};
 ghost use Rattle.client_threads.specs.Clients.{AllDone, AllReady, IsNewSeat};
 ghost use Rattle.doc_export.specs.Guests.{IsThrough};

@@ -2,7 +2,7 @@ use cell_heap::Passes;
 use doc_model::Log;
 use document_versions::Documents;
 
-/// What a run comes to beside which a version was dumped: what each client was answered, what all
+/// The result of a run during which a version was dumped: what each client was answered, what all
 /// seats had at the close, and the version.
 #[derive(Drop)]
 pub struct Dumped {

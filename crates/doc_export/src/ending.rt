@@ -9,7 +9,7 @@ pub(crate) trait Ending: Gate {
     fn has_ended(&self) -> bool;
 }
 
-/// The gate of a run, that notes when the last command of some script has its reply. A client with
+/// The gate of a run, which notes when the last command of some script has its reply. A client with
 /// an empty script has ended at once; one that runs out of memory is never noted.
 #[derive(Drop)]
 pub(crate) struct EndingGate<'a, G> {

@@ -1,4 +1,4 @@
-//! The guest: it takes the latest version, beside the clients, and commits nothing.
+//! The guest: alongside the clients it takes the latest version, and commits nothing.
 ghost use Rattle.std.specs.Prelude.{◌≡◌, ◌+◌, ◌≤◌, length, true};
 ghost use Rattle.client_threads.specs.Clients.{IsNewSeat};
 ghost use Rattle.doc_export.specs.Guests.{Copies, IsThrough, TellsWithout};
@@ -24,8 +24,8 @@ use std::sync::Wait;
 use version_export::{DumpFault, HeldVersion, dump};
 use version_store::{current, tree};
 
-/// The guest before its turn: the seat of its mutator, and a private heap, that stays empty, for
-/// the readers of trees.
+/// The guest before its turn: the seat of its mutator, and a private heap for the readers of trees,
+/// which stays empty.
 #[derive(Drop)]
 pub(crate) struct Guest {
     /// the number of its mutator
@@ -42,16 +42,16 @@ pub(crate) struct Copied {
     pub(crate) bytes: Option<Vec<u8>>,
 }
 
-/// The guest behind its turn. It has no version where it wanted memory.
+/// The guest after its turn. It has no version if it ran out of memory.
 #[derive(Drop)]
 pub(crate) struct Through {
     pub(crate) seat: MutSeat<Documents>,
     pub(crate) copied: Option<Copied>,
 }
 
-/// The guest's turn, on this thread: when some client has ended its script, or none does for long,
-/// and the gate then lets it begin, it takes the latest version. Its mutator comes in before and is
-/// over afterwards.
+/// The guest's turn, on this thread. When some client has ended its script, or none has for long,
+/// and the gate then lets the guest begin, it takes the latest version. Its mutator comes in before
+/// and is over afterwards.
 pub(crate) fn take_version<R: Wait, G: Ending>(
     alloc: Global,
     rt: &R,
@@ -88,7 +88,7 @@ fn tell<G: Gate>(gate: &G, copied: &Option<Copied>) {
     }
 }
 
-/// Takes the latest version: its number, its nodes and its dump, unless memory is wanting.
+/// Takes the latest version: its number, its nodes and its dump, unless memory runs out.
 fn copy_latest(
     alloc: Global,
     m: &mut Mutator<'_, Documents>,
@@ -112,7 +112,7 @@ fn copy_latest(
     }
 }
 
-/// A version of which there is no dump, for this reason: none of all where memory was wanting.
+/// A version of which there is no dump, for this reason; no version at all where memory ran out.
 fn without_dump(version: u64, nodes: u64, fault: DumpFault) -> Option<Copied>
     ensures without { TellsWithout fault version nodes result }
 {

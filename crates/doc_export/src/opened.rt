@@ -1,8 +1,9 @@
-//! The heap of a run, from its opening to its close. All memory of a run but that of its answers and
-//! of the dump is taken at the opening, so nothing that is begun has to be given up for want of it.
+//! The heap of a run, from its opening to its close. All memory of a run is taken at the opening,
+//! except that of its answers and of the dump. So nothing that has begun is given up because memory
+//! ran out.
 //!
-//! An opened heap can't be let go, and no other module can take it apart: `run_opened` alone does,
-//! and that closes it. So whoever opened one closes it, also where memory is wanting.
+//! An opened heap can't be dropped, and no other module can take it apart: only `run_opened` does,
+//! and that closes it. So an opened heap is always closed, also where memory runs out.
 ghost use Rattle.std.specs.Prelude.{◌≡◌, ◌≤◌, All, IfOk, [], false, length, map, vec_capacity};
 ghost use Rattle.client_run.specs.Options.{IsWithin};
 ghost use Rattle.client_threads.specs.Clients.{AllDone, AllReady, IsNewSeat};
@@ -36,18 +37,18 @@ pub(crate) struct Opened {
     guest: Guest,
 }
 
-/// What a run comes to behind its opening. There is no version where the guest wanted memory.
+/// The result of a run after its opening. There is no version where the guest ran out of memory.
 #[derive(Drop)]
 pub(crate) struct Closed {
     pub(crate) logs: Vec<Log>,
     pub(crate) passes: Passes<Documents>,
     pub(crate) copied: Option<Copied>,
-    /// memory was wanting for some client
+    /// memory ran out for some client
     pub(crate) failed: bool,
 }
 
-/// Opens the heap of a run, with a client for each script, and with a guest. The collector is on duty
-/// where it may make cycles.
+/// Opens the heap of a run, with a client for each script, and with a guest. The collector is on
+/// duty if it may make cycles.
 pub(crate) fn open_run<R: Threads + Wait + Sync>(
     alloc: Global,
     rt: &R,
@@ -97,8 +98,8 @@ pub(crate) fn open_run<R: Threads + Wait + Sync>(
     })
 }
 
-/// Runs the scripts' commands on the opened heap, takes a version beside them, and closes the heap,
-/// whatever became of the clients and of the guest. The list has room for the logs.
+/// Runs the scripts' commands on the opened heap, takes a version alongside them, and closes the
+/// heap, whatever became of the clients and of the guest. The list has room for the logs.
 pub(crate) fn run_opened<R: Threads + Wait + Sync, G: Ending + Sync>(
     alloc: Global,
     rt: &R,

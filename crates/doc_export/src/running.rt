@@ -16,16 +16,17 @@ use std::alloc::Global;
 use std::sync::Wait;
 use std::thread::Threads;
 
-/// Runs the scripts' commands on one store, each script by a client on a thread of its own, beside
-/// the collector, and dumps one version on a thread more: the one that is the latest when the gate
-/// lets the command 1 of client 0 begin. The gate is asked for that when some client has ended its
-/// script, or after a million looks for it. So a script alone is dumped as it leaves the store. All
-/// memory but that of the answers and of the dump is taken before the first thread begins.
+/// Runs the scripts' commands on one store, each script by a client on a thread of its own,
+/// alongside the collector, and dumps one version on one more thread: the one that is the latest
+/// when the gate lets command 1 of client 0 begin. The gate is asked for that when some client has
+/// ended its script, or after a million looks for it. So a script alone is dumped as it leaves the
+/// store. All memory except that of the answers and of the dump is taken before the first thread
+/// begins.
 ///
 /// Where no thread could be made for the collector, it serves when all seats are joined.
 ///
-/// Before each command its client asks the gate. Where memory is wanting, who wants it ends, the
-/// others go on, and the run answers so behind them.
+/// Before each command its client asks the gate. A client or guest that runs out of memory ends,
+/// the others go on, and the run says so when all are through.
 pub fn dump_run<R: Threads + Wait + Sync, G: Gate + Sync>(
     alloc: Global,
     rt: &R,

@@ -2,11 +2,11 @@
 use outside::Gate;
 use std::sync::atomic::{AtomicBool, AtomicU64, Ordering};
 
-/// More turns than anybody needs who goes on alongside the one who is sent away.
+/// More turns than anybody needs who goes on alongside the one that is kept waiting.
 const TURNS: u64 = 1_000_000;
 
 /// A gate that lets the guest in after the first command of client 1, and this client on after the
-/// guest, if that was let in. Who is sent away too often goes on, and was late.
+/// guest, if that was let in. Whoever is sent away too often goes on, and was late.
 #[derive(Drop)]
 pub(crate) struct BetweenGate {
     first: AtomicBool,

@@ -46,8 +46,8 @@ fn between_two_puts<R: Threads + Wait + Sync>(
     Ok((dumped.version, answered, gate.late()))
 }
 
-// A run that has the guest after its clients, or before them, lets one of the two wait in vain; and
-// so does one whose guest asks no gate, or does not tell it that it is done.
+// In a run that has the guest after its clients, or before them, one of the two waits in vain. So
+// it is in a run whose guest asks no gate, or does not tell it that it is done.
 #[test]
 fn a_version_is_dumped_between_two_commands(rt: HostRuntime) -> Result<(), Fail> {
     assert_eq!(rt; between_two_puts(rt.alloc(), &rt)?, (1, 2, false));
@@ -69,7 +69,7 @@ fn cells_are_freed_alongside_a_client_and_a_guest(rt: HostRuntime) -> Result<(),
     Ok(())
 }
 
-/// The number of the version that is dumped after the fiftieth put of one of sixteen clients, who
+/// The number of the version that is dumped after the fiftieth put of one of sixteen clients, which
 /// put a hundred times each on a heap of a thousand cells; how many logs there are, and whether it
 /// is dumped.
 fn alongside_sixteen<R: Threads + Wait + Sync>(

@@ -1,4 +1,4 @@
--- How a mutator keeps its first places: across each call, and one call after another.
+-- How a mutator keeps its first places: across each call, and one call after the other.
 use Rattle.std.proofs.Common.{◌≡◌, ◌<◌, ◌≤◌, ℕ, List, ◌++◌, length, take}
 use Rattle.std.proofs.Common.{sym, ◌∙◌, ap, subst, arith}
 use Rattle.std.proofs.lemmas.List.{append-nil, append_assoc, take-map, take-take, take_all}
@@ -36,7 +36,7 @@ use Rattle.version_store.proofs.Lasting.{goes_same, lasts_by, same_then}
 use Rattle.version_export.specs.Still.{Stays}
 use Rattle.version_rule.specs.Versions.{is_fixed}
 
--- One call after another.
+-- One call after the other.
 
 grown_then : {a b c : List Mark} → Grown a b → Grown b c → Grown a c
 grown_then {a = a} first second = record {
@@ -154,7 +154,7 @@ many_calm F a b calm =
     let there = many_cells b in
     let cells = ap (λ (cs : List ℕ). length cs) calm.kept.held in omega (arith, here, there, cells)
 
--- The places behind the first so many are given back.
+-- The places after the first so many are given back.
 module _ (b c : Bound Pass) (n : ℕ) (p : Found)
     (told : c ≡ takes b (event.Keep b.seat.me.number n 0 0) p)
     (few : n ≤ length b.seat.me.own.held) where

@@ -1,5 +1,5 @@
 -- The node lines by what stands before a name are those of the format, and those of a node's
--- children come one after another.
+-- children come one after the other.
 use Rattle.std.proofs.Common.{◌≡◌, ℕ, List, [], ◌∷◌, ◌++◌, refl, sym, ◌∙◌, ap}
 use Rattle.std.proofs.Common.{Option, Some, None}
 use Rattle.std.proofs.lemmas.List.{append-nil, append_assoc}
@@ -15,7 +15,7 @@ use Rattle.version_export.specs.Lines.{path_behind, tree_lines, with_slash}
 
 -- By names.
 
--- the names after the first child's are looked for behind it
+-- the names after the first child's are looked for after it
 behind_first : (before m text : List ℕ) (inside rest kids : Kids) → IsAbove m kids
     → lines_of before (kid m text inside rest) (names_of kids) ≡ lines_of before rest (names_of kids)
 behind_first before m text inside rest no_kids above = refl

@@ -1,4 +1,4 @@
--- How often a mutator looked: once an answer, and as often as a tree has nodes over its walk.
+-- How often a mutator looked: once for each answer, and as often as a tree has nodes over its walk.
 use Rattle.std.proofs.Common.{◌≡◌, ◌≤◌, ◌+◌, ℕ, Bool, List, [], ◌∷◌, ◌++◌, refl, ◌∙◌, ap}
 use Rattle.std.proofs.Common.{arith}
 use Rattle.std.proofs.Common.{Option, Some, None, Result, Ok, Err}
@@ -91,7 +91,7 @@ pub first_looks : (t : DocTree) (items : List (List ℕ)) (before here there : �
 first_looks t items before here there names rising one more =
     let all = ap (nodes_of t.kids) names ∙ all_nodes t.kids rising in omega (arith, all, one, more)
 
--- behind one more
+-- after one more
 pub next_looks : (t : DocTree) (name : List ℕ) (names : List (List ℕ)) (o : Option DocTree)
     (before here there : ℕ) → before + count t ≤ here + nodes_of t.kids (name ∷ names)
     → child name t.kids ≡ o → here + child_nodes o ≤ there

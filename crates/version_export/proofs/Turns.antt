@@ -134,7 +134,7 @@ none_turn m l a old lm new t path before out text name items i walks down same m
           none (omega (arith, down_to));
     }
 
--- a child is less high, and there is room for its tree
+-- a child has a smaller height, and there is room for its tree
 pub child_room : (name : List ℕ) (t d : DocTree) (here there room : ℕ)
     → child name t.kids ≡ Some d → here + (8192 + height t) ≤ room → there ≡ here + 1
     → there + (8192 + height d) ≤ room

@@ -37,7 +37,7 @@ abbrev pub child_lines : List ℕ → Option DocTree → List ℕ
 child_lines path None = []
 child_lines path (Some t) = tree_lines path (with_slash path) t
 
--- the lines of the children of these names, one after another
+-- the lines of the children of these names, one after the other
 abbrev pub lines_of : List ℕ → Kids → List (List ℕ) → List ℕ
 lines_of before kids [] = []
 lines_of before kids (name ∷ names) =

@@ -4,7 +4,7 @@ use Rattle.std.specs.Prelude.{ℕ, ◌≡◌, ◌<◌, ◌≤◌}
 use Rattle.version_export.specs.declared.fault.DumpFault.{DumpFault}
 use Rattle.version_export.specs.declared.fault.DumpFault.TheVariants.{NoMemory, TooMany}
 
--- more than 10,000 nodes are too many, and that is told before memory is wanted
+-- more than 10,000 nodes are too many, and that is told before memory is taken
 abbrev pub Refuses : ℕ → DumpFault → Type 0
 Refuses nodes (TooMany count) = (count ≡ nodes) × (10_000 < nodes)
 Refuses nodes NoMemory = nodes ≤ 10_000

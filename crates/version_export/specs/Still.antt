@@ -1,4 +1,4 @@
--- What a stretch of calls leaves of a mutator whose places behind the first so many come and go.
+-- What a stretch of calls leaves of a mutator whose places after the first so many come and go.
 -- Source: this project's own.
 use Rattle.std.specs.Prelude.{ℕ, ◌≡◌, ◌≤◌, length, take}
 use Rattle.mutator_seat.specs.Bound.{Bound, held_cells}
@@ -8,7 +8,7 @@ use Rattle.version_store.specs.Calls.{StaysKnown}
 use Rattle.version_store.specs.Lasts.{IsSameMutator, marks}
 
 -- It is the same mutator, in or out as it was, with its pass and its claims. The first so many
--- places hold what they held, what was known of them is known still, and the trail grew.
+-- places hold what they held, what was known of them is still known, and the trail grew.
 pub record Stays (places : ℕ) (m n : Bound Pass) : Type 0 where
   pub same : IsSameMutator m n
   pub longer : places ≤ length n.seat.me.own.held

@@ -10,8 +10,8 @@ use Rattle.version_export.specs.Lines.{lines_of, tree_lines}
 use Rattle.version_export.specs.Looks.{looks, nodes_of}
 use Rattle.version_export.specs.Still.{Stays}
 
--- From the start of the walk over a tree: as much is held and known, and with the lines of the
--- children of these names all lines are written. There was a look for each other node.
+-- From the start of the walk over a tree: as much is held and known as then, and with the lines of
+-- the children of these names all lines are written. There was a look for each other node.
 pub record Walks (m n : Bound Pass) (old new : Nursery) (t : DocTree) (path before : List ℕ)
     (out text : List ℕ) (names : List (List ℕ)) : Type 0 where
   pub keeps : Stays (length m.seat.me.own.held) m n

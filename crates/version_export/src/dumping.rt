@@ -27,8 +27,7 @@ use version_store::{HeldVersion, tree};
 /// The most nodes that a dump may have.
 const MOST: u64 = 10_000;
 
-/// The dump of a version. All that was held and known is so still, and the private heap is as it
-/// was.
+/// The dump of a version. All that was held and known still is, and the private heap is as it was.
 pub fn dump(
     alloc: Global,
     m: &mut Mutator<'_, Documents>,

@@ -1,12 +1,14 @@
 //! The dump of a version that a mutator holds, taken while other threads go on.
 //!
-//! The layer above may rely on the bytes being the dump of the version's number and tree, on what
-//! was held and known being so behind the call, and on as many looks for a handshake as the tree
-//! has nodes: an answer is given behind each. At most nine places are added on the way, and given
-//! back at the end. Nothing here waits.
+//! The layer above may rely on this: the bytes are the dump of the version's number and tree, what
+//! was held and known is as before, and the mutator looked for a handshake at least once for each
+//! node. It does so after it has read the node's text and before it adds the node's line, and
+//! answers if one is asked for. From the root down, one place is held for each node on the path to
+//! the current one, at most nine; the readers of a node use more while they run. All are given back
+//! at the end. Nothing here waits.
 //!
-//! Reading order: `fault`, `lines`, specs/Lines; specs/Still, Looks, Walks, `walking`; specs/Outcome,
-//! `dumping`.
+//! Reading order: `fault`, `lines`, specs/Lines; specs/Still, Looks, Walks, `walking`;
+//! specs/Outcome, `dumping`.
 #![tactic(auto)]
 
 mod dumping;

@@ -14,7 +14,7 @@ pub(crate) fn head(alloc: Global, number: u64) -> Result<Vec<u8>, NoMemory>
     Ok(format!(in alloc; "docs-dump 1 {number}\n")?.into_bytes())
 }
 
-/// The end behind so many node lines.
+/// The end, after so many node lines.
 pub(crate) fn end(alloc: Global, nodes: u64) -> Result<Vec<u8>, NoMemory>
     ensures line { IfOk result (λ line. line.items ≡ end_line nodes) }
 {

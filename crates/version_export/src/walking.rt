@@ -82,7 +82,7 @@ fn add_node(
     push_line(alloc, out, path, &text)
 }
 
-/// The place of a child, behind all others.
+/// The place of a child, after all others.
 fn child_place(
     m: &mut Mutator<'_, Documents>,
     minor: &mut MinorHeap,

@@ -32,7 +32,7 @@ use Rattle.version_rule.specs.Versions.{is_fixed}
 
 -- The steps.
 
--- a version that is held is held behind a read
+-- a version that is held is still held after a read
 pub held_on : (a b : Bound Pass) (v : HeldVersion) (cells : List ℕ) → Holds cells a b
     → IsHeld a v → IsHeld b v
 held_on a b v cells holds is = record {
@@ -146,7 +146,7 @@ gives_older a b c v at back n p is walked told =
       claims = ap (λ (m : Bound Pass). m.seat.me.own.claims) told ∙ walked.claims;
     }
 
--- The pass saw that so many are there, and then the newest.
+-- The pass saw that there are so many, and then the newest.
 seen_twice : (low high : ℕ) (p : Pass) → low ≤ high → seeing high (seeing low p) ≡ seeing high p
 seen_twice low high p le =
     ap (λ (n : ℕ). record p { seen = n })
@@ -235,7 +235,7 @@ stopped_room a b v back stopped kept room =
     let keeps = stopped.keeps_few in
     omega (arith, more, same, few, keeps, kept, room)
 
--- the version that the walk began with is held behind it
+-- the version that the walk began with is still held after it
 pub walked_held : (a b : Bound Pass) (v at : HeldVersion) (steps : ℕ) → Walked a b v at steps
     → IsHeld a v → IsHeld b v
 walked_held a b v at steps walked is = record {

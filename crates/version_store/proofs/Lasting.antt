@@ -81,7 +81,7 @@ goes_marks : {asks : List Ask} (a b : Bound Pass) (goes : Goes asks a b)
     → marks b ≡ marks a ++ marks_from (own_along no_own a.seat.me.trail) goes.added
 goes_marks a b goes = ap marks_of goes.trail ∙ marks_append no_own a.seat.me.trail goes.added
 
--- what the calls ask of the events, the marks of the whole trail show
+-- the marks of the whole trail show what the calls ask of the events
 pub goes_shows : {asks : List Ask} (a b : Bound Pass)
     → a.seat.me.own ≡ own_along no_own a.seat.me.trail → Goes asks a b
     → Shows asks (marks a) (marks b)
@@ -224,8 +224,8 @@ module _ (a b : Bound Pass) (full : HeapFull)
             full.ended calm.added calm.fact;
       }
 
--- A record that is held is one behind every call, with the same term. Of versions that are held
--- `held_on` of Backward says so.
+-- A record that is held is still one after every call, with the same term. Of versions that are
+-- held `held_on` of Backward says so.
 pub record_on : (a b : Bound Pass) (place : ℕ) (cells : List ℕ) → Holds cells a b
     → IsRecord a place → (IsRecord b place) × (term_at b place ≡ term_at a place)
 record_on a b place cells holds is =

@@ -72,7 +72,7 @@ module _ (is_tree : Term → Type 0) (tree_of : Term → DocTree)
           absurd cc
       by_link (inr older) = older
 
-  -- the version before is one less
+  -- the version before has a number that is one less
   pub link_later : (place : ℕ) → values.Held place ≡ value_found (length a.seat.me.own.held) found
       → 1 ≤ v.number
   link_later place value =

@@ -1,4 +1,4 @@
--- The commit behind its claim: the look at the latest version, the box, and the write.
+-- The commit after its claim: the look at the latest version, the box, and the write.
 use Rattle.std.proofs.Common.{◌≡◌, ◌≢◌, ◌<◌, ◌≤◌, ◌+◌, ◌-◌, ◌==◌, ℕ, Bool, true, false, List, []}
 use Rattle.std.proofs.Common.{◌∷◌, ◌++◌, length, max, refl, sym, ◌∙◌, ap, subst, arith}
 use Rattle.std.proofs.lemmas.Bool.{eq-eqb}
@@ -46,7 +46,7 @@ use Rattle.version_store.proofs.Remaining.{version_known}
 use Rattle.held_places.proofs.Knowns.{fresh_apart, sealed_at}
 use Rattle.held_places.proofs.Writing.{wrote_goes, wrote_known}
 
--- what a record is known to be stays
+-- what a record is known to be stays known
 pub record_still : (j k : Known) (t : Term) → j ≡ knows.Record t → StillKnown j k
     → k ≡ knows.Record t
 record_still j k t is still = subst (λ (x : Known). StillKnown x k) is still
@@ -92,7 +92,7 @@ module _ (a b : Bound Pass) (v newest : HeldVersion) (fresh tree : ℕ)
       fresh_apart (known_of a.seat.me place) (known_of a.seat.me other) is other_is
       (coherent.kinds place other (omega (arith, lt, last)) (omega (arith, before, last)) same)
 
-  -- what is known where is spared by the making of the box
+  -- making the box spares what is known at every place before it
   pub spared : (place : ℕ) → place < fresh → settled (known_of a.seat.me v.place) ≡ true
       → settled (known_of a.seat.me tree) ≡ true
       → known_fresh (known_of b.seat.me place) ≡ known_fresh (known_of a.seat.me place)
@@ -168,7 +168,7 @@ box_at_zero c (knows.Fresh fields) is = tt
 box_at_zero c (knows.Record t) is = is
 box_at_zero c (knows.Boxed told) is = tt
 
--- Behind the box.
+-- After the box.
 module _ (is_tree : Term → Type 0) (tree_of : Term → DocTree)
     (is_record : (t : Term) → is_tree t → IsFive t) (a b c : Bound Pass) (v newest : HeldVersion)
     (fresh tree : ℕ) (is : IsIn a) (claimed : IsClaimed a fresh v.place tree) (held : IsHeld a v)
@@ -327,7 +327,7 @@ module _ (is_tree : Term → Type 0) (tree_of : Term → DocTree)
       claimed.apart place lt
       (sym (same_target place (omega (arith, lt))) ∙ on ∙ sym e ∙ same_target fresh (omega arith))
 
-  -- Behind the write.
+  -- After the write.
   module _ (d : Bound Pass) (same : newest.number ≡ v.number) (found : Field)
       (wrote : Updated (HoldsVersions is_tree tree_of) is_fixed
       (picks_made tree_of c v.place tree) c 0 0 (values.Held v.place) (values.Held fresh) found d)
@@ -367,7 +367,7 @@ module _ (is_tree : Term → Type 0) (tree_of : Term → DocTree)
       seen_pass : c.seat.me.pass ≡ seeing v.number a.seat.me.pass
       seen_pass = made.pass ∙ latest.pass ∙ ap (λ (n : ℕ). seeing n a.seat.me.pass) same
 
-      -- The write was not made: another has made the next version.
+      -- The write was not made: another mutator has made the next version.
       module _ (other : same_field found (field.Cell from) ≡ false) where
         lost_pass : d.seat.me.pass ≡ seeing (v.number + 1) (seeing v.number a.seat.me.pass)
         lost_pass =

@@ -1,4 +1,4 @@
--- A version that is known is known still, and one that is held is held still.
+-- A version that is known is still known, and one that is held is still held.
 use Rattle.std.proofs.Common.{◌≡◌, ◌<◌, ◌++◌, ℕ, List, refl, subst, arith}
 use Rattle.cell_words.specs.Term.{Term, num}
 use Rattle.heap_rule.specs.declared.known.Known.{Known}
@@ -20,7 +20,7 @@ version_known j k number root still is =
       root_is = boxed.1.1 1 root (omega arith) refl is.root_is;
     }
 
--- a version that is held is held still
+-- a version that is held is still held
 pub version_still : (n : ℕ) (cells : List ℕ) (a b : Bound Pass) → StaysKnown n a b
     → held_cells b ≡ held_cells a ++ cells → (place number : ℕ) (root : Term) → place < n
     → KnowsVersion a.seat.me place number root → KnowsVersion b.seat.me place number root

@@ -52,8 +52,8 @@ use Rattle.version_store.proofs.Leaving.{rewrites}
 use Rattle.version_store.proofs.Links.{ends, follows, link_is_no_number}
 use Rattle.version_store.proofs.Trimming.{picks_cut, version_kept}
 
--- What the read of the link says to the exchange behind it, and that the pass knows no more of it
--- than it will.
+-- What the read of the link says to the exchange after it, and that the pass knows no more of the
+-- link than it will after that.
 pub record LinkRead (old new : Bound Pass) (number : ℕ) (seen : Field) : Type 0 where
   pub link : HasReadLink new.seat.me number seen
   pub pass : cutting number new.seat.me.pass ≡ cutting number old.seat.me.pass
@@ -156,7 +156,7 @@ module _ (a : Bound Pass) (newest oldest : HeldVersion) (is : IsIn a) (first : I
     room = room;
   }
 
-  -- behind the look, the load and the marks
+  -- after the look, the load and the marks
   held_behind : (v : HeldVersion) (looked loaded at : Bound Pass) (seen : Field)
       → (held : IsHeld a v) → Kept a looked → Loaded is_fixed looked loaded seen → Kept loaded at
       → KnowsVersion at.seat.me v.place v.number held.root

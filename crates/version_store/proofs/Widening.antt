@@ -1,4 +1,4 @@
--- The commit with its claim before it and the cut of its places behind it.
+-- The commit with its claim before it and the cut of its places after it.
 use Rattle.std.proofs.Common.{◌≡◌, ◌≤◌, ◌+◌, ℕ, List, [], ◌∷◌, ◌++◌}
 use Rattle.std.proofs.Common.{length}
 use Rattle.std.proofs.Common.{sym, ◌∙◌, ap, subst, arith}
@@ -90,7 +90,7 @@ module _ (a b : Bound Pass) (fresh : ℕ) (got : Claimed a fresh b) where
       let longer = claimed_longer a b fresh got in
       let same = (claimed_goes a b fresh got).room in omega (arith, longer, same, room, few)
 
-  -- Behind the write and the cut.
+  -- After the write and the cut.
 
   pub kept_some : (c : Bound Pass) (n : ℕ) → n ≡ length a.seat.me.own.held → Behind fresh b c
       → n ≤ length c.seat.me.own.held

@@ -11,15 +11,15 @@ use Rattle.trails.specs.Asks.{Ask, gave_at}
 use Rattle.version_rule.specs.Pass.{Pass}
 use Rattle.version_rule.specs.Versions.{is_fixed}
 
--- what was known of a cell is known of it still
+-- what was known of a cell is still known
 abbrev pub StillKnown : Known → Known → Type 0
 StillKnown old new = places.StillKnown is_fixed old new
 
--- what was known at each place below an end is known there still
+-- what was known at each place below an end is still known there
 abbrev pub StaysKnown : ℕ → Bound Pass → Bound Pass → Type 0
 StaysKnown end old new = places.StaysKnown is_fixed end old new
 
--- the held list is as it was, with these cells behind it, and all is known still
+-- the held list is as it was, with these cells after it, and all is still known
 abbrev pub Holds : List ℕ → Bound Pass → Bound Pass → Type 0
 Holds cells old new = places.Holds is_fixed cells old new
 

@@ -32,8 +32,8 @@ abbrev pub write_over : View Pass → ℕ → ℕ → Event
 write_over v latest box =
     event.Write v.number 0 0 (field.Cell (target v latest)) (field.Cell box)
 
--- Up to a write the pass is as it was, but that it has seen the version that was the latest. The
--- write found this version, and behind it the pass has the commit. No more of it changes.
+-- Up to a write the pass is as it was, except that it has seen the version that was the latest. The
+-- write found this version, and after it the pass has the commit. No more of it changes.
 pub record Committed (is_tree : Term → Type 0) (tree_of : Term → DocTree) (old new : Bound Pass)
     (v : HeldVersion) (tree : ℕ) : Type 0 where
   pub goes : Goes [] old new
@@ -54,8 +54,8 @@ pub record Committed (is_tree : Term → Type 0) (tree_of : Term → DocTree) (o
   pub pass : new.seat.me.pass ≡ committed (v.number + 1) (tree_of (root_at old v.place))
       (tree_of (term_at old tree)) old.seat.me.pass
 
--- A newer version was read: its box from the anchor, and then its number. Of the pass nothing
--- changed but what was seen.
+-- A newer version was read: its box from the anchor, and then its number. Nothing of the pass
+-- changed except what was seen.
 pub record FindsNewer (old new : Bound Pass) (v : HeldVersion) (newer : ℕ) : Type 0 where
   pub cell : ℕ
   pub goes : Goes (version_asks cell newer) old new

@@ -25,7 +25,7 @@ pub record IsHeld (m : Bound Pass) (v : HeldVersion) : Type 0 where
 abbrev pub root_at : Bound Pass → ℕ → Term
 root_at m place = root_told (known_of m.seat.me place)
 
--- the term of a record; null of what is none
+-- the term of a record; null of anything else
 abbrev pub term_told : Known → Term
 term_told knows.Nothing = null
 term_told (knows.Raw fields) = null

@@ -1,4 +1,4 @@
--- What lasts across each call: what a caller of many of them keeps.
+-- What lasts across each call: what a caller of many calls may keep.
 -- Source: this project's.
 use Rattle.std.specs.Prelude.{ℕ, ◌≡◌, ◌≤◌, List}
 use Rattle.mutator_seat.specs.Bound.{Bound}
@@ -7,8 +7,8 @@ use Rattle.trails.specs.Marks.{Mark, marks_of}
 use Rattle.version_rule.specs.Fits.{Narrows}
 use Rattle.version_rule.specs.Pass.{Pass}
 
--- Of the passes, the marks and the claims before and after a call. Whatever list of versions fits
--- the pass after it fitted the pass before it.
+-- Of the passes, the marks and the claims before and after a call. Every list of versions that fits
+-- the pass after it also fits the pass before it.
 pub record Lasts (p q : Pass) (a b : List Mark) (x y : ℕ) : Type 0 where
   pub narrows : Narrows p q
   pub keep : q.keep ≡ p.keep

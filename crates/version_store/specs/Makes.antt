@@ -11,7 +11,7 @@ use Rattle.version_rule.specs.Pass.{Pass}
 use Rattle.held_places.specs.Calls.{Goes, known_fresh, settled}
 use Rattle.version_store.specs.Calls.{StaysKnown, StillKnown}
 
--- the cell at the last place was just claimed, and the version and the tree stand before it
+-- the cell at the last place was just claimed, and the version and the tree are held before it
 pub record IsClaimed (m : Bound Pass) (fresh latest tree : ℕ) : Type 0 where
   pub others : List Known
   pub known_is : m.seat.me.known ≡ others ++ knows.Raw five_nulls ∷ []
@@ -20,8 +20,8 @@ pub record IsClaimed (m : Bound Pass) (fresh latest tree : ℕ) : Type 0 where
   pub tree_before : tree < fresh
   pub apart : (place : ℕ) → place < fresh → target m.seat.me place ≢ target m.seat.me fresh
 
--- The making leaves what is known at this place: it has another cell than the claimed one, and
--- where this is fresh, than the version and the tree.
+-- Making the box leaves what is known at this place: its cell is not the claimed one, and if it is
+-- fresh, neither the version's nor the tree's.
 pub record IsSpared (m : Bound Pass) (fresh latest tree place : ℕ) : Type 0 where
   pub not_claimed : target m.seat.me place ≢ target m.seat.me fresh
   pub not_latest : known_fresh (known_of m.seat.me place) ≡ true
@@ -29,7 +29,7 @@ pub record IsSpared (m : Bound Pass) (fresh latest tree place : ℕ) : Type 0 wh
   pub not_tree : known_fresh (known_of m.seat.me place) ≡ true
       → target m.seat.me place ≢ target m.seat.me tree
 
--- what the filling needs: the claimed cell is raw, and another than the version's and the tree's
+-- what the filling needs: the claimed cell is raw, and is neither the version's nor the tree's
 pub record MayMake (m : Bound Pass) (fresh latest tree : ℕ) : Type 0 where
   pub inside : m.seat.me.presence.inside ≡ true
   pub there : fresh < length m.seat.me.own.held
@@ -55,7 +55,7 @@ pub record Makes (old new : Bound Pass) (fresh number latest tree : ℕ) : Type 
   pub pass : new.seat.me.pass ≡ old.seat.me.pass
   pub claims : new.seat.me.own.claims ≡ old.seat.me.own.claims
 
--- behind the write: more cells may be held, and what was known before the claim is known still
+-- after the write: more cells may be held, and what was known before the claim is still known
 pub record Behind (fresh : ℕ) (old new : Bound Pass) : Type 0 where
   pub cells : List ℕ
   pub held : held_cells new ≡ held_cells old ++ cells

@@ -21,7 +21,8 @@ use Rattle.version_store.specs.Calls.{Holds, StaysKnown, StillKnown}
 use Rattle.held_places.specs.Calls.{known_fresh}
 use Rattle.version_store.specs.Held.{IsHeld}
 
--- The pass that is picked at a read of a link stands, and stays where the link is there.
+-- The pass that is picked at a read of a link is allowed by the rule, and does not change where the
+-- link is there.
 pub record PicksLink (holds : Map → List Pass → Type 0) (next : Learned → Found → Pass → Pass)
     : Type 0 where
   pub picks : (v : View Pass) (place number : ℕ) (root : Term)
@@ -85,8 +86,8 @@ pub record Stopped (next : Learned → Found → Pass → Pass) (old new : Bound
   pub claims : new.seat.me.own.claims ≡ old.seat.me.own.claims
   pub keeps_few : old.seat.me.pass.keep ≤ 100
 
--- The link of the version is null now, stored or exchanged, or by who was first. Of what is known of
--- fresh cells this leaves what other cells are.
+-- The link of the version is null now: this mutator stored or exchanged it, or another did first.
+-- What is known of a place stays, except that of a fresh cell that is the version's.
 pub record LinkTaken (old new : Bound Pass) (v : HeldVersion) : Type 0 where
   pub goes : Goes [] old new
   pub held : held_cells new ≡ held_cells old ++ []

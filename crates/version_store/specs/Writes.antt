@@ -1,5 +1,5 @@
--- The writes of a call: none of a call that reads, one of a commit that is made, and of one that is
--- refused none but the one that was lost; and of a trim at most one, that of a link.
+-- The writes of a call: a call that only reads makes none, a commit that is made one, and a refused
+-- commit none except the exchange that it lost; a trim makes at most one, that of a link.
 -- Source: this project's.
 use Rattle.std.specs.Prelude.{ℕ, ◌≡◌, ◌⊎◌, Bool, true, false, List, [], ◌∷◌, ◌++◌, Some}
 use Rattle.cell_words.specs.declared.controls.Control.{Control}
@@ -39,7 +39,7 @@ abbrev pub chosen : (Event → Bool) → List Taken → List Taken
 chosen is [] = []
 chosen is (t ∷ ts) = kept_if (is t.event) t ++ chosen is ts
 
--- the trail grew by events, of which these are such ones
+-- the trail grew by events; those of this kind among them are these
 pub record Chosen (is : Event → Bool) (these : List Taken) (old new : Bound Pass) : Type 0 where
   pub added : List Taken
   pub trail : new.seat.me.trail ≡ old.seat.me.trail ++ added
@@ -56,7 +56,7 @@ WritesNothing old new = Writes [] old new
 abbrev pub exchange : ℕ → Field → Field → Field → Taken
 exchange number from box found = took (event.Write number 0 0 from box) (finds.Field found)
 
--- one write alone, of the anchor's field, which found what it was to find
+-- only one write, of the anchor's field, which found what it was to find
 pub record WritesOnce (old new : Bound Pass) : Type 0 where
   pub from : Field
   pub box : Field
@@ -70,14 +70,15 @@ pub record LosesOnce (old new : Bound Pass) : Type 0 where
   pub other : same_field found from ≡ false
   pub writes : Writes (exchange old.seat.me.number from box found ∷ []) old new
 
--- where a store may be begun a store of null, and elsewhere an exchange of a version's link for null
+-- a store of null where a store may be begun, and elsewhere an exchange of a version's link for
+-- null
 abbrev pub EndsLink : Bool → ℕ → Event → Type 0
 EndsLink true number (event.Store i new) = (i ≡ number) × (new ≡ field.Null)
 EndsLink false number (event.Write i place f old new) = (i ≡ number) × (f ≡ 2) × (new ≡ field.Null)
 EndsLink _ number _ = ⊥
 
--- One write alone, which ends a link. One look came before it and no answer to a handshake; by the
--- status and what it found the write is a store, or an exchange.
+-- Only one write, which ends a link. One look came before it, and no answer to a handshake. The
+-- status and what the look found decide whether the write is a store or an exchange.
 pub record WritesLink (old new : Bound Pass) : Type 0 where
   pub control : Control
   pub taken : Taken
@@ -91,8 +92,9 @@ pub record ReadsAlone (old new : Bound Pass) : Type 0 where
   pub acts : Chosen is_act [] old new
   pub status : new.seat.me.presence.status ≡ old.seat.me.presence.status
 
--- What a refused commit did. It read a newer version: before a write or behind a lost one. It found
--- no free cell: then it looked, marked, answered and tried to claim. Or it did nothing at all.
+-- What a refused commit did. If it read a newer version: it wrote nothing, or lost one exchange and
+-- then read. If it found no free cell: it looked, marked, answered and tried to claim. Otherwise it
+-- did nothing at all.
 abbrev pub Leaves : Bound Pass → Bound Pass → CommitFault → Type 0
 Leaves old new (faults.Moved newer) = WritesNothing old new ⊎ LosesOnce old new
 Leaves old new (faults.Full full) = Calm Seeking old new

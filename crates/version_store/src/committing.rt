@@ -26,9 +26,10 @@ use std::marker::Brand;
 use std::sync::Wait;
 use version_rule::{Spelling, Versions};
 
-/// Makes the next version, with the tree at a place, over a version that is held. Whether numbers
-/// are used up is looked at first, and then a cell is claimed. The new version is there with one
-/// exchange, of the anchor's field. It is not tried again where another has made a version first.
+/// Makes the next version, with the tree at a place, over a version that is held. It first checks
+/// whether the numbers are used up, and then claims a cell. The new version appears with one
+/// exchange, of the anchor's field. The exchange is not tried again where another mutator has made
+/// a version first.
 pub fn commit<S: Spelling, R: Wait>(
     rt: &R,
     hints: &mut Hints<'_>,
@@ -74,7 +75,7 @@ pub fn commit<S: Spelling, R: Wait>(
 }
 
 /// Makes the claimed cell a version's box and puts it over the version, if that is still the
-/// latest. A newer one is told by its number.
+/// latest. Otherwise it tells the number of a newer one.
 fn put_version<S: Spelling>(
     m: &mut Mutator<'_, Versions<S>>,
     v: HeldVersion,
@@ -125,8 +126,8 @@ fn make_version<S: Spelling>(
     m.seal_box(fresh);
 }
 
-/// Exchanges the anchor's field, from the version's box to the fresh one. The tree's place serves
-/// the pass that the caller picks, and nothing at run time.
+/// Exchanges the anchor's field, from the version's box to the fresh one. The tree's place only
+/// serves the pass that the caller picks; at run time it does nothing.
 fn publish<S: Spelling, C: Choice<Versions<S>>>(
     m: &mut Mutator<'_, Versions<S>>,
     latest: usize,

@@ -7,12 +7,12 @@ pub enum CommitFault {
     Moved { newer: u64 },
     /// No cell was free for the version's box.
     Full(HeapFull),
-    /// As many versions are made as may be.
+    /// No more versions may be made.
     Worn,
 }
 
-/// The older version is cut off: so many were made since that it may be gone. A newer version was
-/// read.
+/// The older version is cut off: so many versions were made since then that it may be gone. A newer
+/// version was read.
 #[derive(Clone, Copy, Debug, PartialEq, Eq)]
 pub struct Cut {
     pub newer: u64,

@@ -1,17 +1,17 @@
 //! The versions of a document store, as calls of one mutator on a collected heap.
 //!
-//! The anchor names the box of the latest version, and each version's box has its number, the root
-//! of its tree and a link to the version before it (version_rule). Here are the calls that read
-//! versions, make the next one and cut off what is older than is kept. Each call is a few reads and
-//! at most one exchange of a field, and is never made again: whoever loses an exchange is told that
-//! there is a newer version.
+//! The anchor names the box of the latest version. Each version's box has its number, the root of
+//! its tree and a link to the version before it (version_rule). Here are the calls that read
+//! versions, make the next one and cut off old ones that are no longer kept. Each call is a few
+//! reads and at most one exchange of a field, which is never tried again: whoever loses an exchange
+//! is told that there is a newer version.
 //!
-//! The layer above may rely on this: what a call answers is so of the versions of the rule, its
-//! part of the trail shows the reads that it tells of, the held list is as it was but for the place
-//! that is answered, and the pass changes by what the clause says and by nothing else. When to
-//! commit again, how a term spells a tree, and when to trim is left to that layer.
+//! The layer above may rely on this: what a call answers is so of the versions of the rule, and its
+//! part of the trail shows the reads that it tells of. The held list is as it was, except for the
+//! place that is answered. The pass changes only by what the clause says. That layer decides when
+//! to commit again, how a term spells a tree, and when to trim.
 //!
-//! Only `commit` waits, for a free cell. No call takes memory.
+//! Only `commit` waits, for a free cell. No call allocates memory.
 //!
 //! Reading order: specs/Calls, Held, Commits, Older; then `rows`, `held`, `fault`, `reading`,
 //! `committing`, `walking`, with specs/Reads, Makes, Walks for what the parts of a call do.

@@ -18,7 +18,7 @@ use std::marker::Brand;
 use version_rule::{Spelling, Versions};
 
 /// The latest version. Two reads: of the anchor's field, and of the number of the box that it
-/// named. A newer one may be there by the time that this returns.
+/// named. There may be a newer one by the time that this returns.
 pub fn current<S: Spelling>(m: &mut Mutator<'_, Versions<S>>) -> HeldVersion
     requires inside { m.old.seat.me.presence.inside ≡ true }
     requires room { length m.old.seat.me.own.held + 128 ≤ m.old.seat.me.room }
@@ -30,7 +30,7 @@ pub fn current<S: Spelling>(m: &mut Mutator<'_, Versions<S>>) -> HeldVersion
     ensures lasts { LastsAcross m.old m.new }
     ensures same { IsSameMutator m.old m.new }
 {
-    // Who is in holds the anchor first.
+    // A mutator that is in holds the anchor first.
     let _ = m.held_len();
     let newest = latest(m);
     newest

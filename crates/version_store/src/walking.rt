@@ -24,8 +24,8 @@ use mutator_seat::{Choice, Moved, Mutator, Value};
 use std::marker::Brand;
 use version_rule::{Spelling, Versions};
 
-/// The version so many below. Where a link on the way is null, that version was cut off, and so
-/// many were made since that a newer one than `v` is read.
+/// The version so many below. Where a link on the way is null, that version was cut off; by then so
+/// many were made that a version newer than `v` is read.
 pub fn older<S: Spelling>(
     m: &mut Mutator<'_, Versions<S>>,
     v: HeldVersion,
@@ -156,7 +156,7 @@ fn follow<S: Spelling, C: Choice<Versions<S>>>(
 }
 
 /// Makes the link of a version null, once as many versions as stay are made from it on. Where
-/// another has done so first, nothing is left to do.
+/// another mutator has done so first, nothing is left to do.
 fn cut_link<S: Spelling>(m: &mut Mutator<'_, Versions<S>>, newest: HeldVersion, oldest: HeldVersion)
     requires inside { IsIn m.old }
     requires room { length m.old.seat.me.own.held + 1 < m.old.seat.me.room }
@@ -174,7 +174,8 @@ fn cut_link<S: Spelling>(m: &mut Mutator<'_, Versions<S>>, newest: HeldVersion, 
 }
 
 /// Stores null over the link of a version. Where no store may be begun, the link is exchanged for
-/// null instead, and where this comes too late another has cut it: then too nothing is left to do.
+/// null instead. If this exchange comes too late, another mutator has cut the link, and nothing is
+/// left to do.
 fn take_link<S: Spelling>(
     m: &mut Mutator<'_, Versions<S>>,
     newest: HeldVersion,

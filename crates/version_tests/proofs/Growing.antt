@@ -138,7 +138,7 @@ pub cut_same : (a b : Bound Pass) (n : ℕ) (p : Found)
     → b ≡ takes a (event.Keep a.seat.me.number n 0 0) p → IsSameMutator a b
 cut_same a b n p told = goes_same a b (cut_goes a b n p told)
 
--- the first place alone
+-- only the first place
 one_left : (held : List Held) → 1 ≤ length held → length (take 1 held ++ take 0 (drop 0 held)) ≡ 1
 one_left [] some = absurd (omega (arith, some))
 one_left (p ∷ held) some = refl

@@ -36,7 +36,7 @@ pub record Works (places commits keep : ℕ) (m : Bound Pass) : Type 0 where
   pub keep_is : m.seat.me.pass.keep ≡ keep
   pub made : length m.seat.me.pass.commits ≤ commits
 
--- what a call adds to that, and which versions are held still
+-- what a call adds to that, and which versions are still held
 pub record Grows (places commits : ℕ) (old new : Bound Pass) : Type 0 where
   pub same : IsSameMutator old new
   pub longer : length old.seat.me.own.held ≤ length new.seat.me.own.held

@@ -19,7 +19,7 @@ pub(crate) const KEEP: u64 = 5;
 pub(crate) const EACH: usize = 10_000;
 
 /// How often it tries at most. A try that is lost comes with a commit of the other thread, and the
-/// heap is full for one at most where the other has used all cells up: so these are enough.
+/// heap is full at most once where the other thread has used up all cells: so these are enough.
 const TRIES: u32 = 50_000;
 
 /// A mutator that is to come in, with memory for the numbers of what it makes.
@@ -37,7 +37,7 @@ pub(crate) struct Done {
     pub(crate) numbers: Vec<u64>,
 }
 
-/// Commits over the latest version, notes the number, and cuts off what is older than is kept.
+/// Commits over the latest version, notes the number, and cuts off what is no longer kept.
 fn make_one<R: Wait>(
     rt: &R,
     hints: &mut Hints<'_>,

@@ -1,5 +1,5 @@
 //! The calls on versions, on real heaps: outcomes on one thread that were worked out by hand, and
-//! what stands on every schedule of two threads.
+//! what holds on every schedule of two threads.
 //!
 //! Reading order: `bare`, `opening`, `working`; `one_thread`; `clients`, `serving`, `two_threads`.
 #![tactic(auto)]

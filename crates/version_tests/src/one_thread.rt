@@ -90,7 +90,7 @@ fn a_commit_over_an_older_version_is_refused(rt: HostRuntime) -> Result<(), Fail
 }
 
 /// What went before a version was cut off: the two commits, the version that the first mutator then
-/// holds, and the third commit, up to which is cut off what is older than is kept.
+/// holds, the third commit, and the latest version, up to which what is no longer kept is cut off.
 type Cutting = (
     Result<u64, CommitFault>,
     Result<u64, CommitFault>,

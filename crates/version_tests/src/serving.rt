@@ -52,7 +52,7 @@ pub(crate) fn close_two(
     image
 }
 
-/// The versions that the anchor leads to: the number of the newest, and how many they are.
+/// The versions that the anchor leads to: the number of the newest, and how many there are.
 #[derive(Clone, Copy, Debug, PartialEq, Eq)]
 pub(crate) struct Chain {
     pub newest: Option<u64>,
@@ -96,7 +96,7 @@ fn number_of(image: &Image, version: Option<u32>) -> Option<u64> {
     }
 }
 
-/// How many versions stand in the chain from this one on.
+/// How many versions are in the chain from this one on.
 fn length_from(image: &Image, newest: Option<u32>) -> u32 {
     let mut at = newest;
     for versions in 0..image.cells() {

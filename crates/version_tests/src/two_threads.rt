@@ -1,5 +1,5 @@
-//! Two mutators on threads of their own that commit against each other, beside a collector that
-//! serves. What is asserted stands on every schedule.
+//! Two mutators on threads of their own that commit against each other, alongside a collector that
+//! serves. What is asserted holds on every schedule.
 ghost use Rattle.std.specs.Prelude.{◌≡◌, IfOk};
 ghost use Rattle.free_cells.specs.Hints.{cells_of as hinted_of};
 ghost use Rattle.free_cells.specs.Passes.{IsHintPass};
@@ -54,7 +54,7 @@ fn open_hints<R: Wait>(
     Ok((queue, pass, one, two))
 }
 
-/// The collector serves on duty, beside both clients.
+/// The collector serves on duty, alongside both clients.
 fn run_all<R: Threads + Wait + Sync>(
     rt: &R,
     heap: &CellHeap<Store>,

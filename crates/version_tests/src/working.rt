@@ -83,7 +83,7 @@ pub(crate) fn oldest(m: &mut Mutator<'_, Store>, v: HeldVersion, keep: u64) -> O
     }
 }
 
-/// Commits over the latest version, and holds the anchor alone.
+/// Commits over the latest version, and holds only the anchor.
 pub(crate) fn commit_one<R: Wait>(
     rt: &R,
     hints: &mut Hints<'_>,
@@ -104,7 +104,7 @@ pub(crate) fn commit_one<R: Wait>(
     made
 }
 
-/// Cuts off what is older than is kept up to the latest version, and holds the anchor alone.
+/// Cuts off what is no longer kept up to the latest version, and holds only the anchor.
 pub(crate) fn prune_latest(m: &mut Mutator<'_, Store>, keep: u64, commits: u32) -> u64
     requires works { Works 1 commits keep m.old }
     ensures works { Works 1 commits keep m.new }
@@ -117,7 +117,7 @@ pub(crate) fn prune_latest(m: &mut Mutator<'_, Store>, keep: u64, commits: u32) 
     newest.number
 }
 
-/// Cuts off what is older than is kept.
+/// Cuts off what is no longer kept.
 pub(crate) fn prune(m: &mut Mutator<'_, Store>, v: HeldVersion, keep: u64)
     requires inside { m.old.seat.me.presence.inside ≡ true }
     requires room { length m.old.seat.me.own.held + 129 ≤ m.old.seat.me.room }

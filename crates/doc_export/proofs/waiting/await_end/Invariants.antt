@@ -4,7 +4,7 @@ use Rattle.version_export.specs.Looks.{looks}
 use Rattle.version_store.specs.Lasts.{marks}
 use Rattle.doc_export.proofs.waiting.await_end.Given as goal
 
--- it has looked once a turn
+-- it looks once a turn
 abbrev pub invariant-loop-look : goal.invariant-loop-look
 invariant-loop-look g l = record {
   waits : Waits l.fn.m l.m;

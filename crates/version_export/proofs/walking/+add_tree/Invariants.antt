@@ -5,7 +5,7 @@ use Rattle.doc_tree.specs.Tree.{height}
 use Rattle.version_export.specs.Walks.{Walks}
 use Rattle.version_export.proofs.walking.+add_tree.Given as goal
 
--- Each call is for a tree that is less high.
+-- Each call is for a tree of smaller height.
 abbrev pub decreases-add_tree : goal.decreases-add_tree
 decreases-add_tree l = height (tree_at l.m.now l.minor.now (at.Shared l.place))
 

@@ -1,4 +1,4 @@
--- the commit where the write is made, and else that a version with this number is there
+-- the commit if the write is made, and otherwise that there is a version with this number
 use Rattle.version_store.proofs.Putting.{picks_made}
 use Rattle.version_store.proofs.committing.put_version.Given as goal
 

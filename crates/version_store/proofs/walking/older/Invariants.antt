@@ -1,4 +1,4 @@
--- a link that is null shows that newer versions are there
+-- a link that is null shows that there are newer versions
 use Rattle.version_rule.specs.Knowing.{link_seen}
 use Rattle.version_store.proofs.walking.older.Given as goal
 

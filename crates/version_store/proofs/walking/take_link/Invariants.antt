@@ -1,4 +1,4 @@
--- behind the store, or the read and the exchange, the link is cut, whoever cut it
+-- after the store, or the read and the exchange, the link is cut, whoever cut it
 use Rattle.heap_rule.specs.Asks.{known_of}
 use Rattle.version_rule.specs.Knowing.{link_cut, link_taken, number_told}
 use Rattle.version_store.proofs.walking.take_link.Given as goal
