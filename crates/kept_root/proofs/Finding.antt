@@ -1,4 +1,4 @@
--- What the reads of a mutator find: the box, what is kept in it, and the number of that.
+-- What the reads of a mutator find: the box, the record that is kept in it, and its number.
 use Rattle.std.proofs.Common.{◌≡◌, ◌<◌, ◌∷◌, ◌++◌, ℕ, List, [], length, Some, Option}
 use Rattle.std.proofs.Common.{refl, sym, ◌∙◌, ap, subst, arith}
 use mathlib.Core.Option.{some}
@@ -33,7 +33,7 @@ use Rattle.kept_root.specs.Rule.{HasKept, kept_term, number_record}
 use Rattle.kept_root.specs.declared.kept.Kept.{Kept}
 use Rattle.kept_root.proofs.Words.{anchor_word, box_in, kept_word, record_number}
 
--- a call that leaves the pass leaves what is kept
+-- a call that leaves the pass as it was leaves what is kept
 pub has_of : (pass : Kept) (a b : Bound Kept) → HasPass pass a b → Has pass.number a b
 has_of pass a b has = record {
   heap = has.heap;
@@ -41,7 +41,7 @@ has_of pass a b has = record {
   kept = ap (λ (p : Kept). p.number) has.pass_is;
 }
 
--- what was known of the box is known of it still
+-- what was known of the box is still known
 pub box_still : (a b : Bound Kept) (cells : List ℕ) → held_cells b ≡ held_cells a ++ cells
     → StillKnown no_field_is_fixed (known_of a.seat.me 1) (known_of b.seat.me 1)
     → HasBox a → HasBox b

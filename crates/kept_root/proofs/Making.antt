@@ -1,4 +1,4 @@
--- A record that is made: its fields, and what is held and known behind it.
+-- A record that is made: its fields, and what is held and known after it.
 use Rattle.std.proofs.Common.{◌≡◌, ◌<◌, ◌+◌, ◌∷◌, ℕ, List, [], length, ap, ◌∙◌}
 use Rattle.std.proofs.Common.{arith}
 use Rattle.std.proofs.lemmas.List.{get_or_append_left, get_or_push}

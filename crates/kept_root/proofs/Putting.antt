@@ -1,4 +1,4 @@
--- The writes of the box: the rule stands with the pass that is picked, and what they leave.
+-- The writes of the box: the rule holds with the pass that is picked, and what they leave.
 use Rattle.std.proofs.Common.{◌≡◌, ◌<◌, ℕ, Bool, true}
 use Rattle.std.proofs.Common.{false, List, Option, Some, None, length, slice_set, inl, inr}
 use Rattle.std.proofs.Common.{refl, sym, ◌∙◌, ap, subst, arith}
@@ -142,7 +142,7 @@ module _ (n : ℕ) (a : Bound Kept) (at : HoldsRecord n a) where
     spares = λ fixed. absurd cc;
   }
 
-  -- it stands at the write too
+  -- it holds at the write too
   module _ (m : Bound Kept) (kept : KeptAll a m) (first : a.seat.me.number ≡ 0) where
     box_at : target m.seat.me 1 ≡ 1
     box_at = cell_same m.seat.me.own.held a.seat.me.own.held kept.held 1 ∙ at.box.cell
@@ -187,7 +187,7 @@ module _ (n : ℕ) (a : Bound Kept) (at : HoldsRecord n a) where
 
   -- What it leaves.
 
-  -- the pass behind a write that was made, or was not
+  -- the pass after a write that was made, or was not
   module _ (b : Bound Kept) (old new : Value) (number : Option ℕ) (found : Field)
       (same : SamePlaces a b)
       (wrote : Updated HasKept no_field_is_fixed

@@ -43,7 +43,7 @@ down number a b c d first second third = record {
       (subst (λ (x : ℕ). Goes (gave_at x 0 (field.Num number) ∷ []) c d) second.held third);
 }
 
--- and what came behind them
+-- and what came after them
 pub reads_on : (number : ℕ) (a b c d : Bound Kept) → ReadsDown number a b → Goes [] b c
     → Goes [] c d → ReadsDown number a d
 reads_on number a b c d down second third = record {
@@ -79,7 +79,7 @@ ends_trail a b s e o p q first second =
           ∙ append_assoc a.seat.me.trail (end ∷ []) (over ∷ []),
     )
 
--- what is kept behind the call
+-- what is kept after the call
 
 pub kept_after : (kept : Bool) (number : ℕ) (a b c : Bound Kept)
     → OnTrue kept (Has (Some number) a b) → Has b.seat.me.pass.number b c

@@ -36,7 +36,7 @@ pub record HoldsSome (m : Bound Kept) : Type 0 where
   pub number : ℕ
   pub holds : HoldsRecord number m
 
--- it keeps a number
+-- it keeps some number
 pub record KeepsSome (m : Bound Kept) : Type 0 where
   pub number : ℕ
   pub is : m.seat.me.pass.number ≡ Some number

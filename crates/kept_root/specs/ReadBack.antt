@@ -30,7 +30,7 @@ pub record ReadsDown (number : ℕ) (old new : Bound Kept) : Type 0 where
   pub cell : ℕ
   pub reads : Goes (reads_down cell number) old new
 
--- what the box names was read, and is held behind it
+-- what the box names was read, and is held after it
 pub record ReadsBox (old new : Bound Kept) : Type 0 where
   pub cell : ℕ
   pub reads : Goes (gave_at 1 0 (field.Cell cell) ∷ []) old new
@@ -47,7 +47,7 @@ pub record WentOut (old new : Bound Kept) : Type 0 where
   pub back : Taken
   pub trail : new.seat.me.trail ≡ old.seat.me.trail ++ out ∷ back ∷ []
 
--- The trail shows that its mutator went out, and behind that such reads.
+-- The trail shows that its mutator went out, and after that such reads.
 pub record ReadBack (number : ℕ) (trail : List Taken) : Type 0 where
   pub who : ℕ
   pub before : List Taken

@@ -51,7 +51,7 @@ kept_shrinks old new passes smaller has =
       kept = has.kept;
     }
 
--- the pass behind a write, whether it was made or not
+-- the pass after a write, whether it was made or not
 abbrev pub keeping_if : Bool → Option ℕ → Kept → Kept
 keeping_if true number pass = record { number = number }
 keeping_if false number pass = pass

@@ -20,7 +20,7 @@ pub record AreWorkers (heap : HeapId) (queue : FreeQueue) (work : Blocking) : Ty
   pub second : IsWorker heap queue 1 work.second
   pub small : work.number < 1000000
 
--- The seats are over. What was read behind the call, if a number was kept before, is that number,
+-- The seats are over. What was read after the call, if a number was kept before, is that number,
 -- and the trail of the first shows that it was read.
 pub record Reports (heap : HeapId) (number : ℕ) (report : Report) : Type 0 where
   pub first : IsDone heap 0 report.left report.first

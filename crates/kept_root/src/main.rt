@@ -1,12 +1,13 @@
 //! A small embedding of the heap that shows how a root outlives a call that blocks. `end` drops
-//! every root of a mutator, so before the call a record is stored in a box that the anchor names;
-//! behind it the mutator begins again, and reads the box.
+//! every root of a mutator, so before the call a record is stored in a box that the anchor names.
+//! After the call the mutator begins again, and reads the box.
 //!
-//! There are two mutators, beside the collector on a thread of its own. The first makes a record of
-//! a number, keeps it, and calls what blocks: the second makes many more records than there are
-//! cells, so that its claims wait until the collector has freed some. With the first still in they
-//! would wait for ever. What the first reads behind the call is proved to be the number that it
-//! kept. How a thread is made for the collector is told in beside_collector.
+//! There are two mutators, and the collector on a thread of its own. The first mutator makes a
+//! record of a number, keeps it, and makes a call that blocks: the second mutator makes many more
+//! records than there are cells, so that its claims wait until the collector has freed some. If the
+//! first mutator were still in, they would wait for ever. It is proved that the first mutator reads
+//! after the call the number that it kept. How the collector gets its thread is told in
+//! beside_collector.
 //!
 //! Reading order: `kept`, specs/Rule, specs/Holding, `places`, `storing`, `wasting`, `working`,
 //! `closing`, specs/Leaving, `whole`, `main`.

@@ -1,5 +1,5 @@
-//! Coming in, going out, and what a mutator finds from the anchor on: the box, what stands in it,
-//! and the number of that.
+//! Coming in, going out, and what a mutator finds from the anchor on: the box, the record that is
+//! kept in it, and the number of that.
 ghost use Rattle.std.specs.Prelude.{◌≡◌, ◌∷◌, [], Some, ℕ};
 ghost use Rattle.cell_words.specs.declared.fields.Field.TheVariants as field;
 ghost use Rattle.heap_rule.specs.Asks.{target};
@@ -39,7 +39,7 @@ pub(crate) fn leave(m: Mutator<'_, Kept>) -> MutSeat<Kept>
     m.finish()
 }
 
-/// Holds the anchor alone.
+/// Holds only the anchor.
 pub(crate) fn let_go(m: &mut Mutator<'_, Kept>)
     requires loose { Loose 8 m.old }
     ensures rests { Rests 8 m.new }
@@ -49,7 +49,7 @@ pub(crate) fn let_go(m: &mut Mutator<'_, Kept>)
     m.cut(1);
 }
 
-/// Holds the box behind the anchor.
+/// Holds the box after the anchor.
 pub(crate) fn hold_box(m: &mut Mutator<'_, Kept>)
     requires rests { Rests 8 m.old }
     ensures found { HoldsBox m.new }
@@ -59,7 +59,7 @@ pub(crate) fn hold_box(m: &mut Mutator<'_, Kept>)
     let _ = m.read::<Brand>(0, 0);
 }
 
-/// Holds behind the box the record that is kept in it.
+/// Holds the record that is kept in the box, after the box.
 pub(crate) fn hold_kept(m: &mut Mutator<'_, Kept>)
     requires holds { HoldsBox m.old }
     requires first { m.old.seat.me.number ≡ 0 }
@@ -71,7 +71,7 @@ pub(crate) fn hold_kept(m: &mut Mutator<'_, Kept>)
     let _ = m.read::<Brand>(1, 0);
 }
 
-/// The number of the record that is held behind the box.
+/// The number of the record that is held after the box.
 pub(crate) fn read_number(m: &mut Mutator<'_, Kept>) -> u64
     requires holds { HoldsSome m.old }
     ensures number { (n : ℕ) → HoldsRecord n m.old → result ≡ n }

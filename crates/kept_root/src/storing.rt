@@ -1,9 +1,9 @@
 //! What is kept: a record of a number is made, put into the box, and taken out of it.
 //!
 //! Both writes are exchanges. The rule ties the field to the pass of the first mutator, which no
-//! other changes: where nothing is kept it is null, so the exchange of null for the record is made
-//! always. Of a record the rule says the term and not the cell; so taking it out may end otherwise,
-//! as far as is proved, and then it is kept still.
+//! other mutator changes: where nothing is kept the field is null, so the exchange of null for the
+//! record always succeeds. The rule fixes the term of a record and not its cell. So taking it out
+//! may fail, as far as is proved, and then it is still kept.
 ghost use Rattle.std.specs.Prelude.{◌≡◌, ◌<◌, [], None, Some};
 ghost use Rattle.std.specs.Bool.{OnFalse, OnTrue};
 ghost use Rattle.kept_root.specs.Holding.{Has, HoldsBox, HoldsRecord, HoldsSome};
@@ -17,7 +17,7 @@ use mutator_seat::{Mutator, Value};
 use std::marker::Brand;
 use std::sync::Wait;
 
-/// Makes the record of a number behind the box. It fails where the heap is full.
+/// Makes the record of a number, held after the box. It fails where the heap is full.
 pub(crate) fn make_record<R: Wait>(
     rt: &R,
     hints: &mut Hints<'_>,
@@ -43,7 +43,7 @@ pub(crate) fn make_record<R: Wait>(
     }
 }
 
-/// Keeps the record that is held behind the box: from now on the anchor leads to it.
+/// Keeps the record that is held after the box: from now on the anchor leads to it.
 pub(crate) fn keep(m: &mut Mutator<'_, Kept>, number: u64)
     requires holds { HoldsRecord number m.old }
     requires first { m.old.seat.me.number ≡ 0 }
@@ -58,7 +58,8 @@ pub(crate) fn keep(m: &mut Mutator<'_, Kept>, number: u64)
     }
 }
 
-/// Takes out of the box the record that is held behind it: what is kept for ever is never freed.
+/// Takes the record that is held after the box out of the box: what is kept for ever is never
+/// freed.
 pub(crate) fn forget(m: &mut Mutator<'_, Kept>) -> bool
     requires holds { HoldsSome m.old }
     requires first { m.old.seat.me.number ≡ 0 }

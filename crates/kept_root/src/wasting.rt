@@ -16,14 +16,14 @@ use std::sync::Wait;
 /// How many records it makes.
 const RECORDS: u32 = 500;
 
-/// What a mutator's thread has of its own.
+/// What a mutator's thread owns.
 #[derive(Drop)]
 pub(crate) struct Worker {
     pub(crate) seat: MutSeat<Kept>,
     pub(crate) pass: HintPass,
 }
 
-/// Comes to a safe point, makes a record, and lets it go. It tells how many it made.
+/// Comes to a safe point, makes a record, and drops it. It tells how many it made.
 fn waste_one<R: Wait>(rt: &R, hints: &mut Hints<'_>, m: &mut Mutator<'_, Kept>, number: u32) -> u64
     requires rests { Rests 8 m.old }
     requires small { number < 500 }
@@ -47,8 +47,8 @@ fn waste_one<R: Wait>(rt: &R, hints: &mut Hints<'_>, m: &mut Mutator<'_, Kept>, 
     made
 }
 
-/// Makes so many records and lets each go, by a mutator that comes in before and is over behind. It
-/// tells how many it made.
+/// Makes so many records and drops each, by a mutator that comes in before and is over afterwards.
+/// It tells how many it made.
 pub(crate) fn waste<R: Wait>(
     rt: &R,
     heap: &CellHeap<Kept>,

@@ -1,4 +1,5 @@
-//! The whole run: a heap is opened, the mutators work beside the collector, and it is closed.
+//! The whole run: a heap is opened, the mutators and the collector work on it concurrently, and it
+//! is closed.
 ghost use Rattle.std.specs.Prelude.{◌≡◌, IfOk, IfSome};
 ghost use Rattle.kept_root.specs.Leaving.{Leaves};
 ghost use Rattle.kept_root.specs.ReadBack.{WasReadBack};
@@ -28,7 +29,7 @@ pub(crate) struct Ran {
     /// the closed heap, and what its collector knew
     pub(crate) image: Image,
     pub(crate) passes: Passes<Kept>,
-    /// what was read behind the call, if a number was kept before
+    /// what was read after the call, if a number was kept before
     pub(crate) found: Option<u64>,
     /// what is kept at the close
     pub(crate) left: Option<u64>,
@@ -36,7 +37,7 @@ pub(crate) struct Ran {
     pub(crate) made: u64,
 }
 
-/// A number is kept over a call that blocks, on a new heap beside its collector.
+/// A number is kept over a call that blocks, on a new heap whose collector runs alongside.
 #[tactic(auto, using(crate::proofs::Reading::found_back))]
 pub(crate) fn run<R: Threads + Wait + Sync>(alloc: Global, rt: &R) -> Result<Ran, NoMemory>
     ensures found { IfOk result (λ ran. IfSome ran.found

@@ -1,4 +1,4 @@
-//! What the first mutator does: it keeps a record over a call that blocks, and reads it behind.
+//! What the first mutator does: it keeps a record over a call that blocks, and reads it afterwards.
 ghost use Rattle.std.specs.Prelude.{◌≡◌, ◌<◌, IfNone, IfSome, None, Some, ℕ};
 ghost use Rattle.std.specs.Bool.{OnFalse, OnTrue};
 ghost use Rattle.free_cells.specs.declared.queue.FreeQueue.{FreeQueue as Queue};
@@ -46,7 +46,7 @@ fn keep_number<R: Wait>(
     made
 }
 
-/// Goes out for the call that blocks, and comes in behind it. No root of the mutator outlives that;
+/// Goes out for the call that blocks, and comes in after it. No root of the mutator outlives that;
 /// what the anchor leads to does.
 fn over_call<R: Wait>(
     rt: &R,
@@ -68,7 +68,7 @@ fn over_call<R: Wait>(
     done
 }
 
-/// Reads from the anchor down what is kept: it is held behind, and its number is told.
+/// Reads from the anchor down what is kept: it is held afterwards, and its number is told.
 fn read_back(m: &mut Mutator<'_, Kept>) -> u64
     requires rests { Rests 8 m.old }
     requires first { m.old.seat.me.number ≡ 0 }
@@ -89,15 +89,15 @@ pub(crate) struct Report {
     /// the seats of both, which are over
     pub(crate) first: MutSeat<Kept>,
     pub(crate) second: MutSeat<Kept>,
-    /// what was read behind the call, if a number was kept before
+    /// what was read after the call, if a number was kept before
     pub(crate) found: Option<u64>,
-    /// what is kept still
+    /// what is still kept
     pub(crate) left: Option<u64>,
     /// how many records were made during the call
     pub(crate) made: u64,
 }
 
-/// Reads what was kept, and takes it out of the box. It tells the number, and what is kept still.
+/// Reads what was kept, and takes it out of the box. It tells the number, and what is still kept.
 #[tactic(auto, using(crate::proofs::Reading::reads_on))]
 fn take_back(m: &mut Mutator<'_, Kept>) -> (u64, Option<u64>)
     requires rests { Rests 8 m.old }
@@ -114,8 +114,8 @@ fn take_back(m: &mut Mutator<'_, Kept>) -> (u64, Option<u64>)
     (number, if gone { None } else { Some(number) })
 }
 
-/// Reads what was kept, if something was, and takes it out of the box. It tells the number, and what
-/// is kept still.
+/// Reads what was kept, if something was, and takes it out of the box. It tells the number, and
+/// what is still kept.
 fn read_kept(m: &mut Mutator<'_, Kept>, kept: bool, number: u64) -> (Option<u64>, Option<u64>)
     requires rests { Rests 8 m.old }
     requires first { m.old.seat.me.number ≡ 0 }
@@ -137,7 +137,7 @@ fn read_kept(m: &mut Mutator<'_, Kept>, kept: bool, number: u64) -> (Option<u64>
     }
 }
 
-/// Keeps a number over a call that blocks, and reads it behind.
+/// Keeps a number over a call that blocks, and reads it afterwards.
 #[tactic(auto, using(crate::proofs::Reading::kept_after, crate::proofs::Reading::none_after))]
 fn work<R: Wait>(
     rt: &R,
@@ -166,7 +166,7 @@ fn work<R: Wait>(
     }
 }
 
-/// The work of both mutators, beside the collector.
+/// The work of both mutators, alongside the collector.
 #[derive(Drop)]
 pub(crate) struct Blocking {
     pub(crate) first: Worker,

@@ -51,7 +51,7 @@ abbrev pub found_field : Found → Field
 found_field (finds.Field f) = f
 found_field _ = word.Null
 
--- an entry that is a record is a cell's
+-- if the entry is a record's term, that is the term of the cell
 pub named_term : (c : ℕ) (t : Option Term) (u : Term) → named_or c t ≡ Plain u → t ≡ Some u
 named_term c None u is = absurd cc
 named_term c (Some t) u is = ap (λ (e : Entry). Some (term_of e)) is

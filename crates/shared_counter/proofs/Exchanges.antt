@@ -39,7 +39,7 @@ or_right : (a b : Bool) → b ≡ true → (a || b) ≡ true
 or_right true b is = refl
 or_right false b is = is
 
--- what is known behind a write of the anchor
+-- what is known after a write of the anchor
 record Front (known : List Known) : Type 0 where
   first : Known
   more : List Known

@@ -1,4 +1,4 @@
--- The counter's rule over boxes: what it says of the anchor, and that it stands behind an exchange.
+-- The counter's rule over boxes: what it says of the anchor, and that it holds after an exchange.
 use Rattle.std.proofs.Common.{◌≡◌, ◌∙◌, ◌+◌, ◌∷◌, ℕ, List, [], Bool, true, false, Option}
 use Rattle.std.proofs.Common.{Some, None, ap, sym, subst, refl, slice_set}
 use Rattle.std.specs.Prelude.{slice_index_or}

@@ -21,7 +21,7 @@ pub record Holds (cells : List ℕ) (more : List Known) (m : Bound Added) : Type
   pub known : m.seat.me.known ≡ first ∷ more
   pub room : m.seat.me.room ≡ 8
 
--- the anchor alone
+-- only the anchor
 abbrev pub Rests : Bound Added → Type 0
 Rests m = Holds [] [] m
 
@@ -68,7 +68,7 @@ pub record IsDone (heap : HeapId) (number sum : ℕ) (seat : SeatView Added) : T
   pub pass_is : seat.me.pass ≡ record { sum = sum }
   pub few : sum ≤ 4294967295
 
--- who adds has a private heap of one record besides
+-- a thread that adds also has a private heap of one record
 pub record IsAdder (heap : HeapId) (queue : FreeQueue) (number : ℕ) (adder : Adder) : Type 0 where
   pub worker : IsWorker heap queue number 8 (record { sum = 0 }) adder.worker
   pub minor : adder.nursery.minor.room ≡ 1

@@ -48,7 +48,8 @@ one_more false pass = pass
 abbrev pub adding : Field → Learned → Found → Added → Added
 adding old learned found pass = one_more (was_made old found) pass
 
--- The number that a field is, that of the record which a field names, and so of the anchor.
+-- The number in a field; that of the record which a field names; and that of the record which the
+-- anchor names.
 
 abbrev pub number_in : Field → Option ℕ
 number_in field.Null = None

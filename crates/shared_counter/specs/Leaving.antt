@@ -11,7 +11,7 @@ use Rattle.beside_collector.specs.Freed.{freed_by}
 use Rattle.shared_counter.specs.declared.counter.Added.{Added}
 
 -- A heap of so many cells and of four mutators was closed, by a collector that is off duty and has
--- freed so many cells: the counter of its last state is what the passes sum to, and that is this
+-- freed so many cells. The counter of its last state is the sum of the passes, and that is this
 -- number.
 pub record Leaves (cells sum freed : ℕ) (image : ImageView) (view : View Added) : Type 0 where
   pub shape : Shape

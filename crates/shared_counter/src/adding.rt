@@ -16,7 +16,7 @@ use promotion::Promoter;
 use std::marker::Brand;
 use std::sync::Wait;
 
-/// The greatest counter that is added to.
+/// The greatest number that is added to.
 const GREATEST: u64 = 1_000_000;
 
 /// The private heap of a thread, and what promotion needs.
@@ -59,7 +59,7 @@ fn read_anchor(m: &mut Mutator<'_, Added>) -> Value
     m.read::<Brand>(0, 0)
 }
 
-/// Reads its number.
+/// Reads the number of that record.
 fn read_record(m: &mut Mutator<'_, Added>) -> Value
     requires some { HoldsSome m.old }
     ensures found { IfNumber result (λ count. HoldsCount count m.new) (Loose m.new) }
@@ -68,7 +68,7 @@ fn read_record(m: &mut Mutator<'_, Added>) -> Value
     m.read::<Brand>(1, 0)
 }
 
-/// Holds the anchor alone.
+/// Holds only the anchor.
 fn let_go(m: &mut Mutator<'_, Added>)
     requires loose { Loose m.old }
     ensures rests { Rests m.new }
@@ -138,7 +138,7 @@ fn exchange(m: &mut Mutator<'_, Added>, count: u64) -> u64
     }
 }
 
-/// Adds one to the counter, which was read, if nobody else does meanwhile.
+/// Adds one to the counter that was read, if nobody else adds meanwhile.
 fn add_to<R: Wait>(
     rt: &R,
     hints: &mut Hints<'_>,
@@ -190,8 +190,8 @@ fn try_to_add<R: Wait>(
     added
 }
 
-/// A thread's whole life: it comes in, tries so many times to add to the counter, and goes. It tells
-/// how much it has added.
+/// A thread's whole life: it comes in, tries so many times to add to the counter, and leaves. It
+/// tells how much it has added.
 pub(crate) fn work<R: Wait>(
     rt: &R,
     heap: &CellHeap<Added>,

@@ -1,13 +1,13 @@
-//! A small embedding of the heap: four threads add to one counter, beside the collector on a
+//! A small embedding of the heap: four threads add to one counter, alongside the collector on a
 //! thread of its own. There are far fewer cells than the records that they make.
 //!
 //! The counter is a record that the anchor names. To add one, a thread makes a record of the next
 //! number in its private heap, promotes it, and exchanges the record that the anchor names. The
-//! rule of the client, `counter`, says that the counter is the sum of what the mutators have added;
-//! from the passes at the close it is proved that this is what the threads count on their own.
+//! rule of the client, `counter`, says that the counter is the sum of what the mutators have added.
+//! From the passes at the close it is proved that this is what the threads count on their own.
 //!
-//! What is the same under any rule stands in mutator_threads: how a heap with four mutators opens,
-//! how four threads are made beside the collector's, and how the heap closes.
+//! What is the same under any rule is in mutator_threads: how a heap with four mutators opens, how
+//! four threads are made alongside the collector's, and how the heap closes.
 //!
 //! Reading order: `counter`, specs/Counting, `adding`, specs/Adding, `running`, `closing`,
 //! specs/Leaving, `whole`, `main`.

@@ -16,7 +16,7 @@ use std::sync::Wait;
 /// How often each thread tries to add one.
 const TRIES: u32 = 200;
 
-/// What a thread that adds has of its own.
+/// What a thread that adds owns.
 #[derive(Drop)]
 pub(crate) struct Adder {
     pub(crate) worker: Worker<Added>,

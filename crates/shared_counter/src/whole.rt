@@ -1,4 +1,4 @@
-//! The whole run: a heap is opened, four threads add beside the collector, and it is closed.
+//! The whole run: a heap is opened, four threads add alongside the collector, and it is closed.
 ghost use Rattle.std.specs.Prelude.{◌≡◌, IfOk, Some};
 ghost use Rattle.core_machine.specs.State.{State};
 ghost use Rattle.heap_table.specs.Images.{Shows};
@@ -54,7 +54,7 @@ pub(crate) struct Ran {
     pub(crate) freed: u64,
 }
 
-/// Four threads add to the counter of a new heap, beside the collector.
+/// Four threads add to the counter of a new heap, alongside the collector.
 pub(crate) fn run<R: Threads + Wait + Sync>(alloc: Global, rt: &R) -> Result<Ran, NoMemory>
     ensures leaves { IfOk result (λ ran. Leaves 64 ran.sum ran.freed ran.image ran.passes) }
     ensures counter { IfOk result (λ ran. ran.counter ≡ Some ran.sum) }

@@ -33,7 +33,7 @@ use Rattle.cell_making.proofs.Resting.{has_goes, loose_goes}
 use Rattle.shared_list.specs.Pushing.{HoldsFound, HoldsNewest, IsFound}
 use Rattle.shared_list.proofs.Settled.{named_settled}
 
--- a read holds one cell at most
+-- a read holds at most one cell
 one_found : (w : Field) → length (cells_found w) ≤ 1
 one_found field.Null = omega arith
 one_found (field.Num n) = omega arith

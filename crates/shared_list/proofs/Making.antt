@@ -127,7 +127,7 @@ module _ (a : Bound NoRule) (newest : Value) (node : ℕ) (at : HoldsNode newest
     spares = λ fixed. at.loose.is_in.anchor;
   }
 
-  -- no rule has to stand
+  -- no rule has to hold
   pub picks_exchange : PicksUpdate anything_holds no_field_is_fixed same_pass a 0 0 newest
       (values.Held node)
   picks_exchange m kept presence s l passes mine happens proper pass holds = tt

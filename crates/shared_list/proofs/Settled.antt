@@ -1,5 +1,5 @@
 -- What a field of a reachable cell names, under any rule: the anchor, a record, or a box that is
--- not fresh. So a read tells of each cell but the anchor that it is sealed.
+-- not fresh. So a read tells of each cell other than the anchor that it is sealed.
 use Rattle.std.proofs.Common.{◌≡◌, ◌≢◌, ◌==◌, ℕ, Bool, true, Option, Some, None, inl, inr}
 use Rattle.std.proofs.Common.{refl, ◌∙◌, ap, subst}
 use Rattle.std.proofs.lemmas.Bool.{or_cases}

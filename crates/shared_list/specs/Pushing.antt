@@ -19,7 +19,7 @@ IsFound v (values.Num n) = Unit {0}
 IsFound v (values.Held place) = (place < length v.own.held)
     × (target v place ≢ 0 → settled (known_of v place) ≡ true)
 
--- beside the anchor what the read found is held, if it is a cell
+-- what the read found is held in addition to the anchor, if it is a cell
 pub record HoldsFound (found : Value) (m : Bound NoRule) : Type 0 where
   pub loose : Loose 8 m
   pub few : length m.seat.me.own.held ≤ 2

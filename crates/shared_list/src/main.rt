@@ -6,10 +6,10 @@
 //! and a node that names both, and exchanges what the anchor names. Where another thread was
 //! faster, what it made is garbage.
 //!
-//! With `NoRule` nothing is said of what boxes mean, and nothing of that has to be proved. The
-//! contracts have the plain conditions of the calls: which places are held, and that a cell which
-//! is written is known to be sealed. That no reachable cell is ever free is proved all the same,
-//! once for every program. That the list has all that was pushed is not proved: `main` looks it up.
+//! `NoRule` says nothing of what boxes mean, so nothing of that has to be proved. The contracts
+//! have the plain conditions of the calls: which places are held, and that a cell which is written
+//! is known to be sealed. That no reachable cell is ever free is proved all the same, once for
+//! every program. That the list has all that was pushed is not proved: `main` checks it.
 //!
 //! Reading order: `pushing`, specs/Pushing, `listing`, `whole`, `main`.
 #![tactic(auto)]

@@ -23,7 +23,7 @@ fn enter<'a>(heap: &'a CellHeap<NoRule>, seat: MutSeat<NoRule>) -> Mutator<'a, N
     ensures number { result.seat.me.number ≡ seat.me.number }
 {
     let m = come_in(heap, seat);
-    // Who is in holds the anchor at place 0.
+    // A mutator that is in holds the anchor at place 0.
     let _held = m.held_len();
     m
 }
@@ -168,7 +168,7 @@ fn push<R: Wait>(
     }
 }
 
-/// Comes to a safe point, tries once to push a node, and then holds the anchor alone.
+/// Comes to a safe point, tries once to push a node, and then holds only the anchor.
 fn try_to_push<R: Wait>(
     rt: &R,
     hints: &mut Hints<'_>,
@@ -188,7 +188,7 @@ fn try_to_push<R: Wait>(
     pushed
 }
 
-/// A thread's whole life: it comes in, tries so many times to push a node, and goes. It tells how
+/// A thread's whole life: it comes in, tries so many times to push a node, and leaves. It tells how
 /// many it has pushed.
 pub(crate) fn work<R: Wait>(
     rt: &R,

@@ -95,7 +95,7 @@ module _ (number : ℕ) (a : Bound Appended) (at : HoldsNext number a) where
     spares = λ fixed. at.loose.is_in.anchor;
   }
 
-  -- what it needs stands at the write too
+  -- what it needs holds at the write too
   may_at : (m : Bound Appended) → Kept a m → MayAppend m.seat.me 1 2 number
   may_at m kept =
       let held : held_cells m ≡ held_cells a ++ [] = kept.held ∙ sym (append-nil (held_cells a)) in

@@ -40,7 +40,7 @@ appends_none a b has = record {
   pass = has.pass_is ∙ none_more a.seat.me.pass;
 }
 
--- What was known of an entry is known of it still.
+-- What was known of an entry is still known.
 
 pub entry_still : (a b : Bound Appended) (cells : List ℕ)
     → held_cells b ≡ held_cells a ++ cells → (place number : ℕ)

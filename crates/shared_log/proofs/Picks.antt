@@ -1,5 +1,5 @@
--- The exchange of an append: the rule stands with the pass that is picked, whether it was made or
--- not; and what a mutator's knowledge of an entry says of the map.
+-- The exchange of an append: the rule holds with the pass that is picked, whether the exchange was
+-- made or not; and what a mutator's knowledge of an entry says of the map.
 use Rattle.std.proofs.Common.{◌≡◌, ℕ, Bool, true, false, List, Some, slice_set, refl}
 use Rattle.std.proofs.Common.{sym, ◌∙◌, ap, subst, arith}
 use mathlib.Core.Option.{some}

@@ -18,7 +18,7 @@ pub record HoldsSome (m : Bound Appended) : Type 0 where
   pub number : ℕ
   pub holds : HoldsEntry number m
 
--- and a fresh box for the entry behind it
+-- and a fresh box for the entry after it
 pub record HoldsNext (number : ℕ) (m : Bound Appended) : Type 0 where
   pub loose : Loose 8 m
   pub may : MayAppend m.seat.me 1 2 number

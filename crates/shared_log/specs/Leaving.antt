@@ -19,7 +19,7 @@ pub record NamesFirst (s : State) (from : Field) : Type 0 where
   pub number_is : field_of s cell 0 ≡ field.Num 0
   pub none_before : field_of s cell 1 ≡ field.Null
 
--- or this writer's entry, behind those of these writers
+-- or this writer's entry, after those of these writers
 pub record NamesEntry (s : State) (from : Field) (writer : ℕ) (writers : List ℕ) : Type 0 where
   pub cell : ℕ
   pub from_is : from ≡ field.Cell cell
@@ -33,7 +33,7 @@ LogFrom s from [] = NamesFirst s from
 LogFrom s from (writer ∷ writers) =
     (entry : NamesEntry s from writer writers) × LogFrom s (field_of s entry.cell 1) writers
 
--- how many boxes field 1 leads through from here on, if so many are looked at
+-- how many boxes field 1 leads through from here on, counting at most so many
 abbrev pub boxes_from : ℕ → State → Field → ℕ
 boxes_from zero s from = 0
 boxes_from (suc n) s field.Null = 0
@@ -54,8 +54,8 @@ abbrev pub all_of : Counts → ℕ
 all_of counts = counts.first + counts.second + counts.third + counts.fourth
 
 -- A heap of so many cells and of four mutators was closed, by a collector that is off duty and has
--- freed so many cells: the anchor of its last state names the newest entry of a log, which has as
--- many entries as the four have appended, and of each of them as many as it has.
+-- freed so many cells. The anchor of its last state names the newest entry of a log. The log has as
+-- many entries as the four have appended, and of each of them as many as it has appended.
 pub record Leaves (cells : ℕ) (counts : Counts) (freed : ℕ) (image : ImageView)
     (view : View Appended) : Type 0 where
   pub shape : Shape

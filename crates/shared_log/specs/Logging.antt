@@ -44,7 +44,7 @@ pub record IsFirst (map : Map) (cell : ℕ) : Type 0 where
   pub has : HasNumber map cell 0
   pub before_is : has.box 1 ≡ Plain null
 
--- it is this writer's entry, behind those of these writers
+-- it is this writer's entry, after those of these writers
 pub record IsEntry (map : Map) (cell writer : ℕ) (writers : List ℕ) : Type 0 where
   pub has : HasNumber map cell (length (writer ∷ writers))
   pub before : ℕ
@@ -61,8 +61,8 @@ Chain map cell (writer ∷ writers) =
 abbrev pub sum_of : List Appended → ℕ
 sum_of passes = sum_by (λ (pass : Appended). pass.count) passes
 
--- The anchor names the newest entry, there are as many as all mutators appended, and each one's are
--- as many as it appended.
+-- The anchor names the newest entry. There are as many entries as all mutators appended, and of
+-- each mutator as many as it appended.
 pub record KeepsLog (map : Map) (passes : List Appended) : Type 0 where
   pub writers : List ℕ
   pub anchor : Payload
@@ -92,12 +92,13 @@ pub record KnowsEntry (v : View Appended) (place number : ℕ) : Type 0 where
   pub known : known_of v place ≡ knows.Boxed told
   pub number_is : slice_index_or told 0 None ≡ Some (num number)
 
--- the fields of the box behind the one at this cell
+-- the fields of the box for the entry after the one at this cell
 abbrev pub entry_fields : ℕ → ℕ → ℕ → ℕ → List Field
 entry_fields before number writer own =
     field.Num (number + 1) ∷ field.Cell before ∷ field.Num writer ∷ field.Num own ∷ field.Null ∷ []
 
--- A fresh box with these fields. Whether the entry before it is still the newest the write asks.
+-- A fresh box with these fields. The write itself checks that the entry before it is still the
+-- newest.
 pub record MayAppend (v : View Appended) (place box number : ℕ) : Type 0 where
   pub held : KnowsEntry v place number
   pub box_there : box < length v.own.held

@@ -1,4 +1,4 @@
--- The law of the rule: a chain from a box that is still there is there still, since a smaller map
+-- The law of the rule: a chain from a box that is still there is still there, since a smaller map
 -- has with each box those that it names.
 -- Source: this project's.
 use Rattle.std.specs.Prelude.{ℕ, ◌≡◌, List, [], ◌∷◌, length, Some}
@@ -14,8 +14,8 @@ pub has_number : (map : Map) (cell : ℕ) (writers : List ℕ) → Chain map cel
 has_number map cell [] first = first.has
 has_number map cell (writer ∷ writers) (entry, rest) = entry.has
 
--- A chain is in a new map too if its first box is, and if with each box the numbered one is that it
--- names in field 1.
+-- A chain is in a new map too if its first box is, and if the new map has with each box the
+-- numbered one that it names in field 1.
 module _ (old new : Map)
     (named : (cell before n : ℕ) (box : Payload) → new cell ≡ Some box → box 1 ≡ Named before
     → HasNumber old before n → new before ≡ old before) where

@@ -14,7 +14,7 @@ use mutator_seat::{MutSeat, Mutator, Value};
 use std::marker::Brand;
 use std::sync::Wait;
 
-/// No log is longer than that.
+/// No log is longer than this.
 const GREATEST: u64 = 1_000_000;
 
 /// The mutator of the seat, in.
@@ -41,7 +41,7 @@ fn leave(m: Mutator<'_, Appended>) -> MutSeat<Appended>
     m.finish()
 }
 
-/// Reads which entry is the newest. It is held behind the anchor.
+/// Reads which entry is the newest. It is held after the anchor.
 fn read_newest(m: &mut Mutator<'_, Appended>)
     requires rests { Rests 8 m.old }
     ensures found { HoldsSome m.new }
@@ -62,7 +62,7 @@ fn read_number(m: &mut Mutator<'_, Appended>) -> u64
     }
 }
 
-/// Holds the anchor alone.
+/// Holds only the anchor.
 fn let_go(m: &mut Mutator<'_, Appended>)
     requires loose { Loose 8 m.old }
     ensures rests { Rests 8 m.new }
@@ -71,7 +71,7 @@ fn let_go(m: &mut Mutator<'_, Appended>)
     m.cut(1);
 }
 
-/// Makes a box for the entry behind the one that is held. It fails where the heap is full.
+/// Makes a box for the entry after the one that is held. It fails where the heap is full.
 fn make_entry<R: Wait>(
     rt: &R,
     hints: &mut Hints<'_>,
@@ -117,7 +117,7 @@ fn exchange(m: &mut Mutator<'_, Appended>, number: u64) -> u64
     }
 }
 
-/// Tries once to append an entry behind the newest one.
+/// Tries once to append an entry after the newest one.
 fn append_behind<R: Wait>(
     rt: &R,
     hints: &mut Hints<'_>,
@@ -166,7 +166,7 @@ fn try_to_append<R: Wait>(
     appended
 }
 
-/// A thread's whole life: it comes in, tries so many times to append an entry, and goes. It tells
+/// A thread's whole life: it comes in, tries so many times to append an entry, and leaves. It tells
 /// how many it has appended.
 pub(crate) fn work<R: Wait>(
     rt: &R,

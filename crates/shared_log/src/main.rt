@@ -1,12 +1,13 @@
-//! A small embedding of the heap with boxes that name boxes: four threads append to one log, beside
-//! the collector on a thread of its own. What shared_counter shows is not told again here.
+//! A small embedding of the heap with boxes that name boxes: four threads append to one log,
+//! alongside the collector on a thread of its own. What shared_counter shows is not repeated here.
 //!
-//! The log is a chain of boxes. The anchor names the newest entry, and each entry the one before it,
-//! down to the box that the log opened with. To append one, a thread reads which entry is the newest
-//! and what number it has, makes a fresh box behind it, and exchanges the entry that the anchor
-//! names. Where another thread was faster the box is garbage, and the next try makes another. The
-//! rule of the client, `log`, says what the chain has of each mutator; from the passes at the close it
-//! is proved that the chain in the closed heap has what the threads count on their own.
+//! The log is a chain of boxes. The anchor names the newest entry, and each entry the one before
+//! it, down to the box that the log opened with. To append an entry, a thread reads which entry is
+//! the newest and what number it has, makes a fresh box that names it, and exchanges the entry that
+//! the anchor names. Where another thread was faster the box is garbage, and the next try makes
+//! another. The rule of the client, `log`, says which entries of the chain are each mutator's. From
+//! the passes at the close it is proved that the chain in the closed heap has what the threads
+//! count on their own.
 //!
 //! Reading order: `log`, specs/Logging, Shrinks, `appending`, specs/Appending, `running`,
 //! `closing`, specs/Leaving, `whole`, `main`.

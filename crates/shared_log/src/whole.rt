@@ -1,4 +1,4 @@
-//! The whole run: a heap is opened, four threads append beside the collector, and it is closed.
+//! The whole run: a heap is opened, four threads append alongside the collector, and it is closed.
 ghost use Rattle.std.specs.Prelude.{◌≡◌, ◌<◌, ◌≤◌, ◌+◌, IfOk};
 ghost use Rattle.core_machine.specs.State.{State, field_of};
 ghost use Rattle.heap_table.specs.Images.{Shows};
@@ -20,7 +20,7 @@ use std::thread::Threads;
 /// How many cells there are: enough for what the threads append, not for all boxes that they make.
 const CELLS: u32 = 1000;
 
-/// How many boxes the log has, from the newest entry on, if so many are looked at.
+/// How many boxes the log has, from the newest entry on, counting at most so many.
 fn count_boxes(image: &Image, most: u64) -> u64
     ensures boxes { (s : State) → Shows image.now s
         → result ≡ boxes_from most s (field_of s 0 0) }
@@ -66,7 +66,7 @@ pub(crate) struct Ran {
     pub(crate) freed: u64,
 }
 
-/// Four threads append to the log of a new heap, beside the collector.
+/// Four threads append to the log of a new heap, alongside the collector.
 pub(crate) fn run<R: Threads + Wait + Sync>(alloc: Global, rt: &R) -> Result<Ran, NoMemory>
     ensures leaves { IfOk result (λ ran. Leaves 1000
         (four ran.counts.0 ran.counts.1 ran.counts.2 ran.counts.3)

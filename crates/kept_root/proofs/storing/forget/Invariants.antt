@@ -1,4 +1,4 @@
--- the pass is that that nothing is kept, where it is taken out
+-- the pass then says that nothing is kept, if the record was taken out
 use Rattle.mutator_events.specs.Values.{field_at}
 use Rattle.kept_root.specs.Rule.{number_of, putting}
 use Rattle.kept_root.proofs.storing.forget.Given as goal

@@ -1,4 +1,4 @@
--- the pass is that of the record that is put in, where it is
+-- the pass then says that the record's number is kept, if it was put in
 use Rattle.mutator_events.specs.Values.{field_at}
 use Rattle.kept_root.specs.Rule.{number_of, putting}
 use Rattle.kept_root.proofs.storing.keep.Given as goal
