@@ -1,4 +1,4 @@
--- Heaps that open with boxes alone: none of their cells has a term.
+-- Heaps that open with boxes only: none of their cells has a term.
 use Rattle.std.proofs.Common.{◌∷◌, ℕ, zero, suc, List, [], None, refl}
 use Rattle.cell_words.specs.declared.fields.Field.{Field}
 use Rattle.cell_words.specs.declared.fields.Field.TheVariants as field

@@ -176,7 +176,7 @@ fn real_files_are_read(rt: HostRuntime) {
     assert_eq!(rt; really_read(rt.alloc(), &rt, names), wanted);
 }
 
-/// How many bytes are read behind two openings, and what a third meets.
+/// How many bytes are read after two openings, and what a third meets.
 fn opened_again<R: RealFiles>(files: &R) -> Result<(usize, Result<(), OutFault>), OutFault> {
     let mut shelf = FileShelf::new(files);
     shelf.open("/dev/null")?;
@@ -211,7 +211,7 @@ impl Print for FullPrinter {
 }
 
 /// What each call of a sink on a full device answers: the finish of nothing, three writes and the
-/// finish behind them.
+/// finish after them.
 #[derive(Clone, Copy, Debug, PartialEq, Eq)]
 struct Answers {
     finish: [Result<(), OutFault>; 2],
@@ -230,7 +230,7 @@ fn answers_when_full(alloc: Global) -> Result<Answers, AllocError> {
     })
 }
 
-// A full device shows itself when what is gathered is written out, and not before.
+// A full device fails when what is gathered is written out, and not before.
 #[test]
 fn a_full_device_fails_the_write_that_meets_it(rt: HostRuntime) -> Result<(), Fail> {
     let failed = Err(OutFault::Failed);
@@ -242,7 +242,7 @@ fn a_full_device_fails_the_write_that_meets_it(rt: HostRuntime) -> Result<(), Fa
     Ok(())
 }
 
-/// What an empty write and the finish behind a line answer.
+/// What an empty write and the finish after a line answer.
 fn std_answers<R: Print>(
     alloc: Global,
     out: &R,

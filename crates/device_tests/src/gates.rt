@@ -1,7 +1,7 @@
 use outside::{AfterGate, CrossGate, Gate, HoldGate, OpenGate};
 use std::thread;
 
-// As many looks as no thread needs to begin.
+// As many looks as no thread needs before it begins.
 const MANY: u64 = 100_000_000;
 
 #[test]
@@ -73,7 +73,7 @@ fn a_gate_holds_one_command_for_so_many_turns(rt: HostRuntime) {
     );
 }
 
-// The number 0 is no client's, and waits for one reply alone.
+// The number 0 is no client's, and waits only for one reply.
 #[test]
 fn a_gate_holds_one_command_until_another_has_its_reply(rt: HostRuntime) {
     let gate = AfterGate::new(1, 2);

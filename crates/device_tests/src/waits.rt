@@ -3,7 +3,7 @@ use thread_waits::{Backoff, wait, wait_piece};
 
 const PIECES: u32 = 10_000;
 
-// So many pieces take some 40 milliseconds, and a loop that the compiler threw away takes none.
+// So many pieces take some 40 milliseconds, and a loop that the compiler removed takes none.
 #[test]
 fn a_wait_takes_its_time(rt: HostRuntime) {
     let Ok(start) = Instant::now(&rt) else {
@@ -17,8 +17,8 @@ fn a_wait_takes_its_time(rt: HostRuntime) {
     assert!(rt; took >= Duration::from_millis(5), "{took:?}");
 }
 
-// Two threads that lost to the same winner wait for different times, and after a second loss
-// longer ones.
+// Two threads that lost to the same winner wait for different times, and for longer ones after a
+// second loss.
 #[test]
 fn who_lost_waits_at_random(rt: HostRuntime) {
     let mut first = Backoff::new(1);

@@ -4,7 +4,7 @@ use run_words::*;
 use std::alloc::{AllocError, Global};
 use std::test::Fail;
 
-// The words of a line, which stand between single spaces.
+// The words of a line, which are separated by single spaces.
 fn words_of(alloc: Global, line: &str) -> Result<Vec<String>, AllocError> {
     let mut words = Vec::new(alloc);
     for word in line.split(' ') {

@@ -22,7 +22,7 @@ const CALLS: u64 = 20;
 type Row = (u8, Option<Fault>, u64, usize);
 
 fn row_of(outcome: &Outcome, calls: u64, written: &[u8]) -> Row {
-    // No byte is ever another than the output's.
+    // What is written has to be a front of the output.
     let wrong = !OUTPUT.starts_with(written);
     let bytes = if wrong { usize::MAX } else { written.len() };
     (outcome.status, outcome.fault, calls, bytes)
@@ -41,8 +41,8 @@ fn shelf_failing_at<R: Threads + Wait + Sync>(
     Ok(row_of(&outcome, shelf.calls(), sink.written()))
 }
 
-/// The first of these calls of the shelf whose failure shows something else than a read fault with
-/// nothing written.
+/// The first of these calls of the shelf whose failure shows anything but a read fault with nothing
+/// written.
 fn first_wrong_read<R: Threads + Wait + Sync>(
     alloc: Global,
     rt: &R,
@@ -82,8 +82,8 @@ fn sink_failing_at<R: Threads + Wait + Sync>(
     Ok(row_of(&outcome, sink.calls(), sink.written()))
 }
 
-/// The first call of the sink whose failure shows something else than a write fault, with as many
-/// bytes written as calls went before it.
+/// The first call of the sink whose failure shows anything but a write fault, with as many bytes
+/// written as calls went before it.
 fn first_wrong_write<R: Threads + Wait + Sync>(
     alloc: Global,
     rt: &R,
@@ -111,7 +111,7 @@ fn a_piece_that_is_not_offered_does_not_fail(rt: HostRuntime) -> Result<(), Fail
     Ok(())
 }
 
-/// What a run of two files shows of which the second is absent.
+/// What a run of two files shows when the second is absent.
 fn second_absent<R: Threads + Wait + Sync>(alloc: Global, rt: &R) -> Result<Row, NoMemory> {
     let words = words(alloc, &["run", "--cells", "64", "f", "g"])?;
     let mut shelf = MemShelf::new(files(alloc, HELLO)?, Vec::new(alloc));

@@ -1,4 +1,4 @@
-//! Which gate is asked, by clients beside each other and by who dumps a version.
+//! Which gate is asked, by concurrent clients and by the guest that dumps a version.
 use crate::outcomes::outcome_at;
 use doc_model::NoMemory;
 use outside::{AfterGate, CrossGate, Gate};
@@ -9,7 +9,7 @@ use std::sync::atomic::{AtomicU32, Ordering};
 use std::test::Fail;
 use std::thread::Threads;
 
-/// As many looks as no thread needs to begin.
+/// As many looks as no thread needs before it begins.
 const LOOKS: u64 = 1_000_000_000;
 
 /// A cross gate that counts what it is asked and told.
@@ -56,7 +56,7 @@ fn meeting<R: Threads + Wait + Sync>(
 
 // The clients ask the gate that the run was given, and it lets each command begin. So do those of
 // generated scripts, of an image and of a dump, whose guest asks it too. A body that runs them one
-// after another makes one of them late.
+// after the other makes one of them late.
 #[test]
 fn the_first_commands_of_two_clients_meet(rt: HostRuntime) -> Result<(), Fail> {
     let table: [(&[&str], u32); 4] = [
@@ -72,8 +72,8 @@ fn the_first_commands_of_two_clients_meet(rt: HostRuntime) -> Result<(), Fail> {
     Ok(())
 }
 
-/// What a dump behind this command of the script shows: its status, its fault, whether a run without
-/// one is there, and whether its version has a dump, if one is handed back. And whether this was
+/// What a dump after this command of the script shows: its status, its fault, whether there is a
+/// run without one, and whether its version has a dump, if one is handed back. And whether this was
 /// written.
 type Dumped = (u8, Option<Fault>, bool, Option<bool>, bool);
 
@@ -121,8 +121,8 @@ fn a_dump_has_each_node_of_its_version_in_the_order_of_names(rt: HostRuntime) ->
     Ok(())
 }
 
-/// Copies of copies, the last of which is refused: behind the one before it the tree has
-/// 988,524,220 nodes.
+/// Copies of copies, the last of which is refused: after the one before it the tree has 988,524,220
+/// nodes.
 fn copies(alloc: Global) -> Result<Vec<u8>, NoMemory> {
     let mut script = b"put a x\n".to_vec(alloc)?;
     for _ in 0..4 {

@@ -10,8 +10,8 @@ use std::test::Fail;
 use std::thread::Threads;
 
 /// What these words show where the sink takes a line in a call, and its second call fails: the
-/// status and the fault, whether a run, a dump and a mailbox are handed back, and whether the first
-/// line alone was written. A dump comes behind the second command.
+/// status and the fault, whether a run, a dump and a mailbox are handed back, and whether only the
+/// first line was written. A dump comes after the second command.
 type Shown = (u8, Option<Fault>, [bool; 3], bool);
 
 fn written_in_part<R: Threads + Wait + Sync>(

@@ -1,4 +1,4 @@
-//! In which pieces the output is offered to the sink: a line each.
+//! In which pieces the output is offered to the sink: one for each line.
 use crate::outcomes::{files, words};
 use doc_model::NoMemory;
 use doc_run::run;
@@ -8,8 +8,8 @@ use std::sync::Wait;
 use std::test::Fail;
 use std::thread::Threads;
 
-/// The status of a run of these words whose sink fails at this call, and whether the sink then holds
-/// what is wanted.
+/// The status of a run of these words whose sink fails at this call, and whether the sink then
+/// holds what is expected.
 fn failing_at<R: Threads + Wait + Sync>(
     alloc: Global,
     rt: &R,

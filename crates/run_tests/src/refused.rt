@@ -49,7 +49,7 @@ fn too_many_files_are_not_opened(rt: HostRuntime) -> Result<(), Fail> {
     Ok(())
 }
 
-/// Whether this is the text of a fault, and how it shows itself.
+/// Whether this is the text of a fault, and what it is displayed as.
 fn texts_are(alloc: Global, fault: Fault, text: &str) -> Result<(bool, bool), NoMemory> {
     let said = fault_text(alloc, &fault)?.as_slice() == text.as_bytes();
     let shown = format!(in alloc; "{fault}")?.as_str() == text;

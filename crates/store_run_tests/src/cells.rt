@@ -1,4 +1,4 @@
-//! What lies in the cells of a closed heap.
+//! What is in the cells of a closed heap.
 ghost use Rattle.std.specs.Prelude.{◌<◌};
 
 use crate::counting::run_of;

@@ -10,7 +10,7 @@ use std::test::Fail;
 use std::thread::Threads;
 use store_run::{Finished, Options, run_clients};
 
-/// A run of so many clients. The latest version alone is kept.
+/// A run of so many clients. Only the latest version is kept.
 pub(crate) fn run_of<R: Threads + Wait + Sync, G: Gate + Sync>(
     alloc: Global,
     rt: &R,

@@ -2,7 +2,7 @@
 use outside::{CrossGate, Gate};
 use std::sync::atomic::{AtomicBool, AtomicU32, Ordering};
 
-/// As many looks as no thread needs to begin.
+/// As many looks as no thread needs before it begins.
 const LOOKS: u64 = 1_000_000_000;
 
 /// How often each client is sent away before its first command.
@@ -32,7 +32,7 @@ impl Calls {
 }
 
 /// A gate for clients 1 and 2. It sends each of them away at first; their first commands meet; and
-/// then client 2 goes on alone, and client 1 behind it.
+/// then client 2 goes on alone, and client 1 after it.
 #[derive(Drop)]
 pub(crate) struct OrderGate {
     cross: CrossGate,

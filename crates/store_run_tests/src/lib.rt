@@ -1,5 +1,5 @@
-//! What no clause says of a run of clients: that they run beside each other and beside the
-//! collector and ask their gate, how many cells they take, and what lies in these.
+//! What no clause says of a run of clients: that they run concurrently with each other and with the
+//! collector and ask their gate, how many cells they take, and what is in these.
 //!
 //! Reading order: `scripts`, `counting`, `gates`, `rows`, `smallest`, `cells`.
 #![tactic(auto)]

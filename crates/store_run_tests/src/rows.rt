@@ -1,4 +1,4 @@
-//! Rows, worked out by hand, and what stands on every schedule.
+//! Rows, worked out by hand, and what holds on every schedule.
 use crate::counting::totals_of;
 use crate::gates::OrderGate;
 use doc_model::Totals;
@@ -12,7 +12,7 @@ use std::thread::Threads;
 const CYCLES: u32 = 4_000_000_000;
 
 // A hundred puts claim more cells than the heap has, so cells were freed while the client had
-// commands left. A run whose collector stands still, or begins behind its clients, is `full`.
+// commands left. A run whose collector stands still, or begins after its clients, is `full`.
 #[test]
 fn cells_are_freed_beside_the_client(rt: HostRuntime) -> Result<(), Fail> {
     let totals = totals_of(rt.alloc(), &rt, 1, 100, CYCLES, &OpenGate)?;
@@ -35,10 +35,10 @@ fn in_order<R: Threads + Wait + Sync>(
     Ok(((gate.late(), gate.strange(), gate.next()), totals))
 }
 
-// A run that has both on one thread, one after the other or by turns, lets the first command of
-// one client look for the other's in vain; and one that asks no gate begins what the gate has not let
-// begin. While client 1 is sent away, client 2 needs cells that are freed only where client 1 answers
-// handshakes.
+// In a run that has both on one thread, one after the other or by turns, the first command of one
+// client looks for the other's in vain. A run that asks no gate begins what the gate has not let
+// begin. While client 1 is sent away, client 2 needs cells that are freed only where client 1
+// answers handshakes.
 #[test]
 fn two_clients_ask_their_gate_before_each_command(rt: HostRuntime) -> Result<(), Fail> {
     let (found, totals) = in_order(rt.alloc(), &rt)?;

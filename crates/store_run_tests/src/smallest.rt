@@ -23,7 +23,7 @@ fn has_full(entries: &[Entry]) -> bool {
 }
 
 /// Whether the totals agree: what was claimed is in use or was freed, and all cells are counted.
-/// Where a client found the heap full, all cells but the first three were claimed.
+/// Where a client found the heap full, all cells except the first three were claimed.
 fn agree(totals: Totals, full: bool) -> bool {
     let taken = totals.claimed.saturating_add(3);
     taken == totals.used.saturating_add(totals.freed)
@@ -73,8 +73,8 @@ fn one_cycle_is_enough_for_a_lawful_answer(rt: HostRuntime) -> Result<(), Fail> 
     Ok(())
 }
 
-/// The same of two clients of whom the second is held at its hundredth command; and whether it was
-/// sent away as often as the gate says.
+/// The same for two clients of which the second is held at its hundredth command; and whether it
+/// was sent away as often as the gate says.
 fn held<R: Threads + Wait + Sync>(
     alloc: Global,
     rt: &R,
