@@ -27,8 +27,8 @@ use Rattle.heap_rule.specs.declared.view.View.{View}
 use Rattle.heap_table.specs.Seats.{HeapId, IsSeatOf, SeatView}
 
 module _ {P : Type 0} where
-  -- What the collector's seat has at the close, by what it had first, and when all seats were
-  -- joined.
+  -- What the collector's seat has at the close, by what it had first and what it had when all seats
+  -- were joined.
   pub record Worked (cycles : ℕ) (first joined last : SeatView P) : Type 0 where
     pub places : last.me.places ≡ joined.me.places
     pub held_back : Bool

@@ -21,7 +21,7 @@ module _ {A : Type 0} where
   script_none (s ∷ ss) zero le = absurd (omega (arith, le))
   script_none (s ∷ ss) (suc n) le = script_none ss n (omega (arith, le))
 
-  -- what is so of an empty script, and of each that there is, is so of the script of a place
+  -- what holds of an empty script and of each script in the list holds of the script of a place
   pub script_is : (F : List A → Type 0) → F [] → (scripts : List (Vec A Global)) (place : ℕ)
       → All (λ (script : Vec A Global). F script.items) scripts → F (script_of scripts place)
   script_is F none [] place all = none

@@ -15,7 +15,7 @@ use Rattle.heap_rule.specs.declared.view.Place.{Place}
 use Rattle.heap_rule.specs.declared.view.Place.TheVariants as places
 use Rattle.heap_table.specs.Seats.{SeatView}
 
--- `Done` is what is so of a worker that is through, at its place; it has a seat, and gives
+-- `Done` is what holds of a worker that is through, at its place; it has a seat, and gives
 -- something.
 module _ {P : Type 0} {W : Type 0} {G : Type 0} (Done : ℕ → W → Type 0) (seat_of : W → SeatView P)
     (gives : W → G) where

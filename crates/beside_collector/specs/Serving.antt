@@ -29,7 +29,7 @@ off_first true = took (event.Duty false) finds.Stored ∷ []
 off_first false = []
 
 module _ {P : Type 0} where
-  -- The collector's seat is as it was but for where the parts of its mutators are.
+  -- The collector's seat is as it was, except for where the parts of its mutators are.
   pub record IsStill (old new : SeatView P) : Type 0 where
     pub table : new.table ≡ old.table
     pub shape : new.me.shape ≡ old.me.shape

@@ -312,7 +312,7 @@ paces_turn a b c d e so_far answer try cut =
     paces_then a b e 0 5 5 so_far
     (paces_then b c e 5 0 5 answer (paces_then c d e 0 5 5 try cut))
 
--- an answer alone
+-- only an answer
 pub paces_on : (a b c : Bound MailPass) → Paces 0 5 a b → Paces 5 0 b c → Paces 0 5 a c
 paces_on a b c so_far answer =
     paces_within a c 0 0 0 5 (omega arith) (omega arith) (paces_then a b c 0 5 0 so_far answer)

@@ -1,4 +1,4 @@
--- A try between an answer and the cut of its places: what the call comes to.
+-- A try between an answer and the cut of its places: what the whole call does.
 use Rattle.std.proofs.Common.{◌≡◌, ◌≤◌, ◌+◌, ℕ, List, [], ◌++◌, length, refl, sym}
 use Rattle.std.proofs.Common.{◌∙◌, ap, arith, subst}
 use Rattle.std.proofs.lemmas.List.{append-nil, append_assoc}
@@ -39,7 +39,7 @@ rests_first a = record {
   known = λ place lt. still_same is_fixed (known_of a.seat.me place);
 }
 
--- an answer is no more than that
+-- an answer after that does nothing more
 pub rests_calm : (F : List Taken → Type 0) (a b c : Bound MailPass) → Rests a b → Calm F b c
     → Rests a c
 rests_calm F a b c rests calm = record {

@@ -1,4 +1,4 @@
--- The walk to the last item: how far it is, and where it ends.
+-- The walk to the last item: how far it has come, and where it ends.
 -- Source: this project's.
 use Rattle.std.specs.Prelude.{ℕ, ◌≡◌, ◌≢◌, ◌<◌, ◌++◌, true, [], ◌∷◌, length}
 use Rattle.heap_rule.specs.Asks.{known_of, target}

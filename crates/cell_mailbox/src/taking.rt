@@ -1,4 +1,4 @@
-//! Taking an item: the anchor goes on by one.
+//! Taking an item: the anchor moves on by one item.
 ghost use Rattle.std.specs.Prelude.{◌≡◌, ◌<◌, ◌≤◌, ◌+◌, IfErr, IfNone, IfSome, OnOk, false, length};
 ghost use Rattle.std.specs.Prelude.{true};
 ghost use Rattle.cell_words.specs.declared.fields.Field.TheVariants as field;

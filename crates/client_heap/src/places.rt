@@ -27,7 +27,7 @@ pub(crate) fn cut_back(m: &mut Mutator<'_, Documents>, minor: &MinorHeap, places
     m.cut(places);
 }
 
-/// Whether the nodes at two places stand in one cell, and so have one term.
+/// Whether the nodes at two places are in the same cell, and so have the same term.
 pub(crate) fn is_same(
     m: &mut Mutator<'_, Documents>,
     minor: &MinorHeap,

@@ -251,7 +251,7 @@ pub trait StoreSeat<Q> {
             ≤ length (bound self.old).seat.me.own.held }
         ensures follows { Follows (bound self.old) (bound self.new) minor.now minor.now };
 
-    /// Whether the nodes at two places stand in one cell, and so have one term.
+    /// Whether the nodes at two places are in the same cell, and so have the same term.
     fn is_same(&mut self, minor: &MinorHeap, first: usize, second: usize) -> bool
         requires inside { (bound self.old).seat.me.presence.inside ≡ true }
         requires first { IsTreeAt (bound self.old) minor.now (at.Shared first) }

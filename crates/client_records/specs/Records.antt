@@ -1,6 +1,6 @@
 -- A client's records as a pool: what stands, and what each record says.
--- Source: Doligez and Leroy, POPL 1993 (private records that name shared ones). This project's: that
--- they name places of the held list.
+-- Source: Doligez and Leroy, POPL 1993 (private records that name shared ones). This project's:
+-- that they name places of the held list.
 use Rattle.std.specs.Prelude.{ℕ, ◌≡◌, ◌<◌, ◌≤◌, ◌+◌, ◌-◌, ◌++◌, Bool, true, false, List, []}
 use Rattle.std.specs.Prelude.{length, map}
 use Rattle.cell_words.specs.Term.{Term, null, IsFive}
@@ -138,7 +138,7 @@ shown_of v minor outside = record {
 abbrev pub outside_of : {P : Type 0} → Bound P → ℕ × ℕ → Outside
 outside_of m names = record { heap = m.heap; table = m.seat.table; names = names }
 
--- and what a mutator and a private heap show that are borrowed under these names
+-- and what they show when they are borrowed under these names
 abbrev pub shown_by : {P : Type 0} → Bound P → Nursery → ℕ × ℕ → Shown NodeAt (ClientFact P)
 shown_by m minor names = shown_of m.seat.me minor (outside_of m names)
 

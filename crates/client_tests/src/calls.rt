@@ -18,17 +18,15 @@ use promotion::Promoter;
 use std::alloc::Global;
 use std::sync::Wait;
 
-/// A path.
 fn path(alloc: Global, names: &str) -> Result<Path, EditFault> {
     Path::read(alloc, names.as_bytes())?.ok_or(EditFault::Absent)
 }
 
-/// A text.
 fn text(alloc: Global, letters: &str) -> Result<Text, EditFault> {
     Text::read(alloc, letters.as_bytes())?.ok_or(EditFault::Absent)
 }
 
-/// There is room for an edit.
+/// Whether there is room for an edit.
 fn has_room(m: &Mutator<'_, NoRule>, minor: &MinorHeap) -> bool
     ensures places { result ≡ true
         → length m.now.seat.me.own.held + 8192 ≤ m.now.seat.me.room }

@@ -1,6 +1,6 @@
 //! What no clause says of client_trees, on a real heap: each public call on its happy path, at a
-//! private place and at a shared one; and how much an edit makes. What is refused is shown by the
-//! rows of examples/rows.
+//! private place and at a shared one; and how much an edit makes. The rows of examples/rows show
+//! what is refused.
 //!
 //! Reading order: `heaps`, `calls`; `places`, `sharing`.
 #![tactic(auto)]

@@ -1,4 +1,4 @@
--- What is so of each client's log at the close of a heap.
+-- What holds of each client's log at the close of a heap.
 -- Source: this project's.
 use Rattle.std.specs.Prelude.{ℕ, ◌≡◌, List}
 use mathlib.Core.Option.{some}

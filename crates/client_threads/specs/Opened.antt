@@ -29,8 +29,8 @@ store_shape cells mutators keep = record {
   first = first_rows;
 }
 
--- The seat is the collector's of a heap that was just opened: no cycle began, and no mutator is split
--- off.
+-- The seat is the collector's of a heap that was just opened: no cycle began, and no mutator is
+-- split off.
 pub record IsOpenSeat (heap : HeapId) (seat : SeatView Pass) : Type 0 where
   pub seat_is : IsSeatOf heap seat
   pub idle : seat.me.control.stage ≡ stage.Idle

@@ -1,4 +1,4 @@
-//! The clients after their threads: each seat is joined, whatever its client came to, and its log
+//! The clients after their threads: each seat is joined, whatever became of its client, and its log
 //! is kept.
 ghost use Rattle.std.specs.Prelude.{◌≡◌, ◌≤◌, [], false, true, length, map};
 ghost use Rattle.std.specs.Prelude.{vec_capacity};

@@ -163,7 +163,7 @@ pub ruleset leaving_all = (same_mutator, same_minor, leaves_all)
 
 pub ruleset finding = (same_mutator, same_minor, leaves, minor_same, last_is)
 
--- A mutator and a private heap as a pool was lent them and as they come back.
+-- A mutator and a private heap, as they were lent to a pool and as they come back.
 module _ {M P : Type 0} (bound : M → Bound P) (m n p q : M) (old new lent left : Nursery)
     (names others : ℕ × ℕ) (later : Later (shown_by (bound p) lent names)
     (shown_by (bound q) left others)) (m_is : p ≡ m) (old_is : lent ≡ old) (n_is : n ≡ q)

@@ -57,7 +57,7 @@ fn a_file_is_read_to_its_end(rt: HostRuntime) -> Result<(), Fail> {
     Ok(())
 }
 
-/// What reading the file meets where one call fails, and how many calls were made.
+/// The result of reading the file where one call fails, and how many calls were made.
 fn failed_read(
     alloc: Global,
     name: &str,
@@ -126,8 +126,8 @@ fn a_line_is_one_piece_and_its_rest_is_offered_again(rt: HostRuntime) -> Result<
     Ok(())
 }
 
-/// What writing the lines meets where the second call fails, whether these bytes were written then,
-/// and in how many calls.
+/// The result of writing the lines where the second call fails, whether these bytes were written by
+/// then, and in how many calls.
 fn failed_write(
     alloc: Global,
     most: usize,
@@ -176,7 +176,7 @@ fn real_files_are_read(rt: HostRuntime) {
     assert_eq!(rt; really_read(rt.alloc(), &rt, names), wanted);
 }
 
-/// How many bytes are read after two openings, and what a third meets.
+/// How many bytes are read after two openings, and the result of a third.
 fn opened_again<R: RealFiles>(files: &R) -> Result<(usize, Result<(), OutFault>), OutFault> {
     let mut shelf = FileShelf::new(files);
     shelf.open("/dev/null")?;

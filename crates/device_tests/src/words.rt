@@ -1,5 +1,5 @@
-//! Command lines with the numbers that are asked for. Where files and options stand, and what is
-//! no such line, is shown by the rows of examples/rows.
+//! Command lines with the numbers that are asked for. The rows of examples/rows show where files
+//! and options stand, and what is no such line.
 use run_words::*;
 use std::alloc::{AllocError, Global};
 use std::test::Fail;

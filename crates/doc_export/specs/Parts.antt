@@ -35,7 +35,7 @@ pub record IsOpened (o : Options) (scripts : List (Vec Command Global)) (made : 
   pub place_is : made.guest.place ≡ length scripts
   pub guest : IsNewSeat made.heap (client_limits o) made.guest.place made.guest.seat
 
--- what the run comes to, if the guest has a version
+-- the result of the run, if the guest has a version
 abbrev pub MayDump : Options → List (List Command) → List ClientLog → View Pass
     → Option Copied → Type 0
 MayDump o scripts logs passes None = Unit {0}

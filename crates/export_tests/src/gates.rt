@@ -16,7 +16,7 @@ pub(crate) struct BetweenGate {
 }
 
 impl BetweenGate {
-    /// A gate at which nobody was yet.
+    /// A gate at which nobody has been yet.
     pub(crate) fn new() -> BetweenGate {
         BetweenGate {
             first: AtomicBool::new(false),

@@ -94,7 +94,7 @@ module _ {P : Type 0} (a b : Bound P) (fresh : ℕ) (got : Claimed a fresh b) wh
       (has_at (held_cells a) place (let many = many_cells a in omega (arith, many, lt))) in
       let none : false ≡ true = sym got.is_new.apart ∙ there in absurd cc
 
-  -- so it is another than that of any place before it
+  -- so it differs from the cell of every place before it
   pub claimed_apart : (place : ℕ) → place < length a.seat.me.own.held
       → target b.seat.me place ≢ target b.seat.me fresh
   claimed_apart place lt same =

@@ -18,7 +18,7 @@ ghost use Rattle.trails.specs.Asks.{Ask, wrote_at};
 
 use heap_rule::Keeping;
 
-/// What two calls leave, one after the other, is what a call leaves that does both.
+/// Two calls, one after the other, leave what one call that does both leaves.
 pub fn calls_join<P: Keeping>()
     ensures trail { (first second : List Ask) (a b c : Bound P) → Goes first a b
         → Goes second b c → Goes (first ++ second) a c }

@@ -1,4 +1,4 @@
--- What the rule says of the words of a state: where the box is, and what stands in it.
+-- What the rule says of the words of a state: where the box is, and what is kept in it.
 use Rattle.std.proofs.Common.{◌≡◌, ℕ, List, Bool, true, false, Option, Some, None, sym, ◌∙◌, ap}
 use Rattle.std.proofs.Common.{arith}
 use Rattle.cell_words.specs.Term.{Term, num, part}

@@ -1,4 +1,4 @@
--- What the two mutators have before they begin, and what they come to.
+-- What the two mutators have before they begin, and what they leave.
 -- Source: this project's.
 use Rattle.std.specs.Prelude.{ℕ, ◌≡◌, ◌<◌, IfSome, None}
 use Rattle.free_cells.specs.Passes.{IsHintPass}

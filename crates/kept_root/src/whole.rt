@@ -23,7 +23,7 @@ pub(crate) const CELLS: u32 = 32;
 /// The number that is kept.
 pub(crate) const NUMBER: u64 = 42;
 
-/// What a run came to.
+/// The result of a run.
 #[derive(Drop)]
 pub(crate) struct Ran {
     /// the closed heap, and what its collector knew

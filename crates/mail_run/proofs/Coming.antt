@@ -1,4 +1,4 @@
--- What a run comes to, from what holds at the close of its heap.
+-- The result of a run, from what holds at the close of its heap.
 use Rattle.std.proofs.Common.{◌≡◌, ◌≤◌, ◌<◌, ◌+◌, ◌-◌, ◌++◌, ℕ, zero, suc, false, List, [], ◌∷◌}
 use Rattle.std.proofs.Common.{All, length}
 use Rattle.std.proofs.Common.{Contains, flat_map, map, Option, None, inl, inr, refl, sym, ◌∙◌, ap}

@@ -20,7 +20,7 @@ row_parts first (suc one) other =
     ∙ ap (λ (k : ℕ). range_with_len (first + 1) one ++ range_with_len k other)
     (let e : first + 1 + one ≡ first + suc one = omega arith in e))
 
--- what is so of each number of a row
+-- what holds of each number of a row
 pub all_in_row : (P : ℕ → Type 0) (first many : ℕ)
     → ((n : ℕ) → first ≤ n → n < first + many → P n) → All P (range_with_len first many)
 all_in_row P first zero each = All-nil P
@@ -38,7 +38,7 @@ module _ {B : Type 0} (f : ℕ → B) where
       sym (ap (mapped f) (row_parts first one other)
       ∙ map-append f (range_with_len first one) (range_with_len (first + one) other))
 
-  -- what is so of what is made of each number of a row is so of each element
+  -- what holds of the image of each number of a row holds of each element
   pub each_made : (P : B → Type 0) (first many : ℕ)
       → ((n : ℕ) → first ≤ n → n < first + many → P (f n))
       → (b : B) → Contains (mapped f (range_with_len first many)) b → P b
@@ -47,7 +47,7 @@ module _ {B : Type 0} (f : ℕ → B) where
       (All-map P f (range_with_len first many)
       (all_in_row (λ (n : ℕ). P (f n)) first many each) has.0 b has.1)
 
-  -- the numbers back
+  -- the numbers, back from what was made of them
   pub made_back : (g : B → ℕ) → ((n : ℕ) → g (f n) ≡ n) → (ns : List ℕ)
       → mapped g (mapped f ns) ≡ ns
   made_back g back [] = refl

@@ -1,4 +1,4 @@
--- Where one mutator alone takes, it took the items from the first one on.
+-- Where only one mutator takes, it took the items from the first one on.
 use Rattle.std.proofs.Common.{◌≡◌, ◌≢◌, ℕ, suc, ◌+◌, ◌<◌, Bool, List, [], ◌∷◌, length, All}
 use Rattle.std.proofs.Common.{inl, inr, refl, sym, ◌∙◌, ap, arith, if◌then◌else◌}
 use Rattle.std.specs.List.{range_with_len}

@@ -1,4 +1,4 @@
--- What a run of a mailbox comes to: what each line was answered, the items, and what the seats had
+-- The result of a run of a mailbox: what each line was answered, the items, and what the seats had
 -- at the close.
 --
 -- All is said of one heap that was opened for this run and closed after it, with a mutator for each

@@ -1,7 +1,7 @@
 use cell_heap::{Image, Passes};
 use cell_mailbox::{Item, MailPass};
 
-/// What a run comes to when its heap is closed.
+/// The result of a run when its heap is closed.
 #[derive(Drop)]
 pub(crate) struct Closed {
     pub(crate) image: Image,

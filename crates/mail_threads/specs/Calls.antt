@@ -1,4 +1,4 @@
--- What one line and one turn come to, and several of them.
+-- What one line and one turn leave, and several of them.
 -- Source: this project's.
 use Rattle.std.specs.Prelude.{ℕ, ◌≡◌, ◌≤◌, ◌+◌, ◌++◌, true, List, [], length}
 use Rattle.std.specs.Prelude.{Option, Some, None}

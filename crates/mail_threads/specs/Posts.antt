@@ -1,4 +1,4 @@
--- What the lines of a sender came to, and what its mutator then has of them.
+-- What the lines of a sender were answered, and what its mutator then has of them.
 -- Source: this project's.
 use Rattle.std.specs.Prelude.{ℕ, ◌≡◌, List, [], ◌∷◌, length, Option, Some, None}
 use Rattle.mail_rule.specs.declared.items.Sent.{Sent}

@@ -1,5 +1,5 @@
--- From marks of what is reached: what copying asks of the records that are marked, and what it tells
--- of the roots.
+-- From marks of what is reached: what copying asks of the records that are marked, and what it
+-- tells of the roots.
 use Rattle.std.proofs.Common.{◌≡◌, ◌<◌, ◌+◌, ◌↔◌, ℕ, zero, suc, Bool, true, false, List, [], ◌∷◌, All}
 use Rattle.std.proofs.Common.{length, refl, sym, ◌∙◌, ap, arith}
 use Rattle.std.specs.Prelude.{slice_index_or}

@@ -113,7 +113,7 @@ fn cells_of(image: &Image) -> Cells {
     ]
 }
 
-/// What a promotion in a heap of so many cells comes to, where hints name the cells from one on.
+/// The result of a promotion in a heap of so many cells, where hints name the cells from one on.
 pub(crate) fn promoted<R: Wait>(
     alloc: Global,
     rt: &R,
@@ -133,7 +133,7 @@ pub(crate) fn promoted<R: Wait>(
     Ok((found, cells_of(&close_one(heap, collector, seat))))
 }
 
-/// What the making of a record and a box in a heap of so many cells comes to.
+/// The result of making a record and a box in a heap of so many cells.
 pub(crate) fn made<R: Wait>(alloc: Global, rt: &R, cells: u32) -> Result<(Found, Cells), NoMemory>
     requires some { 1 ≤ cells }
     requires few { cells ≤ 1000 }
@@ -145,7 +145,7 @@ pub(crate) fn made<R: Wait>(alloc: Global, rt: &R, cells: u32) -> Result<(Found,
     Ok((found, cells_of(&close_one(heap, collector, seat))))
 }
 
-/// What a collection in a heap of so many cells comes to.
+/// The result of a collection in a heap of so many cells.
 pub(crate) fn collected<R: Wait>(
     alloc: Global,
     rt: &R,

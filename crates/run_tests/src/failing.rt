@@ -28,7 +28,7 @@ fn row_of(outcome: &Outcome, calls: u64, written: &[u8]) -> Row {
     (outcome.status, outcome.fault, calls, bytes)
 }
 
-/// What a run shows whose shelf gives one byte in a read, and whose call with this number fails.
+/// What a run shows when its shelf gives one byte in a read, and the call with this number fails.
 fn shelf_failing_at<R: Threads + Wait + Sync>(
     alloc: Global,
     rt: &R,
@@ -69,7 +69,7 @@ fn a_call_that_is_not_made_does_not_fail(rt: HostRuntime) -> Result<(), Fail> {
     Ok(())
 }
 
-/// What a run shows whose sink takes one byte in a call, and whose call with this number fails.
+/// What a run shows when its sink takes one byte in a call, and the call with this number fails.
 fn sink_failing_at<R: Threads + Wait + Sync>(
     alloc: Global,
     rt: &R,

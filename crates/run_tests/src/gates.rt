@@ -31,7 +31,7 @@ impl Gate for CountedGate {
     }
 }
 
-/// A gate at which nobody was yet.
+/// A gate at which nobody has been yet.
 fn new_gate() -> CountedGate {
     CountedGate {
         cross: CrossGate::new(LOOKS),

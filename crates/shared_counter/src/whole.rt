@@ -40,7 +40,7 @@ fn counter_of(image: &Image) -> Option<u64>
     }
 }
 
-/// What a run came to.
+/// The result of a run.
 #[derive(Drop)]
 pub(crate) struct Ran {
     /// the closed heap, and what its collector knew

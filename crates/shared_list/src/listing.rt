@@ -1,4 +1,4 @@
-//! What stands in a closed heap: the list that its anchor leads to.
+//! What a closed heap shows: the list that its anchor leads to.
 ghost use Rattle.std.specs.Prelude.{◌<◌, ◌≤◌};
 
 use cell_heap::Image;

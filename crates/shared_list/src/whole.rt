@@ -17,7 +17,7 @@ const CELLS: u32 = 1700;
 /// How often each thread tries to push a node.
 const TRIES: u32 = 200;
 
-/// What a run came to.
+/// The result of a run.
 #[derive(Drop)]
 pub(crate) struct Ran {
     /// the closed heap

@@ -17,7 +17,7 @@ use Rattle.shared_log.specs.Logging.{Chain, HasNumber, KeepsLog, entries_of, one
 use Rattle.shared_log.specs.Shrinks.{chain_on, has_number}
 use Rattle.shared_log.specs.declared.log.Appended.{Appended}
 
--- an entry is one more of its writer, and of no other
+-- an entry adds one to those of its writer, and to those of no other
 one_more_of : (writer k : ℕ) (writers : List ℕ) → writer ≡ k
     → entries_of k (writer ∷ writers) ≡ entries_of k writers + 1
 one_more_of writer k writers is =

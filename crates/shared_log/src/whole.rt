@@ -50,7 +50,7 @@ fn count_used(image: &Image) -> u64 {
     used
 }
 
-/// What a run came to.
+/// The result of a run.
 #[derive(Drop)]
 pub(crate) struct Ran {
     /// the closed heap, and what its collector knew

@@ -25,7 +25,7 @@ fn fields_of(image: &Image, cell: u32) -> [Field; 6]
     ]
 }
 
-/// How many cells in use have these fields.
+/// How many used cells have these fields.
 fn count_of(image: &Image, fields: &[Field; 6]) -> u32 {
     let mut found = 0u32;
     for cell in 0..image.cells() {

@@ -33,7 +33,7 @@ pub(crate) fn run_of<R: Threads + Wait + Sync, G: Gate + Sync>(
     Ok(run_clients(alloc, rt, &scripts, &options, gate)?)
 }
 
-/// What a run comes to whose clients put so many times each.
+/// The totals of a run in which each client puts so many times.
 pub(crate) fn totals_of<R: Threads + Wait + Sync, G: Gate + Sync>(
     alloc: Global,
     rt: &R,

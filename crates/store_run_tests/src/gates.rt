@@ -43,7 +43,7 @@ pub(crate) struct OrderGate {
 }
 
 impl OrderGate {
-    /// A gate at which nobody was yet, for so many commands of each client.
+    /// A gate at which nobody has been yet, for so many commands of each client.
     pub(crate) fn new(commands: u32) -> OrderGate {
         OrderGate {
             cross: CrossGate::new(LOOKS),
@@ -59,7 +59,8 @@ impl OrderGate {
         self.cross.late()
     }
 
-    /// Whether a client asked for another command than its next, or told of one that had not begun.
+    /// Whether a client asked for a command that is not its next, or told of one that had not
+    /// begun.
     pub(crate) fn strange(&self) -> bool {
         self.strange.load(Ordering::SeqCst)
     }

@@ -24,8 +24,8 @@ fn cells_are_freed_beside_the_client(rt: HostRuntime) -> Result<(), Fail> {
 }
 
 /// What a gate found that lets two clients begin in its order, a hundred commands each: whether one
-/// looked for the other in vain, whether a call was strange, and which commands come next. And what
-/// their run comes to.
+/// looked for the other in vain, whether a call was strange, and which commands come next; and the
+/// totals of the run.
 fn in_order<R: Threads + Wait + Sync>(
     alloc: Global,
     rt: &R,
@@ -59,8 +59,9 @@ fn clients_fill_a_heap_whose_collector_is_off_duty(rt: HostRuntime) -> Result<()
     Ok(())
 }
 
-// Nothing says that a run ends whose clients wait for cells that the collector has to free, while
-// it waits for them. Each command has its entry, whether its client found the heap full or not.
+// No clause says that a run ends when its clients wait for cells that the collector has to free and
+// the collector waits for the clients. Each command has its entry, whether its client found the
+// heap full or not.
 #[test]
 fn several_clients_share_a_small_heap(rt: HostRuntime) -> Result<(), Fail> {
     let totals = totals_of(rt.alloc(), &rt, 4, 50, CYCLES, &OpenGate)?;

@@ -22,7 +22,7 @@ fn has_full(entries: &[Entry]) -> bool {
     entries.iter().any(|entry| entry.reply.is_full())
 }
 
-/// Whether the totals agree: what was claimed is in use or was freed, and all cells are counted.
+/// Whether the totals agree: what was claimed is used or was freed, and all cells are counted.
 /// Where a client found the heap full, all cells except the first three were claimed.
 fn agree(totals: Totals, full: bool) -> bool {
     let taken = totals.claimed.saturating_add(3);

@@ -21,7 +21,7 @@ abbrev pub before_of : List (List ℕ) → List ℕ
 before_of [] = []
 before_of (name ∷ path) = with_slash name ++ before_of path
 
--- the lines of all nodes below one, before the names of whose children this stands
+-- the lines of all nodes below one, where this stands before the names of its children
 abbrev pub lines_from : List ℕ → Kids → List ℕ
 lines_from before no_kids = []
 lines_from before (kid name text inside rest) =

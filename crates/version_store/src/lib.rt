@@ -6,7 +6,7 @@
 //! reads and at most one exchange of a field, which is never tried again: whoever loses an exchange
 //! is told that there is a newer version.
 //!
-//! The layer above may rely on this: what a call answers is so of the versions of the rule, and its
+//! The layer above may rely on this: what a call answers holds of the versions of the rule, and its
 //! part of the trail shows the reads that it tells of. The held list is as it was, except for the
 //! place that is answered. The pass changes only by what the clause says. That layer decides when
 //! to commit again, how a term spells a tree, and when to trim.

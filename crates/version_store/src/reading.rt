@@ -80,7 +80,7 @@ pub(crate) fn read_number<S: Spelling>(m: &mut Mutator<'_, Versions<S>>, place: 
     }
 }
 
-/// The root of the version's tree. One read, which the pass has from then on.
+/// The root of the version's tree. One read, which the pass keeps from then on.
 pub fn tree<S: Spelling>(m: &mut Mutator<'_, Versions<S>>, v: HeldVersion) -> usize
     requires inside { m.old.seat.me.presence.inside ≡ true }
     requires room { length m.old.seat.me.own.held + 128 ≤ m.old.seat.me.room }

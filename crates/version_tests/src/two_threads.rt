@@ -111,7 +111,7 @@ fn close_all(
     (many, all, chain_of(&image))
 }
 
-/// What a whole run comes to.
+/// The result of a whole run.
 fn committed<R: Threads + Wait + Sync>(
     alloc: Global,
     rt: &R,
