@@ -11,9 +11,9 @@ use Rattle.core_machine.specs.declared.events.Taken.{Taken}
 use Rattle.heap_rule.specs.Rule.{took}
 use Rattle.heap_rule.specs.declared.view.View.{View}
 
--- On duty if it may make cycles; then off duty, if it had no thread of its own; then the service.
--- It goes off duty nowhere else, since the cycles of a service contain no such event. A collector
--- that went off duty first serves after the work.
+-- On duty if it may make cycles; then off duty, if it had no thread of its own; then the service,
+-- which ends with off duty. Among the cycles of a service it does not go off duty. A collector that
+-- went off duty first serves after the work.
 pub record IsService (most mutators count : ℕ) (trail : List Taken) : Type 0 where
   pub off : List Taken
   pub off_is : (off ≡ []) ⊎ (off ≡ took (event.Duty false) finds.Stored ∷ [])

@@ -12,7 +12,7 @@
 //! and `wake` between two parts of it. `script_at` gives its script.
 //!
 //! Reading order: specs/Duty, `duty`; `keeper`, specs/Freed, specs/Serving, `serving`; `work`,
-//! `beside`; specs/Coming, `coming`; specs/Scripts, `script`.
+//! `beside`; specs/Coming, `coming`; specs/Scripts, `script`; specs/Places, Splitting, Service.
 #![tactic(auto)]
 
 mod beside;

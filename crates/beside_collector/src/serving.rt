@@ -29,7 +29,7 @@ pub(crate) enum Turn<P: Keeping> {
     HandedBack(Keeper<P>),
 }
 
-/// What the collector's thread is to do: it gives back the seat after its turn.
+/// The promise of the collector's thread: after its turn it gives back the seat that it got.
 #[derive(Drop)]
 pub(crate) struct Serving<P: Keeping> {
     pub(crate) cycles: u32,
@@ -110,7 +110,7 @@ pub(crate) fn stand_down<P: Keeping>(
     }
 }
 
-/// The seat after its turn, what is returned with it where it has not served yet, and how many
+/// The seat after the work, what is returned with it where it has not served yet, and how many
 /// cells it freed.
 pub(crate) fn apart<P: Keeping>(
     heap: &CellHeap<P>,

@@ -6,8 +6,8 @@
 //! next item. The walk to the last item and both waits answer handshakes, so no cycle waits for
 //! them.
 //!
-//! Reading order: specs/Finds, Ends, Makes, Walks; `rows`, `reading`, `waiting`, `taking`,
-//! `sending`.
+//! Reading order: specs/Finds, Ends, Makes, Walks; `rows`, `reading`, `turns`, `waiting`, `taking`,
+//! `sending`; specs/Pacing.
 #![tactic(auto)]
 
 mod reading;

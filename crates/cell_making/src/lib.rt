@@ -6,9 +6,10 @@
 //! make cells by the single calls of a `Mutator`; these calls say the whole in one clause.
 //!
 //! A program mostly works from the anchor on: it holds only that, reads or makes what it needs
-//! after it, writes, and cuts back. Specs/Resting says, under any rule, that the mutator stays in,
-//! has so much room and is at rest after the cut. Proofs/ has it for stretches, reads, writes, made
-//! cells and the cut, and says what a read finds and what a write asks of its values.
+//! after it, writes, and cuts back. That the mutator is in all the while, has so much room and is
+//! at rest after the cut is the same under any rule (specs/Resting). The lemmas in proofs/ have it
+//! for stretches, reads, writes, made cells and the cut, and say what a read finds and what a write
+//! asks of its values.
 //!
 //! Reading order: specs/Makes; `making`; specs/Resting; `theorems`.
 #![tactic(auto)]

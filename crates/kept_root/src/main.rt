@@ -9,8 +9,8 @@
 //! after the call the number that it kept. How the collector gets its thread is told in
 //! beside_collector.
 //!
-//! Reading order: `kept`, specs/Rule, specs/Holding, `places`, `storing`, `wasting`, `working`,
-//! `closing`, specs/Leaving, `whole`, `main`.
+//! Reading order: `kept`, specs/Rule, specs/Holding, `places`, `storing`, `wasting`,
+//! specs/ReadBack, specs/Working, `working`, `closing`, specs/Leaving, `whole`, `main`.
 #![tactic(auto)]
 
 mod closing;

@@ -8,7 +8,8 @@
 //! A copy needs a place of the held list until the call ends, and no call allocates memory. The
 //! layer above decides which records to copy, and when.
 //!
-//! Reading order: specs/Sharing, Promoting, Copying; `copying`, `promoter`.
+//! Reading order: specs/Sharing, Promoting, Copying, Hinting, Linking; `copying`; specs/Ready,
+//! `promoter`.
 #![tactic(auto)]
 
 mod copying;

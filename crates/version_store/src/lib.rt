@@ -2,9 +2,9 @@
 //!
 //! The anchor names the box of the latest version. Each version's box has its number, the root of
 //! its tree and a link to the version before it (version_rule). Here are the calls that read
-//! versions, make the next one and cut off old ones that are no longer kept. Each call is a few
-//! reads and at most one exchange of a field, which is never tried again: whoever loses an exchange
-//! is told that there is a newer version.
+//! versions, make the next one and cut off old ones that are no longer kept. Each call is some
+//! reads and at most one write of a field, which is never tried again: a commit that loses its
+//! exchange is told that there is a newer version.
 //!
 //! The layer above may rely on this: what a call answers holds of the versions of the rule, and its
 //! part of the trail shows the reads that it tells of. The held list is as it was, except for the
@@ -13,8 +13,9 @@
 //!
 //! Only `commit` waits, for a free cell. No call allocates memory.
 //!
-//! Reading order: specs/Calls, Held, Commits, Older; then `rows`, `held`, `fault`, `reading`,
-//! `committing`, `walking`, with specs/Reads, Makes, Walks for what the parts of a call do.
+//! Reading order: specs/Calls, Lasts, Held, Commits, Older, Writes; then `rows`, `held`, `fault`,
+//! `reading`, `committing`, `walking`, with specs/Reads, Makes, Walks for what the parts of a call
+//! do.
 #![tactic(auto)]
 
 mod committing;

@@ -18,8 +18,8 @@ pub(crate) const KEEP: u64 = 5;
 /// How many commits each thread makes.
 pub(crate) const EACH: usize = 10_000;
 
-/// How often it tries at most. A try that is lost comes with a commit of the other thread, and the
-/// heap is full at most once where the other thread has used up all cells: so these are enough.
+/// How often it tries at most. A try that is lost comes with a commit of the other thread, and a
+/// thread finds the heap full only where the other has used up all cells: so these are enough.
 const TRIES: u32 = 50_000;
 
 /// A mutator that is to come in, with memory for the numbers of what it makes.
