@@ -45,7 +45,7 @@ pub record Returns (asks : List Ask) (old new : Bound MailPass) : Type 0 where
   pub held : held_cells new ≡ held_cells old
 
 -- Up to a write the pass is as it was. The write found what it was to find, and after it the pass
--- is the one that was picked there. Nothing after the write changes the pass.
+-- is the one that was picked there. The two records below say what the pass is at the end.
 pub record AtOneWrite (old new : Bound MailPass) (writes : View MailPass → Event)
     (next : Learned → Found → MailPass → MailPass) (found : Field) : Type 0 where
   pub at : View MailPass
