@@ -13,9 +13,8 @@ use Rattle.client_records.proofs.Resting.{rests_older, rests_place}
 use Rattle.client_trees.specs.Nodes.{IsTreeAt}
 use Rattle.doc_records.specs.Trees.{IsTreeNode}
 use Rattle.minor_heap.specs.declared.fields.MinorField.{MinorField}
-use Rattle.minor_heap.specs.declared.fields.MinorField.TheVariants as field
 use Rattle.minor_heap.specs.declared.fields.MinorRef.{MinorRef}
-use Rattle.minor_heap.specs.Nursery.{FitsRecord, IsOrdered, Nursery, field_at}
+use Rattle.minor_heap.specs.Nursery.{FitsRecord, IsOrdered, Nursery}
 use Rattle.minor_heap.specs.Terms.{term_of}
 use Rattle.minor_heap.proofs.Terms.{fits_is}
 use Rattle.mutator_seat.specs.Bound.{Bound}
