@@ -15,6 +15,10 @@ pub colour_lies : {word m n cell here : ℕ} → word ≡ index_of m (ColourOf c
     → cell ≡ here → index_of n (ColourOf here) ≡ word
 colour_lies lies many at = sym (lies ∙ (λ j. index_of (many j) (ColourOf (at j))))
 
+pub field_lies : {word m n cell here f g : ℕ} → word ≡ index_of m (FieldOf cell f) → m ≡ n
+    → cell ≡ here → f ≡ g → index_of n (FieldOf here g) ≡ word
+field_lies lies many at of = sym (lies ∙ (λ j. index_of (many j) (FieldOf (at j) (of j))))
+
 module _ {P : Type 0} {v : View P} {cells mutators : ℕ} {control : Control} {progress : Progress}
     (is : IsCollector v cells mutators control progress) where
   colour_at : {cell here word : ℕ} → cell ≡ here → word ≡ index_of mutators (ColourOf here)

@@ -6,4 +6,6 @@ mod Joined
 mod Kept
 mod Made
 mod Owed
+mod Scanned
+mod Single
 mod Within

@@ -38,6 +38,14 @@ scan_there cells (Some scan) fits h =
     let next : scan.next < 5 = ltb-true scan.next 5 (and_parts _ _ h).0 in
     (fits.0, omega (arith, next))
 
+-- where a field may be loaded there is one
+pub next_there : (known : Option Scanning) (scan : Scanning) → scan_or_none known ≡ scan
+    → may_scan known ≡ true → scan.next < 6
+next_there None scan is h = let no = h in absurd cc
+next_there (Some known) scan is h =
+    let next : known.next < 5 = ltb-true known.next 5 (and_parts _ _ h).0 in
+    subst (λ (s : Scanning). s.next < 6) is (omega (arith, next))
+
 child_there : (cells : ℕ) (scan : Option Scanning) → ScanFits cells scan → may_shade scan ≡ true
     → child_or_anchor (scan_or_none scan).child < cells
 child_there cells None fits h = let no = h in absurd cc

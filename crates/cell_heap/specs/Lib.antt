@@ -1,4 +1,5 @@
 pub mod Collecting
 pub mod Progress
 pub mod Runs
+pub mod Scans
 pub mod Telling

@@ -1,5 +1,5 @@
 -- What a call of the collector's seat tells that makes a run of events: the list of them, and what
--- is known behind the last one.
+-- is known after the last one. The scan of a cell is in Scans.
 -- Source: this project's.
 use Rattle.std.specs.Prelude.{ℕ, ◌≡◌, ◌<◌, ◌+◌, ◌++◌, Bool, true, false, not, List, [], ◌∷◌}
 use Rattle.std.specs.Prelude.{length, Option, Some, None, IfSome}

@@ -1,5 +1,6 @@
 //! Runs of clearing and tracing. Each event is the one of its own call, by the same atomic
-//! operation; a run keeps in a local where it is, and the seat has it again at the end.
+//! operation; a run keeps in a local where it is, and the seat has it again at the end. The single
+//! calls of `tracing` call the same functions.
 ghost use Rattle.std.specs.Prelude.{◌≡◌, ◌≤◌, None, true};
 ghost use Rattle.std.specs.List.{list_all};
 ghost use Rattle.cell_heap.specs.Collecting.{IsCollectors};
@@ -32,7 +33,12 @@ fn is_gray(colour: Colour) -> bool
 }
 
 /// Clears the cell at the cursor.
-fn clear_at<P: Keeping>(heap: &CellHeap<P>, seat: &mut HeapSeat<P>, mutators: u32, cell: u32)
+pub(crate) fn clear_at<P: Keeping>(
+    heap: &CellHeap<P>,
+    seat: &mut HeapSeat<P>,
+    mutators: u32,
+    cell: u32,
+)
     requires seat { IsSeatOf heap.now seat.old }
     requires collector { IsCollectors seat.old.me }
     requires mutators { mutators ≡ seat.old.me.shape.mutators }
@@ -71,7 +77,7 @@ fn clear_from<P: Keeping>(
 }
 
 /// Loads the colour of a cell.
-fn see_at<P: Keeping>(
+pub(crate) fn see_at<P: Keeping>(
     heap: &CellHeap<P>,
     seat: &mut HeapSeat<P>,
     mutators: u32,

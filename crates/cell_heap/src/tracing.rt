@@ -1,4 +1,4 @@
-//! The calls that clear and trace.
+//! The calls that clear and trace, an event each.
 ghost use Rattle.std.specs.Prelude.{◌≡◌, true};
 ghost use Rattle.cell_heap.specs.Telling.{FindsKnown, TellsColour, collector_tells};
 ghost use Rattle.core_machine.specs.InRange.{NamesBelow};
@@ -9,13 +9,14 @@ ghost use Rattle.heap_rule.specs.Asks.{collector_state};
 ghost use Rattle.heap_table.specs.Seats.{IsSeatOf};
 
 use crate::progress::{child_or_anchor, scan_or_none, scan_shaded, scanned};
+use crate::scan_runs::{blacken_at, scan_at, shade_at};
 use crate::seat::ColSeat;
-use crate::words::{colour_word, field_word};
+use crate::trace_runs::{clear_at, see_at};
+use crate::words::colour_word;
 use cell_words::{Colour, Field, pack_colour};
 use core_machine::Event;
 use heap_rule::Keeping;
 use heap_table::CellHeap;
-use heap_table::words::{colour_of, field_of};
 use std::marker::Brand;
 
 impl<P: Keeping> ColSeat<P> {
@@ -25,11 +26,9 @@ impl<P: Keeping> ColSeat<P> {
         requires can { can (collector_state self.old.me) event.ClearCell ≡ true }
         ensures told { TellsColour self.old event.ClearCell self.new }
     {
-        let word = colour_word(self.mutators, self.progress.cursor);
-        let old = pack_colour(Colour::Black);
-        let new = pack_colour(Colour::White);
-        heap.collector_exchange::<Brand>(&mut self.seat, Event::ClearCell, word, old, new);
-        self.progress.cursor += 1;
+        let cursor = self.progress.cursor;
+        clear_at(heap, &mut self.seat, self.mutators, cursor);
+        self.progress.cursor = cursor + 1;
     }
 
     /// Marks the anchor: one compare and exchange on its colour, from white to gray.
@@ -51,9 +50,7 @@ impl<P: Keeping> ColSeat<P> {
         ensures told { self.new ≡ collector_tells self.old (event.See cell) (finds.Colour result) }
         ensures known { FindsKnown self.old.me (event.See cell) (finds.Colour result) }
     {
-        let word = colour_word(self.mutators, cell);
-        let found = heap.collector_load::<Brand>(&mut self.seat, Event::See(cell), word);
-        let colour = colour_of(found);
+        let colour = see_at(heap, &mut self.seat, self.mutators, cell);
         self.progress.see(self.cells, cell, colour);
         colour
     }
@@ -67,9 +64,7 @@ impl<P: Keeping> ColSeat<P> {
         ensures below { NamesBelow self.old.me.shape.cells result }
     {
         let scan = scan_or_none(self.progress.scan);
-        let word = field_word(self.mutators, scan.cell, scan.next);
-        let found = heap.collector_load::<Brand>(&mut self.seat, Event::Scan, word);
-        let field = field_of(found);
+        let field = scan_at(heap, &mut self.seat, self.mutators, scan.cell, scan.next);
         let further = scanned(scan, field);
         self.progress.scan = Some(further);
         field
@@ -84,10 +79,7 @@ impl<P: Keeping> ColSeat<P> {
     {
         let scan = scan_or_none(self.progress.scan);
         let child = child_or_anchor(scan.child);
-        let word = colour_word(self.mutators, child);
-        let old = pack_colour(Colour::White);
-        let new = pack_colour(Colour::Gray);
-        heap.collector_exchange::<Brand>(&mut self.seat, Event::Shade, word, old, new);
+        shade_at(heap, &mut self.seat, self.mutators, child);
         let further = scan_shaded(scan);
         self.progress.scan = Some(further);
     }
@@ -100,9 +92,7 @@ impl<P: Keeping> ColSeat<P> {
         ensures known { FindsKnown self.old.me event.Blacken finds.Stored }
     {
         let scan = scan_or_none(self.progress.scan);
-        let word = colour_word(self.mutators, scan.cell);
-        let black = pack_colour(Colour::Black);
-        heap.collector_store::<Brand>(&mut self.seat, Event::Blacken, word, black);
+        blacken_at(heap, &mut self.seat, self.mutators, scan.cell);
         self.progress.scan = None;
     }
 }

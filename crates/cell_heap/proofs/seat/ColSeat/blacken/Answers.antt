@@ -1,40 +1,33 @@
-use Rattle.std.proofs.Common.{None, ap, refl}
+use Rattle.std.proofs.Common.{None, ap, refl, sym}
 use Rattle.cell_heap.specs.declared.progress.Progress.{Progress}
-use Rattle.cell_heap.proofs.AtHand.{at_scanned}
-use Rattle.cell_heap.proofs.Kept.{kept}
-use Rattle.cell_heap.proofs.Made.{knows, made, tells}
-use Rattle.cell_heap.proofs.Owed.{below, owes, stores}
-use Rattle.core_machine.specs.WordOperations.{Store}
+use Rattle.cell_heap.proofs.AtHand.{scan_is}
+use Rattle.cell_heap.proofs.InARow.{collectors}
+use Rattle.cell_heap.proofs.Owed.{allowed}
+use Rattle.cell_heap.proofs.Single.{known_of, seat_of, tells_of, told_on}
 use Rattle.core_machine.specs.declared.events.Event.TheVariants as event
 use Rattle.core_machine.specs.declared.events.Found.TheVariants as finds
+use Rattle.core_machine.specs.declared.progress.Scanning.{Scanning}
 use Rattle.cell_heap.proofs.seat.ColSeat.blacken.Goals as goal
 
-pub collector_store-requires-clause-word : goal.collector_store-requires-clause-word
-collector_store-requires-clause-word g c =
-    below c.args.heap.now event.Blacken c.self.view_is c.requires.seat c.self.invariant refl
-    c.requires.can
-    (at_scanned c.self.invariant c.scan_or_none-scan.ensures.scan c.colour_word-word.ensures.index)
-
-pub collector_store-requires-clause-kind : goal.collector_store-requires-clause-kind
-collector_store-requires-clause-kind g c =
-    owes g.P.Keeping.fixed event.Blacken c.colour_word-word.result
-    (Store c.pack_colour-black.result)
-    c.self.view_is refl c.requires.can
-    (at_scanned c.self.invariant c.scan_or_none-scan.ensures.scan c.colour_word-word.ensures.index)
-    (stores c.pack_colour-black.result _ c.pack_colour-black.ensures.word)
+pub blacken_at-requires : goal.blacken_at-requires
+blacken_at-requires g c =
+    let is = c.self.invariant in
+    record {
+      seat = seat_of c.args.heap.now c.self.view_is c.requires.seat;
+      collector = collectors is;
+      mutators = sym is.mutators_are;
+      cell = sym (ap (λ (s : Scanning). s.cell) (scan_is is c.scan_or_none-scan.ensures.scan));
+      can = allowed event.Blacken c.self.view_is c.requires.can;
+    }
 
 pub invariant_of-self : goal.invariant_of-self
 invariant_of-self g c =
-    let step = c.collector_store.ensures.step in
-    let m = made c.self.view_is c.collector_store.ensures.same step in
-    kept m c.self.invariant refl _ refl _
+    told_on event.Blacken finds.Stored c.self.invariant c.blacken_at.ensures.collector
+    c.blacken_at.ensures.told refl
     (ap (λ (p : Progress). record p { scan = None }) c.self.invariant.progress_is)
 
 pub returns : goal.returns
-returns g c =
-    let step = c.collector_store.ensures.step in
-    let m = made c.self.view_is c.collector_store.ensures.same step in
-    record {
-      told = tells m finds.Stored step.new;
-      known = knows m finds.Stored refl refl;
-    }
+returns g c = record {
+  told = tells_of event.Blacken finds.Stored c.self.view_is c.blacken_at.ensures.told;
+  known = known_of event.Blacken finds.Stored c.self.view_is c.blacken_at.ensures.known;
+}

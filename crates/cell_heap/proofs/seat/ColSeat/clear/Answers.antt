@@ -1,44 +1,29 @@
-use Rattle.std.proofs.Common.{◌+◌, ap, refl}
+use Rattle.std.proofs.Common.{◌+◌, ap, refl, sym}
 use Rattle.cell_heap.specs.declared.progress.Progress.{Progress}
-use Rattle.cell_heap.proofs.AtHand.{at_cursor}
-use Rattle.cell_heap.proofs.Kept.{kept}
-use Rattle.cell_heap.proofs.Made.{knows, made, tells}
-use Rattle.cell_heap.proofs.Owed.{below, exchanges, owes}
-use Rattle.core_machine.specs.WordOperations.{Exchange}
+use Rattle.cell_heap.proofs.InARow.{collectors}
+use Rattle.cell_heap.proofs.Owed.{allowed}
+use Rattle.cell_heap.proofs.Single.{colour_of, seat_of, told_on}
 use Rattle.core_machine.specs.declared.events.Event.TheVariants as event
 use Rattle.core_machine.specs.declared.events.Found.TheVariants as finds
 use Rattle.cell_heap.proofs.seat.ColSeat.clear.Goals as goal
 
-pub collector_exchange-requires-clause-word : goal.collector_exchange-requires-clause-word
-collector_exchange-requires-clause-word g c =
-    below c.args.heap.now event.ClearCell c.self.view_is c.requires.seat c.self.invariant refl
-    c.requires.can
-    (at_cursor c.self.invariant c.colour_word-word.ensures.index)
-
-pub collector_exchange-requires-clause-kind : goal.collector_exchange-requires-clause-kind
-collector_exchange-requires-clause-kind g c =
-    owes g.P.Keeping.fixed event.ClearCell c.colour_word-word.result
-    (Exchange c.pack_colour-old.result c.pack_colour-new.result)
-    c.self.view_is refl c.requires.can
-    (at_cursor c.self.invariant c.colour_word-word.ensures.index)
-    (exchanges c.pack_colour-old.result c.pack_colour-new.result _ _
-    c.pack_colour-old.ensures.word c.pack_colour-new.ensures.word)
+pub clear_at-requires : goal.clear_at-requires
+clear_at-requires g c =
+    let is = c.self.invariant in
+    record {
+      seat = seat_of c.args.heap.now c.self.view_is c.requires.seat;
+      collector = collectors is;
+      mutators = sym is.mutators_are;
+      cell = sym (ap (λ (p : Progress). p.cursor) is.progress_is);
+      can = allowed event.ClearCell c.self.view_is c.requires.can;
+    }
 
 pub invariant_of-self : goal.invariant_of-self
 invariant_of-self g c =
-    let step = c.collector_exchange.ensures.step in
-    let m = made c.self.view_is c.collector_exchange.ensures.same step in
-    kept m c.self.invariant refl _ refl _
+    let told = c.clear_at.ensures.told in
+    told_on event.ClearCell (finds.Colour told.found) c.self.invariant
+    c.clear_at.ensures.collector told.told refl
     (ap (λ (p : Progress). record p { cursor = p.cursor + 1 }) c.self.invariant.progress_is)
 
 pub returns : goal.returns
-returns g c =
-    let step = c.collector_exchange.ensures.step in
-    let m = made c.self.view_is c.collector_exchange.ensures.same step in
-    record {
-      told = record {
-        found = _;
-        known = knows m (finds.Colour _) refl refl;
-        told = tells m (finds.Colour _) step.new;
-      };
-    }
+returns g c = record { told = colour_of event.ClearCell c.self.view_is c.clear_at.ensures.told }

@@ -1,47 +1,35 @@
-use Rattle.std.proofs.Common.{refl}
-use Rattle.cell_heap.proofs.AtHand.{at_child}
+use Rattle.std.proofs.Common.{◌∙◌, ap, refl, sym}
+use Rattle.cell_heap.proofs.AtHand.{scan_is}
 use Rattle.cell_heap.proofs.Changes.{shades}
-use Rattle.cell_heap.proofs.Kept.{kept}
-use Rattle.cell_heap.proofs.Made.{knows, made, tells}
-use Rattle.cell_heap.proofs.Owed.{allowed, below, exchanges, owes}
-use Rattle.core_machine.specs.WordOperations.{Exchange}
+use Rattle.cell_heap.proofs.InARow.{collectors}
+use Rattle.cell_heap.proofs.Owed.{allowed}
+use Rattle.cell_heap.proofs.Single.{colour_of, seat_of, told_on}
+use Rattle.core_machine.specs.Tracing.{child_or_anchor}
 use Rattle.core_machine.specs.declared.events.Event.TheVariants as event
 use Rattle.core_machine.specs.declared.events.Found.TheVariants as finds
+use Rattle.core_machine.specs.declared.progress.Scanning.{Scanning}
 use Rattle.cell_heap.proofs.seat.ColSeat.shade.Goals as goal
 
-pub collector_exchange-requires-clause-word : goal.collector_exchange-requires-clause-word
-collector_exchange-requires-clause-word g c =
-    below c.args.heap.now event.Shade c.self.view_is c.requires.seat c.self.invariant refl
-    c.requires.can
-    (at_child c.self.invariant c.scan_or_none-scan.ensures.scan
-    c.child_or_anchor-child.ensures.child c.colour_word-word.ensures.index)
-
-pub collector_exchange-requires-clause-kind : goal.collector_exchange-requires-clause-kind
-collector_exchange-requires-clause-kind g c =
-    owes g.P.Keeping.fixed event.Shade c.colour_word-word.result
-    (Exchange c.pack_colour-old.result c.pack_colour-new.result)
-    c.self.view_is refl c.requires.can
-    (at_child c.self.invariant c.scan_or_none-scan.ensures.scan
-    c.child_or_anchor-child.ensures.child c.colour_word-word.ensures.index)
-    (exchanges c.pack_colour-old.result c.pack_colour-new.result _ _
-    c.pack_colour-old.ensures.word c.pack_colour-new.ensures.word)
+pub shade_at-requires : goal.shade_at-requires
+shade_at-requires g c =
+    let is = c.self.invariant in
+    let at = scan_is is c.scan_or_none-scan.ensures.scan in
+    record {
+      seat = seat_of c.args.heap.now c.self.view_is c.requires.seat;
+      collector = collectors is;
+      mutators = sym is.mutators_are;
+      child = c.child_or_anchor-child.ensures.child
+          ∙ sym (ap (λ (s : Scanning). child_or_anchor s.child) at);
+      can = allowed event.Shade c.self.view_is c.requires.can;
+    }
 
 pub invariant_of-self : goal.invariant_of-self
 invariant_of-self g c =
-    let step = c.collector_exchange.ensures.step in
-    let m = made c.self.view_is c.collector_exchange.ensures.same step in
-    kept m c.self.invariant refl _ refl _
+    let told = c.shade_at.ensures.told in
+    told_on event.Shade (finds.Colour told.found) c.self.invariant c.shade_at.ensures.collector
+    told.told refl
     (shades c.self.invariant (allowed event.Shade c.self.view_is c.requires.can)
     c.scan_or_none-scan.ensures.scan c.scan_shaded-further.ensures.scan)
 
 pub returns : goal.returns
-returns g c =
-    let step = c.collector_exchange.ensures.step in
-    let m = made c.self.view_is c.collector_exchange.ensures.same step in
-    record {
-      told = record {
-        found = _;
-        known = knows m (finds.Colour _) refl refl;
-        told = tells m (finds.Colour _) step.new;
-      };
-    }
+returns g c = record { told = colour_of event.Shade c.self.view_is c.shade_at.ensures.told }
