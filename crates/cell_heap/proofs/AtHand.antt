@@ -7,7 +7,7 @@ use Rattle.cell_words.specs.declared.controls.Stage.TheVariants as stage
 use Rattle.core_machine.specs.declared.progress.Scanning.{Scanning}
 use Rattle.core_machine.specs.Sweep.{wiped_count}
 use Rattle.core_machine.specs.Table.{ColourOf, FieldOf, index_of}
-use Rattle.core_machine.specs.Tracing.{child_or_anchor, scan_or_none}
+use Rattle.core_machine.specs.Tracing.{scan_or_none}
 use Rattle.heap_rule.specs.declared.view.View.{View}
 
 -- by equal numbers
@@ -34,16 +34,12 @@ module _ {P : Type 0} {v : View P} {cells mutators : ℕ} {control : Control} {p
       → scan_or_none v.part.scan ≡ scan
   scan_is at = ap (λ (p : Progress). scan_or_none p.scan) is.progress_is ∙ sym at
 
-  position_is : v.control.position ≡ control.position
+  pub position_is : v.control.position ≡ control.position
   position_is = ap (λ (x : Control). x.position) is.control_is
 
   pub at_cell : (cell : ℕ) {word : ℕ} → word ≡ index_of mutators (ColourOf cell)
       → index_of v.shape.mutators (ColourOf cell) ≡ word
   at_cell cell lies = colour_at (λ j. cell) lies
-
-  pub at_cursor : {word : ℕ} → word ≡ index_of mutators (ColourOf progress.cursor)
-      → index_of v.shape.mutators (ColourOf v.part.cursor) ≡ word
-  at_cursor lies = colour_at (ap (λ (p : Progress). p.cursor) is.progress_is) lies
 
   pub at_position : {word : ℕ} → word ≡ index_of mutators (ColourOf control.position)
       → index_of v.shape.mutators (ColourOf v.control.position) ≡ word
@@ -55,26 +51,6 @@ module _ {P : Type 0} {v : View P} {cells mutators : ℕ} {control : Control} {p
   at_wiped at lies =
       field_at position_is
       (ap (λ (p : Progress). wiped_count p.sweep) is.progress_is ∙ sym at) lies
-
-  pub at_scanned : {scan : Scanning} {word : ℕ} → scan ≡ scan_or_none progress.scan
-      → word ≡ index_of mutators (ColourOf scan.cell)
-      → index_of v.shape.mutators (ColourOf (scan_or_none v.part.scan).cell) ≡ word
-  at_scanned at lies = colour_at (ap (λ (s : Scanning). s.cell) (scan_is at)) lies
-
-  pub at_child : {scan : Scanning} {child word : ℕ} → scan ≡ scan_or_none progress.scan
-      → child ≡ child_or_anchor scan.child → word ≡ index_of mutators (ColourOf child)
-      → index_of v.shape.mutators (ColourOf (child_or_anchor (scan_or_none v.part.scan).child))
-      ≡ word
-  at_child at of lies =
-      colour_at (ap (λ (s : Scanning). child_or_anchor s.child) (scan_is at) ∙ sym of) lies
-
-  pub at_next : {scan : Scanning} {word : ℕ} → scan ≡ scan_or_none progress.scan
-      → word ≡ index_of mutators (FieldOf scan.cell scan.next)
-      → index_of v.shape.mutators
-      (FieldOf (scan_or_none v.part.scan).cell (scan_or_none v.part.scan).next) ≡ word
-  at_next at lies =
-      field_at (ap (λ (s : Scanning). s.cell) (scan_is at))
-      (ap (λ (s : Scanning). s.next) (scan_is at)) lies
 
   -- between two cycles no scan goes on
   pub no_scan : v.control.stage ≡ stage.Idle → progress.scan ≡ None

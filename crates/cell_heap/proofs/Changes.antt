@@ -44,7 +44,7 @@ pub answers : (c : Collector) (i : ℕ) (b : Bool) → progress_of (answered_by 
 answers c i true = refl
 answers c i false = refl
 
--- Where two parts are at the same point, they are so behind a look of the trace.
+-- Where two parts are at the same point, they are so after a look of the trace.
 
 on_either : (b : Bool) (x y z w : Collector) → progress_of x ≡ progress_of z
     → progress_of y ≡ progress_of w

@@ -1,4 +1,4 @@
--- Runs of events, one event longer, and what the seat is behind them.
+-- Runs of events, one event longer, and what the seat is after them.
 use Rattle.std.proofs.Common.{◌≡◌, ◌≢◌, ◌<◌, ◌+◌, ◌&&◌, ℕ, Bool, true, false, not}
 use Rattle.std.proofs.Common.{if◌then◌else◌, List, [], ◌∷◌, ◌++◌, length, Some, None}
 use Rattle.std.proofs.Common.{refl, sym, ◌∙◌, ap, subst, arith, eq-eqb, ne_eqb}
@@ -78,7 +78,8 @@ pub goes_on : (part : Collector) (cells at : ℕ) → part.cursor ≡ at → at 
     → restarted part cells ≡ part
 goes_on part cells at is there =
     let other : part.cursor ≢ cells = omega (arith, is, there) in
-    ap (λ (b : Bool). if b && not part.clean then record part { cursor = 0; clean = true } else part)
+    ap (λ (b : Bool).
+    if b && not part.clean then record part { cursor = 0; clean = true } else part)
     (ne_eqb part.cursor cells other)
 
 passes : (part : Collector) (at : ℕ) → part.cursor ≡ at
@@ -264,7 +265,8 @@ module _ {P : Type 0} where
       → TellsColour b event.ClearCell c → ClearedTo (at + 1) a c
   cleared_more at a b c so one = record {
     found = so.found ++ one.found ∷ [];
-    told = subst (λ (xs : List Taken). TellsAll a xs c) (sym (clear_append so.found (one.found ∷ [])))
+    told = subst (λ (xs : List Taken). TellsAll a xs c)
+        (sym (clear_append so.found (one.found ∷ [])))
         (tells_append a b c (clear_over so.found) (clear_over (one.found ∷ [])) so.told
         (one.known, one.told));
     many = omega (arith, so.many, length-append so.found (one.found ∷ []));

@@ -87,7 +87,7 @@ module _ {P : Type 0} where
         });
   }
 
-  -- behind a field the scan is at the next one
+  -- after a field the scan is at the next one
   pub at_next_field : (heap : HeapId) (mutators cell f : ℕ) (child : Option ℕ) (a b : SeatView P)
       → IsAtField heap mutators cell f a → ScansField cell f child a b → IsCollectors b.me
       → IsAtField heap mutators cell (f + 1) b

@@ -1,4 +1,4 @@
--- The ranges of the collector's numbers stand behind every event of it, whatever it is: every state
+-- The ranges of the collector's numbers stand after every event of it, whatever it is: every state
 -- of a run has them.
 use Rattle.std.proofs.Common.{◌≡◌, ◌<◌, ◌≤◌, ◌+◌, ◌*◌, ◌^◌, ℕ, Bool, None, length, sym}
 use Rattle.std.proofs.Common.{◌∙◌, ap, subst, arith}
@@ -71,7 +71,7 @@ state_within s r k = record {
 }
 
 module _ {P : Type 0} {fixed : ℕ → Bool} {v w : View P} {e : Event} {number : ℕ} where
-  -- of the state behind a step the seat knows the parts that they speak of
+  -- of the state after a step the seat knows the parts that they speak of
   pub within_after : maker e ≡ None → AtCollectorStep fixed v e number w
       → IsWithin w.shape.cells w.control (progress_of w.part)
   within_after made at =

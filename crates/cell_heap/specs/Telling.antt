@@ -29,7 +29,7 @@ says_over (finds.Presence found) = found.over
 says_over _ = false
 
 module _ {P : Type 0} where
-  -- The seat is told an event with what it found. The state behind it is of no account but where a
+  -- The seat is told an event with what it found. The state after it is of no account but where a
   -- presence was found, so any stands here.
   abbrev pub collector_tells : SeatView P → Event → Found → SeatView P
   collector_tells seat e found = record seat {
@@ -73,7 +73,7 @@ module _ {P : Type 0} where
     pub known : FindsKnown old.me e (finds.Colour found)
     pub told : new ≡ collector_tells old e (finds.Colour found)
 
-  -- A look at a mutator's presence, with the state in which it happened: behind it the collector
+  -- A look at a mutator's presence, with the state in which it happened: after it the collector
   -- may know that all are over, and then knows the state.
   pub record AtCollectorEvent (fixed : ℕ → Bool) (v : View P) (e : Event) (found : Found)
       (w : View P) : Type 0 where

@@ -133,8 +133,8 @@ fn scan_all<P: Keeping>(
 }
 
 impl<P: Keeping> ColSeat<P> {
-    /// Scans the cell under scan from its first field on: it loads each of the five, shades the cell
-    /// in it straight after, and stores black at the end. It gives these cells, by field.
+    /// Scans the cell under scan from its first field on: it loads each of the five, shades the
+    /// cell in it straight after, and stores black at the end. It gives these cells, by field.
     ///
     /// Five loads, a compare and exchange for each cell that a field names, and a store.
     pub fn scan_cell(&mut self, heap: &CellHeap<P>, cell: u32) -> [Option<u32>; 5]

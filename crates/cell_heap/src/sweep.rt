@@ -1,4 +1,4 @@
-//! The calls of the sweep.
+//! The calls of the sweep, an event each.
 ghost use Rattle.std.specs.Prelude.{◌≡◌, false, true};
 ghost use Rattle.cell_heap.specs.Telling.{FindsKnown, collector_tells};
 ghost use Rattle.core_machine.specs.Next.{can};
@@ -10,12 +10,12 @@ ghost use Rattle.heap_table.specs.Seats.{IsSeatOf};
 
 use crate::progress::{sweep_of, wiped, wiped_count};
 use crate::seat::ColSeat;
-use crate::words::{CONTROL, colour_word, field_word};
-use cell_words::{Colour, Control, Field, pack_colour, pack_control, pack_field};
+use crate::sweep_runs::{advance_to, look_at, whiten_at};
+use crate::words::{colour_word, field_word};
+use cell_words::{Colour, Control, Field, pack_colour, pack_field};
 use core_machine::{Event, Sweeping};
 use heap_rule::Keeping;
 use heap_table::CellHeap;
-use heap_table::words::colour_of;
 use std::marker::Brand;
 
 impl<P: Keeping> ColSeat<P> {
@@ -27,9 +27,7 @@ impl<P: Keeping> ColSeat<P> {
         ensures known { FindsKnown self.old.me event.SweepLook (finds.Colour result) }
         ensures not_gray { is_gray result ≡ false }
     {
-        let word = colour_word(self.mutators, self.control.position);
-        let found = heap.collector_load::<Brand>(&mut self.seat, Event::SweepLook, word);
-        let colour = colour_of(found);
+        let colour = look_at(heap, &mut self.seat, self.mutators, self.control.position);
         let sweep = sweep_of(colour);
         self.progress.sweep = sweep;
         colour
@@ -71,9 +69,7 @@ impl<P: Keeping> ColSeat<P> {
         ensures told { self.new ≡ collector_tells self.old event.Whiten finds.Stored }
         ensures known { FindsKnown self.old.me event.Whiten finds.Stored }
     {
-        let word = colour_word(self.mutators, self.control.position);
-        let white = pack_colour(Colour::White);
-        heap.collector_store::<Brand>(&mut self.seat, Event::Whiten, word, white);
+        whiten_at(heap, &mut self.seat, self.mutators, self.control.position);
         self.progress.sweep = Sweeping::Done;
     }
 
@@ -88,8 +84,7 @@ impl<P: Keeping> ColSeat<P> {
             position: self.control.position + 1,
             ..self.control
         };
-        let word = pack_control(control);
-        heap.collector_store::<Brand>(&mut self.seat, Event::Advance, CONTROL, word);
+        advance_to(heap, &mut self.seat, control);
         self.control = control;
         self.progress.sweep = Sweeping::Fresh;
     }

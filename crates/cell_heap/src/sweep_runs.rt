@@ -1,5 +1,6 @@
 //! Runs of the sweep. Each event is the one of its own call, by the same atomic operation; a run
-//! keeps in locals where it is, and the seat has it again at the end.
+//! keeps in locals where it is, and the seat has it again at the end. The single calls of `sweep`
+//! call the same functions.
 ghost use Rattle.std.specs.Prelude.{◌≡◌, ◌<◌, ◌≤◌, false, true};
 ghost use Rattle.cell_heap.specs.Collecting.{IsCollectors};
 ghost use Rattle.cell_heap.specs.Runs.{SweepsOn, TellsAll, is_white, left_at, sweep_at};
@@ -33,7 +34,7 @@ fn is_white(colour: Colour) -> bool
 }
 
 /// Loads the colour of the cell at the position.
-fn look_at<P: Keeping>(
+pub(crate) fn look_at<P: Keeping>(
     heap: &CellHeap<P>,
     seat: &mut HeapSeat<P>,
     mutators: u32,
@@ -55,7 +56,12 @@ fn look_at<P: Keeping>(
 }
 
 /// Stores white as the colour of the cell at the position.
-fn whiten_at<P: Keeping>(heap: &CellHeap<P>, seat: &mut HeapSeat<P>, mutators: u32, position: u32)
+pub(crate) fn whiten_at<P: Keeping>(
+    heap: &CellHeap<P>,
+    seat: &mut HeapSeat<P>,
+    mutators: u32,
+    position: u32,
+)
     requires seat { IsSeatOf heap.now seat.old }
     requires collector { IsCollectors seat.old.me }
     requires mutators { mutators ≡ seat.old.me.shape.mutators }
@@ -71,7 +77,7 @@ fn whiten_at<P: Keeping>(heap: &CellHeap<P>, seat: &mut HeapSeat<P>, mutators: u
 }
 
 /// Stores the control with the next position.
-fn advance_to<P: Keeping>(heap: &CellHeap<P>, seat: &mut HeapSeat<P>, control: Control)
+pub(crate) fn advance_to<P: Keeping>(heap: &CellHeap<P>, seat: &mut HeapSeat<P>, control: Control)
     requires seat { IsSeatOf heap.now seat.old }
     requires collector { IsCollectors seat.old.me }
     requires control { control ≡ control_after seat.old.me.control event.Advance }
@@ -149,8 +155,8 @@ fn sweep_from<P: Keeping>(
 }
 
 impl<P: Keeping> ColSeat<P> {
-    /// Sweeps on over blue and black cells, up to a white one, which is to be wiped from then on; or
-    /// by the last cell. It gives the number of the white one.
+    /// Sweeps on over blue and black cells, up to a white one, which is to be wiped from then on;
+    /// or by the last cell. It gives the number of the white one.
     ///
     /// A blue cell costs a load and a store of the control, a black one a store of its colour too.
     pub fn sweep_on(&mut self, heap: &CellHeap<P>) -> Option<u32>

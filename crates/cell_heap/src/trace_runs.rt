@@ -138,8 +138,8 @@ impl<P: Keeping> ColSeat<P> {
         self.progress.cursor = self.cells;
     }
 
-    /// Goes on by cells that are not gray, from the cursor on, up to a gray one, which is under scan
-    /// from then on; or by the last cell. It gives the number of the gray one. A load a cell.
+    /// Goes on by cells that are not gray, from the cursor on, up to a gray one, which is under
+    /// scan from then on; or by the last cell. It gives the number of the gray one. A load a cell.
     pub fn see_on(&mut self, heap: &CellHeap<P>) -> Option<u32>
         requires seat { IsSeatOf heap.now self.old }
         requires stage { self.old.me.control.stage ≡ stage.Trace }

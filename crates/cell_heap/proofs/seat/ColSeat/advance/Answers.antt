@@ -1,35 +1,33 @@
-use Rattle.std.proofs.Common.{ap, refl}
+use Rattle.std.proofs.Common.{ap, refl, sym}
 use Rattle.cell_heap.specs.declared.progress.Progress.{Progress}
-use Rattle.cell_heap.proofs.Changes.{stores_control}
-use Rattle.cell_heap.proofs.Kept.{kept}
-use Rattle.cell_heap.proofs.Made.{knows, made, tells}
-use Rattle.cell_heap.proofs.Owed.{owes}
-use Rattle.core_machine.specs.WordOperations.{Store}
+use Rattle.cell_heap.proofs.InARow.{collectors}
+use Rattle.cell_heap.proofs.Owed.{allowed}
+use Rattle.cell_heap.proofs.Single.{known_of, seat_of, tells_of, told_on}
+use Rattle.cell_words.specs.declared.controls.Control.{Control}
+use Rattle.core_machine.specs.Collector.{control_after}
 use Rattle.core_machine.specs.declared.events.Event.TheVariants as event
 use Rattle.core_machine.specs.declared.events.Found.TheVariants as finds
 use Rattle.core_machine.specs.declared.progress.Sweeping.TheVariants as sweeping
 use Rattle.cell_heap.proofs.seat.ColSeat.advance.Goals as goal
 
-pub collector_store-requires-clause-kind : goal.collector_store-requires-clause-kind
-collector_store-requires-clause-kind g c =
-    owes g.P.Keeping.fixed event.Advance 0
-    (Store c.pack_control-word.result) c.self.view_is refl c.requires.can refl
-    (stores_control event.Advance c.self.inside.seat.me.control c.self.inside.control
-    _ c.pack_control-word.result c.self.invariant.control_is
-    refl c.pack_control-word.ensures.word)
+pub advance_to-requires : goal.advance_to-requires
+advance_to-requires g c =
+    let is = c.self.invariant in
+    record {
+      seat = seat_of c.args.heap.now c.self.view_is c.requires.seat;
+      collector = collectors is;
+      control = ap (λ (x : Control). control_after x event.Advance) (sym is.control_is);
+      can = allowed event.Advance c.self.view_is c.requires.can;
+    }
 
 pub invariant_of-self : goal.invariant_of-self
 invariant_of-self g c =
-    kept (made c.self.view_is c.collector_store.ensures.same c.collector_store.ensures.step)
-    c.self.invariant refl _ refl _
-    (ap (λ (p : Progress). record p { sweep = sweeping.Fresh })
-    c.self.invariant.progress_is)
+    told_on event.Advance finds.Stored c.self.invariant c.advance_to.ensures.collector
+    c.advance_to.ensures.told refl
+    (ap (λ (p : Progress). record p { sweep = sweeping.Fresh }) c.self.invariant.progress_is)
 
 pub returns : goal.returns
-returns g c =
-    let step = c.collector_store.ensures.step in
-    let m = made c.self.view_is c.collector_store.ensures.same step in
-    record {
-      told = tells m finds.Stored step.new;
-      known = knows m finds.Stored refl refl;
-    }
+returns g c = record {
+  told = tells_of event.Advance finds.Stored c.self.view_is c.advance_to.ensures.told;
+  known = known_of event.Advance finds.Stored c.self.view_is c.advance_to.ensures.known;
+}

@@ -1,5 +1,0 @@
-use Rattle.heap_rule.specs.Steps.{same_pass}
-use Rattle.cell_heap.proofs.seat.ColSeat.sweep_look.Given as goal
-
-abbrev pub ghosts-collector_load : goal.ghosts-collector_load
-ghosts-collector_load g a = record { event = a.event; next = same_pass }

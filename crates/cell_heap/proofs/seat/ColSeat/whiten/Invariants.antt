@@ -1,5 +1,0 @@
-use Rattle.heap_rule.specs.Steps.{same_pass}
-use Rattle.cell_heap.proofs.seat.ColSeat.whiten.Given as goal
-
-abbrev pub ghosts-collector_store : goal.ghosts-collector_store
-ghosts-collector_store g a = record { event = a.event; next = same_pass }
