@@ -149,7 +149,8 @@ module _ {P : Type 0} where
   look_last [] cell k None a b is there last empty other known many within heap stack told =
       let ends : (cell + 1 == cells_of a) ≡ true =
       eq-eqb (cell + 1) (cells_of a) (omega (arith, there, last)) in
-      subst (λ (x : Bound P). Does (passes_one true) a x) (sym (bound_is a b cell k heap stack told))
+      subst (λ (x : Bound P). Does (passes_one true) a x)
+      (sym (bound_is a b cell k heap stack told))
       (subst (λ (x : Bool). Does (passes_one x) a (takes a (event.See cell) (finds.Colour k))) ends
       (look_by a cell k is there empty other known))
   look_last [] cell k (Some c) a b is there last empty other known many within heap stack told =

@@ -103,7 +103,7 @@ module _ {P : Type 0} where
         λ so. over_of_two one other n xs ys (sym is ∙ so) x.1 y.1,
       )) first second
 
-  -- behind events that count for nothing
+  -- after events that count for nothing
   pub hears_after : (over : Bool) (from end : ℕ) (a b c : Bound P) → Does nothing a b
       → Hears over from end b c → Hears over from end a c
   hears_after over from end a b c first second =
@@ -128,7 +128,7 @@ module _ {P : Type 0} where
             (y.1 (and_parts all one (sym is ∙ so)).1),
       )) first second
 
-  -- A look at a presence, with the state behind it.
+  -- A look at a presence, with the state after it.
 
   seat_is : (fixed : ℕ → Bool) (a b : Bound P) (e : Event) (found : Found)
       → b.seat.table ≡ a.seat.table → (told : AtCollectorEvent fixed a.seat.me e found b.seat.me)
@@ -158,7 +158,7 @@ module _ {P : Type 0} where
         λ so. over_here m found so,
       )
 
-  -- a look, and the answer for the mutator right behind it
+  -- a look, and the answer for the mutator right after it
   pub hears_two : (fixed : ℕ → Bool) (a b c : Bound P) (m : ℕ) (found met : Presence)
       → b.heap ≡ a.heap → b.seat.table ≡ a.seat.table → b.stack ≡ a.stack
       → AtCollectorEvent fixed a.seat.me (event.Poll m) (finds.Presence found) b.seat.me

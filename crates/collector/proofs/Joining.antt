@@ -1,5 +1,5 @@
 -- Stretches follow one another: their events go together, and their counts add up.
-use Rattle.std.proofs.Common.{◌≡◌, ℕ, true, List, [], ◌∷◌, ◌++◌, refl, sym, ◌∙◌, ap, subst}
+use Rattle.std.proofs.Common.{◌≡◌, true, List, [], ◌∷◌, ◌++◌, refl, sym, ◌∙◌, ap, subst}
 use Rattle.std.proofs.lemmas.List.{append_assoc, append-nil}
 use Rattle.cell_heap.specs.Telling.{FindsKnown}
 use Rattle.core_machine.specs.State.{State}
@@ -10,12 +10,12 @@ use Rattle.heap_rule.specs.Asks.{collector_state}
 use Rattle.heap_rule.specs.Rule.{took}
 use Rattle.heap_table.specs.Seats.{SeatView}
 use Rattle.collector.specs.Bound.{Bound, part_of, takes, tells_at}
-use Rattle.collector.specs.Counting.{Counts, CountsOn, Does, goes_on, nothing, plus}
+use Rattle.collector.specs.Counting.{Counts, Does, goes_on, nothing, plus}
 use Rattle.collector.specs.Replay.{Work, stack_after, work_after, work_of}
 use Rattle.collector.specs.Stack.{Stack}
 use Rattle.collector.specs.Stretches.{Kept, Stretch, Took}
 use Rattle.collector.specs.declared.report.CycleReport.{CycleReport}
-use Rattle.collector.proofs.Counted.{counts_join, counts_none, is_still, none_few, none_plus}
+use Rattle.collector.proofs.Counted.{counts_join, counts_none, is_still, none_plus}
 use Rattle.collector.proofs.Counted.{plus_none}
 use Rattle.collector.proofs.Counted.{room_after, still_counts, still_stack}
 
@@ -152,20 +152,10 @@ module _ {P : Type 0} where
   does_both r q t a b c is first second =
       does_as (plus r q) t a c is (does_then r q a b c first second)
 
-  -- events that count for nothing, before others and behind them
+  -- events that count for nothing, before others and after them
   pub does_after : (r : CycleReport) (a b c : Bound P) → Does nothing a b → Does r b c → Does r a c
   does_after r a b c first second =
       does_both nothing r r a b c (sym (none_plus r)) first second
-
-  -- and leave a count as it is
-  pub counts_none_on : (n : ℕ) (so_far : CycleReport) (a b : Bound P) → Does nothing a b
-      → CountsOn n so_far so_far a b
-  counts_none_on n so_far a b does = record {
-    more = nothing;
-    few = none_few n;
-    all_are = sym (plus_none so_far);
-    does = does;
-  }
 
   pub does_and : (r : CycleReport) (a b c : Bound P) → Does r a b → Does nothing b c → Does r a c
   does_and r a b c first second = does_both r nothing r a b c (sym (plus_none r)) first second

@@ -9,6 +9,7 @@ pub mod Joined
 pub mod Joining
 pub mod Leaving
 pub mod Offered
+pub mod Pushed
 pub mod Scanning
 pub mod Stacked
 pub mod TwoPasses

@@ -42,7 +42,7 @@ offers_append (x ∷ xs) ys a b c first second = (
   offers_append xs ys first.0 b c first.2 second,
 )
 
--- The control behind events.
+-- The control after events.
 abbrev control_along : Control → List Taken → Control
 control_along control [] = control
 control_along control (t ∷ ts) = control_along (control_after control t.event) ts
@@ -133,7 +133,7 @@ module _ {P : Type 0} where
       offers_then (CountsTo (work_of a) (work_of b) r) G a b c m m n does second
       (offers_none r a b m none does) offers
 
-  -- an event that frees nothing, behind others
+  -- an event that frees nothing, after others
   pub offers_and : (F : List Taken → Type 0) (a b c : Bound P) (m n : Counts) (e : Event)
       (found : Found) → is_free e ≡ false → is_still e ≡ true → c ≡ takes b e found
       → FindsKnown b.seat.me e found → Stretch F a b → OffersAll (freed_since a b) m n
@@ -149,7 +149,7 @@ module _ {P : Type 0} where
       (sym (freed_by b c (took e found ∷ []) (ap (λ (x : Bound P). x.seat.me.trail) is)
       ∙ ap (λ (cells : List ℕ). cells ++ []) (frees_none (control_of b) e none))) refl)
 
-  -- A Free, and the offer of its cell behind it.
+  -- A Free, and the offer of its cell after it.
 
   pub free_does : (a b : Bound P) → b ≡ takes a event.Free finds.Stored
       → FindsKnown a.seat.me event.Free finds.Stored → Does (frees 1) a b

@@ -73,7 +73,7 @@ record First (colours : List Colour) (n cursor : ℕ) (clean : Bool) (scan : Opt
   unclean : clean ≡ true → (cursor ≡ 0) × (colour_in colours 0 ≡ colour.Gray)
   near : (x : ℕ) → colour_in colours x ≡ colour.Gray → Near st cursor scan x
 
--- How far the passes behind it are.
+-- How far the passes after it are.
 abbrev Counted : ℕ → ℕ → Bool → ℕ → Type 0
 Counted n cursor clean k =
     ((k ≡ 1) × (cursor ≡ n) × (clean ≡ false))

@@ -1,4 +1,4 @@
--- Answers for mutators that are out: whoever a look finds out is answered for right behind it.
+-- Answers for mutators that are out: whoever a look finds out is answered for right after it.
 -- Source: this project's.
 use Rattle.std.specs.Prelude.{◌≡◌, IsTrue, List, [], ◌∷◌}
 use Rattle.cell_words.specs.Modes.{requested_of}

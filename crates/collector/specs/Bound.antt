@@ -48,7 +48,7 @@ module _ {P : Type 0} where
   abbrev pub may : Bound P → Event → Bool
   may c e = can (collector_state c.seat.me) e
 
-  -- The seat after an event of it; where all mutators are over, the state behind it matters.
+  -- The seat after an event of it; where all mutators are over, the state after it matters.
   abbrev pub tells_at : SeatView P → Event → Found → State → SeatView P
   tells_at seat e found now = record seat { me = told_collector seat.me e found now }
 

@@ -24,7 +24,7 @@ pub record IsWhole (events : List Taken) : Type 0 where
   pub one : list_all (λ (t : Taken). goes_on t.event) between ≡ true
   pub answers : AnswersWhoIsOut stage.Sync1 between
 
--- The events of a cycle behind its first one: the first handshake's, and the others. Where the
+-- The events of a cycle after its first one: the first handshake's, and the others. Where the
 -- first handshake found every mutator over, and nothing was spilled, tracing took two passes.
 pub record IsAsked (mutators : ℕ) (report : CycleReport) (events : List Taken) : Type 0 where
   pub asked : List Taken

@@ -5,6 +5,7 @@ pub mod Cycles
 pub mod Looking
 pub mod Offering
 pub mod Over
+pub mod Pushes
 pub mod Replay
 pub mod Serving
 pub mod Stack

@@ -12,7 +12,7 @@ abbrev pub counted : Looked → CycleReport
 counted (looked.Gray c) = nothing
 counted (looked.Other ends) = passes_one ends
 
--- the scan behind it
+-- the scan after it
 abbrev pub scan_of : Looked → Option Scanning
 scan_of (looked.Gray c) = Some (scan_at c 0)
 scan_of (looked.Other ends) = None

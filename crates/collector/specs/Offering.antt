@@ -33,7 +33,7 @@ freed_along control (t ∷ ts) =
     frees_at control t.event ++ freed_along (control_after control t.event) ts
 
 module _ {P : Type 0} where
-  -- the cells that the events behind the old trail free
+  -- the cells that the events after the old trail free
   abbrev pub freed_since : Bound P → Bound P → List ℕ
   freed_since old new =
       freed_along (control_of old) (drop (length old.seat.me.trail) new.seat.me.trail)

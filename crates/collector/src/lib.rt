@@ -6,9 +6,9 @@
 //! stages. The stack shows in the trail too: what is pushed, and what finds no room, is a function
 //! of the events.
 //!
-//! Reading order: specs/Stack, Bound, Stretches, Replay, Answering, Counting, Over, Cycles, Offering;
-//! then `mark_stack`, `report`, `collecting`, `steps`, `asking`, `clearing`, `tracing`, `sweeping`,
-//! `whole`, `serving`, `theorems`.
+//! Reading order: specs/Stack, Bound, Stretches, Replay, Answering, Counting, Pushes, Over, Cycles,
+//! Offering; then `mark_stack`, `report`, `collecting`, `steps`, `asking`, `clearing`, `tracing`,
+//! `sweeping`, `whole`, `serving`, `theorems`.
 #![tactic(auto)]
 
 mod asking;

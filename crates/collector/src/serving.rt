@@ -39,7 +39,7 @@ fn is_done(rest: Rest) -> bool
     }
 }
 
-/// What is left behind a cycle that found every mutator over, or did not.
+/// What is left after a cycle that found every mutator over, or did not.
 fn next_rest(rest: Rest, over: bool) -> Rest
     ensures rest { result ≡ next_rest rest over }
 {
@@ -51,7 +51,7 @@ fn next_rest(rest: Rest, over: bool) -> Rest
     }
 }
 
-/// When a cycle begins behind another.
+/// When a cycle begins after another.
 #[derive(Clone, Copy)]
 pub(crate) enum Pace {
     /// at once

@@ -1,18 +1,18 @@
-//! The seat's calls as this crate uses them: an event each, but the last two.
-ghost use Rattle.std.specs.Prelude.{◌≡◌, ◌≤◌, ◌<◌, ◌^◌, None, true};
+//! The seat's calls as this crate uses them: an event each, but the last three.
+ghost use Rattle.std.specs.Prelude.{◌≡◌, ◌≤◌, ◌<◌, ◌^◌, None, Some, true};
 ghost use Rattle.cell_heap.specs.Runs.{SeesOn, SweepsOn};
+ghost use Rattle.cell_heap.specs.Scans.{ScansCell};
 ghost use Rattle.cell_heap.specs.Telling.{AnswersOut, AtCollectorEvent, FindsKnown};
 ghost use Rattle.cell_words.specs.declared.controls.Stage.TheVariants as stage;
 ghost use Rattle.collector.specs.Bound.{HaveAnswered, TakesColour, cells_of, control_of, may};
-ghost use Rattle.collector.specs.Bound.{part_of, takes};
+ghost use Rattle.collector.specs.Bound.{part_of, scan_at, takes};
 ghost use Rattle.collector.specs.Counting.{Does, nothing};
-ghost use Rattle.core_machine.specs.InRange.{NamesBelow};
 ghost use Rattle.core_machine.specs.declared.events.Event.TheVariants as event;
 ghost use Rattle.core_machine.specs.declared.events.Found.TheVariants as finds;
 ghost use Rattle.core_machine.specs.declared.progress.Sweeping.TheVariants as sweeping;
 
 use crate::collecting::Collector;
-use cell_words::{Colour, Field, Presence, Stage};
+use cell_words::{Colour, Presence, Stage};
 use core_machine::Scanning;
 use heap_rule::Keeping;
 
@@ -92,30 +92,6 @@ impl<'a, P: Keeping> Collector<'a, P> {
         self.seat.see(self.heap, cell)
     }
 
-    pub(crate) fn scan_once(&mut self) -> Field
-        requires may { may self.old event.Scan ≡ true }
-        ensures told { self.new ≡ takes self.old event.Scan (finds.Field result) }
-        ensures known { FindsKnown self.old.seat.me event.Scan (finds.Field result) }
-        ensures below { NamesBelow (cells_of self.old) result }
-    {
-        self.seat.scan(self.heap)
-    }
-
-    pub(crate) fn shade_once(&mut self)
-        requires may { may self.old event.Shade ≡ true }
-        ensures told { TakesColour self.old event.Shade self.new }
-    {
-        self.seat.shade(self.heap);
-    }
-
-    pub(crate) fn blacken_once(&mut self)
-        requires may { may self.old event.Blacken ≡ true }
-        ensures told { self.new ≡ takes self.old event.Blacken finds.Stored }
-        ensures known { FindsKnown self.old.seat.me event.Blacken finds.Stored }
-    {
-        self.seat.blacken(self.heap);
-    }
-
     pub(crate) fn wipe_once(&mut self)
         requires may { may self.old event.Wipe ≡ true }
         ensures told { self.new ≡ takes self.old event.Wipe finds.Stored }
@@ -162,5 +138,16 @@ impl<'a, P: Keeping> Collector<'a, P> {
         ensures seen { SeesOn result self.old.seat self.new.seat }
     {
         self.seat.see_on(self.heap)
+    }
+
+    /// Scans all fields of a cell, and makes it black. It gives the cells that were shaded, by
+    /// field.
+    pub(crate) fn scan_on(&mut self, cell: u32) -> [Option<u32>; 5]
+        requires scan { (part_of self.old).scan ≡ Some (scan_at cell 0) }
+        ensures heap { self.new.heap ≡ self.old.heap }
+        ensures stack { self.new.stack ≡ self.old.stack }
+        ensures scanned { ScansCell result self.old.seat self.new.seat }
+    {
+        self.seat.scan_cell(self.heap, cell)
     }
 }

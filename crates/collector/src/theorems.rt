@@ -1,4 +1,4 @@
-//! A law on heaps that were closed behind a collector that served: the contract of a function that
+//! A law on heaps that were closed after a collector that served: the contract of a function that
 //! does nothing.
 ghost use Rattle.collector.specs.Cycles.{MadeCycles};
 ghost use Rattle.core_machine.specs.declared.events.Taken.{Taken};

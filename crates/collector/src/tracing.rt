@@ -3,24 +3,27 @@
 //! A child that was shaded is pushed on the mark stack and looked at next. So a pass goes on only
 //! where the stack is empty; and it still goes over all cells, since a child that found the stack
 //! full, or was shaded by a mutator, stands in no stack.
-ghost use Rattle.std.specs.Prelude.{◌≡◌, ◌<◌, ◌≤◌, ◌+◌, ◌*◌, ◌^◌, ◌==◌, ◌&&◌, Some, None, true, false};
-ghost use Rattle.std.specs.Prelude.{[], nat_lt};
+ghost use Rattle.std.specs.Prelude.{◌≡◌, ◌<◌, ◌≤◌, ◌+◌, ◌*◌, ◌^◌, ◌==◌, ◌&&◌, Some, None, true};
+ghost use Rattle.std.specs.Prelude.{[], IfSome, false, nat_lt};
+ghost use Rattle.cell_heap.specs.Scans.{AreBelow};
 ghost use Rattle.cell_words.specs.declared.controls.Stage.TheVariants as stage;
-ghost use Rattle.collector.specs.Bound.{HaveAnswered, KeepsTracing, cells_of, control_of, part_of, scan_at};
-ghost use Rattle.collector.specs.Counting.{CountsOn, Does, TracesAtMost, is_traced};
+ghost use Rattle.collector.specs.Bound.{HaveAnswered, KeepsTracing, cells_of, control_of};
+ghost use Rattle.collector.specs.Bound.{part_of, scan_at};
+ghost use Rattle.collector.specs.Counting.{CountsOn, Does, TracesAtMost, is_traced, nothing};
 ghost use Rattle.collector.specs.Looking.{counted, scan_of};
+ghost use Rattle.collector.specs.Pushes.{all_pushed, child_pushed, with_all, with_child};
 ghost use Rattle.collector.specs.Stack.{is_empty};
 ghost use Rattle.core_machine.specs.Collector.{restarted};
 
 use crate::asking::both;
 use crate::collecting::Collector;
 use crate::report::CycleReport;
-use cell_words::{Colour, Field};
+use cell_words::Colour;
 use heap_rule::Keeping;
 use std::sync::Wait;
 use std::thread;
 
-/// No cycle makes so many looks. The counts fit their words by this bound; behind it the collector
+/// No cycle makes so many looks. The counts fit their words by this bound; after it the collector
 /// would wait for ever.
 const TURNS: u64 = 1 << 58;
 
@@ -42,44 +45,39 @@ fn is_last(at: u32, cell: u32, cells: u32) -> bool
 }
 
 impl<'a, P: Keeping> Collector<'a, P> {
-    /// Loads the next field of the cell under scan. The cell that it names is shaded, and pushed,
-    /// which is counted beside what was traced so far.
-    fn scan_field(&mut self, cell: u32, field: usize, so_far: CycleReport) -> CycleReport
-        requires scan { (part_of self.old).scan ≡ Some (scan_at cell field) }
-        requires field { field < 5 }
+    /// Puts a child on the stack, where there is one, and counts it along with what was traced so
+    /// far.
+    fn push_child(&mut self, child: Option<u32>, so_far: CycleReport) -> CycleReport
+        requires below { IfSome child (λ c. c < cells_of self.old) }
         requires few { TracesAtMost (2 ^ 62) so_far }
-        ensures counts { CountsOn 1 so_far result self.old self.new }
-        ensures control { control_of self.new ≡ control_of self.old }
-        ensures part { part_of self.new
-            ≡ record (part_of self.old) { scan = Some (scan_at cell (field + 1)) } }
+        ensures report { result ≡ with_child so_far child self.old.stack }
+        ensures pushed { self.new
+            ≡ record self.old { stack = child_pushed child self.old.stack } }
     {
-        match self.scan_once() {
-            Field::Null => so_far,
-            Field::Num(_) => so_far,
-            Field::Cell(child) => {
-                self.shade_once();
+        match child {
+            None => so_far,
+            Some(child) => {
                 let pushed = self.push(child);
                 so_far.shaded(pushed)
             }
         }
     }
 
-    /// Scans all fields of a cell.
-    fn scan_fields(&mut self, cell: u32) -> CycleReport
-        requires scan { (part_of self.old).scan ≡ Some (scan_at cell 0) }
-        ensures does { Does result self.old self.new }
+    /// Puts the children of a cell on the stack, one after the other, and counts them.
+    fn push_all(&mut self, children: [Option<u32>; 5]) -> CycleReport
+        requires below { AreBelow (cells_of self.old) children }
+        ensures report { result ≡ with_all nothing children self.old.stack }
         ensures few { TracesAtMost 5 result }
-        ensures control { control_of self.new ≡ control_of self.old }
-        ensures part { part_of self.new ≡ record (part_of self.old) { scan = Some (scan_at cell 5) } }
+        ensures pushed { self.new ≡ record self.old { stack = all_pushed children self.old.stack } }
     {
         let mut report = CycleReport::nothing();
-        for field in 0..5usize {
-            report = self.scan_field(cell, field, report);
+        for child in children {
+            report = self.push_child(child, report);
         }
         report
     }
 
-    /// Scans a cell that was found gray, and makes it black.
+    /// Scans a cell that was found gray, makes it black, and pushes its children.
     fn scan_cell(&mut self, cell: u32) -> CycleReport
         requires scan { (part_of self.old).scan ≡ Some (scan_at cell 0) }
         ensures does { Does result self.old self.new }
@@ -87,12 +85,12 @@ impl<'a, P: Keeping> Collector<'a, P> {
         ensures control { control_of self.new ≡ control_of self.old }
         ensures part { part_of self.new ≡ record (part_of self.old) { scan = None } }
     {
-        let report = self.scan_fields(cell);
-        self.blacken_once();
+        let children = self.scan_on(cell);
+        let report = self.push_all(children);
         report.scanned()
     }
 
-    /// The cell that the pass has come to, where another one is owed: the first one again behind a
+    /// The cell that the pass has come to, where another one is owed: the first one again after a
     /// pass that met gray.
     fn at(&self) -> u32
         requires some { 0 < cells_of self.now }
@@ -135,7 +133,7 @@ impl<'a, P: Keeping> Collector<'a, P> {
     }
 
     /// Looks at the next cell: the one on top of the stack, or the one that the pass has come to;
-    /// and where nothing waits, at those behind it too, up to a gray one.
+    /// and where nothing waits, at those after it too, up to a gray one.
     fn look_next(&mut self) -> Looked
         requires stage { (control_of self.old).stage ≡ stage.Trace }
         requires answered { HaveAnswered self.old }
@@ -163,8 +161,8 @@ impl<'a, P: Keeping> Collector<'a, P> {
         }
     }
 
-    /// Looks at the next cell, scans it where it is gray, and counts that beside what was traced so
-    /// far.
+    /// Looks at the next cell, scans it where it is gray, and counts that along with what was
+    /// traced so far.
     fn trace_next(&mut self, so_far: CycleReport) -> CycleReport
         requires stage { (control_of self.old).stage ≡ stage.Trace }
         requires answered { HaveAnswered self.old }
