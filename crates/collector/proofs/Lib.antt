@@ -3,11 +3,13 @@ pub mod Answered
 pub mod Alone
 pub mod Counted
 pub mod Cycling
+pub mod GoingOn
 pub mod Hearing
 pub mod InARow
 pub mod Joined
 pub mod Joining
 pub mod Leaving
+pub mod Moving
 pub mod Offered
 pub mod Pushed
 pub mod Scanning

@@ -70,7 +70,7 @@ is_none false k none = refl
 rest_none : (b k : ℕ) → 0 + b + k ≡ 0 → k ≡ 0
 rest_none b k none = omega (arith, none)
 
-freed_none : (control : Control) (events : List Taken)
+pub freed_none : (control : Control) (events : List Taken)
     → count_by (λ (t : Taken). is_free t.event) events ≡ 0 → freed_along control events ≡ []
 freed_none control [] none = refl
 freed_none control (t ∷ ts) none =
@@ -88,14 +88,14 @@ module _ {P : Type 0} where
   control_is a b (x ∷ xs) told =
       control_is (tells_at a x.event x.found told.0) b xs told.2
 
-  freed_by : (a b : Bound P) (xs : List Taken) → b.seat.me.trail ≡ a.seat.me.trail ++ xs
+  pub freed_by : (a b : Bound P) (xs : List Taken) → b.seat.me.trail ≡ a.seat.me.trail ++ xs
       → freed_since a b ≡ freed_along (control_of a) xs
   freed_by a b xs trail =
       ap (λ (events : List Taken). freed_along (control_of a) events)
       (ap (λ (ys : List Taken). drop (length a.seat.me.trail) ys) trail
       ∙ drop-append_seam a.seat.me.trail xs)
 
-  freed_then : (F G : List Taken → Type 0) (a b c : Bound P) → Stretch F a b → Stretch G b c
+  pub freed_then : (F G : List Taken → Type 0) (a b c : Bound P) → Stretch F a b → Stretch G b c
       → freed_since a c ≡ freed_since a b ++ freed_since b c
   freed_then F G a b c first second =
       freed_by a c (first.added ++ second.added) (second.trail

@@ -9,4 +9,6 @@ pub mod Pushes
 pub mod Replay
 pub mod Serving
 pub mod Stack
+pub mod Stepping
 pub mod Stretches
+pub mod Underway

@@ -52,7 +52,7 @@ pub(crate) fn either(one: bool, other: bool) -> bool
 
 impl<'a, P: Keeping> Collector<'a, P> {
     /// Looks whether a mutator has answered, and answers for it where it is found out.
-    fn try_answer(&mut self, mutator: u32) -> Tried
+    pub(crate) fn try_answer(&mut self, mutator: u32) -> Tried
         requires asks { is_handshake (control_of self.old).stage ≡ true }
         requires mutator { mutator < mutators_of self.old }
         requires waits { slice_index_or (part_of self.old).answered mutator true ≡ false }

@@ -125,7 +125,7 @@ impl<'a, P: Keeping> Collector<'a, P> {
     }
 
     /// The control, as it was stored last.
-    pub(crate) fn control(&self) -> Control
+    pub fn control(&self) -> Control
         ensures control { result ≡ control_of self.now }
     {
         self.seat.control()

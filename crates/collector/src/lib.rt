@@ -8,15 +8,19 @@
 //!
 //! Reading order: specs/Stack, Bound, Stretches, Replay, Answering, Counting, Pushes, Over, Cycles,
 //! Offering; then `mark_stack`, `report`, `collecting`, `steps`, `asking`, `clearing`, `tracing`,
-//! `sweeping`, `whole`, `serving`, `theorems`.
+//! `sweeping`, `whole`, `serving`, `theorems`; and for a caller that may not wait specs/Underway,
+//! Stepping, then `looking`, `stepping`, `moves`.
 #![tactic(auto)]
 
 mod asking;
 mod clearing;
 mod collecting;
+mod looking;
 mod mark_stack;
+mod moves;
 mod report;
 mod serving;
+mod stepping;
 mod steps;
 mod sweeping;
 pub mod theorems;
@@ -28,3 +32,4 @@ pub use collecting::Collector;
 pub use mark_stack::MarkStack;
 pub use report::CycleReport;
 pub use std::alloc::AllocError as NoMemory;
+pub use stepping::{Step, Went};

@@ -30,7 +30,7 @@ impl<'a, P: Keeping> Collector<'a, P> {
     }
 
     /// Stores null in all six fields of the white cell at the position.
-    fn wipe_all(&mut self)
+    pub(crate) fn wipe_all(&mut self)
         requires found { (part_of self.old).sweep ≡ sweeping.Wiping 0 }
         ensures does { Does nothing self.old self.new }
         ensures control { control_of self.new ≡ control_of self.old }

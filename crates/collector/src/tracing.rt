@@ -37,7 +37,7 @@ pub(crate) enum Looked {
 }
 
 /// Whether the pass has come to the cell, and this is the last one.
-fn is_last(at: u32, cell: u32, cells: u32) -> bool
+pub(crate) fn is_last(at: u32, cell: u32, cells: u32) -> bool
     requires cell { cell < cells }
     ensures last { result ≡ ((cell == at) && (cell + 1 == cells)) }
 {
@@ -78,7 +78,7 @@ impl<'a, P: Keeping> Collector<'a, P> {
     }
 
     /// Scans a cell that was found gray, makes it black, and pushes its children.
-    fn scan_cell(&mut self, cell: u32) -> CycleReport
+    pub(crate) fn scan_cell(&mut self, cell: u32) -> CycleReport
         requires scan { (part_of self.old).scan ≡ Some (scan_at cell 0) }
         ensures does { Does result self.old self.new }
         ensures few { TracesAtMost 6 result }
@@ -92,7 +92,7 @@ impl<'a, P: Keeping> Collector<'a, P> {
 
     /// The cell that the pass has come to, where another one is owed: the first one again after a
     /// pass that met gray.
-    fn at(&self) -> u32
+    pub(crate) fn at(&self) -> u32
         requires some { 0 < cells_of self.now }
         requires within { (part_of self.now).cursor ≤ cells_of self.now }
         requires more { is_traced self.now ≡ false }
@@ -163,7 +163,7 @@ impl<'a, P: Keeping> Collector<'a, P> {
 
     /// Looks at the next cell, scans it where it is gray, and counts that along with what was
     /// traced so far.
-    fn trace_next(&mut self, so_far: CycleReport) -> CycleReport
+    pub(crate) fn trace_next(&mut self, so_far: CycleReport) -> CycleReport
         requires stage { (control_of self.old).stage ≡ stage.Trace }
         requires answered { HaveAnswered self.old }
         requires some { 0 < cells_of self.old }
@@ -187,7 +187,7 @@ impl<'a, P: Keeping> Collector<'a, P> {
     }
 
     /// Whether a pass has come to the end and met no gray cell.
-    fn is_traced(&self) -> bool
+    pub(crate) fn is_traced(&self) -> bool
         ensures traced { result ≡ is_traced self.now }
     {
         self.cursor() == self.cells() && self.is_clean()

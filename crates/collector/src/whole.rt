@@ -145,7 +145,7 @@ impl<'a, P: Keeping> Collector<'a, P> {
     }
 
     /// Begins a cycle: nothing is on the stack, no scan goes on, and nobody has answered.
-    fn begin(&mut self)
+    pub(crate) fn begin(&mut self)
         requires idle { (control_of self.old).stage ≡ stage.Idle }
         requires cycles { (control_of self.old).cycles < greatest_cycles }
         ensures told { self.new ≡ takes (record self.old { stack = emptied self.old.stack })
