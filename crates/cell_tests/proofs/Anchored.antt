@@ -1,5 +1,5 @@
--- A mutator that holds the anchor alone holds it alone behind each call of a round.
-use Rattle.std.proofs.Common.{◌≡◌, ◌<◌, ◌≤◌, ℕ, true, List, [], ◌∷◌, ◌++◌, length, take, drop}
+-- A mutator that holds the anchor alone holds it alone after each call of a round.
+use Rattle.std.proofs.Common.{◌≡◌, ◌≤◌, ℕ, true, List, [], ◌∷◌, ◌++◌, length, take, drop}
 use Rattle.std.proofs.Common.{refl, sym, ◌∙◌, ap, subst, arith, nat_lt, ◌^◌}
 use Rattle.std.proofs.lemmas.List.{length-map}
 use Rattle.cell_words.specs.declared.fields.Field.{Field}
@@ -7,7 +7,6 @@ use Rattle.core_machine.specs.declared.events.Event.TheVariants as event
 use Rattle.core_machine.specs.declared.events.Found.{Found}
 use Rattle.core_machine.specs.declared.events.Found.TheVariants as finds
 use Rattle.core_machine.specs.declared.places.Held.{Held}
-use Rattle.core_machine.specs.Own.{Own, having_read}
 use Rattle.heap_rule.specs.declared.keeping.NoRule.{NoRule}
 use Rattle.heap_rule.specs.declared.known.Learned.{Learned}
 use Rattle.heap_rule.specs.declared.view.View.{View}

@@ -47,3 +47,22 @@ opens cells =
 pub opens_freely : Opens {P = NoRule} (λ number setting. record {}) anything_holds
     record { cells = 3; mutators = 1; setting = 0; first = rows }
 opens_freely = (no_terms, first_terms, tt)
+
+-- The heap of three boxes, of which the anchor names the others.
+
+abbrev family : List (List Field)
+family =
+    (field.Cell 2 ∷ field.Num 1 ∷ field.Cell 1 ∷ field.Null ∷ field.Cell 2 ∷ field.Num 2 ∷ [])
+    ∷ (field.Null ∷ field.Null ∷ field.Null ∷ field.Null ∷ field.Null ∷ field.Num 2 ∷ [])
+    ∷ (field.Null ∷ field.Null ∷ field.Null ∷ field.Null ∷ field.Null ∷ field.Num 2 ∷ [])
+    ∷ []
+
+family_terms : FirstTerms family no_terms
+family_terms zero = refl
+family_terms (suc zero) = refl
+family_terms (suc (suc zero)) = refl
+family_terms (suc (suc (suc x))) = refl
+
+pub family_opens : Opens {P = NoRule} (λ number setting. record {}) anything_holds
+    record { cells = 3; mutators = 1; setting = 0; first = family }
+family_opens = (no_terms, family_terms, tt)

@@ -1,5 +1,6 @@
 -- The counter's rule over boxes.
-use Rattle.std.proofs.Common.{◌≡◌, ◌∙◌, ◌+◌, ◌∷◌, ℕ, zero, suc, List, [], Bool, true, false, Option, Some, None}
+use Rattle.std.proofs.Common.{◌≡◌, ◌∙◌, ◌+◌, ◌∷◌, ℕ, zero, suc, List, [], Bool, true, false}
+use Rattle.std.proofs.Common.{Option, Some, None}
 use Rattle.std.proofs.Common.{ap, sym, subst, refl, arith, slice_set}
 use Rattle.std.proofs.lemmas.Bool.{eqb-true}
 use mathlib.Core.Option.{some}
@@ -79,7 +80,7 @@ added s l passes i count p true made pass kept =
       counted = ap (λ (n : ℕ). Plain (num n)) more;
     }
 
--- the rule stands behind a write over the counter, whether it was made or not
+-- the rule stands after a write over the counter, whether it was made or not
 pub picks_add : (v : View Added) (count : ℕ) → cell_at v.own.held 0 ≡ 0
     → Picks Counts no_field_is_fixed (adding (field.Num count)) v
     (event.Write v.number 0 0 (field.Num count) (field.Num (count + 1)))

@@ -1,6 +1,6 @@
 -- What a bare seat of these tests knows before it fetches.
 -- Source: this project's.
-use Rattle.std.specs.Prelude.{ℕ, ◌≡◌, ◌≤◌, true, length, None, Some}
+use Rattle.std.specs.Prelude.{◌≡◌, ◌≤◌, true, length, None, Some}
 use Rattle.cell_words.specs.declared.controls.Control.{Control}
 use Rattle.cell_words.specs.declared.write_barrier.Barrier.TheVariants as barrier
 use Rattle.core_machine.specs.Words.{barrier_in, lets_store}

@@ -1,6 +1,6 @@
 -- What a mutator of these tests knows between two stores.
 -- Source: this project's.
-use Rattle.std.specs.Prelude.{ℕ, ◌≡◌, ◌≤◌, true, length}
+use Rattle.std.specs.Prelude.{◌≡◌, ◌≤◌, true, length}
 use Rattle.heap_rule.specs.declared.keeping.NoRule.{NoRule}
 use Rattle.heap_table.specs.Seats.{HeapId, IsSeatOf}
 use Rattle.mutator_seat.specs.Bound.{Bound}

@@ -1,4 +1,4 @@
-//! A collector that makes whichever event comes next, by what its seat says and the flags beside it.
+//! A collector that makes whichever event comes next, by what its seat says and flags of its own.
 ghost use Rattle.std.specs.Prelude.{◌≡◌, ◌<◌, false, true};
 ghost use Rattle.cell_tests.specs.Collecting.{Drives};
 ghost use Rattle.cell_words.specs.declared.controls.Stage.TheVariants as stages;

@@ -1,18 +1,19 @@
 //! The same collector, but that it makes a run of events in one call wherever it may.
-ghost use Rattle.std.specs.Prelude.{◌≡◌, None, false, true};
-ghost use Rattle.cell_tests.specs.Collecting.{Drives};
+ghost use Rattle.std.specs.Prelude.{◌≡◌, None, true};
+ghost use Rattle.cell_tests.specs.Collecting.{Drives, nothing};
 ghost use Rattle.cell_words.specs.declared.controls.Stage.TheVariants as stages;
 ghost use Rattle.core_machine.specs.declared.progress.Sweeping.TheVariants as sweepings;
 ghost use Rattle.heap_table.specs.Seats.{IsSeatOf};
 
 use crate::collecting::{Flags, step};
+use crate::scanning::begun;
 use crate::unlinked::NOTHING;
 use cell_heap::{CellHeap, ColSeat};
 use cell_words::Stage;
 use core_machine::Sweeping;
 use heap_rule::NoRule;
 
-/// Clears all cells, or goes on behind them.
+/// Clears all cells, or goes on after them.
 fn clear(heap: &CellHeap<NoRule>, seat: &mut ColSeat<NoRule>, flags: Flags) -> Flags
     requires drives { Drives heap.now flags seat.old }
     requires stage { seat.old.me.control.stage ≡ stages.Clear }
@@ -25,7 +26,7 @@ fn clear(heap: &CellHeap<NoRule>, seat: &mut ColSeat<NoRule>, flags: Flags) -> F
     step(heap, seat, flags)
 }
 
-/// Goes on with the pass, up to a gray cell, or goes on behind it.
+/// Goes on with the pass, up to a gray cell, or goes on after it.
 fn see(heap: &CellHeap<NoRule>, seat: &mut ColSeat<NoRule>, flags: Flags) -> Flags
     requires drives { Drives heap.now flags seat.old }
     requires stage { seat.old.me.control.stage ≡ stages.Trace }
@@ -40,21 +41,38 @@ fn see(heap: &CellHeap<NoRule>, seat: &mut ColSeat<NoRule>, flags: Flags) -> Fla
     step(heap, seat, flags)
 }
 
+/// Scans a cell whose scan begins, or goes on with the pass.
+fn scan(heap: &CellHeap<NoRule>, seat: &mut ColSeat<NoRule>, flags: Flags) -> Flags
+    requires drives { Drives heap.now flags seat.old }
+    requires stage { seat.old.me.control.stage ≡ stages.Trace }
+    requires answered { flags.answered ≡ true }
+    ensures drives { Drives heap.now result seat.new }
+{
+    match begun(seat) {
+        Some(cell) => {
+            seat.scan_cell(heap, cell);
+            flags
+        }
+        None => match seat.scanning() {
+            Some(_) => step(heap, seat, flags),
+            None => see(heap, seat, flags),
+        },
+    }
+}
+
 fn trace(heap: &CellHeap<NoRule>, seat: &mut ColSeat<NoRule>, flags: Flags) -> Flags
     requires drives { Drives heap.now flags seat.old }
     requires stage { seat.old.me.control.stage ≡ stages.Trace }
     ensures drives { Drives heap.now result seat.new }
 {
-    if !flags.answered {
-        return step(heap, seat, flags);
-    }
-    match seat.scanning() {
-        Some(_) => step(heap, seat, flags),
-        None => see(heap, seat, flags),
+    if flags.answered {
+        scan(heap, seat, flags)
+    } else {
+        step(heap, seat, flags)
     }
 }
 
-/// Sweeps on up to a white cell, or goes on behind the last one.
+/// Sweeps on up to a white cell, or goes on after the last one.
 fn sweep_fresh(heap: &CellHeap<NoRule>, seat: &mut ColSeat<NoRule>, flags: Flags) -> Flags
     requires drives { Drives heap.now flags seat.old }
     requires stage { seat.old.me.control.stage ≡ stages.Sweep }
@@ -98,7 +116,7 @@ fn step_on(heap: &CellHeap<NoRule>, seat: &mut ColSeat<NoRule>, flags: Flags) ->
 
 /// The collector's first cycle, and how many calls it took.
 pub(crate) fn cycle_in_runs(heap: &CellHeap<NoRule>, seat: &mut ColSeat<NoRule>) -> u32
-    requires drives { Drives heap.now record { answered = false; marked = false; polled = false } seat.old }
+    requires drives { Drives heap.now nothing seat.old }
     ensures seat { IsSeatOf heap.now seat.new }
 {
     let mut flags = NOTHING;

@@ -2,7 +2,8 @@
 //! stand to the close, and the outcomes that stand on every schedule.
 //!
 //! Reading order: `counter`, `working`, `closing`, `threads`;
-//! `collecting`, `unlinked`, `in_runs`, `schedule`; `storing`, `fetching`, `sameness`, `stores`.
+//! `collecting`, `unlinked`, `scanning`, `scans`, `in_runs`, `schedule`; `storing`, `fetching`,
+//! `sameness`, `stores`.
 #![tactic(auto)]
 
 mod closing;
@@ -11,6 +12,9 @@ mod counter;
 mod fetching;
 mod in_runs;
 mod sameness;
+mod scanning;
+#[cfg(test)]
+mod scans;
 #[cfg(test)]
 mod schedule;
 #[cfg(test)]

@@ -12,7 +12,7 @@ use std::test::Fail;
 const EVENTS: u32 = 43;
 
 /// The collector's 43 events in so many calls, where it makes runs of them.
-const CALLS: u32 = 34;
+const CALLS: u32 = 29;
 
 /// What a closed heap of three cells shows: how many cycles there were, the cells' colours, and
 /// the fields of cell 1.

@@ -1,5 +1,5 @@
-//! Stores behind every event of a cycle: in async with the collector idle, tracing and sweeping, in
-//! sync1, and in sync2 before and behind the end of the handshake. And whether two places hold one
+//! Stores after every event of a cycle: in async with the collector idle, tracing and sweeping, in
+//! sync1, and in sync2 before and after the end of the handshake. And whether two places hold one
 //! cell.
 ghost use Rattle.std.specs.Prelude.{◌≡◌};
 
@@ -12,7 +12,7 @@ use cell_words::Field;
 use std::alloc::Global;
 use std::test::Fail;
 
-/// Whether a number was stored behind each event of a cycle, whether the last of them stands in the
+/// Whether a number was stored after each event of a cycle, whether the last of them stands in the
 /// anchor at the close, and how many cycles there were.
 fn stored_through(alloc: Global) -> Result<(bool, bool, u32), NoMemory> {
     let (heap, mut collector, seat) = open_one(alloc)?;

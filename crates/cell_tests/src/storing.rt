@@ -1,6 +1,6 @@
 //! A mutator that stores in the anchor between any two events of a cycle.
 ghost use Rattle.std.specs.Prelude.{◌≡◌, ◌<◌, ◌≤◌, ◌^◌, true, false};
-ghost use Rattle.cell_tests.specs.Collecting.{Drives};
+ghost use Rattle.cell_tests.specs.Collecting.{Drives, nothing};
 ghost use Rattle.cell_tests.specs.Storing.{HoldsAnchor};
 ghost use Rattle.heap_rule.specs.Asks.{MayComeIn};
 ghost use Rattle.heap_table.specs.Seats.{IsSeatOf};
@@ -67,14 +67,14 @@ fn go_on(heap: &CellHeap<NoRule>, mutator: &mut Mutator<'_, NoRule>, number: u64
     made && read
 }
 
-/// The collector's first cycle, an event at a time, and behind each event a round of the mutator.
-/// It gives how many events there were, and behind how many a number was stored and read.
+/// The collector's first cycle, an event at a time, and after each event a round of the mutator.
+/// It gives how many events there were, and after how many a number was stored and read.
 fn store_in_cycle(
     heap: &CellHeap<NoRule>,
     collector: &mut ColSeat<NoRule>,
     mutator: &mut Mutator<'_, NoRule>,
 ) -> (u64, u64)
-    requires drives { Drives heap.now record { answered = false; marked = false; polled = false } collector.old }
+    requires drives { Drives heap.now nothing collector.old }
     requires anchor { HoldsAnchor heap.now mutator.old }
     ensures seat { IsSeatOf heap.now collector.new }
     ensures anchor { HoldsAnchor heap.now mutator.new }
@@ -100,7 +100,7 @@ pub(crate) fn store_and_leave(
     collector: &mut ColSeat<NoRule>,
     seat: MutSeat<NoRule>,
 ) -> (MutSeat<NoRule>, (u64, u64))
-    requires drives { Drives heap.now record { answered = false; marked = false; polled = false } collector.old }
+    requires drives { Drives heap.now nothing collector.old }
     requires seat { IsSeatOf heap.now seat }
     requires may { MayComeIn seat.me }
     requires room { 2 ≤ seat.me.room }

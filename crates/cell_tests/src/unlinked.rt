@@ -1,6 +1,6 @@
 //! A cell that nothing names: one mutator makes it, and the collector frees it in its first cycle.
-ghost use Rattle.std.specs.Prelude.{◌≡◌, ◌<◌, ◌≤◌, IfOk, false, true};
-ghost use Rattle.cell_tests.specs.Collecting.{Drives};
+ghost use Rattle.std.specs.Prelude.{◌≡◌, ◌<◌, ◌≤◌, IfOk, true};
+ghost use Rattle.cell_tests.specs.Collecting.{Drives, nothing};
 ghost use Rattle.heap_rule.specs.Asks.{MayComeIn};
 ghost use Rattle.heap_table.specs.Seats.{IsSeatOf};
 
@@ -22,7 +22,7 @@ pub(crate) fn open_one(
     alloc: Global,
 ) -> Result<(CellHeap<NoRule>, ColSeat<NoRule>, MutSeat<NoRule>), NoMemory>
     ensures heap { IfOk result (λ made. made.0.shape.cells ≡ 3) }
-    ensures collector { IfOk result (λ made. Drives made.0 record { answered = false; marked = false; polled = false } made.1) }
+    ensures collector { IfOk result (λ made. Drives made.0 nothing made.1) }
     ensures mutator { IfOk result (λ made. IsSeatOf made.0 made.2) }
     ensures may { IfOk result (λ made. MayComeIn made.2.me) }
     ensures room { IfOk result (λ made. 2 ≤ made.2.me.room) }
@@ -55,7 +55,7 @@ pub(crate) fn make_and_leave(heap: &CellHeap<NoRule>, seat: &mut MutSeat<NoRule>
 
 /// The collector's first cycle, and how many events it took.
 pub(crate) fn first_cycle(heap: &CellHeap<NoRule>, seat: &mut ColSeat<NoRule>) -> u32
-    requires drives { Drives heap.now record { answered = false; marked = false; polled = false } seat.old }
+    requires drives { Drives heap.now nothing seat.old }
     ensures seat { IsSeatOf heap.now seat.new }
 {
     let mut flags = NOTHING;

@@ -1,4 +1,4 @@
-use Rattle.std.proofs.Common.{◌≡◌, ◌≤◌, ℕ, length, map, sym, ◌∙◌, ap, subst}
+use Rattle.std.proofs.Common.{◌≤◌, ℕ, length, map, sym, ◌∙◌, ap, subst}
 use Rattle.core_machine.specs.Places.{unmark}
 use Rattle.cell_words.specs.declared.presences.Presence.{Presence}
 use Rattle.heap_rule.specs.declared.keeping.NoRule.{NoRule}

@@ -1,4 +1,4 @@
-use Rattle.std.proofs.Common.{◌≡◌, true, refl, sym, ◌∙◌, ap, subst, arith}
+use Rattle.std.proofs.Common.{◌≡◌, true, refl, sym, ◌∙◌, ap, subst}
 use Rattle.cell_words.specs.declared.write_barrier.Barrier.{Barrier}
 use Rattle.core_machine.specs.Places.{marks_stand}
 use Rattle.heap_rule.specs.declared.keeping.NoRule.{NoRule}

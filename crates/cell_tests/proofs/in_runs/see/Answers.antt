@@ -4,7 +4,8 @@ use Rattle.core_machine.specs.Collector.{Collector}
 use Rattle.cell_heap.proofs.InARow.{still_of}
 use Rattle.cell_tests.proofs.in_runs.see.Goals as goal
 
-left_answered : (gray : Option ℕ) (part : Collector) → (left_gray gray part).answered ≡ part.answered
+left_answered : (gray : Option ℕ) (part : Collector)
+    → (left_gray gray part).answered ≡ part.answered
 left_answered None part = refl
 left_answered (Some cell) part = refl
 

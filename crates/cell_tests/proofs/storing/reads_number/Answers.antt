@@ -1,4 +1,4 @@
-use Rattle.std.proofs.Common.{◌≡◌, ◌≤◌, length, ◌∙◌, ap, arith}
+use Rattle.std.proofs.Common.{length, ◌∙◌, ap, arith}
 use Rattle.mutator_events.proofs.Begun.{read_long}
 use Rattle.heap_rule.specs.declared.keeping.NoRule.{NoRule}
 use Rattle.heap_rule.specs.declared.view.View.{View}
