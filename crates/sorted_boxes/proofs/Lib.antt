@@ -1,0 +1,11 @@
+pub mod AfterWrites
+pub mod Again
+pub mod Carrying
+pub mod FiveReads
+pub mod Giving
+pub mod Holding
+pub mod Narrowing
+pub mod NewBoxes
+pub mod Picks
+pub mod Shown
+pub mod Sorts

@@ -1,0 +1,49 @@
+use Rattle.held_places.proofs.Claiming.{claimed_goes, claimed_longer, claimed_pass}
+use Rattle.mutator_seat.specs.Bound.{bound}
+use Rattle.sorted_boxes.proofs.Holding.{calm_holds, calm_keeps}
+use Rattle.sorted_boxes.proofs.coming.try_cell.Goals as goal
+
+pub try_cell-requires : goal.try_cell-requires
+try_cell-requires c = record {
+  seat = c.requires.seat;
+  inside = c.requires.opened.inside;
+  mode = c.requires.mode;
+  cell = c.requires.cell;
+  room = c.requires.room;
+}
+
+pub returns-in-Some : goal.returns-in-Some
+returns-in-Some c =
+    let was = bound c.args.heap.now c.args.seat.now in
+    let now = bound c.args.heap.now c.try_cell.new.seat in
+    let got = c.in-Some.ensures.got in
+    record {
+      seat = c.try_cell.ensures.seat;
+      got = record { before = was; opened = c.requires.opened; claimed = got };
+      place = got.place_is;
+      longer = claimed_longer was now c.in-Some.place got;
+      pass = claimed_pass was now c.in-Some.place got;
+      room = (claimed_goes was now c.in-Some.place got).room;
+      used = tt;
+      opened = tt;
+      keeps = tt;
+      mode = tt;
+    }
+
+pub returns-in-None : goal.returns-in-None
+returns-in-None c =
+    let was = bound c.args.heap.now c.args.seat.now in
+    let now = bound c.args.heap.now c.try_cell.new.seat in
+    let calm = c.in-None.ensures.none in
+    record {
+      seat = c.try_cell.ensures.seat;
+      got = tt;
+      place = tt;
+      longer = tt;
+      pass = calm.kept.pass;
+      room = calm.kept.room;
+      used = calm;
+      opened = λ least at. calm_holds _ was now calm least at;
+      keeps = calm_keeps _ was now calm;
+      mode = c.in-None.ensures.mode;
+    }

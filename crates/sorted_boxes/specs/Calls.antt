@@ -1,0 +1,128 @@
+-- What the calls tell: the events of each, and what these found.
+-- Source: this project's.
+use Rattle.std.specs.Prelude.{ℕ, ◌≡◌, ◌⊎◌, ◌++◌, [], false, List, length, take}
+use Rattle.std.specs.Prelude.{drop, Option, Some, None}
+use Rattle.cell_words.specs.declared.fields.Field.{Field}
+use Rattle.core_machine.specs.Words.{same_field}
+use Rattle.core_machine.specs.declared.events.Event.TheVariants as event
+use Rattle.core_machine.specs.declared.events.Found.TheVariants as finds
+use Rattle.heap_rule.specs.NoRule.{no_field_is_fixed}
+use Rattle.heap_rule.specs.Steps.{same_pass}
+use Rattle.cell_making.specs.Makes.{MakesBox, value_at}
+use Rattle.held_places.specs.Calls.{Goes, WasRead}
+use Rattle.mutator_events.specs.declared.values.Value.{Value}
+use Rattle.mutator_events.specs.declared.values.Value.TheVariants as values
+use Rattle.mutator_events.specs.Events.{AtEvent}
+use Rattle.mutator_events.specs.Values.{value_found}
+use Rattle.mutator_seat.specs.Bound.{Bound, held_cells}
+use Rattle.mutator_seat.specs.Claims.{Claimed}
+use Rattle.mutator_seat.specs.Stores.{Exchanged, Overwritten}
+use Rattle.sorted_boxes.specs.Holding.{HoldsAnchor}
+use Rattle.sorted_rule.specs.Sorted.{HoldsSorted}
+use Rattle.sorted_rule.specs.declared.sorting.Sorting.{Sorting}
+
+-- the place that a value is, if it is one
+abbrev pub place_of : Value → Option ℕ
+place_of values.Null = None
+place_of (values.Num n) = None
+place_of (values.Held place) = Some place
+
+-- One read of this field of the cell at a place gave this value, which stood there at its step. A
+-- cell that it found is held at the next place.
+pub record Gave (old : Bound Sorting) (place f : ℕ) (value : Value) (new : Bound Sorting)
+    : Type 0 where
+  pub found : Field
+  pub value_is : value ≡ value_found (length old.seat.me.own.held) found
+  pub at : AtEvent HoldsSorted no_field_is_fixed old.seat.me
+      (event.Read old.seat.me.number place f) same_pass (finds.Field found) new.seat.me
+  pub was_read : WasRead no_field_is_fixed old new place f found
+  pub pass : new.seat.me.pass ≡ old.seat.me.pass
+
+-- five reads, of each field in its turn
+pub record GaveAll (old : Bound Sorting) (place : ℕ) (given : List Value) (new : Bound Sorting)
+    : Type 0 where
+  pub one : Bound Sorting
+  pub two : Bound Sorting
+  pub three : Bound Sorting
+  pub four : Bound Sorting
+  pub first : Gave old place 0 (value_at given 0) one
+  pub second : Gave one place 1 (value_at given 1) two
+  pub third : Gave two place 2 (value_at given 2) three
+  pub fourth : Gave three place 3 (value_at given 3) four
+  pub fifth : Gave four place 4 (value_at given 4) new
+
+module _ (place f : ℕ) (new : Value) where
+  -- a store of the value, whatever was there; or a read, and an exchange of what it found for the
+  -- value
+  abbrev pub Stored : Bound Sorting → Bound Sorting → Type 0
+  Stored a b = Overwritten HoldsSorted no_field_is_fixed same_pass a place f new b
+      ⊎ ((seen : Field) × Exchanged HoldsSorted no_field_is_fixed same_pass same_pass a place f new
+      seen seen b)
+
+  -- a read, and an exchange that found something else, and so changed nothing
+  abbrev pub Refused : Bound Sorting → Bound Sorting → Type 0
+  Refused a b = (seen found : Field) × ((same_field found seen ≡ false)
+      × Exchanged HoldsSorted no_field_is_fixed same_pass same_pass a place f new seen found b)
+
+  -- tries one after the other that were all refused
+  pub data AllRefused : Bound Sorting → Bound Sorting → Type 0 where
+    no_try : {a : Bound Sorting} → AllRefused a a
+    one_more : {a b c : Bound Sorting} → AllRefused a b → Refused b c → AllRefused a c
+
+  -- the value was stored, behind tries that were refused
+  pub record Wrote (old after : Bound Sorting) : Type 0 where
+    pub from : Bound Sorting
+    pub refused : AllRefused old from
+    pub stored : Stored from after
+
+-- A call leaves these cells held, and the same pass.
+pub record Leaves (cells : List ℕ) (old new : Bound Sorting) : Type 0 where
+  pub goes : Goes [] old new
+  pub held : held_cells new ≡ cells
+  pub pass : new.seat.me.pass ≡ old.seat.me.pass
+
+-- all of them
+abbrev pub KeepsPlaces : Bound Sorting → Bound Sorting → Type 0
+KeepsPlaces old new = Leaves (held_cells old) old new
+
+-- the first n, and behind them so many from a place on
+abbrev pub Narrows : (n place count : ℕ) → Bound Sorting → Bound Sorting → Type 0
+Narrows n place count old new =
+    Leaves (take n (held_cells old) ++ take count (drop place (held_cells old))) old new
+
+-- the first n
+abbrev pub Drops : ℕ → Bound Sorting → Bound Sorting → Type 0
+Drops n old new = Leaves (take n (held_cells old)) old new
+
+-- The raw cell at a place, which was claimed behind all others, became a box with these fields that
+-- nobody else knows.
+pub record Sealed (place : ℕ) (given : List Value) (old new : Bound Sorting) : Type 0 where
+  pub before : Bound Sorting
+  pub opened : HoldsAnchor before.seat.me
+  pub claimed : Claimed before place old
+  pub makes : MakesBox before place given new
+  pub goes : Goes [] old new
+  pub held : held_cells new ≡ held_cells old
+  pub room : new.seat.me.room ≡ old.seat.me.room
+  pub pass : new.seat.me.pass ≡ old.seat.me.pass
+
+-- A read of this field gave a value, whose cell is held at this place from then on.
+pub record HeldAgain (place f : ℕ) (old new : Bound Sorting) : Type 0 where
+  pub value : Value
+  pub read : Bound Sorting
+  pub gave : Gave old place f value read
+  pub keeps : KeepsPlaces old new
+
+-- The box at a place is shown: it is stored in this field of a box that others may know, read from
+-- there, and held as what was read.
+pub record Shown (place f fresh : ℕ) (old new : Bound Sorting) : Type 0 where
+  pub between : Bound Sorting
+  pub stored : Stored place f (values.Held fresh) old between
+  pub again : HeldAgain place f between new
+  pub keeps : KeepsPlaces old new
+
+-- A new box of a raw cell: it is sealed, and shown in this field.
+pub record Made (at f place : ℕ) (given : List Value) (old new : Bound Sorting) : Type 0 where
+  pub between : Bound Sorting
+  pub is_sealed : Sealed place given old between
+  pub shown : Shown at f place between new

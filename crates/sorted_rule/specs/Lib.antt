@@ -1,0 +1,4 @@
+pub mod Open
+pub mod Opening
+pub mod Sorted
+pub mod Sorts
