@@ -3,8 +3,8 @@
 //! that serves, or come in and go out again beside it; and where the collector sleeps, and where it
 //! may not.
 //!
-//! Reading order: `heaps`, `collecting`, `mutating`, `watching`; `cycles`, `who_is_out`, `stepping`,
-//! `threads`, `coming_and_going`, `sleeping`, `running`.
+//! Reading order: `heaps`, `collecting`, `mutating`, `watching`; `cycles`, `who_is_out`, `threads`,
+//! `coming_and_going`, `sleeping`, `running`.
 #![tactic(auto)]
 
 mod collecting;
@@ -18,8 +18,6 @@ mod mutating;
 mod running;
 #[cfg(test)]
 mod sleeping;
-#[cfg(test)]
-mod stepping;
 #[cfg(test)]
 mod threads;
 #[cfg(test)]
