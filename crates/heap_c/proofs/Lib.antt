@@ -1,0 +1,6 @@
+pub mod Keeping
+pub mod OfCollecting
+pub mod OfMine
+pub mod Owner
+pub mod Steps
+pub mod Unsplit

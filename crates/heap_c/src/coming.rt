@@ -1,0 +1,100 @@
+//! Coming in, going out, answering, and leaving; and how many places a mutator has.
+ghost use Rattle.std.specs.Prelude.{◌≡◌, None};
+ghost use Rattle.heap_c.specs.Answers.{when_in, when_out};
+ghost use Rattle.heap_c.specs.declared.codes.Code.TheVariants as code;
+
+use crate::codes::Code;
+use crate::handle::HeapMut;
+use std::alloc::Global;
+
+fn begin(mutator: &mut HeapMut) -> Code
+    ensures none { mutator.old.mine ≡ None → result ≡ code.NoHandle }
+{
+    match mutator.mine() {
+        None => Code::NoHandle,
+        Some(mine) => mine.begin(),
+    }
+}
+
+fn end(mutator: &mut HeapMut) -> Code
+    ensures answer { result ≡ when_in mutator.old.mine }
+{
+    match mutator.mine() {
+        None => Code::NoHandle,
+        Some(mine) => mine.end(),
+    }
+}
+
+fn answer(mutator: &mut HeapMut) -> Code
+    ensures answer { result ≡ when_in mutator.old.mine }
+{
+    match mutator.mine() {
+        None => Code::NoHandle,
+        Some(mine) => mine.answer(),
+    }
+}
+
+/// Whether it may leave.
+fn may_leave(mutator: &mut HeapMut) -> Code
+    ensures answer { result ≡ when_out mutator.old.mine }
+    ensures same { mutator.new.mine ≡ mutator.old.mine }
+{
+    match mutator.mine() {
+        None => Code::NoHandle,
+        Some(mine) => { if mine.is_in() { Code::IsIn } else { Code::Ok } }
+    }
+}
+
+fn leave(alloc: Global, mutator: &mut HeapMut) -> Code
+    ensures answer { result ≡ when_out mutator.old.mine }
+{
+    let code = may_leave(mutator);
+    if code == Code::Ok {
+        if let Some(mine) = mutator.take(alloc) {
+            Box::into_inner(mine).finish();
+        }
+    }
+    code
+}
+
+/// Comes in. The mutator holds the anchor and the library's scratch box.
+#[unsafe(no_mangle)]
+pub extern "C" fn heap_begin(mutator: &mut HeapMut) -> i32 {
+    begin(mutator).number()
+}
+
+/// Goes out. The mutator holds nothing.
+#[unsafe(no_mangle)]
+pub extern "C" fn heap_end(mutator: &mut HeapMut) -> i32 {
+    end(mutator).number()
+}
+
+/// The safe point.
+#[unsafe(no_mangle)]
+pub extern "C" fn heap_answer(mutator: &mut HeapMut) -> i32 {
+    answer(mutator).number()
+}
+
+/// How many places it holds; 0 where it is out, or of a handle of nothing.
+#[unsafe(no_mangle)]
+pub extern "C" fn heap_held(mutator: &mut HeapMut) -> usize {
+    match mutator.mine() {
+        None => 0,
+        Some(mine) => { if mine.is_in() { mine.held_len() } else { 0 } }
+    }
+}
+
+/// How many more it may hold; 0 where it is out, or of a handle of nothing.
+#[unsafe(no_mangle)]
+pub extern "C" fn heap_room(mutator: &mut HeapMut) -> usize {
+    match mutator.mine() {
+        None => 0,
+        Some(mine) => { if mine.is_in() { mine.room() } else { 0 } }
+    }
+}
+
+/// Is over for good. The handle is one of nothing then.
+#[unsafe(no_mangle)]
+pub extern "C" fn heap_leave(alloc: Global, mutator: &mut HeapMut) -> i32 {
+    leave(alloc, mutator).number()
+}

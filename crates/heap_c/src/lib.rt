@@ -1,0 +1,35 @@
+//! The heap as a static library for C.
+//!
+//! A handle is a struct of one pointer in the memory of C, zero at first: `HeapMut` is a mutator's,
+//! `HeapCol` the collector's. A call is given handles by address and answers a code; where that is
+//! not `Ok` nothing has changed. No call asks for anything but good addresses: each misuse that can
+//! be tested has a code.
+//!
+//! Not proved yet: that a handle may be used by another thread than the one that made it (`Send` of
+//! what it owns). Each of its parts may be.
+//!
+//! Reading order: `rule`, `sharing`, `claiming`, `mine`, `parts`, `handle`, `works`, `collecting`,
+//! `keeper`, `codes`, `values`; `using`, which works on a seat; then the calls, `opening`, `coming`,
+//! `calls`, `looking`.
+#![tactic(auto)]
+
+mod calls;
+mod claiming;
+mod codes;
+mod collecting;
+mod coming;
+mod handle;
+mod keeper;
+mod looking;
+mod mine;
+mod opening;
+mod parts;
+mod rule;
+mod sharing;
+mod using;
+mod values;
+mod works;
+
+pub use codes::Code;
+pub use handle::HeapMut;
+pub use keeper::HeapCol;

@@ -1,0 +1,150 @@
+//! What a mutator's handle owns: its seat, and a share of the heap that the seat is of.
+ghost use Rattle.std.specs.Prelude.{◌≡◌, ◌+◌, if◌then◌else◌, length, false};
+ghost use Rattle.heap_c.specs.declared.codes.Code.TheVariants as code;
+ghost use Rattle.heap_table.specs.Seats.{IsSeatOf};
+ghost use Rattle.heap_rule.specs.Asks.{MayComeIn};
+
+use crate::claiming::Waiting;
+use crate::codes::Code;
+use crate::rule::Rule;
+use crate::sharing::Sharing;
+use crate::using;
+use crate::values::HeapVal;
+use heap_table::CellHeap;
+use mutator_events::MutSeat;
+use mutator_seat::{Value, operations};
+use std::alloc::Global;
+use std::marker::Model;
+use std::sync::Arc;
+
+/// A mutator's seat with its heap, and where free cells may be.
+#[derive(Drop)]
+pub struct Mine {
+    heap: Arc<CellHeap<Rule>, Global>,
+    sharing: Arc<Sharing, Global>,
+    seat: MutSeat<Rule>,
+    wait: Waiting,
+}
+
+impl Model for Mine {
+    ghost use Rattle.std.specs.Coded.{codes};
+    ghost use Rattle.cell_words.specs.contracts.terms.Term as term;
+    ghost use Rattle.heap_c.specs.Holding.{IsMine};
+    ghost use Rattle.mutator_seat.specs.Bound.{Bound};
+    ghost use Rattle.sorted_rule.specs.declared.sorting.Sorting.{Sorting};
+
+    ghost Value = { Bound Sorting };
+
+    ghost coded = { Prim.hlevel (codes, term.the_row.coded) };
+
+    ghost view = { λ m. record { heap = m.heap.value; seat = m.seat } };
+
+    ghost invariant = { λ m. IsMine m.heap.value m.seat };
+}
+
+impl Mine {
+    /// What has this seat on this heap.
+    pub(crate) fn new(
+        heap: Arc<CellHeap<Rule>, Global>,
+        sharing: Arc<Sharing, Global>,
+        seat: MutSeat<Rule>,
+        start: u32,
+    ) -> Mine
+        requires seat { IsSeatOf heap.value seat }
+        requires out { MayComeIn seat.me }
+        requires five { seat.me.pass.boxes ≡ 5 }
+        ensures mine { result ≡ record { heap = heap.value; seat = seat } }
+    {
+        // Who is out has begun no write.
+        let _inside = seat.is_in();
+        Mine {
+            heap,
+            sharing,
+            seat,
+            wait: Waiting { began: None, start },
+        }
+    }
+
+    /// Whether it is in.
+    pub(crate) fn is_in(&self) -> bool
+        ensures inside { result ≡ self.now.seat.me.presence.inside }
+    {
+        self.seat.is_in()
+    }
+
+    /// How many cells it holds, counted by place.
+    pub(crate) fn held_len(&self) -> usize
+        ensures len { result ≡ length self.now.seat.me.own.held }
+    {
+        self.seat.held_len()
+    }
+
+    /// How many places are free.
+    pub(crate) fn room(&self) -> usize
+        ensures room { length self.now.seat.me.own.held + result ≡ self.now.seat.me.room }
+    {
+        self.seat.room()
+    }
+
+    /// Comes in.
+    pub(crate) fn begin(&mut self) -> Code {
+        using::begin(&self.heap, &mut self.seat, &self.sharing, &mut self.wait)
+    }
+
+    /// Goes out.
+    pub(crate) fn end(&mut self) -> Code
+        ensures answer { result ≡ (if self.old.seat.me.presence.inside then code.Ok else code.NotIn) }
+    {
+        using::end(&self.heap, &mut self.seat)
+    }
+
+    /// Answers a handshake, if one is asked for.
+    pub(crate) fn answer(&mut self) -> Code
+        ensures answer { result ≡ (if self.old.seat.me.presence.inside then code.Ok else code.NotIn) }
+    {
+        using::answer(&self.heap, &mut self.seat)
+    }
+
+    /// Keeps the first n places, and behind them so many from a place on.
+    pub(crate) fn keep(&mut self, n: usize, place: usize, count: usize) -> Code {
+        using::keep(&self.heap, &mut self.seat, n, place, count)
+    }
+
+    /// Makes a box.
+    pub(crate) fn make(&mut self, vals: &[HeapVal]) -> Result<usize, Code> {
+        using::make(&self.heap, &mut self.seat, &self.sharing, &mut self.wait, vals)
+    }
+
+    /// Reads one field.
+    pub(crate) fn read(&mut self, place: usize, field: usize) -> Result<Value, Code> {
+        using::read(&self.heap, &mut self.seat, place, field)
+    }
+
+    /// Reads all five, which are so many.
+    pub(crate) fn read_all(&mut self, place: usize, five: usize) -> Result<[Value; 5], Code> {
+        using::read_all(&self.heap, &mut self.seat, place, five)
+    }
+
+    /// Stores a value.
+    pub(crate) fn write(&mut self, place: usize, field: usize, val: HeapVal) -> Code {
+        using::write(&self.heap, &mut self.seat, place, field, val)
+    }
+
+    /// Exchanges a value.
+    pub(crate) fn swap(&mut self, place: usize, field: usize, was: HeapVal, now: HeapVal) -> Code {
+        using::swap(&self.heap, &mut self.seat, place, field, was, now)
+    }
+
+    /// Whether two places hold one cell.
+    pub(crate) fn is_same(&mut self, one: usize, other: usize) -> Result<bool, Code> {
+        using::is_same(&self.heap, &mut self.seat, one, other)
+    }
+
+    /// Is over: the collector waits for it no more.
+    pub(crate) fn finish(self)
+        requires out { self.seat.me.presence.inside ≡ false }
+    {
+        let Mine { heap, mut seat, .. } = self;
+        operations::finish(&heap, &mut seat);
+    }
+}

@@ -1,0 +1,187 @@
+/* heap.h: a heap of cells with five fields, collected while the threads of the program go on. Link
+ * with libheap_c.a and the kit's liblibc_c.a. Every call tests what it is given and answers a code:
+ * HEAP_OK, or why nothing has changed. If several reasons apply it may answer any of them.
+ *
+ * What C owes, since no call can test it:
+ *  1 the declarations are these, on x86-64 Linux; some kilobytes of stack are free at each call;
+ *  2 a handle is zero (HEAP_ZERO) before its first call, and these calls alone change it; it is
+ *    never forged, and never copied but to move it, after which the old one is not used;
+ *  3 one call at a time has a handle. Another thread gets it by a lock, a thread's start or join,
+ *    or a SeqCst atomic; calls with different handles may run at the same time;
+ *  4 pointers are good: `out`, `place`, `how`, `same` have room for one value, `v` and the `out` of
+ *    heap_read_all for as many as is said, and nobody else looks there during the call;
+ *  5 malloc, realloc and free are of one allocator, with blocks aligned to 16 bytes;
+ *  6 no call is made in a signal handler, or in the forked child of a process with threads.
+ * Owed for progress alone: a mutator that is in calls heap_answer often, is parked, or makes cells;
+ * else no cycle ends, and nothing is freed from then on. No cell is freed too early by that.
+ *
+ * A cell has five fields: each is null, a number below 2^62, or a cell. A mutator that is in holds
+ * cells at the places 0, 1, 2 .. of its list. Place 0 is the anchor, the one cell that all threads
+ * share from the start; it is named by no field, and its field 4 is the library's. Places below
+ * HEAP_FIRST are the library's but for the anchor; yours begin there. A call that hands out a cell
+ * holds it at the next place. What is held, or reached from there or from the anchor, is not freed.
+ * Nanoseconds below are of one thread without a collector. */
+#ifndef HEAP_H
+#define HEAP_H
+#include <stddef.h>
+#include <stdint.h>
+#include <threads.h>
+#include <time.h>
+#ifdef __cplusplus
+#include <atomic>
+typedef std::atomic<unsigned> heap_word;
+extern "C" {
+#else
+#include <stdatomic.h>
+typedef atomic_uint heap_word;
+#endif
+
+typedef enum {
+    HEAP_OK = 0,
+    HEAP_NO_MEMORY = 1,  /* malloc had none; heap_open and heap_seat alone */
+    HEAP_BAD_PLACE = 2,  /* no such place, or it is the library's */
+    HEAP_BAD_FIELD = 3,  /* above 4, or field 4 of the anchor */
+    HEAP_NO_ROOM = 4,    /* too few places are free: see heap_room */
+    HEAP_WAIT = 5,       /* no cell is free now: answer, sleep, try again; or heap_make_wait */
+    HEAP_MOVED = 6,      /* the field holds something else */
+    HEAP_NOT_IN = 7,     /* the mutator is out */
+    HEAP_BAD_VALUE = 8,  /* tag above 2, number from 2^62 on, or no place of yours */
+    HEAP_IS_IN = 9,      /* the mutator is in already, or in at its end */
+    HEAP_NO_HANDLE = 10, /* a handle that is zero: never opened, or ended */
+    HEAP_FULL = 11,      /* no cell is free, and two whole cycles did not help; or off duty */
+    HEAP_NO_SEAT = 12,   /* all mutators were seated */
+    HEAP_SPENT = 13,     /* 4,000,000,000 cycles were made */
+    HEAP_BAD_SIZE = 14,  /* a number of cells, mutators, places, values .. out of range */
+    HEAP_NOT_ZERO = 15   /* `out` is a handle already */
+} heap_code;
+
+typedef struct { void *p; } heap_mut;         /* a mutator's handle */
+typedef struct { void *p; } heap_col;         /* the collector's */
+typedef struct { uint64_t tag, n; } heap_val; /* HEAP_NULL; HEAP_NUM n; HEAP_REF, the cell at n */
+enum { HEAP_NULL = 0, HEAP_NUM = 1, HEAP_REF = 2 };
+enum { HEAP_FIRST = 2, HEAP_FIELDS = 5, HEAP_LEAST_ROOM = 8, HEAP_PATIENCE = 8 };
+#define HEAP_ZERO { NULL }
+
+/* Opening. cells 1 to 4194304, mutators 1 to 1048576, stack (places of the mark stack) 1 to
+ * 1048576, boxes (how many fields of a cell name boxes; the others will name records) 5 today.
+ * Takes all memory: 56 bytes a cell, twice that while it works. The collector is off duty. ms */
+heap_code heap_open(uint32_t cells, uint32_t mutators, uint32_t stack, uint32_t boxes,
+                    heap_col *out);
+/* The next mutator, out; they count from 0. room: places of its list, HEAP_LEAST_ROOM or more.
+ * BAD_SIZE, NO_SEAT, NO_MEMORY, NOT_ZERO. us */
+heap_code heap_seat(heap_col *c, uint32_t room, heap_mut *out);
+heap_code heap_leave(heap_mut *m); /* ends a handle, for good: its seat is not given again. IS_IN */
+heap_code heap_close(heap_col *c); /* off duty; ends the handle. The heap goes with its last one */
+
+/* The collector, by steps: no thread is started here, and nothing waits inside. A call makes at
+ * most so many moves, about 60 ns each. HEAP_MORE: go on. HEAP_ENDED: a cycle ended just now.
+ * HEAP_ASKS: a mutator has to answer first, so heap_serve, sleep, and go on. SPENT: off duty. */
+enum { HEAP_MORE = 0, HEAP_ASKS = 1, HEAP_ENDED = 2 };
+heap_code heap_step(heap_col *c, uint32_t moves, int *how);
+heap_code heap_duty(heap_col *c, int on); /* on: steps are made, so heap_make says WAIT, not FULL */
+typedef struct {
+    uint32_t cycles, stage;    /* ended; 0 idle, 1 sync1, 2 clear, 3 sync2, 4 trace, 5 sweep */
+    uint32_t heard, asks;      /* asks 1: mutator number `heard` has to answer first */
+    uint64_t freed;            /* cells, since the opening */
+    uint64_t passes, scanned;  /* of tracing: passes over the heap, cells whose fields were read */
+    uint64_t stacked, spilled; /* children put on the mark stack, and those that found it full */
+} heap_stats;
+heap_code heap_look(heap_col *c, heap_stats *out);
+
+/* A mutator comes in, and holds HEAP_FIRST places; IS_IN, and WAIT, FULL as heap_make. 100 ns. It
+ * goes out, and holds nothing; NOT_IN. The other calls want it in, or answer NOT_IN. */
+heap_code heap_begin(heap_mut *m);
+heap_code heap_end(heap_mut *m);
+heap_code heap_answer(heap_mut *m); /* the safe point: 4 ns, or a mark for each place it holds */
+size_t heap_held(heap_mut *m);      /* how many places it holds; 0 out or without a handle */
+size_t heap_room(heap_mut *m);      /* how many more it may hold; 0 out or without a handle */
+/* Keeps the first n places, HEAP_FIRST or more, and then `count` of yours from `place` on, which is
+ * not looked at if count is 0. A frame notes heap_held at its entry, and at its exit keeps
+ * (base, 0, 0), or (base, p, 1) to hand on a result. BAD_PLACE, NO_ROOM. 6 ns */
+heap_code heap_keep(heap_mut *m, size_t n, size_t place, size_t count);
+/* A new cell of n values, 5 at most, the other fields null. The safe point too. 2 places free, or
+ * NO_ROOM; BAD_SIZE, BAD_VALUE, WAIT, FULL. 80 ns. make_at: and then heap_keep(m, keep, it, 1). */
+heap_code heap_make(heap_mut *m, const heap_val *v, size_t n, size_t *place);
+heap_code heap_make_at(heap_mut *m, size_t keep, const heap_val *v, size_t n, size_t *place);
+/* One load. 1 place free (read_all: 5), or NO_ROOM; BAD_PLACE, BAD_FIELD. 4 ns, a cell 10. All five
+ * fields one after the other, not of the anchor; five is 5, or BAD_SIZE. 16 ns */
+heap_code heap_read(heap_mut *m, size_t place, size_t field, heap_val *out);
+heap_code heap_read_all(heap_mut *m, size_t place, heap_val *out, size_t five);
+/* A store, whatever stands there: 1 place free, or NO_ROOM; BAD_PLACE, BAD_FIELD, BAD_VALUE; MOVED
+ * if others wrote the field again and again in one moment of a cycle. 18 ns. One compare and
+ * exchange: MOVED if the field holds another value than `was`. 15 ns */
+heap_code heap_write(heap_mut *m, size_t place, size_t field, heap_val v);
+heap_code heap_swap(heap_mut *m, size_t place, size_t field, heap_val was, heap_val now);
+heap_code heap_same(heap_mut *m, size_t one, size_t other, int *same); /* are they one cell? 5 ns */
+
+#ifdef __cplusplus
+}
+#endif
+
+static inline heap_val heap_null(void) { heap_val v = { HEAP_NULL, 0 }; return v; }
+static inline heap_val heap_num(uint64_t n) { heap_val v = { HEAP_NUM, n }; return v; }
+static inline heap_val heap_ref(size_t place) { heap_val v = { HEAP_REF, place }; return v; }
+
+static inline void heap_sleep(void) {
+    struct timespec time = { 0, 50000 };
+    (void)thrd_sleep(&time, NULL);
+}
+
+/* Whether to try again: no cell was free. It answers and sleeps first. FULL is believed when it was
+ * answered HEAP_PATIENCE times, since others may take what a cycle frees. */
+static inline int heap_again(heap_mut *m, heap_code code, int *fulls) {
+    if (code != HEAP_WAIT && (code != HEAP_FULL || ++*fulls >= HEAP_PATIENCE)) return 0;
+    (void)heap_answer(m);
+    heap_sleep();
+    return 1;
+}
+
+/* These wait while no cell is free. */
+static inline heap_code heap_begin_wait(heap_mut *m) {
+    int fulls = 0;
+    heap_code code;
+    do code = heap_begin(m); while (heap_again(m, code, &fulls));
+    return code;
+}
+
+static inline heap_code heap_make_wait(heap_mut *m, const heap_val *v, size_t n, size_t *place) {
+    int fulls = 0;
+    heap_code code;
+    do code = heap_make(m, v, n, place); while (heap_again(m, code, &fulls));
+    return code;
+}
+
+static inline heap_code heap_make_at_wait(heap_mut *m, size_t keep, const heap_val *v, size_t n,
+                                          size_t *place) {
+    int fulls = 0;
+    heap_code code;
+    do code = heap_make_at(m, keep, v, n, place); while (heap_again(m, code, &fulls));
+    return code;
+}
+
+/* Blocking. A thread parks its mutator, blocks, and takes it back; it holds what it held, and who
+ * makes the steps answers for it. One word, HEAP_OWNED at first, says who has the handle; between
+ * heap_park and heap_unpark its own thread makes no call with it. */
+typedef struct { heap_mut m; heap_word who; } heap_spot;
+enum { HEAP_OWNED = 0, HEAP_PARKED = 1, HEAP_ANSWERED = 2 };
+
+static inline void heap_park(heap_spot *s) { atomic_store(&s->who, (unsigned)HEAP_PARKED); }
+
+static inline void heap_unpark(heap_spot *s) {
+    unsigned was = HEAP_PARKED;
+    while (!atomic_compare_exchange_strong(&s->who, &was, (unsigned)HEAP_OWNED)) {
+        was = HEAP_PARKED;
+        thrd_yield();
+    }
+}
+
+/* Answers for those of n spots that are parked. For the thread that makes the steps. */
+static inline void heap_serve(heap_spot *s, size_t n) {
+    for (size_t i = 0; i < n; i++) {
+        unsigned was = HEAP_PARKED;
+        if (!atomic_compare_exchange_strong(&s[i].who, &was, (unsigned)HEAP_ANSWERED)) continue;
+        (void)heap_answer(&s[i].m);
+        atomic_store(&s[i].who, (unsigned)HEAP_PARKED);
+    }
+}
+#endif
