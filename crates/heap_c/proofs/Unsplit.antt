@@ -47,7 +47,7 @@ pub new_left : (held heap : HeapId) (w : Worked) → held ≡ heap
     → w.stack.cells ≡ [] → heap.shape.setting ≡ 5 → IsKeptBy held w 0
 new_left held heap w same is empty five =
     let shape = ap (λ (s : SeatView Sorting). s.me.shape) is
-        ∙ ap (λ (h : HeapId). h.shape) (sym same) in
+    ∙ ap (λ (h : HeapId). h.shape) (sym same) in
     record {
       worked = record {
         bound = record {

@@ -112,7 +112,13 @@ impl Mine {
 
     /// Makes a box.
     pub(crate) fn make(&mut self, vals: &[HeapVal]) -> Result<usize, Code> {
-        using::make(&self.heap, &mut self.seat, &self.sharing, &mut self.wait, vals)
+        using::make(
+            &self.heap,
+            &mut self.seat,
+            &self.sharing,
+            &mut self.wait,
+            vals,
+        )
     }
 
     /// Reads one field.

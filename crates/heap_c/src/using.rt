@@ -21,8 +21,11 @@ const FIELDS: usize = 5;
 /// The places of the anchor and of the scratch box, and the fields by which sorted_boxes shows a
 /// scratch box, in the anchor, and a new one, in the scratch box.
 const ANCHOR: usize = 0;
+
 const OWN_FIELD: usize = 4;
+
 const SCRATCH: usize = 1;
+
 const SHOWN_BY: usize = 0;
 
 /// Whether C may use this place, where so many are held: the anchor's, or one of its own.

@@ -11,6 +11,8 @@ open-requires-clause-rule c = (first_terms, firsts, opened _ refl)
 
 pub new-requires-in-Ok : goal.new-requires-in-Ok
 new-requires-in-Ok c =
-    record { keeping = new_left _ _ _ c.in-Ok.ensures.ok c.in_ok-heap.ensures.seat
-    (ap (λ (s : Stack). s.cells) c.in_ok-stack.ensures.stack)
-    (ap (λ (h : Shape). h.setting) c.in_ok-heap.ensures.heap) }
+    record {
+      keeping = new_left _ _ _ c.in-Ok.ensures.ok c.in_ok-heap.ensures.seat
+          (ap (λ (s : Stack). s.cells) c.in_ok-stack.ensures.stack)
+          (ap (λ (h : Shape). h.setting) c.in_ok-heap.ensures.heap);
+    }
