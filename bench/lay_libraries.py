@@ -41,7 +41,7 @@ def main():
     remember_stamps({type(crate) for crate in crates})
     kept, laid, lacking = rt.Kept(crates), 0, []
     for crate in crates:
-        if crate.is_program or crate.name.endswith("_tests"):
+        if crate.is_program or crate.is_static or crate.name.endswith("_tests"):
             continue
         place = f"{crate.folder}/out/rlib"
         shutil.rmtree(place, ignore_errors=True)
