@@ -1,4 +1,4 @@
-"""What the image of a run has to be, and images with a fault, for bench/stress.py.
+"""What the image of a run has to be, and images with a fault, for stress.py.
 
 The reader is that of the pictures (pictures/images.py). A census looks at roles, layouts and names
 of cells. Here the numbers are looked at too: those of versions, the counts and heights of nodes,

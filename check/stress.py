@@ -33,6 +33,7 @@ import tempfile
 
 import dumps, heaps, mailboxes
 from documents import Store, is_second, plain, quoted, read
+from preloading import library_of
 
 
 def line_of(reply, text_of):
@@ -441,12 +442,9 @@ def damages_of(is_every, program, r, seen):
 @functools.cache
 def library():
     """Builds what holds up the thread that dumps or receives, and gives its path."""
-    here, folder = os.path.dirname(os.path.abspath(__file__)), tempfile.mkdtemp()
+    folder = tempfile.mkdtemp()
     atexit.register(shutil.rmtree, folder)
-    source = os.path.join(here, "timing", "delay_threads.c")
-    built = os.path.join(folder, "delay.so")
-    subprocess.run(["gcc", "-O1", "-shared", "-fPIC", source, "-o", built], check=True)
-    return built
+    return library_of("delay_threads", folder)
 
 
 def dump_of(program, r, seen):

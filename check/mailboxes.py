@@ -1,4 +1,4 @@
-"""Scripts of senders, and what the output of `mail` has to be, for bench/stress.py.
+"""Scripts of senders, and what the output of `mail` has to be, for stress.py.
 
 The order in which the senders' values come into the mailbox is the program's to choose, so no
 output is known before. What is told of each line and what was received have to say the same of one

@@ -1,10 +1,10 @@
-"""Runs the program with memory refused to it; .ci/memory and bench/want_of_memory.py use it.
+"""Runs the program with memory refused to it; .ci/memory and out_of_memory.py use it.
 
-A library that is loaded before the C library (bench/timing/refuse_memory.c, built by gcc) counts
-the calls that ask for memory, of the program and of the C library itself, as for a thread's stack,
-and refuses the one of a given number, or that one and all after it. Wanted of each run: status and
-output of a run that is refused nothing, or status 5 with a front of that output and the text
-`docheap: out of memory`. The text may be missing where it was refused its own memory.
+A library that is loaded before the C library (refuse_memory.c, built by gcc) counts the calls that
+ask for memory, of the program and of the C library itself, as for a thread's stack, and refuses the
+one of a given number, or that one and all after it. Each run has to have the status and output of a
+run that is refused nothing, or status 5 with the beginning of that output and the text `docheap:
+out of memory`. The text may be missing where it was refused its own memory.
 
 What differs from run to run (which client was faster, how many cycles there were) is left out: the
 scripts have a client each, or do not meet, and cycles are not compared.
@@ -18,6 +18,8 @@ import re
 import subprocess
 from collections import namedtuple
 from concurrent.futures import ThreadPoolExecutor
+
+from preloading import library_of
 
 TOP = os.path.dirname(os.path.dirname(os.path.abspath(__file__)))
 SECONDS = 60
@@ -40,18 +42,12 @@ def write_texts(room, texts):
     return {name: os.path.join(room, name) for name in texts}
 
 
-def build_library(room):
-    library = os.path.join(room, "refuse.so")
-    source = os.path.join(TOP, "bench", "timing", "refuse_memory.c")
-    subprocess.run(["gcc", "-O1", "-shared", "-fPIC", source, "-o", library], check=True)
-    return library
-
-
 class Refusing:
     """A program, with the library and a folder for what it counts."""
 
     def __init__(self, program, room):
-        self.program, self.library = os.path.abspath(program), build_library(room)
+        self.program = os.path.abspath(program)
+        self.library = library_of("refuse_memory", room)
         self.counts = os.path.join(room, "counts")
 
     def run(self, words, **named):

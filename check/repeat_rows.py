@@ -1,6 +1,6 @@
 """Runs the rows with threads of collector_tests and heap_tests many times.
 
-    python3 bench/repeat_rows.py [TIMES]
+    python3 check/repeat_rows.py [TIMES]
 
 In a copy of the crates each test of the files below stands so many times, 50 where nothing is said,
 and `rt try --test` runs them all. It proves nothing.

@@ -1,12 +1,12 @@
 #!/usr/bin/env python3
 """Refuses the program memory at each of its calls, one run a call.
 
-    python3 bench/want_of_memory.py PROGRAM [--stride 1]
+    python3 check/out_of_memory.py PROGRAM [--stride 1]
 
 It goes over more scripts and requests than `.ci/memory`, which is part of the gate. What is wanted
-of each run stands in bench/refusing.py, which both use. With `--stride 7` one call in seven is
-refused. A thread that cannot be made is no want of memory: where the collector has none it serves
-after the clients.
+of each run stands in refusing.py, which both use. With `--stride 7` one call in seven is refused. A
+thread that cannot be made is not out of memory: where the collector has none it serves after the
+clients.
 """
 import argparse
 import sys

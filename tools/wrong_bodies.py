@@ -41,7 +41,7 @@ import sys
 import tempfile
 
 TOP = os.path.dirname(os.path.dirname(os.path.abspath(__file__)))
-BODIES = f"{TOP}/bench/wrong_bodies"
+BODIES = f"{TOP}/tools/wrong_bodies"
 WORDS = ("false", "name", "proves")
 # what LISTS says of those of which it is not known which of the three they come to
 OPEN = ("refused", "untried")

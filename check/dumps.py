@@ -1,5 +1,5 @@
 """Scripts whose dump tells which history it is of, and what such a dump has to be, for
-bench/stress.py.
+stress.py.
 
 A dump comes without replies and without a history. So each command that commits is a batch, and
 writes the number of the batch beside its other edits, and no client changes a node of another one,

@@ -1,14 +1,13 @@
 #!/usr/bin/env python3
 """Refuses the program threads, and checks what it answers all the same.
 
-    python3 bench/refused_threads.py PROGRAM [--runs 5]
+    python3 check/refused_threads.py PROGRAM [--runs 5]
 
-A library that is loaded before the C library (bench/timing/refuse_threads.c, built by gcc) refuses
-the thread of a given number, from the first to the fifth, or that one and all behind it, as a limit
-on the threads of a process does. A client that gets no thread runs on the one that is there, and a
-collector that gets none serves behind the clients; so the status is 0, and the output is held to
-the store of bench/stress.py. Heaps are small, so without a collector beside them clients find them
-full, which is lawful then.
+A library that is loaded before the C library (refuse_threads.c, built by gcc) refuses the thread of
+a given number, from the first to the fifth, or that one and all after it, as a limit on the threads
+of a process does. A client that gets no thread runs on the one that is there, and a collector that
+gets none serves after the clients; so the status is 0, and the output is held to the store of
+stress.py. Heaps are small, so clients without a collector find them full, which is lawful then.
 """
 import argparse
 import os
@@ -18,6 +17,7 @@ import sys
 import tempfile
 
 import stress
+from preloading import library_of
 
 CELLS, KEEP, VERSIONS, CYCLES = 512, 2, 1_000_000, 4_000_000_000
 
@@ -28,11 +28,8 @@ def main():
     parser.add_argument("--runs", type=int, default=5)
     asked = parser.parse_args()
     program, wrong = os.path.abspath(asked.program), 0
-    here = os.path.dirname(os.path.abspath(__file__))
     with tempfile.TemporaryDirectory() as room:
-        library = os.path.join(room, "refuse.so")
-        source = os.path.join(here, "timing", "refuse_threads.c")
-        subprocess.run(["gcc", "-O1", "-shared", "-fPIC", source, "-o", library], check=True)
+        library = library_of("refuse_threads", room)
         for clients in (1, 2, 4):
             for number in range(1, 6):
                 for rest in ("0", "1"):
@@ -56,7 +53,7 @@ def main():
                         if told:
                             wrong += 1
                             print(f"{clients} clients, thread {number}, {rest}: {told}")
-                    which = f"thread {number}" + (" and all behind it" if rest == "1" else "")
+                    which = f"thread {number}" + (" and all after it" if rest == "1" else "")
                     print(f"{clients} clients, {which} refused: {asked.runs} runs;"
                           f" {stress.told(seen)}", flush=True)
     print(f"wrong: {wrong}")

@@ -2,7 +2,7 @@
 """Where the time of a crate's last check went, by function.
 
     cd crates/NAME && rm -r out/incremental; rt check --jobs 1
-    python3 ../../bench/module_seconds.py
+    python3 ../../tools/module_seconds.py
 
 A check keeps each module in out/incremental when it is done with it. So with one job the time
 between two of those files is what the later one took, on the clock: of a function its `Lts` (the
