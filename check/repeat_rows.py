@@ -18,6 +18,8 @@ ROWS = {
     "heap_tests": ["missing", "sleeping", "threads"],
 }
 
+if len(sys.argv) > 2 or sys.argv[1:] and not sys.argv[1].isdigit():
+    sys.exit(__doc__.strip())
 times = int(sys.argv[1]) if len(sys.argv) > 1 else 50
 top = pathlib.Path(__file__).resolve().parent.parent
 

@@ -29,7 +29,7 @@ def remember_stamps(kinds):
 
 
 def main():
-    if len(sys.argv) != 2:
+    if len(sys.argv) != 2 or not os.path.isdir(sys.argv[1]):
         print(__doc__.strip())
         return 2
     os.chdir(sys.argv[1])

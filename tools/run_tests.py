@@ -101,10 +101,14 @@ def shares(names):
 
 
 def main():
+    is_note = len(sys.argv) == 3 and sys.argv[1] == "--note"
+    if len(sys.argv) > 1 and not is_note:
+        print(__doc__.strip())
+        return 2
     below = crates()
     names = [it for it in below if it.endswith("_tests")]
     built = {it: f"{TOP}/crates/{it}/out/{it}_tests" for it in names}
-    if sys.argv[1:2] == ["--note"]:
+    if is_note:
         os.makedirs(f"{TOP}/out", exist_ok=True)
         with open(NOTE, "w") as it:
             it.write(note_of(built.values(), sys.argv[2]) or "")
