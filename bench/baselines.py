@@ -1,14 +1,16 @@
 #!/usr/bin/env python3
-"""The whole program beside those that other languages' users would write.
+"""The whole program, and those that other languages' users would write.
 
-baselines.py DOCHEAP [--shared FOLDER] [--rounds N] [--only WORDS] [--also NAME=PROGRAM] [--with A,B]
+baselines.py [PROGRAM] [--shared FOLDER] [--rounds N] [--only WORDS] [--also NAME=PROGRAM] [--with A,B]
 
 One command, once `setup.sh` of a copy of the shared bench (FOLDER, /tmp/bench if none is given) has
 built the other programs. They take turns, another one first in each round. The tables have the
 medians of the wall time and of the processor time in ms with the ratio to Go in brackets, and the
 largest resident memory in MB. Replies of one client are compared, and have to be alike.
 """
-import argparse, hashlib, os, random, shutil, statistics, subprocess, sys, tempfile
+import hashlib, os, random, shutil, statistics, subprocess, sys, tempfile
+sys.dont_write_bytecode = True
+from running import SHARED, files_of, parser_of
 
 DIGITS = "0123456789abcdefghijklmnopqrstuvwxyzABCDEFGHIJKLMNOPQRSTUVWXYZ-_"
 
@@ -112,9 +114,8 @@ def once(shared, program, files, out):
 
 
 def main():
-    p = argparse.ArgumentParser()
-    p.add_argument("docheap")
-    p.add_argument("--shared", default="/tmp/bench")
+    p = parser_of(__doc__, "program")
+    p.add_argument("--shared", default=SHARED)
     p.add_argument("--rounds", type=int, default=5)
     p.add_argument("--only", default="", help="workloads whose names have these words")
     p.add_argument("--also", action="append", default=[], help="NAME=PROGRAM: one more")
@@ -127,7 +128,7 @@ def main():
         known[name] = ["java", *flags, "-cp", f"{args.shared}/build/java", "Plain"]
     programs = {name: known[name] for name in args.others.split(",") if name in known
                 and (name.startswith("java") or os.path.exists(known[name][0]))}
-    programs["docheap"] = [os.path.abspath(args.docheap)]
+    programs["docheap"] = [os.path.abspath(args.program)]
     for word in args.also:
         name, _, path = word.partition("=")
         programs[name] = [os.path.abspath(path)]
@@ -137,11 +138,7 @@ def main():
         for load, make in workloads([f"{args.shared}/build/rust_plain"]).items():
             if args.only not in load:
                 continue
-            files = []
-            for c, lines in enumerate(make(), 1):
-                files.append(f"{folder}/{c}")
-                with open(files[-1], "w", encoding="ascii") as it:
-                    it.write("".join(line + "\n" for line in lines))
+            files = files_of(folder, make())
             got, outputs = {name: [] for name in names}, {}
             for k in range(args.rounds):
                 turn = k % len(names)

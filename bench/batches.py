@@ -1,7 +1,7 @@
 #!/usr/bin/env python3
-"""Measures batches of 100 puts beside the same puts as commands of their own.
+"""Measures batches of 100 puts, and the same puts as commands of their own.
 
-batches.py PROGRAM [--batches 200] [--rounds 15]
+batches.py [PROGRAM] [--batches 200] [--rounds 15]
 
 Both scripts have the same puts, in the same order, into 200 paths of one folder that stand before.
 The two take turns, and so does a script without them. Printed are the middle times in milliseconds
@@ -9,9 +9,9 @@ The two take turns, and so does a script without them. Printed are the middle ti
 batch makes one version of its puts, so the nodes on the way are copied into the shared heap once
 and not a hundred times. The collector makes no cycle: a million cells are enough for 200 batches.
 """
-import argparse, random, statistics, sys, tempfile
+import random, statistics, sys, tempfile
 sys.dont_write_bytecode = True
-from spent import files_with, rounds_of
+from running import files_with, parser_of, run, text_of
 
 PUTS, PATHS = 100, 200
 
@@ -24,19 +24,20 @@ def scripts(batches):
     empty = ["docs 2", *laid]
     single = empty + [put for batch in puts for put in batch]
     whole = empty + [line for batch in puts for line in ("begin", *batch, "commit")]
-    return ["".join(line + "\n" for line in lines) for lines in (whole, single, empty)]
+    return [text_of(lines) for lines in (whole, single, empty)]
 
 
 def main():
-    p = argparse.ArgumentParser()
-    p.add_argument("program")
+    p = parser_of(__doc__, "program")
     p.add_argument("--batches", type=int, default=200)
     p.add_argument("--rounds", type=int, default=15)
     args = p.parse_args()
     with tempfile.TemporaryDirectory() as folder:
         texts = zip(("batches", "puts", "neither"), scripts(args.batches))
-        run = [args.program, "run", "--cycles", "0", "--cells", "1000000"]
-        rounds = rounds_of([[*run, file] for file in files_with(folder, texts)], args.rounds)
+        words = [args.program, "run", "--cycles", "0", "--cells", "1000000"]
+        files = files_with(folder, texts)
+        rounds = [[run([*words, file], keep=False).processor for file in files]
+                  for _ in range(args.rounds)]
     batch = statistics.median(whole - none for whole, _, none in rounds) * 1000
     put = statistics.median(single - none for _, single, none in rounds) * 1000
     ratio = statistics.median((whole - none) / (single - none) for whole, single, none in rounds)

@@ -1,22 +1,21 @@
 #!/usr/bin/env python3
 """Measures scripts of drafts, by programs that take turns: what they claim and what they take.
 
-drafts.py PROGRAM [OTHER ..] [--rounds 15] [--minor 4096,8192] [--clients 1,4]
+drafts.py [PROGRAM ..] [--rounds 15] [--minor 4096,8192] [--clients 1,4]
 
 `workload` is the drafts of baselines.py, 10,000 commands: 80 of 100 edit the draft at one of 200
 names, and each twentieth publishes it or takes one that is published. `edits` are 10,000 edits of
 the draft at 20 names, and `names` the same at 200, which nobody publishes. `batches` are 20 batches
-of 500 puts at 200 names beside a draft of 100.
+of 500 puts at 200 names next to a draft of 100.
 
 Each client has the script once. Printed are, for each script and each program, the cells claimed
 for a command, the cycles, and the middle times in milliseconds: wall time, and user and system
 time. Then the ratios to the first program, each taken within a round.
 """
-import argparse, os, random, statistics, sys, tempfile, time
+import os, random, statistics, sys, tempfile
 sys.dont_write_bytecode = True
-import subprocess
 from baselines import drafts
-from spent import files_with, spent
+from running import files_with, numbers_of, parser_of, run, text_of, totals_of
 
 
 def edits(names):
@@ -40,30 +39,27 @@ SCRIPTS = {"workload": lambda: drafts()[0], "edits": lambda: edits(20),
 
 def totals(words):
     """The cells claimed for each command, and the cycles."""
-    shown = subprocess.run([*words, "--stats"], check=True, capture_output=True, text=True).stdout
-    told = dict(line.split(" ") for line in shown[shown.rindex("stats\n") + 6:].splitlines())
-    return int(told["claimed"]) / int(told["commands"]), int(told["cycles"])
+    told = totals_of(run([*words, "--stats"]).output)
+    return told["claimed"] / told["commands"], told["cycles"]
 
 
 def timed(words):
     """Wall time, and user and system time, in milliseconds."""
-    before = time.perf_counter()
-    cpu = spent(words)
-    return (time.perf_counter() - before) * 1000, cpu * 1000
+    ran = run(words, keep=False)
+    return ran.wall * 1000, ran.processor * 1000
 
 
 def main():
-    p = argparse.ArgumentParser()
-    p.add_argument("programs", nargs="+")
+    p = parser_of(__doc__, "programs")
     p.add_argument("--rounds", type=int, default=15)
     p.add_argument("--minor", default="4096,8192")
     p.add_argument("--clients", default="1,4")
     args = p.parse_args()
     print("load", *(f"{load:.1f}" for load in os.getloadavg()))
     with tempfile.TemporaryDirectory() as folder:
-        texts = [(name, "".join(line + "\n" for line in made())) for name, made in SCRIPTS.items()]
+        texts = [(name, text_of(made())) for name, made in SCRIPTS.items()]
         files = dict(zip(SCRIPTS, files_with(folder, texts)))
-        for clients in map(int, args.clients.split(",")):
+        for clients in numbers_of(args.clients):
             for minor in args.minor.split(","):
                 for name, file in files.items():
                     runs = [[one, "run", "--minor", minor, *[file] * clients]

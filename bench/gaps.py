@@ -10,14 +10,10 @@ and handshakes, so each such time has a command in it; a claim that waits for th
 line of the table has the least and the middle one of the rounds' longest times, by the clock and by
 the thread's own processor time, and how many were above 0.1 ms and above 1 ms in the middle.
 """
-import argparse, os, statistics, struct, subprocess, sys, tempfile
-
-HERE = os.path.dirname(os.path.abspath(__file__))
-sys.path[:0] = [HERE, f"{HERE}/timing"]
+import os, statistics, struct, sys, tempfile
 sys.dont_write_bytecode = True
 import baselines
-import build
-import profile
+from running import built, files_of, parser_of, run
 
 CLIENT = struct.Struct("8Q")
 
@@ -34,8 +30,7 @@ def gaps(program, files, folder):
     at = f"{folder}/gaps"
     if os.path.exists(at):
         os.remove(at)
-    subprocess.run([program, "run", *files], stdout=subprocess.DEVNULL, check=True,
-                   env={**os.environ, "GAPS": at})
+    run([program, "run", *files], keep=False, GAPS=at)
     with open(at, "rb") as it:
         held = it.read()
     clients = [CLIENT.unpack_from(held, CLIENT.size * (k + 1)) for k in range(held[0])]
@@ -45,17 +40,16 @@ def gaps(program, files, folder):
 
 
 def main():
-    p = argparse.ArgumentParser()
+    p = parser_of(__doc__)
     p.add_argument("--program")
     p.add_argument("--rounds", type=int, default=5)
     args = p.parse_args()
-    program = args.program or build.build(os.path.dirname(HERE), "/tmp/docheap_timing",
-                                          "docheap_cli", name="docheap_gaps", told="gaps")
+    program = args.program or built("docheap_cli", name="docheap_gaps", told="gaps")
     print("| client | longest, us: least, middle | own processor time, us | above 0.1 ms | 1 ms |")
     print("|---|---|---|---|---|")
     for name, texts in scripts(program):
         with tempfile.TemporaryDirectory() as folder:
-            files = profile.write(folder, texts)
+            files = files_of(folder, texts)
             runs = list(zip(*(gaps(program, files, folder) for _ in range(args.rounds))))
         middle = [statistics.median(run) for run in runs]
         print(f"| {name} | {min(runs[1]):.0f}, {middle[1]:.0f} | {min(runs[2]):.0f}, "

@@ -1,5 +1,5 @@
 #!/usr/bin/env python3
-"""What a client costs that waits at a gate, on one processor beside all of them.
+"""What a client costs that waits at a gate, on one processor and on all of them.
 
 gate_wait.py [--commands 20000] [--cells 8500] [--rounds 5] [--processor K] [--into FOLDER]
 
@@ -7,40 +7,26 @@ The program's own gate is always open, so timing/gate_wait.rt.txt is built in it
 put a text to one path so many times each, and a gate holds the second at its first command, until
 the first one has the reply to its last one. Who waits asks the gate, answers handshakes and lets
 others run, again and again, and on one processor each such turn is time that the first client and
-the collector do not have; so that is what this shows. Beside it stands the same run with a gate
+the collector do not have; so that is what this shows. The first row is the same run with a gate
 that holds nobody. The program runs by `taskset -c K` and without. A line has the processor and the
 wall time of each, the least over the rounds, how often the gate sent the second client away and the
 cycles in the last round, and the ratio of the processor times, one to all. The aim: at most five
 times the processor time. `--program FILE` takes one that is built already.
 """
-import argparse, os, resource, subprocess, sys, time
-
-sys.path.insert(0, os.path.join(os.path.dirname(os.path.abspath(__file__)), "timing"))
+import sys
+sys.dont_write_bytecode = True
+from running import BUILT, TOP, parser_of, pinned, run
 import build
 
 
-def run(program, args, behind, processor):
-    """Processor and wall seconds of a run, and what it tells; none where it is late."""
-    words = [program, str(args.commands), str(args.cells), str(behind)]
-    if processor is not None:
-        words = ["taskset", "-c", str(processor), *words]
-    before, began = resource.getrusage(resource.RUSAGE_CHILDREN), time.monotonic()
-    try:
-        ran = subprocess.run(words, capture_output=True, text=True, timeout=args.limit)
-    except subprocess.TimeoutExpired:
-        return None
-    wall, after = time.monotonic() - began, resource.getrusage(resource.RUSAGE_CHILDREN)
-    if ran.returncode:
-        sys.exit(f"{' '.join(words)}: {ran.stderr}")
-    took = after.ru_utime + after.ru_stime - before.ru_utime - before.ru_stime
-    return took, wall, ran.stdout.split()
-
-
 def least(program, args, behind, processor):
-    rounds = [run(program, args, behind, processor) for _ in range(args.rounds)]
+    """The least processor and wall seconds, and what the last run tells; none where one is late."""
+    words = pinned([program, str(args.commands), str(args.cells), str(behind)], processor)
+    rounds = [run(words, args.limit) for _ in range(args.rounds)]
     if None in rounds:
         return None
-    return min(r[0] for r in rounds), min(r[1] for r in rounds), rounds[-1][2]
+    return (min(r.processor for r in rounds), min(r.wall for r in rounds),
+            rounds[-1].output.decode().split())
 
 
 def said(times):
@@ -50,17 +36,16 @@ def said(times):
 
 
 def main():
-    p = argparse.ArgumentParser()
+    p = parser_of(__doc__)
     p.add_argument("--commands", type=int, default=20_000)
     p.add_argument("--cells", type=int, default=8_500)
     p.add_argument("--rounds", type=int, default=5)
     p.add_argument("--limit", type=float, default=120)
     p.add_argument("--processor", type=int, default=1)
     p.add_argument("--program")
-    p.add_argument("--into", default="/tmp/docheap_timing")
+    p.add_argument("--into", default=BUILT)
     args = p.parse_args()
-    top = os.path.dirname(os.path.dirname(os.path.abspath(__file__)))
-    program = args.program or build.build(top, args.into, "gate_wait")
+    program = args.program or build.build(TOP, args.into, "gate_wait")
     each = "processor, s | wall, s | sent away | cycles"
     print(f"| second client | all: {each} | one: {each} | ratio |")
     print("|---" * 10 + "|")

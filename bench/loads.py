@@ -2,16 +2,16 @@
 """Measures how long a dump takes to load, by the number of its nodes, and a heap file to count, by
 the number of its cells in use.
 
-loads.py PROGRAM [--rounds 15] [--only load|census]
+loads.py [PROGRAM] [--rounds 15] [--only load|census]
 
 Each dump has folders of 200 nodes below the root, and texts of 60 bytes. Each heap has one version,
 whose root has the entries of one balanced tree, each with a node of its own and all with one name:
 what the entries are named is not looked at. The files take turns. Printed are the middle times in
 milliseconds (user and system), and that of a node or of a byte in nanoseconds.
 """
-import argparse, os, statistics, sys, tempfile
+import os, statistics, sys, tempfile
 sys.dont_write_bytecode = True
-from spent import files_with, rounds_of
+from running import files_with, parser_of, run
 
 NODES, CHILDREN = (1250, 2500, 5000, 10_000), 200
 ENTRIES = (2000, 4000, 8000, 16_000)
@@ -44,8 +44,7 @@ KINDS = {"load": (NODES, dump, "nodes"), "census": (ENTRIES, image, "entries")}
 
 
 def main():
-    p = argparse.ArgumentParser()
-    p.add_argument("program")
+    p = parser_of(__doc__, "program")
     p.add_argument("--rounds", type=int, default=15)
     p.add_argument("--only", choices=KINDS)
     args = p.parse_args()
@@ -54,7 +53,8 @@ def main():
             continue
         with tempfile.TemporaryDirectory() as folder:
             files = files_with(folder, [(str(size), text(size)) for size in sizes])
-            rounds = rounds_of([[args.program, word, file] for file in files], args.rounds)
+            rounds = [[run([args.program, word, file], keep=False).processor for file in files]
+                      for _ in range(args.rounds)]
             lengths = [os.path.getsize(file) for file in files]
         for size, length, times in zip(sizes, lengths, zip(*rounds)):
             middle = statistics.median(times)

@@ -1,5 +1,5 @@
 #!/usr/bin/env python3
-"""What an item costs that goes through a mailbox, beside queues of Rust, Go and Java.
+"""What an item costs that goes through a mailbox, and through queues of Rust, Go and Java.
 
 mailbox.py [PROGRAM] [--rounds N] [--lines N] [--cells N] [--senders 1,4,16] [--runs N]
            [--registry FOLDER] [--go FILE] [--programs FOLDER]
@@ -21,7 +21,7 @@ Rust's SegQueue and Java's queue are asked again and again while they are empty,
 between, as the mailbox is. Those of Go and mpsc let the receiver sleep.
 
 The programs take turns in each round: docheap's make RUNS runs, the others thirty in one process,
-behind ten that are not counted, in which Java compiles. A row has the middle of the rounds, in
+after ten that are not counted, in which Java compiles. A row has the middle of the rounds, in
 brackets the least and the greatest: items a second by the clock, nanoseconds of processor time of
 all threads an item, and the ratios of the times to those of SegQueue (or mpsc) within each round. A
 mailbox may be full, and the last column says how many of the lines were refused.
@@ -29,13 +29,9 @@ mailbox may be full, and the last column says how many of the lines were refused
 A send walks over all items that nobody has taken. The receiver waits for an item before each of its
 takes, so these are few.
 """
-import argparse, os, shutil, statistics, subprocess, sys, tempfile, time
-
-HERE = os.path.dirname(os.path.abspath(__file__))
-sys.path.insert(0, f"{HERE}/timing")
+import argparse, os, shutil, statistics, subprocess, sys, tempfile
 sys.dont_write_bytecode = True
-import build
-from spent import files_with
+from running import TIMING, built, files_with, in_turns, numbers_of, run, spread
 
 # How many runs of the queues are made before any is counted, and how many are counted.
 UNCOUNTED, COUNTED = 10, 30
@@ -71,25 +67,25 @@ def build_segments(registry, into):
         subprocess.run([*words, "-o", library(name), sources[name]], check=True)
     queue = f"crossbeam_queue={library('crossbeam-queue')}"
     subprocess.run(["rustc", *RUST, "--cfg", "segments", "-L", into, "--extern", queue, "-o",
-                    f"{into}/mailbox_segments", f"{HERE}/timing/mailbox.rs"], check=True)
+                    f"{into}/mailbox_segments", f"{TIMING}/mailbox.rs"], check=True)
     return True
 
 
 def build_queues(registry, go, into):
     """Builds the programs in other languages that can be built, and gives each by its name."""
-    timing, made = f"{HERE}/timing", {}
+    made = {}
     if build_segments(registry, into):
         made["Rust, SegQueue"] = [f"{into}/mailbox_segments"]
-    subprocess.run(["rustc", *RUST, "-o", f"{into}/mailbox_channel", f"{timing}/mailbox.rs"],
+    subprocess.run(["rustc", *RUST, "-o", f"{into}/mailbox_channel", f"{TIMING}/mailbox.rs"],
                    check=True)
     made["Rust, mpsc"] = [f"{into}/mailbox_channel"]
     if go:
         environment = {**os.environ, "GOCACHE": f"{into}/gocache"}
-        subprocess.run([go, "build", "-o", f"{into}/mailbox_go", f"{timing}/mailbox.go"],
+        subprocess.run([go, "build", "-o", f"{into}/mailbox_go", f"{TIMING}/mailbox.go"],
                        check=True, env=environment)
         made["Go, channel"] = [f"{into}/mailbox_go"]
     if shutil.which("javac"):
-        subprocess.run(["javac", "-d", f"{into}/java", f"{timing}/Mailbox.java"], check=True)
+        subprocess.run(["javac", "-d", f"{into}/java", f"{TIMING}/Mailbox.java"], check=True)
         made["Java, ConcurrentLinkedQueue"] = ["java", "-Xms512m", "-Xmx512m", "-cp",
                                                f"{into}/java", "Mailbox"]
     return made
@@ -101,23 +97,25 @@ def nanos(rows, lines):
             "all": statistics.mean(row[1] for row in rows) / lines, "refused": 0}
 
 
+def rows_of(words, numbers, limit):
+    """The numbers of each line that a program tells; none where it is late."""
+    ran = run([*words, *map(str, numbers)], limit)
+    return ran and [tuple(map(int, line.split())) for line in ran.output.splitlines()]
+
+
 def theirs(name, words, args):
     def measure(senders):
         room = [args.cells] if name.startswith("Go") else []
-        numbers = (senders, args.lines, *room, UNCOUNTED + COUNTED)
-        ran = subprocess.run([*words, *map(str, numbers)], capture_output=True, text=True,
-                             check=True, timeout=args.limit)
-        rows = [tuple(map(int, line.split())) for line in ran.stdout.splitlines()]
-        return nanos(rows[UNCOUNTED:], args.lines)
+        rows = rows_of(words, (senders, args.lines, *room, UNCOUNTED + COUNTED), args.limit)
+        return rows and nanos(rows[UNCOUNTED:], args.lines)
     return measure
 
 
 def ours(program, args):
     def measure(senders):
-        numbers = (senders, args.lines, args.cells, args.runs)
-        ran = subprocess.run([program, *map(str, numbers)], capture_output=True, text=True,
-                             check=True, timeout=args.limit)
-        rows = [tuple(map(int, line.split())) for line in ran.stdout.splitlines()]
+        rows = rows_of([program], (senders, args.lines, args.cells, args.runs), args.limit)
+        if not rows:
+            return None
         found = nanos([(wall - empty, own - empty_own)
                        for wall, own, empty, empty_own, _ in rows], args.lines)
         return {**found, "refused": statistics.median(row[4] for row in rows)}
@@ -126,27 +124,20 @@ def ours(program, args):
 
 def whole(program, folder, args):
     def once(files):
-        before, began = os.times(), time.perf_counter()
-        ran = subprocess.run([program, "mail", "--cells", str(args.cells), *files], check=True,
-                             capture_output=True, timeout=args.limit)
-        took, behind = time.perf_counter() - began, os.times()
-        spent = (behind.children_user + behind.children_system
-                 - before.children_user - before.children_system)
-        return took * 1e9, spent * 1e9, ran.stdout.count(b"\nfull\n")
+        return run([program, "mail", "--cells", str(args.cells), *files], args.limit)
 
     def measure(senders):
         script = "".join(f"send {value}\n" for value in range(args.lines // senders))
         full = files_with(folder, [(str(k), script) for k in range(senders)])
         empty = files_with(folder, [(f"empty{k}", "") for k in range(senders)])
         pairs = [(once(full), once(empty)) for _ in range(args.runs)]
-        found = nanos([(one[0] - none[0], one[1] - none[1]) for one, none in pairs], args.lines)
-        return {**found, "refused": statistics.median(one[2] for one, _ in pairs)}
+        if any(None in pair for pair in pairs):
+            return None
+        found = nanos([((one.wall - none.wall) * 1e9, (one.processor - none.processor) * 1e9)
+                       for one, none in pairs], args.lines)
+        refused = statistics.median(one.output.count(b"\nfull\n") for one, _ in pairs)
+        return {**found, "refused": refused}
     return measure
-
-
-def spread(numbers, form):
-    least, greatest = (f"{one:{form}}" for one in (min(numbers), max(numbers)))
-    return f"{statistics.median(numbers):{form}} ({least} to {greatest})"
 
 
 def tell(name, senders, rounds, base):
@@ -177,9 +168,7 @@ def main():
     p.add_argument("--go", default=shutil.which("go"))
     p.add_argument("--programs", help="a folder that has mail_timing")
     args = p.parse_args()
-    top = os.path.dirname(HERE)
-    timing = (f"{args.programs}/mail_timing" if args.programs
-              else build.build(top, "/tmp/docheap_timing", "mail_timing"))
+    timing = f"{args.programs}/mail_timing" if args.programs else built("mail_timing")
     with tempfile.TemporaryDirectory(prefix="docheap-mailbox-") as folder:
         made = {"docheap, `mail_run`": ours(timing, args)}
         if args.program:
@@ -192,16 +181,10 @@ def main():
         print(f"\n| queue | senders | items a second | time to {base} | "
               "processor ns an item | to the same | refused |")
         print("|---" * 7 + "|")
-        for senders in map(int, args.senders.split(",")):
-            rounds = []
-            for k in range(args.rounds):
-                one = {}
-                for name in list(made)[::1 if k % 2 else -1]:
-                    try:
-                        one[name] = made[name](senders)
-                    except subprocess.TimeoutExpired:
-                        one[name] = None
-                rounds.append(one)
+        for senders in numbers_of(args.senders):
+            measures = {name: lambda measure=measure: measure(senders)
+                        for name, measure in made.items()}
+            rounds = in_turns(measures, args.rounds)
             for name in made:
                 tell(name, senders, rounds, base)
 

@@ -1,7 +1,7 @@
 #!/usr/bin/env python3
-"""Measures a built docheap on generated scripts, beside other programs that take the same words.
+"""Measures a built docheap on generated scripts, and other programs that take the same words.
 
-measure.py PROGRAM [OTHER ..] [--mix puts] [--lines 10000,100000] [--rounds 15]
+measure.py [PROGRAM ..] [--mix puts] [--lines 10000,100000] [--rounds 15]
 
 Each PROGRAM is run as `PROGRAM run FILE`. The script is drawn from a fixed seed. The mix `puts` is
 half puts over 10,000 paths (50 folders of 200 names) and half gets of them. The mix `all` has
@@ -17,15 +17,15 @@ and system) and the largest resident memory in megabytes; then the ratios that t
 each taken within a round: the middle one, and in brackets what is left without the least and the
 greatest fifth. Outputs that differ end the run with status 1.
 """
-import argparse
 import hashlib
 import os
 import random
 import statistics
-import subprocess
 import sys
 import tempfile
 
+sys.dont_write_bytecode = True
+from running import numbers_of, parser_of, run
 
 DIGITS = "0123456789abcdefghijklmnopqrstuvwxyzABCDEFGHIJKLMNOPQRSTUVWXYZ-_"
 
@@ -66,15 +66,8 @@ def script(mix, lines, seed=1):
 
 def run_once(program, name):
     """The output's digest, processor seconds and peak megabytes of one run."""
-    with tempfile.TemporaryFile() as output:
-        child = subprocess.Popen([program, "run", name], stdout=output)
-        _, status, usage = os.wait4(child.pid, 0)
-        child.returncode = os.waitstatus_to_exitcode(status)
-        if child.returncode != 0:
-            sys.exit(f"{program} ended with status {child.returncode}")
-        output.seek(0)
-        digest = hashlib.sha256(output.read()).hexdigest()
-    return digest, usage.ru_utime + usage.ru_stime, usage.ru_maxrss / 1024
+    ran = run([program, "run", name])
+    return hashlib.sha256(ran.output).hexdigest(), ran.processor, ran.memory / (1 << 20)
 
 
 def middle(ratios):
@@ -98,13 +91,12 @@ def one_round(program, names, seen):
 
 
 def main():
-    words = argparse.ArgumentParser(description=__doc__, formatter_class=argparse.RawDescriptionHelpFormatter)
-    words.add_argument("programs", nargs="+")
+    words = parser_of(__doc__, "programs")
     words.add_argument("--mix", choices=sorted(MIXES), default="puts")
     words.add_argument("--lines", default="10000,100000")
     words.add_argument("--rounds", type=int, default=15)
     args = words.parse_args()
-    lengths = sorted({int(word) for word in args.lines.split(",")})
+    lengths = sorted(set(numbers_of(args.lines)))
     seen = {"digest": {}, "memory": {}}
     rounds = []
     with tempfile.TemporaryDirectory() as folder:

@@ -1,5 +1,5 @@
 #!/usr/bin/env python3
-"""What a thread's operations on the collected heap cost, beside the same work in other languages.
+"""What a thread's operations on the collected heap cost, and the same work in other languages.
 
 operations.py [--shared BUILD] [--rounds N] [--claims N] [--programs FOLDER] [--hints N]
 operations.py --writes|--reads [--rounds N] [--each WRITES] [--nodes N] [--programs FOLDER]
@@ -12,7 +12,7 @@ runs it is on a thread of its own.
 
 - by the clock: the time of the run over the claims of one thread;
 - in all: processor time of the whole process, the collector's share included, over all claims;
-- the longest gap: in further runs, in which each thread reads its own processor time behind each
+- the longest gap: in further runs, in which each thread reads its own processor time after each
   operation (ours, plain Rust), or the clock (the others, less the time in which the thread was ready
   and had no processor). Ours and plain Rust tell the claims, which may wait for the collector, from
   the safe points and from all else.
@@ -22,43 +22,37 @@ nothing proved. By `64 hints` it tries so many hints before it goes over all cel
 it goes over them only where it would else be refused.
 
 --writes: a field of a box is written instead, so many times by each thread, while nobody collects
-(async) and while the collector marks (tracing), with a safe point behind each 64 writes. Beside
+(async) and while the collector marks (tracing), with a safe point after each 64 writes. Next to
 `update` and `store` of a mutator stand the same atomic operations on bare words, `store` with a
 held list in plain Rust too, and the writes of Go and of Java (G1) by programs of timing/, with
 their barriers. Ours stays in the stage Trace all the time. For the others, that begin one
-collection behind another over a live tree of N nodes, the last column has the part of the time in
+collection after another over a live tree of N nodes, the last column has the part of the time in
 which they marked. Their plain writes are no sequentially consistent stores, as all of ours are.
 
 --reads: a field is read instead, in the same way. A read of a cell is timed with the `cut` that
 gives up what it holds, for else the held list would be full; a read of a number holds nothing.
-Beside them stand the load of a bare word, the same with a held list, an atomic (volatile) load and
+Next to them stand the load of a bare word, the same with a held list, an atomic (volatile) load and
 a plain read of Go and of Java; Java's plain read is opaque, so that none is left out.
 """
-import argparse, os, statistics, subprocess, sys
-
-HERE = os.path.dirname(os.path.abspath(__file__))
-sys.path.insert(0, f"{HERE}/timing")
+import os, statistics, sys
 sys.dont_write_bytecode = True
+from running import BUILT, SHARED, built, numbers_of, parser_of, run, spread
 import build, field_writes
 
 
-def run(words, limit):
-    before = os.times()
-    try:
-        ran = subprocess.run(words, capture_output=True, text=True, check=True, timeout=limit)
-    except (subprocess.TimeoutExpired, subprocess.CalledProcessError) as why:
+def rows_of(words, limit):
+    """The numbers that a program tells, and its processor seconds; none if it failed or is late."""
+    ran = run(words, limit, strict=False)
+    if ran is None:
         return None
-    behind = os.times()
-    spent = (behind.children_user + behind.children_system
-             - before.children_user - before.children_system)
-    return [list(map(float, line.split())) for line in ran.stdout.splitlines()], spent
+    return [list(map(float, line.split())) for line in ran.output.splitlines()], ran.processor
 
 
 def ours(program, more=()):
     """Nanoseconds by the clock and in all, the three gaps in us, cycles and how long a claim is."""
     def measure(threads, cells, keep, claims, timed, limit):
         words = [program, "work", *map(str, (threads, cells, keep, claims, timed)), *more]
-        got = run(words, limit)
+        got = rows_of(words, limit)
         if got is None:
             return None
         rows, _ = got
@@ -74,7 +68,7 @@ def ours(program, more=()):
 
 def theirs(program):
     def measure(threads, cells, keep, claims, timed, limit):
-        got = run([*program, *map(str, (threads, cells, keep, claims, timed))], limit)
+        got = rows_of([*program, *map(str, (threads, cells, keep, claims, timed))], limit)
         if got is None:
             return None
         rows, spent = got
@@ -84,8 +78,8 @@ def theirs(program):
 
 
 def main():
-    p = argparse.ArgumentParser()
-    p.add_argument("--shared", default="/tmp/bench/build")
+    p = parser_of(__doc__)
+    p.add_argument("--shared", default=f"{SHARED}/build")
     p.add_argument("--rounds", type=int, default=7)
     p.add_argument("--claims", type=int, default=1_000_000)
     p.add_argument("--cells", type=int, default=65_536)
@@ -99,13 +93,13 @@ def main():
     p.add_argument("--also", action="append", default=[], help="NAME=PROGRAM: one more of ours")
     args = p.parse_args()
     if not args.programs:
-        args.programs = "/tmp/docheap_timing"
-        build.build(os.path.dirname(HERE), args.programs, "heap_timing")
-        build.build_plain(args.programs)
+        args.programs = BUILT
+        built("heap_timing")
+        build.build_plain(BUILT)
         if args.writes or args.reads:
-            build.build_others(args.programs)
+            build.build_others(BUILT)
     if args.writes or args.reads:
-        threads = list(map(int, args.threads.split(",")))
+        threads = numbers_of(args.threads)
         field_writes.measure(args.programs, args.each, args.rounds, threads, args.nodes, args.limit,
                              args.reads)
         return
@@ -126,7 +120,7 @@ def main():
     print("| program | threads | ns a claim, by the clock | ns a claim, in all | of it the collector's "
           "| cycles | longest gap, us: claim / other / safe point, least of the runs (median) |")
     print("|---|---|---|---|---|---|---|")
-    for threads in map(int, args.threads.split(",")):
+    for threads in numbers_of(args.threads):
         programs = dict(made)
         if os.path.exists(f"{args.shared}/java/Micro.class"):
             room = max(32, threads * args.cells * 72 // (1 << 20) * 2)
@@ -151,10 +145,8 @@ def main():
             if bad:
                 name += f" ({bad} of {2 * args.rounds} runs took over {args.limit} s)"
             def cell(key):
-                all_ = [one[key] for one in plainly if key in one]
-                if not all_:
-                    return ""
-                return f"{statistics.median(all_):.0f} ({min(all_):.0f} to {max(all_):.0f})"
+                found = [one[key] for one in plainly if key in one]
+                return spread(found, ".0f") if found else ""
             gaps = list(zip(*(one["gaps"] for one in timed)))
             shown = " / ".join(f"{min(g):.0f} ({statistics.median(g):.0f})" for g in gaps)
             print(f"| {name} | {threads} | {cell('clock')} | {cell('all')} | {cell('collector')} | "

@@ -1,7 +1,7 @@
 #!/usr/bin/env python3
 """Measures how the memory of a run follows its output.
 
-    python3 bench/output_memory.py PROGRAM [OTHER ..] [--part N]
+    python3 bench/output_memory.py [PROGRAM ..] [--part N]
 
 Two scripts with far more output than input: `lists` lists a folder of 256 names of 64 bytes again
 and again (1.66 GB of output), `texts` gets a text of 4,096 bytes (410 MB). Each program runs each
@@ -10,11 +10,13 @@ resident memory of the process, and their ratio. Every reply stays in its client
 run is over, and all lines are made before the first is written, so each byte of the output stands
 twice at least. `--part N` runs the Nth part of the lines.
 """
-import argparse
 import os
 import subprocess
 import sys
 import tempfile
+
+sys.dont_write_bytecode = True
+from running import files_with, parser_of
 
 COMMANDS = 100_000
 
@@ -43,19 +45,17 @@ def run(program, path):
 
 
 def main():
-    parser = argparse.ArgumentParser()
-    parser.add_argument("programs", nargs="+")
+    parser = parser_of(__doc__, "programs")
     parser.add_argument("--part", type=int, default=1)
     asked = parser.parse_args()
     with tempfile.TemporaryDirectory() as room:
         for name, made in (("lists", lists), ("texts", texts)):
-            path = os.path.join(room, name)
-            with open(path, "w") as file:
-                file.write(made(asked.part))
+            path, = files_with(room, [(name, made(asked.part))])
             for program in asked.programs:
                 size, peak = run(program, path)
                 print(f"{name:6} {size / 1e6:8.1f} MB of output, {peak / 1e6:8.1f} MB resident,"
                       f" {peak / size:.2f} times: {program}", flush=True)
 
 
-main()
+if __name__ == "__main__":
+    main()

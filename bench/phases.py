@@ -5,7 +5,7 @@ phases.py PROGRAM WORDS..        as: phases.py crates/docheap_cli/out/docheap_cl
 
 With Linux's `perf`, 20 samples a millisecond. A line is a millisecond; a column a thread, the first
 one's first, with how many samples it has there and the function that has most of them. So one sees
-how long the opening takes, how long the clients, how long the cycles behind them, and who waits.
+how long the opening takes, how long the clients, how long the cycles after them, and who waits.
 """
 import collections, re, subprocess, sys, tempfile
 

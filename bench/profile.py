@@ -1,19 +1,17 @@
 #!/usr/bin/env python3
 """Where the program's time goes, and how often commits are lost and cells are tried in vain.
 
-profile.py DOCHEAP [--counted PROGRAM] [--shared FOLDER] [--top N]
+profile.py [PROGRAM] [--counted PROGRAM] [--shared FOLDER] [--top N]
 
 One command, with Linux's `perf`. For each script it prints the functions with the greatest shares of
 the processor time of all threads, and the crates. Then a build with counters, which is made without
 proof unless one is given, runs several scripts, and the calls that it counted are a table.
 """
-import argparse, collections, os, re, shutil, struct, subprocess, sys, tempfile
-
-HERE = os.path.dirname(os.path.abspath(__file__))
-sys.path[:0] = [HERE, f"{HERE}/timing"]
+import collections, os, re, shutil, struct, subprocess, sys, tempfile
 sys.dont_write_bytecode = True
 import baselines
-import build
+from running import SHARED, built, files_of, parser_of, run, totals_of
+from build import COUNTED
 
 PROFILED = (
     "one client, 10,000, 2 puts to 3 gets, 10,000 paths",
@@ -25,15 +23,6 @@ PROFILED = (
 )
 COUNTS_OF = PROFILED[2:] + (
     "4 clients, 100,000, 2 puts to 3 gets, 200 paths", "10 clients, 100,000, generated")
-
-
-def write(folder, scripts):
-    files = []
-    for c, lines in enumerate(scripts, 1):
-        files.append(f"{folder}/{c}")
-        with open(files[-1], "w", encoding="ascii") as it:
-            it.write("".join(line + "\n" for line in lines))
-    return files
 
 
 def profile(docheap, files, folder, top):
@@ -56,19 +45,16 @@ def counts(program, files, folder):
     at = f"{folder}/counts"
     if os.path.exists(at):
         os.remove(at)
-    ran = subprocess.run([program, "run", "--stats", *files], capture_output=True, text=True,
-                         check=True, env={**os.environ, "COUNTS": at})
-    stats = dict(line.split(" ") for line in ran.stdout.split("\nstats\n")[-1].splitlines())
+    stats = totals_of(run([program, "run", "--stats", *files], COUNTS=at).output)
     with open(at, "rb") as it:
         found = it.read()
-    return stats, [struct.unpack_from("Q", found, 64 * k)[0] for k in range(len(build.COUNTED))]
+    return stats, [struct.unpack_from("Q", found, 64 * k)[0] for k in range(len(COUNTED))]
 
 
 def main():
-    p = argparse.ArgumentParser()
-    p.add_argument("docheap")
+    p = parser_of(__doc__, "program")
     p.add_argument("--counted")
-    p.add_argument("--shared", default="/tmp/bench")
+    p.add_argument("--shared", default=SHARED)
     p.add_argument("--top", type=int, default=10)
     args = p.parse_args()
     loads = baselines.workloads([f"{args.shared}/build/rust_plain"])
@@ -76,14 +62,13 @@ def main():
     try:
         for load in PROFILED:
             print(f"\n{load}\n\n| % | function |\n|---|---|")
-            profile(os.path.abspath(args.docheap), write(folder, loads[load]()), folder, args.top)
-        counted = args.counted or build.build(os.path.dirname(HERE), "/tmp/docheap_timing",
-                                              "docheap_cli", name="docheap_counted", told="count")
-        print("\n| script | commits | lost | " + " | ".join(build.COUNTED) + " | cycles |")
-        print("|---" * (4 + len(build.COUNTED)) + "|")
+            profile(os.path.abspath(args.program), files_of(folder, loads[load]()), folder, args.top)
+        counted = args.counted or built("docheap_cli", name="docheap_counted", told="count")
+        print("\n| script | commits | lost | " + " | ".join(COUNTED) + " | cycles |")
+        print("|---" * (4 + len(COUNTED)) + "|")
         for load in COUNTS_OF:
-            stats, found = counts(counted, write(folder, loads[load]()), folder)
-            lost = 1 - int(stats["versions"]) / max(1, found[0])
+            stats, found = counts(counted, files_of(folder, loads[load]()), folder)
+            lost = 1 - stats["versions"] / max(1, found[0])
             print(f"| {load} | {stats['versions']} | {100 * lost:.0f} % | "
                   + " | ".join(map(str, found)) + f" | {stats['cycles']} |", flush=True)
     finally:

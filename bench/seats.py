@@ -1,5 +1,5 @@
 #!/usr/bin/env python3
-"""What the calls of a heap's seats cost beside the same operations on bare atomic words in Rust.
+"""What the calls of a heap's seats cost, and the same operations on bare atomic words in Rust.
 
 seats.py [--rounds N] [--cells N] [--batches N] [--threads 1,4] [--programs FOLDER]
 
@@ -8,18 +8,15 @@ them in turns, and prints the table. Fill is look, claim, five fills and seal of
 look, six wipes, free and advance. Each thread has a heap of its own. A round gives the median batch
 of each program; the table has the medians over the rounds, and the ratio within rounds.
 """
-import argparse, os, statistics, subprocess, sys
-
-HERE = os.path.dirname(os.path.abspath(__file__))
-sys.path.insert(0, f"{HERE}/timing")
+import statistics, sys
 sys.dont_write_bytecode = True
+from running import BUILT, built, in_turns, numbers_of, parser_of, run
 import build
 
 
-def run(program, threads, cells, batches):
+def batches_of(program, threads, cells, batches):
     words = [program, "seats", str(threads), str(cells), str(batches)]
-    ran = subprocess.run(words, capture_output=True, text=True, check=True)
-    rows = [tuple(map(int, line.split())) for line in ran.stdout.splitlines()]
+    rows = [tuple(map(int, line.split())) for line in run(words).output.splitlines()]
     counted = rows[batches::batches + 1]
     if any(row != (batches * (cells - 1),) * 2 for row in counted):
         sys.exit(f"{program}: not every cell was claimed and freed: {counted}")
@@ -29,7 +26,7 @@ def run(program, threads, cells, batches):
 
 
 def main():
-    p = argparse.ArgumentParser()
+    p = parser_of(__doc__)
     p.add_argument("--rounds", type=int, default=15)
     p.add_argument("--cells", type=int, default=4096)
     p.add_argument("--batches", type=int, default=100)
@@ -37,9 +34,9 @@ def main():
     p.add_argument("--programs")
     args = p.parse_args()
     if not args.programs:
-        args.programs = "/tmp/docheap_timing"
-        build.build(os.path.dirname(HERE), args.programs, "heap_timing")
-        build.build_plain(args.programs)
+        args.programs = BUILT
+        built("heap_timing")
+        build.build_plain(BUILT)
     programs = {"bare words": f"{args.programs}/plain_heap",
                 "the seats": f"{args.programs}/heap_timing"}
     print(f"{args.cells} cells, {args.batches} batches, {args.rounds} rounds; nanoseconds a cell: the "
@@ -47,15 +44,14 @@ def main():
     print()
     print("| | threads | bare words | the seats | ratio, median of rounds | ratio of the least |")
     print("|---|---|---|---|---|---|")
-    for threads in map(int, args.threads.split(",")):
-        got = {name: {"fill": [], "sweep": []} for name in programs}
-        for k in range(args.rounds):
-            for name in list(programs)[::1 if k % 2 else -1]:
-                times = run(programs[name], threads, args.cells, args.batches)
-                for part, list_ in times.items():
-                    got[name][part].append((statistics.median(list_), min(list_)))
+    for threads in numbers_of(args.threads):
+        measures = {name: lambda program=program: batches_of(program, threads, args.cells,
+                                                             args.batches)
+                    for name, program in programs.items()}
+        rounds = in_turns(measures, args.rounds)
         for part in ("fill", "sweep"):
-            bare, ours = got["bare words"][part], got["the seats"][part]
+            bare, ours = ([(statistics.median(one[name][part]), min(one[name][part]))
+                           for one in rounds] for name in ("bare words", "the seats"))
             cell = lambda it: (f"{statistics.median(m for m, _ in it):.1f} "
                                f"({min(l for _, l in it):.1f})")
             ratio = statistics.median(o[0] / b[0] for b, o in zip(bare, ours))

@@ -1,4 +1,4 @@
-"""Trees of documents, scripts, and a store that folds them, for the scripts beside this file.
+"""Trees of documents, scripts, and a store that folds them, for the scripts alongside this file.
 
 Shares nothing with the program: scripts are read by the grammar, and trees are folded whole.
 """

@@ -4,7 +4,7 @@
     definitions.py CRATE FUNCTION [CLAUSE[.FIELD]..] [--names] [--depth N]
 
 FUNCTION is the name of a function of the crate, or TYPE::NAME where several types have one; a
-clause is named as it stands behind `ensures`, and with none all of them are taken; of one that is a
+clause is named as it stands after `ensures`, and with none all of them are taken; of one that is a
 record FIELD is a fact. Printed is a line for each file of definitions, in the order in which one
 comes to it from the clause down; with --names also the definitions in it. Left out are the
 toolchain's own, and the types of the code, which stand in src/. What is read is the text of

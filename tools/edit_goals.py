@@ -3,7 +3,7 @@
 
     edit_goals.py CRATE [WORD..]
 
-It stands at the top of the repository, behind an `rt check` of the crate, and tries its edits as
+It stands at the top of the repository, after an `rt check` of the crate, and tries its edits as
 the gate does, each over a copy of what that check kept; with words only those that have one of them
 in their name. A line an edit tells the processor seconds, and on the clock those of the front end,
 of the session (what was proved anew) and of the offers, the second reading that is there only where

@@ -1,14 +1,14 @@
 #!/usr/bin/env python3
 """Where the processor minutes of the gate go, by crate: its proofs, its tests, its must-fail edits.
 
-    gate_minutes.py            runs `rt ci` in this folder, and prints the table behind its log
+    gate_minutes.py            runs `rt ci` in this folder, and prints the table after its log
     gate_minutes.py --log F    prints the table of a log that such a run has left
     gate_minutes.py --watch P  follows an `rt ci` that runs already, by its process number
 
 The log of `rt ci` has no times, so the run's checks are looked at twice a second in /proc: which
 crate and which of the three each one works for, and the processor time that it has taken so far, of
 all its threads. What a check takes after the last look at it is missed, less than half a second
-each. Behind the log stand lines `minutes CRATE KIND N`, which --log reads.
+each. After the log stand lines `minutes CRATE KIND N`, which --log reads.
 """
 import argparse
 import os

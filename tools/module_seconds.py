@@ -33,7 +33,7 @@ def saved():
 
 def main():
     if not os.path.isdir(KEPT):
-        sys.exit(f"there is no {KEPT}: run this in a crate's folder, behind `rt check --jobs 1`")
+        sys.exit(f"there is no {KEPT}: run this in a crate's folder, after `rt check --jobs 1`")
     last, files = saved()
     all_of, parts = collections.Counter(), collections.defaultdict(collections.Counter)
     for time, module in files:

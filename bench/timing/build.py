@@ -1,12 +1,12 @@
 #!/usr/bin/env python3
 """Builds heap_timing, gate_wait, mail_timing, docheap or another program of the repository, for
-measuring, and plain_heap and the programs in Go and Java beside heap_timing.
+measuring, and plain_heap and the programs in Go and Java with heap_timing.
 
 build.py [--into FOLDER] [--program docheap_cli] [--hints N] [--count | --gaps]
          [--repository FOLDER]
 
 A measuring program in Rattle is no crate of the repository, and so nothing of it is proved. It is
-laid beside copies of the crates and built as tools/build_unproved.py builds any program, which
+laid with copies of the crates and built as tools/build_unproved.py builds any program, which
 tells how. That is near to what the gate builds, and not the same: figures of a program that the
 gate has built go before. Nothing is written below the repository.
 """
@@ -45,7 +45,7 @@ TOLD = {
 
 
 def lay_more(folder, program, hints):
-    """Lays a measuring program beside the copies of the crates, and makes a trial's change."""
+    """Lays a measuring program with the copies of the crates, and makes a trial's change."""
     if program in MEASURING:
         os.makedirs(f"{folder}/crates/{program}/src")
         shutil.copy(f"{HERE}/{program}.rt.txt", f"{folder}/crates/{program}/src/main.rt")

@@ -1,6 +1,8 @@
-"""What a write of a field costs, or a read, beside bare words, Go and Java: operations.py --writes
-and --reads."""
-import os, re, statistics, subprocess
+"""What a write of a field costs, or a read, and the same of bare words, Go and Java: operations.py
+--writes and --reads."""
+import os, re, statistics
+
+from running import in_turns, run, spread
 
 JAVA = ["-XX:+UseG1GC", "-Xbatch", "-Xms1g", "-Xmx1g", "-XX:+ExplicitGCInvokesConcurrent",
         "-XX:MaxTenuringThreshold=0", "-Xlog:gc+marking=info:stderr:timemillis"]
@@ -10,7 +12,7 @@ JAVA_MARKS = re.compile(r"\[(\d+)ms\].*Concurrent (?:Mark|Scan Root Regions) ([\
 # How long each kind lasts in Go and in Java, in ms: while they collect, for several cycles.
 LEAST = (100, 600)
 
-# Each row, and the row of plain Rust that it stands beside.
+# Each row, and the row of plain Rust that it is compared with.
 ROWS = {
     "docheap, update": "plain Rust, update",
     "docheap, store": "plain Rust, store",
@@ -39,14 +41,10 @@ KINDS = {"plain": "plain write", "far": "plain write across regions", "exchange"
          "compare and exchange", "read": "plain read"}
 
 
-def run(words, limit):
-    environment = {**os.environ, "GODEBUG": "gctrace=1"}
-    try:
-        ran = subprocess.run(words, capture_output=True, text=True, check=True, timeout=limit,
-                             env=environment)
-    except (subprocess.TimeoutExpired, subprocess.CalledProcessError):
-        return None
-    return [line.split() for line in ran.stdout.splitlines()], ran.stderr
+def rows_of(words, limit):
+    """The words of each line that a program tells, and its log; none if it failed or is late."""
+    ran = run(words, limit, strict=False, GODEBUG="gctrace=1")
+    return ran and ([line.split() for line in ran.output.decode().splitlines()], ran.errors)
 
 
 def nanos(threads, share=None):
@@ -60,7 +58,7 @@ def nanos(threads, share=None):
 
 def ours(program, kind, name):
     def measure(threads, writes, tracing, limit):
-        got = run([program, "writes", str(threads), str(writes), kind, str(tracing)], limit)
+        got = rows_of([program, "writes", str(threads), str(writes), kind, str(tracing)], limit)
         if got is None:
             return {}
         rows = [list(map(int, row)) for row in got[0][:threads]]
@@ -89,7 +87,7 @@ def java_spans(log):
 def theirs(program, language, nodes, spans, more):
     def measure(threads, writes, tracing, limit):
         numbers = (threads, writes, tracing, nodes, LEAST[tracing], *more)
-        got = run([*program, *map(str, numbers)], limit)
+        got = rows_of([*program, *map(str, numbers)], limit)
         if got is None:
             return {}
         out, times = {}, spans(got[1])
@@ -121,12 +119,6 @@ def programs(folder, nodes, reads):
         java = ["java", *JAVA, "-cp", f"{folder}/java", "Writes"]
         made.append(theirs(java, "Java", nodes, java_spans, more))
     return made
-
-
-def spread(numbers):
-    if not numbers:
-        return "-"
-    return f"{statistics.median(numbers):.2f} ({min(numbers):.2f} to {max(numbers):.2f})"
 
 
 def ratios(rounds, name, beside, tracing):
@@ -163,13 +155,11 @@ def measure(folder, writes, rounds, threads_list, nodes, limit, reads):
           "by the clock, async / tracing | of the time it marked |")
     print("|---" * 8 + "|")
     for threads in threads_list:
-        found = []
-        for k in range(rounds):
-            one = {}
-            for program in made[::1 if k % 2 else -1]:
-                for tracing in (0, 1):
-                    got = program(threads, writes, tracing, limit)
-                    one.update({(name, tracing): what for name, what in got.items()})
-            found.append(one)
+        def of_both(program):
+            return {(name, tracing): what for tracing in (0, 1)
+                    for name, what in program(threads, writes, tracing, limit).items()}
+        measures = {k: lambda program=program: of_both(program) for k, program in enumerate(made)}
+        found = [{name: what for one in turn.values() for name, what in one.items()}
+                 for turn in in_turns(measures, rounds)]
         for name, beside in (READS if reads else ROWS).items():
             tell(found, name, beside, threads)
