@@ -1,7 +1,8 @@
 #!/usr/bin/env python3
 """The whole program, and those that other languages' users would write.
 
-baselines.py [PROGRAM] [--shared FOLDER] [--rounds N] [--only WORDS] [--also NAME=PROGRAM] [--with A,B]
+baselines.py [PROGRAM] [--shared FOLDER] [--rounds N] [--only WORDS] [--also NAME=PROGRAM]
+             [--with A,B]
 
 One command, once `setup.sh` of a copy of the shared bench (FOLDER, /tmp/bench if none is given) has
 built the other programs. They take turns, another one first in each round. The tables have the

@@ -62,7 +62,8 @@ def main():
     try:
         for load in PROFILED:
             print(f"\n{load}\n\n| % | function |\n|---|---|")
-            profile(os.path.abspath(args.program), files_of(folder, loads[load]()), folder, args.top)
+            files = files_of(folder, loads[load]())
+            profile(os.path.abspath(args.program), files, folder, args.top)
         counted = args.counted or built("docheap_cli", name="docheap_counted", told="count")
         print("\n| script | commits | lost | " + " | ".join(COUNTED) + " | cycles |")
         print("|---" * (4 + len(COUNTED)) + "|")
