@@ -48,7 +48,7 @@ def promises(crates):
     """By crate the headings of THEOREMS whose entry says that a clause of the crate carries it."""
     found = {}
     for entry in re.split(r"^### ", read("docs/THEOREMS.md"), flags=re.M)[1:]:
-        carried = re.search(r"\*Carried by\*:(.*?)(?=\n- |\n\n|\Z)", entry, re.S)
+        carried = re.search(r"^\| \*Clause\* \|(.*)$", entry, re.M)
         for name in crates if carried else ():
             if re.search(rf"\b{name}\b", carried[1]):
                 found.setdefault(name, []).append(entry.partition("\n")[0])
