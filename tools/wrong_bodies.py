@@ -216,7 +216,8 @@ class Crate:
             for source, text in texts.items():
                 with open(f"{room}/{source}", "w", encoding="utf-8") as file:
                     file.write(text)
-            self.rt.linked(self.kept, f"{room}/kept")
+            # some kits have a quicker way than a copy
+            getattr(self.rt, "linked", shutil.copytree)(self.kept, f"{room}/kept")
             words = self.crate.words(["--jobs", "1"], keeps=False) + ["--incremental", "kept"]
             return checked(self.rtlib, words, room, seconds)
 
