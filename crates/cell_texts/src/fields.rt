@@ -10,7 +10,7 @@ use crate::numbers::read_number;
 use cell_words::Field;
 use std::alloc::{AllocError, Global};
 
-/// A text with a space and the field's text behind it.
+/// A text with a space and the field's text after it.
 pub fn with_field(alloc: Global, text: String, field: Field) -> Result<String, AllocError>
     ensures { IfOk result
         (λ all. string_bytes all ≡ string_bytes text ++ (codes " " ++ field_text field)) }

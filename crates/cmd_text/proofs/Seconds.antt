@@ -1,5 +1,5 @@
--- What the loop over the lines of a script of version 2 keeps: the commands read so far, before
--- those of the lines that are left behind an open batch or none, are those of the whole script.
+-- What the loop over the lines of a script of version 2 keeps: the commands read so far, followed
+-- by those of the lines that are left after an open batch or none, are those of the whole script.
 use Rattle.std.proofs.Common.{◌≡◌, ℕ, ◌+◌, List, [], ◌∷◌, Option, Some, None, Result, Ok, Err}
 use Rattle.std.proofs.Common.{append-nil, append_assoc, drop, length, refl, sym, ap, subst, ◌∙◌}
 use Rattle.std.proofs.Common.{Bor}

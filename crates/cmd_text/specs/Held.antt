@@ -3,7 +3,7 @@
 --
 -- Such a line holds a command, or begins a batch or ends one, or is an edit of the batch that it
 -- stands in. As in version 1, the first fault from the left to the right counts, after those of
--- single bytes. Whether the word may stand where it does is looked at behind the word.
+-- single bytes. Whether the word may stand where it does is looked at after the word itself.
 -- Source: this project's own.
 use Rattle.std.specs.Prelude.{ℕ, Bool, true, false, not, ◌||◌, List, codes, bytes_eq}
 use Rattle.std.specs.Prelude.{if◌then◌else◌, Option, Some, None, Result, Ok, Err, ok_or}

@@ -77,7 +77,7 @@ number_and_path_in rest =
     and_then (last_path_in (next_rest_of rest)) (λ path.
     Ok (number, path)))
 
--- what each command has behind its first word, with its text in this form
+-- what each command has after its first word, with its text in this form
 abbrev pub arguments_in : Form → Verb → List ℕ → Result Command ScriptKind
 arguments_in form verbs.Put rest =
     and_then (path_and_text_in form rest) (λ p. Ok (commands.Put p.0 p.1))

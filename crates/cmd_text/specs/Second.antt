@@ -37,7 +37,7 @@ abbrev pub ended : Option Batch → Turn
 ended None = goes_on None
 ended (Some batch) = record { command = Some (commands.Batch batch.edits); batch = None }
 
--- what a line with this number comes to, by what it holds
+-- what a line with this number makes of the batch, by what it holds
 abbrev pub turned : ℕ → Option Held → Option Batch → Result Turn ScriptKind
 turned number None batch = Ok (goes_on batch)
 turned number (Some (held.Command command)) batch =
@@ -51,7 +51,7 @@ abbrev pub turn_of : ℕ → Option Batch → List ℕ → Result Turn ScriptKin
 turn_of number batch line =
     and_then (second_reading_of (is_some batch) line) (λ what. turned number what batch)
 
--- a line's turn, and then the lines behind it
+-- a line's turn, and then the lines after it
 abbrev pub with_turn : ℕ → Result Turn ScriptKind
     → (Option Batch → Result (List Command) ScriptFault)
     → Result (List Command) ScriptFault
@@ -63,17 +63,17 @@ abbrev pub closed : Option Batch → Result (List Command) ScriptFault
 closed None = Ok []
 closed (Some batch) = Err (record { line = batch.line; kind = NoBatch })
 
--- a command behind others, if there is one
+-- a command after others, if there is one
 abbrev pub with_last : List Command → Option Command → List Command
 with_last front None = front
 with_last front (Some command) = front ++ command ∷ []
 
--- these commands, where no batch is left open behind them
+-- these commands, where no batch is left open after them
 abbrev pub closed_behind : List Command → Option Batch → Result (List Command) ScriptFault
 closed_behind front None = Ok front
 closed_behind front (Some batch) = Err (record { line = batch.line; kind = NoBatch })
 
--- the commands of the lines, of which the first has this number, behind an open batch or none
+-- the commands of the lines, of which the first has this number, after an open batch or none
 abbrev pub second_from : ℕ → Option Batch → List (List ℕ) → Result (List Command) ScriptFault
 second_from number batch [] = closed batch
 second_from number batch (line ∷ lines) =

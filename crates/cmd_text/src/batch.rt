@@ -1,4 +1,4 @@
-//! What the lines of a script of version 2 come to, one after another.
+//! What the lines of a script of version 2 give, one after another.
 ghost use Rattle.cmd_text.specs.Answers.{GivesAt};
 ghost use Rattle.cmd_text.specs.Held.{second_reading_of};
 ghost use Rattle.cmd_text.specs.Second.{ended, turn_of, turned, with_edit};
@@ -18,16 +18,16 @@ pub(crate) struct Batch {
     pub(crate) edits: Edits,
 }
 
-/// What a line comes to.
+/// What a line gives, and the batch that it leaves open.
 #[derive(Drop)]
 pub(crate) struct Turn {
     /// the command that ends with the line
     pub(crate) command: Option<Command>,
-    /// the batch that is open behind it
+    /// the batch that is open after it
     pub(crate) batch: Option<Batch>,
 }
 
-/// What the line with this number comes to, behind an open batch or none.
+/// What the line with this number gives, after an open batch or none.
 pub(crate) fn read_turn(
     alloc: Global,
     paths: &mut RecentPaths,

@@ -27,7 +27,7 @@ pub enum ScriptKind {
     LongText,
     /// something follows the last word
     Extra,
-    /// an edit behind the thousandth of its batch
+    /// an edit after the thousandth of its batch
     LongBatch,
 }
 

@@ -49,7 +49,7 @@ fn read_command(alloc: Global, paths: &mut RecentPaths, line: &[u8]) -> Result<C
     }
 }
 
-/// What a command has behind its first word.
+/// What a command has after its first word.
 pub(crate) fn read_arguments(
     alloc: Global,
     paths: &mut RecentPaths,
@@ -147,7 +147,7 @@ fn read_text(alloc: Global, form: Form, rest: &[u8]) -> Result<Text, LineError>
     }
 }
 
-// The text between the quotes, however long: what is longer than may be is told apart behind that.
+// The text between the quotes, however long: whether it is too long is looked at afterwards.
 fn read_quotes(alloc: Global, bytes: &[u8]) -> Result<Text, LineError>
     ensures { Gives result (and_then (ok_or (unquoted_of bytes.now) NoQuote) short_text) }
 {

@@ -1,7 +1,7 @@
 //! Paths that were read a short while ago.
 //!
 //! Scripts name the same paths again and again. A path that is still at hand is shared and not made
-//! anew: it takes no further memory, neither in a command nor in the log.
+//! again: it takes no further memory, neither in a command nor in the log.
 ghost use Rattle.doc_tree.specs.Words.{path_of};
 ghost use Rattle.std.specs.Prelude.{◌≡◌, IfOk, IfSome, Some};
 
@@ -11,7 +11,8 @@ use std::alloc::Global;
 // So many paths are at hand at most while a script is read.
 const MOST_PATHS: usize = 32_768;
 
-// Spreads what paths differ by over all bits of a word: an odd number without a pattern in its bits.
+// Spreads what paths differ by over all bits of a word: an odd number without a pattern in its
+// bits.
 const SPREAD: u64 = 0x517c_c1b7_2722_0a95;
 
 /// As many as a script of this length may well have.

@@ -14,7 +14,8 @@ use crate::second::read_second_script;
 use doc_model::Command;
 use std::alloc::Global;
 
-// So many commands at most get their room at once. A run has no more; the list grows where it has to.
+// So many commands at most get their room at once. A run has no more; the list grows where it has
+// to.
 const MOST_COMMANDS: usize = 100_000;
 
 /// As many as a script of this length may well have.

@@ -22,8 +22,8 @@ pub record IsChange (c : Change) (t : DocTree) (gone came : Option DocTree) : Ty
   pub nodes_come : c.come.nodes ≡ nodes_in came
   pub levels_come : c.come.levels ≡ levels_in came
 
--- What the sizes of the new row are by these. The levels are one of two numbers, but where the child
--- that goes was as high as any and the one that comes is lower.
+-- What the sizes of the new row are by these. The levels are one of two numbers, but where the
+-- child that goes was as high as any and the one that comes is lower.
 pub record Changes (c : Change) (kids : Kids) : Type 0 where
   pub nodes : nodes_below kids + 1 + c.gone.nodes ≡ c.old.nodes + c.come.nodes
   pub few : c.old.nodes + c.come.nodes < 2 ^ 61

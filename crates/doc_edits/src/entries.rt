@@ -23,7 +23,7 @@ use std::cmp::Ordering;
 #[derive(Drop)]
 pub(crate) struct EntryPool<'a, R> {
     pub(crate) records: &'a mut R,
-    // How many entries were made: so many levels at most have come to those that were there.
+    // How many entries were made: at most so many levels were added to those that were there.
     pub(crate) made: u64,
 }
 

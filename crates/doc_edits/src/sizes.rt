@@ -1,8 +1,8 @@
 //! How many nodes and levels a node has of which one child comes, goes or is changed.
 //!
 //! The sizes of the node as it was, of the child that goes and of the one that comes tell them. The
-//! other children are asked for their levels only where a lower child comes in place of one that was
-//! as high as any, or none does, and only until one is found that is as high.
+//! other children are asked for their levels only where a lower child comes in place of one that
+//! was as high as any, or none does, and only until one is found that is as high.
 ghost use Rattle.std.specs.Prelude.{◌≡◌, ◌+◌, ◌*◌, ◌≤◌, ◌<◌, ◌^◌};
 ghost use Rattle.std.specs.Option.{ForSome, option_map};
 ghost use Rattle.cell_words.specs.Term.{part, IsFive};

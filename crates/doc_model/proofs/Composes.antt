@@ -2,7 +2,8 @@
 --
 -- Each client's entries stand in the merged list once and in order: they are the log's own
 -- (Counts), their numbers do not fall (Order, Logs), and so they are the log (Rising).
--- The new versions stand there in order, for the same reason, and the rest is a fold (Fold).
+-- The new versions stand there in order, for the same reason, and the rest is a fold (Fold). Of a
+-- command and its reply these lemmas ask only whether it made a version.
 use Rattle.std.proofs.Common.{◌≡◌, ℕ, ◌+◌, ◌*◌, ◌≤◌, ◌==◌, Bool, true, List, [], ◌∷◌, length}
 use Rattle.std.proofs.Common.{get_or, take, map, filter, replicate, All, sym, ◌∙◌, ap, subst}
 use Rattle.std.proofs.Common.{arith}

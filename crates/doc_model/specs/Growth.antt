@@ -17,8 +17,9 @@ pub record KeepsUp (l : Limits) (May : List DocTree → Type 0) (m : Account) (l
   pub account : (trees : List DocTree) → May trees → account_after l trees opening_account log ≡ m
 
 -- The next entry of a client with this account: over every list that may be it has the same answer.
--- Which of the trees the client read to know that is its own affair. A command on its draft reads
--- none, and one that asks for an older version need not read the latest.
+-- Which of the trees the client read to know that is left to it; for most commands `answer_read` is
+-- the lemma. A command on its draft reads none, and one that asks for an older version need not
+-- read the latest.
 pub record IsAnswered (l : Limits) (May : List DocTree → Type 0) (m : Account) (e : Entry)
     (a : Answer) : Type 0 where
   pub numbered : e.number ≡ m.answered + 1

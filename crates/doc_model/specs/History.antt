@@ -42,6 +42,7 @@ made_by trees e = if is_ok e.reply then Some (tree_at trees e.place) else None
 
 -- an entry is the client's next one, against these versions
 pub record Stands (l : Limits) (trees : List DocTree) (m : Account) (e : Entry) : Type 0 where
+  -- otherwise a `full` at a version that never was would stand, and no merged list be legal
   pub known : e.place < length trees
   pub numbered : e.number ≡ m.answered + 1
   -- no place falls, and that of a new version is above all before it

@@ -22,6 +22,8 @@ entry_order d e =
 abbrev pub all_entries : List ClientLog → List Entry
 all_entries logs = flat_map (λ g. g.entries) logs
 
+-- A relation, since entries with the same place, client and number may stand in either order. Logs
+-- that agree have no two such entries.
 pub record IsMerge (logs : List ClientLog) (merged : List Entry) : Type 0 where
   pub same : IsPermutation (all_entries logs) merged
   pub sorted : IsSortedByKey (λ e. e) entry_order merged

@@ -16,7 +16,7 @@ use crate::edits::Edit;
 use doc_tree::{EditFault, Path, Tree};
 use std::alloc::Global;
 
-/// What a client has in the store beside the versions.
+/// What a client has in the store besides the versions.
 #[derive(Drop)]
 pub(crate) struct Account {
     pub(crate) draft: Tree,

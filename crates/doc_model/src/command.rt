@@ -1,4 +1,7 @@
 //! What a client asks, what it is answered, and the entry of both in its log.
+//!
+//! `Command` derives no equality: it has a list with a model, which can derive none, and nothing
+//! compares commands.
 ghost use Rattle.std.specs.Prelude.{◌≡◌, IfOk};
 ghost use Rattle.doc_model.specs.Answers.{is_full, is_ok};
 

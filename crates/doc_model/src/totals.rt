@@ -1,4 +1,4 @@
-//! What a run came to.
+//! What a run did, in numbers.
 
 /// The counts at the end of a run, of its logs and of the heap that it leaves.
 #[derive(Clone, Copy, Debug, PartialEq, Eq)]

@@ -186,7 +186,7 @@ high_more (suc n) (x ∷ xs) (y ∷ ys) ax ay more =
     apart)
     (cases_order x y)
 
--- numbers that end in a byte 0 end in one behind a whole number of bytes too
+-- numbers that end in a byte 0 end in one after a whole number of bytes too
 ends_on : (x n h : ℕ) → (x * 256 ^ suc n + h) % 256 ≡ 0 → h % 256 ≡ 0
 ends_on x n h end =
     let split : x * 256 ^ suc n ≡ x * 256 ^ n * 256 =

@@ -1,6 +1,11 @@
--- What a pool of records shows, and what its calls leave as it was.
--- Records are shared cells, which stand at places of a held list, and private records beside it. A
--- private record stands as long as the places that it leads to.
+-- What a pool of records shows, and what its calls leave as it was. Records are shared cells, at
+-- places of a held list, and private records. A private record stands as long as the places that it
+-- leads to.
+--
+-- `Shown` is all that contracts see of a pool, so what stays is a relation of two values (`Later`).
+-- `Fact` is what a pool keeps besides: of a client's pool, its mutator and its private records so
+-- far. A record stands on the first so many places, so whoever reads many gives their places back
+-- (`Kept`).
 -- Source: this project's.
 use Rattle.std.specs.Prelude.{◌≡◌, ℕ, ◌<◌, ◌≤◌, ◌^◌, Bool, true, false, List, ◌∷◌}
 use Rattle.std.specs.Prelude.{Option, Some, None}
@@ -12,8 +17,8 @@ use Rattle.trails.specs.Telling.{Keeps}
 use Rattle.doc_records.specs.declared.pool.Part.{Part}
 use Rattle.doc_records.specs.declared.pool.Part.TheVariants as parts
 
--- Beside its records a pool may have more to say, in facts of its own: each stands on so many places
--- of the held list, and what stood on places that stay stands from then on.
+-- Besides its records a pool may have more to say, in facts of its own: each stands on so many
+-- places of the held list, and what stood on places that stay stands from then on.
 pub record Shown (At Fact : Type 0) : Type 1 where
   -- the term of a record
   pub term : At → Term

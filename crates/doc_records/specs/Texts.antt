@@ -1,4 +1,6 @@
 -- Texts and names as records: a chain of cells with 21 bytes each, and fewer in the last alone.
+-- That a term spells a text is a relation that goes down the term: it needs neither fuel nor
+-- division.
 -- Source: this project's layout of a text.
 use Rattle.std.specs.Prelude.{◌≡◌, ℕ, zero, suc, ◌-◌, ◌<◌, List, [], ◌∷◌, ◌++◌, length, min}
 use Rattle.std.specs.Prelude.{drop, map, true}
@@ -17,7 +19,8 @@ pub record IsTextCell (bytes : List ℕ) (a b c d : Term) : Type 0 where
   pub second : c ≡ num (word_of 7 (drop 7 bytes))
   pub third : d ≡ num (word_of 7 (drop 14 bytes))
 
--- the term is that of these bytes: null of none, and else a cell and what is left after it
+-- the term is that of these bytes: null if there are none, otherwise a cell and what is left after
+-- it
 abbrev pub SpellsText : Term → List ℕ → Type 0
 SpellsText null bytes = bytes ≡ []
 SpellsText (num n) bytes = ⊥

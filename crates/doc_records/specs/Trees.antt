@@ -1,8 +1,9 @@
 -- Trees as records. A node has its text, its children, and how many nodes and levels there are; an
 -- entry has a name, a child, the entries on both sides, and the height of this tree of entries.
 --
--- What a term says is a total function of it, and whether it is in order is said beside that. So
--- no statement asks for a tree that a term spells: `tree_of` is the one.
+-- What a term says is a total function of it; whether it is in order is a fact of its own. So no
+-- statement asks for a tree that a term spells: `tree_of` is the one. Nodes and entries lead to
+-- each other; `Role`, as a second argument, makes one recursion of both.
 -- Source: this project's layout of a tree.
 use Rattle.std.specs.Prelude.{◌≡◌, ◌+◌, ◌≤◌, max}
 use Rattle.cell_words.specs.Term.{Term, null, num, five, part}

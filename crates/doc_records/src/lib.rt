@@ -7,8 +7,8 @@
 //! places back; what stood before stands unchanged; and of shared nodes the trail shows the reads.
 //! Edits along a path are left to the layer above.
 //!
-//! Reading order: specs/Words, Texts, Trees, Pool; then `layout`, `pool`, `reads`, `words`, `texts`,
-//! `nodes`, `orders`, `finding`, `listing`, `writes`.
+//! Reading order: specs/Words, Texts, Trees, Pool; then `layout`, `pool`, `reads`, `words`,
+//! `texts`, `nodes`, `orders`, `finding`, `listing`, `writes`.
 #![tactic(auto)]
 
 mod finding;

@@ -1,4 +1,5 @@
-//! The order of a name against one that is written as a text, cell by cell.
+//! The order of a name against one that is written as a text, cell by cell, up to the first byte
+//! that differs. No text is built: so a search takes no memory.
 ghost use Rattle.std.specs.Prelude.{◌≡◌, ◌+◌, ◌-◌, ◌≤◌, ◌++◌, ℕ, List, [], IsTrue};
 ghost use Rattle.doc_tree.specs.Tree.{name_cmp};
 ghost use Rattle.doc_tree.specs.Words.{is_name};

@@ -19,8 +19,8 @@ pub enum Part<At> {
 pub trait RecordPool {
     type At: Copy;
 
-    /// What a pool says beside its records: of a pool that borrows what it fills, what no call changes
-    /// of that, and what is known of the places that are held.
+    /// What a pool says besides its records: of a pool that borrows what it fills, what no call
+    /// changes of that, and what is known of the places that are held.
     ghost Fact: { Type 0 };
 
     ghost shown: { Self → Shown Self.At Fact };

@@ -2,7 +2,7 @@
 --
 -- child_*    what stands at a name after a child is put there, and at the first name of a path.
 -- begins_*   an edit goes on in the same child in both trees.
--- *_along    the laws: the edit and the attachment of its child come to one tree.
+-- *_along    the laws: the edit and the attachment of its child make one tree.
 use Rattle.std.proofs.Common.{◌≡◌, ◌∙◌, ℕ, true, cond, List, [], ◌∷◌}
 use Rattle.std.proofs.Common.{Option, None, Some, Result, Ok, Err, refl, sym, ap, arith}
 use Rattle.std.specs.Prelude.{nat_lt}

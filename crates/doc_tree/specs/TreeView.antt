@@ -1,4 +1,4 @@
--- What every `Tree` keeps of its children, with the two numbers that it keeps beside them.
+-- What every `Tree` keeps of its children, and the two numbers that it keeps with them.
 -- Source: this project's.
 use Rattle.std.specs.Prelude.{◌≡◌, ℕ, ◌+◌, ◌≤◌, List}
 use Rattle.std.specs.declared.rc.Rc.{Rc}

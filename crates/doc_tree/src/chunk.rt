@@ -1,4 +1,4 @@
-//! A chunk of the children of a node: kids one after another, behind one owner.
+//! A chunk of the children of a node: kids one after another, with one owner.
 //!
 //! A chunk knows how many nodes its kids have and how high they are, so that a new list of chunks
 //! is summed up without a look at the kids of those that are shared.

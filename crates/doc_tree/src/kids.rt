@@ -1,6 +1,8 @@
 //! The children of a node, in chunks: one long row of kids, cut where it grows long.
 //!
-//! An edit copies the list of chunks and the one chunk that it changes, and shares all others.
+//! An edit copies the list of chunks and the one chunk that it changes, and shares all others. It
+//! looks for the child once: `find_child` gives the child and its place. Only a child that is
+//! removed is looked for again.
 ghost use Rattle.std.specs.Prelude.{◌≡◌, ◌<◌, ◌≤◌, ◌+◌, IfOk, OnOk, length};
 ghost use Rattle.std.specs.List.{AllZip};
 ghost use Rattle.std.specs.Option.{option_copied};
@@ -181,7 +183,7 @@ pub(crate) fn names_of(alloc: Global, chunks: &[Rc<Chunk>]) -> Result<Names, NoM
     Ok(names)
 }
 
-// The chunk in which a child of that name stands, if there is one, or else would.
+// The chunk in which a child of that name stands, or would stand if there is none.
 fn chunk_of(chunks: &[Rc<Chunk>], name: &Name) -> usize
     requires some { 0 < length chunks.now }
     requires chunks { AreChunks chunks.now }

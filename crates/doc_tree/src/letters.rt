@@ -1,7 +1,7 @@
 //! The bytes of a text.
 //!
 //! A few of them lie in the value; more lie in memory that all copies share. So a copy takes no new
-//! memory, and what is short is met where the reply or the node lies.
+//! memory, and a short text lies in the reply or the node itself.
 ghost use Rattle.std.specs.Prelude.{◌≡◌, ◌≤◌, [], IfOk, length};
 
 use crate::NoMemory;

@@ -3,8 +3,7 @@
 //! Every type is seen by contracts as the mathematics of it: a name or a text is its bytes, a path
 //! the list of its names, a tree the record `DocTree`. The layer above may rely on each edit being
 //! that of the definitions in specs/, with each refusal exactly where it is due. That an edit
-//! shares every subtree off its path is no clause: bench/ shows it. Versions and commands are left
-//! to others.
+//! shares every subtree off its path is no clause. Versions and commands are left to others.
 //!
 //! A lawful tree has rising names and at most 256 children at every node, at most 8 levels and at
 //! most 1,000,000,000 nodes. Every tree that these calls make of lawful ones is lawful.

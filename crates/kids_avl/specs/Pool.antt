@@ -15,7 +15,9 @@ abbrev pub Stand : {S A : Type 0} → (S → A → Type 0) → S → Option A �
 Stand stands s None = Unit {0}
 Stand stands s (Some a) = stands s a
 
--- whatever stood still stands and says what it said, and what was kept of an earlier state still is
+-- Whatever stood still stands and says what it said, and what was kept of an earlier state still
+-- is. This is one clause of each call, so facts carry over chains of calls without a lemma. Places
+-- are only counted: whoever holds them gives them back after a call.
 pub record Later {S A C : Type 0} (stands : S → A → Type 0) (entries : S → A → Entries)
     (is_child : S → C → Type 0) (tree : S → C → DocTree) (kept : S → S → Type 0) (old new : S)
     : Type 0 where

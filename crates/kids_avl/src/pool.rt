@@ -26,8 +26,8 @@ pub trait KidPool {
     /// The pool has this child.
     ghost is_child: { Self → Self.Child → Type 0 };
 
-    /// What a pool keeps of an earlier state, beside its entries: so much a caller learns of what
-    /// the pool stands on.
+    /// What a pool keeps of an earlier state, besides its entries: this is what a caller learns of
+    /// what the pool stands on.
     ghost kept: { Self → Self → Type 0 };
 
     /// How many places are left.
@@ -36,7 +36,8 @@ pub trait KidPool {
     /// How many records are left.
     ghost records: { Self → ℕ };
 
-    /// How many entries were made.
+    /// How many entries were made. How many records were made does not tell it: a new name takes up
+    /// to 4 records besides its entry.
     ghost made: { Self → ℕ };
 
     /// The order of the name against the entry's.

@@ -1,4 +1,4 @@
--- The line up to the first line feed, and what is behind that.
+-- The line up to the first line feed, and what is after it.
 use Rattle.std.proofs.Common.{◌≡◌, ℕ, suc, ◌+◌, ◌<◌, ◌≤◌, Bool, true, false, not, cond, eqb}
 use Rattle.std.proofs.Common.{nat_lt, List, [], ◌∷◌, ◌++◌, length, take, drop, Some}
 use Rattle.std.proofs.Common.{None, refl, sym, ap, subst, ◌∙◌, arith}
@@ -39,7 +39,7 @@ cut_at xs at e =
     ∙ ap (λ n. take n xs ∷ lines_of (drop (n + 1) xs)) w.1
     ∙ ap (λ (r : List ℕ). take at xs ∷ lines_of r) (sym (drop-drop 1 at xs))
 
--- the bytes are those up to the first line feed, it, and those behind it
+-- the bytes are those up to the first line feed, it, and those after it
 abbrev IsWhole : List ℕ → ℕ → Type 0
 IsWhole xs n = xs ≡ take n xs ++ 10 ∷ drop 1 (drop n xs)
 

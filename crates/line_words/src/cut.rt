@@ -1,7 +1,7 @@
 //! Words of a line, parted by single spaces.
 //!
-//! What is left of a line is kept with the space that ended the last word: so an empty rest is the
-//! end of the line, and a rest of one space an empty word behind it.
+//! The rest of a line keeps the space that ended the last word: so an empty rest is the end of the
+//! line, and a rest of one space has one empty word after it.
 ghost use Rattle.line_words.specs.Cut.{is_space, next_rest_of, next_word_of, rest_of, word_of};
 ghost use Rattle.std.specs.List.{position_or_len};
 ghost use Rattle.std.specs.Prelude.{drop, length, position, ◌≡◌, ◌≤◌};

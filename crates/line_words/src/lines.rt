@@ -3,7 +3,7 @@ ghost use Rattle.line_words.specs.Lines.{lines_of};
 ghost use Rattle.std.specs.Prelude.{IfSome, MatchOption, Some, [], length, position, ◌++◌};
 ghost use Rattle.std.specs.Prelude.{◌==◌, ◌≡◌, ◌<◌, ◌∷◌};
 
-/// The bytes up to the first line feed and, where there is one, those behind it.
+/// The bytes up to the first line feed and, where there is one, those after it.
 pub fn cut_line(bytes: &[u8]) -> (&[u8], Option<&[u8]>)
     ensures lines { MatchOption result.1 (lines_of bytes.now ≡ result.0.now ∷ []) (λ more. lines_of bytes.now ≡ result.0.now ∷ lines_of more.now) }
     ensures whole { MatchOption result.1 (bytes.now ≡ result.0.now) (λ more. bytes.now ≡ result.0.now ++ 10 ∷ more.now) }

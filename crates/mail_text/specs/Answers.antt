@@ -1,4 +1,4 @@
--- How the answer of a reading of a script stands to the definition: equal, but for want of memory.
+-- How the answer of a reading of a script relates to the definition: equal, unless out of memory.
 -- Source: this project's own.
 use Rattle.std.specs.Prelude.{◌≡◌, ℕ, List, Result, Ok, Err, Vec}
 use Rattle.std.specs.declared.alloc.Global.{Global}

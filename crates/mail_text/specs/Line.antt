@@ -1,5 +1,5 @@
--- One line of a script of a sender: the value that it sends, if it sends one, or what is at fault in
--- it.
+-- One line of a script of a sender: the value that it sends, if it sends one, or what is at fault
+-- in it.
 --
 -- A line that does not count sends nothing. In every other line the faults are looked for from the
 -- left to the right, after those of single bytes, and the first one counts.
@@ -30,7 +30,7 @@ at_end rest (Err kind) = Err kind
 at_end [] (Ok value) = Ok value
 at_end (byte ∷ bytes) (Ok value) = Err Extra
 
--- the value behind the first word, and nothing after it
+-- the value after the first word, and nothing more
 abbrev pub value_in : List ℕ → Result ℕ MailKind
 value_in rest = at_end (next_rest_of rest) (ok_or (number_in (next_word_of rest)) BadNumber)
 

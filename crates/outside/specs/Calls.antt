@@ -1,6 +1,6 @@
 -- How the calls on an object went so far, and what one more makes of it.
 --
--- A call fails where it gives an error, be it the object's own fault or want of memory.
+-- A call fails where it gives an error, be it the object's own fault or out of memory.
 -- Source: this project's own.
 use Rattle.std.specs.Prelude.{◌≡◌, Bool, true, false}
 use Rattle.outside.specs.declared.course.Course.{Course}

@@ -9,7 +9,7 @@ use Rattle.outside.specs.declared.named_files.Place.{Place}
 abbrev pub files_of : List (String Global × Vec ℕ Global) → List (List ℕ × List ℕ)
 files_of files = map (λ file. (string_bytes file.0, file.1.items)) files
 
--- what a name holds: the content beside its first mention
+-- what a name holds: the content given with its first mention
 abbrev pub content_named : List (List ℕ × List ℕ) → List ℕ → Option (List ℕ)
 content_named files name = option_map (λ file. file.1) (find (λ file. bytes_eq file.0 name) files)
 
@@ -17,7 +17,7 @@ content_named files name = option_map (λ file. file.1) (find (λ file. bytes_eq
 abbrev pub content_at : List (List ℕ × List ℕ) → ℕ → List ℕ
 content_at files index = (slice_index_or files index ([], [])).1
 
--- what is left behind a place
+-- what is left after a place
 abbrev pub left_at : List (List ℕ × List ℕ) → Place → List ℕ
 left_at files place = drop place.position (content_at files place.index)
 

@@ -28,7 +28,7 @@ AppendsPart old new bytes = (n : ℕ) × (n < length bytes) × Appends old new (
 abbrev pub is_line_feed : ℕ → Bool
 is_line_feed byte = byte == 10
 
--- a text cut behind the byte at this place
+-- a text cut after the byte at this place
 abbrev pub cut_behind : Option ℕ → List ℕ → List ℕ × List ℕ
 cut_behind (Some at) text = (take (at + 1) text, drop (at + 1) text)
 cut_behind None text = (text, [])

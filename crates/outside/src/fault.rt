@@ -8,7 +8,7 @@ use std::alloc::{AllocError, AllocFailed};
 pub enum OutFault {
     /// The object itself failed, which its count of faults shows.
     Failed,
-    /// Memory was wanting.
+    /// Memory ran out.
     NoMemory,
 }
 

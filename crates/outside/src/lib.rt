@@ -4,8 +4,8 @@
 //! name holds and what was written, where the object tells that, and a failed call shows itself by
 //! a count of faults that rose. `read_file` and `write_lines` are the two loops over them.
 //! `MemShelf` and `MemSink` fail at chosen calls, `SureShelf` and `SureSink` never; `FileShelf` and
-//! `StdSink` stand over real files and standard output, and are the trusted edge. A `Gate` says when
-//! a client's next command may begin.
+//! `StdSink` stand over real files and standard output, and are the trusted edge. A `Gate` says
+//! when a client's next command may begin.
 //!
 //! Reading order: `fault`, `reading`, `writing`, then the objects; `gate` stands alone.
 #![tactic(auto)]

@@ -54,7 +54,7 @@ fn copy_front(rest: &[u8], buffer: &mut [u8]) -> usize
     count
 }
 
-// Reads on from a place, and gives the place behind what was read.
+// Reads on from a place, and gives the place after what was read.
 pub(crate) fn read_at(
     files: &[(String, Vec<u8>)],
     place: Place,

@@ -81,7 +81,7 @@ impl Sink for SureSink {
         ensures wants { self.old.wants ≤ self.new.wants }
         ensures want { IsErrOf result OutFault.NoMemory → Rose self.old.wants self.new.wants }
 
-        // It takes the whole piece, and only memory may be wanting.
+        // It takes the whole piece, and only memory may run out.
         ensures count { IfOk result (λ count. count ≡ length piece.now) }
         ensures memory { IfErr result (λ fault. fault ≡ OutFault.NoMemory) }
         ensures ok { OnOk result (self.new ≡ after_sure_write self.old piece.now) }

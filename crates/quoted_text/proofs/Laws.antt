@@ -8,7 +8,7 @@ use Rattle.quoted_text.specs.Quoted.{escaped, inside_from, inside_of, is_raw}
 use Rattle.quoted_text.specs.Quoted.{is_text_byte, quoted_of, unescaped, unquoted_of, with_byte}
 use Rattle.quoted_text.proofs.Escapes.{byte_read, escape_back, raw_back}
 
--- a text behind its first quote
+-- a text after its first quote
 abbrev written : List ℕ → List ℕ
 written text = flat_map escaped text ++ 34 ∷ []
 
@@ -34,7 +34,7 @@ one_more b front rest text byte later = (
   and_from (is_text_byte b) (list_all is_text_byte text) byte.1 later.1,
 )
 
--- what a byte and a text that are there come to
+-- what a byte and a text that are there give
 with_both : (front rest text : List ℕ) (b : Option ℕ) (left : Option (List ℕ))
     → ((x : ℕ) → b ≡ Some x → (escaped x ≡ front) × (is_text_byte x ≡ true))
     → ((t : List ℕ) → left ≡ Some t → IsWritten rest t)
@@ -79,7 +79,7 @@ as_written (b ∷ c ∷ rest) text is =
           ] refl h
     ] refl is
 
--- behind a first quote
+-- after a first quote
 pub from_quote : (bytes text : List ℕ) → unquoted_of bytes ≡ Some text
     → (bytes ≡ quoted_of text) × (list_all is_text_byte text ≡ true)
 from_quote [] text is = cc

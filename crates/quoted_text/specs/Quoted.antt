@@ -25,7 +25,7 @@ escaped b =
 abbrev pub quoted_of : List ℕ → List ℕ
 quoted_of text = 34 ∷ flat_map escaped text ++ 34 ∷ []
 
--- the byte that is written so behind a backslash
+-- the byte that is written so after a backslash
 abbrev pub unescaped : ℕ → Option ℕ
 unescaped c =
     if c == 34 then Some 34
@@ -59,12 +59,12 @@ inside_of (b ∷ c ∷ rest) =
     else if is_raw b then with_byte (Some b) (inside_of (c ∷ rest))
     else None
 
--- what is behind a quote
+-- what is after a quote
 abbrev pub behind_of : List ℕ → Option (List ℕ)
 behind_of [] = None
 behind_of (b ∷ rest) = if b == 34 then Some rest else None
 
--- the text that is behind a first quote
+-- the text after a first quote
 abbrev pub inside_from : Option (List ℕ) → Option (List ℕ)
 inside_from None = None
 inside_from (Some inside) = inside_of inside

@@ -35,7 +35,7 @@ fn behind_quote(bytes: &[u8]) -> Option<&[u8]>
     }
 }
 
-// The next byte of the text and what is left behind it. There is none at the last quote, and none
+// The next byte of the text and what is left after it. There is none at the last quote, and none
 // where no text goes on so.
 fn next_byte(rest: &[u8]) -> Option<(u8, &[u8])>
     ensures next { MatchOption result (inside_of rest.now ≡ no_more_of rest.now) (λ next. inside_of rest.now ≡ with_byte (Some next.0) (inside_of next.1.now)) }

@@ -33,7 +33,7 @@ pub data Growing (t : DocTree) (path : Path) (text : List ℕ) : Type 0 where
   full : edit_along (with_text text) path t ≡ Err fault.Many → 256 ≤ siblings (listed t) path
       → Growing t path text
 
--- beside the last child
+-- next to the last child
 put_below : (n : List ℕ) (d : DocTree) (kids : Kids) → IsBelow n kids
     → put_child n d kids ≡ join kids (kid n d.text d.kids no_kids)
 put_below n d no_kids below = refl

@@ -89,7 +89,7 @@ word_rest xs ys none =
 pub word_and_rest : (line : List ℕ) → line ≡ word_of line ++ rest_of line
 word_and_rest line = sym (take-append-drop (position_or_len is_space line) line)
 
--- what is behind a word begins with the space, if there is something
+-- what comes after a word begins with the space, if there is something
 pub rest_cases : (line : List ℕ) → (rest_of line ≡ []) ⊎ (rest_of line ≡ 32 ∷ drop 1 (rest_of line))
 rest_cases [] = inl refl
 rest_cases (x ∷ xs) =

@@ -1,4 +1,4 @@
--- What a node line comes to behind the lines of a tree.
+-- What a node line adds after the lines of a tree.
 use Rattle.std.proofs.Common.{◌≡◌, ℕ, ◌+◌, ◌<◌, ◌≤◌, Bool, true, false, not, ◌&&◌, cond, List}
 use Rattle.std.proofs.Common.{[], ◌∷◌, ◌++◌, length, Option, Some, Result, Ok, Err, refl, sym}
 use Rattle.std.proofs.Common.{ap, subst, ◌∙◌, arith}
@@ -224,7 +224,7 @@ grows last path text t g grown next is few lawful =
           )
     ]
 
--- a line behind so many node lines as the tree has nodes
+-- a line after as many node lines as the tree has nodes
 pub turned : (t : DocTree) (nodes : ℕ) (has_feed : Bool) (bytes : List ℕ)
     (reading : Result Held LoadKind) → nodes ≡ count t → line_of nodes has_feed bytes ≡ reading
     → turn_of (listed t) (line_of (length (listed t)) has_feed bytes) ≡ turn_of (listed t) reading

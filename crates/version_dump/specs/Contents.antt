@@ -1,8 +1,10 @@
 -- What a text holds that may be a dump: the number and the nodes, or the first faulty line.
 --
--- The head is line 1 and the root's line 2: the line behind N nodes is line N + 2, and behind the
--- end it is line N + 3. A line is looked at behind the nodes before it, where no line is at fault
--- among those.
+-- The head is line 1 and the root's line 2: the line after N nodes is line N + 2, and what comes
+-- after the end is line N + 3. A line is looked at after the nodes before it, where no line is at
+-- fault among those.
+-- The lines before a line are a list here, as in FORMATS; `load` keeps a tree and the last path.
+-- That both give the same is proved (proofs/Edges, proofs/Growth).
 -- Source: this project's own.
 use Rattle.std.specs.Prelude.{ℕ, Bool, true, false, not, ◌+◌, List, [], ◌∷◌, ◌++◌, length, nat_le}
 use Rattle.std.specs.Prelude.{Option, Some, None, Result, Ok, Err, if◌then◌else◌}
@@ -44,7 +46,7 @@ placed nodes node =
     else if nat_le 10_000 (length nodes) then Err Big
     else Ok (Some (nodes ++ node ∷ []))
 
--- what a line comes to behind these nodes: them and one more, or none at the end
+-- what a line adds to these nodes: one more, or none at the end
 abbrev pub turn_of : List Listed → Result Held LoadKind → Result (Option (List Listed)) LoadKind
 turn_of nodes (Err kind) = Err kind
 turn_of nodes (Ok held.End) = Ok None
@@ -54,21 +56,21 @@ turn_of nodes (Ok (held.Node path text)) = placed nodes (record { path = path; t
 abbrev pub ended : List Listed → List (List ℕ) → Result (List Listed) LoadFault
 ended nodes lines = if is_end lines then Ok nodes else fault_at (length nodes + 3) BadEnd
 
--- the rest behind what a line comes to
+-- the rest, after a line that gave this
 abbrev pub with_turn : List Listed → Result (Option (List Listed)) LoadKind → List (List ℕ)
     → (List Listed → Result (List Listed) LoadFault) → Result (List Listed) LoadFault
 with_turn nodes (Err kind) lines later = fault_at (length nodes + 2) kind
 with_turn nodes (Ok None) lines later = ended nodes lines
 with_turn nodes (Ok (Some more)) lines later = later more
 
--- all nodes, behind these
+-- all nodes, after these
 abbrev pub nodes_from : List Listed → List (List ℕ) → Result (List Listed) LoadFault
 nodes_from nodes [] = fault_at (length nodes + 2) BadEnd
 nodes_from nodes (line ∷ lines) =
     with_turn nodes (turn_of nodes (line_of (length nodes) (has_feed lines) line)) lines
     (λ more. nodes_from more lines)
 
--- the rest behind the root's line
+-- the rest after the root's line
 abbrev pub with_root : Result (List ℕ) LoadKind → List (List ℕ) → Result (List Listed) LoadFault
 with_root (Err kind) lines = fault_at 2 kind
 with_root (Ok text) lines = nodes_from (root_of text ∷ []) lines
@@ -82,7 +84,7 @@ abbrev pub with_nodes : ℕ → Result (List Listed) LoadFault → Result Conten
 with_nodes v (Ok nodes) = Ok (record { version = v; nodes = nodes })
 with_nodes v (Err fault) = Err fault
 
--- the rest behind a head, which is none without its line feed
+-- the rest after a head, which is none without its line feed
 abbrev pub with_head : Option ℕ → Bool → List (List ℕ) → Result Contents LoadFault
 with_head None has lines = fault_at 1 NoHead
 with_head (Some v) false lines = fault_at 1 NoHead

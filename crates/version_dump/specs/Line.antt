@@ -63,12 +63,12 @@ abbrev pub with_feed : {A : Type 0} → Bool → Option A → Result A LoadKind
 with_feed true what = ok_or what BadLine
 with_feed false what = Err BadLine
 
--- the end behind so many node lines
+-- the end after so many node lines
 abbrev pub end_in : ℕ → Bool → List ℕ → Result Held LoadKind
 end_in nodes has_feed line =
     if has_feed && bytes_eq line (end_text nodes) then Ok held.End else Err BadEnd
 
--- a line behind so many node lines, with its line feed or without one
+-- a line after so many node lines, with its line feed or without one
 abbrev pub line_of : ℕ → Bool → List ℕ → Result Held LoadKind
 line_of nodes has_feed line =
     if is_missing has_feed line then Err BadEnd

@@ -51,7 +51,7 @@ has_parent nodes path = list_any (λ node. is_child node.path path) nodes
 abbrev pub siblings : List Listed → Path → ℕ
 siblings nodes path = count_by (λ node. is_sibling path node.path) nodes
 
--- the path may come behind these nodes
+-- the path may come after these nodes
 abbrev pub follows : List Listed → Path → Bool
 follows nodes path = comes_after (last_path nodes) path && has_parent nodes path
 

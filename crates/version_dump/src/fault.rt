@@ -12,7 +12,7 @@ pub enum LoadKind {
     /// line 1 is no head with a version's number up to a million
     NoHead,
     /// a line is missing, or one that begins with `end`, a space and a digit is not the right end,
-    /// or the line stands behind the end
+    /// or the line comes after the end
     BadEnd,
     /// line 2 is not the root's, or a later line is no path, space and quoted text
     BadLine,

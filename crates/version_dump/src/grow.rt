@@ -17,7 +17,7 @@ use std::alloc::Global;
 // A dump has at most this many nodes.
 const MOST_NODES: u64 = 10_000;
 
-/// What a line comes to.
+/// What a line gives: a node more, or the end.
 #[derive(Drop)]
 pub(crate) enum Turn {
     End,
@@ -25,7 +25,7 @@ pub(crate) enum Turn {
     Grown { path: Path, tree: Tree },
 }
 
-/// What the next line comes to behind the lines of this tree, the last of which is at this path.
+/// What the next line gives after the lines of this tree, the last of which is at this path.
 pub(crate) fn read_turn(
     alloc: Global,
     tree: &Tree,

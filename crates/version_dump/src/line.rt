@@ -12,7 +12,7 @@ use line_words::{after_space, first_word, read_decimal};
 use quoted_text::read_quoted;
 use std::alloc::Global;
 
-/// What a line holds behind the root's.
+/// What a line after the root's holds.
 #[derive(Drop)]
 pub(crate) enum Held {
     End,
@@ -52,7 +52,7 @@ pub(crate) fn read_root(alloc: Global, line: &[u8], has_feed: bool) -> Result<Te
     }
 }
 
-/// A line behind so many node lines.
+/// A line after so many node lines.
 pub(crate) fn read_line(
     alloc: Global,
     line: &[u8],

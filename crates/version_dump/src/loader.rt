@@ -67,7 +67,7 @@ fn error_at(line: u32, error: LineError) -> LoadError
     }
 }
 
-// The tree of the lines behind the head.
+// The tree of the lines after the head.
 fn read_tree(alloc: Global, bytes: &[u8]) -> Result<Tree, LoadError>
     ensures nodes { Lists result (nodes_of (lines_of bytes.now)) }
     ensures lawful { ForOk result IsLawful }
@@ -80,7 +80,7 @@ fn read_tree(alloc: Global, bytes: &[u8]) -> Result<Tree, LoadError>
     read_below(alloc, lone_node(alloc, &text)?, rest)
 }
 
-// The tree with the nodes of the lines behind the root's.
+// The tree with the nodes of the lines after the root's.
 fn read_below(alloc: Global, root: Tree, bytes: Option<&[u8]>) -> Result<Tree, LoadError>
     requires { IsGrown [] root }
     ensures nodes { Lists result (nodes_from (listed root) (lines_left bytes.entry)) }

@@ -1,4 +1,4 @@
-//! Which path may come behind another.
+//! Which path may come after another.
 ghost use Rattle.std.specs.Prelude.{[], ◌≡◌};
 ghost use Rattle.version_dump.specs.Order.{is_next};
 

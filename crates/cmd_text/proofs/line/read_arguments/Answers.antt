@@ -46,7 +46,7 @@ number_read : (rest : List ℕ) (number : ℕ) (path : List (List ℕ)) → numb
 number_read rest number path first second =
     ap (λ r. and_then r (with_path rest)) first ∙ ap (λ r. and_then r (number_with number)) second
 
--- a fault of a first part, and of a second behind a first that is read
+-- a fault of a first part, and of a second after a first that is read
 first_faulty : {A B : Type 0} (e : LineError) (first : Result A ScriptKind)
     (later : A → Result B ScriptKind) → Gives {A = A} (Err e) first
     → Gives {A = B} (Err e) (and_then first later)

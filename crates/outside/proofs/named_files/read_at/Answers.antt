@@ -2,7 +2,7 @@ use Rattle.std.proofs.Common.{◌++◌, ◌∙◌, ap, sym, drop, take}
 use Rattle.std.proofs.lemmas.List.{drop-drop, take-append-drop}
 use Rattle.outside.proofs.named_files.read_at.Goals as goal
 
--- the bytes that were copied stand before what is left behind the new place
+-- the bytes that were copied come before what is left after the new place
 pub returns-clause-bytes : goal.returns-clause-bytes
 returns-clause-bytes c =
     let n = c.copy_front-count.result in

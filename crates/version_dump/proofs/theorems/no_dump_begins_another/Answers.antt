@@ -1,4 +1,4 @@
--- The contents of a dump before other bytes are at fault behind its end.
+-- A text that is a dump and then further bytes is at fault after the dump's end.
 use Rattle.version_dump.proofs.Dumps.{none_is_a_front}
 use Rattle.version_dump.proofs.theorems.no_dump_begins_another.Goals as goal
 
