@@ -2,6 +2,9 @@
 //!
 //! The look may be stale by the time that a choice is used: the stage may have moved on, at most to
 //! where the next handshake waits for this mutator. Each choice is safe then too.
+//!
+//! This module is public, since `barrier` and `Barrier` cannot both be names of the crate's root:
+//! the toolchain refuses names of one module that differ only in case.
 ghost use Rattle.cell_words.specs.Modes.{barrier_of, claim_colour_of, next_status_of, requested_of};
 ghost use Rattle.std.specs.Prelude.{◌≡◌};
 

@@ -41,7 +41,7 @@ set_behind xs ys i n y at =
 abbrev pub AreSix : List (List Field) → Type 0
 AreSix rows = (c : ℕ) → c < length rows → length (row_in rows c) ≡ 6
 
--- The words of cell c stand between those of the cells before it and behind it, whatever they are.
+-- The words of cell c stand between those of the cells before it and after it, whatever they are.
 pub record IsCut (ks : List Colour) (rs : List (List Field)) (c : ℕ) : Type 0 where
   pub front : List ℕ
   pub back : List ℕ
@@ -200,7 +200,7 @@ word_below s r (StatusOf i) h = omega (arith, h, table_long s r)
 word_below s r (ColourOf c) h = omega (arith, h, table_long s r)
 word_below s r (FieldOf c f) h = omega (arith, h.0, h.1, table_long s r)
 
--- behind the control and the statuses
+-- after the control and the statuses
 get_cells : (s : State) → IsShaped s → (i n : ℕ) → i ≡ 1 + s.mutators + n
     → get_or (words_of s) i 0 ≡ get_or (cell_words s.colours s.rows) n 0
 get_cells s r i n at =

@@ -1,5 +1,5 @@
--- Where the part of one mutator is written anew, with its room as it was, the two lists of the
--- state have a new own part at its place and are else as they were.
+-- Where the part of one mutator is written, with its room as it was, the two lists of the state
+-- have a new own part at its place and are otherwise as they were.
 use Rattle.std.proofs.Common.{◌≡◌, ℕ, ◌<◌, List, length, map, get_or, set, sym, ◌∙◌, ap, subst}
 use Rattle.std.proofs.Math.Seq.{map-set_same}
 use Rattle.std.proofs.lemmas.List.{map-set, get_or-map, length-map}

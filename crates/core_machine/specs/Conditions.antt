@@ -1,8 +1,8 @@
--- What each event needs, a field a condition under a name: what its test in the event table comes
--- to (proofs/Conditions).
+-- What each event needs, a named field for each condition: what its test in the event table says
+-- (proofs/Conditions).
 --
 -- A mutator knows most of it from its own part. What it reads in words that others write stands
--- last, behind a comment: that its target is a box, or raw, that a cell which it names is sealed,
+-- last, after a comment: that its target is a box, or raw, that a cell which it names is sealed,
 -- that a field has no cell.
 -- Source: this project's.
 use Rattle.std.specs.Prelude.{ℕ, ◌≡◌, ◌+◌, ◌<◌, ◌≤◌, true, false, length, is_none, Some}

@@ -1,5 +1,5 @@
--- What the machine keeps of its mutators: of each its own part beside its room, and of all of them
--- the two lists that the state has.
+-- What the machine keeps of its mutators: of each its own part and its room, and of all of them the
+-- two lists that the state has.
 -- Source: this project's.
 use Rattle.std.specs.Prelude.{ℕ, List, map, slice_set}
 use Rattle.core_machine.specs.Own.{Own}

@@ -11,7 +11,7 @@ Runs s [] = Unit {0}
 Runs s (t ∷ ts) = (can s t.event ≡ true) × (t.found ≡ found_by s t.event)
     × Runs (after s t.event) ts
 
--- the state behind the last event
+-- the state after the last event
 abbrev pub last : State → List Taken → State
 last s [] = s
 last s (t ∷ ts) = last (after s t.event) ts

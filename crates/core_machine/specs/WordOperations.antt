@@ -1,7 +1,9 @@
 -- Which word each event of the table touches, by which operation, and what that leaves in the word.
 --
 -- The operations are those of one processor on one word: a load, a store, a compare and exchange,
--- and the two that set bits and keep bits. Each leaves a function of the number that it finds.
+-- and the two that set bits and keep bits. Each leaves a function of the number that it finds. So
+-- the layer that has the words in memory gives them no meaning of its own: an operation of the
+-- processor leaves the same function of the number that it finds.
 -- Source: this project's.
 use Rattle.std.specs.Prelude.{ℕ, ◌≡◌, ◌==◌, ◌<◌, Bool, true, false, slice_index, slice_set, length}
 use Rattle.std.specs.Prelude.{bit_and, bit_or, if◌then◌else◌}

@@ -28,8 +28,8 @@ pub enum Event {
     Seal(u32, usize, Kind),
     /// Mutator `i` answers the handshake that its last look saw.
     Answer(u32),
-    /// Mutator `i` keeps the first places of its held list, and behind them copies of some that
-    /// stood further on or among them: how many stay, where the copied ones begin, how many.
+    /// Mutator `i` keeps the first places of its held list, then copies of some that stood further
+    /// on or among them: how many stay, where the copied ones begin, how many.
     Keep(u32, usize, usize, usize),
     /// Mutator `i` ends its operation.
     End(u32),

@@ -161,7 +161,7 @@ impl MutatorPart {
         }
     }
 
-    /// Keeps the first `count` places, and behind them the `copies` that stood from `from` on.
+    /// Keeps the first `count` places, then the `copies` that stood from `from` on.
     pub(crate) fn keep(&mut self, count: usize, from: usize, copies: usize)
         requires count { count ≤ length self.old.own.held }
         requires from { from + copies ≤ length self.old.own.held }

@@ -114,7 +114,7 @@ pub(crate) fn mark_all_of(held: &mut [Held], cell: u32)
 
 /// The first `count` places, and then the `copies` that stood from `from` on.
 ///
-/// The copies may lie among the first places and reach behind the end, so the list is first made as
+/// The copies may lie among the first places and reach past the end, so the list is first made as
 /// long as it needs to be.
 pub(crate) fn keep_places(held: &mut Vec<Held>, count: usize, from: usize, copies: usize)
     requires count { count ≤ length held.old.items }

@@ -66,7 +66,7 @@ pub runs_balanced : (first : ℕ) (s : State) (ts : List Taken) → IsShaped s �
 runs_balanced first s ts range k runs here = along_taken (IsBalanced first)
     (balanced_after first) s ts runs range k here
 
--- garbage before two whole cycles is freed behind them
+-- garbage before two whole cycles is freed by their end
 pub runs_collect : (s : State) (ts : List Taken) (first between next : List Event) (c : ℕ)
     → IsShaped s → IsConsistent s
     → Runs s ts → events_of ts ≡ first ++ (between ++ next) → AreTwoCycles first between next

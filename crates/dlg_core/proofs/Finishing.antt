@@ -1,6 +1,9 @@
--- Why a cycle without threads ends, and with how few events: arithmetic on the parts of what is
--- left; that each possible event leaves less, and so does a turn; that each is possible on the way
--- of a cycle; the turns, and the cycle.
+-- Why a cycle without threads ends, and with how few events. The number that each event makes less
+-- is `left` (specs/Left); at the start it is the bound.
+--
+-- Less has the arithmetic of its parts; Falls, that each possible event leaves less; Handshakes,
+-- that a turn does; Events and Turns, that each is possible on the way of a cycle; Cycles, the
+-- loop.
 pub mod Cycles
 pub mod Events
 pub mod Falls

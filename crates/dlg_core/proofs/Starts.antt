@@ -82,7 +82,7 @@ null_rows zero c f = refl
 null_rows (suc n) zero f = same_everywhere 6 f field.Null
 null_rows (suc n) (suc c) f = null_rows n c f
 
--- behind the first rows all is null
+-- after the first rows all is null
 pub null_behind : (first : List (List Field)) (n c f : ℕ) → length first ≤ c
     → field_in (first ++ replicate n null_row) c f ≡ field.Null
 null_behind [] n c f ge = null_rows n c f

@@ -12,7 +12,7 @@ use Rattle.core_machine.specs.State.{State, colour_of, freed_of, presence_of}
 use Rattle.dlg_core.specs.Reachable.{Reach, Reachable}
 use Rattle.dlg_core.specs.Runs.{LeadsTo}
 
--- a cell that nobody can come to any more, and that is not free yet
+-- a cell that nobody can reach any more, and that is not free yet
 pub record IsGarbage (s : State) (c : ℕ) : Type 0 where
   pub there : c < s.cells
   pub not_free : colour_of s c ≢ Blue
@@ -68,7 +68,7 @@ IsFromAnchor s c = Reach s.rows [] [] c
 abbrev pub IsTidy : State → Type 0
 IsTidy s = (c : ℕ) → colour_of s c ≢ Blue → IsFromAnchor s c
 
--- Where the events begin with a cycle and the next one, whole, no garbage is left behind them.
+-- Where the events begin with a cycle and the next one, whole, no garbage is left after them.
 -- (Mutators may have no part in either cycle: one that marks a cell behind the sweep of the first
 -- may leave it gray, and the next then keeps it, though nobody holds it any more.)
 abbrev pub LeavesNoGarbage : State → List Event → Type 0
@@ -77,7 +77,7 @@ LeavesNoGarbage s events =
     → events ≡ first ++ (between ++ (next ++ after)) → AreTwoCycles first between next
     → LeadsTo s events t → IsTidy t
 
--- the mutator makes none of the events, and is out for good behind them
+-- the mutator makes none of the events, and is out for good after them
 abbrev pub DoesNoMore : State → List Event → ℕ → Type 0
 DoesNoMore s events i = (t : State) → LeadsTo s events t
     → All (λ e. maker e ≢ Some i) events × IsOver t i

@@ -1,4 +1,4 @@
--- The invariant of the core: what holds in every state of every run, beside the ranges that the
+-- The invariant of the core: what holds in every state of every run, besides the ranges that the
 -- machine asks for. Each field is a fact under the name that docs/ALGORITHM.md uses.
 --
 -- Each fact takes the parts of the state that it reads, so an event that leaves these leaves the

@@ -1,7 +1,8 @@
 -- Pending writes: what holds of each, and which fields they put in doubt.
 --
 -- A field is doubtful where a mutator has read it to store over it, and it has another value since:
--- that store will end an edge for which no mark was made.
+-- that store will end an edge for which no mark was made. Doubt is said of the own parts and a
+-- value that is given, and not of the rows: so it stays through whatever changes no own part.
 -- Source: this project's.
 use Rattle.std.specs.Prelude.{ℕ, ◌≡◌, ◌≢◌, ◌<◌, true, List, length, Some}
 use Rattle.cell_words.specs.declared.fields.Field.{Field}

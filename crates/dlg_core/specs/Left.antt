@@ -92,12 +92,12 @@ stage_left s stage.Sweep =
 unfoldable pub left : State → ℕ
 left s = stage_left s s.control.stage
 
--- behind an event that ends the cycle there is nothing left
+-- after an event that ends the cycle nothing is left
 abbrev pub left_behind : Bool → State → ℕ
 left_behind true s = 0
 left_behind false s = left s
 
--- What a cycle keeps on its way, beside the invariant.
+-- What a cycle keeps on its way, besides the invariant.
 
 -- every mutator is out, also one that there is not
 abbrev pub AreOut : List Presence → Type 0

@@ -24,8 +24,8 @@ least_unanswered i (false ∷ answered) = Some i
 abbrev pub first_unanswered : Collector → Option ℕ
 first_unanswered c = least_unanswered 0 c.answered
 
--- what a handshake wants of a mutator that has not answered: a look where it has the status
--- already, an answer for it where it is out, and else nothing that the collector could do
+-- what a handshake needs from a mutator that has not answered: a look where it has the status
+-- already, an answer for it where it is out, and otherwise nothing that the collector could do
 abbrev pub plain_handshake : State → ℕ → Option Event
 plain_handshake s i =
     if same_status (presence_of s i).status (wanted_of s) then Some (event.Poll i)
@@ -37,7 +37,7 @@ abbrev pub plain_scan : Scanning → Option ℕ → Event
 plain_scan scan None = if nat_lt scan.next 5 then event.Scan else event.Blacken
 plain_scan scan (Some child) = event.Shade
 
--- the next event of a pass of tracing: with a scan the scan's, else the next cell's
+-- the next event of a pass of tracing: the scan's if there is a scan, otherwise the next cell's
 abbrev pub plain_trace : Collector → ℕ → Option Scanning → Event
 plain_trace c cells None =
     if c.cursor == cells then (if c.clean then event.Post stage.Sweep else event.See 0)

@@ -26,7 +26,7 @@ abbrev pub behind_look : Option Event → Event → List Event
 behind_look None e = e ∷ []
 behind_look (Some look) e = look ∷ e ∷ []
 
--- the events of a turn: its event, behind the look before it
+-- the events of a turn: its event, after the look before it
 abbrev pub turn_with : Event → List Event
 turn_with e = behind_look (look_before e) e
 

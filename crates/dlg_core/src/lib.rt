@@ -1,6 +1,6 @@
 //! The core of the collector: the core machine with what holds in every state of every run.
 //!
-//! `Core` is the machine of core_machine behind a type that keeps the invariant, so its calls ask
+//! `Core` is the machine of core_machine in a type that keeps the invariant, so its calls ask
 //! no condition of the state. `apply` takes one event, `run` a list of them, and each state that
 //! they pass is safe: no reachable cell is free. What is garbage when a cycle begins has been
 //! freed when the next one ends. `finish_cycle` takes a whole cycle where nobody is in, within a

@@ -122,14 +122,14 @@ pub fn a_run_keeps_the_invariant()
         → IsShaped (last s taken) × IsConsistent (last s taken) × IsSafe (last s taken) }
 {}
 
-/// Where the sums on claims agree before a run, they agree behind it.
+/// Where the sums on claims agree before a run, they agree after it.
 pub fn a_run_keeps_the_balance()
     ensures { (first : ℕ) (s : State) (taken : List Taken) → IsShaped s → IsConsistent s
         → Runs s taken
         → IsBalanced first s → IsBalanced first (last s taken) }
 {}
 
-/// Garbage before two whole cycles of a run is freed behind them.
+/// Garbage before two whole cycles of a run is freed by their end.
 pub fn a_run_collects()
     ensures { (s : State) (taken : List Taken) (first between next : List Event) (c : ℕ)
         → IsShaped s

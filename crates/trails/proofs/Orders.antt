@@ -1,10 +1,10 @@
--- Asks in order: more marks before or behind do no harm, and asks of two stretches go together.
+-- Asks in order: more marks before or after do no harm, and asks of two stretches go together.
 use Rattle.std.proofs.Common.{◌≡◌, List, [], ◌∷◌, ◌++◌, refl, sym, ◌∙◌, ap}
 use Rattle.std.proofs.lemmas.List.{append_assoc, append-nil}
 use Rattle.trails.specs.Asks.{Ask, InOrder, nothing, pass, here, Shows, Grown}
 use Rattle.trails.specs.Marks.{Mark}
 
--- more marks behind
+-- more marks after
 pub order_after : {asks : List Ask} {marks : List Mark} (more : List Mark) → InOrder asks marks
     → InOrder asks (marks ++ more)
 order_after more nothing = nothing
@@ -74,7 +74,7 @@ order_split (x ∷ xs) ys (mark ∷ marks) (here meets rest) =
 
 -- Calls.
 
--- what grows twice has both parts behind it
+-- what grows twice ends with both parts
 pub grows_twice : (a : List Mark) {b c : List Mark} (first second : List Mark) → b ≡ a ++ first
     → c ≡ b ++ second
     → c ≡ a ++ (first ++ second)
@@ -103,7 +103,7 @@ shows_then {a = a} one two = record {
   shown = order_append one.added one.shown two.shown;
 }
 
--- a call behind that is not asked about
+-- a later call that is not asked about
 pub shows_on : {asks : List Ask} {a b c : List Mark} → Shows asks a b → Grown b c → Shows asks a c
 shows_on {a = a} one two = record {
   added = one.added ++ two.added;

@@ -30,7 +30,7 @@ module _ (P : List Mark → Type 0) where
         ∙ ap (λ ms. a ++ ms) (sym (append_assoc grown.added had.before (had.stretch ++ had.after)));
   }
 
-  -- a call behind
+  -- a later call
   pub had_on : {a b c : List Mark} → Had P a b → Grown b c → Had P a c
   had_on {a = a} had grown = record {
     before = had.before;
@@ -46,7 +46,7 @@ module _ (P : List Mark → Type 0) where
   had_grown had = record { added = had.before ++ (had.stretch ++ had.after); is = had.is }
 
 module _ {E : Type 0} (P : E → List Mark → Type 0) where
-  -- more marks behind
+  -- more marks after
   pub turns_more : (es : List E) (marks more : List Mark) → InTurn P es marks
       → InTurn P es (marks ++ more)
   turns_more [] marks more turns = tt

@@ -61,7 +61,7 @@ began (saw cell field found ∷ marks) = began marks
 began (wrote cell field old new found ∷ marks) = began marks
 began (tried cell found ∷ marks) = began marks
 
--- a look decided, and behind it each cell was found used
+-- a look decided, and after it each cell was found used
 pub record IsFull (cells : ℕ) (marks : List Mark) : Type 0 where
   pub before : List Mark
   pub control : Control
@@ -94,7 +94,7 @@ abbrev pub AllUsed : ℕ → ℕ → List Taken → Type 0
 AllUsed from end events =
     (cell : ℕ) → from ≤ cell → cell < end → list_any (finds_used cell) events ≡ true
 
--- The first look tells how many cycles were begun, a later one decides, and behind that each cell
+-- The first look tells how many cycles were begun, a later one decides, and after that each cell
 -- was found used. So many cycles were begun and ended, and so the collector was off duty or on.
 pub record FindsFull (number cells : ℕ) (off_duty : Bool) (begun ended : ℕ)
     (events : List Taken) : Type 0 where

@@ -20,8 +20,9 @@ use Rattle.core_machine.specs.Places.{cell_at}
 pub data Mark : Type 0 where
   -- this field of this cell held this
   saw : (cell field : ℕ) → Field → Mark
-  -- this field of this cell was to have the new value over the old one, and held this before: it
-  -- was written where it held the old one
+  -- this field of this cell was to have the new value over the old one, and held the value found
+  -- before: it was written where it held the old one. So one mark serves an exchange that was made
+  -- and one that was not; a store finds nothing.
   wrote : (cell field : ℕ) → (old new found : Field) → Mark
   -- the control was this
   looked : Control → Mark

@@ -11,7 +11,7 @@ pub record Had (P : List Mark → Type 0) (old new : List Mark) : Type 0 where
   pub is : new ≡ old ++ (before ++ (stretch ++ after))
   pub meets : P stretch
 
--- a stretch of these marks meets P, and what stands behind it meets Rest
+-- a stretch of these marks meets P, and what comes after it meets Rest
 pub record Then (P Rest : List Mark → Type 0) (marks : List Mark) : Type 0 where
   pub before : List Mark
   pub stretch : List Mark

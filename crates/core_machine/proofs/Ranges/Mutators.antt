@@ -1,5 +1,5 @@
--- The events of a mutator keep the ranges. No event makes a cell blue, and each cell that comes to
--- be held or named was held, named or tested before.
+-- The events of a mutator keep the ranges. No event makes a cell blue, and each cell that is newly
+-- held or named was held, named or tested before.
 use Rattle.std.proofs.Common.{◌≡◌, ℕ, ◌+◌, ◌<◌, ◌≤◌, true, false, cond, List, [], ◌∷◌, length, take}
 use Rattle.std.proofs.Common.{drop, set, Option, Some, None, nat_lt, ◌==◌, suc, refl, sym, ◌∙◌, ap}
 use Rattle.std.proofs.Common.{subst, arith, inl, inr}

@@ -72,7 +72,7 @@ same_followed old s c x e k =
     = subst (λ y. set s.colours c y ≡ s.colours) e (set-get_or s.colours c colour.Blue) in
     subst (λ colours. IsFollowed old (record s { colours = colours })) (sym same) k
 
--- What a mutator comes to hold.
+-- What a mutator takes hold of.
 
 pub begin_followed : (old s : State) (i : ℕ) → IsFollowed old s
     → IsFollowed old (after s (event.Begin i))

@@ -1,8 +1,9 @@
 -- Mark: a held cell is shaded, and all places of it are marked.
 --
--- What thinks is the clean pass. A cell that becomes gray behind the cursor of a clean pass is no
--- harm where a gray cell is ahead. Were there no gray cell at all, then no child either, so the set
--- of all white cells would be cut off; but this white cell is due, since an async mutator holds it.
+-- What needs an argument is the clean pass. A cell that becomes gray behind the cursor of a clean
+-- pass does no harm where a gray cell is ahead. Were there no gray cell at all, then no child
+-- either, so the set of all white cells would be cut off; but this white cell is due, since an
+-- async mutator holds it.
 use Rattle.std.proofs.Common.{◌≡◌, ◌≢◌, ◌==◌, ◌||◌, if◌then◌else◌, inl, inr, ℕ, zero, suc, Bool}
 use Rattle.std.proofs.Common.{true, false, List, [], ◌∷◌, map, ◌≤◌, refl, sym, subst, ◌∙◌, ap}
 use Rattle.std.proofs.Common.{arith}

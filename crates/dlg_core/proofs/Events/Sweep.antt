@@ -237,7 +237,7 @@ pub not_and : (a b : Bool) → a ≡ false → (a || (b && false)) ≡ false
 not_and a true p = ap (λ x. x || (true && false)) p
 not_and a false p = ap (λ x. x || (false && false)) p
 
--- what is behind the next place with nothing done is what is behind this one
+-- what is ahead of the next place, it included, is what is ahead of this one, without it
 pub ahead_same : (p c : ℕ)
     → (nat_lt (p + 1) c || ((c == p + 1) && true)) ≡ (nat_lt p c || ((c == p) && false))
 ahead_same p c = elim (cases_lt p c) [

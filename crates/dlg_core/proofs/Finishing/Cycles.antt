@@ -31,7 +31,7 @@ use Rattle.dlg_core.proofs.Finishing.Turns.{LooksFirst, planned}
 
 -- Runs.
 
--- one run behind another
+-- one run after another
 leads_both : (s : State) (first rest : List Event) (q t : State) → LeadsTo s first q
     → LeadsTo q rest t
     → LeadsTo s (first ++ rest) t

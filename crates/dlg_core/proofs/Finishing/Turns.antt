@@ -1,5 +1,5 @@
 -- On the way of a cycle the plain collector has a next event, and it makes a turn: it is possible
--- behind the look before it, and the way goes on behind it.
+-- after the look before it, and the way goes on after it.
 use Rattle.std.proofs.Common.{if◌then◌else◌, ◌≡◌, ℕ, ◌+◌, ◌≤◌, Bool, true, false, not, ◌&&◌, nat_lt}
 use Rattle.std.proofs.Common.{List, length, Option, Some, None, refl, sym, ap, subst, ◌∙◌}
 use Rattle.std.proofs.lemmas.Bool.{and_from, lt-ltb}

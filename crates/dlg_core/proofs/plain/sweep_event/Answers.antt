@@ -5,7 +5,7 @@ use Rattle.core_machine.specs.declared.progress.Sweeping.TheVariants as sweeping
 use Rattle.dlg_core.specs.Plain.{plain_sweep}
 use Rattle.dlg_core.proofs.plain.sweep_event.Goals as goal
 
--- a cell is freed behind its sixth field
+-- a cell is freed after its sixth field
 freed : (k : ℕ) → 6 ≤ k → event.Free ≡ plain_sweep (sweeping.Wiping k)
 freed k wiped = grind (arith, nat_tests)
 
