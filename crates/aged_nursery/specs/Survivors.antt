@@ -1,5 +1,6 @@
 -- What is left when some roots have aged: what they reach, in as many records, each with its term
--- and its shared places.
+-- and its shared places. Both are said for every list of shared terms and for one place at a time:
+-- a private heap knows no held list, and a clause over all sets of places would be no `Type 0`.
 -- Source: this project's.
 use Rattle.std.specs.Prelude.{ℕ, ◌≡◌, ◌<◌, ◌≤◌, List, All, length, map, slice_index_or}
 use Rattle.cell_words.specs.Term.{Term}

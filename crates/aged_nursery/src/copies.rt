@@ -12,7 +12,7 @@ ghost use Rattle.aged_nursery.specs.Survivors.{AreSurvivors};
 use minor_heap::{MinorField, MinorHeap, MinorRef};
 
 /// Copies what some roots reach into an empty heap, and sets the roots to their copies. Nothing is
-/// marked before nor behind it.
+/// marked before or after.
 pub(crate) fn copy_reached(
     heap: &MinorHeap,
     other: &mut MinorHeap,

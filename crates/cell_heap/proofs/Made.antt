@@ -41,7 +41,8 @@ module _ {P : Type 0} where
   looks_not v (event.AnswerOut i over) found none = absurd (false≢true (sym none))
   looks_not v e found none = tt
 
-  -- The operation was made: the seat that the call was given, the same opened, and the one after it.
+  -- The operation was made: the seat that the call was given, the same opened, and the one after
+  -- it.
   pub record Made (fixed : ℕ → Bool) (old inside new : SeatView P) (e : Event)
       (number : ℕ) : Type 0 where
     pub is : inside ≡ old

@@ -1,5 +1,5 @@
 -- What the collector's code keeps at hand of the collector's own part, and what a change of the
--- part makes of it.
+-- part makes of it. Who answered is not kept: a cycle learns it from its polls.
 -- Source: this project's.
 use Rattle.std.specs.Prelude.{[], false}
 use Rattle.cell_heap.specs.declared.progress.Progress.{Progress}

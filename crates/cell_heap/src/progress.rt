@@ -40,8 +40,8 @@ impl Progress {
             Stage::Sweep => self.sweep = Sweeping::Fresh,
         }
     }
-    /// Goes by a cell of a colour: on to its scan if it is gray, else past it where the pass has
-    /// come to it. A pass that met gray and has come to the end starts over.
+    /// Passes a cell of a colour: on to its scan if it is gray, otherwise past it where the pass
+    /// has come to it. A pass that met gray and has come to the end starts over.
     pub fn see(&mut self, cells: u32, cell: u32, colour: Colour)
         requires below { cell < cells }
         ensures seen { self.new

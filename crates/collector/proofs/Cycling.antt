@@ -31,7 +31,7 @@ use Rattle.collector.proofs.Hearing.{HearsAs, over_late, over_of_two, over_on}
 use Rattle.collector.proofs.Joining.{counts_to, kept_then, stretch_one, stretch_then}
 use Rattle.collector.proofs.Joining.{took_append}
 
--- what a cycle without its first and its last event comes to
+-- what the events of a cycle, without its first and its last one, amount to
 abbrev pub MadeBy : Work → Work → CycleReport → Bool → ℕ → List Taken → Type 0
 MadeBy from to report over mutators events =
     Counts from to report events × (IsTrue over → AllOver 0 mutators events)
@@ -53,7 +53,7 @@ reported_by a d x z ys r first between last =
     (ys ++ z ∷ []) first
     (comes_join (work_after a x) d (work_after d z) r nothing ys (z ∷ []) between last))
 
--- what begins with this event and then comes to this
+-- what begins with this event and then amounts to this
 abbrev BeginsWith : Taken → Work → Work → CycleReport → List Taken → Type 0
 BeginsWith z from to r events =
     Counts from to r events × (rest : List Taken) × (events ≡ z ∷ rest)

@@ -80,7 +80,7 @@ module _ {P : Type 0} where
       stretch_as (HearsAs r over 0 n (work_of a) (work_of b)) (Counts (work_of a) (work_of b) r)
       a b (λ xs both. both.0) hears
 
-  -- before events that come to something
+  -- before events that amount to something
   pub hears_before : (r : CycleReport) (over : Bool) (n : ℕ) (a b c : Bound P)
       → Hears over 0 n a b → Does r b c → HearsBeside r over 0 n a c
   hears_before r over n a b c first second =

@@ -142,7 +142,7 @@ no_duty_more xs ys first whole =
     ∙ list_all-append (λ (t : Taken). not (is_duty t.event)) whole.between _
     ∙ ap (λ (b : Bool). b && true) (on_no_duty whole.between whole.one))
 
--- What the loop over cycles keeps, and what it comes to.
+-- What the loop over cycles keeps, and what it amounts to.
 
 pub serves_more : (rest : Rest) (over : Bool) (mutators count freed : ℕ) (from : Work)
     (report : CycleReport) (xs ys : List Taken) → is_done rest ≡ false

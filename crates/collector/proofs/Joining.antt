@@ -146,7 +146,7 @@ module _ {P : Type 0} where
   pub does_as : (r q : CycleReport) (a b : Bound P) → q ≡ r → Does r a b → Does q a b
   does_as r q a b is first = subst (λ (x : CycleReport). Does x a b) (sym is) first
 
-  -- where it is given what both come to
+  -- where it is given what both amount to
   pub does_both : (r q t : CycleReport) (a b c : Bound P) → t ≡ plus r q → Does r a b → Does q b c
       → Does t a c
   does_both r q t a b c is first second =

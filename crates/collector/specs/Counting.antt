@@ -1,5 +1,5 @@
--- What a stretch of the collector's events comes to: that it ends no cycle, that it answers for who
--- is out, and its counts.
+-- What a stretch of the collector's events amounts to: that it ends no cycle, that it answers for
+-- who is out, and its counts.
 -- Source: this project's.
 use Rattle.std.specs.Prelude.{ℕ, ◌≡◌, ◌≤◌, ◌+◌, ◌==◌, ◌&&◌, Bool, true, false, not, List}
 use Rattle.std.specs.List.{count_by, list_all}
@@ -75,7 +75,7 @@ plus r q = record {
   spilled = r.spilled + q.spilled;
 }
 
--- what tracing comes to: each count is at most this, and nothing is freed
+-- what tracing amounts to: each count is at most this, and nothing is freed
 pub record TracesAtMost (n : ℕ) (r : CycleReport) : Type 0 where
   pub passes : r.passes ≤ n
   pub scanned : r.scanned ≤ n
@@ -83,7 +83,7 @@ pub record TracesAtMost (n : ℕ) (r : CycleReport) : Type 0 where
   pub spilled : r.spilled ≤ n
   pub freed : r.freed ≡ 0
 
--- These events lead the work from here to there, and come to this.
+-- These events lead the work from here to there, and amount to this.
 pub record Comes (from to : Work) (r : CycleReport) (events : List Taken) : Type 0 where
   pub leads : work_after_all from events ≡ to
   pub passes_are : count_along ends_pass from events ≡ r.passes
@@ -105,12 +105,12 @@ module _ {P : Type 0} where
   abbrev pub is_traced : Bound P → Bool
   is_traced c = ((part_of c).cursor == cells_of c) && (part_of c).clean
 
-  -- the collector took events that come to this
+  -- the collector took events that amount to this
   abbrev pub Does : CycleReport → Bound P → Bound P → Type 0
   Does r old new = Stretch (Counts (work_of old) (work_of new) r) old new
 
-  -- It took events of tracing that come to what the later report has more than the earlier one: to
-  -- at most so much of each kind.
+  -- It took events of tracing that amount to what the later report has more than the earlier one:
+  -- to at most so much of each kind.
   pub record CountsOn (n : ℕ) (so_far all : CycleReport) (old new : Bound P) : Type 0 where
     pub more : CycleReport
     pub few : TracesAtMost n more

@@ -1,4 +1,4 @@
--- What a look of tracing came to.
+-- What a look of tracing found.
 -- Source: this project's.
 use Rattle.std.specs.Prelude.{Option, Some, None}
 use Rattle.core_machine.specs.declared.progress.Scanning.{Scanning}

@@ -37,7 +37,7 @@ abbrev pub MeetOver : List Taken → Type 0
 MeetOver events = list_all (λ (t : Taken). meets_over t.event t.found) events ≡ true
 
 module _ {P : Type 0} where
-  -- the collector took events that come to this, and found these over where the flag says so
+  -- the collector took events that amount to this, and found these over where the flag says so
   abbrev pub HearsBeside : CycleReport → Bool → ℕ → ℕ → Bound P → Bound P → Type 0
   HearsBeside report over from end old new =
       Stretch (λ (events : List Taken). Counts (work_of old) (work_of new) report events

@@ -62,7 +62,8 @@ abbrev pub ends_pass : Work → Taken → Bool
 ends_pass w t = sees_last w t.event t.found
 
 -- A look is at the cell that is next: the topmost one on the stack that is not the one to which the
--- pass has come, or this one.
+-- pass has come, or this one. So a cycle without mutators, none of whose looks strays, is a run
+-- whose every event is fixed, and no invariant of a loop is needed for it (proofs/TwoPasses).
 
 abbrev pub looks_next : Work → Event → Bool
 looks_next w (event.See c) = c == next_of (restarted w.part w.cells).cursor w.stack.cells

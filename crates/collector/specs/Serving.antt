@@ -21,7 +21,7 @@ next_rest rests.Two over = rests.One
 next_rest rests.One over = rests.Done
 next_rest rests.Done over = rests.Done
 
--- what so many cycles have come to, by what is left
+-- what so many cycles have done, by what is left
 abbrev pub Serving : Rest → ℕ → ℕ → List Taken → Type 0
 Serving rests.Unknown mutators count events = Wholes count events
 Serving rests.Two mutators count events = AfterOver 0 mutators count events

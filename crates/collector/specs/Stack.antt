@@ -14,7 +14,7 @@ emptied s = record s { cells = [] }
 abbrev pub has_room : Stack → Bool
 has_room s = nat_lt (length s.cells) s.room
 
--- a cell goes on top where there is room, and else is left out
+-- a cell goes on top where there is room, and is left out otherwise
 abbrev pub pushed : ℕ → Stack → Stack
 pushed c s = if has_room s then record s { cells = c ∷ s.cells } else s
 

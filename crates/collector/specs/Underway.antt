@@ -1,4 +1,4 @@
--- A cycle that is made by moves, from its first event on: how far it is, and what it comes to.
+-- A cycle that is made by moves, from its first event on: how far it is, and what it amounts to.
 -- Source: this project's.
 use Rattle.std.specs.Prelude.{◌≡◌, ◌<◌, Bool, true, false, is_some, length}
 use Rattle.std.specs.List.{list_all}
@@ -47,8 +47,8 @@ module _ {P : Type 0} where
     pub does : Does report begun now
     pub none : report ≡ nothing
 
-  -- The first handshake is over, and what came after it comes to this. Where it found every mutator
-  -- over, the collector knew the state then.
+  -- The first handshake is over, and what came after it amounts to this. Where it found every
+  -- mutator over, the collector knew the state then.
   pub record IsPastFirst (report : CycleReport) (start now : Bound P) : Type 0 where
     pub begun : Bound P
     pub heard : Bound P
@@ -70,11 +70,11 @@ module _ {P : Type 0} where
   IsUnderwayAt stage.Trace report start now = IsPastFirst report start now
   IsUnderwayAt stage.Sweep report start now = IsPastFirst report start now
 
-  -- A cycle has begun at the start, is not at its end, and comes to this so far.
+  -- A cycle has begun at the start, is not at its end, and amounts to this so far.
   abbrev pub IsUnderway : CycleReport → Bound P → Bound P → Type 0
   IsUnderway report start now = IsUnderwayAt (control_of now).stage report start now
 
-  -- After one move more it comes to more, or is a whole one, and the report says what it is.
+  -- After one move more it amounts to more, or is a whole one, and the report says what it is.
   abbrev pub WentOn : Went → CycleReport → CycleReport → Bound P → Bound P → Type 0
   WentOn wents.More so_far came start now = IsUnderway (plus so_far came) start now
   WentOn wents.Asks so_far came start now = IsUnderway (plus so_far came) start now

@@ -27,7 +27,7 @@ fn same_status(one: Status, other: Status) -> bool
     }
 }
 
-/// What a try to hear from a mutator came to.
+/// The outcome of a try to hear from a mutator.
 #[derive(Clone, Copy)]
 pub(crate) struct Tried {
     /// the mutator has answered

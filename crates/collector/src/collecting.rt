@@ -41,7 +41,8 @@ impl<'a, P: Keeping> Model for Collector<'a, P> {
 }
 
 impl<'a, P: Keeping> Collector<'a, P> {
-    /// The collector of a heap, by its seat. Of the stack it takes the room alone.
+    /// The collector of a heap, by its seat. Of the stack it takes the room alone: what lies on it
+    /// is dropped, so nothing is asked of it.
     pub fn new(
         heap: &'a CellHeap<P>,
         seat: ColSeat<P>,

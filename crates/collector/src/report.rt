@@ -1,7 +1,7 @@
 ghost use Rattle.std.specs.Prelude.{◌≡◌, ◌≤◌, ◌+◌, ◌<◌, ◌^◌};
 ghost use Rattle.collector.specs.Counting.{TracesAtMost, nothing, passes_one, plus, scans_one, shades_one};
 
-/// What a cycle came to.
+/// What a cycle did, in numbers.
 #[derive(Clone, Copy, Debug, PartialEq, Eq)]
 pub struct CycleReport {
     /// how many passes of tracing ended

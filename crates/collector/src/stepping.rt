@@ -34,7 +34,7 @@ pub enum Went {
     Ended,
 }
 
-/// What a move came to.
+/// The outcome of a move.
 #[derive(Clone, Copy, Debug, PartialEq, Eq)]
 pub struct Step {
     /// how many mutators have answered this handshake; the next move wants it back

@@ -26,7 +26,7 @@ use free_cells::Hints;
 use heap_rule::Keeping;
 use std::sync::Wait;
 
-/// What a cycle came to, and whether one of its handshakes found every mutator over.
+/// The report of a cycle, and whether one of its handshakes found every mutator over.
 #[derive(Clone, Copy)]
 pub(crate) struct Made {
     pub report: CycleReport,

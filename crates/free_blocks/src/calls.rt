@@ -78,7 +78,7 @@ impl FreeBlocks {
         None
     }
 
-    /// Counts a block whose number came to be 0, or is 0 no more. The count wraps: while two steps
+    /// Counts a block whose number became 0, or is 0 no more. The count wraps: while two steps
     /// of one block overlap it may stand below 0, which reads as some.
     fn recount(&self, before: Count, after: Count) {
         if before.number == 0 && after.number != 0 {

@@ -15,7 +15,7 @@ pub in_use : (cells : ℕ) (p : Counts) → 0 < p.cells → (p.cells ≡ cells) 
 in_use cells p used (inl same) = same
 in_use cells p used (inr none) = absurd (omega (arith, used, ap (λ (q : Counts). q.cells) none))
 
--- beside a pass in use nobody knows what the queue holds
+-- where a pass is in use, no other pass knows what the queue holds
 pub none_known : (cells : ℕ) (items : List ℕ) (passes : List Counts) (port : ℕ) (v : Counts)
     → IsBelowAt cells items passes → get_elem? passes port ≡ some v → 0 < v.cells
     → (i : ℕ) (p : Counts) (known : List ℕ) → i ≢ port → get_elem? passes i ≡ some p → p.content

@@ -1,7 +1,7 @@
 //! What a thread knows of the queue, the rule of all such views, and how each call changes its own.
 //!
 //! The rule ties the views to what the queue holds: each number is below the number of cells, and a
-//! pass that no other pass stands beside knows the numbers themselves, in order.
+//! pass that is the only one knows the numbers themselves, in order.
 ghost use Rattle.std.specs.Prelude.{◌≡◌, ◌<◌, ℕ};
 
 use crossbeam_queue::Pass;

@@ -7,7 +7,7 @@ const AWAKE: u64 = 0;
 
 const ASLEEP: u64 = 1;
 
-/// Whether somebody sleeps, and whether the work is over, behind which nobody takes numbers.
+/// Whether somebody sleeps, and whether the work is over: from then on nobody takes numbers.
 pub struct Demand {
     sleeper: AtomicU64,
     over: AtomicBool,

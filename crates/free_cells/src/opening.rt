@@ -1,4 +1,7 @@
 //! Opening a queue, and one more pass for one more thread.
+//!
+//! The first view of the toolchain's rule is a constant, and ours is that of a queue for no cells.
+//! So `open` picks the number of cells by a type parameter that only proofs see (`Opening`).
 ghost use Rattle.std.specs.Prelude.{◌≡◌, ◌<◌, ◌≤◌, ◌+◌, ◌-◌, IfOk, IsOk};
 ghost use Rattle.crossbeam_queue.specs.Passes.{IsPassOf, ruled_capacity, view};
 ghost use Rattle.free_cells.specs.Counts.{begun, filled, opened, shared};

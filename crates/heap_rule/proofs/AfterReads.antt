@@ -1,4 +1,4 @@
--- What a seat has and knows behind a read.
+-- What a seat has and knows after a read.
 use Rattle.std.proofs.Common.{◌≡◌, ℕ, Bool, [], ◌∷◌, ◌++◌, length, slice_index_or}
 use Rattle.std.proofs.Common.{sym, ◌∙◌, ap, subst}
 use Rattle.std.proofs.lemmas.List.{get_or_push, length-map}

@@ -42,7 +42,7 @@ over_met_so over i true s new old j h = elim (cases_eq j i) [
   | inr other ↦ old j (sym (get_or-set_other over i j true false other) ∙ h)
 ]
 
--- what the collector's event finds over is so behind it
+-- who the collector's event finds over is over after it
 pub over_found_so : (s : State) (e : Event) (over : List Bool) → HasWords s → maker e ≡ None
     → ((j : ℕ) → slice_index_or over j false ≡ true → IsOver s j)
     → (j : ℕ) → slice_index_or (over_found over e (found_by s e)) j false ≡ true

@@ -1,5 +1,5 @@
--- A cell that is blue stands at no place of a mutator, since no reachable cell is; and what is known
--- of two places of one cell agrees, since both is so.
+-- A cell that is blue stands at no place of a mutator, since no reachable cell is; and what is
+-- known of two places of one cell agrees, since both is so.
 use Rattle.std.proofs.Common.{◌≡◌, ℕ, Bool, true, false, List}
 use Rattle.std.proofs.Common.{slice_index_or, Some, refl, sym, ◌∙◌, subst}
 use Rattle.cell_words.specs.declared.colours.Colour.TheVariants as colour

@@ -90,7 +90,7 @@ module _ (s t : State) (l m : Lore) where
       (subst (λ (b : Bool). TermFits b l.terms (field_of s x) (l.terms x))
       (sym (ap is_record_kind (same.rows 5))) h)
 
--- What is reachable behind an event was so before it, where this is so of what is held then and of
+-- What is reachable after an event was so before it, where this is so of what is held then and of
 -- what the fields of such cells name.
 pub back_from : (s t : State) → ((i x : ℕ) → has (cells_of t i) x ≡ true → Reachable s x)
     → ((c d f : ℕ) → Reachable s c → field_of t c f ≡ field.Cell d → Reachable s d)
@@ -99,7 +99,7 @@ back_from s t roots along =
     into t.rows t.presences t.owns (Reachable s) (anchor refl)
     (λ i c inside h. roots i c (has_holds (held_of t i) c ∙ h)) along
 
--- An event that changes nothing of any cell that is reachable behind it, and no mutator's cells.
+-- An event that changes nothing of any cell that is reachable after it, and no mutator's cells.
 pub still_facts : (fixed : ℕ → Bool) (s t : State) (l : Lore) → IsConsistent t
     → ((x : ℕ) → Reachable t x → SameAt s t l l x) → ((i : ℕ) → cells_of t i ≡ cells_of s i)
     → t.mutators ≡ s.mutators → Facts fixed s l → Facts fixed t l

@@ -1,4 +1,9 @@
 -- The facts on lore stay with every event, by kinds.
+--
+-- A kind of change has a file of its own: Quiet, Holding, Reading, Claiming, Storing with Writing,
+-- Sealing; Carried has what an event leaves of the cells that it does not change. Of the core's
+-- invariant they use: no reachable cell is free, a free cell has null fields, who is out holds
+-- nothing, the anchor is a box, a raw cell is held once, and live cells name sealed ones.
 use Rattle.std.proofs.Common.{◌≡◌, ℕ, Bool, true, refl, sym, subst}
 use Rattle.core_machine.specs.declared.events.Event.{Event}
 use Rattle.core_machine.specs.declared.events.Event.TheVariants as event

@@ -158,7 +158,7 @@ fresh_stays s t l i x cells old roots names (held j inside h) is = roots j
     (has_holds (held_of t j) x ∙ h)
 fresh_stays s t l i x cells old roots names (named {c} f r e) is = absurd (names c f r e)
 
--- the maker holds fewer cells behind the event, and forgets which of the others were fresh
+-- the maker holds fewer cells after the event, and forgets which of the others were fresh
 abbrev dropped : Lore → ℕ → List ℕ → List Known → Lore
 dropped l i cells known = record {
   terms = l.terms;

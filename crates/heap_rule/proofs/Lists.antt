@@ -43,7 +43,7 @@ reached_held s i x k h = held_in s i x (presence_of s i).inside refl k h
 
 -- What is so of all places.
 
--- may be said anew of each cell that the list has
+-- may be said again of each cell that the list has
 pub all_known : (K L : ℕ → Known → Type 0) (cells : List ℕ) (known : List Known)
     → ((c : ℕ) (k : Known) → has cells c ≡ true → K c k → L c k) → AllKnown K cells known
     → AllKnown L cells known

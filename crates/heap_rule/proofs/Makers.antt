@@ -16,7 +16,7 @@ use Rattle.heap_rule.specs.Lore.{Lore, cells_in, cells_of, has, known_in}
 use Rattle.heap_rule.proofs.Carried.{SameAt, back_from, fits_on, knows_on}
 use Rattle.heap_rule.proofs.Lists.{all_known, reached_held}
 
--- mutator i has another own part behind the event, and every other the one that it had
+-- mutator i has another own part after the event, and every other the one that it had
 module _ (s t : State) (i : ℕ) (own : Own) (owns : t.owns ≡ set s.owns i own) where
   pub cells_mine : i < length s.owns → cells_of t i ≡ cells_in own.held
   cells_mine below =

@@ -62,7 +62,7 @@ mutators_along s (t ∷ ts) = mutators_along (after s t.event) ts ∙ (as_large 
 
 -- The opening.
 
--- the rows are the first ones, and null behind them
+-- the rows are the first ones, and null after them
 first_field : (first : List (List Field)) (n x f : ℕ)
     → field_in (first ++ replicate n null_row) x f ≡ field_in first x f
 first_field first n x f = elim (cases_lt x (length first)) [

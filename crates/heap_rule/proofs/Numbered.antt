@@ -1,4 +1,4 @@
--- Boxes with numbers: on a smaller map, where a field behind the number is written, where a box is
+-- Boxes with numbers: on a smaller map, where a field after the number is written, where a box is
 -- added, and where the anchor goes to another one; and what the anchor's word is.
 use Rattle.std.proofs.Common.{◌≡◌, ◌≢◌, ◌<◌, ◌≤◌, ◌⊎◌, ℕ, Bool, true, Some, None}
 use Rattle.std.proofs.Common.{inl, inr, refl, sym, ◌∙◌, ap, subst, arith}
@@ -89,7 +89,7 @@ module _ (old new : Map) (smaller : Smaller old new) where
   apart_still apart one other number a b =
       apart one other number (number_before one number a) (number_before other number b)
 
--- A field behind the number is written, in one box.
+-- A field after the number is written, in one box.
 module _ (map : Map) (x f : ℕ) (entry : Entry) (box : Payload) (there : map x ≡ Some box)
     (behind : 1 ≤ f) where
   abbrev written : Map

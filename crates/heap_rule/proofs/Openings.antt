@@ -1,4 +1,4 @@
--- What a heap opens with: rows of nulls behind the first ones, a pass for each mutator, and, where
+-- What a heap opens with: rows of nulls after the first ones, a pass for each mutator, and, where
 -- the anchor leads to one box with a number, no other.
 use Rattle.std.proofs.Common.{◌≡◌, ◌≢◌, ◌<◌, ◌≤◌, ◌+◌, ◌⊎◌, ℕ, zero, suc, true, All, length}
 use Rattle.std.proofs.Common.{get_or, replicate, Some, inl, inr, refl, sym, ◌∙◌, ap, subst, arith}
@@ -42,7 +42,7 @@ module _ {P : Type 0} (opens : ℕ → ℕ → P) (setting : ℕ) where
 
 -- The boxes: the anchor, and one that it names.
 
--- null behind the first field
+-- null after the first field
 pub four_null : (entry : ℕ → Entry) → entry 1 ≡ Plain null → entry 2 ≡ Plain null
     → entry 3 ≡ Plain null → entry 4 ≡ Plain null
     → (f : ℕ) → 1 ≤ f → f < 5 → entry f ≡ Plain null
@@ -87,7 +87,7 @@ module _ (s : State) (l : Lore) (n : ℕ) (anchor : In s l 0) (first : In s l 1)
   pub first_apart : AreApart map
   first_apart one other number a b = number_at one number a ∙ sym (number_at other number b)
 
-  -- what is so of it is so of each box beside the anchor
+  -- what is so of it is so of each box besides the anchor
   pub each_box : (F : Payload → Type 0) → F (payload_of s l 1) → (x : ℕ) (q : Payload) → x ≢ 0
       → map x ≡ Some q → F q
   each_box F is x q other at = elim (in_is x q at) [

@@ -1,5 +1,5 @@
--- A read of a record whose term is known: what it finds is that part of the term, and where it finds
--- a cell, this is held as a record with that part for its term.
+-- A read of a record whose term is known: what it finds is that part of the term, and where it
+-- finds a cell, this is held as a record with that part for its term.
 use Rattle.std.proofs.Common.{◌≡◌, ◌<◌, ◌≤◌, ◌==◌, ℕ, zero, suc, Bool, true, false, List, [], ◌∷◌}
 use Rattle.std.proofs.Common.{◌++◌, length, slice_index_or, Option, Some, None, refl, sym, ◌∙◌, ap}
 use Rattle.std.proofs.Common.{subst, arith}
@@ -54,7 +54,7 @@ named_plain : (c : ℕ) (term : Option Term) → IsPlain (named_or c term)
 named_plain c None plain = absurd plain
 named_plain c (Some t) plain = refl
 
--- what is known behind the places that there are stands at the next
+-- what is known after the places that there are stands at the next
 known_last : (K : ℕ → Known → Type 0) (cells : List ℕ) (known : List Known) (k : Known)
     → AllKnown K cells known → known_at (known ++ k ∷ []) (length cells) ≡ k
 known_last K [] [] k all = refl

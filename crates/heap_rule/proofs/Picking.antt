@@ -1,4 +1,4 @@
--- The client's rule behind a step of a mutator: by its own law, from the boxes that the event would
+-- The client's rule after a step of a mutator: by its own law, from the boxes that the event would
 -- leave if nothing became unreachable.
 use Rattle.std.proofs.Common.{◌≡◌, ℕ, Bool, List, refl, sym, subst}
 use Rattle.atomic_table.proofs.Lists.{set_again}

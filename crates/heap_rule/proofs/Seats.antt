@@ -19,7 +19,7 @@ use Rattle.heap_rule.proofs.Lists.{all_at, reached_held}
 use Rattle.heap_rule.proofs.Maps.{In}
 use Rattle.heap_rule.proofs.Reading.{cell_there, has_place}
 
--- a box of the map beside the anchor, whose fixed fields are as they were told
+-- a box of the map besides the anchor, whose fixed fields are as they were told
 pub record SeenBox (fixed : ℕ → Bool) (s : State) (l : Lore) (x : ℕ) (told : List (Option Term))
     : Type 0 where
   pub other : x ≢ 0

@@ -132,7 +132,7 @@ module _ {P : Type 0} (opens : ℕ → ℕ → P) (holding : Map → List P → 
         (runs_balanced (length h.first) from l.run from_shaped
         from_consistent stands.legal (opening_balanced h.cells l.core.rooms h.first))
 
-    -- behind any run from the opening, what is used was claimed in it
+    -- after any run from the opening, what is used was claimed in it
     claimed_behind : (run : List Taken) → Runs from run → UsedWasClaimed h run (last from run)
     claimed_behind run runs c used =
         subst (λ (ts : List Taken). (c < length h.first) ⊎ IsClaimed ts c)

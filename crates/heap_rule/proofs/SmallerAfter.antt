@@ -1,4 +1,4 @@
--- The boxes behind an event are a smaller map than those that it would leave if nothing became
+-- The boxes after an event are a smaller map than those that it would leave if nothing became
 -- unreachable, by kinds.
 use Rattle.std.proofs.Common.{◌≡◌, ◌≢◌, ◌<◌, ◌==◌, ℕ, Bool, true, false, List, [], if◌then◌else◌}
 use Rattle.std.proofs.Common.{Option, Some, None, inl, inr}

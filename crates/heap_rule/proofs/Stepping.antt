@@ -1,4 +1,8 @@
--- One step of a seat keeps the rule: for every event of a mutator and of the collector alike.
+-- One step of a seat keeps the rule: one lemma for every event of a mutator (`mutator_step`), and
+-- one for every event of the collector (`collector_step`). The operations of heap_table cite them.
+--
+-- Moving has the opening, splitting and joining; Owing, that what a seat knows gives what each kind
+-- of event owes; Picking and Filling, the client's own condition.
 use Rattle.std.proofs.Common.{◌≡◌, ◌≢◌, ◌<◌, ◌≤◌, ◌++◌, ℕ, Bool, true, List, [], ◌∷◌, length}
 use Rattle.std.proofs.Common.{Option, Some, None}
 use Rattle.std.proofs.Common.{inl, inr, refl, sym, ◌∙◌, ap, subst, arith, slice_index, slice_set}
@@ -90,7 +94,7 @@ module _ {P : Type 0} (holds : Map → List P → Type 0) (fixed : ℕ → Bool)
     facts = stands.facts;
   }
 
-  -- and behind an event
+  -- and after an event
   pub stands_behind : (e : Event) (passes : List P) → can l.core e ≡ true
       → Proper fixed l.core l.lore e
       → length passes ≡ h.mutators
@@ -269,7 +273,7 @@ module _ {P : Type 0} (opens : ℕ → ℕ → P) (holds : Map → List P → Ty
         fits.1,
       )
 
-  -- the words behind the event
+  -- the words after the event
   words_behind : (l : Ledger P) (e : Event) (words : List ℕ) (word : ℕ) (f g : ℕ → ℕ)
       → IsShaped l.core
       → Owed fixed l.core l.lore e word f g → words ≡ words_of l.core

@@ -57,8 +57,9 @@ written_if true s l x f new = written_map (boxes_of s (revealing l new)) x f (en
 written_if false s l x f new = boxes_of s l
 
 -- The boxes that an event would leave if no cell became unreachable by it: those that there were;
--- behind a Write that was made and behind a Store, whatever that field held, with the new entry;
--- and behind these and a Fill with what they name.
+-- after a Write that was made and after a Store, whatever that field held, with the new entry; and
+-- after these and a Fill with what they name. Every event leaves this map or a smaller one: so a
+-- client shows its rule on a map that it can write down.
 abbrev pub boxes_by : State → Lore → Event → Map
 boxes_by s l (event.Write i place f old new) =
     written_if (same_field (field_of s (target_of s i place) f) old) s l (target_of s i place) f new

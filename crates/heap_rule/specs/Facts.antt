@@ -1,6 +1,8 @@
 -- The facts on lore that stand in every state of a heap, and what a client owes so that they stay.
 --
--- They are of reachable cells alone: what lies behind garbage is freed and claimed again.
+-- They are of reachable cells alone: a cell that only garbage leads to is freed and claimed again.
+-- Of a cell they take the function from a field's number to the field, its term and for whom it is
+-- fresh, and no state: what an event leaves of a cell is then a handful of equations.
 -- Source: this project's.
 use Rattle.std.specs.Prelude.{ℕ, ◌≡◌, ◌<◌, ◌==◌, ◌&&◌, ◌||◌, Bool, true, false, List, [], ◌∷◌}
 use Rattle.std.specs.Prelude.{length}
@@ -77,7 +79,7 @@ pub record Facts (fixed : ℕ → Bool) (s : State) (l : Lore) : Type 0 where
   pub known_fit : length l.known ≡ s.mutators
   pub known_all : (i : ℕ) → AllKnown (IsKnown fixed s l i) (cells_of s i) (known_in l.known i)
 
--- What is owed beside the event table: no write of a fixed field, but in the anchor; and who seals
+-- What is owed besides the event table: no write of a fixed field, but in the anchor; and who seals
 -- a record knows the term of each of its fields.
 
 -- some place has the cell, with a term known of it

@@ -1,5 +1,6 @@
 -- What it means that a mutator knows something of a cell: it is so, and no event of another changes
--- it.
+-- it. Raw and fresh cells are told apart, though of both the payload is known: a fill needs a raw
+-- target, and what a write names has to be sealed.
 -- Source: this project's.
 use Rattle.std.specs.Prelude.{ℕ, ◌≡◌, ◌≢◌, ◌<◌, Bool, true, List, length, slice_index_or, Option}
 use Rattle.std.specs.Prelude.{Some, None}

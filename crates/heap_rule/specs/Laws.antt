@@ -1,4 +1,5 @@
--- What the rule of a heap says of any moment between two steps, in words of the table alone.
+-- What the rule of a heap says of any moment between two steps, in words of the table alone. Each
+-- law names the ledger of the table's rule (`Kept`), so two laws can be put together.
 -- Source: this project's.
 use Rattle.std.specs.Prelude.{ℕ, ◌⊎◌, ◌≡◌, ◌≢◌, ◌<◌, ◌≤◌, ◌++◌, Bool, true, List, [], ◌∷◌, length}
 use Rattle.std.specs.Prelude.{false, slice_index, slice_index_or}
@@ -63,7 +64,7 @@ FoundUsedWasClaimed h run = (before after : List Taken) (t : Taken) (i c : ℕ) 
     → found ≢ colour.Blue
     → (c < length h.first) ⊎ IsClaimed before c
 
--- garbage before two whole cycles of this run, wherever they stand in it, is freed behind them
+-- garbage before two whole cycles of this run, wherever they stand in it, is freed by their end
 abbrev pub GarbageWasFreed : Shape → List Taken → List ℕ → Type 0
 GarbageWasFreed h run rooms = (before cycles after : List Taken) (first between next : List Event)
     (c : ℕ) → run ≡ before ++ (cycles ++ after) → events_of cycles ≡ first ++ (between ++ next)
@@ -71,8 +72,8 @@ GarbageWasFreed h run rooms = (before cycles after : List Taken) (first between 
     → IsFreedSince (last (start h rooms) before) (last (start h rooms) (before ++ cycles)) c
 
 module _ {P : Type 0} where
-  -- A mutator's seat has that one's room, own part, presence, knowledge, pass and trail; the part is
-  -- what the trail leaves, and what it holds is reachable.
+  -- A mutator's seat has that one's room, own part, presence, knowledge, pass and trail; the part
+  -- is what the trail leaves, and what it holds is reachable.
   pub record SeatShows (core : State) (lore : Lore) (passes : List P) (run : List Taken)
       (v : View P) : Type 0 where
     pub room : room_of core v.number ≡ v.room
@@ -85,8 +86,8 @@ module _ {P : Type 0} where
     pub told : v.own ≡ own_along no_own v.trail
     pub reached : v.presence.inside ≡ true → (c : ℕ) → holds v.own.held c ≡ true → Reachable core c
 
-  -- What a mutator left when its seat was joined: it is over, its own part is what its trail leaves,
-  -- and its pass is the last one.
+  -- What a mutator left when its seat was joined: it is over, its own part is what its trail
+  -- leaves, and its pass is the last one.
   pub record ShareShows (core : State) (passes : List P) (run : List Taken) (i : ℕ)
       (share : Share P) : Type 0 where
     pub room : room_of core i ≡ share.room

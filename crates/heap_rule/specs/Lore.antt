@@ -1,5 +1,7 @@
 -- Lore: what is so of a heap's cells beyond its words. The terms of its records, for whom a cell is
 -- fresh, and what each mutator knows of the cells that it holds. It changes with the events alone.
+-- What mutators know is in it, by mutator, and each view has a copy, tied to it by one equation: so
+-- no event needs a lemma on other seats.
 -- Source: this project's.
 use Rattle.std.specs.Prelude.{ℕ, ◌==◌, Bool, true, false, List, [], ◌∷◌, ◌++◌}
 use Rattle.std.specs.Prelude.{slice_index_or, slice_set, map, take, drop, Option, Some, None}

@@ -1,5 +1,6 @@
 -- The moves of seats that are no events: a mutator is split off the collector's seat, and joined
--- again. Source: this project's.
+-- again. The pass of a spent seat is the opening pass of mutator 0, since a view has to have one.
+-- Source: this project's.
 use Rattle.std.specs.Prelude.{ℕ, [], slice_set, None}
 use Rattle.core_machine.specs.Own.{no_own}
 use Rattle.core_machine.specs.State.{opening_collector, opening_control, opening_presence}

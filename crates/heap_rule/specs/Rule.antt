@@ -71,7 +71,7 @@ over_found over (event.Poll i) found = over_by over i found
 over_found over (event.AnswerOut i flag) found = over_by over i found
 over_found over _ found = over
 
--- the state behind an event, where it was known before, and where all were found over
+-- the state after an event, where it was known before, and where all were found over
 abbrev pub alone_on : Option State → Event → Option State
 alone_on None e = None
 alone_on (Some s) e = Some (after s e)
@@ -189,7 +189,7 @@ module _ {P : Type 0} where
     trail = v.trail ++ took e found ∷ [];
   }
 
-  -- the collector's, with the state behind the event, which it learns where all were found over
+  -- the collector's, with the state after the event, which it learns where all were found over
   abbrev pub told_collector : View P → Event → Found → State → View P
   told_collector v e found now = record v {
     control = control_after v.control e;
@@ -199,7 +199,7 @@ module _ {P : Type 0} where
     trail = v.trail ++ took e found ∷ [];
   }
 
-  -- The ledger behind an event: of mutator i with its pass, or of the collector.
+  -- The ledger after an event: of mutator i with its pass, or of the collector.
   abbrev pub behind : Ledger P → Event → List P → Ledger P
   behind l e passes = record l {
     core = after l.core e;

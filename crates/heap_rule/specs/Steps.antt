@@ -28,7 +28,7 @@ pub record Shown (fixed : ℕ → Bool) (s : State) (l : Lore) : Type 0 where
   pub words : HasWords s
   pub facts : Facts fixed s l
 
--- what is owed of an event beside what it touches: it can happen, it spares fixed fields and seals
+-- what is owed of an event besides what it touches: it can happen, it spares fixed fields and seals
 -- terms, its word lies there, and the operation leaves f of the number found and tells g of it
 pub record Owed (fixed : ℕ → Bool) (s : State) (l : Lore) (e : Event) (word : ℕ) (f g : ℕ
     → ℕ) : Type 0 where
@@ -70,7 +70,7 @@ module _ {P : Type 0} where
   CollectorOwes fixed v e word f g = (s : State) (l : Lore) → Ours fixed v s l
       → Owed fixed s l e word f g
 
-  -- The client's rule stands behind the event with the pass that is picked: from what was learned,
+  -- The client's rule stands after the event with the pass that is picked: from what was learned,
   -- what was found, and the pass before.
   abbrev pub StandsBy : (Map → List P → Type 0) → (ℕ → Bool) → (Learned → Found → P → P) → View P
       → Event → Type 0
@@ -81,7 +81,7 @@ module _ {P : Type 0} where
       (slice_set passes v.number (next (learned s l e) (found_by s e) v.pass))
 
   -- What a step tells: the state, the lore and the passes at this moment, that the client's rule
-  -- stood on them, that what was found is the number there, and what the seat knows behind it.
+  -- stood on them, that what was found is the number there, and what the seat knows after it.
   pub record AtStep (holds : Map → List P → Type 0) (fixed : ℕ → Bool) (v : View P) (e : Event)
       (next : Learned → Found → P → P) (number : ℕ) (w : View P) : Type 0 where
     pub core : State

@@ -3,7 +3,7 @@ use std::collections::LinkedList;
 
 /// What a mutator knows of a cell that it holds. No code makes a value of it: views speak of it.
 pub enum Known {
-    /// Nothing beside that it holds the cell.
+    /// Nothing besides that it holds the cell.
     Nothing,
     /// The cell is raw and its own alone, and these are the five fields of its payload.
     Raw(LinkedList<Field>),
@@ -16,7 +16,7 @@ pub enum Known {
     Boxed(LinkedList<Option<Term>>),
 }
 
-/// What a read tells beside the field: of the cell that was read, and of the cell that was found.
+/// What a read tells besides the field: of the cell that was read, and of the cell that was found.
 pub struct Learned {
     pub here: Known,
     pub found: Known,

@@ -1,6 +1,6 @@
-//! What stands between any two steps of a collected heap beside the core's own invariant: the terms
-//! of records, which cells are fresh, what each mutator knows of the cells that it holds, and the
-//! boxes that a client's rule speaks of.
+//! What stands between any two steps of a collected heap besides the core's own invariant: the
+//! terms of records, which cells are fresh, what each mutator knows of the cells that it holds, and
+//! the boxes that a client's rule speaks of.
 //!
 //! None of it is in a word of the heap, and no code holds it. It follows from the events alone, as
 //! `Lore`, a record of definitions that changes with each event. The layers above keep a copy of

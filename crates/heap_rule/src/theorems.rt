@@ -37,8 +37,8 @@ pub fn facts_on_lore_stay()
         → Facts fixed (after s e) (lore_after s l e) }
 {}
 
-/// The boxes behind such an event are a smaller map than those before it; behind a write that was
-/// made and behind a store than those with the new entry, and there and behind a fill with what the
+/// The boxes after such an event are a smaller map than those before it; after a write that was
+/// made and after a store than those with the new entry, and there and after a fill with what the
 /// value names.
 pub fn boxes_grow_smaller()
     ensures { (fixed : ℕ → Bool) (s : State) (l : Lore) (e : Event) → IsShaped s → IsConsistent s
@@ -75,8 +75,8 @@ pub fn the_words_end_a_run<S, P: Keeping>()
         → IsLastOf h s.words k.ledger.run k.ledger.core }
 {}
 
-/// The state is safe, and the colour word of no cell that the anchor or a mutator reaches is that of
-/// a free one.
+/// The state is safe, and the colour word of no cell that the anchor or a mutator reaches is that
+/// of a free one.
 pub fn no_reachable_cell_is_free<S, P: Keeping>()
     ensures safe { (h : Shape) (s : TableState S (View P)) (k : Kept P.opening P.holds P.fixed h s)
         → IsSafe k.ledger.core }
@@ -115,7 +115,7 @@ pub fn what_is_used_was_claimed<S, P: Keeping>()
         (k : Kept P.opening P.holds P.fixed h s) → FoundUsedWasClaimed h k.ledger.run }
 {}
 
-/// Garbage before two whole cycles of the run, wherever they stand in it, is freed behind them.
+/// Garbage before two whole cycles of the run, wherever they stand in it, is freed by their end.
 pub fn garbage_of_a_run_is_freed<S, P: Keeping>()
     ensures { (h : Shape) (s : TableState S (View P)) (k : Kept P.opening P.holds P.fixed h s)
         → GarbageWasFreed h k.ledger.run k.ledger.core.rooms }

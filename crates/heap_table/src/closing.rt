@@ -50,8 +50,8 @@ impl Drop for Image {
     }
 }
 
-/// What the collector's seat knew at the close: its own part and trail, and of each mutator that was
-/// joined the part, the pass and the trail. It takes no room.
+/// What the collector's seat knew at the close: its own part and trail, and of each mutator that
+/// was joined the part, the pass and the trail. It takes no room.
 #[derive(Drop)]
 pub struct Passes<P> {
     seat: Snapshot<HeapSeat<P>>,

@@ -2,7 +2,7 @@
 //!
 //! A step is one atomic operation on one word. Its caller says which event it means by it and shows
 //! that its seat may make this event; the step then tells the state in which it happened, and the
-//! seat's view behind it is the view before with this event told.
+//! seat's view after it is the view before with this event told.
 //!
 //! The seats' calls, a call an event, stand above: `mutator_events` and `cell_heap`.
 //!

@@ -73,7 +73,8 @@ impl<P: Keeping> CellHeap<P> {
         }
     }
 
-    /// Joins the seat of a mutator that is over to the collector's, which has its part from then on.
+    /// Joins the seat of a mutator that is over to the collector's, which has its part from then
+    /// on.
     pub fn join_back(&self, seat: &mut HeapSeat<P>, mutator: HeapSeat<P>)
         requires seats { IsSeatOf self.now seat.old × IsSeatOf self.now mutator }
         requires roles { (seat.old.me.role ≡ role.Collector) × (mutator.me.role ≡ role.Mutator) }

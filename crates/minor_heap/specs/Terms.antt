@@ -20,7 +20,7 @@ record_term shared older fields =
     let term : ℕ → Term = λ i. field_term shared older (slice_index_or fields i field.Null) in
     five (term 0) (term 1) (term 2) (term 3) (term 4)
 
--- the terms of all records, the oldest first, behind those of older ones
+-- the terms of all records, the oldest first, after those of older ones
 abbrev pub terms_after : List Term → List Term → List (List MinorField) → List Term
 terms_after shared older [] = older
 terms_after shared older (fields ∷ records) =

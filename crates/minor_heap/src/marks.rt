@@ -2,7 +2,8 @@
 //!
 //! A record names older ones alone, so one pass from the newest record down to the oldest finds all
 //! that the marked ones reach: when a record's turn comes, no later turn can mark it. No stack is
-//! needed.
+//! needed. `mark` is public as well as `reached`, which uses it: a copy into the shared heap needs
+//! the marks alone, which lie in memory that the caller has.
 ghost use Rattle.std.specs.Prelude.{◌≡◌, ◌<◌, ◌≤◌, ◌^◌, ◌↔◌, All, IfOk, [], false};
 ghost use Rattle.std.specs.Prelude.{length, replicate, slice_index_or};
 ghost use Rattle.std.specs.List.{Contains};
@@ -17,7 +18,7 @@ use crate::heap::MinorHeap;
 use std::alloc::Global;
 
 impl MinorHeap {
-    /// Marks, beside the records that are marked, each that they reach. It takes no memory.
+    /// Marks, besides the records that are marked, each that they reach. It takes no memory.
     pub fn mark(&self, marks: &mut [bool])
         requires length { length marks.old ≡ length self.now.records }
         ensures length { length marks.new ≡ length marks.old }

@@ -18,7 +18,7 @@ use crate::marks::mark_all;
 #[derive(Clone, Copy, Debug, PartialEq, Eq)]
 pub struct RecordSpan {
     pub first: u32,
-    /// the number behind the last
+    /// the number after the last
     pub end: u32,
 }
 
@@ -37,8 +37,8 @@ impl RecordSpan {
 }
 
 impl MinorHeap {
-    /// Marks, where nothing is marked, each record that these reach, and tells between which numbers
-    /// they lie. It takes no memory.
+    /// Marks, where nothing is marked, each record that these reach, and tells between which
+    /// numbers they lie. It takes no memory.
     pub fn mark_span(&self, from: &[MinorRef], marks: &mut [bool]) -> RecordSpan
         requires stand { All (Stands self.now.records) from.now }
         requires room { length self.now.records ≤ length marks.old }

@@ -1,4 +1,4 @@
--- What a seat has at run time of its pending write stands behind each event of it.
+-- What a seat has at run time of its pending write stands after each event of it.
 use Rattle.std.proofs.Common.{◌≡◌, ◌<◌, ◌≤◌, ◌+◌, ℕ, Bool, true, false, List, [], ◌∷◌, ◌++◌}
 use Rattle.std.proofs.Common.{length, map, refl, sym, ◌∙◌, ap, subst, arith, is_some}
 use Rattle.std.proofs.Common.{Option, Some, None}
@@ -17,7 +17,7 @@ pub begun_in : {P : Type 0} {w u : View P} {place f : ℕ} {inside : Bool} → w
 begun_in {place = place} {f = f} {inside = inside} is begun =
     subst (λ (v : View _). HasBegun v.own place f inside) (sym is) begun
 
--- nothing is pending behind what ends a write
+-- nothing is pending after what ends a write
 pub none_begun : {own : Own} {place f : ℕ} {inside : Bool} → own.pending ≡ None
     → HasBegun own place f inside
 none_begun none = record {

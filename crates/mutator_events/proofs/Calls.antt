@@ -77,7 +77,7 @@ seat_told_with new make found pass is table me =
     (λ t. record { table = table t; me = me t })
     ∙ ap (λ (s : SeatView _). tells_with s (make s.me) found (pass s.me.pass)) is
 
--- The view w behind an event, and what the seat has at run time.
+-- The view w after an event, and what the seat has at run time.
 pub record Behind {P : Type 0} (v w : View P) (e : Event) (found : Found) (i room : ℕ)
     (held : List ℕ) (looked : ℕ) (inside : Bool) (status : Status)
     (claims : ℕ) : Type 0 where

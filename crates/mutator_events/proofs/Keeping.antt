@@ -1,4 +1,4 @@
--- What the run-time parts of a mutator's seat say of its view stands behind each event of it, with
+-- What the run-time parts of a mutator's seat say of its view stands after each event of it, with
 -- the parts that the call leaves.
 use Rattle.std.proofs.Common.{◌≡◌, ◌<◌, ◌≤◌, ◌+◌, ℕ, Bool, true, false, List, [], ◌∷◌, ◌++◌}
 use Rattle.std.proofs.Common.{length, refl, sym, ◌∙◌, ap, subst, arith, Option, Some, None}
@@ -48,7 +48,7 @@ read_own own field.Null = (refl, refl, refl)
 read_own own (field.Num n) = (refl, refl, refl)
 read_own own (field.Cell c) = (cells_more own.held c, refl, refl)
 
--- no mode, behind what uses the look up
+-- no mode, after what uses the look up
 no_look : {mode : Option Control} {looked : ℕ} → mode ≡ None → HasLooked mode looked
 no_look none control is = let no = sym none ∙ is in absurd cc
 

@@ -58,7 +58,7 @@ module _ {P : Type 0} {v : View P} {i room : ℕ} {held : List ℕ} {looked : �
         room = omega (arith, all, many, m.own.held_fits, m.room_is);
       }
 
-  -- and holds the same cells behind it
+  -- and holds the same cells after it
   pub after_keep_all : {holds : Map → List P → Type 0} {fixed : ℕ → Bool} {w : View P} {number : ℕ}
       → AtStep holds fixed v (event.Keep i n 0 0) same_pass number w
       → Behind v w (event.Keep v.number (length v.own.held) 0 0) (finds.Presence v.presence) i room

@@ -34,7 +34,7 @@ module _ {P : Type 0} where
     pub found_is : found_by core e ≡ found
     pub new : w ≡ told v e found (learned core lore e) (next (learned core lore e) found v.pass)
 
-  -- the seat after an event that told nothing beside what it found, and left the pass
+  -- the seat after an event that told nothing besides what it found, and left the pass
   abbrev pub tells : SeatView P → Event → Found → SeatView P
   tells seat e found = record seat { me = told seat.me e found nothing_learned seat.me.pass }
 

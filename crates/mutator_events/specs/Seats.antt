@@ -1,4 +1,5 @@
--- What the parts of a mutator's seat at run time say of its view.
+-- What the parts of a mutator's seat at run time say of its view. Marks, and whether a status word
+-- says over, only the view knows: what a call stores needs neither.
 -- Source: this project's.
 use Rattle.std.specs.Prelude.{ℕ, ◌≡◌, ◌<◌, ◌≤◌, Bool, true, false, List, length, All}
 use Rattle.std.specs.Prelude.{Option, Some, None, is_some}

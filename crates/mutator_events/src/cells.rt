@@ -48,7 +48,7 @@ pub(crate) fn hold_found(cells: &mut Vec<u32>, found: Field) -> Value
 
 /// The first `count` cells, and then the `copies` that stood from `from` on.
 ///
-/// The copies may lie among the first ones and reach behind the end, so the list is first made as
+/// The copies may lie among the first ones and reach past the end, so the list is first made as
 /// long as it needs to be.
 pub(crate) fn keep_cells(cells: &mut Vec<u32>, count: usize, from: usize, copies: usize)
     requires count { count ≤ length cells.old.items }

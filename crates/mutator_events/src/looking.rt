@@ -19,7 +19,7 @@ use std::marker::Brand;
 
 impl<P: Keeping> MutSeat<P> {
     /// Loads the control: the mode of what it does next, and stale from then on. No place is marked
-    /// behind it.
+    /// after it.
     pub fn look(&mut self, heap: &CellHeap<P>) -> Control
         requires seat { IsSeatOf heap.now self.old }
         requires may { MayLook self.old.me }

@@ -44,8 +44,8 @@ impl<P: Keeping> MutSeat<P> {
         hold_found(&mut self.held, found)
     }
 
-    /// Keeps the first `n` places, and behind them the `count` cells that stood from `place` on.
-    /// One load of its status word, which it throws away.
+    /// Keeps the first `n` places, then the `count` cells that stood from `place` on. One load of
+    /// its status word, which it throws away.
     pub fn keep(&mut self, heap: &CellHeap<P>, n: usize, place: usize, count: usize)
         requires seat { IsSeatOf heap.now self.old }
         requires may { MayKeep self.old.me n place count }

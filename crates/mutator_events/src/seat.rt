@@ -13,8 +13,8 @@ use heap_table::HeapSeat;
 use std::alloc::Global;
 use std::marker::Model;
 
-/// Memory for the cells that a mutator holds, reserved before its seat is split off: so want of
-/// memory costs no seat. Contracts see it as its number of places.
+/// Memory for the cells that a mutator holds, reserved before its seat is split off: so running out
+/// of memory costs no seat. Contracts see it as its number of places.
 #[derive(Drop)]
 pub struct HeldRoom {
     places: usize,

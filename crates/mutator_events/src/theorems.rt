@@ -1,5 +1,5 @@
-//! What the clauses of a seat's calls come to, for any client: the contracts of functions that do
-//! nothing.
+//! What follows from the clauses of a seat's calls, for any client: the contracts of functions that
+//! do nothing.
 ghost use Rattle.cell_words.specs.Term.{Term, part};
 ghost use Rattle.cell_words.specs.declared.fields.Field.{Field};
 ghost use Rattle.core_machine.specs.declared.events.Event.TheVariants as event;
@@ -15,8 +15,8 @@ ghost use Rattle.std.specs.Prelude.{ℕ, ◌≡◌};
 
 use heap_rule::Keeping;
 
-/// A read of a record whose term is known finds that part of the term: null, the number, or a record
-/// that is held at the next place and has that part for its term.
+/// A read of a record whose term is known finds that part of the term: null, the number, or a
+/// record that is held at the next place and has that part for its term.
 pub fn a_record_tells_its_parts<P: Keeping>()
     ensures { (v w : View P) (place f : ℕ) (t : Term) (next : Learned → Found → P → P)
         (found : Field) → MayRead v place f → known_of v place ≡ knows.Record t

@@ -1,4 +1,5 @@
--- Stretches follow one another: what was added and what was kept goes together.
+-- Stretches follow one another: what was added and what was kept goes together (`calm_then`; for
+-- the steps of a claim `paces_then` in Pacing).
 use Rattle.std.proofs.Common.{◌≡◌, ℕ, List, [], ◌∷◌, ◌++◌, None, refl, sym, ◌∙◌, ap, subst}
 use Rattle.std.proofs.lemmas.List.{append-nil, append_assoc, append_cancel_left}
 use Rattle.core_machine.specs.declared.events.Event.{Event}

@@ -1,4 +1,9 @@
 -- A write of a box: what it needs, and what it tells.
+--
+-- The caller cannot know the mode, the marks and the trail at the write: so its condition on the
+-- pass ranges over every view after the look and the marks. That the places are as before
+-- (`SamePlaces`) and which pass was picked is told with the write, so that no client has to derive
+-- it.
 -- Source: this project's.
 use Rattle.std.specs.Prelude.{ℕ, ◌≡◌, ◌<◌, ◌≤◌, ◌^◌, Bool, true, List, [], ◌∷◌, ◌++◌, length}
 use Rattle.std.specs.Prelude.{nat_lt}

@@ -1,6 +1,7 @@
 //! Trying cells: that of a hint, one, or every cell in turn.
 //!
-//! One look serves many tries, since a try that misses leaves it.
+//! One look serves many tries, since a try that misses leaves it. A hint that lies outside of the
+//! heap is passed over at run time, so a claim asks nothing of the queue.
 ghost use Rattle.std.specs.Prelude.{◌≡◌, ◌<◌, ◌≤◌, ◌+◌, ◌∷◌, ◌++◌, [], true};
 ghost use Rattle.std.specs.Prelude.{IfNone, IfSome, Some, length};
 ghost use Rattle.mutator_seat.specs.Bound.{IsBound, bound, held_cells};

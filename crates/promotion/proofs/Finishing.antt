@@ -1,5 +1,5 @@
 -- The ends of promotion and of a collection: what stays held, and where a claim found the heap
--- full.
+-- full. That nothing is marked between two calls is the promoter's invariant (specs/Ready).
 use Rattle.std.proofs.Common.{◌≡◌, ◌<◌, ◌≤◌, ◌+◌, ◌⊎◌, ℕ, zero, suc, List, [], ◌∷◌, ◌++◌, All, length}
 use Rattle.std.proofs.Common.{map, take, drop, refl, sym, ◌∙◌, ap, subst, arith, inl, inr, ⊎_elim}
 use Rattle.std.proofs.Common.{length-append, true}
