@@ -37,7 +37,7 @@ fn store_seven(heap: &CellHeap<NoRule>, seat: &mut MutSeat<NoRule>) -> Value
     found
 }
 
-/// The same where nothing is to be marked, and else nothing.
+/// The same where nothing is to be marked, and nothing otherwise.
 fn store_if_free(
     heap: &CellHeap<NoRule>,
     seat: &mut MutSeat<NoRule>,

@@ -28,8 +28,8 @@ pub(crate) fn begun(seat: &ColSeat<NoRule>) -> Option<u32>
     }
 }
 
-/// A heap of three boxes. The anchor names cell 2, then cell 1, then cell 2 again, with a number and
-/// a null between them.
+/// A heap of three boxes. The anchor names cell 2, then cell 1, then cell 2 again, with a number
+/// and a null between them.
 pub(crate) fn open_family(
     alloc: Global,
 ) -> Result<(CellHeap<NoRule>, ColSeat<NoRule>, MutSeat<NoRule>), NoMemory>

@@ -1,4 +1,4 @@
-//! What a scan in one call comes to, which was worked out by hand.
+//! What a scan in one call leaves, which was worked out by hand.
 
 use crate::scanning::{first_scan, open_family};
 use crate::unlinked::close_one;

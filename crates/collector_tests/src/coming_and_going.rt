@@ -1,5 +1,5 @@
-//! Mutators that come in and go out again beside a collector that serves, one that never comes in,
-//! and one whose seat is never split off. What is asserted stands on every schedule.
+//! Mutators that come in and go out again while a collector serves, one that never comes in, and
+//! one whose seat is never split off. What is asserted holds on every schedule.
 ghost use Rattle.std.specs.Prelude.{◌≡◌, ◌≤◌, IfOk};
 ghost use Rattle.collector_tests.specs.Away.{IsAway};
 ghost use Rattle.collector_tests.specs.Seats.{IsIdle, IsOut, IsOver};
@@ -138,10 +138,10 @@ fn both_come_and_go<R: Threads + Wait + Sync>(
     )
 }
 
-/// What a run comes to: how many records were made and how many cells were freed.
+/// The outcome of a run: how many records were made and how many cells were freed.
 type Counts = (u64, u64);
 
-/// The collector goes on duty and serves beside both, whose seats are joined then.
+/// The collector goes on duty and serves alongside both, whose seats are joined then.
 fn serve_beside<R: Threads + Wait + Sync>(
     rt: &R,
     heap: &CellHeap<NoRule>,
@@ -200,7 +200,7 @@ fn open_three_hints<R: Wait>(
     Ok((queue, pass, other, third))
 }
 
-/// Beside the two the third stays out and is over behind them, and the last one has no seat. How
+/// Alongside the two the third stays out and is over after them, and the last one has no seat. How
 /// many cycles there were, whether the collector is on duty, and whether as many cells are in use
 /// as were made and not freed.
 fn beside_some_who_stay_out<R: Threads + Wait + Sync>(

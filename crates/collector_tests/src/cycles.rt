@@ -67,7 +67,7 @@ fn claimed_with<R: Wait>(
     Ok((image.colour(1), image.colour(2)))
 }
 
-/// The same with the hint of a free cell, of the anchor, of a cell behind the last, and with none.
+/// The same with the hint of a free cell, of the anchor, of a cell past the last, and with none.
 fn claimed_with_each<R: Wait>(alloc: Global, rt: &R) -> Result<[(Colour, Colour); 4], NoMemory> {
     Ok([
         claimed_with(alloc, rt, Some(2))?,

@@ -1,7 +1,7 @@
 //! Whole cycles on a heap of words: what the reports of cycles count, worked out by hand; cycles
-//! beside a mutator that is out; and mutators that claim on threads of their own beside a collector
-//! that serves, or come in and go out again beside it; and where the collector sleeps, and where it
-//! may not.
+//! while a mutator is out; and mutators that claim on threads of their own while a collector
+//! serves, or come in and go out again meanwhile; and where the collector sleeps, and where it may
+//! not.
 //!
 //! Reading order: `heaps`, `collecting`, `mutating`, `watching`; `cycles`, `who_is_out`, `threads`,
 //! `coming_and_going`, `sleeping`, `running`.

@@ -80,8 +80,8 @@ pub(crate) fn make_all<R: Wait>(
     made
 }
 
-/// Makes a record, of the hint's cell if that is free, and drops it. It gives how many cells it got:
-/// one, or none.
+/// Makes a record, of the hint's cell if that is free, and drops it. It gives how many cells it
+/// got: one, or none.
 fn make_one<R: Wait>(
     rt: &R,
     heap: &CellHeap<NoRule>,
@@ -104,7 +104,7 @@ fn make_one<R: Wait>(
     }
 }
 
-/// What claims came to until one was refused: how many cells were got, and the refusal.
+/// The outcome of claims until one was refused: how many cells were got, and the refusal.
 #[derive(Clone, Copy)]
 pub(crate) struct Claims {
     pub got: u32,

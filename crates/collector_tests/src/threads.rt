@@ -1,5 +1,5 @@
-//! Mutators on threads of their own, beside a collector that serves. What is asserted stands on
-//! every schedule.
+//! Mutators on threads of their own, while a collector serves. What is asserted holds on every
+//! schedule.
 ghost use Rattle.std.specs.Prelude.{◌≡◌, ◌≤◌};
 ghost use Rattle.collector_tests.specs.Seats.{IsIdle, IsOut, IsOver};
 ghost use Rattle.core_machine.specs.State.{greatest_cycles};
@@ -47,7 +47,7 @@ fn drop_all<R: Wait + Clock>(
     made
 }
 
-/// The same, and when it comes to its end, by one who watches it.
+/// The same, and when it ends, by one who watches it.
 fn drop_watched<R: Threads + Wait + Clock + Sync>(
     rt: &R,
     heap: &CellHeap<NoRule>,
@@ -73,8 +73,8 @@ fn drop_watched<R: Threads + Wait + Clock + Sync>(
     )
 }
 
-/// The collector serves on duty, unbroken or on demand, beside a mutator that a thousand times
-/// makes a record and drops it.
+/// The collector serves on duty, unbroken or on demand, while a mutator a thousand times makes a
+/// record and drops it.
 fn drop_beside<R: Threads + Wait + Clock + Sync>(
     rt: &R,
     heap: &CellHeap<NoRule>,
@@ -150,7 +150,7 @@ fn one_who_claims_in_vain_wakes_the_collector_and_goes_on(rt: HostRuntime) -> Re
     Ok(())
 }
 
-/// The collector serves on duty, beside a mutator that claims until it is refused.
+/// The collector serves on duty, while a mutator claims until it is refused.
 fn claim_beside<R: Threads + Wait + Sync>(
     rt: &R,
     heap: &CellHeap<NoRule>,
@@ -185,7 +185,7 @@ fn claim_beside<R: Threads + Wait + Sync>(
     )
 }
 
-/// Of the refusal: whether it found the collector off duty, and whether it came behind two whole
+/// Of the refusal: whether it found the collector off duty, and whether it came after two whole
 /// cycles.
 fn refusal(claims: Claims) -> Option<(bool, bool)> {
     let full = claims.full?;
@@ -193,7 +193,7 @@ fn refusal(claims: Claims) -> Option<(bool, bool)> {
     Some((full.off_duty, behind.is_some_and(|cycles| cycles >= 2)))
 }
 
-/// What its claims came to, and how many cells are blue in the end.
+/// The outcome of its claims, and how many cells are blue in the end.
 fn filled<R: Threads + Wait + Sync>(alloc: Global, rt: &R) -> Result<(Claims, u32), NoMemory> {
     let stack = MarkStack::with_room(alloc, 8)?;
     let (queue, pass, other) = open_hints(alloc, rt, CELLS, 1)?;
@@ -213,7 +213,7 @@ fn a_full_heap_is_refused_behind_two_whole_cycles(rt: HostRuntime) -> Result<(),
     Ok(())
 }
 
-/// Two mutators claim until they are refused, beside each other.
+/// Two mutators claim until they are refused, concurrently.
 fn claim_both<R: Threads + Wait + Sync>(
     rt: &R,
     heap: &CellHeap<NoRule>,
@@ -243,7 +243,7 @@ fn claim_both<R: Threads + Wait + Sync>(
     )
 }
 
-/// What the claims of both came to, and how many cells are blue in the end.
+/// The outcome of the claims of both, and how many cells are blue in the end.
 fn shared<R: Threads + Wait + Sync>(
     alloc: Global,
     rt: &R,

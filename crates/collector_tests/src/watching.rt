@@ -1,5 +1,5 @@
-//! Whether a thread comes to its end. One that waits for demand in vain is woken after a bound,
-//! so that each row ends, and says `Late`.
+//! Whether a thread ends. One that waits for demand in vain is woken after a bound, so that each
+//! row ends, and says `Late`.
 use free_cells::{FreeQueue, Hints};
 use std::sync::Wait;
 use std::sync::atomic::{AtomicBool, Ordering};
@@ -15,7 +15,7 @@ pub(crate) const QUIET: u64 = 20;
 /// More numbers than any queue of these tests holds.
 const MANY: u32 = 100;
 
-/// When a thread came to its end.
+/// When a thread ended.
 #[derive(Clone, Copy, Debug, PartialEq, Eq)]
 pub(crate) enum End {
     /// before it was time
@@ -45,7 +45,7 @@ fn wake<R: Wait>(rt: &R, queue: &FreeQueue, hints: &mut Hints<'_>) {
     }
 }
 
-/// When a thread comes to its end that sets this word there.
+/// When a thread ends that sets this word there.
 pub(crate) fn watch<R: Wait + Clock>(
     rt: &R,
     queue: &FreeQueue,

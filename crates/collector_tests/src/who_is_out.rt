@@ -1,5 +1,5 @@
-//! Cycles beside a mutator that is out and not over: the collector answers for it, or a handshake
-//! would not end.
+//! Cycles while a mutator is out and not over: the collector answers for it, or a handshake would
+//! not end.
 ghost use Rattle.std.specs.Prelude.{◌≡◌};
 ghost use Rattle.collector_tests.specs.Seats.{IsIdle, IsOut, IsOver};
 ghost use Rattle.free_cells.specs.Hints.{cells_of as hinted_of};
@@ -18,7 +18,7 @@ use std::alloc::Global;
 use std::sync::Wait;
 use std::test::Fail;
 
-/// A cycle beside a mutator that comes in only to go out again, and is over behind the cycle.
+/// A cycle alongside a mutator that comes in only to go out again, and is over after the cycle.
 fn collect_beside<R: Wait>(
     rt: &R,
     heap: &CellHeap<NoRule>,

@@ -4,7 +4,7 @@ use Rattle.std.proofs.Common.{add-one, ap, arith}
 use Rattle.core_machine.specs.State.{State, field_of}
 use Rattle.core_replay.specs.ReplayText.{field_text, fields_text}
 
--- the first fields, each behind a space
+-- the first fields, each after a space
 abbrev pub first_fields : State → ℕ → ℕ → List ℕ
 first_fields s c zero = []
 first_fields s c (suc i) = first_fields s c i ++ (codes " " ++ field_text (field_of s c i))

@@ -1,5 +1,5 @@
--- What the loop over the lines of a schedule keeps: the steps read so far, and behind them those of
--- the lines that are left, are those of the whole schedule.
+-- What the loop over the lines of a schedule keeps: the steps read so far, followed by those of the
+-- lines that are left, are those of the whole schedule.
 use Rattle.std.proofs.Common.{append-nil, ◌≡◌, ℕ, ◌+◌, ◌<◌, ◌≤◌, List, [], ◌∷◌, ◌++◌, length, drop}
 use Rattle.std.proofs.Common.{get_or, subst, Option, Some, None, Result, Ok, Err, refl, sym, ap}
 use Rattle.std.proofs.Common.{◌∙◌, arith, append_assoc, add-one}

@@ -23,7 +23,7 @@ one_lead p (Take e) one other is also = is ∙ sym also
 one_lead p Plain one other is also = one_end one other p is also
 one_lead p (Show c) one other is also = is ∙ sym also
 
--- and so one text is written from an outcome on, if it is so for the steps behind it
+-- and so one text is written from an outcome on, if it is so for the steps after it
 one_on : (line : ℕ) (outcome : Outcome) (Later : Standing → List ℕ → Standing → Type 0)
     (one other : List ℕ) (last end : Standing)
     → ((p : Standing) (rest more : List ℕ) → Later p rest last → Later p more end → (rest ≡ more)

@@ -1,5 +1,5 @@
 -- A schedule with sizes that a core can have has a replay text: turns leave less to do, so they
--- come to an end.
+-- end.
 use Rattle.std.proofs.Common.{if◌then◌else◌, ◌≡◌, ◌<◌, ◌+◌, ℕ, zero, suc, Bool, true, false}
 use Rattle.std.proofs.Common.{nat_lt, List, [], ◌∷◌, ◌++◌, Option, Some}
 use Rattle.std.proofs.Common.{None, Ok, IsTrue, refl, sym, subst, arith}
@@ -86,7 +86,7 @@ ahead_with : (p : Standing) (plain : Option Event) → IsReplayed p.core
 ahead_with p None kept is = subst (Ahead p) (sym (turn_without p is)) kept
 ahead_with p (Some e) kept is = ahead_plain p e (looked p (look_before e)) kept is refl
 
--- The turns come to an end.
+-- The turns end.
 
 abbrev SomeEnd : Standing → Type 0
 SomeEnd p = (outcome : Outcome) × PlainLeads outcome p × EndKept outcome

@@ -1,4 +1,6 @@
--- A turn that goes on leaves less to do: dlg_core has that of the plain collector's events.
+-- A turn that goes on leaves less to do: dlg_core has that of the plain collector's events. The
+-- number that falls is `left` of its specs/Left, which goes on to the end of the cycle. That a
+-- Blacken leaves a cell less rests on a fact of the core's invariant: the cell under scan is gray.
 use Rattle.std.proofs.Common.{◌≡◌, ℕ, ◌+◌, ◌^◌, ◌≤◌, Bool, true, false, length}
 use Rattle.std.proofs.Common.{Option, Some, None, refl, sym, subst, arith}
 use Rattle.std.proofs.lemmas.Nat.{mul-le}

@@ -1,4 +1,4 @@
--- How the result of the reader stands to the definition: equal, but for want of memory.
+-- How the result of the reader relates to the definition: equal, unless out of memory.
 -- Source: this project's.
 use Rattle.std.specs.Prelude.{◌≡◌, Result, Ok, Err}
 use Rattle.core_replay.specs.ScheduleValue.{ScheduleValue}

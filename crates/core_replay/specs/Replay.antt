@@ -28,7 +28,7 @@ Leads p (Take e) outcome = outcome ≡ after_event p (taken_by p e)
 Leads p Plain outcome = PlainLeads outcome p
 Leads p (Show c) outcome = outcome ≡ shown p c
 
--- what is written from an outcome on, where the steps behind it write as the last relation says
+-- what is written from an outcome on, where the steps after it write as the last relation says
 abbrev pub WritesOn : ℕ → Outcome → (Standing → List ℕ → Type 0) → List ℕ → Standing → Type 0
 WritesOn line (Stopped p) Later text last = (text ≡ not_now_line line) × (last ≡ p)
 WritesOn line (Went written p) Later text last = (rest : List ℕ) × (text ≡ written ++ rest)

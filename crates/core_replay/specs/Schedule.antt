@@ -30,7 +30,7 @@ with_line number sizes (Ok (Next step)) later =
     with_step (record { line = number; step = step }) (later sizes)
 with_line number sizes (Err kind) later = Err (record { line = number; kind = kind })
 
--- behind the last line
+-- after the last line
 abbrev pub ended : Option Sizes → Result ScheduleValue ScheduleFault
 ended None = Err (record { line = 1; kind = NoStart })
 ended (Some sizes) = Ok (record { sizes = sizes; steps = [] })

@@ -19,7 +19,7 @@ abbrev pub at_end : {A : Type 0} → List ℕ → A → Result A ScheduleKind
 at_end [] part = Ok part
 at_end (byte ∷ bytes) part = Err Extra
 
--- the three sizes behind the word `core`
+-- the three sizes after the word `core`
 abbrev pub sizes_in : List ℕ → Result Sizes ScheduleKind
 sizes_in rest =
     let after_cells = next_rest_of rest in

@@ -1,4 +1,4 @@
--- The lines of a schedule behind the first: events, and what else a line may ask for.
+-- The lines of a schedule after the first: events, and what else a line may ask for.
 --
 -- Words are looked at from the left to the right, and the first at fault counts.
 -- Source: this project's.

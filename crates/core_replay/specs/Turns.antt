@@ -33,13 +33,13 @@ abbrev pub looked : Standing → Option Event → Option Standing
 looked p None = Some p
 looked p (Some look) = taken_by p look
 
--- behind an event that posts or does not, where it could happen
+-- after an event that posts or does not, where it could happen
 abbrev pub turned : Bool → Standing → Option Standing → Turn
 turned posts p None = Ends (Stopped p)
 turned true p (Some q) = Ends (Went [] q)
 turned false p (Some q) = GoesOn q
 
--- the event, behind the look before it
+-- the event, after the look before it
 abbrev pub turn_with : Event → Standing → Option Standing → Turn
 turn_with e p None = Ends (Stopped p)
 turn_with e p (Some q) = turned (is_post e) q (taken_by q e)

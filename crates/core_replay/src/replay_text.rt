@@ -19,7 +19,7 @@ pub(crate) fn cell_line(alloc: Global, core: &Core, cell: u32) -> Result<String,
     format!(in alloc; "cell {cell} {colour}{fields} freed {freed}\n")
 }
 
-// The fields of the cell, each behind a space.
+// The fields of the cell, each after a space.
 fn fields_said(alloc: Global, core: &Core, cell: u32) -> Result<String, NoMemory>
     requires { cell < core.now.cells }
     ensures { IfOk result (λ text. string_bytes text ≡ codes " " ++ fields_text core.now cell) }

@@ -20,7 +20,7 @@ pub(crate) enum Single {
     Show,
 }
 
-/// A step with other words behind the first.
+/// A step with other words after the first.
 #[derive(Clone, Copy)]
 pub(crate) enum Verb {
     Read,

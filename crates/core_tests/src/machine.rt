@@ -182,7 +182,7 @@ fn pending_after(machine: &mut Machine, events: &[Event]) -> (usize, Option<Pend
     (count, machine.pending(0), machine.field(0, 3))
 }
 
-/// What is begun and stored behind a fetch, behind a look, and behind the store.
+/// What is begun and stored after a fetch, after a look, and after the store.
 fn stored(alloc: Global) -> Result<[(usize, Option<Pending>, Field); 3], NoMemory> {
     let mut machine = opened(alloc, 2, 1, 4)?;
     Ok([
@@ -234,7 +234,7 @@ fn held_after(machine: &mut Machine, events: &[Event]) -> (usize, usize, [u32; 5
     (count, machine.held_len(0), cells)
 }
 
-/// What is held behind a `Keep` of three places and two of them, and behind one that keeps one of
+/// What is held after a `Keep` of three places and two of them, and after one that keeps one of
 /// these and two from among the others.
 fn kept(alloc: Global) -> Result<[(usize, usize, [u32; 5]); 2], NoMemory> {
     let mut machine = opened(alloc, 3, 1, 5)?;

@@ -84,8 +84,8 @@ const CLAIMING: [Event; 4] = [
     Event::Seal(0, 1, Kind::Record),
 ];
 
-/// How a run that claims a cell and the end of that operation went, and behind each whether the
-/// cell is reachable; between them what was held.
+/// How a run that claims a cell and the end of that operation went, and after each whether the cell
+/// is reachable; between them what was held.
 #[derive(Clone, Copy, Debug, PartialEq, Eq)]
 struct Claimed {
     run: Result<(), NotNowAt>,
@@ -147,7 +147,7 @@ fn a_cycle_begins_with_a_post(rt: HostRuntime) -> Result<(), Fail> {
     Ok(())
 }
 
-/// What a run of the events ends with, the stage behind it, and whether the mutator may then begin
+/// What a run of the events ends with, the stage after it, and whether the mutator may then begin
 /// again.
 type Stopped = (Result<(), NotNowAt>, Stage, Result<(), NotNow>);
 

@@ -30,8 +30,9 @@ fn main(rt: HostRuntime) -> ExitCode {
 }
 
 // Has the C library keep what is freed. It hands the system back each freed block above a size, at
-// first 128 KiB, which rises with the largest block that it handed back so far; and memory that the
-// system gives anew costs a fault a page. So a large block of which no byte is touched is freed.
+// first 128 KiB, which rises with the largest block that it handed back so far; and memory that it
+// gets from the system again costs a fault a page. So a large block of which no byte is touched is
+// freed.
 fn keep_freed_memory(rt: &HostRuntime) {
     let _block: Result<Vec<u8>, _> = Vec::with_capacity(rt.alloc(), KEPT);
 }
@@ -53,12 +54,12 @@ fn run_on_devices<R: Threads + Wait + Sync>(rt: &HostRuntime, threads: &R) -> Op
         &OpenGate,
     );
     let fault = outcome.fault;
-    // The process ends next, and all its memory with it: what the run came to is not taken apart.
+    // The process ends next, and all its memory with it: the outcome is not taken apart.
     forget(outcome);
     final_fault(fault, sink.finish())
 }
 
-// The words behind the program's name. One that is no text is a faulty command line.
+// The words after the program's name. One that is no text is a faulty command line.
 fn own_words(rt: &HostRuntime) -> Result<Words, Fault> {
     let all = match env::args(rt) {
         Ok(all) => all,

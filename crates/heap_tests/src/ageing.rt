@@ -123,7 +123,7 @@ fn make_chain(heap: &mut MinorHeap) -> Result<MinorRef, MinorFull>
     heap.make([Null, Null, Null, Null, Minor(r2)])
 }
 
-/// How many records stand behind an ageing of one, and how many are counted as aged.
+/// How many records stand after an ageing of one, and how many are counted as aged.
 fn age_one(nursery: &mut AgedNursery, number: u32) -> Option<(u32, u32)>
     requires { nursery.old.heap.room ≡ nursery.old.records }
     ensures records { nursery.new.records ≡ nursery.old.records }

@@ -8,7 +8,7 @@ use std::sync::Wait;
 use std::test::Fail;
 
 /// Three that are taken, four that are put, and one that is then taken; and how many numbers there
-/// are before, between and behind these.
+/// are before, between and after these.
 #[derive(Clone, Copy, Debug, PartialEq, Eq)]
 struct InOrder {
     first: usize,

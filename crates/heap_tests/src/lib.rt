@@ -1,4 +1,4 @@
-//! What no clause says of the crates beside the shared heap: each public call on its happy path,
+//! What no clause says of the crates around the shared heap: each public call on its happy path,
 //! rows that were worked out by hand, threads that share a queue of hints, and one that sleeps.
 //!
 //! Reading order: `hints`, `threads`, `missing`, `sleeping`, `records`, `ageing`.

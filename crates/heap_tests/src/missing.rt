@@ -20,7 +20,7 @@ const ROUNDS: u32 = 500;
 /// out depends on where they run.
 const PAIRS: u32 = 20;
 
-/// How often is looked without a pause whether a thread has come to a round.
+/// How often is looked without a pause whether a thread has reached a round.
 const TURNS: u32 = 2_000;
 
 /// And how often then, with a millisecond between two looks.

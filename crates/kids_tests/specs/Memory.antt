@@ -54,7 +54,7 @@ pub record IsSound (held : List Holding) (capacity : ℕ) : Type 0 where
   pub count : length held ≤ 4000
   pub taken : 4000 ≤ capacity
 
--- What the pool shows beside its entries.
+-- What the pool shows besides its entries.
 
 abbrev pub says : List Entries → ℕ → DocTree
 says trees c = leaf c

@@ -1,5 +1,10 @@
 //! Entries in memory, as a pool for kids_avl. An entry is named by its place among all that were
 //! made, and a child is a number.
+//!
+//! Contracts see it as the list of the trees of its entries, the oldest first: what a clause of the
+//! trait says of an entry is said of an element. The clauses of `make` and `make_like` are written
+//! out, since the toolchain does not give the trait's to a method that takes an `Option` of an
+//! associated type.
 ghost use Rattle.std.specs.Prelude.{◌≡◌, ◌+◌, ◌-◌, ◌≤◌, ◌<◌, ◌++◌, ◌∷◌, [], IfOk, length};
 ghost use Rattle.doc_tree.specs.Tree.{IsRising};
 ghost use Rattle.kids_avl.specs.Entries.{entry, name_of, kids_of};

@@ -78,7 +78,7 @@ fn children(document: &mut Document, alloc: Global, names: &str) -> Result<Optio
 
 type Sizes = (u64, u32);
 
-/// The sizes behind a put at `a/b`, and whether both texts are found behind one at `a`.
+/// The sizes after a put at `a/b`, and whether both texts are found after one at `a`.
 fn put_two(document: &mut Document, alloc: Global) -> Result<(Sizes, [Option<bool>; 2]), Unmade> {
     put(document, alloc, "a/b", "x")?;
     let sizes = document.sizes();
@@ -153,7 +153,7 @@ fn put_all(document: &mut Document, alloc: Global) -> Result<(), Unmade> {
     Ok(())
 }
 
-/// What a put of a 257th name meets, the sizes before it, and behind it how many records a put at
+/// What a put of a 257th name meets, the sizes before it, and after it how many records a put at
 /// the first name makes, and the sizes.
 fn put_many(
     document: &mut Document,

@@ -1,5 +1,5 @@
--- The text that a run writes: of the clients' logs, each in the form of its script, and behind them
--- of the merged history and of the totals, where they are asked for.
+-- The text that a run writes: the clients' logs, each in the form of its script, then the merged
+-- history and the totals, where they are asked for.
 -- Source: this project's own.
 use Rattle.std.specs.Prelude.{◌≡◌, ℕ, Bool, true, false, List, [], ◌∷◌, ◌++◌, codes, drop}
 use Rattle.std.specs.Prelude.{flat_map}
@@ -40,7 +40,7 @@ entries_text_of entries = flat_map history_text_of entries
 abbrev pub history_of : List Entry → List ℕ
 history_of merged = codes "history\n" ++ entries_text_of merged
 
--- a text got the merged history of the logs behind it, where that is asked for
+-- the merged history of the logs was added to a text, where it is asked for
 abbrev pub AddsHistory : Bool → List ClientLog → List ℕ → List ℕ → Type 0
 AddsHistory true logs old new =
     (merged : List Entry) × IsMerge logs merged × (new ≡ old ++ history_of merged)

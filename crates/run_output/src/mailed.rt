@@ -8,8 +8,8 @@ use mail_rule::Item;
 use std::alloc::Global;
 
 /// The lines of a run of a mailbox: for each sender what its lines were answered, a position or
-/// that the heap was full, and behind them the items in the order of their positions. Senders are
-/// numbered from 1.
+/// that the heap was full, then the items in the order of their positions. Senders are numbered
+/// from 1.
 pub fn mailed_text(
     alloc: Global,
     sent: &[Vec<Option<u64>>],

@@ -8,7 +8,7 @@ use cmd_text::{Form, add_reply, heading_line, history_line, stats_lines};
 use doc_model::{Entry, Log, NoMemory, Totals, merge};
 use std::alloc::Global;
 
-/// What is written behind the replies.
+/// What is written after the replies.
 #[derive(Clone, Copy, Debug, PartialEq, Eq)]
 pub struct Shown {
     /// the merged history
@@ -18,7 +18,7 @@ pub struct Shown {
 }
 
 /// The lines that are written of a run: for each client its replies, with their texts in the form
-/// of its script, and behind them what is asked for.
+/// of its script, then what is asked for.
 #[tactic(auto, using(crate::proofs::Parts::parts))]
 pub fn output_text(
     alloc: Global,
@@ -49,7 +49,7 @@ fn logs_text(alloc: Global, logs: &[Log], forms: &[Form]) -> Result<Vec<u8>, NoM
     Ok(text)
 }
 
-// The first of the forms, and those behind it.
+// The first of the forms, and those after it.
 fn first_form(forms: &[Form]) -> (Form, &[Form])
     ensures first { result.0 ≡ first_form_of forms.now }
     ensures others { result.1.now ≡ drop 1 forms.now }

@@ -1,4 +1,4 @@
--- A list's first element, and those behind it as the code takes them.
+-- A list's first element, and those after it as the code takes them.
 use Rattle.std.proofs.Common.{◌≡◌, ◌-◌, ◌≤◌, List, [], ◌∷◌, length, take}
 use Rattle.std.proofs.Common.{drop, get_or, take_all}
 use Rattle.std.proofs.Common.{refl, arith}

@@ -1,7 +1,7 @@
--- The commands that read the words behind each subcommand, as `clap` sees them: simple ones, whose
+-- The commands that read the words after each subcommand, as `clap` sees them: simple ones, whose
 -- reading of words is `clap`'s own statement.
 --
--- The names of options and flags are those that are written, behind two hyphens; the names of the
+-- The names of options and flags are those that are written after two hyphens; the names of the
 -- others stand in no text. No word asks for help or for a version.
 -- Source: the rules are those of `clap`; which words there are is this project's own.
 use Rattle.std.specs.Prelude.{ℕ, true, List, [], ◌∷◌, Some, codes}
@@ -10,7 +10,7 @@ use Rattle.clap.specs.Simple.{on_top}
 use Rattle.clap.specs.declared.builder.action.ArgAction.TheVariants.{Append, Set, SetTrue}
 use Rattle.clap.specs.declared.builder.value_parser.ValueParser.TheVariants.{Unsigned}
 
--- a number behind its name, in these ends
+-- a number after its name, in these ends
 abbrev pub option_rule : Text → ℕ → ℕ → Rule
 option_rule name least most = record (new_rule name) {
   long = Some name;

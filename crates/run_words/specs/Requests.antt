@@ -1,6 +1,6 @@
 -- What the words of a command line ask for.
 --
--- The first word is the subcommand, compared byte for byte. The words behind it ask for something
+-- The first word is the subcommand, compared byte for byte. The words after it ask for something
 -- exactly where the subcommand's command takes them, by `clap`'s own statement for a simple
 -- command, and then for what that finds in them. Two conditions are the program's own: the script
 -- that is printed is one of those that are made, and a run has a file. (No command line reaches the
@@ -110,24 +110,24 @@ if_some_mail mail = if_of_files mail.files mail
 abbrev pub read_by : {A : Type 0} → App → (List Row → Option A) → List Text → Option A
 read_by app reading words = taken (fault_of app words) (reading (matches_of app words))
 
--- the words behind `run`
+-- the words after `run`
 abbrev pub run_of : List Text → Option RunAsked
 run_of words = read_by run_app (λ rows. if_some_file (run_found rows)) words
 
--- the words behind `image`
+-- the words after `image`
 abbrev pub image_of : List Text → Option RunAsked
 image_of words = read_by image_app (λ rows. if_some_file (run_with false false rows)) words
 
--- the words behind `dump`: the names of the files
+-- the words after `dump`: the names of the files
 abbrev pub dump_of : List Text → Option (List Text)
 dump_of words =
     read_by dump_app (λ rows. if_some_name (names_in (all_of (codes "file") rows))) words
 
--- the words behind `mail`
+-- the words after `mail`
 abbrev pub mail_of : List Text → Option MailAsked
 mail_of words = read_by mail_app (λ rows. if_some_mail (mail_found rows)) words
 
--- the words behind a subcommand of this name that takes one file: the file's name
+-- the words after a subcommand of this name that takes one file: the file's name
 abbrev pub file_of : Text → List Text → Option Text
 file_of subcommand words =
     read_by (file_app subcommand) (λ rows. first_of (codes "file") rows) words
@@ -156,11 +156,11 @@ gen_found rows =
     (number_in (one_of (codes "clients") rows)))
     (number_in (one_of (codes "start") rows))
 
--- the words behind `gen`
+-- the words after `gen`
 abbrev pub gen_of : List Text → Option GenWords
 gen_of words = read_by gen_app gen_found words
 
--- what a first word and those behind it ask for
+-- what a first word and those after it ask for
 abbrev pub request_behind : Text → List Text → Option Asked
 request_behind word words =
     cond (bytes_eq word (codes "run")) (option_map Run (run_of words))

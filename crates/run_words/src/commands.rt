@@ -1,4 +1,4 @@
-//! The commands of `clap` that read the words behind each subcommand.
+//! The commands of `clap` that read the words after each subcommand.
 //!
 //! None of them has subcommands, short options, or words for help and version.
 ghost use Rattle.clap.specs.Words.{app_of, rule_of};
@@ -66,7 +66,7 @@ fn with_shown<'a>(alloc: Global, command: Command<'a>) -> Result<Command<'a>, Al
         .arg(names(alloc, "file"))
 }
 
-/// The command of a subcommand that takes one file.
+/// The command of each subcommand that takes one file.
 pub(crate) fn file_command<'a>(
     alloc: Global,
     subcommand: &'a str,
@@ -97,7 +97,7 @@ fn bare_command<'a>(alloc: Global, name: &'a str) -> Command<'a>
         .disable_version_flag(true)
 }
 
-// A number behind its name.
+// A number after its name.
 fn option<'a>(alloc: Global, name: &'a str, limits: Limits) -> Arg<'a>
     ensures rule { rule_of result ≡ option_rule name.entry.now limits.least limits.most }
     ensures own { result.global ≡ false }

@@ -25,7 +25,7 @@ use crate::values::{flag, matches_on, name, names, number, number_or};
 use clap::ArgMatches;
 use std::alloc::{AllocError, Global};
 
-/// What the words behind the program's name ask for.
+/// What the words after the program's name ask for.
 pub fn read_words<'a>(alloc: Global, words: &'a [String]) -> Result<Request<'a>, WordsFault>
     ensures request { Gives asked_by result
         (request_of (map string_bytes words.entry.now)) }
@@ -37,7 +37,7 @@ pub fn read_words<'a>(alloc: Global, words: &'a [String]) -> Result<Request<'a>,
     }
 }
 
-// What a first word and those behind it ask for.
+// What a first word and those after it ask for.
 fn read_behind<'a>(
     alloc: Global,
     word: &str,
@@ -148,7 +148,7 @@ fn gen_request<'a>(alloc: Global, words: &'a [String]) -> Result<Request<'a>, Wo
     }
 }
 
-// The words behind `run`.
+// The words after `run`.
 #[tactic(auto, using(crate::proofs::Ends::run_options))]
 fn run_words<'a>(alloc: Global, words: &'a [String]) -> Result<RunWords<'a>, WordsFault>
     ensures run { Gives run_asked_by result
@@ -167,7 +167,7 @@ fn run_words<'a>(alloc: Global, words: &'a [String]) -> Result<RunWords<'a>, Wor
     }
 }
 
-// The words behind `image`.
+// The words after `image`.
 #[tactic(auto, using(crate::proofs::Ends::image_options))]
 fn image_words<'a>(alloc: Global, words: &'a [String]) -> Result<RunWords<'a>, WordsFault>
     ensures run { Gives run_asked_by result
@@ -221,7 +221,7 @@ fn some_file(run: RunWords<'_>) -> Result<RunWords<'_>, WordsFault>
     Ok(run)
 }
 
-// The words behind `dump`.
+// The words after `dump`.
 fn dump_words<'a>(alloc: Global, words: &'a [String]) -> Result<Vec<&'a str>, WordsFault>
     ensures names { Gives names_by result (dump_of (map string_bytes words.entry.now)) }
     ensures some { IfOk result (λ names. 1 ≤ length names.items) }
@@ -247,7 +247,7 @@ fn some_name(names: Vec<&str>) -> Result<Vec<&str>, WordsFault>
     Ok(names)
 }
 
-// The words behind `mail`.
+// The words after `mail`.
 #[tactic(auto, using(crate::proofs::Ends::mail_options))]
 fn mail_words<'a>(alloc: Global, words: &'a [String]) -> Result<MailWords<'a>, WordsFault>
     ensures mail { Gives mail_asked_by result (mail_of (map string_bytes words.entry.now)) }
@@ -290,7 +290,7 @@ fn some_sender(mail: MailWords<'_>) -> Result<MailWords<'_>, WordsFault>
     Ok(mail)
 }
 
-// The words behind a subcommand that takes one file.
+// The words after a subcommand that takes one file.
 fn file_words<'a>(
     alloc: Global,
     subcommand: &'a str,
@@ -306,7 +306,7 @@ fn file_words<'a>(
     }
 }
 
-// The words behind `gen`.
+// The words after `gen`.
 fn gen_words(alloc: Global, words: &[String]) -> Result<GenWords, WordsFault>
     ensures made { Gives (λ made. made) result
         (gen_of (map string_bytes words.now)) }

@@ -18,7 +18,7 @@ pub enum Request<'a> {
     /// The commands of the scripts in these files are answered, and the heap that they leave is
     /// written in place of the replies. It is asked for neither the history nor the totals.
     Image(RunWords<'a>),
-    /// The commands of the scripts in these files are answered, a client each, and beside them a
+    /// The commands of the scripts in these files are answered, a client each, and meanwhile a
     /// version is dumped.
     Dump(Vec<&'a str>),
     /// The heap in the file of this name is counted.

@@ -15,7 +15,7 @@ use Rattle.script_files.specs.InTurn.{with_first}
 use Rattle.script_files.specs.declared.fault.Fault.{Fault}
 use Rattle.script_files.specs.declared.fault.Fault.TheVariants.{TooLarge}
 
--- the first script and those behind it
+-- the first script and those after it
 front_parts : (commands : List Command) (others : Result (List (List Command)) Fault)
     (scripts : List (List Command)) → with_first commands others ≡ Ok scripts
     → (rest : List (List Command)) × (others ≡ Ok rest) × (scripts ≡ commands ∷ rest)

@@ -60,7 +60,7 @@ pub none_decided : (file before : ℕ) (old : List (List Command))
     → DecidesFrom file before [] (Ok tt) old old
 none_decided file before old = ([], sym (append-nil old), no_lists parse_script file before)
 
--- the first file could not be read, or is refused, or memory was wanting
+-- the first file could not be read, or is refused, or memory ran out
 pub first_decided : (place before : ℕ) (one : Option (List ℕ)) (told : List (Option (List ℕ)))
     (fault : Fault) (old new : List (List Command)) → DecidesFile place before (Err fault) one
     → DecidesFrom place before (one ∷ told) (Err fault) old new
@@ -68,7 +68,7 @@ first_decided place before one told fault old new is =
     refused_as OfScripts (sort_of fault) _ _ _ _
     (first_refused parse_script place before one told fault) (λ unread. tt) is
 
--- the first file is a script, which was added, and the others were gone over behind it
+-- the first file is a script, which was added, and then the others were gone over
 pub next_decided : (place before : ℕ) (one : Option (List ℕ)) (told : List (Option (List ℕ)))
     (commands : List Command) (result : Result (Unit {0}) Fault) (old new : List (List Command))
     → IsScriptIn place before one (Ok commands)
@@ -113,7 +113,7 @@ too_many_files most parse told many =
     let more : most < length some.0 = omega (arith, many, told_length told some.0 some.1) in
     (some.0, some.1, rw (lt-ltb most (length some.0) more) refl)
 
--- one of them was refused, or could not be read, or memory was wanting
+-- one of them was refused, or could not be read, or memory ran out
 pub one_refused : {A : Type 0} (most : ℕ) (grammar : Grammar) (parse : Parse A)
     (told : List (Option (List ℕ))) (fault : Fault) → length told ≤ most
     → Refused grammar (sort_of fault) (AreListsFrom parse 1 0 told (Err fault)) (Unit {0})

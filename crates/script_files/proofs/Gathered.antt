@@ -31,7 +31,7 @@ none_left grammar parse note text [] holds file before old notes none =
 none_left grammar parse note text (name ∷ names) holds file before old notes none =
     absurd (omega (arith, none))
 
--- the first file is a list, which was added, and the others were gone over behind it
+-- the first file is a list, which was added, and then the others were gone over
 next_gathered : {A N : Type 0} (grammar : Grammar) (parse : Parse A) (note : List ℕ → N)
     (file before : ℕ) (one : Option (List ℕ)) (told : List (Option (List ℕ))) (list : List A)
     (bytes : List ℕ) (result : Result (Unit {0}) Fault) (old new : List (List A))
@@ -57,7 +57,7 @@ next_gathered grammar parse note file before one told list bytes (Err fault) old
     (after_first parse file before one told list (Err fault) (bytes, is, reading))
     (λ unread. tt) others
 
--- the same in the terms of the code: the first name, and the rest of the names behind it
+-- the same in the terms of the code: the first name, and the rest of the names after it
 pub turn_gathered : {A N B : Type 0} (grammar : Grammar) (parse : Parse A) (note : List ℕ → N)
     (text : B → List ℕ) (names : List B) (otherwise : B) (bytes : List ℕ)
     (holds later : List ℕ → Option (List ℕ)) (file before : ℕ) (result : Result (Unit {0}) Fault)
@@ -92,7 +92,7 @@ turn_gathered {A} {N} grammar parse note text (one ∷ names) otherwise bytes ho
     (subst (λ rest. GathersFrom grammar parse note (file + 1) (before + count)
     (map later (map text rest)) result middle new middle_notes new_notes) all others)))))
 
--- the first file was refused, or could not be read, or memory was wanting
+-- the first file was refused, or could not be read, or memory ran out
 pub turn_refused : {A N B : Type 0} (grammar : Grammar) (parse : Parse A) (note : List ℕ → N)
     (text : B → List ℕ) (names : List B) (otherwise : B) (bytes : List ℕ)
     (holds : List ℕ → Option (List ℕ)) (file before : ℕ) (fault : Fault)

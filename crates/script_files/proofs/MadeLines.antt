@@ -188,7 +188,7 @@ path_two first second one two =
     (All-nil (λ name. is_name name ≡ true)))) in
     ap path_with whole ∙ path_yes (first ∷ second ∷ []) (and_from _ _ refl names)
 
--- What stands behind a command's word.
+-- What comes after a command's word.
 
 path_and_text : (path text : List ℕ) (names : List (List ℕ)) → IsSpaceless path
     → path_of path ≡ Some names → length text ≤ 4096
@@ -215,7 +215,7 @@ two_paths path other names others is is_other read read_other =
     let last = last_path other others is_other read_other in
     rw (word, rest, read, last) refl
 
--- the command's word, and what stands behind it
+-- the command's word, and what comes after it
 command_words : (word rest : List ℕ) → IsSpaceless word
     → command_of (word ++ 32 ∷ rest)
     ≡ and_then (ok_or (verb_of word) NoCommand) (λ verb. arguments_in Plain verb (32 ∷ rest))
@@ -336,7 +336,7 @@ line_parts first second one two =
     All-append IsLineByte first (32 ∷ second) one
     (All-cons IsLineByte 32 second (here 32 refl) two)
 
--- behind a command's word
+-- after a command's word
 line_front : (front rest : List ℕ) → list_all is_plain_byte front ≡ true → IsLine rest
     → IsLine (front ++ rest)
 line_front front rest plain is =

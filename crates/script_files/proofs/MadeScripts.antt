@@ -47,7 +47,7 @@ made_refused start commands client (suc more) before fault old new some is =
     (map Some (texts_from start commands (client + 1) more)) fault old new
     (of_text client before (generated_of start client commands) (Err fault) is)
 
--- the script of the first client was added, and the others were gone over behind it
+-- the script of the first client was added, and then the others were gone over
 pub made_more : (start commands client more before count : ℕ) (script : Vec Command Global)
     (result : Result (Unit {0}) Fault) (old middle : List (Vec Command Global))
     (new : List (List Command)) → count ≡ length script.items → 1 ≤ more
@@ -110,7 +110,7 @@ never start clients commands fault low few short all are =
     sym made.1 ∙ of_texts (texts_from start commands 1 clients) (Err fault) are in
     cc
 
--- memory was wanting
+-- memory ran out
 pub made_not : (start clients commands : ℕ) (fault : Fault) (old new : List (List Command))
     → start ≤ 2147483647 → clients ≤ 64 → commands ≤ 10000
     → clients * commands ≤ 100000

@@ -21,7 +21,7 @@ pub opens_more : (before middle now others : ℕ) → middle ≡ next_count befo
 opens_more before middle now others is more =
     (suc more.0, omega (arith, more.1), (λ some. omega arith), rw (sym is) more.3)
 
--- Which files were opened: lists, and one behind them.
+-- Which files were opened: lists, and one after them.
 
 -- no file was opened
 pub stops_none : {A : Type 0} (parse : Parse A) (file before opens : ℕ)

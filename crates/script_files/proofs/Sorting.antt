@@ -15,7 +15,7 @@ refused_as grammar OfWriting A B C D decided unread is = absurd is
 refused_as grammar OfMemory A B C D decided unread is = tt
 refused_as grammar OfSize A B C D decided unread is = decided is
 
--- where nothing is decided, and all is read, memory was wanting
+-- where nothing is decided, and all is read, memory ran out
 pub refused_wanting : (grammar : Grammar) (sort : Sort) (A B : Type 0) → (A → ⊥)
     → (sort ≡ OfReading → ⊥) → Refused grammar sort A B → sort ≡ OfMemory
 refused_wanting grammar OfWords A B decided read is = absurd is

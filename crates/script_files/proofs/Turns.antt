@@ -1,5 +1,5 @@
 -- One turn of the reading of several files, in the terms of the code: the first name, and the rest
--- of the names behind it.
+-- of the names after it.
 use Rattle.std.proofs.Common.{◌≡◌, ℕ, suc, ◌+◌, ◌-◌, ◌≤◌, List, [], ◌∷◌}
 use Rattle.std.proofs.Common.{Option, length}
 use Rattle.std.proofs.Common.{map, take, drop}

@@ -38,7 +38,7 @@ RefusesBytes bytes fault =
     ⊎ ((of_image : ImageFault) × (fault ≡ Image of_image.line of_image.kind)
     × IsImageFault bytes of_image)
 
--- the answer is the census of the heap that the bytes show, or memory was wanting
+-- the answer is the census of the heap that the bytes show, or memory ran out
 abbrev pub Counts : Result Census Fault → List ℕ → Type 0
 Counts (Ok census) bytes = IsCensusOf bytes census
 Counts (Err fault) bytes = Refused OfImages (sort_of fault) (RefusesBytes bytes fault) ⊥
@@ -52,7 +52,7 @@ abbrev pub HoldsImage : Option (List ℕ) → Census → Type 0
 HoldsImage told census = OfBytes told (λ bytes. IsCensusOf bytes census)
 
 -- What is so of a file without a census: it is refused by this fault, or it could not be read, or
--- memory was wanting.
+-- memory ran out.
 abbrev pub RefusesImage : Option (List ℕ) → Fault → Type 0
 RefusesImage told fault =
     Refused OfImages (sort_of fault) (OfBytes told (λ bytes. RefusesBytes bytes fault))

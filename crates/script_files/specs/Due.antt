@@ -13,7 +13,7 @@ IsFaultyIn grammar fault = sort_of fault ≡ OfLine grammar
 abbrev pub IsLarge : Fault → Type 0
 IsLarge fault = sort_of fault ≡ OfSize
 
--- the run ended neither by a read fault nor for want of memory
+-- the run ended neither by a read fault nor out of memory
 abbrev pub IsUnhindered : ℕ → Type 0
 IsUnhindered status = (status ≢ 3) × (status ≢ 5)
 
@@ -24,7 +24,7 @@ pub record IsDueIn {A : Type 0} (grammar : Grammar) (reading : Result A Fault) (
   pub faulty : (status ≡ 2) ↔ (IsUnhindered status × IsErrAnd reading (IsFaultyIn grammar))
   -- refused for too many bytes, files or commands
   pub large : (status ≡ 6) ↔ (IsUnhindered status × IsErrAnd reading IsLarge)
-  -- not refused: done, or a device failed, or memory was wanting
+  -- not refused: done, or a device failed, or memory ran out
   pub complete : IsOk reading
       → (status ≡ 0) ⊎ (status ≡ 3) ⊎ (status ≡ 4) ⊎ (status ≡ 5)
 
@@ -35,7 +35,7 @@ Reads reading told outcome =
     (contents : List (List ℕ)) × Agree told contents × (reading contents ≡ outcome)
 
 -- The status is due by what the files hold, where what is told of them decides that: all contents
--- that agree with it give the same.
+-- that agree with it give the same. (A faulty first file decides, whatever the second one holds.)
 abbrev pub IsDueBy : {A : Type 0} → Grammar → (List (List ℕ) → Result A Fault)
     → List (Option (List ℕ)) → ℕ → Type 0
 IsDueBy {A} grammar reading told status = (outcome : Result A Fault)

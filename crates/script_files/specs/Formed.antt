@@ -18,7 +18,7 @@ AreRead told scripts forms =
     × (forms ≡ map form_of contents)
 
 -- the answer is the scripts of the files with their forms, or the fault that decides, or a file
--- could not be read, or memory was wanting
+-- could not be read, or memory ran out
 abbrev pub DecidesFiles : List (Option (List ℕ)) → Result Scripts Fault → Type 0
 DecidesFiles told (Ok scripts) =
     AreRead told (lists_of scripts.commands.items) scripts.forms.items

@@ -23,7 +23,7 @@ most_commands = 100000
 abbrev pub Parse : Type 0 → Type 0
 Parse A = ℕ → ℕ → List ℕ → Result (List A) Fault
 
--- items that stand behind so many others
+-- items that come after so many others
 abbrev pub counted : {A : Type 0} → ℕ → List A → Result (List A) Fault
 counted before items =
     if nat_lt most_commands (before + length items) then Err (TooLarge 0) else Ok items
@@ -33,7 +33,7 @@ abbrev pub within_size : {A : Type 0} → ℕ → (List ℕ → Result A Fault) 
 within_size file reading bytes =
     if nat_lt largest_file (length bytes) then Err (TooLarge file) else reading bytes
 
--- the list that the bytes of this file are, behind so many items of the files before it
+-- the list that the bytes of this file are, after so many items of the files before it
 abbrev pub list_in : {A : Type 0} → Parse A → ℕ → ℕ → List ℕ → Result (List A) Fault
 list_in parse file before bytes = within_size file (λ all. parse file before all) bytes
 
@@ -43,7 +43,7 @@ abbrev pub with_first : {A : Type 0} → List A → Result (List (List A)) Fault
 with_first list (Ok lists) = Ok (list ∷ lists)
 with_first list (Err fault) = Err fault
 
--- a list in front of those that are read behind it, if it is one
+-- a list before those that are read after it, if it is one
 abbrev pub in_front : {A : Type 0} → Result (List A) Fault
     → (List A → Result (List (List A)) Fault) → Result (List (List A)) Fault
 in_front (Ok list) others = with_first list (others list)
@@ -84,8 +84,8 @@ AreListsWithin most parse told outcome =
     (contents : List (List ℕ)) × Agree told contents
     × (lists_within most parse contents ≡ outcome)
 
--- So many of the files, from this one on, were opened, and those in front of the last of them are
--- lists: none is opened behind one that is refused.
+-- So many of the files, from this one on, were opened, and those before the last of them are lists:
+-- none is opened after one that is refused.
 abbrev pub StopsIn : {A : Type 0} → Parse A → ℕ → ℕ → List (Option (List ℕ)) → ℕ → ℕ → Type 0
 StopsIn {A} parse file before told old new =
     (count : ℕ) × (count ≤ length told) × (new ≡ opened old count)
@@ -116,7 +116,7 @@ AddsFile grammar parse note file before told (Err fault) old new old_notes new_n
     Refused grammar (sort_of fault) (IsListIn parse file before told (Err fault))
     (fault ≡ ReadFault file)
 
--- the lists of some contents, from this file on, and their notes, stand behind those before
+-- the lists of some contents, from this file on, and their notes, stand after those before
 abbrev pub AreGathered : {A N : Type 0} → Parse A → (List ℕ → N) → ℕ → ℕ
     → List (Option (List ℕ)) → List (List A) → List (List A) → List N → List N → Type 0
 AreGathered {A} parse note file before told old new old_notes new_notes =
@@ -125,7 +125,7 @@ AreGathered {A} parse note file before told old new old_notes new_notes =
     × (new_notes ≡ old_notes ++ map note contents)
 
 -- the lists of the files from this one on were added, or the answer is the fault that decides, or a
--- file could not be read, or memory was wanting
+-- file could not be read, or memory ran out
 abbrev pub GathersFrom : {A N : Type 0} → Grammar → Parse A → (List ℕ → N) → ℕ → ℕ
     → List (Option (List ℕ)) → Result (Unit {0}) Fault → List (List A) → List (List A) → List N
     → List N → Type 0

@@ -48,7 +48,7 @@ IsFaultyDump bytes = (length bytes ≤ largest_file) × IsErr (contents_of bytes
 abbrev pub IsDumpFile : List ℕ → Type 0
 IsDumpFile bytes = (length bytes ≤ largest_file) × (v : ℕ) × (t : DocTree) × IsDump bytes v t
 
--- the answer is the version and the tree that the bytes are the dump of, or memory was wanting
+-- the answer is the version and the tree that the bytes are the dump of, or memory ran out
 abbrev pub Loads : Result Loaded Fault → List ℕ → Type 0
 Loads (Ok loaded) bytes =
     (dump_in bytes ≡ Ok (contents_by loaded.version loaded.tree))
@@ -57,7 +57,7 @@ Loads (Err fault) bytes =
     Refused OfDumps (sort_of fault) ((dump_in bytes ≡ Err fault) × (IsDumpFile bytes → ⊥)) ⊥
 
 -- What is so of a file that was not loaded: it is refused by this fault, and where it is told what
--- it holds, that is no dump; or it could not be read, or memory was wanting.
+-- it holds, that is no dump; or it could not be read, or memory ran out.
 abbrev pub RefusesDump : Option (List ℕ) → Fault → Type 0
 RefusesDump told fault =
     Refused OfDumps (sort_of fault)

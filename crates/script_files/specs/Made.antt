@@ -22,7 +22,7 @@ abbrev pub AreMade : ℕ → ℕ → ℕ → List (List Command) → Type 0
 AreMade start clients commands scripts =
     scripts_from 1 0 (texts_from start commands 1 clients) ≡ Ok scripts
 
--- the answer is the scripts, or memory was wanting
+-- the answer is the scripts, or memory ran out
 abbrev pub DecidesMade : ℕ → ℕ → ℕ → Result (Vec (Vec Command Global) Global) Fault
     → Type 0
 DecidesMade start clients commands (Ok scripts) =

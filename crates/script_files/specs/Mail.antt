@@ -33,7 +33,7 @@ after_mail file before (Err fault) = Err (Mail file fault.line fault.kind)
 abbrev pub parse_mail : Parse ℕ
 parse_mail file before bytes = after_mail file before (script_of bytes)
 
--- the values that the bytes of this file send, behind so many values of the files before it
+-- the values that the bytes of this file send, after so many values of the files before it
 abbrev pub mail_in : ℕ → ℕ → List ℕ → Result (List ℕ) Fault
 mail_in file before bytes = list_in parse_mail file before bytes
 
@@ -45,8 +45,8 @@ mail_of contents = lists_within most_senders parse_mail contents
 abbrev pub IsMail : List (Option (List ℕ)) → Result (List (List ℕ)) Fault → Type 0
 IsMail told outcome = AreListsWithin most_senders parse_mail told outcome
 
--- So many of the files were opened, and those in front of the last of them are scripts of senders:
--- none is opened behind one that is refused.
+-- So many of the files were opened, and those before the last of them are scripts of senders: none
+-- is opened after one that is refused.
 abbrev pub StopsAtMail : List (Option (List ℕ)) → ℕ → ℕ → Type 0
 StopsAtMail told old new = StopsIn parse_mail 1 0 told old new
 
@@ -54,13 +54,13 @@ StopsAtMail told old new = StopsIn parse_mail 1 0 told old new
 abbrev pub values_of : List (Vec ℕ Global) → List (List ℕ)
 values_of scripts = map (λ script. script.items) scripts
 
--- the answer is these values, or memory was wanting
+-- the answer is these values, or memory ran out
 abbrev pub DecidesValues : Result (Vec ℕ Global) Fault → Result (List ℕ) Fault → Type 0
 DecidesValues (Ok values) script = script ≡ Ok values.items
 DecidesValues (Err fault) script = Refused OfMail (sort_of fault) (script ≡ Err fault) ⊥
 
 -- the answer is the values of each sender, or the fault that decides, or a file could not be read,
--- or memory was wanting
+-- or memory ran out
 abbrev pub DecidesMail : List (Option (List ℕ)) → Result (Vec (Vec ℕ Global) Global) Fault
     → Type 0
 DecidesMail told (Ok scripts) = IsMail told (Ok (values_of scripts.items))

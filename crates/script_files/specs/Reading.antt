@@ -8,13 +8,12 @@ use Rattle.script_files.specs.Sorts.{OfScripts, Refused, sort_of}
 use Rattle.script_files.specs.declared.fault.Fault.{Fault}
 use Rattle.script_files.specs.declared.fault.Fault.TheVariants.{ReadFault}
 
--- the answer is this script, or memory was wanting
+-- the answer is this script, or memory ran out
 abbrev pub Decides : Result (Vec Command Global) Fault → Result (List Command) Fault → Type 0
 Decides (Ok commands) script = script ≡ Ok commands.items
 Decides (Err fault) script = Refused OfScripts (sort_of fault) (script ≡ Err fault) ⊥
 
--- the answer is the script of the file with this number, or it could not be read, or memory was
--- wanting
+-- the answer is the script of the file with this number, or it could not be read, or memory ran out
 abbrev pub DecidesFile : ℕ → ℕ → Result (Vec Command Global) Fault → Option (List ℕ) → Type 0
 DecidesFile place before (Ok commands) told = IsScriptIn place before told (Ok commands.items)
 DecidesFile place before (Err fault) told =
@@ -26,7 +25,7 @@ abbrev pub lists_of : List (Vec Command Global) → List (List Command)
 lists_of scripts = map (λ script. script.items) scripts
 
 -- the scripts of the files from this one on were added to a list, or the answer is the fault that
--- decides, or a file could not be read, or memory was wanting
+-- decides, or a file could not be read, or memory ran out
 abbrev pub DecidesFrom : ℕ → ℕ → List (Option (List ℕ)) → Result (Unit {0}) Fault
     → List (List Command) → List (List Command) → Type 0
 DecidesFrom place before told (Ok done) old new =

@@ -41,13 +41,13 @@ IsFaultySchedule bytes = (length bytes ≤ largest_file) × IsErr (schedule_of b
 abbrev pub IsSchedule : List ℕ → Type 0
 IsSchedule bytes = (length bytes ≤ largest_file) × IsOk (schedule_of bytes)
 
--- the answer is the replay text of these steps, or memory was wanting
+-- the answer is the replay text of these steps, or memory ran out
 abbrev pub Replays : Result (Vec ℕ Global) Fault → Result ScheduleValue Fault → Type 0
 Replays (Ok text) steps =
     (schedule : ScheduleValue) × (steps ≡ Ok schedule) × IsReplayText schedule text.items
 Replays (Err fault) steps = Refused OfSchedules (sort_of fault) (steps ≡ Err fault) ⊥
 
--- the answer is the replay text of the file, or it could not be read, or memory was wanting
+-- the answer is the replay text of the file, or it could not be read, or memory ran out
 abbrev pub ReplaysFile : Result (Vec ℕ Global) Fault → Option (List ℕ) → Type 0
 ReplaysFile (Ok text) told = IsTextOf told text.items
 ReplaysFile (Err fault) told =

@@ -27,7 +27,7 @@ after_reading file before (Err fault) = Err (Script file fault.line fault.kind)
 abbrev pub parse_script : Parse Command
 parse_script file before bytes = after_reading file before (script_of bytes)
 
--- the script that the bytes of this file are, behind so many commands of the files before it
+-- the script that the bytes of this file are, after so many commands of the files before it
 abbrev pub script_in : ℕ → ℕ → List ℕ → Result (List Command) Fault
 script_in file before bytes = list_in parse_script file before bytes
 
@@ -52,8 +52,8 @@ AreScriptsFrom file before told outcome = AreListsFrom parse_script file before 
 abbrev pub AreScripts : List (Option (List ℕ)) → Result (List (List Command)) Fault → Type 0
 AreScripts told outcome = AreListsWithin most_files parse_script told outcome
 
--- So many of the files, from this one on, were opened, and those in front of the last of them are
--- scripts: none is opened behind one that is refused.
+-- So many of the files, from this one on, were opened, and those before the last of them are
+-- scripts: none is opened after one that is refused.
 abbrev pub StopsBehind : ℕ → ℕ → List (Option (List ℕ)) → ℕ → ℕ → Type 0
 StopsBehind file before told old new = StopsIn parse_script file before told old new
 

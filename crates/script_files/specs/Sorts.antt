@@ -1,7 +1,8 @@
 -- Of which sort each fault is, and what a refusal says by that.
 --
 -- What is said of an answer goes by the sort of its fault, so that a fault in the lines of one file
--- more is of a sort that is there already.
+-- more is of a sort that is there already. The grammar of a faulty line is given by an equation: so
+-- one grammar more adds no case.
 -- Source: this project's own.
 use Rattle.std.specs.Prelude.{◌≡◌}
 use Rattle.script_files.specs.declared.fault.Fault.{Fault}
@@ -18,7 +19,7 @@ pub data Grammar : Type 0 where
   OfMail : Grammar
 
 -- what a fault lies in: the words of the command line, a line of a file, the reading of a file, the
--- writing of the output, want of memory, or a size
+-- writing of the output, out of memory, or a size
 pub data Sort : Type 0 where
   OfWords : Sort
   OfLine : Grammar → Sort
@@ -41,7 +42,7 @@ sort_of Memory = OfMemory
 sort_of (TooLarge file) = OfSize
 
 -- What is so where files of this grammar are refused: the one fact where what they hold decides the
--- fault, the other where one of them could not be read. Memory may always be wanting.
+-- fault, the other where one of them could not be read. Memory may always run out.
 abbrev pub Refused : Grammar → Sort → Type 0 → Type 0 → Type 0
 Refused grammar OfWords Decided Unread = ⊥
 Refused grammar (OfLine other) Decided Unread = (other ≡ grammar) × Decided

@@ -61,7 +61,7 @@ pub enum Fault {
     /// The output could not be written.
     #[error("docheap: write fault")]
     WriteFault,
-    /// Memory was wanting.
+    /// Memory ran out.
     #[error("docheap: out of memory")]
     Memory,
     /// A file has too many bytes, or for file 0 there are too many files or commands.

@@ -47,7 +47,7 @@ pub(crate) trait Gathering {
     // what is so of all items besides
     ghost fits: { Self → Type 0 };
 
-    /// Adds the list that the bytes of this file are, behind so many items of the files before it,
+    /// Adds the list that the bytes of this file are, after so many items of the files before it,
     /// and tells how many it has.
     fn add(&mut self, alloc: Global, bytes: &[u8], file: u32, before: usize) -> Result<usize, Fault>
         requires before { before ≤ 100_000 }

@@ -134,7 +134,7 @@ fn mail_in_turn<H: Shelf>(
     }
 }
 
-// The values that the bytes of this file send, behind so many values of the files before it.
+// The values that the bytes of this file send, after so many values of the files before it.
 fn values_in_bytes(alloc: Global, bytes: &[u8], file: u32, before: usize) -> Result<Vec<u64>, Fault>
     requires before { before ≤ 100_000 }
     ensures values { DecidesValues result (mail_in file before bytes.now) }

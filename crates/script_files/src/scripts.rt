@@ -153,7 +153,7 @@ fn scripts_in_turn<H: Shelf>(alloc: Global, names: &[&str], shelf: &mut H) -> Re
     }
 }
 
-/// The script that the bytes of this file are, behind so many commands of the files before it.
+/// The script that the bytes of this file are, after so many commands of the files before it.
 pub(crate) fn script_in_bytes(
     alloc: Global,
     bytes: &[u8],

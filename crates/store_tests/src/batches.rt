@@ -1,5 +1,5 @@
-//! Batches: several edits that make one version together, or none. What they come to is shown by
-//! the rows of examples/rows; here stands what a history may not have.
+//! Batches: several edits that make one version together, or none. What they do is shown by the
+//! rows of examples/rows; here stands what a history may not have.
 use crate::made::{Change, Unmade, batch, get, put, val};
 use doc_model::{Command, Entry, PlainStore, Reply, is_legal};
 use std::alloc::Global;
@@ -27,7 +27,7 @@ fn is_history(alloc: Global, all: &[Entry]) -> Result<bool, Unmade> {
     Ok(all.len() <= 100 && is_legal(alloc, all, 1, 8, 100)?)
 }
 
-/// The replies to an empty batch, and to one of two edits behind it.
+/// The replies to an empty batch, and to one of two edits after it.
 fn answered(alloc: Global) -> Result<(bool, bool), Unmade> {
     let empty = batch(alloc, &[])?;
     let two = batch(alloc, &[Change::Put("a", "x\ty"), Change::Copy("a", "b")])?;

@@ -4,7 +4,7 @@ use doc_model::{Command, Entry, Log, PlainStore, Reply, is_legal, merge};
 use std::alloc::Global;
 use std::test::Fail;
 
-/// What stands in an entry beside its command.
+/// What stands in an entry besides its command.
 #[derive(Clone, Copy, Debug, PartialEq, Eq)]
 struct Outcome {
     client: u32,

@@ -1,4 +1,5 @@
-//! What no clause says of trees: each call on its happy path, and what is a name, a text and a path.
+//! What no clause says of trees: each call on its happy path, and what is a name, a text and a
+//! path.
 //!
 //! The limits of a tree are shown by the rows of examples/rows.
 use crate::tree_words::{name, path, text};
@@ -62,8 +63,8 @@ fn has_its_names(alloc: Global) -> Result<bool, Fail> {
     }
 }
 
-/// The first of these words that the path site/index takes for its bytes, or does not, otherwise than
-/// it should.
+/// The first of these words that the path site/index takes for its bytes, or does not, otherwise
+/// than it should.
 fn first_mistaken<'a>(alloc: Global, rows: &[(&'a str, bool)]) -> Result<Option<&'a str>, Fail> {
     let path = path(alloc, "site/index")?;
     for (word, wanted) in rows {

@@ -11,7 +11,7 @@ pub returns-in-Ok-clause-accepted : goal.returns-in-Ok-clause-accepted
 returns-in-Ok-clause-accepted c =
     accepted c.args.command c.in-Ok.matches c.in-Ok.ensures.parsed (both _ _ c.requires.simple).0
 
--- want of memory is no fault of the words
+-- out of memory is no fault of the words
 no_usage : {A : Type 0} → fault.NoMemory ≡ fault.Usage → A
 no_usage same = cc
 
