@@ -19,7 +19,8 @@ up_to (at.Shared place) = 0
 up_to (at.Minor r) = r.number + 1
 
 -- Of the private records before and after it, and of the node as it was named and as it is: it
--- stands on the places on which it stood, whatever is known of them, and says what it said.
+-- stands on the places on which it stood, whatever is known of them, and says what it said. So the
+-- calls that age take no mutator.
 pub record Ages (old new : List (List MinorField)) (a b : NodeAt) : Type 0 where
   pub still : (known : List Known) (places : ℕ) → stands_on known old places a
       → stands_on known new places b

@@ -1,4 +1,5 @@
-//! A mutator of documents, with hints: what a client's heap needs of both.
+//! A mutator of documents, with hints: what a client's heap needs of both. The calls take the
+//! private heap in use; `make_room` and `make_room_for` take the nursery, since they alone may age.
 ghost use Rattle.std.specs.Prelude.{◌≡◌, ◌<◌, ◌≤◌, ◌+◌, IfErr, IfOk, OnErr};
 ghost use Rattle.std.specs.Prelude.{OnOk, Err, [], ◌∷◌, IfSome, IsNone, None, Ok, length, max};
 ghost use Rattle.std.specs.Prelude.{◌==◌, true};

@@ -45,7 +45,8 @@ abbrev pub terms_known : List Known → List Term
 terms_known known = map known_term known
 
 -- The private record stands, and so does all that it leads to; `ok` holds of the shared places
--- among that.
+-- among that. This goes by the fields and sets no bound on places: so one lemma serves a longer
+-- held list, a shorter one, and more that is known.
 pub data Rests (records : List (List MinorField)) (ok : ℕ → Type 0) : MinorRef → Type 0 where
   rests : {r : MinorRef} → r.number < length records
       → ((i place : ℕ) → i < 5 → field_at records r.number i ≡ field.Shared place → ok place)

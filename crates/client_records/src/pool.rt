@@ -1,4 +1,5 @@
-//! Both as one pool of records.
+//! A client's private records and the cells that its mutator holds, as one pool of records. Both
+//! are borrowed, so that a session can use either between two trees.
 ghost use Rattle.std.specs.Prelude.{◌≡◌, ◌+◌, ◌≤◌};
 ghost use Rattle.cell_words.specs.Term.{five};
 ghost use Rattle.doc_records.specs.Pool.{Later, Stands, part_term};

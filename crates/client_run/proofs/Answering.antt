@@ -1,4 +1,4 @@
--- An answer, and the want of one, from their clauses.
+-- An answer, and that there is none, from their clauses.
 use Rattle.std.proofs.Common.{◌≡◌, true, false}
 use Rattle.std.specs.Prelude.{Result, Ok, Err, IfOk, OnErr}
 use Rattle.client_run.specs.Answers.{Answered, IsUntouched, Unanswered}

@@ -1,6 +1,6 @@
 -- What `Session::answer` leaves of a session and of the mutator that was lent to it: in each case,
--- with an answer, without one, and behind a command that only reads. The session and the mutator
--- before the call come first, and then the two behind it.
+-- with an answer, without one, and after a command that only reads. The session and the mutator
+-- before the call come first, and then the two after it.
 -- Source: this project's.
 use Rattle.std.specs.Prelude.{◌≡◌, ◌≤◌, ◌-◌, true, false, length, max}
 use Rattle.client_run.specs.Own.{client_state}
@@ -39,7 +39,7 @@ pub record IsUntouched (s : Session) (m : Bound Pass) (t : Session) (n : Bound P
   pub draft : t.draft ≡ s.draft
   pub base : t.base ≡ s.base
 
--- Memory was wanting: no version and no draft was made, and the log is as it was. A command that
+-- Memory ran out: no version and no draft was made, and the log is as it was. A command that
 -- does more than read has not even begun.
 pub record Unanswered (c : Command) (s : Session) (m : Bound Pass) (t : Session) (n : Bound Pass)
     : Type 0 where

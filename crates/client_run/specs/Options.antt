@@ -1,4 +1,4 @@
--- What the options of a run come to: their ranges, the limits by which clients are answered, and the
+-- What the options of a run say: their ranges, the limits by which clients are answered, and the
 -- heap that they ask for.
 -- Source: this project's.
 use Rattle.std.specs.Prelude.{ℕ, ◌≤◌}

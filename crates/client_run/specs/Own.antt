@@ -16,7 +16,7 @@ abbrev pub client_state : Session → Bound Pass → ClientState
 client_state s m = state_of m s.nursery.heap s.draft s.base
 
 -- The mutator is in, and is this session's: the log is in step with its pass and its trail. Its
--- held list has the draft's places and no more, and room behind them.
+-- held list has the draft's places and no more, and room after them.
 pub record MayAnswer (s : Session) (m : Bound Pass) : Type 0 where
   pub client : (1 ≤ s.journal.log.client) × (s.journal.log.client ≤ 64)
   pub step : InStep s.journal (client_state s m)

@@ -2,7 +2,7 @@
 //!
 //! The layer above may rely on this: all that client_session says of a journal's answers holds, in
 //! the words of the mutator, the private heap and the draft; what an answer needs of these holds
-//! behind it again, and behind handshakes that the mutator answers then; and the mutator is the same
+//! after it again, and after handshakes that the mutator answers then; and the mutator is the same
 //! one then, with hints of the same queue. `Options` are the numbers by which a store is run, for
 //! the layers above.
 //!

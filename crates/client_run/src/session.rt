@@ -88,7 +88,7 @@ impl Session {
         }
     }
 
-    /// Answers the client's next command, with an entry in its log. Where memory is wanting nothing
+    /// Answers the client's next command, with an entry in its log. Where memory runs out nothing
     /// is made, and the draft and the log are as before.
     pub fn answer<R: Wait>(
         &mut self,

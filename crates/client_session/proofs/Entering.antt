@@ -1,4 +1,4 @@
--- The journal behind an answer, and where memory was wanting.
+-- The journal after an answer, and where memory ran out.
 use Rattle.std.proofs.Common.{◌≡◌, ℕ, ◌+◌, ◌≤◌, ◌<◌, Bool, not, List, []}
 use Rattle.std.proofs.Common.{◌∷◌, ◌++◌, length, All, refl, sym, ◌∙◌, ap, subst}
 use Rattle.std.proofs.Common.{arith}

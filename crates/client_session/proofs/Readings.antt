@@ -38,7 +38,7 @@ pub rests_lost : {places : ℕ} {s t : ClientState} → 9_000 + places ≤ s.roo
 rests_lost room rests =
     none_lost (let left = rests.room in omega (arith, left, room)) (rests_none rests)
 
--- what the latest version's tree is known to be, is known behind a call too
+-- what the latest version's tree is known to be, is known after a call too
 pub opens_knows : {At : Type 0} {s t u : ClientState} {h : Handles At} {o : Opened At}
     → Opens s t h o → Rests 8 t u → KnowsTree u.pass o.version.number (h.tree o.root)
 opens_knows {t = t} {u = u} {h = h} {o = o} opens rests =

@@ -35,7 +35,7 @@ use Rattle.doc_tree.proofs.Grafts.{attach_along, delete_along, node_agrees, set_
 use Rattle.trails.specs.Claims.{IsFull}
 use Rattle.trails.specs.Stretches.{Had}
 
--- A try, behind a look and behind a promotion.
+-- A try, after a look and after a promotion.
 
 pub worn_late : (j : Journal) (c : Command) (v : ℕ) (b : ClientState) {s t : ClientState}
     (tree : DocTree) → Begun (bounds j.limits) (account_of j b) c v b s (Ok tree) → MakesNone s t

@@ -1,4 +1,4 @@
--- How a command ends, where nothing was made before it or behind it.
+-- How a command ends, where nothing was made before it or after it.
 use Rattle.std.proofs.Common.{◌≡◌, ◌≤◌, ap, subst, arith, length, Option, Some, None, Result, Ok}
 use Rattle.std.proofs.Common.{Err}
 use Rattle.cell_words.specs.Term.{Term}
@@ -77,7 +77,7 @@ module _ (j : Journal) (c : Command) (s t u : ClientState) where
   }
   ends_late (Err e) lost ended = lost_then lost ended
 
-  -- nor behind
+  -- nor after
   pub ends_on : {E : Type 0} (r : Result (Option Given) E) → Ends j c s t r → Lost t u
       → Ends j c s u r
   ends_on (Ok (Some g)) ended lost = answered_on g ended lost

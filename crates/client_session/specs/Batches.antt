@@ -36,7 +36,7 @@ pub record IsWorking {At : Type 0} (s t : ClientState) (h : Handles At) (v : ℕ
   pub is : all_made (tree_of s.draft) left (h.tree o.root) ≡ wanted
   pub room : 9_100 ≤ t.room
 
--- the edits came to no tree
+-- the edits made no tree
 pub record IsStopped (s t : ClientState) : Type 0 where
   pub none : MakesNone s t
   pub ready : 9_000 ≤ t.room

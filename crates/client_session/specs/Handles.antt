@@ -24,7 +24,7 @@ pub record Still {At : Type 0} (old new : Handles At) : Type 0 where
   pub versions : (v : HeldVersion) → old.is_version v → new.is_version v
   pub roots : (v : HeldVersion) → old.is_version v → new.root v ≡ old.root v
 
--- A call that edits a tree, and takes so many places beside those of one edit and of its records.
+-- A call that edits a tree, and takes so many places besides those of one edit and of its records.
 -- It makes no version and no draft.
 pub record Edits (places : ℕ) (old new : ClientState) : Type 0 where
   pub lasts : Lasts old new

@@ -45,7 +45,7 @@ pub record Outrun (s t : ClientState) : Type 0 where
   pub lost : Lost s t
   pub newer : s.pass.seen < t.pass.seen
 
--- how a command ends: with an answer, without one, or for want of memory
+-- how a command ends: with an answer, without one, or out of memory
 abbrev pub Ends : {E : Type 0} → Journal → Command → ClientState → ClientState
     → Result (Option Given) E
     → Type 0

@@ -104,7 +104,7 @@ fn regraft<H: ClientHeap>(
 }
 
 /// What an edit made of one version's tree, made of the latest one's; none where the two differ in
-/// what the edit looked at, where memory or room is wanting, or where the limits of a tree forbid
+/// what the edit looked at, where memory or room runs out, or where the limits of a tree forbid
 /// it.
 pub(crate) fn carried<H: ClientHeap>(
     alloc: Global,

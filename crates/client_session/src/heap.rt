@@ -23,8 +23,8 @@ use doc_tree::{EditFault, Names, NoMemory, Path, Text};
 use std::alloc::Global;
 use std::sync::Wait;
 
-/// The cells, private records and draft of one client. What a call hands out stands across the calls
-/// that have a clause `still`, and the draft across all that do not set it.
+/// The cells, private records and draft of one client. What a call hands out stands across the
+/// calls that have a clause `still`, and the draft across all that do not set it.
 ///
 /// A call that reads asks for 8,192 places, since it may hold cells on its way, and one that goes
 /// down a path for eight more, which it may keep. An edit asks for as many more as that once all
@@ -38,7 +38,7 @@ pub trait ClientHeap {
     ghost shown: { Self → Handles Self.At };
 
     /// Of a heap that borrows what it works on, what no call changes of that: whoever lends it
-    /// something knows behind each call that it is this that the heap has, and what of it stayed.
+    /// something knows after each call that it is this that the heap has, and what of it stayed.
     ghost Lent: { Type 0 };
 
     ghost lent: { Self → Lent };

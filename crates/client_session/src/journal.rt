@@ -1,4 +1,5 @@
-//! What a client keeps of its commands.
+//! What a client keeps of its commands. It borrows the heap for each answer alone: so a log
+//! outlives its heap, and whoever owns both decides who joins the mutator.
 ghost use Rattle.std.specs.Prelude.{◌≡◌, ◌≤◌, []};
 ghost use Rattle.client_session.specs.Turns.{InStep};
 ghost use Rattle.client_turns.specs.State.{ClientState};

@@ -6,7 +6,7 @@
 //! else the draft. Where another client was faster, the client waits a little; then what was made
 //! is carried over to the newer version, or the turn begins again. The layer above may rely on
 //! this: every answer is that of the store's definitions, over each list of versions that the pass
-//! allows; the log stays in step with the pass and with the trail; and after want of memory nothing
+//! allows; the log stays in step with the pass and with the trail; and where memory ran out nothing
 //! was made.
 //!
 //! Reading order: specs/Handles, Turns, Carries, Batches; then `held`, `heap`, `journal`, `given`,

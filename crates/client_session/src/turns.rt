@@ -1,4 +1,6 @@
-//! Answering: a turn for each try, until one has an answer; then the entry.
+//! Answering: a turn for each try, until one has an answer; then the entry. A turn is lost only to
+//! a newer version: a commit came too late, or a version that `old` asked for was cut off. Either
+//! way the turn read a newer version.
 ghost use Rattle.std.specs.Prelude.{◌≡◌, ◌≤◌, ◌<◌, ◌+◌, IfOk, IsOk, OnErr, length};
 ghost use Rattle.std.specs.Prelude.{[], ◌∷◌, ◌++◌, false, true};
 ghost use Rattle.client_session.specs.Handles.{GivesBack};
@@ -16,7 +18,7 @@ use doc_tree::NoMemory;
 use std::alloc::Global;
 use std::sync::Wait;
 
-/// Gives back what a try holds beside the places that stay.
+/// Gives back what a try holds besides the places that stay.
 fn give_back<H: ClientHeap>(held: &mut H)
     ensures settled { IsSettled (H.state held.new) }
     ensures gives_back { GivesBack (H.state held.old) (H.state held.new) }
@@ -116,7 +118,7 @@ impl Journal {
 
     /// Answers the client's next command, with an entry in its log. A turn that another client cut
     /// short is taken again, from the newer version. All memory is taken before a version is made:
-    /// where it is wanting nothing is made, and the draft and the log are as before.
+    /// where it runs out nothing is made, and the draft and the log are as before.
     pub fn answer<H: ClientHeap, R: Wait>(
         &mut self,
         alloc: Global,

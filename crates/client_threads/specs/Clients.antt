@@ -66,7 +66,7 @@ pub record IsReady (heap : HeapId) (queue : FreeQueue) (l : Limits) (script : Li
   pub not_failed : client.failed ≡ false
   pub short : length script ≤ 100_000
 
--- The client is through: its mutator is over, and its log is in step with what the seat has; its
+-- The client is done: its mutator is over, and its log is in step with what the seat has; its
 -- private heap and its mutator have the room that they were to have. Where memory ran out it
 -- stopped early, and its log is of the script's first commands.
 pub record IsDone (heap : HeapId) (l : Limits) (script : List Command) (place : ℕ)

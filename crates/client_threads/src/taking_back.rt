@@ -48,7 +48,7 @@ pub fn take_back(
     failed
 }
 
-/// Joins the seat of a client that is through, and gives its log.
+/// Joins the seat of a client that is done, and gives its log.
 fn joined(heap: &CellHeap<Documents>, client: Client, seat: &mut ColSeat<Documents>) -> Log
     requires seat { IsSeatOf heap.now seat.old }
     requires client { IsSeatOf heap.now client.seat }

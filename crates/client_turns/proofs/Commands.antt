@@ -270,7 +270,7 @@ module _ (l : Limits) (client : ℕ) (m : Account) {s t : ClientState} (account 
         draft_full_turned l client m (command.DraftPut path text) refl refl account none ready had
 
 -- The turn of a batch: all edits are made of the version that was read, and then it ends as that of
--- one edit does; or one of them is refused; or the heap is full before them, between two or behind
+-- one edit does; or one of them is refused; or the heap is full before them, between two or after
 -- them, and the reply is of the version that was read.
 
 module _ (l : Limits) (client : ℕ) (m : Account) {s t : ClientState} (account : IsAccount m s)

@@ -105,7 +105,7 @@ module _ (cells : ℕ) (e : Entry) where
       → Had (Demand cells e) a c
   met_on had grown = had_on (Demand cells e) had grown
 
--- a claim that found the heap full, with calls before it and behind it
+-- a claim that found the heap full, with calls before it and after it
 
 pub full_late : {s t : ClientState} {marks : List Mark} → Lasts s t
     → Had (IsFull t.cells) t.marks marks → Had (IsFull s.cells) s.marks marks

@@ -62,7 +62,7 @@ read_current {s = s} {t = t} v cell shows pass low none = record {
       omega (arith, is);
 }
 
--- a call behind that is not asked about
+-- a later call that is not asked about
 pub read_on : {v : ℕ} {asks : List Ask} {s t u : ClientState} → HasRead v asks s t → MakesNone t u
     → HasRead v asks s u
 read_on read none = record {

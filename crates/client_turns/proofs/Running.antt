@@ -66,7 +66,7 @@ module _ (cells : ℕ) where
             marks outer;
       }
 
-  -- more marks behind, as those of a client's end
+  -- more marks after, as those of a client's end
   pub shows_run_grown : (es : List Entry) (a b : List Mark) → InTurn (Demand cells) es a
       → Grown a b → ShowsRun cells es b
   shows_run_grown es a b turns grown =

@@ -65,7 +65,7 @@ tries = looked control ∷ tried 0 colour.White ∷ []
 abbrev refused : ClientState
 refused = record read { marks = reads ++ tries }
 
--- The log, empty, with the get, and with the dput behind it.
+-- The log, empty, with the get, and with the dput after it.
 
 abbrev before : ClientLog
 before = record { client = 1; entries = []; spare = 2 }
@@ -85,7 +85,7 @@ behind = record { client = 1; entries = got ∷ was_refused ∷ []; spare = 0 }
 before_in_step : IsInStep limits opened 0 before
 before_in_step = in_step_opening limits opened before refl refl refl refl
 
--- The get: the version is read, and no node is there. Nothing beside it changes.
+-- The get: the version is read, and no node is there. Nothing else changes.
 
 pub opened_settled : IsSettled opened
 opened_settled = refl

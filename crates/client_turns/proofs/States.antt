@@ -155,7 +155,7 @@ account_on account none = record {
   last = let x = account.last in let y = none.lasts.passes.seen in omega (arith, x, y);
 }
 
--- From the equation of a pass to what is behind it.
+-- From the equation of a pass to what follows from it.
 
 module _ (p q : Pass) where
   pub seeing_passes : (n : ℕ) → q ≡ seeing n p → Grows p q

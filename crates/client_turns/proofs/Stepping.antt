@@ -1,5 +1,5 @@
--- A log stays in step with its pass and its trail: at the opening, behind a turn that was lost, and
--- behind one that was answered.
+-- A log stays in step with its pass and its trail: at the opening, after a turn that was lost, and
+-- after one that was answered.
 use Rattle.std.proofs.Common.{◌≡◌, ℕ, ◌+◌, ◌<◌, ◌≤◌, Bool, true, false, cond, List, [], ◌∷◌, ◌++◌}
 use Rattle.std.proofs.Common.{All, length, map, filter, inl, inr, refl, sym, ◌∙◌, ap, subst}
 use Rattle.std.proofs.Common.{arith, unwrap_or}

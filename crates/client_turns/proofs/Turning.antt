@@ -49,7 +49,7 @@ commit_made {s = s} {t = t} v before tree lasts is rose draft small = record {
   small = small;
 }
 
--- a call before, and one behind
+-- a call before, and one after
 pub made_late : {v : ℕ} {tree : DocTree} {s t u : ClientState} → MakesNone s t → Made v tree t u
     → Made v tree s u
 made_late {v = v} {s = s} {t = t} {u = u} none made = record {
@@ -74,7 +74,7 @@ made_on {v = v} {tree = tree} {s = s} {t = t} {u = u} made none = record {
   small = small_then s t u made.small none.small;
 }
 
--- Drafts, with a call before, and one behind.
+-- Drafts, with a call before, and one after.
 
 pub drafts_late : {tree : DocTree} {s t u : ClientState} → MakesNone s t → Drafts tree t u
     → Drafts tree s u
@@ -197,7 +197,7 @@ module _ (l : Limits) (client : ℕ) (m : Account) (c : Command) where
       (last_seen account none.lasts) (ap tree_of none.draft ∙ sym account.draft))
       (draft_full_met s.cells (entry_for client m c (reply.Full m.last) m.last) drafting had)
 
-  -- The heap was full for a command that read a version, before that or behind it.
+  -- The heap was full for a command that read a version, before that or after it.
   pub full_turned : {s t : ClientState} (v : ℕ) → full_place v m c ≡ Some v → IsAccount m s
       → HasRead v [] s t → IsReady t → Had (IsFull s.cells) s.marks t.marks
       → Turned l client m c s t (reply.Full v) v
@@ -218,7 +218,7 @@ module _ (l : Limits) (client : ℕ) (m : Account) (c : Command) where
   begun_new v edited account read spared is =
       record { account = account; read = read; spared = spared; is = is }
 
-  -- a call before, and one behind
+  -- a call before, and one after
   pub begun_late : {s t u : ClientState} {v : ℕ} {edited : Result DocTree EditFault}
       → IsAccount m s → MakesNone s t → Begun l m c v t u edited → Begun l m c v s u edited
   begun_late account none begun = record {
@@ -292,7 +292,7 @@ module _ (l : Limits) (client : ℕ) (m : Account) (c : Command) where
     small = λ _. small_then s t u begun.read.none.small made.small;
   }
 
-  -- by a latest version that was read behind it
+  -- by a latest version that was read after it
   pub begun_trimmed : {s t u : ClientState} (v newest : ℕ) (tree : DocTree)
       → Begun l m c v s t (Ok tree) → v < l.versions → Made v tree t u → IsReady u
       → v + 1 ≤ newest → newest + 1 ≤ u.pass.cut + l.keep
@@ -300,7 +300,7 @@ module _ (l : Limits) (client : ℕ) (m : Account) (c : Command) where
   begun_trimmed v newest tree begun below made ready later due =
       begun_ok v tree begun below made ready (λ _. omega (arith, later, due))
 
-  -- Calls before, and behind.
+  -- Calls before, and after.
 
   pub turned_late : {s t u : ClientState} {r : Reply} {place : ℕ} → MakesNone s t
       → Turned l client m c t u r place → Turned l client m c s u r place

@@ -44,10 +44,10 @@ tells_version e = is_telling e.reply && not (is_drafting e.command)
 abbrev pub was_full : Entry → Bool
 was_full e = is_full e.reply
 
--- The anchor was read for each command that reads a version. The replies that show what stands in
--- a version have stretches that follow one another, each with the reads of its version and of what
--- it shows. So have the full ones: in each stretch a look found the collector off duty, or two whole
--- cycles over that began behind the stretch's first look, and behind that look each cell was found
+-- The anchor was read for each command that reads a version. The replies that show what stands in a
+-- version have stretches that follow one another, each with the reads of its version and of what it
+-- shows. So have the full ones: in each stretch a look found the collector off duty, or two whole
+-- cycles over that began after the stretch's first look, and after that look each cell was found
 -- used by a claim, not all of them by one.
 pub record ShowsRun (cells : ℕ) (es : List Entry) (marks : List Mark) : Type 0 where
   pub anchor : length (filter reads_version es) ≤ count_by is_anchor_read marks

@@ -24,7 +24,7 @@ pub fn an_empty_log_is_in_step()
 {}
 
 /// A turn that is lost leaves the log in step, and one that is answered leaves it so with the entry
-/// behind it.
+/// added.
 pub fn a_turn_keeps_in_step()
     ensures lost { (l : Limits) (s t : ClientState) (last : ℕ) (log : ClientLog)
         → IsInStep l s last log → Lost s t → IsInStep l t last log }

@@ -1,4 +1,4 @@
--- The anchor of a store's heap: a box, with null behind its first field.
+-- The anchor of a store's heap: a box, with null after its first field.
 use Rattle.std.proofs.Common.{◌≡◌, ◌≤◌, ◌<◌, ◌∙◌, ℕ}
 use Rattle.cell_words.specs.declared.fields.Field.TheVariants as field
 use Rattle.closed_store.proofs.Denoting.{box_kind}
@@ -11,7 +11,7 @@ use Rattle.heap_rule.proofs.Entries.{same_entry}
 use Rattle.version_rule.specs.Versions.{HasLatest, is_fixed}
 use Rattle.heap_rule.proofs.EntryWords.{null_word}
 
--- what stands in the anchor beside the latest version
+-- what stands in the anchor besides the latest version
 pub record IsBare (s : State) : Type 0 where
   pub kind : field_of s 0 5 ≡ field.Num 2
   pub others : (f : ℕ) → 1 ≤ f → f < 5 → field_of s 0 f ≡ field.Null

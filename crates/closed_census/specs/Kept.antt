@@ -1,4 +1,5 @@
--- What a census of a closed heap's words comes to where these are a store's.
+-- What a census of a closed heap's words finds where these are a store's. A run makes no census,
+-- since that takes memory: so this speaks of every answer for which the clauses of `census` hold.
 -- Source: this project's.
 use Rattle.std.specs.Prelude.{ℕ, ◌≡◌, Option, IfSome, IsSomeAnd, MatchOption}
 use Rattle.core_machine.specs.State.{State}

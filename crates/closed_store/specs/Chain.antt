@@ -72,7 +72,7 @@ pub data IsChain (s : State) (trees : List DocTree) : (number : ℕ) → (cells 
 pub record ShowsVersions (s : State) (keep : ℕ) (trees : List DocTree) : Type 0 where
   pub latest : ℕ
   pub names : field_of s 0 0 ≡ field.Cell latest
-  -- behind the latest
+  -- after the latest
   pub older : List ℕ
   pub chain : IsChain s trees (length trees - 1) (latest ∷ older)
   pub many : length (latest ∷ older) ≡ min (length trees) keep

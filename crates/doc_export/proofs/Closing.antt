@@ -1,5 +1,9 @@
 -- The result of a run during which a version was dumped: from the opening and the parts of the run
 -- to what is known where the heap is closed, and from there to all of it.
+--
+-- The guest is a client with an empty log. So the law of agreeing logs is cited with one log more,
+-- and Without takes that log away again. What the guest's pass holds of a version fits the list of
+-- versions that the heap has at its close (`Fits`), so its tree is that of the history.
 use Rattle.std.proofs.Common.{◌≡◌, ◌<◌, ◌+◌, ◌++◌, ℕ, List, [], ◌∷◌}
 use Rattle.std.proofs.Common.{length, map, Option, Some, None, refl, sym, ◌∙◌, ap, subst, arith}
 use Rattle.std.proofs.Common.{slice_set}

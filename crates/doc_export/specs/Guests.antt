@@ -57,7 +57,7 @@ pub record Copies (old new : Bound Pass) (copied : Option Copied) : Type 0 where
   pub commits : new.seat.me.pass.commits ≡ old.seat.me.pass.commits
   pub tells : MayTell new.seat.me.pass (marks new) copied
 
--- The guest is through: its mutator, the one with this number, is over, and made no version.
+-- The guest is done: its mutator, the one with this number, is over, and made no version.
 pub record IsThrough (heap : HeapId) (l : Limits) (place : ℕ) (t : Through) : Type 0 where
   pub seat_is : IsSeatOf heap t.seat
   pub number_is : t.seat.me.number ≡ place

@@ -26,7 +26,7 @@ use std::thread::Threads;
 /// Where no thread could be made for the collector, it serves when all seats are joined.
 ///
 /// Before each command its client asks the gate. A client or guest that runs out of memory ends,
-/// the others go on, and the run says so when all are through.
+/// the others go on, and the run says so when all are done.
 pub fn dump_run<R: Threads + Wait + Sync, G: Gate + Sync>(
     alloc: Global,
     rt: &R,

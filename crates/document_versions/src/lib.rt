@@ -1,4 +1,5 @@
-//! Trees of records as the spelling of a store's versions: what joins the documents and the versions.
+//! Trees of records as the spelling of a store's versions: what joins the documents and the
+//! versions.
 //!
 //! version_rule takes any spelling of trees by terms; here is the one of doc_records. So the calls
 //! of version_store on `Documents` give and take the roots of the trees that doc_records reads and

@@ -20,7 +20,8 @@ pub record Heap : Type 0 where
 abbrev pub heap_of : State → Heap
 heap_of s = record { cells = s.cells; colour = colour_of s; field = field_of s }
 
--- the words of a closed heap show it
+-- The words of a closed heap show it. A relation, since nothing says that any words show a heap: so
+-- a number in a field is compared with their count before it is used as an index.
 abbrev pub ShowsHeap : ImageView → Heap → Type 0
 ShowsHeap i h = (s : State) × Shows i s × (heap_of s ≡ h)
 

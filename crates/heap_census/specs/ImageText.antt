@@ -4,7 +4,7 @@ use Rattle.std.specs.Prelude.{ℕ, zero, suc, List, [], ◌++◌, codes, decimal
 use Rattle.cell_texts.specs.Texts.{colour_text, field_text}
 use Rattle.heap_census.specs.Heap.{Heap, is_free}
 
--- the first fields of a cell, each behind a space
+-- the first fields of a cell, each after a space
 abbrev pub fields_text : Heap → ℕ → ℕ → List ℕ
 fields_text h c zero = []
 fields_text h c (suc i) = fields_text h c i ++ (codes " " ++ field_text (h.field c i))

@@ -1,7 +1,9 @@
 -- Which cells have which role: the anchor has its own, and a field of a cell with a role gives one
 -- to the cell that it names.
 --
--- A field gives its role whatever else is wrong with its cell.
+-- A field gives its role whatever else is wrong with its cell. So the roles are the least set that
+-- the layouts ask for, in whatever order cells are looked at. The anchor has a role of its own: so
+-- it is checked, and a version that names it is at fault.
 -- Source: this project's.
 use Rattle.std.specs.Prelude.{ℕ, ◌≡◌, ◌<◌, ◌↔◌, true, List, Some, slice_index_or}
 use Rattle.cell_words.specs.declared.fields.Field.TheVariants.{Cell}

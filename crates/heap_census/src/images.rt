@@ -1,4 +1,7 @@
 //! A closed heap in numbers and as text.
+//!
+//! This module is public, since `census` and `Census` cannot both be names of the crate's root: the
+//! toolchain refuses names of one module that differ only in case.
 ghost use Rattle.core_machine.specs.State.{State};
 ghost use Rattle.heap_census.specs.Census.{AddsUp, IsCensus, IsFaulty, IsSound};
 ghost use Rattle.heap_census.specs.Heap.{heap_of};

@@ -1,4 +1,4 @@
--- The index of the lines by cell, as one line comes behind the others.
+-- The index of the lines by cell, as one line comes after the others.
 use Rattle.std.proofs.Common.{◌≡◌, ℕ, zero, suc, ◌<◌, ◌≤◌, ◌+◌, ◌++◌, true, false, cond}
 use Rattle.std.proofs.Common.{List, [], ◌∷◌, Option, Some, None, length, get_or, eqb, inl, inr}
 use Rattle.std.proofs.Common.{refl, sym, subst, ap, ◌∙◌, arith}

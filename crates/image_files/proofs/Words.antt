@@ -227,7 +227,7 @@ fields_below size (suc count) rest fields few is =
 pub cell_below : (size : ℕ) (read : Option ℕ) (c : ℕ) → below size read ≡ Some c → c < size
 cell_below size read c is = (below_back size c read is).0
 
--- bytes are left behind six fields
+-- bytes are left after six fields
 with_none : (read : Option Field) → with_field read None ≡ None
 with_none None = refl
 with_none (Some f) = refl
@@ -243,7 +243,7 @@ none_left : (size : ℕ) (rest : List ℕ) → eqb (length rest) 0 ≡ false
 none_left size [] is = absurd cc
 none_left size (byte ∷ rest) is = refl
 
--- the rest behind each word of six
+-- the rest after each word of six
 pub record SixRests (r0 r1 r2 r3 r4 r5 r6 : List ℕ) : Type 0 where
   pub one : r1 ≡ next_rest_of r0
   pub two : r2 ≡ next_rest_of r1

@@ -1,4 +1,4 @@
--- How the answers of this crate's calls stand to the definitions: equal, but for want of memory.
+-- How the answers of this crate's calls relate to the definitions: equal, unless out of memory.
 -- Source: this project's own.
 use Rattle.std.specs.Prelude.{◌≡◌, ℕ, false, List, [], Result, Ok, Err, Option, Some, None}
 use Rattle.std.specs.Borrow.{Bor}

@@ -1,8 +1,8 @@
 -- What a text holds that may be a heap file: the number of cells and the lines of those in use, or
 -- the first faulty line.
 --
--- The head is line 1: the line behind N lines of cells is line N + 2, and behind the end it is line
--- N + 3. A line is looked at behind those before it, where no line is at fault among them.
+-- The head is line 1: the line after N lines of cells is line N + 2, and what comes after the end
+-- is line N + 3. A line is looked at after those before it, where no line is at fault among them.
 -- Source: this project's own.
 use Rattle.std.specs.Prelude.{ℕ, Bool, true, false, ◌+◌, List, [], ◌∷◌, ◌++◌, length, nat_le}
 use Rattle.std.specs.Prelude.{Option, Some, None, Result, Ok, Err, if◌then◌else◌}
@@ -47,7 +47,7 @@ in_order least (Ok held.End) = Ok held.End
 in_order least (Ok (held.Cell l)) =
     if nat_le least l.cell then Ok (held.Cell l) else Err NoOrder
 
--- a line behind these
+-- a line after these
 abbrev pub turn_of : ℕ → List CellLine → Bool → List ℕ → Result Held ImageKind
 turn_of size before has line = in_order (least_after before) (line_of size has line)
 
@@ -55,14 +55,14 @@ turn_of size before has line = in_order (least_after before) (line_of size has l
 abbrev pub ended : List CellLine → List (List ℕ) → Result (List CellLine) ImageFault
 ended before lines = if is_end lines then Ok before else fault_at (length before + 3) BadEnd
 
--- the rest behind a line
+-- the rest after a line
 abbrev pub with_turn : List CellLine → Result Held ImageKind → List (List ℕ)
     → (List CellLine → Result (List CellLine) ImageFault) → Result (List CellLine) ImageFault
 with_turn before (Err kind) lines later = fault_at (length before + 2) kind
 with_turn before (Ok held.End) lines later = ended before lines
 with_turn before (Ok (held.Cell l)) lines later = later (before ++ l ∷ [])
 
--- all lines of cells, behind these
+-- all lines of cells, after these
 abbrev pub lines_from : ℕ → List CellLine → List (List ℕ) → Result (List CellLine) ImageFault
 lines_from size before [] = fault_at (length before + 2) BadEnd
 lines_from size before (line ∷ lines) =
@@ -73,7 +73,7 @@ abbrev pub with_lines : ℕ → Result (List CellLine) ImageFault → Result Con
 with_lines size (Ok lines) = Ok (record { cells = size; lines = lines })
 with_lines size (Err fault) = Err fault
 
--- the rest behind a head, which is none without its line feed
+-- the rest after a head, which is none without its line feed
 abbrev pub with_head : Option ℕ → Bool → List (List ℕ) → Result Contents ImageFault
 with_head None has lines = fault_at 1 NoHead
 with_head (Some size) false lines = fault_at 1 NoHead

@@ -74,7 +74,7 @@ with_field None fields = None
 with_field (Some f) None = None
 with_field (Some f) (Some fields) = Some (f ∷ fields)
 
--- so many fields, each behind a space, and nothing behind them
+-- so many fields, each after a space, and nothing more
 abbrev pub fields_in : ℕ → ℕ → List ℕ → Option (List Field)
 fields_in size zero [] = Some []
 fields_in size zero (byte ∷ bytes) = None

@@ -11,7 +11,7 @@ use heap_census::{Flaw, NoMemory};
 pub enum ImageKind {
     /// line 1 is no head with a number of cells from 64 to 4,194,304
     NoHead,
-    /// a line is missing, or stands behind the end
+    /// a line is missing, or comes after the end
     BadEnd,
     /// the line is none of a cell in use, or its cell or one that it names is not below the number
     /// of cells

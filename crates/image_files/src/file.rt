@@ -1,4 +1,7 @@
 //! The cells of a heap file, as its lines show them.
+//!
+//! There is a place for each cell. A search among the lines would do with less memory, but a census
+//! keeps flags for each cell anyway.
 ghost use Rattle.image_files.specs.File.{FileView, IsFile, LineFits, ShowsFile, file_fits};
 ghost use Rattle.image_files.specs.File.{line_for, line_number, place_of};
 ghost use Rattle.std.specs.Prelude.{IfOk, OnOk, [], length, ◌++◌, ◌+◌, ◌<◌, ◌≡◌, ◌≤◌, ◌∷◌};

@@ -16,7 +16,7 @@ pub(crate) struct CellLine {
     pub fields: [Field; 6],
 }
 
-/// What a line holds behind the head.
+/// What a line after the head holds.
 #[derive(Clone, Copy)]
 pub(crate) enum Held {
     End,
@@ -100,7 +100,7 @@ fn colour_in(word: &[u8]) -> Option<Colour>
     }
 }
 
-// Six fields, each behind a space.
+// Six fields, each after a space.
 fn fields_in(size: u32, rest: &[u8]) -> Option<[Field; 6]>
     ensures { result ≡ fields_in size 6 rest.now }
 {

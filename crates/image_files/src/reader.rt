@@ -48,7 +48,7 @@ fn fault_at(line: u32, kind: ImageKind) -> ImageError
     ImageError::Fault(ImageFault { line, kind })
 }
 
-// The lines behind the head.
+// The lines after the head.
 fn read_lines(alloc: Global, size: u32, bytes: &[u8]) -> Result<ImageFile, ImageError>
     requires some { 0 < size }
     requires few { size ≤ 4_194_304 }
@@ -72,7 +72,7 @@ fn read_lines(alloc: Global, size: u32, bytes: &[u8]) -> Result<ImageFile, Image
     Err(fault_at(file.count() + 2, ImageKind::BadEnd))
 }
 
-// The line behind those of a file.
+// The line after those of a file.
 fn read_turn(file: &ImageFile, line: &[u8], has_feed: bool) -> Result<Held, ImageKind>
     requires { IsFile file.now }
     ensures { result ≡ turn_of file.now.size file.now.lines has_feed line.now }

@@ -1,4 +1,4 @@
--- The rule where an item is taken: the anchor goes from a box to the one behind it.
+-- The rule where an item is taken: the anchor goes from a box to the one after it.
 use Rattle.std.proofs.Common.{◌≡◌, ◌≢◌, ℕ, ◌+◌, ◌<◌, ◌≤◌, List, [], ◌∷◌, ◌++◌, length, All}
 use Rattle.std.proofs.Common.{set, length-set, inl, inr, refl, sym, ◌∙◌, ap, subst}
 use Rattle.std.proofs.lemmas.List.{length_push}

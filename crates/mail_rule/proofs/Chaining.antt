@@ -1,4 +1,4 @@
--- The items behind a box: as many boxes as were sent behind it.
+-- The items after a box: as many boxes as were sent after it.
 use Rattle.std.proofs.Common.{◌≡◌, ℕ, zero, suc, ◌+◌, ◌-◌, List, [], ◌∷◌, length, inl, inr, arith}
 use Rattle.heap_rule.specs.Boxes.{Map}
 use Rattle.heap_rule.specs.Numbered.{HasNumber}

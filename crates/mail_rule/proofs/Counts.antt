@@ -1,4 +1,4 @@
--- What the passes come to in numbers, by the rule.
+-- What the passes say in numbers, by the rule.
 use Rattle.std.proofs.Common.{◌≡◌, ℕ, zero, suc, ◌+◌, ◌-◌, ◌*◌, ◌<◌, ◌≤◌, List, [], ◌∷◌, ◌++◌}
 use Rattle.std.proofs.Common.{flat_map, length, get_or, Contains, All, IsPermutation, refl, sym}
 use Rattle.std.proofs.Common.{map as mapped, ◌∙◌, ap, subst, arith}

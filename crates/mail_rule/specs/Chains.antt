@@ -1,4 +1,4 @@
--- The items behind one: each box names the next, down to the last one.
+-- The items after one: each box names the next, down to the last one.
 -- Source: this project's.
 use Rattle.std.specs.Prelude.{ℕ, ◌≡◌, ◌+◌, List, [], ◌∷◌, length, Some}
 use Rattle.cell_words.specs.Term.{null}
@@ -7,7 +7,7 @@ use Rattle.heap_rule.specs.Lore.{Named, Plain}
 use Rattle.mail_rule.specs.Items.{Letter}
 use Rattle.mail_rule.specs.Mail.{HasItem}
 
--- the boxes behind the one at this cell, which has the item at this position, in order
+-- the boxes after the one at this cell, which has the item at this position, in order
 pub data Follow (letters : List Letter) (map : Map) : (cell position : ℕ) (cells : List ℕ)
     → Type 0 where
   last : {cell position : ℕ} (box : Payload) → map cell ≡ Some box
@@ -18,7 +18,7 @@ pub data Follow (letters : List Letter) (map : Map) : (cell position : ℕ) (cel
       → Follow letters map next (position + 1) cells
       → Follow letters map cell position (next ∷ cells)
 
--- these boxes stand behind it, as many as were sent behind it
+-- these boxes come after it, as many as were sent after it
 pub record Behind (letters : List Letter) (map : Map) (cell position : ℕ) : Type 0 where
   pub cells : List ℕ
   pub many : position + length cells ≡ length letters

@@ -1,5 +1,5 @@
--- What the passes of a mailbox come to, told without witnesses: which positions were sent and
--- taken, and whose the item of a take is.
+-- What the passes of a mailbox say, told without witnesses: which positions were sent and taken,
+-- and whose the item of a take is.
 -- Source: this project's.
 use Rattle.std.specs.Prelude.{ℕ, ◌≡◌, ◌+◌, List, map, flat_map, length, Contains, IsPermutation}
 use Rattle.std.specs.List.{range_with_len}

@@ -62,7 +62,7 @@ pub record MaySend (v : View MailPass) (place box : ℕ) (sent : Sent) : Type 0 
   pub few : length v.pass.sends < 100_000
 
 -- And for a take: the anchor's place, that of the item which was taken last when it was read, and
--- that of the item behind it.
+-- that of the item after it.
 pub record MayTake (v : View MailPass) (place latest next : ℕ) (item : Item) : Type 0 where
   pub anchor : target v place ≡ 0
   pub last : Item

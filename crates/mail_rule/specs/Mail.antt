@@ -2,7 +2,9 @@
 --
 -- It is said with two witnesses: the items that were sent, in the order of their positions, and who
 -- took the first of them. So there are as many sends as letters and as many takes as takers, and
--- each position is one mutator's. What that comes to in numbers is in specs/Counted.
+-- each position is one mutator's. What that gives in numbers is in specs/Counted. A send or a take
+-- makes one list longer by one at its end; said by counting, each send would have to show again
+-- that a list of lists is a permutation.
 -- Source: this project's.
 use Rattle.std.specs.Prelude.{ℕ, ◌≡◌, ◌≢◌, ◌<◌, ◌≤◌, ◌+◌, ◌⊎◌, ◌==◌, ◌||◌, Bool, List}
 use Rattle.std.specs.Prelude.{length, All, Some}

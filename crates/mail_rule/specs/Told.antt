@@ -25,7 +25,7 @@ pub record TellsLatest (tells : Learned) (found : Found) : Type 0 where
   pub item : Item
   pub tells_item : TellsItem tells found item
 
--- an item's next field is the box of the item behind it
+-- an item's next field is the box of the item after it
 pub record TellsFollowing (position : ℕ) (tells : Learned) (found : Found) : Type 0 where
   pub item : Item
   pub follows : item.position ≡ position + 1

@@ -46,8 +46,8 @@ pub fn a_send_keeps_mail()
         (event.Write v.number place 3 field.Null (field.Cell (target v box))) }
 {}
 
-/// A take is one write of the anchor's field, from the box of an item to the box behind it. The
-/// rule stands whether the write was made or not; made, the pass has the item of that box.
+/// A take is one write of the anchor's field, from the box of an item to the box after it. The rule
+/// stands whether the write was made or not; made, the pass has the item of that box.
 pub fn a_take_keeps_mail()
     ensures { (v : View MailPass) (place latest next : ℕ) (item : Item)
         → MayTake v place latest next item
@@ -98,7 +98,7 @@ pub fn items_are_few()
         → position ≤ length (all_sent passes) }
 {}
 
-/// From each box on the items that were sent behind it follow, each box naming the next, down to
+/// From each box on, the items that were sent after it follow, each box naming the next, down to
 /// the last one.
 pub fn items_follow()
     ensures { (map : Map) (passes : List MailPass) (h : HoldsMail map passes)

@@ -32,7 +32,7 @@ pub record HasDrained (lines : ℕ) (items : List Item) (failed : Bool)
   pub receives : failed ≡ false → Receives lines items share.pass (marks_of share.trail)
   pub emptied : failed ≡ false → Empties lines (marks_of share.trail)
 
--- Each sender has sent its script, and the receiver, which has the last mutator, is through.
+-- Each sender has sent its script, and the receiver, which has the last mutator, is done.
 pub record AreThrough (cells : ℕ) (scripts : List (List ℕ))
     (sent : List (Vec (Option ℕ) Global)) (items : List Item) (failed : Bool)
     (joined : List (Place MailPass)) : Type 0 where

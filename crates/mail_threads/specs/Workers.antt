@@ -47,7 +47,7 @@ pub record IsReady (heap : HeapId) (queue : FreeQueue) (script : List ℕ) (plac
   pub short : length script ≤ 100_000
   pub small : AreSmall script
 
--- The sender is through: its mutator is over, and has sent the lines that have a position.
+-- The sender is done: its mutator is over, and has sent the lines that have a position.
 pub record IsDone (heap : HeapId) (script : List ℕ) (place : ℕ) (sender : Sender) : Type 0 where
   pub place_is : sender.place ≡ place
   pub seat_is : IsSeatOf heap sender.seat
@@ -80,8 +80,8 @@ pub record IsHalfway (heap : HeapId) (place lines : ℕ) (m : Bound MailPass) (i
   pub out : m.seat.me.presence.inside ≡ false
   pub received : failed ≡ false → Receives lines items m.seat.me.pass (marks_of m.seat.me.trail)
 
--- The receiver is through: its mutator is over. Unless memory ran out, it took a turn for each
--- line, and more until one found nothing, and it has what it took.
+-- The receiver is done: its mutator is over. Unless memory ran out, it took a turn for each line,
+-- and more until one found nothing, and it has what it took.
 pub record HasReceived (heap : HeapId) (place lines : ℕ) (receiver : Receiver) : Type 0 where
   pub seat_is : IsSeatOf heap receiver.seat
   pub number_is : receiver.seat.me.number ≡ place

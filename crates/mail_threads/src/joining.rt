@@ -36,7 +36,7 @@ fn receive_lines<'a, R: Wait>(
     (m, items, !whole)
 }
 
-/// Takes what is left when all senders are through; its mutator is over then.
+/// Takes what is left when all senders are done; its mutator is over then.
 fn receive_rest<R: Wait>(
     rt: &R,
     heap: &CellHeap<MailPass>,
@@ -64,7 +64,7 @@ fn receive_rest<R: Wait>(
 }
 
 /// Runs the senders, each on a thread of its own, and the receiver alongside them: it takes once
-/// for each line. After they are through it takes until nothing is left.
+/// for each line. After they are done it takes until nothing is left.
 pub fn run_all<R: Threads + Wait + Sync>(
     rt: &R,
     heap: &CellHeap<MailPass>,

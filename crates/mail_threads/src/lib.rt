@@ -3,7 +3,7 @@
 //!
 //! A sender sends the lines of its script by a mutator of its own; what each line was answered is
 //! kept. Alongside the senders, the receiver takes once for each line that anybody sends, each time
-//! when there is an item or none came for a while. After they are through it takes until it finds
+//! when there is an item or none came for a while. After they are done it takes until it finds
 //! nothing more. No clause says that anything runs concurrently.
 //!
 //! Reading order: specs/Posts, Receipts; specs/Calls, `posting`, `receiving`; `workers`,

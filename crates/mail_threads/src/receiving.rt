@@ -18,7 +18,7 @@ const FEWER: u32 = 64;
 const LEAST: u32 = 1;
 
 /// How many looks come before the next take. The longer nothing came, the fewer they are: where
-/// lines were refused, the receiver has takes left when all senders are through, and should end
+/// lines were refused, the receiver has takes left when all senders are done, and should end
 /// soon.
 fn looks_after(looks: u32, found: bool) -> u32 {
     if found {

@@ -34,7 +34,7 @@ pub fn take_back(
     }
 }
 
-/// Joins the seat of a sender that is through, and gives the answers to its lines.
+/// Joins the seat of a sender that is done, and gives the answers to its lines.
 fn joined(
     heap: &CellHeap<MailPass>,
     sender: Sender,

@@ -1,4 +1,4 @@
--- What the logs of a run come to. Each client left a log in step with the pass, the trail and the
+-- What the logs of a run show. Each client left a log in step with the pass, the trail and the
 -- claims of its mutator, and the collector's view at the close has these of the last state.
 --
 -- agree, legal  each log is tied to its mutator's pass, and the passes are those of the rule.

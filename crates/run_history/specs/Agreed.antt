@@ -1,4 +1,4 @@
--- What the logs of a run come to at the close of its heap, which held versions of documents.
+-- What the logs of a run show at the close of its heap, which held versions of documents.
 -- Source: this project's.
 use Rattle.std.specs.Prelude.{ℕ, ◌≡◌, ◌≤◌, ◌+◌, true, List, [], length}
 use mathlib.Core.Option.{some}

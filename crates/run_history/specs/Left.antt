@@ -1,4 +1,5 @@
--- What clients leave behind their last commands: their logs, and what their mutators' seats had.
+-- What clients leave after their last commands: their logs, and what their mutators' seats had. It
+-- is said of the seat and not of its session, of which nothing outlives its thread.
 -- Source: this project's.
 use Rattle.std.specs.Prelude.{ℕ, ◌≡◌, ◌+◌, ◌<◌, List}
 use mathlib.Core.Option.{some}

@@ -91,7 +91,7 @@ sort_lasts Records (knows.Raw fields) k is still = absurd is
 sort_lasts Records (knows.Fresh fields) k is still = absurd is
 sort_lasts Records (knows.Boxed told) k is still = absurd is
 
--- an open place is open on, where its cell stays and, behind the first, what is known of it
+-- an open place stays open where its cell stays and, after the first place, what is known of it
 pub open_lasts : (v w : View Sorting) (place : ℕ) → target w place ≡ target v place
     → (1 ≤ place → StillKnown no_field_is_fixed (known_of v place) (known_of w place))
     → IsOpen v place → IsOpen w place

@@ -11,7 +11,7 @@ use Rattle.sorted_rule.specs.Sorts.{Sort, sort_of}
 use Rattle.sorted_rule.specs.declared.sorting.Sorting.{Sorting}
 use Rattle.sorted_boxes.specs.Calls.{Gave}
 
--- behind so many reads
+-- after so many reads
 pub record ReadOn (n : ℕ) (a b : Bound Sorting) : Type 0 where
   pub more : length a.seat.me.own.held ≤ length b.seat.me.own.held
   pub few : length b.seat.me.own.held ≤ length a.seat.me.own.held + n

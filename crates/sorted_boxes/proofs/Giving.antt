@@ -41,7 +41,7 @@ box_sealed (knows.Raw fields) is = absurd is
 box_sealed (knows.Fresh fields) is = absurd is
 box_sealed (knows.Record t) is = absurd is
 
--- behind the first place an open one has a box
+-- after the first place an open one has a box
 pub open_box_known : (v : View Sorting) (place : ℕ) → 1 ≤ place → IsOpen v place
     → KnownOfSort Boxes (known_of v place)
 open_box_known v zero some is = absurd (omega (arith, some))

@@ -1,4 +1,4 @@
--- What a mutator holds behind each kind of call.
+-- What a mutator holds after each kind of call.
 use Rattle.std.proofs.Common.{◌≡◌, ◌<◌, ◌≤◌, ◌+◌, ◌++◌, ◌∷◌, ℕ, zero, suc, true, List, []}
 use Rattle.std.proofs.Common.{length, get_or, inl, inr, refl, sym, ◌∙◌, ap, subst, arith}
 use Rattle.std.proofs.lemmas.Bool.{cases_lt}
@@ -36,7 +36,7 @@ use Rattle.sorted_boxes.specs.Holding.{HoldsAnchor, HoldsAtLeast}
 use Rattle.sorted_boxes.proofs.Carrying.{open_lasts}
 use Rattle.sorted_boxes.proofs.Giving.{box_known_open}
 
--- The places from before are held, and maybe others behind them, which are open.
+-- The places from before are held, and maybe others after them, which are open.
 pub holds_on : (least : ℕ) (a b : Bound Sorting) (cells : List ℕ)
     → held_cells b ≡ held_cells a ++ cells
     → b.seat.me.presence.inside ≡ a.seat.me.presence.inside

@@ -1,4 +1,4 @@
--- Keeping the first places, and behind them some of the others.
+-- Keeping the first places, and then some of the others.
 use Rattle.std.proofs.Common.{◌≡◌, ◌<◌, ◌≤◌, ◌+◌, ◌-◌, ◌⊎◌, ◌++◌, ℕ, zero, suc, true, List, []}
 use Rattle.std.proofs.Common.{length, get_or, take, drop, inl, inr, refl, sym, ◌∙◌, ap, subst, arith}
 use Rattle.std.proofs.lemmas.Bool.{cases_lt}
@@ -141,7 +141,7 @@ module _ (b c : Bound Sorting) (n place count : ℕ) (p : Found)
           opened = λ i lt. kept_open i (let so_many = narrowed_many in omega (arith, lt, so_many));
         }
 
-      -- of open places, where the others stand behind the anchor's
+      -- of open places, where the others stand after the anchor's
       pub keep_holds : (least before : ℕ) → least ≤ n → 1 ≤ n → (1 ≤ place) ⊎ (count ≡ 0)
           → HoldsAtLeast before b.seat.me → HoldsAtLeast least c.seat.me
       keep_holds least before enough some placed at =

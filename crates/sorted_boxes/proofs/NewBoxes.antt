@@ -1,4 +1,4 @@
--- A box that was made of open values: it is held behind open places, and may be shown.
+-- A box that was made of open values: it is held after open places, and may be shown.
 use Rattle.std.proofs.Common.{◌≡◌, ◌<◌, ◌≤◌, ◌+◌, ◌∷◌, ℕ, zero, suc, List, [], true, length}
 use Rattle.std.proofs.Common.{Bool, if◌then◌else◌, take, slice_index_or, refl, sym, ◌∙◌, ap, subst, arith}
 use Rattle.std.proofs.lemmas.Bool.{lt-ltb}

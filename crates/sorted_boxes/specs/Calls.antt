@@ -69,7 +69,7 @@ module _ (place f : ℕ) (new : Value) where
     no_try : {a : Bound Sorting} → AllRefused a a
     one_more : {a b c : Bound Sorting} → AllRefused a b → Refused b c → AllRefused a c
 
-  -- the value was stored, behind tries that were refused
+  -- the value was stored, after tries that were refused
   pub record Wrote (old after : Bound Sorting) : Type 0 where
     pub from : Bound Sorting
     pub refused : AllRefused old from
@@ -85,7 +85,7 @@ pub record Leaves (cells : List ℕ) (old new : Bound Sorting) : Type 0 where
 abbrev pub KeepsPlaces : Bound Sorting → Bound Sorting → Type 0
 KeepsPlaces old new = Leaves (held_cells old) old new
 
--- the first n, and behind them so many from a place on
+-- the first n, and then so many from a place on
 abbrev pub Narrows : (n place count : ℕ) → Bound Sorting → Bound Sorting → Type 0
 Narrows n place count old new =
     Leaves (take n (held_cells old) ++ take count (drop place (held_cells old))) old new
@@ -94,7 +94,7 @@ Narrows n place count old new =
 abbrev pub Drops : ℕ → Bound Sorting → Bound Sorting → Type 0
 Drops n old new = Leaves (take n (held_cells old)) old new
 
--- The raw cell at a place, which was claimed behind all others, became a box with these fields that
+-- The raw cell at a place, which was claimed after all others, became a box with these fields that
 -- nobody else knows.
 pub record Sealed (place : ℕ) (given : List Value) (old new : Bound Sorting) : Type 0 where
   pub before : Bound Sorting

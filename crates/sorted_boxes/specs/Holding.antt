@@ -44,7 +44,7 @@ pub record HoldsFirst (n : ℕ) (v : View Sorting) : Type 0 where
   pub fit : n ≤ length v.own.held
   pub opened : (place : ℕ) → place < n → IsOpen v place
 
--- A new box that nobody else knows is held at the last place, behind so many open ones.
+-- A new box that nobody else knows is held at the last place, after so many open ones.
 pub record HoldsNew (fresh : ℕ) (v : View Sorting) : Type 0 where
   pub first : HoldsFirst fresh v
   pub some : 1 ≤ fresh

@@ -24,8 +24,8 @@ pub fn answer(heap: &CellHeap<Sorting>, seat: &mut MutSeat<Sorting>) -> bool
     operations::answer(heap, seat)
 }
 
-/// Keeps the first places, the anchor's and the scratch box's at least, and behind them so many
-/// from a place on. The anchor is not held twice.
+/// Keeps the first places, the anchor's and the scratch box's at least, and then so many from a
+/// place on. The anchor is not held twice.
 pub fn keep(
     heap: &CellHeap<Sorting>,
     seat: &mut MutSeat<Sorting>,
@@ -50,7 +50,7 @@ pub fn keep(
     operations::keep(heap, seat, first, place, count);
 }
 
-/// Keeps the first places, which are open, and behind them boxes.
+/// Keeps the first places, which are open, and then boxes.
 pub(crate) fn narrow(
     heap: &CellHeap<Sorting>,
     seat: &mut MutSeat<Sorting>,

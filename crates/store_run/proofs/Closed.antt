@@ -1,4 +1,4 @@
--- What a run comes to, from what stands at the close of its heap.
+-- The outcome of a run, from what stands at the close of its heap.
 --
 -- counted   the state that the image shows, with the versions that stay
 -- comes     all of it

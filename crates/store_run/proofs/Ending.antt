@@ -1,4 +1,8 @@
 -- From the opening of a run and its parts to what stands where its heap is closed.
+--
+-- A collector that got no thread serves late, after all seats were joined. So each of its polls
+-- finds its mutator over: the ledger has what the joined mutator left (heap_table proofs/Looking,
+-- cell_heap proofs/Joined, collector proofs/Joining).
 use Rattle.std.proofs.Common.{◌≡◌, ◌≤◌, ℕ}
 use Rattle.std.proofs.Common.{List, [], ◌∷◌}
 use Rattle.std.proofs.Common.{All, length, map}

@@ -1,7 +1,7 @@
 -- What a run of clients comes to: its logs, the image of its heap, what the seats had at the close,
 -- and the totals.
 --
--- All is said of one heap that was opened for this run and closed behind it: of the core state that
+-- All is said of one heap that was opened for this run and closed after it: of the core state that
 -- its words show at the close, and of the trails and passes that its seats left.
 -- Source: this project's.
 use Rattle.std.specs.Prelude.{ℕ, ◌≡◌, ◌≤◌, ◌<◌, ◌+◌, ◌-◌}

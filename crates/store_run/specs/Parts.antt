@@ -1,4 +1,4 @@
--- What stands between the parts of a run: behind the opening, and at the close.
+-- What stands between the parts of a run: after the opening, and at the close.
 -- Source: this project's.
 use Rattle.std.specs.Prelude.{ℕ, ◌≡◌, List, length, Vec}
 use Rattle.std.specs.declared.alloc.Global.{Global}

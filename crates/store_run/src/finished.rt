@@ -2,7 +2,7 @@ use cell_heap::{Image, Passes};
 use doc_model::{Log, Totals};
 use document_versions::Documents;
 
-/// What a run comes to: what each client was answered, the heap at its close, what all seats had
+/// The outcome of a run: what each client was answered, the heap at its close, what all seats had
 /// then, and the totals.
 #[derive(Drop)]
 pub struct Finished {

@@ -1,8 +1,8 @@
 //! The heap of a run, from its opening to its close. All memory of a run but that of its answers is
-//! taken at the opening, so nothing that is begun has to be given up for want of it.
+//! taken at the opening, so nothing that has begun is given up for lack of it.
 //!
 //! An opened heap can't be let go, and no other module can take it apart: `run_opened` alone does,
-//! and that closes it. So whoever opened one closes it, also where memory is wanting.
+//! and that closes it. So whoever opened one closes it, also where memory runs out.
 ghost use Rattle.std.specs.Prelude.{◌≡◌, ◌≤◌, All, IfOk, [], false, length, map, vec_capacity};
 ghost use Rattle.client_run.specs.Options.{IsWithin};
 ghost use Rattle.client_threads.specs.Clients.{AllDone, AllReady};
@@ -27,7 +27,7 @@ pub(crate) struct Opened {
     store: OpenStore,
 }
 
-/// What a run comes to behind its opening, and whether memory was wanting for some client.
+/// The outcome of a run after its opening, and whether memory ran out for some client.
 #[derive(Drop)]
 pub(crate) struct Closed {
     pub(crate) finished: Finished,
@@ -62,9 +62,9 @@ pub(crate) fn open_run<R: Threads + Wait + Sync>(
     Ok(Opened { store })
 }
 
-/// Runs the scripts' commands on the opened heap and closes it, whatever became of the clients. What
-/// is finished is a run of the commands that were answered: the first of each script, or all of them
-/// where nobody wanted memory. The list has room for the logs.
+/// Runs the scripts' commands on the opened heap and closes it, whatever became of the clients.
+/// What is finished is a run of the commands that were answered: the first of each script, or all
+/// of them where nobody ran out of memory. The list has room for the logs.
 pub(crate) fn run_opened<R: Threads + Wait + Sync, G: Gate + Sync>(
     alloc: Global,
     rt: &R,

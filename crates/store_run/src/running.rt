@@ -14,13 +14,14 @@ use std::alloc::Global;
 use std::sync::Wait;
 use std::thread::Threads;
 
-/// Runs the scripts' commands on one store, each script by a client on a thread of its own, beside
-/// the collector. All memory but that of the answers is taken before the first thread begins.
+/// Runs the scripts' commands on one store, each script by a client on a thread of its own,
+/// concurrently with the collector. All memory but that of the answers is taken before the first
+/// thread begins.
 ///
 /// Where no thread could be made for the collector, it serves when all seats are joined.
 ///
-/// Before each command its client asks the gate. Where memory is wanting, the client that wants it
-/// ends, the others go on, and the run answers so behind them.
+/// Before each command its client asks the gate. Where memory runs out, the client that asked for
+/// it ends, the others go on, and the run answers so after them.
 pub fn run_clients<R: Threads + Wait + Sync, G: Gate + Sync>(
     alloc: Global,
     rt: &R,

@@ -54,7 +54,7 @@ module _ (is_tree : Term → Type 0) (tree_of : Term → DocTree) (map : Map) (p
       let made = made_of is_tree tree_of map passes h c old.box u old.there old.number_is in
       let latest = latest_is in omega (arith, made, latest, follows)
 
-  -- the anchor beside the new box
+  -- the anchor, where the new box is added
   latest_beside : HasLatest shown (length h.trees - 1)
   latest_beside = names_beside map z box absent (length h.trees - 1) h.latest
 

@@ -16,7 +16,7 @@ pub data Chain (map : Map) : (cells : List ℕ) (number : ℕ) → Type 0 where
 
 -- from this cell on, so many versions stay
 pub record Stays (map : Map) (cell number count : ℕ) : Type 0 where
-  -- behind the first
+  -- after the first
   pub cells : List ℕ
   pub chain : Chain map (cell ∷ cells) number
   pub many : length cells + 1 ≡ count

@@ -1,4 +1,6 @@
--- What a mutator is told of versions, and the passes that it picks by it.
+-- What a mutator is told of versions, and the passes that it picks by it. A pass sees a version
+-- when the anchor is read, and not only when its number is. A write of the anchor that is refused
+-- and a link that is null show that there are newer versions: it sees these too.
 -- Source: this project's.
 use Rattle.std.specs.Prelude.{ℕ, ◌≡◌, ◌<◌, ◌≤◌, ◌+◌, ◌-◌, List, [], ◌∷◌, length, Option, Some, None}
 use Rattle.std.specs.Prelude.{Bool, true, false, slice_index_or}

@@ -3,8 +3,9 @@ ghost use Rattle.doc_tree.specs.Tree.{DocTree, empty};
 ghost use Rattle.std.specs.Prelude.{◌≡◌};
 ghost use Rattle.version_rule.specs.Spelling.{bare_root};
 
-/// How records spell trees. The rule of versions takes it as it is, and no code makes a value of
-/// such a type.
+/// How records spell trees: functions and no relation, since a step tells the term that was read,
+/// and a pass has its tree. The rule of versions takes it as it is, and so stands below the records
+/// of trees and knows no layout of theirs. No code makes a value of such a type.
 pub trait Spelling {
     // the terms that spell a tree
     ghost is_tree: { Term → Type 0 };

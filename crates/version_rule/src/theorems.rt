@@ -48,7 +48,7 @@ pub fn versions_open<S: Spelling>()
         (opening_passes opening_pass h) }
 {}
 
-/// The rule stands behind each read of the anchor or of a version that the mutator knows, with the
+/// The rule stands after each read of the anchor or of a version that the mutator knows, with the
 /// pass that is picked there.
 pub fn reads_keep_versions<S: Spelling>()
     ensures latest { (v : View Pass) (place : ℕ) → target v place ≡ 0

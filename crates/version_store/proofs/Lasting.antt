@@ -1,4 +1,5 @@
--- What lasts across a call, by its trail and its pass; and what its marks show.
+-- What lasts across a call, by its trail and its pass; and what its marks show. `lasts_then` and
+-- `same_then` put two calls together.
 use Rattle.std.proofs.Common.{◌≡◌, ◌≤◌, ◌+◌, ℕ, List, [], ◌∷◌, ◌++◌}
 use Rattle.std.proofs.Common.{sym, ◌∙◌, ap, subst, arith}
 use Rattle.std.proofs.lemmas.List.{append-nil, append_assoc}

@@ -7,8 +7,9 @@ use Rattle.trails.specs.Marks.{Mark, marks_of}
 use Rattle.version_rule.specs.Fits.{Narrows}
 use Rattle.version_rule.specs.Pass.{Pass}
 
--- Of the passes, the marks and the claims before and after a call. Every list of versions that fits
--- the pass after it also fits the pass before it.
+-- Of the passes, the marks and the claims before and after a call, which are plain values: so one
+-- lemma puts calls of several crates together. Every list of versions that fits the pass after it
+-- also fits the pass before it.
 pub record Lasts (p q : Pass) (a b : List Mark) (x y : ℕ) : Type 0 where
   pub narrows : Narrows p q
   pub keep : q.keep ≡ p.keep

@@ -101,7 +101,7 @@ fn cut_off<S: Spelling>(m: &mut Mutator<'_, Versions<S>>, v: HeldVersion, keep: 
     }
 }
 
-/// Follows so many links, or comes to one that is null. The number is read first, since a read
+/// Follows so many links, or as far as one that is null. The number is read first, since a read
 /// shows that as much is known as is held.
 fn walk_back<S: Spelling, C: Choice<Versions<S>>>(
     m: &mut Mutator<'_, Versions<S>>,
