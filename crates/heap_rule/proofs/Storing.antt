@@ -227,13 +227,24 @@ module _ (fixed : ℕ
       (λ g. stored_fields y g (λ same e. other same)) refl refl (λ g. refl) is
 
   -- then of the cell that the value names
-  revealed_known : (y : ℕ) (w : Known) → Then y w
+  revealed_known : (y : ℕ) (w : Known) → value ≡ field.Cell y → Then y w
       → KnownAt fixed l.terms (field_of t y) (l.terms y) (fresh y) i y (known_revealed w)
-  revealed_known y knows.Nothing is = tt
-  revealed_known y (knows.Raw fs) is = tt
-  revealed_known y (knows.Fresh fs) is = tt
-  revealed_known y (knows.Record term) is = is
-  revealed_known y (knows.Boxed told) is = (is.0, is.1, revealed_none l.fresh value y is.2, is.3)
+  revealed_known y knows.Nothing it is = tt
+  revealed_known y (knows.Raw fs) it is = tt
+  revealed_known y (knows.Fresh fs) it is = (
+    λ anchor. absurd (let none : None ≡ Some i = sym facts.freshed.anchor
+        ∙ ap l.fresh (sym anchor) ∙ is.1 in cc),
+    is.0,
+    ap (λ (v : Field). revealed l.fresh v y) it ∙ put_here l.fresh y None,
+    λ g term lt fixed_here told. absurd cc,
+  )
+  revealed_known y (knows.Record term) it is = is
+  revealed_known y (knows.Boxed told) it is = (
+    is.0,
+    is.1,
+    revealed_none l.fresh value y is.2,
+    is.3,
+  )
 
   unnamed_known : (y : ℕ) (w : Known) → (value ≡ field.Cell y → ⊥) → Then y w
       → KnownAt fixed l.terms (field_of t y) (l.terms y) (fresh y) i y w
@@ -255,7 +266,7 @@ module _ (fixed : ℕ
       all_known Then After cells known (λ y w h. unnamed_known y w (λ e. let no = is
       ∙ e in absurd cc)) all
   named_known (field.Cell c) is cells known all =
-      all_changed Then After known_revealed c cells known (revealed_known c)
+      all_changed Then After known_revealed c cells known (λ w. revealed_known c w (sym is))
       (λ y w other h. unnamed_known y w (λ e. other (let same = is ∙ e in cc))) all
 
   pub stored_known : (cells : List ℕ) (place : ℕ) → get_or cells place 0 ≡ x

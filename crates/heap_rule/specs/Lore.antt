@@ -238,11 +238,11 @@ known_set f value (knows.Fresh fields) = knows.Fresh (slice_set fields f value)
 known_set f value (knows.Record t) = knows.Record t
 known_set f value (knows.Boxed terms) = knows.Boxed terms
 
--- the cell is fresh no longer
+-- the cell is fresh no longer: a fresh box stays a box, whose fields any thread may write now
 abbrev pub known_revealed : Known → Known
 known_revealed knows.Nothing = knows.Nothing
 known_revealed (knows.Raw fields) = knows.Nothing
-known_revealed (knows.Fresh fields) = knows.Nothing
+known_revealed (knows.Fresh fields) = knows.Boxed []
 known_revealed (knows.Record t) = knows.Record t
 known_revealed (knows.Boxed terms) = knows.Boxed terms
 
