@@ -12,12 +12,14 @@ use Rattle.core_machine.specs.declared.events.Found.TheVariants as finds
 use Rattle.core_machine.specs.declared.pending.Pending.{Pending}
 use Rattle.core_machine.specs.Own.{pending_or_none, presence_after}
 use Rattle.heap_rule.specs.declared.known.Known.{Known}
+use Rattle.heap_rule.specs.declared.known.Known.TheVariants as knows
 use Rattle.heap_rule.specs.declared.known.Learned.{Learned}
 use Rattle.heap_rule.specs.declared.view.View.{View}
 use Rattle.heap_rule.specs.Asks.{begun_of, known_of, target}
 use Rattle.heap_rule.specs.Boxes.{Map}
-use Rattle.heap_rule.specs.Lore.{cells_in, known_at, known_stored_if, was_made}
+use Rattle.heap_rule.specs.Lore.{cells_in, known_at, known_stored, known_stored_if, was_made}
 use Rattle.heap_rule.proofs.Reading.{cell_there}
+use Rattle.heap_rule.proofs.SameFields.{same_value}
 use Rattle.mutator_events.specs.declared.values.Value.{Value}
 use Rattle.mutator_events.specs.declared.values.Value.TheVariants as values
 use Rattle.mutator_events.specs.Values.{field_at, value_found}
@@ -28,9 +30,9 @@ use Rattle.mutator_seat.specs.Stretches.{Kept, MarksOf}
 use Rattle.mutator_seat.specs.Writes.{IsNamed, wanted_by}
 use Rattle.mutator_seat.proofs.Writes.{field_same, many_same, named_same}
 use Rattle.trails.specs.Asks.{nothing}
-use Rattle.held_places.specs.Calls.{Goes, Overwrote, StaysKnown, StillKnown, cells_found}
-use Rattle.held_places.specs.Calls.{known_fresh}
-use Rattle.held_places.proofs.Storing.{stored_if_still}
+use Rattle.held_places.specs.Calls.{Goes, KnownNamed, Overwrote, StaysKnown, StillKnown}
+use Rattle.held_places.specs.Calls.{cells_found, known_fresh}
+use Rattle.held_places.proofs.Storing.{stored_box, stored_if_still}
 use Rattle.held_places.proofs.Going.{calm_goes, cut_goes, cut_known}
 use Rattle.held_places.proofs.Going.{goes_late, goes_none, goes_then, goes_told, kept_known}
 use Rattle.held_places.proofs.Going.{many_cells, many_held, still_on, still_then}
@@ -171,6 +173,28 @@ module _ {P : Type 0} {fixed : ℕ → Bool} {holds : Map → List P → Type 0}
         (cut_known fixed is.written after (length old.seat.me.own.held) _ is.told other lt));
   }
 
+  -- a fresh box that the value names
+  rewrote_box : made ≡ true → KnownNamed old after value
+  rewrote_box wrote_it other fields lt names fresh =
+      let names_now : field_at at.seat.me.own.held value
+      ≡ field.Cell (get_or (held_cells at) other 0) =
+      value_at ∙ names ∙ ap (λ (c : ℕ). field.Cell c) (sym (cells_at other lt)) in
+      let fresh_now : known_of at.seat.me other ≡ knows.Fresh fields =
+      ap (λ (ks : List Known). known_at ks other) kept.known
+      ∙ subst (λ (k : Known). StillKnown fixed k (known_of loaded.seat.me other)) fresh
+      (load.known other lt) in
+      let boxed : known_of is.written.seat.me other ≡ knows.Boxed [] =
+      ap (λ (ks : List Known). known_at ks other) known_is
+      ∙ ap (λ (b : Bool). known_at (known_stored_if b (held_cells at) at.seat.me.known place f
+      (field_at at.seat.me.own.held value)) other) wrote_it
+      ∙ ap (λ (w : Field). known_at (known_stored (held_cells at) at.seat.me.known place f w) other)
+      names_now
+      ∙ stored_box (held_cells at) at.seat.me.known place f many_at other fields (within other lt)
+      fresh_now in
+      let last = subst (λ (k : Known). StillKnown fixed k (known_of after.seat.me other)) boxed
+      (cut_known fixed is.written after (length old.seat.me.own.held) _ is.told other lt) in
+      (last.0, last.1.0)
+
 -- the look before it
 looked_first : {P : Type 0} {fixed : ℕ → Bool} (old looked after : Bound P) (place : ℕ)
     (value : Value) → Goes [] old looked → Kept old looked
@@ -196,6 +220,17 @@ looked_first {fixed = fixed} old looked after place value goes kept there wrote 
           (sym (same_target other lt) ∙ on)));
     }
 
+looked_box : {P : Type 0} (old looked after : Bound P) (value : Value) → Kept old looked
+    → KnownNamed looked after value → KnownNamed old after value
+looked_box old looked after value kept named other fields lt names fresh =
+    named other fields
+    (let long = many_same looked.seat.me.own.held old.seat.me.own.held kept.held in
+    omega (arith, long, lt))
+    (field_same looked.seat.me.own.held old.seat.me.own.held kept.held value ∙ names
+    ∙ ap (λ (c : ℕ). field.Cell c) (sym (target_still old looked []
+    (kept.held ∙ sym (append-nil (held_cells old))) other lt)))
+    (ap (λ (ks : List Known). known_at ks other) kept.known ∙ fresh)
+
 -- The two ways.
 
 module _ {P : Type 0} (old looked : Bound P) (look : Kept old looked) where
@@ -214,24 +249,40 @@ module _ {P : Type 0} {fixed : ℕ → Bool} {holds : Map → List P → Type 0}
     {next : Learned → Found → P → P} (old after : Bound P) (place f : ℕ) (value : Value)
     (there : place < length old.seat.me.own.held) (named : IsNamed old.seat.me.own.held value)
   where
-    pub overwrote : Overwritten holds fixed next old place f value after
-        → Overwrote fixed old after place value
-    overwrote is =
-        let looked = is.looked in
-        let done = is.rewritten in
-        let at = done.replaced.at in
-        let now = there_still old looked is.look.kept place there in
-        let begun : begun_of at.seat.me ≡ record { place = place; f = f; found = is.seen } =
-        ap pending_or_none done.replaced.marks.kept.pending
-        ∙ fetch_begun looked done.replaced.loaded place f is.seen done.replaced.load in
-        looked_first old looked after place value (calm_goes _ old looked is.look) is.look.kept
-        there
-        (rewrote is.seen value looked after done
-        (fetched looked done.replaced.loaded place f is.seen now done.replaced.load)
-        place f true now (named_still old looked is.look.kept value named)
-        (ap (λ (u : View P). u.known) done.replaced.write.event.new
-        ∙ ap (λ (w : Pending). known_stored_if true (held_cells at) at.seat.me.known w.place w.f
-        (field_at at.seat.me.own.held value)) begun) refl)
+    module _ (is : Overwritten holds fixed next old place f value after) where
+      abbrev storing : Bound P
+      storing = is.rewritten.replaced.at
+
+      abbrev now : place < length is.looked.seat.me.own.held
+      now = there_still old is.looked is.look.kept place there
+
+      known_then : is.rewritten.written.seat.me.known ≡ known_stored_if true (held_cells storing)
+          storing.seat.me.known place f (field_at storing.seat.me.own.held value)
+      known_then =
+          let done = is.rewritten.replaced in
+          let begun : begun_of storing.seat.me ≡ record { place = place; f = f; found = is.seen } =
+          ap pending_or_none done.marks.kept.pending
+          ∙ fetch_begun is.looked done.loaded place f is.seen done.load in
+          ap (λ (u : View P). u.known) done.write.event.new
+          ∙ ap (λ (w : Pending). known_stored_if true (held_cells storing) storing.seat.me.known w.place w.f
+          (field_at storing.seat.me.own.held value)) begun
+
+      load : Loaded fixed is.looked is.rewritten.replaced.loaded is.seen
+      load = fetched is.looked is.rewritten.replaced.loaded place f is.seen now
+          is.rewritten.replaced.load
+
+      pub overwrote : Overwrote fixed old after place value
+      overwrote =
+          looked_first old is.looked after place value (calm_goes _ old is.looked is.look)
+          is.look.kept there
+          (rewrote is.seen value is.looked after is.rewritten load place f true now
+          (named_still old is.looked is.look.kept value named) known_then refl)
+
+      pub overwrote_box : KnownNamed old after value
+      overwrote_box =
+          looked_box old is.looked after value is.look.kept
+          (rewrote_box is.seen value is.looked after is.rewritten load place f true now
+          (named_still old is.looked is.look.kept value named) known_then refl refl)
 
     pub exchanged : {reads : Learned → Found → P → P} (seen found : Field)
         → Exchanged holds fixed reads next old place f value seen found after
@@ -247,3 +298,18 @@ module _ {P : Type 0} {fixed : ℕ → Bool} {holds : Map → List P → Type 0}
         place f (was_made seen (finds.Field found)) now
         (named_still old looked is.look.kept value named)
         (ap (λ (u : View P). u.known) done.replaced.write.event.new) refl)
+
+    pub exchanged_box : {reads : Learned → Found → P → P} (seen : Field)
+        → Exchanged holds fixed reads next old place f value seen seen after
+        → KnownNamed old after value
+    exchanged_box seen is =
+        let looked = is.looked in
+        let done = is.rewritten in
+        let now = there_still old looked is.look.kept place there in
+        looked_box old looked after value is.look.kept
+        (rewrote_box seen value looked after done
+        (read_here looked done.replaced.loaded place f seen now done.replaced.load)
+        place f (was_made seen (finds.Field seen)) now
+        (named_still old looked is.look.kept value named)
+        (ap (λ (u : View P). u.known) done.replaced.write.event.new) refl
+        (same_value seen seen refl))

@@ -1,7 +1,8 @@
 -- What is known at the places of a held list where a field of one cell is stored: of that cell, and
 -- of the one that the value names.
-use Rattle.std.proofs.Common.{◌≡◌, ◌≢◌, ◌<◌, ℕ, Bool, true, false, List, length, get_or}
-use Rattle.std.proofs.Common.{refl, sym, ◌∙◌}
+use Rattle.std.proofs.Common.{◌≡◌, ◌≢◌, ◌<◌, ℕ, Bool, true, false, List, [], length, get_or}
+use Rattle.std.proofs.Common.{slice_set, inl, inr, refl, sym, ◌∙◌, ap}
+use Rattle.std.proofs.lemmas.Bool.{cases_eq}
 use Rattle.cell_words.specs.declared.fields.Field.{Field}
 use Rattle.cell_words.specs.declared.fields.Field.TheVariants as field
 use Rattle.heap_rule.specs.declared.known.Known.{Known}
@@ -13,7 +14,7 @@ use Rattle.heap_rule.specs.Settled.{IsSettled}
 use Rattle.heap_rule.proofs.Many.{at_cell_many}
 use Rattle.held_places.specs.Calls.{StillKnown, known_fresh, settled}
 use Rattle.held_places.proofs.Going.{still_same, still_then}
-use Rattle.held_places.proofs.Knowns.{changed_else, changed_fresh, changed_still}
+use Rattle.held_places.proofs.Knowns.{changed_else, changed_fresh, changed_here, changed_still}
 
 -- What is not fresh stays so where fields are stored and cells are named.
 
@@ -83,6 +84,13 @@ module _ (cells : List ℕ) (known : List Known) (many : length known ≡ length
   named_not (field.Cell c) place lt other =
       changed_else known_revealed c cells known place lt (other c refl)
 
+  -- the fresh box that the value names
+  named_box : (c place : ℕ) (fields : List Field) → place < length cells
+      → get_or cells place 0 ≡ c → known_at known place ≡ knows.Fresh fields
+      → known_at (known_named cells known (field.Cell c)) place ≡ knows.Boxed []
+  named_box c place fields lt is fresh =
+      changed_here known_revealed c cells known place lt many is ∙ ap known_revealed fresh
+
 pub stored_many : (cells : List ℕ) (known : List Known) (place f : ℕ) (value : Field)
     → length known ≡ length cells
     → length (known_stored cells known place f value) ≡ length known
@@ -111,6 +119,24 @@ stored_still fixed cells known place f value many other lt apart unnamed =
     (known_at (known_stored cells known place f value) other) first
     (named_still cells next (at_cell_many change c cells known many ∙ many) fixed value other lt
     (λ fresh. unnamed (sym same ∙ fresh)))
+
+pub stored_box : (cells : List ℕ) (known : List Known) (place f : ℕ) → length known ≡ length cells
+    → (other : ℕ) (fields : List Field) → other < length cells
+    → known_at known other ≡ knows.Fresh fields
+    → known_at (known_stored cells known place f (field.Cell (get_or cells other 0))) other
+    ≡ knows.Boxed []
+stored_box cells known place f many other fields lt fresh =
+    let c = get_or cells other 0 in
+    let change = known_set f (field.Cell c) in
+    let d = get_or cells place 0 in
+    let next = at_cell change d cells known in
+    let long = at_cell_many change d cells known many ∙ many in
+    elim (cases_eq c d) [
+      | inl same ↦ named_box cells next long c other (slice_set fields f (field.Cell c)) lt refl
+          (changed_here change d cells known other lt many same ∙ ap change fresh)
+      | inr apart ↦ named_box cells next long c other fields lt refl
+          (changed_else change d cells known other lt apart ∙ fresh)
+    ]
 
 -- whether it is stored, or it is not
 pub stored_if_still : (fixed : ℕ → Bool) (made : Bool) (cells : List ℕ) (known : List Known)

@@ -13,7 +13,7 @@ use Rattle.heap_rule.specs.declared.known.Learned.{Learned}
 use Rattle.heap_rule.specs.declared.view.View.{View}
 use Rattle.heap_rule.specs.Asks.{known_of, target}
 use Rattle.heap_rule.specs.Boxes.{Map}
-use Rattle.heap_rule.specs.Lore.{known_at, learned, was_made}
+use Rattle.heap_rule.specs.Lore.{known_at, known_stored, known_stored_if, learned, was_made}
 use Rattle.heap_rule.proofs.Reading.{cell_there}
 use Rattle.mutator_events.specs.declared.values.Value.{Value}
 use Rattle.mutator_events.specs.Values.{field_at}
@@ -21,8 +21,8 @@ use Rattle.mutator_seat.specs.Bound.{Bound, held_cells}
 use Rattle.mutator_seat.specs.Writes.{LookAndMarks, Updated, write_of}
 use Rattle.mutator_seat.proofs.Writes.{cell_same, field_same, many_same}
 use Rattle.trails.specs.Asks.{here, nothing, wrote_at}
-use Rattle.held_places.specs.Calls.{Goes, StillKnown, known_fresh}
-use Rattle.held_places.proofs.Storing.{stored_if_still}
+use Rattle.held_places.specs.Calls.{Goes, KnownNamed, StillKnown, known_fresh}
+use Rattle.held_places.proofs.Storing.{stored_box, stored_if_still}
 use Rattle.held_places.proofs.Going.{calm_goes, goes_none, goes_on, goes_then, goes_told}
 use Rattle.held_places.proofs.Going.{many_cells}
 
@@ -101,3 +101,28 @@ module _ {P : Type 0} (fixed : ℕ → Bool) (holds : Map → List P → Type 0)
       (λ is c named on. unnamed (sym (ap known_fresh here) ∙ is) c
       (sym (field_same at.seat.me.own.held a.seat.me.own.held wrote.calm.kept.held new) ∙ named)
       (sym (cell_at_is other) ∙ on))))
+
+  -- a fresh box that the value names, where the write was made
+  pub wrote_box : length a.seat.me.known ≡ length a.seat.me.own.held
+      → same_field found (field_at a.seat.me.own.held old) ≡ true → KnownNamed a b new
+  wrote_box many made other fields lt names fresh =
+      let held = wrote.calm.kept.held in
+      let same = many_same at.seat.me.own.held a.seat.me.own.held held in
+      let long = many_cells at in
+      let known = ap (λ (ks : List Known). length ks) wrote.calm.kept.known in
+      let ks = at.seat.me.known in
+      let made_now : was_made (field_at at.seat.me.own.held old) (finds.Field found) ≡ true =
+      ap (λ (w : Field). same_field found w)
+      (field_same at.seat.me.own.held a.seat.me.own.held held old) ∙ made in
+      let names_now : field_at at.seat.me.own.held new ≡ field.Cell (get_or cells other 0) =
+      field_same at.seat.me.own.held a.seat.me.own.held held new ∙ names
+      ∙ ap (λ (c : ℕ). field.Cell c) (sym (cell_at_is other)) in (
+        [],
+        ap (λ (u : View P). known_of u other) wrote.event.new
+            ∙ ap (λ (b : Bool). known_at (known_stored_if b cells ks place f
+            (field_at at.seat.me.own.held new)) other) made_now
+            ∙ ap (λ (w : Field). known_at (known_stored cells ks place f w) other) names_now
+            ∙ stored_box cells ks place f (omega (arith, known, many, long, same)) other fields
+            (omega (arith, lt, long, same))
+            (ap (λ (ks : List Known). known_at ks other) wrote.calm.kept.known ∙ fresh),
+      )

@@ -135,3 +135,14 @@ pub record Overwrote {P : Type 0} (fixed : ℕ → Bool) (old new : Bound P) (pl
     (value : Value) : Type 0 where
   pub goes : Goes [] old new
   pub known : KnownBehind fixed old new place value
+
+-- it is known as a box that others may know
+abbrev pub IsBoxed : Known → Type 0
+IsBoxed k = (told : List (Option Term)) × (k ≡ knows.Boxed told)
+
+-- A fresh box at a place is known so, where the value names it.
+abbrev pub KnownNamed : {P : Type 0} → Bound P → Bound P → Value → Type 0
+KnownNamed old new value =
+    (other : ℕ) (fields : List Field) → other < length old.seat.me.own.held
+    → field_at old.seat.me.own.held value ≡ field.Cell (target old.seat.me other)
+    → known_of old.seat.me other ≡ knows.Fresh fields → IsBoxed (known_of new.seat.me other)

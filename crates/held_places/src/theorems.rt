@@ -1,12 +1,14 @@
 //! Laws on what calls leave of held places: the contracts of functions that do nothing.
-ghost use Rattle.std.specs.Prelude.{◌≡◌, ◌≢◌, ◌<◌, ◌≤◌, ◌∷◌, ◌++◌, [], length, List, take, ℕ};
+ghost use Rattle.std.specs.Prelude.{◌≡◌, ◌≢◌, ◌<◌, ◌≤◌, ◌∷◌, ◌++◌, [], length, List, take, true, ℕ};
 ghost use Rattle.cell_words.specs.declared.fields.Field.{Field};
 ghost use Rattle.core_machine.specs.declared.events.Event.TheVariants as event;
 ghost use Rattle.core_machine.specs.declared.events.Found.{Found};
 ghost use Rattle.core_machine.specs.declared.events.Found.TheVariants as finds;
+ghost use Rattle.core_machine.specs.Words.{same_field};
 ghost use Rattle.heap_rule.specs.declared.known.Learned.{Learned};
 ghost use Rattle.heap_rule.specs.Asks.{known_of, target};
-ghost use Rattle.held_places.specs.Calls.{Goes, Holds, KnownBehind, Overwrote, StaysKnown, WasRead};
+ghost use Rattle.held_places.specs.Calls.{Goes, Holds, KnownBehind, KnownNamed, Overwrote};
+ghost use Rattle.held_places.specs.Calls.{StaysKnown, WasRead};
 ghost use Rattle.mutator_events.specs.declared.values.Value.{Value};
 ghost use Rattle.mutator_events.specs.Events.{AtEvent};
 ghost use Rattle.mutator_events.specs.Values.{field_at};
@@ -65,6 +67,22 @@ pub fn a_store_keeps_places<P: Keeping>()
         → IsNamed a.seat.me.own.held new
         → Exchanged P.holds P.fixed reads next a place f new seen found b
         → Overwrote P.fixed a b place new }
+{}
+
+/// A fresh box that a store names is known as a box from then on, and so is one that a write names
+/// which was made: it need not be read back.
+pub fn a_named_box_is_known<P: Keeping>()
+    ensures stored { (next : Learned → Found → P → P) (a b : Bound P) (place f : ℕ) (new : Value)
+        → place < length a.seat.me.own.held → IsNamed a.seat.me.own.held new
+        → Overwritten P.holds P.fixed next a place f new b → KnownNamed a b new }
+    ensures exchanged { (reads next : Learned → Found → P → P) (a b : Bound P) (place f : ℕ)
+        (new : Value) (seen : Field) → place < length a.seat.me.own.held
+        → IsNamed a.seat.me.own.held new
+        → Exchanged P.holds P.fixed reads next a place f new seen seen b → KnownNamed a b new }
+    ensures written { (next : Learned → Found → P → P) (a b : Bound P) (place f : ℕ)
+        (old new : Value) (found : Field) → Updated P.holds P.fixed next a place f old new found b
+        → length a.seat.me.known ≡ length a.seat.me.own.held
+        → same_field found (field_at a.seat.me.own.held old) ≡ true → KnownNamed a b new }
 {}
 
 /// A claim holds a cell that stood at no place, after all others. What was known is still known.
