@@ -1,7 +1,7 @@
 -- What the calls tell: the events of each, and what these found.
 -- Source: this project's.
 use Rattle.std.specs.Prelude.{ℕ, ◌≡◌, ◌⊎◌, ◌++◌, [], false, List, length, take}
-use Rattle.std.specs.Prelude.{drop, Option, Some, None}
+use Rattle.std.specs.Prelude.{drop}
 use Rattle.cell_words.specs.declared.fields.Field.{Field}
 use Rattle.core_machine.specs.Words.{same_field}
 use Rattle.core_machine.specs.declared.events.Event.TheVariants as event
@@ -20,12 +20,6 @@ use Rattle.mutator_seat.specs.Stores.{Exchanged, Overwritten}
 use Rattle.sorted_boxes.specs.Holding.{HoldsAnchor}
 use Rattle.sorted_rule.specs.Sorted.{HoldsSorted}
 use Rattle.sorted_rule.specs.declared.sorting.Sorting.{Sorting}
-
--- the place that a value is, if it is one
-abbrev pub place_of : Value → Option ℕ
-place_of values.Null = None
-place_of (values.Num n) = None
-place_of (values.Held place) = Some place
 
 -- One read of this field of the cell at a place gave this value, which stood there at its step. A
 -- cell that it found is held at the next place.
@@ -106,19 +100,10 @@ pub record Sealed (place : ℕ) (given : List Value) (old new : Bound Sorting) :
   pub room : new.seat.me.room ≡ old.seat.me.room
   pub pass : new.seat.me.pass ≡ old.seat.me.pass
 
--- A read of this field gave a value, whose cell is held at this place from then on.
-pub record HeldAgain (place f : ℕ) (old new : Bound Sorting) : Type 0 where
-  pub value : Value
-  pub read : Bound Sorting
-  pub gave : Gave old place f value read
-  pub keeps : KeepsPlaces old new
-
--- The box at a place is shown: it is stored in this field of a box that others may know, read from
--- there, and held as what was read.
+-- The box at a place is shown: it is stored in this field of a box that others may know, and held
+-- on.
 pub record Shown (place f fresh : ℕ) (old new : Bound Sorting) : Type 0 where
-  pub between : Bound Sorting
-  pub stored : Stored place f (values.Held fresh) old between
-  pub again : HeldAgain place f between new
+  pub stored : Stored place f (values.Held fresh) old new
   pub keeps : KeepsPlaces old new
 
 -- A new box of a raw cell: it is sealed, and shown in this field.

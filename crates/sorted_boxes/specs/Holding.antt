@@ -2,13 +2,12 @@
 -- Source: this project's.
 use Rattle.std.specs.Prelude.{ℕ, ◌≡◌, ◌<◌, ◌≤◌, ◌+◌, ◌^◌, true, List, [], ◌∷◌, length}
 use Rattle.cell_making.specs.Makes.{value_at}
-use Rattle.heap_rule.specs.Asks.{known_of}
 use Rattle.heap_rule.specs.declared.view.View.{View}
 use Rattle.mutator_events.specs.declared.values.Value.{Value}
 use Rattle.mutator_events.specs.declared.values.Value.TheVariants as values
 use Rattle.mutator_seat.specs.Bound.{Bound}
 use Rattle.mutator_seat.specs.Claims.{Claimed}
-use Rattle.sorted_rule.specs.Open.{IsOpen, KnownOfSort, MayShow}
+use Rattle.sorted_rule.specs.Open.{IsOpen, MayShow}
 use Rattle.sorted_rule.specs.Sorts.{Boxes, Records, Sort, sort_of}
 use Rattle.sorted_rule.specs.declared.sorting.Sorting.{Sorting}
 
@@ -50,15 +49,6 @@ pub record HoldsNew (fresh : ℕ) (v : View Sorting) : Type 0 where
   pub some : 1 ≤ fresh
   pub last : length v.own.held ≡ fresh + 1
   pub may : MayShow v fresh
-
--- The new one's cell may be held once more at this place, as a box that others may know.
-pub record HoldsBack (fresh place : ℕ) (v : View Sorting) : Type 0 where
-  pub first : HoldsFirst fresh v
-  pub some : 1 ≤ fresh
-  pub new_there : fresh < length v.own.held
-  pub there : place < length v.own.held
-  pub box : KnownOfSort Boxes (known_of v place)
-  pub room : fresh + 1 ≤ v.room
 
 -- The value is null, a number that fits a word, or a place behind the anchor's: a box that others
 -- may know.

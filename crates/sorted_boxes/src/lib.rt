@@ -7,9 +7,8 @@
 //! fits, that a field names boxes, and that there is room.
 //!
 //! A box that was just made is known to its maker alone, and the rule says nothing of it. So it is
-//! shown at once: it is stored in the scratch box, which the mutator holds at the second place, read
-//! back from there, and held as what was read. The scratch box itself is shown so in the last field
-//! of the anchor, when the mutator comes in.
+//! shown at once: it is stored in the scratch box, which the mutator holds at the second place. The
+//! scratch box itself is shown so in the last field of the anchor, when the mutator comes in.
 //!
 //! Reading order: specs/Holding, Calls; then `opening`, `placing`, `reading`, `writing`, `showing`,
 //! `making`, `coming`.

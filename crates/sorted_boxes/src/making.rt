@@ -26,8 +26,8 @@ const FIRST: usize = 0;
 
 /// Makes a box with these fields of the raw cell at the last place, which was claimed just now, and
 /// shows it: whether it did. The box is held at that place then. It did not if another thread wrote
-/// the scratch box at that moment: the cell is dropped, and is free again after a cycle. For a
-/// moment one more place is needed.
+/// the scratch box in one moment of a cycle, in which the store is an exchange: the cell is dropped,
+/// and is free again after a cycle. For a moment one more place is needed.
 pub fn make(
     heap: &CellHeap<Sorting>,
     seat: &mut MutSeat<Sorting>,
@@ -52,7 +52,7 @@ pub fn make(
 }
 
 /// Makes the scratch box of the raw cell at the second place, and shows it in the last field of the
-/// anchor: whether it did. It did not if another mutator did the same at that moment.
+/// anchor: whether it did. It did not if another mutator did the same in that moment of a cycle.
 pub fn make_scratch(heap: &CellHeap<Sorting>, seat: &mut MutSeat<Sorting>, place: usize) -> bool
     requires seat { IsBound heap.now seat.old }
     requires raw { HoldsRaw (bound heap.now seat.old) place }

@@ -1,13 +1,8 @@
-use Rattle.std.proofs.Common.{◌∙◌}
 use Rattle.mutator_events.specs.declared.values.Value.TheVariants as values
 use Rattle.mutator_seat.specs.Bound.{bound}
-use Rattle.sorted_rule.specs.Sorts.{Boxes}
 use Rattle.sorted_boxes.proofs.AfterWrites.{kept_first, refused_keeps, refused_still, stored_keeps}
-use Rattle.sorted_boxes.proofs.AfterWrites.{stored_still}
-use Rattle.sorted_boxes.proofs.Again.{keeps_then, many_again, room_again, sort_again}
-use Rattle.sorted_boxes.proofs.Shown.{dropped_then, false_on, new_there, place_there, show_may}
-use Rattle.sorted_boxes.proofs.Shown.{show_picks, true_on}
-use Rattle.sorted_boxes.proofs.Shown.{lost_on, never_on}
+use Rattle.sorted_boxes.proofs.Shown.{dropped_then, lost_on, never_on, new_there, place_there}
+use Rattle.sorted_boxes.proofs.Shown.{show_may, show_picks, shown_holds}
 use Rattle.sorted_boxes.proofs.showing.show.Goals as goal
 
 pub store-requires : goal.store-requires
@@ -21,53 +16,22 @@ store-requires c =
           c.requires.before c.requires.sort;
     }
 
-pub hold_again-requires : goal.hold_again-requires
-hold_again-requires c =
-    let was = bound c.args.heap.now c.args.seat.now in
-    let now = bound c.args.heap.now c.store.new.seat in
-    let value = values.Held c.args.fresh in
-    let new = c.requires.new in
-    let there = place_there was c.args.place c.args.field c.args.fresh new c.requires.before in
-    let named = new_there was c.args.place c.args.field c.args.fresh new c.requires.before in
-    let stored = c.in-Ok.ensures.made in
-    let keeps = stored_keeps was now c.args.place c.args.field value there named
-    c.store.ensures.places stored in
-    record {
-      seat = c.store.ensures.seat;
-      first = kept_first was now keeps
-          (stored_still was now c.args.place c.args.field value there named stored) c.args.fresh
-          new.first;
-      some = new.some;
-      last = many_again was now keeps ∙ new.last;
-      before = c.requires.before;
-      field = c.requires.field;
-      sort = sort_again was now keeps c.args.place c.args.field Boxes c.requires.sort;
-      room = room_again was now keeps c.requires.room;
-    }
-
 pub returns-in-Ok : goal.returns-in-Ok
 returns-in-Ok c =
     let was = bound c.args.heap.now c.args.seat.now in
     let now = bound c.args.heap.now c.store.new.seat in
-    let last = bound c.args.heap.now c.hold_again.new.seat in
-    let value = values.Held c.args.fresh in
     let new = c.requires.new in
-    let there = place_there was c.args.place c.args.field c.args.fresh new c.requires.before in
-    let named = new_there was c.args.place c.args.field c.args.fresh new c.requires.before in
-    let keeps = stored_keeps was now c.args.place c.args.field value there named
-    c.store.ensures.places c.in-Ok.ensures.made in
+    let before = c.requires.before in
+    let stored = c.in-Ok.ensures.made in
+    let keeps = stored_keeps was now c.args.place c.args.field (values.Held c.args.fresh)
+    (place_there was c.args.place c.args.field c.args.fresh new before)
+    (new_there was c.args.place c.args.field c.args.fresh new before) c.store.ensures.places stored
+    in
     record {
-      seat = c.hold_again.ensures.seat;
-      opened = c.hold_again.ensures.opened;
-      shown = true_on c.hold_again.result
-          (λ again. record {
-            between = now;
-            stored = c.in-Ok.ensures.made;
-            again = again;
-            keeps = keeps_then was now last keeps again.keeps;
-          }) c.hold_again.ensures.shown;
-      lost = false_on c.hold_again.result (dropped_then was now last c.args.fresh keeps)
-          c.hold_again.ensures.lost;
+      seat = c.store.ensures.seat;
+      opened = shown_holds was now c.args.place c.args.field c.args.fresh new before keeps stored;
+      shown = record { stored = stored; keeps = keeps };
+      lost = tt;
     }
 
 pub drop_new-requires : goal.drop_new-requires
