@@ -1,12 +1,13 @@
 -- What the loop over the lines of a script of version 2 keeps: the commands read so far, followed
 -- by those of the lines that are left after an open batch or none, are those of the whole script.
 use Rattle.std.proofs.Common.{◌≡◌, ℕ, ◌+◌, List, [], ◌∷◌, Option, Some, None, Result, Ok, Err}
-use Rattle.std.proofs.Common.{append-nil, append_assoc, drop, length, refl, sym, ap, subst, ◌∙◌}
+use Rattle.std.proofs.Common.{append-nil, append_assoc, drop, refl, sym, ap, subst, ◌∙◌}
 use Rattle.std.proofs.Common.{Bor}
-use Rattle.std.specs.Prelude.{MatchOption, Vec}
+use Rattle.std.specs.Prelude.{Vec}
 use Rattle.std.specs.declared.alloc.Global.{Global}
 use Rattle.doc_model.specs.declared.command.Command.{Command}
-use Rattle.line_words.specs.Lines.{lines_of}
+use Rattle.line_words.specs.Lines.{lines_left, lines_of}
+use Rattle.line_words.proofs.Rests.{IsCut, cut_lines}
 use Rattle.cmd_text.proofs.Lines.{with_front}
 use Rattle.cmd_text.specs.Answers.{GivesAt, Reads}
 use Rattle.cmd_text.specs.Line.{and_then}
@@ -19,27 +20,6 @@ use Rattle.cmd_text.specs.declared.fault.ScriptError.{ScriptError}
 use Rattle.cmd_text.specs.declared.fault.ScriptError.TheVariants as script
 use Rattle.cmd_text.specs.declared.fault.ScriptFault.{ScriptFault}
 use Rattle.cmd_text.specs.declared.fault.ScriptKind.{ScriptKind}
-
--- the lines that are left
-abbrev pub lines_left : Option (Bor (List ℕ)) → List (List ℕ)
-lines_left None = []
-lines_left (Some rest) = lines_of rest.now
-
--- how long they may still be
-abbrev pub left : Option (Bor (List ℕ)) → ℕ
-left None = 0
-left (Some rest) = length rest.now + 1
-
--- where the first line ends
-abbrev IsCut : List ℕ → List ℕ → Option (Bor (List ℕ)) → Type 0
-IsCut bytes line rest =
-    MatchOption rest (lines_of bytes ≡ line ∷ [])
-    (λ more. lines_of bytes ≡ line ∷ lines_of more.now)
-
-cut_lines : (bytes line : List ℕ) (rest : Option (Bor (List ℕ))) → IsCut bytes line rest
-    → lines_of bytes ≡ line ∷ lines_left rest
-cut_lines bytes line None is = is
-cut_lines bytes line (Some more) is = is
 
 with_none : (script : Result (List Command) ScriptFault) → with_front [] script ≡ script
 with_none (Ok commands) = refl

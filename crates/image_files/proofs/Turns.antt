@@ -1,26 +1,24 @@
 -- What the loop over the lines of a heap file keeps: the lines so far, with those that are left,
 -- are all lines.
-use Rattle.std.proofs.Common.{◌≡◌, ℕ, ◌+◌, ◌<◌, ◌≤◌, ◌^◌, Bool, true, false, not, cond, List}
+use Rattle.std.proofs.Common.{◌≡◌, ℕ, ◌+◌, ◌≤◌, ◌^◌, Bool, true, false, not, cond, List}
 use Rattle.std.proofs.Common.{[], ◌∷◌, ◌++◌, length, Option, Some, None, Result, Ok, Err, Bor}
-use Rattle.std.proofs.Common.{refl, sym, ap, subst, ◌∙◌, arith, eqb, leb}
-use Rattle.std.specs.Prelude.{IfOk, MatchOption, bytes_eq, codes, drop, is_some, take, ◌&&◌, ◌==◌}
-use Rattle.std.specs.List.{onto_first}
-use Rattle.std.proofs.lemmas.Bool.{and_parts, leb-true, ne_eqb}
-use Rattle.std.proofs.lemmas.List.Splits.{length-slice_split}
+use Rattle.std.proofs.Common.{refl, sym, ap, subst, ◌∙◌, leb}
+use Rattle.std.specs.Prelude.{IfOk, bytes_eq, codes, drop, is_some, take, ◌&&◌}
+use Rattle.std.proofs.lemmas.Bool.{and_parts, leb-true}
 use Rattle.std.proofs.lemmas.Option.{cond_some, same_Some}
 use Rattle.cell_words.specs.declared.colours.Colour.{Colour}
 use Rattle.cell_words.specs.declared.fields.Field.{Field}
 use Rattle.line_words.specs.Cut.{next_rest_of, next_word_of, rest_of, word_of}
-use Rattle.line_words.specs.Lines.{lines_of}
+use Rattle.line_words.specs.Lines.{has_feed, is_end, is_missing, lines_left, lines_of}
 use Rattle.line_words.specs.Numbers.{decimal_of}
-use Rattle.image_files.specs.Answers.{Lists, ListsFile, lines_left}
+use Rattle.image_files.specs.Answers.{Lists, ListsFile}
 use Rattle.image_files.specs.Contents.{Contents, contents_in, contents_of, ended, fault_at}
-use Rattle.image_files.specs.Contents.{has_feed, in_order}
-use Rattle.image_files.specs.Contents.{is_end, least_after, lines_from, turn_of, with_head}
+use Rattle.image_files.specs.Contents.{in_order}
+use Rattle.image_files.specs.Contents.{least_after, lines_from, turn_of, with_head}
 use Rattle.image_files.specs.Contents.{with_lines, with_turn}
 use Rattle.image_files.specs.File.{FileView, LineFits}
 use Rattle.image_files.specs.Line.{below, cell_in, cell_with, colour_in, fields_in, head_of}
-use Rattle.image_files.specs.Line.{held_or, is_missing, line_of, sized}
+use Rattle.image_files.specs.Line.{held_or, line_of, sized}
 use Rattle.image_files.specs.declared.fault.ImageError.{ImageError}
 use Rattle.image_files.specs.declared.fault.ImageError.TheVariants as error
 use Rattle.image_files.specs.declared.fault.ImageFault.{ImageFault}
@@ -29,36 +27,8 @@ use Rattle.image_files.specs.declared.fault.ImageKind.TheVariants.{BadEnd, BadLi
 use Rattle.image_files.specs.declared.line.CellLine.{CellLine}
 use Rattle.image_files.specs.declared.line.Held.{Held}
 use Rattle.image_files.specs.declared.line.Held.TheVariants as held
+use Rattle.line_words.proofs.Rests.{IsCut, cut_lines, fed_lines, has_lines}
 use Rattle.image_files.proofs.Words.{cell_below, fields_below}
-
--- how long the lines may still be
-abbrev pub left : Option (Bor (List ℕ)) → ℕ
-left None = 0
-left (Some rest) = length rest.now + 1
-
-some_lines : (lines : List (List ℕ)) → 0 < length lines → has_feed lines ≡ true
-some_lines [] some = absurd (omega arith)
-some_lines (line ∷ lines) some = refl
-
-pub fed_lines : (bytes : List ℕ) → has_feed (lines_of bytes) ≡ true
-fed_lines bytes =
-    some_lines (lines_of bytes)
-    (omega (arith, length-slice_split (λ byte. byte == 10) bytes))
-
-has_lines : (rest : Option (Bor (List ℕ))) → has_feed (lines_left rest) ≡ is_some rest
-has_lines None = refl
-has_lines (Some rest) = fed_lines rest.now
-
--- where a line ends
-abbrev pub IsCut : List ℕ → List ℕ → Option (Bor (List ℕ)) → Type 0
-IsCut bytes line rest =
-    MatchOption rest (lines_of bytes ≡ line ∷ [])
-    (λ more. lines_of bytes ≡ line ∷ lines_of more.now)
-
-pub cut_lines : (bytes line : List ℕ) (rest : Option (Bor (List ℕ))) → IsCut bytes line rest
-    → lines_of bytes ≡ line ∷ lines_left rest
-cut_lines bytes line None is = is
-cut_lines bytes line (Some more) is = is
 
 -- a cut line behind some lines, and what it comes to
 pub record IsTurn (size : ℕ) (before : List CellLine) (bytes line : List ℕ)
@@ -121,27 +91,7 @@ pub missing : (size number : ℕ) (before : List CellLine)
 missing size number before whole same so_far =
     sym so_far ∙ ap (λ n. fault_at n BadEnd) (sym same)
 
--- behind the end
-not_end : (bytes : List ℕ) → 0 < length bytes → is_end (lines_of bytes) ≡ false
-not_end [] some = absurd (omega arith)
-not_end (b ∷ bytes) some =
-    elim (eqb b 10)
-    as (λ t. is_end (cond t ([] ∷ lines_of bytes) (onto_first b (lines_of bytes))) ≡ false) [
-      | true ↦
-          elim (lines_of bytes) as (λ ls. has_feed ls ≡ true → is_end ([] ∷ ls) ≡ false)
-          [ [] ↦ λ h. cc | l ∷ ls ↦ λ h. refl ] (fed_lines bytes)
-      | false ↦
-          elim (lines_of bytes) as (λ ls. is_end (onto_first b ls) ≡ false)
-          [ [] ↦ refl | l ∷ ls ↦ refl ]
-    ]
-
-pub empty_ends : (rest : List ℕ) (has : Bool) → has ≡ eqb (length rest) 0
-    → has ≡ is_end (lines_of rest)
-empty_ends [] has is = is
-empty_ends (b ∷ rest) has is =
-    is ∙ ne_eqb (length (b ∷ rest)) 0 (λ same. omega (arith, same))
-    ∙ sym (not_end (b ∷ rest) (omega arith))
-
+-- a line after the end
 pub follows_end : (number : ℕ) (before : List CellLine) (lines : List (List ℕ))
     → is_end lines ≡ false → number ≡ length before + 3
     → ended before lines ≡ Err (record { line = number; kind = BadEnd })

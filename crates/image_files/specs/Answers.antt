@@ -1,14 +1,12 @@
 -- How the answers of this crate's calls relate to the definitions: equal, unless out of memory.
 -- Source: this project's own.
-use Rattle.std.specs.Prelude.{◌≡◌, ℕ, false, List, [], Result, Ok, Err, Option, Some, None}
-use Rattle.std.specs.Borrow.{Bor}
+use Rattle.std.specs.Prelude.{◌≡◌, ℕ, false, List, Result, Ok, Err}
 use Rattle.heap_census.specs.Census.{AddsUp, IsCensus}
 use Rattle.heap_census.specs.Flaws.{IsFlawless, IsLeastFlaw}
 use Rattle.heap_census.specs.Heap.{is_free}
 use Rattle.heap_census.specs.declared.flaws.Flaw.{Flaw}
 use Rattle.heap_census.specs.declared.flaws.Flaw.TheVariants as flaw
 use Rattle.heap_census.specs.declared.numbers.Census.{Census}
-use Rattle.line_words.specs.Lines.{lines_of}
 use Rattle.image_files.specs.Contents.{Contents}
 use Rattle.image_files.specs.File.{FileView, contents_by, heap_in, line_number}
 use Rattle.image_files.specs.Reach.{IsReached}
@@ -18,11 +16,6 @@ use Rattle.image_files.specs.declared.fault.ImageFault.{ImageFault}
 use Rattle.image_files.specs.declared.fault.ImageKind.{ImageKind}
 use Rattle.image_files.specs.declared.fault.ImageKind.TheVariants as kind
 use Rattle.image_files.specs.declared.line.CellLine.{CellLine}
-
--- the lines that are left, none where no line feed ended the one before
-abbrev pub lines_left : Option (Bor (List ℕ)) → List (List ℕ)
-lines_left None = []
-lines_left (Some rest) = lines_of rest.now
 
 -- the answer is a file of these lines
 abbrev pub Lists : Result FileView ImageError → Result (List CellLine) ImageFault → Type 0

@@ -3,7 +3,7 @@
 -- The line of a cell is its number, its colour and six fields, parted by single spaces: `-` is
 -- null, `=N` a number below 2 ^ 62, `@N` a cell. No number has a zero before it.
 -- Source: this project's own.
-use Rattle.std.specs.Prelude.{ℕ, zero, suc, Bool, true, false, not, ◌&&◌, ◌==◌, ◌^◌, List, [], ◌∷◌}
+use Rattle.std.specs.Prelude.{ℕ, zero, suc, Bool, not, ◌&&◌, ◌==◌, ◌^◌, List, [], ◌∷◌}
 use Rattle.std.specs.Prelude.{Option, Some, None, Result, Ok, Err, take, drop, nat_le, nat_lt}
 use Rattle.std.specs.Prelude.{codes, bytes_eq, if◌then◌else◌}
 use Rattle.cell_words.specs.declared.colours.Colour.{Colour}
@@ -11,6 +11,7 @@ use Rattle.cell_words.specs.declared.colours.Colour.TheVariants as colour
 use Rattle.cell_words.specs.declared.fields.Field.{Field}
 use Rattle.cell_words.specs.declared.fields.Field.TheVariants as field
 use Rattle.line_words.specs.Cut.{next_rest_of, next_word_of, rest_of, word_of}
+use Rattle.line_words.specs.Lines.{is_missing}
 use Rattle.line_words.specs.Numbers.{decimal_of}
 use Rattle.image_files.specs.declared.fault.ImageKind.{ImageKind}
 use Rattle.image_files.specs.declared.fault.ImageKind.TheVariants.{BadEnd, BadLine}
@@ -97,12 +98,6 @@ cell_in size line =
 abbrev pub held_or : Option CellLine → Result Held ImageKind
 held_or None = Err BadLine
 held_or (Some l) = Ok (held.Cell l)
-
--- the bytes end where the line would begin
-abbrev pub is_missing : Bool → List ℕ → Bool
-is_missing true line = false
-is_missing false [] = true
-is_missing false (byte ∷ bytes) = false
 
 -- a line behind the head, with its line feed or without one
 abbrev pub line_of : ℕ → Bool → List ℕ → Result Held ImageKind

@@ -1,12 +1,13 @@
 //! One line of a heap file.
 ghost use Rattle.image_files.specs.Line.{below, cell_in, colour_in, field_in, fields_in, head_of};
-ghost use Rattle.image_files.specs.Line.{is_missing, kept, line_of, sized};
+ghost use Rattle.image_files.specs.Line.{kept, line_of, sized};
+ghost use Rattle.line_words.specs.Lines.{is_missing};
 ghost use Rattle.std.specs.Prelude.{Some, ◌≡◌};
 
 use crate::fault::ImageKind;
 use cell_texts::{read_colour, read_field};
 use cell_words::{Colour, Field};
-use line_words::{first_word, next_word, read_decimal};
+use line_words::{first_word, is_missing, next_word, read_decimal};
 
 /// A cell in use, as its line has it.
 #[derive(Clone, Copy)]
@@ -57,12 +58,6 @@ pub(crate) fn read_line(size: u32, line: &[u8], has_feed: bool) -> Result<Held, 
         Some(cell) => Ok(Held::Cell(cell)),
         None => Err(ImageKind::BadLine),
     }
-}
-
-fn is_missing(line: &[u8], has_feed: bool) -> bool
-    ensures { result ≡ is_missing has_feed line.now }
-{
-    !has_feed && line.is_empty()
 }
 
 fn read_cell(size: u32, line: &[u8]) -> Option<CellLine>

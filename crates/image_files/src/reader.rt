@@ -1,17 +1,17 @@
 //! A whole heap file: its lines, and the census of the heap that they show.
-ghost use Rattle.image_files.specs.Answers.{Lists, ListsFile, ReadsImage, lines_left};
+ghost use Rattle.image_files.specs.Answers.{Lists, ListsFile, ReadsImage};
 ghost use Rattle.image_files.specs.Answers.{IsSafe};
-ghost use Rattle.image_files.specs.Contents.{contents_of, ended, is_end, lines_from, turn_of};
+ghost use Rattle.image_files.specs.Contents.{contents_of, ended, lines_from, turn_of};
 ghost use Rattle.image_files.specs.File.{IsFile};
 ghost use Rattle.image_files.specs.declared.fault.ImageError.TheVariants as error;
-ghost use Rattle.line_words.specs.Lines.{lines_of};
+ghost use Rattle.line_words.specs.Lines.{is_end, lines_left, lines_of};
 ghost use Rattle.std.specs.Prelude.{IfOk, [], ◌≡◌, ◌≤◌, ◌<◌};
 
 use crate::fault::{ImageError, ImageFault, ImageKind, kind_of};
 use crate::file::ImageFile;
 use crate::line::{Held, read_head, read_line};
 use heap_census::{Census, Checked, check_cells};
-use line_words::cut_line;
+use line_words::{cut_line, is_end};
 use std::alloc::Global;
 
 /// The census of the heap of which the bytes are the file, or the first line by which they are
@@ -95,14 +95,5 @@ fn ended(file: ImageFile, rest: Option<&[u8]>) -> Result<ImageFile, ImageError>
         Ok(file)
     } else {
         Err(fault_at(file.count() + 3, ImageKind::BadEnd))
-    }
-}
-
-fn is_end(rest: Option<&[u8]>) -> bool
-    ensures { result ≡ is_end (lines_left rest.entry) }
-{
-    match rest {
-        Some(rest) => rest.is_empty(),
-        None => true,
     }
 }

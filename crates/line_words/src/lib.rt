@@ -14,5 +14,5 @@ mod numbers;
 
 pub use crate::cut::{after_space, first_word, next_rest, next_word};
 pub use crate::line::{counts, is_plain, without_return};
-pub use crate::lines::cut_line;
+pub use crate::lines::{cut_line, is_end, is_missing};
 pub use crate::numbers::{read_decimal, read_digits};

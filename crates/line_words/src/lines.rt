@@ -1,5 +1,5 @@
 //! A text line by line.
-ghost use Rattle.line_words.specs.Lines.{lines_of};
+ghost use Rattle.line_words.specs.Lines.{is_end, is_missing, lines_left, lines_of};
 ghost use Rattle.std.specs.Prelude.{IfSome, MatchOption, Some, [], length, position, ◌++◌};
 ghost use Rattle.std.specs.Prelude.{◌==◌, ◌≡◌, ◌<◌, ◌∷◌};
 
@@ -20,4 +20,21 @@ fn first_feed(bytes: &[u8]) -> Option<usize>
     ensures { result ≡ position (λ byte. byte == 10) bytes.now }
 {
     bytes.iter().position(|byte| *byte == b'\n')
+}
+
+/// Whether no byte is left, where the one line that is left may be empty.
+pub fn is_end(rest: Option<&[u8]>) -> bool
+    ensures { result ≡ is_end (lines_left rest.entry) }
+{
+    match rest {
+        Some(rest) => rest.is_empty(),
+        None => true,
+    }
+}
+
+/// Whether the bytes end where the line would begin.
+pub fn is_missing(line: &[u8], has_feed: bool) -> bool
+    ensures { result ≡ is_missing has_feed line.now }
+{
+    !has_feed && line.is_empty()
 }

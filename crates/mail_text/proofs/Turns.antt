@@ -1,38 +1,17 @@
 -- What the loop over the lines of a script keeps: the values read so far, before those of the lines
 -- that are left, are those of the whole script.
 use Rattle.std.proofs.Common.{◌≡◌, ℕ, ◌+◌, List, [], ◌∷◌, ◌++◌, Option, Some, None, Result, Ok, Err}
-use Rattle.std.proofs.Common.{append-nil, append_assoc, length, refl, sym, ap, ◌∙◌, Bor}
-use Rattle.std.specs.Prelude.{MatchOption}
-use Rattle.line_words.specs.Lines.{lines_of}
+use Rattle.std.proofs.Common.{append-nil, append_assoc, refl, sym, ap, ◌∙◌, Bor}
+use Rattle.line_words.specs.Lines.{lines_left, lines_of}
+use Rattle.line_words.proofs.Rests.{IsCut, cut_lines}
 use Rattle.mail_text.specs.Line.{reading_of}
-use Rattle.mail_text.specs.Script.{before, numbered, script_of, values_from, with_line}
+use Rattle.mail_text.specs.Script.{before, numbered, values_from, with_line}
 use Rattle.mail_text.specs.declared.fault.MailFault.{MailFault}
-
--- the lines that are left
-abbrev pub lines_left : Option (Bor (List ℕ)) → List (List ℕ)
-lines_left None = []
-lines_left (Some rest) = lines_of rest.now
-
--- how long they may still be
-abbrev pub left : Option (Bor (List ℕ)) → ℕ
-left None = 0
-left (Some rest) = length rest.now + 1
 
 -- a script whose first values are read already
 abbrev pub with_front : List ℕ → Result (List ℕ) MailFault → Result (List ℕ) MailFault
 with_front front (Ok values) = Ok (front ++ values)
 with_front front (Err fault) = Err fault
-
--- where the first line ends
-abbrev IsCut : List ℕ → List ℕ → Option (Bor (List ℕ)) → Type 0
-IsCut bytes line rest =
-    MatchOption rest (lines_of bytes ≡ line ∷ [])
-    (λ more. lines_of bytes ≡ line ∷ lines_of more.now)
-
-cut_lines : (bytes line : List ℕ) (rest : Option (Bor (List ℕ))) → IsCut bytes line rest
-    → lines_of bytes ≡ line ∷ lines_left rest
-cut_lines bytes line None is = is
-cut_lines bytes line (Some more) is = is
 
 pub starts : (script : Result (List ℕ) MailFault) → with_front [] script ≡ script
 starts (Ok values) = refl

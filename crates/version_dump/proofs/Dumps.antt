@@ -7,9 +7,9 @@ use Rattle.std.proofs.lemmas.List.Splits.{join_with_byte-slice_split}
 use Rattle.doc_tree.specs.Lawful.{IsLawful}
 use Rattle.doc_tree.specs.Tree.{DocTree}
 use Rattle.doc_tree.specs.Words.{is_text}
-use Rattle.line_words.specs.Lines.{lines_of}
+use Rattle.line_words.specs.Lines.{is_end, lines_of}
 use Rattle.version_dump.specs.Answers.{IsLoaded, Reads}
-use Rattle.version_dump.specs.Contents.{Contents, contents_of, ended, fault_at, is_end, with_nodes}
+use Rattle.version_dump.specs.Contents.{Contents, contents_of, ended, fault_at, with_nodes}
 use Rattle.version_dump.specs.Dump.{end_line, head_line, lines_below, root_line}
 use Rattle.version_dump.specs.Laws.{IsDump, NoneIsAFront}
 use Rattle.version_dump.specs.Listing.{Listed, listed, listed_below}
@@ -20,7 +20,7 @@ use Rattle.version_dump.specs.declared.fault.LoadKind.TheVariants.{BadEnd}
 use Rattle.version_dump.specs.declared.loader.Loaded.{Loaded}
 use Rattle.version_dump.proofs.Decoding.{trees_same}
 use Rattle.version_dump.proofs.Followers.{lines_of_tree, next_of_tree}
-use Rattle.version_dump.proofs.Fronts.{fed_lines}
+use Rattle.line_words.proofs.Rests.{fed_lines}
 use Rattle.version_dump.proofs.Listings.{count_listed}
 use Rattle.version_dump.proofs.Texts.{AreLines, IsText, contents_of_dump, last_lines, lines_with}
 use Rattle.version_dump.proofs.Texts.{text_of_contents, words_there}

@@ -1,18 +1,15 @@
 -- What the loop over the lines of a dump keeps: the nodes of the tree so far, with those of the
 -- lines that are left, are all nodes.
-use Rattle.std.proofs.Common.{◌≡◌, ℕ, ◌+◌, ◌<◌, Bool, true, false, cond, List, [], ◌∷◌, length}
-use Rattle.std.proofs.Common.{Option, Some, None, Result, Ok, Err, Bor, refl, sym, ap, subst, ◌∙◌}
-use Rattle.std.proofs.Common.{arith, eqb}
-use Rattle.std.specs.Prelude.{MatchOption, is_some, ◌==◌}
-use Rattle.std.specs.List.{onto_first}
-use Rattle.std.proofs.lemmas.Bool.Decides.{nat_tests}
-use Rattle.std.proofs.lemmas.List.Splits.{length-slice_split}
+use Rattle.std.proofs.Common.{◌≡◌, ℕ, ◌+◌, Bool, false, cond, List, [], ◌∷◌, length}
+use Rattle.std.proofs.Common.{Option, Some, None, Result, Ok, Err, Bor, sym, ap, subst, ◌∙◌}
+use Rattle.std.proofs.Common.{arith}
+use Rattle.std.specs.Prelude.{is_some}
 use Rattle.doc_tree.specs.Lawful.{IsLawful}
 use Rattle.doc_tree.specs.Tree.{DocTree, no_kids, count}
-use Rattle.line_words.specs.Lines.{lines_of}
+use Rattle.line_words.specs.Lines.{has_feed, is_end, lines_left, lines_of}
+use Rattle.line_words.proofs.Rests.{IsCut, cut_lines, fed_lines, has_lines}
 use Rattle.version_dump.specs.Answers.{Gives, IsGrown, Lists, Reads, Turns, error_in}
-use Rattle.version_dump.specs.Answers.{lines_left}
-use Rattle.version_dump.specs.Contents.{contents_in, contents_of, ended, fault_at, has_feed, is_end}
+use Rattle.version_dump.specs.Contents.{contents_in, contents_of, ended, fault_at}
 use Rattle.version_dump.specs.Contents.{nodes_from, nodes_of, turn_of, with_head, with_nodes}
 use Rattle.version_dump.specs.Contents.{with_root, with_turn}
 use Rattle.version_dump.specs.Line.{head_of, line_of, root_line_of}
@@ -25,35 +22,6 @@ use Rattle.version_dump.specs.declared.fault.LoadError.TheVariants as load
 use Rattle.version_dump.specs.declared.fault.LoadFault.{LoadFault}
 use Rattle.version_dump.specs.declared.fault.LoadKind.{LoadKind}
 use Rattle.version_dump.specs.declared.fault.LoadKind.TheVariants.{BadEnd}
-
--- how long the lines may still be
-abbrev pub left : Option (Bor (List ℕ)) → ℕ
-left None = 0
-left (Some rest) = length rest.now + 1
-
-some_lines : (lines : List (List ℕ)) → 0 < length lines → has_feed lines ≡ true
-some_lines [] some = absurd (omega arith)
-some_lines (line ∷ lines) some = refl
-
-pub fed_lines : (bytes : List ℕ) → has_feed (lines_of bytes) ≡ true
-fed_lines bytes =
-    some_lines (lines_of bytes)
-    (omega (arith, length-slice_split (λ byte. byte == 10) bytes))
-
-pub has_lines : (rest : Option (Bor (List ℕ))) → has_feed (lines_left rest) ≡ is_some rest
-has_lines None = refl
-has_lines (Some rest) = fed_lines rest.now
-
--- where a line ends
-abbrev IsCut : List ℕ → List ℕ → Option (Bor (List ℕ)) → Type 0
-IsCut bytes line rest =
-    MatchOption rest (lines_of bytes ≡ line ∷ [])
-    (λ more. lines_of bytes ≡ line ∷ lines_of more.now)
-
-cut_lines : (bytes line : List ℕ) (rest : Option (Bor (List ℕ))) → IsCut bytes line rest
-    → lines_of bytes ≡ line ∷ lines_left rest
-cut_lines bytes line None is = is
-cut_lines bytes line (Some more) is = is
 
 -- the next line
 first_line : (nodes : List Listed) (bytes line : List ℕ) (rest : Option (Bor (List ℕ))) (has : Bool)
@@ -100,30 +68,7 @@ pub missing : (number : ℕ) (nodes : List Listed) (whole : Result (List Listed)
 missing number nodes whole same so_far =
     sym so_far ∙ ap (λ n. fault_at n BadEnd) (sym same)
 
--- behind the end
-not_end : (bytes : List ℕ) → 0 < length bytes → is_end (lines_of bytes) ≡ false
-not_end [] some = absurd (omega arith)
-not_end (b ∷ bytes) some =
-    elim (eqb b 10)
-    as (λ t. is_end (cond t ([] ∷ lines_of bytes) (onto_first b (lines_of bytes))) ≡ false) [
-      | true ↦
-          elim (lines_of bytes) as (λ ls. has_feed ls ≡ true → is_end ([] ∷ ls) ≡ false)
-          [ [] ↦ λ h. cc | l ∷ ls ↦ λ h. refl ] (fed_lines bytes)
-      | false ↦
-          elim (lines_of bytes) as (λ ls. is_end (onto_first b ls) ≡ false)
-          [ [] ↦ refl | l ∷ ls ↦ refl ]
-    ]
-
-some_differs : (n : ℕ) → 0 < n → eqb n 0 ≡ false
-some_differs n some = grind (arith, nat_tests)
-
-pub empty_ends : (rest : List ℕ) (has : Bool) → has ≡ eqb (length rest) 0
-    → has ≡ is_end (lines_of rest)
-empty_ends [] has is = is
-empty_ends (b ∷ rest) has is =
-    is ∙ some_differs (length (b ∷ rest)) (omega arith)
-    ∙ sym (not_end (b ∷ rest) (omega arith))
-
+-- a line after the end
 pub follows_end : (number : ℕ) (nodes : List Listed) (lines : List (List ℕ))
     → is_end lines ≡ false → number ≡ length nodes + 3
     → ended nodes lines ≡ Err (record { line = number; kind = BadEnd })

@@ -24,7 +24,8 @@ use Rattle.line_words.specs.Numbers.{are_digits, decimal_of, digits_of, is_short
 use Rattle.quoted_text.specs.Quoted.{quoted_of, unquoted_of}
 use Rattle.quoted_text.proofs.Laws.{from_quote, read_back}
 use Rattle.version_dump.specs.Dump.{end_text, head_text, node_text, path_text, root_text}
-use Rattle.version_dump.specs.Line.{begins_digit, begins_end, end_in, head_of, is_missing, line_of}
+use Rattle.version_dump.specs.Line.{begins_digit, begins_end, end_in, head_of, line_of}
+use Rattle.line_words.specs.Lines.{is_missing}
 use Rattle.version_dump.specs.Line.{low_version, node_in, node_with, root_in, root_line_of, text_in}
 use Rattle.version_dump.specs.Line.{with_feed}
 use Rattle.version_dump.specs.declared.fault.LoadKind.TheVariants.{BadEnd}

@@ -11,9 +11,9 @@ use Rattle.std.proofs.lemmas.List.{length-append}
 use Rattle.std.proofs.lemmas.List.Splits.{join_with_byte-slice_split}
 use Rattle.doc_tree.specs.Tree.{DocTree, Kids, no_kids, kid, count}
 use Rattle.doc_tree.specs.Words.{are_names, is_name, is_path, is_text}
-use Rattle.line_words.specs.Lines.{lines_of}
+use Rattle.line_words.specs.Lines.{has_feed, is_end, lines_of}
 use Rattle.version_dump.specs.Contents.{Contents, contents_in, contents_of, ended, fault_at}
-use Rattle.version_dump.specs.Contents.{has_feed, is_end, nodes_from, nodes_of, placed, turn_of}
+use Rattle.version_dump.specs.Contents.{nodes_from, nodes_of, placed, turn_of}
 use Rattle.version_dump.specs.Contents.{with_head, with_nodes, with_root, with_turn}
 use Rattle.version_dump.specs.Dump.{dump_of, end_line, end_text, fed, head_line, head_text}
 use Rattle.version_dump.specs.Dump.{lines_below, node_line, node_text, root_line, root_text}
@@ -27,7 +27,7 @@ use Rattle.version_dump.specs.declared.fault.LoadKind.TheVariants.{BadEnd, Big, 
 use Rattle.version_dump.specs.declared.fault.LoadKind.TheVariants.{NoOrder}
 use Rattle.version_dump.specs.declared.line.Held.{Held}
 use Rattle.version_dump.specs.declared.line.Held.TheVariants as held
-use Rattle.version_dump.proofs.Fronts.{fed_lines}
+use Rattle.line_words.proofs.Rests.{fed_lines}
 use Rattle.version_dump.proofs.Listings.{count_listed}
 use Rattle.version_dump.proofs.Marks.{end_lacks, head_lacks, line_first, node_lacks, root_lacks}
 use Rattle.version_dump.proofs.Nexts.{low_ten}

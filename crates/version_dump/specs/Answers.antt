@@ -1,12 +1,10 @@
 -- How the answers of this crate's calls relate to the definitions: equal, unless out of memory.
 -- Source: this project's own.
 use Rattle.std.specs.Prelude.{◌≡◌, ℕ, ◌≤◌, List, [], Result, Ok, Err, Option, Some, None}
-use Rattle.std.specs.Borrow.{Bor}
 use Rattle.doc_tree.specs.declared.edit.EditFault.{EditFault}
 use Rattle.doc_tree.specs.declared.edit.EditFault.TheVariants as edit
 use Rattle.doc_tree.specs.Lawful.{IsLawful}
 use Rattle.doc_tree.specs.Tree.{DocTree, count}
-use Rattle.line_words.specs.Lines.{lines_of}
 use Rattle.version_dump.specs.Contents.{Contents}
 use Rattle.version_dump.specs.Listing.{Listed, listed}
 use Rattle.version_dump.specs.declared.fault.LineError.{LineError}
@@ -39,11 +37,6 @@ refused edit.NoMemory = line.NoMemory
 abbrev pub error_in : ℕ → LineError → LoadError
 error_in number (line.Kind kind) = load.Fault (record { line = number; kind = kind })
 error_in number line.NoMemory = load.NoMemory
-
--- the lines that are left, none where no line feed ended the one before
-abbrev pub lines_left : Option (Bor (List ℕ)) → List (List ℕ)
-lines_left None = []
-lines_left (Some rest) = lines_of rest.now
 
 -- the names on the way to the last node
 abbrev pub names_in : Option Path → Path

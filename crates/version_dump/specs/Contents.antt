@@ -8,7 +8,7 @@
 -- Source: this project's own.
 use Rattle.std.specs.Prelude.{ℕ, Bool, true, false, not, ◌+◌, List, [], ◌∷◌, ◌++◌, length, nat_le}
 use Rattle.std.specs.Prelude.{Option, Some, None, Result, Ok, Err, if◌then◌else◌}
-use Rattle.line_words.specs.Lines.{lines_of}
+use Rattle.line_words.specs.Lines.{has_feed, is_end, lines_of}
 use Rattle.version_dump.specs.Line.{head_of, line_of, root_line_of}
 use Rattle.version_dump.specs.Listing.{Listed, root_of}
 use Rattle.version_dump.specs.Order.{follows, siblings}
@@ -25,18 +25,6 @@ pub record Contents : Type 0 where
 
 abbrev pub fault_at : {A : Type 0} → ℕ → LoadKind → Result A LoadFault
 fault_at line kind = Err (record { line = line; kind = kind })
-
--- a line feed ends the line where others are behind it, of which the last may be empty
-abbrev pub has_feed : List (List ℕ) → Bool
-has_feed [] = false
-has_feed (line ∷ lines) = true
-
--- no byte is left
-abbrev pub is_end : List (List ℕ) → Bool
-is_end [] = true
-is_end ([] ∷ []) = true
-is_end ([] ∷ line ∷ lines) = false
-is_end ((byte ∷ bytes) ∷ lines) = false
 
 -- these nodes and one more, or what is at fault with it there
 abbrev pub placed : List Listed → Listed → Result (Option (List Listed)) LoadKind

@@ -7,6 +7,7 @@ use Rattle.std.specs.Char.{is_ascii_digit}
 use Rattle.std.specs.Option.{option_and_then}
 use Rattle.doc_tree.specs.Words.{path_of, text_of}
 use Rattle.line_words.specs.Cut.{rest_of, word_of}
+use Rattle.line_words.specs.Lines.{is_missing}
 use Rattle.line_words.specs.Numbers.{decimal_of}
 use Rattle.quoted_text.specs.Quoted.{unquoted_of}
 use Rattle.version_dump.specs.Dump.{end_text}
@@ -51,12 +52,6 @@ begins_digit (byte ∷ bytes) = is_ascii_digit byte
 -- the line begins with `end`, a space and a digit
 abbrev pub begins_end : List ℕ → Bool
 begins_end line = bytes_eq (word_of line) (codes "end") && begins_digit (drop 1 (rest_of line))
-
--- the bytes end where the line would begin
-abbrev pub is_missing : Bool → List ℕ → Bool
-is_missing true line = false
-is_missing false [] = true
-is_missing false (byte ∷ bytes) = false
 
 -- a line with its line feed alone holds something
 abbrev pub with_feed : {A : Type 0} → Bool → Option A → Result A LoadKind

@@ -2,13 +2,14 @@
 ghost use Rattle.std.specs.Prelude.{IfOk, MatchOption, None, Some, bytes_eq, drop, ◌≡◌};
 ghost use Rattle.version_dump.specs.Answers.{Gives};
 ghost use Rattle.version_dump.specs.Dump.{end_text};
-ghost use Rattle.version_dump.specs.Line.{begins_digit, begins_end, end_in, head_of, is_missing};
+ghost use Rattle.version_dump.specs.Line.{begins_digit, begins_end, end_in, head_of};
+ghost use Rattle.line_words.specs.Lines.{is_missing};
 ghost use Rattle.version_dump.specs.Line.{line_of, low_version, node_in, root_in, root_line_of};
 ghost use Rattle.version_dump.specs.Line.{text_in};
 
 use crate::fault::{LineError, LoadKind};
 use doc_tree::{NoMemory, Path, Text};
-use line_words::{after_space, first_word, read_decimal};
+use line_words::{after_space, first_word, is_missing, read_decimal};
 use quoted_text::read_quoted;
 use std::alloc::Global;
 
@@ -91,12 +92,6 @@ fn is_end_of(alloc: Global, line: &[u8], nodes: u64) -> Result<bool, NoMemory>
 {
     let end = format!(in alloc; "end {nodes}")?;
     Ok(line == end.as_bytes())
-}
-
-fn is_missing(line: &[u8], has_feed: bool) -> bool
-    ensures { result ≡ is_missing has_feed line.now }
-{
-    !has_feed && line.is_empty()
 }
 
 fn begins_end(line: &[u8]) -> bool

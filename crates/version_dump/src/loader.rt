@@ -1,12 +1,12 @@
 //! A whole dump.
 ghost use Rattle.doc_tree.specs.Lawful.{IsLawful};
 ghost use Rattle.doc_tree.specs.Tree.{DocTree, count};
-ghost use Rattle.line_words.specs.Lines.{lines_of};
+ghost use Rattle.line_words.specs.Lines.{is_end, lines_left, lines_of};
 ghost use Rattle.std.specs.Prelude.{IfOk, [], ℕ, ◌≡◌, ◌≤◌};
 ghost use Rattle.std.specs.Result.{ForOk};
-ghost use Rattle.version_dump.specs.Answers.{IsGrown, IsLoaded, Lists, Reads, error_in, lines_left};
+ghost use Rattle.version_dump.specs.Answers.{IsGrown, IsLoaded, Lists, Reads, error_in};
 ghost use Rattle.version_dump.specs.Answers.{names_in};
-ghost use Rattle.version_dump.specs.Contents.{contents_of, ended, is_end, nodes_from, nodes_of};
+ghost use Rattle.version_dump.specs.Contents.{contents_of, ended, nodes_from, nodes_of};
 ghost use Rattle.version_dump.specs.Laws.{IsDump};
 ghost use Rattle.version_dump.specs.Listing.{listed};
 ghost use Rattle.version_dump.specs.declared.fault.LoadError.TheVariants as load;
@@ -15,7 +15,7 @@ use crate::fault::{LineError, LoadError, LoadFault, LoadKind};
 use crate::grow::{Turn, lone_node, read_turn};
 use crate::line::{read_head, read_root};
 use doc_tree::{Name, Path, Tree};
-use line_words::cut_line;
+use line_words::{cut_line, is_end};
 use std::alloc::Global;
 
 /// A version and its tree.
@@ -125,14 +125,5 @@ fn ended(tree: Tree, rest: Option<&[u8]>) -> Result<Tree, LoadError>
         Ok(tree)
     } else {
         Err(fault_at(tree.count() as u32 + 3, LoadKind::BadEnd))
-    }
-}
-
-fn is_end(rest: Option<&[u8]>) -> bool
-    ensures { result ≡ is_end (lines_left rest.entry) }
-{
-    match rest {
-        Some(rest) => rest.is_empty(),
-        None => true,
     }
 }

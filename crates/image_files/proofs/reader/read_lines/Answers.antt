@@ -1,6 +1,6 @@
 use Rattle.std.proofs.Common.{◌≡◌, ◌≤◌, ◌^◌, ◌+◌, ◌∙◌, [], length, Ok, Err, ap, sym, subst, arith}
-use Rattle.line_words.specs.Lines.{lines_of}
-use Rattle.image_files.specs.Answers.{Lists, lines_left}
+use Rattle.line_words.specs.Lines.{lines_left, lines_of}
+use Rattle.image_files.specs.Answers.{Lists}
 use Rattle.image_files.specs.Contents.{lines_from}
 use Rattle.image_files.specs.declared.fault.ImageError.{ImageError}
 use Rattle.image_files.proofs.Turns.{ends, goes_on, missing, stops, turn_fits}

@@ -1,6 +1,8 @@
 use Rattle.std.proofs.Common.{All, ◌≡◌, ◌+◌, ◌<◌, ◌≤◌, ◌^◌, length}
 use Rattle.mail_text.specs.Script.{script_of, values_from}
-use Rattle.mail_text.proofs.Turns.{left, lines_left, with_front}
+use Rattle.mail_text.proofs.Turns.{with_front}
+use Rattle.line_words.proofs.Rests.{left}
+use Rattle.line_words.specs.Lines.{lines_left}
 use Rattle.mail_text.proofs.script.read_mail.Given as goal
 
 abbrev pub invariant-loop-rest : goal.invariant-loop-rest

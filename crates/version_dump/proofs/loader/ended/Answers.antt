@@ -1,6 +1,7 @@
 use Rattle.std.proofs.Common.{◌≡◌, ◌+◌, length, false, Err, sym, subst, arith}
-use Rattle.version_dump.specs.Answers.{Lists, lines_left}
-use Rattle.version_dump.specs.Contents.{ended, is_end}
+use Rattle.version_dump.specs.Answers.{Lists}
+use Rattle.version_dump.specs.Contents.{ended}
+use Rattle.line_words.specs.Lines.{is_end, lines_left}
 use Rattle.version_dump.specs.Listing.{listed}
 use Rattle.version_dump.specs.declared.fault.LoadError.{LoadError}
 use Rattle.version_dump.proofs.Fronts.{follows_end}

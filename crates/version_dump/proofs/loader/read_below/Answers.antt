@@ -1,5 +1,6 @@
 use Rattle.std.proofs.Common.{◌≡◌, ◌+◌, length, Err, sym, subst, arith}
-use Rattle.version_dump.specs.Answers.{Lists, lines_left}
+use Rattle.version_dump.specs.Answers.{Lists}
+use Rattle.line_words.specs.Lines.{lines_left}
 use Rattle.version_dump.specs.Contents.{nodes_from}
 use Rattle.version_dump.specs.Listing.{listed}
 use Rattle.version_dump.specs.declared.fault.LoadError.{LoadError}

@@ -1,8 +1,9 @@
 use Rattle.std.proofs.Common.{◌≡◌}
-use Rattle.version_dump.specs.Answers.{IsGrown, lines_left, names_in}
+use Rattle.version_dump.specs.Answers.{IsGrown, names_in}
+use Rattle.line_words.specs.Lines.{lines_left}
 use Rattle.version_dump.specs.Contents.{nodes_from}
 use Rattle.version_dump.specs.Listing.{listed}
-use Rattle.version_dump.proofs.Fronts.{left}
+use Rattle.line_words.proofs.Rests.{left}
 use Rattle.version_dump.proofs.loader.read_below.Given as goal
 
 abbrev pub invariant-loop-rest : goal.invariant-loop-rest

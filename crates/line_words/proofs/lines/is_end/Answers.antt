@@ -1,8 +1,7 @@
 use Rattle.std.proofs.Common.{sym, ap, ◌∙◌}
-use Rattle.image_files.specs.Answers.{lines_left}
-use Rattle.image_files.specs.Contents.{is_end}
-use Rattle.image_files.proofs.Turns.{empty_ends}
-use Rattle.image_files.proofs.reader.is_end.Goals as goal
+use Rattle.line_words.specs.Lines.{is_end, lines_left}
+use Rattle.line_words.proofs.Rests.{empty_ends}
+use Rattle.line_words.proofs.lines.is_end.Goals as goal
 
 pub returns-in-Some : goal.returns-in-Some
 returns-in-Some c =
