@@ -3,8 +3,8 @@
 -- Each line ends with a line feed, which the last may lack. Lines are numbered from 1, those that
 -- do not count too. Where no line counts, the first is at fault.
 -- Source: this project's.
-use Rattle.std.specs.Prelude.{ℕ, ◌+◌, List, [], ◌∷◌, ◌==◌, Option, Some, None, Result, Ok, Err}
-use Rattle.std.specs.List.{slice_split}
+use Rattle.std.specs.Prelude.{ℕ, ◌+◌, List, [], ◌∷◌, Option, Some, None, Result, Ok, Err}
+use Rattle.line_words.specs.Lines.{lines_of}
 use Rattle.core_replay.specs.Lines.{reading_of}
 use Rattle.core_replay.specs.declared.fault.ScheduleFault.{ScheduleFault}
 use Rattle.core_replay.specs.declared.fault.ScheduleKind.{ScheduleKind}
@@ -40,10 +40,6 @@ abbrev pub schedule_from : ℕ → List (List ℕ) → Option Sizes → Result S
 schedule_from number [] sizes = ended sizes
 schedule_from number (line ∷ lines) sizes =
     with_line number sizes (reading_of sizes line) (schedule_from (number + 1) lines)
-
--- the parts between the line feeds
-abbrev pub lines_of : List ℕ → List (List ℕ)
-lines_of bytes = slice_split (λ byte. byte == 10) bytes
 
 -- the schedule
 abbrev pub schedule_of : List ℕ → Result ScheduleValue ScheduleFault
