@@ -2,7 +2,8 @@
 use Rattle.std.proofs.Common.{◌≡◌, ◌≤◌, ◌+◌, ◌++◌, ◌∙◌, ℕ, zero, suc, List, [], codes, append_assoc}
 use Rattle.std.proofs.Common.{add-one, ap, arith}
 use Rattle.core_machine.specs.State.{State, field_of}
-use Rattle.core_replay.specs.ReplayText.{field_text, fields_text}
+use Rattle.core_replay.specs.ReplayText.{fields_text}
+use Rattle.cell_texts.specs.Texts.{field_text}
 
 -- the first fields, each after a space
 abbrev pub first_fields : State → ℕ → ℕ → List ℕ

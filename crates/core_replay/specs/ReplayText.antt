@@ -1,24 +1,9 @@
 -- The lines that a replay writes.
 -- Source: this project's.
 use Rattle.std.specs.Prelude.{ℕ, List, ◌++◌, codes, decimal}
-use Rattle.cell_words.specs.declared.colours.Colour.{Colour}
-use Rattle.cell_words.specs.declared.colours.Colour.TheVariants as colour
-use Rattle.cell_words.specs.declared.fields.Field.{Field}
-use Rattle.cell_words.specs.declared.fields.Field.TheVariants as field
+use Rattle.cell_texts.specs.Texts.{colour_text, field_text}
 use Rattle.core_machine.specs.State.{State, colour_of, field_of, freed_of, free_count_of}
 use Rattle.core_replay.specs.Standing.{Standing}
-
-abbrev pub colour_text : Colour → List ℕ
-colour_text colour.Blue = codes "blue"
-colour_text colour.White = codes "white"
-colour_text colour.Gray = codes "gray"
-colour_text colour.Black = codes "black"
-
--- a value as a schedule writes it
-abbrev pub field_text : Field → List ℕ
-field_text field.Null = codes "-"
-field_text (field.Num n) = codes "=" ++ decimal n
-field_text (field.Cell c) = codes "@" ++ decimal c
 
 -- six texts, parted by spaces
 abbrev pub six_texts : List ℕ → List ℕ → List ℕ → List ℕ → List ℕ → List ℕ → List ℕ

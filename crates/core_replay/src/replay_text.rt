@@ -1,10 +1,11 @@
 //! The lines that a replay writes, each with its line feed.
+ghost use Rattle.cell_texts.specs.Texts.{colour_text, field_text};
 ghost use Rattle.core_machine.specs.State.{State};
-ghost use Rattle.core_replay.specs.ReplayText.{cell_line_of, colour_text, ending_line, field_text};
+ghost use Rattle.core_replay.specs.ReplayText.{cell_line_of, ending_line};
 ghost use Rattle.core_replay.specs.ReplayText.{fields_text, not_now_line, six_texts};
 ghost use Rattle.std.specs.Prelude.{IfOk, codes, string_bytes, ◌++◌, ◌<◌, ◌≡◌};
 
-use cell_words::{Colour, Field};
+use cell_texts::{colour_text, with_field};
 use dlg_core::{Core, NoMemory};
 use std::alloc::Global;
 
@@ -13,7 +14,7 @@ pub(crate) fn cell_line(alloc: Global, core: &Core, cell: u32) -> Result<String,
     requires { cell < core.now.cells }
     ensures { IfOk result (λ text. string_bytes text ≡ cell_line_of core.now cell) }
 {
-    let colour = colour_word(core.colour(cell));
+    let colour = colour_text(core.colour(cell));
     let fields = fields_said(alloc, core, cell)?;
     let freed = core.freed(cell);
     format!(in alloc; "cell {cell} {colour}{fields} freed {freed}\n")
@@ -29,28 +30,6 @@ fn fields_said(alloc: Global, core: &Core, cell: u32) -> Result<String, NoMemory
         text = with_field(alloc, text, core.field(cell, i))?;
     }
     Ok(text)
-}
-
-fn with_field(alloc: Global, text: String, field: Field) -> Result<String, NoMemory>
-    ensures { IfOk result
-        (λ all. string_bytes all ≡ string_bytes text ++ (codes " " ++ field_text field)) }
-{
-    match field {
-        Field::Null => format!(in alloc; "{text} -"),
-        Field::Num(number) => format!(in alloc; "{text} ={number}"),
-        Field::Cell(cell) => format!(in alloc; "{text} @{cell}"),
-    }
-}
-
-fn colour_word(colour: Colour) -> &'static str
-    ensures { result.now ≡ colour_text colour }
-{
-    match colour {
-        Colour::Blue => "blue",
-        Colour::White => "white",
-        Colour::Gray => "gray",
-        Colour::Black => "black",
-    }
 }
 
 /// The line of a step that cannot be taken, by the number of its own line.
