@@ -5,12 +5,9 @@ use Rattle.std.proofs.Common.{inl, inr, Result, Ok, Err}
 use Rattle.std.specs.Prelude.{IfOk, OnErr}
 use Rattle.std.proofs.lemmas.Bool.{cases_lt}
 use Rattle.client_records.specs.declared.at.NodeAt.{NodeAt}
-use Rattle.client_session.specs.Handles.{Edits, Still, answered}
+use Rattle.client_session.specs.Handles.{Edits, Still}
 use Rattle.client_trees.specs.Leaves.{Leaves, LeavesAll}
 use Rattle.client_turns.specs.State.{Rests}
-use Rattle.doc_edits.specs.Edits.{answered as edit_answered}
-use Rattle.doc_tree.specs.Tree.{DocTree}
-use Rattle.doc_tree.specs.declared.edit.EditFault.{EditFault}
 use Rattle.minor_heap.specs.Nursery.{IsOrdered, Nursery}
 use Rattle.mutator_seat.specs.Bound.{Bound}
 use Rattle.version_rule.specs.Pass.{Pass, commit_numbers}
@@ -94,12 +91,6 @@ module _ (m n : Bound Pass) (old new : Nursery) (left : LeavesAll m n old new) w
         rests_on (length m.seat.me.own.held) m n old new (carries_left m n old new left.leaves) d b
         sound sound.kept 0 (ap commit_numbers left.leaves.pass) left.leaves.claims all_records
         (let same = all_held in omega (arith, same))
-
--- what an edit answers, in the words of both layers
-pub answered_same : {A : Type 0} (tree : A → DocTree) (r : Result A EditFault)
-    → answered tree r ≡ edit_answered tree r
-answered_same tree (Ok a) = refl
-answered_same tree (Err e) = refl
 
 -- A walk back, which found the version or did not.
 pub older_sound : (m n : Bound Pass) (minor : Nursery) (v : HeldVersion) (back : ℕ)

@@ -2,8 +2,6 @@
 -- that make nodes, and those that give back.
 -- Source: this project's.
 use Rattle.std.specs.Prelude.{ℕ, ◌≡◌, ◌≤◌, ◌+◌, ◌==◌, Bool, false, Option, Some, None}
-use Rattle.std.specs.Prelude.{Result, Ok, Err}
-use Rattle.doc_tree.specs.declared.edit.EditFault.{EditFault}
 use Rattle.client_session.specs.declared.held.HeldVersion.{HeldVersion}
 use Rattle.client_turns.specs.State.{ClientState, Lasts}
 use Rattle.doc_tree.specs.Tree.{DocTree}
@@ -43,12 +41,6 @@ pub record GivesBack (old new : ClientState) : Type 0 where
   pub base : new.base ≡ old.base
   pub room : old.room ≤ new.room
   pub spare : old.spare ≤ new.spare
-
--- the tree of the node that an edit gave, or why there is none
-abbrev pub answered : {A : Type 0} → (A → DocTree) → Result A EditFault
-    → Result DocTree EditFault
-answered tree (Ok a) = Ok (tree a)
-answered tree (Err e) = Err e
 
 -- both are there, and are one cell
 abbrev pub is_one : Option ℕ → Option ℕ → Bool

@@ -2,7 +2,8 @@
 //! version.
 ghost use Rattle.std.specs.Prelude.{ℕ, ◌≡◌, ◌≤◌, ◌<◌, ◌+◌, IfOk, IfSome, IsOk, None, Ok, OnErr};
 ghost use Rattle.client_session.specs.Batches.{Moves, Works};
-ghost use Rattle.client_session.specs.Handles.{Edits, Still, answered};
+ghost use Rattle.client_session.specs.Handles.{Edits, Still};
+ghost use Rattle.doc_tree.specs.Edits.{answered};
 ghost use Rattle.client_session.specs.Turns.{Begins, Ends, MayTurn};
 ghost use Rattle.client_turns.specs.Progress.{MakesNone};
 ghost use Rattle.client_turns.specs.State.{ClientState};

@@ -7,7 +7,7 @@ ghost use Rattle.client_session.specs.Turns.{Begins, Ends, FindsFull, MayTurn, a
 ghost use Rattle.client_turns.specs.Progress.{runs_out};
 ghost use Rattle.client_turns.specs.State.{ClientState};
 ghost use Rattle.client_turns.specs.Turns.{Begun};
-ghost use Rattle.client_session.specs.Handles.{answered};
+ghost use Rattle.doc_tree.specs.Edits.{answered};
 ghost use Rattle.doc_model.specs.Answers.{attached, full_place};
 ghost use Rattle.doc_model.specs.declared.command.Command.{Command};
 ghost use Rattle.doc_model.specs.declared.command.Command.TheVariants as command;

@@ -8,10 +8,9 @@ ghost use Rattle.client_session.specs.Handles.{Edits, GivesBack, Handles, Still,
 ghost use Rattle.client_turns.specs.Demands.{version_asks};
 ghost use Rattle.client_turns.specs.State.{ClientState, IsReady, IsSettled, Lasts, Rests};
 ghost use Rattle.client_turns.specs.State.{StaysSmall};
-ghost use Rattle.client_session.specs.Handles.{answered};
 ghost use Rattle.doc_records.specs.Texts.{name_asks, text_asks};
 ghost use Rattle.doc_records.specs.Trees.{tree_of};
-ghost use Rattle.doc_tree.specs.Edits.{attach, delete, set_text};
+ghost use Rattle.doc_tree.specs.Edits.{answered, attach, delete, set_text};
 ghost use Rattle.doc_tree.specs.Tree.{count, names_of, node};
 ghost use Rattle.trails.specs.Asks.{Shows, gave};
 ghost use Rattle.trails.specs.Claims.{IsFull};

@@ -3,8 +3,7 @@ ghost use Rattle.std.specs.Prelude.{◌≡◌, ◌+◌, ◌≤◌, true, OnErr, 
 ghost use Rattle.std.specs.Result.{ForOk};
 ghost use Rattle.client_trees.specs.Leaves.{Leaves};
 ghost use Rattle.client_trees.specs.Nodes.{IsTreeAt, tree_at};
-ghost use Rattle.doc_edits.specs.Edits.{answered};
-ghost use Rattle.doc_tree.specs.Edits.{attach, delete, set_text};
+ghost use Rattle.doc_tree.specs.Edits.{answered, attach, delete, set_text};
 ghost use Rattle.doc_tree.specs.Tree.{empty};
 
 use client_records::{ClientRecords, ClientSeat, NodeAt};

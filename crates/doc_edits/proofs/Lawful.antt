@@ -3,14 +3,13 @@ use Rattle.std.proofs.Common.{◌≡◌, ℕ, ◌≤◌, refl, sym, ap, ◌∙�
 use Rattle.std.proofs.Common.{List, [], ◌∷◌, Some, Result, Ok}
 use Rattle.std.specs.Result.{ForOk}
 use Rattle.doc_tree.specs.declared.edit.EditFault.{EditFault}
-use Rattle.doc_tree.specs.Edits.{attach, delete, set_text}
+use Rattle.doc_tree.specs.Edits.{answered, attach, delete, set_text}
 use Rattle.doc_tree.specs.Lawful.{IsLawful}
 use Rattle.doc_tree.specs.Tree.{DocTree, child, count, height}
 use Rattle.doc_tree.proofs.Orderly.{attach_lawful, count_deleted, delete_lawful}
 use Rattle.doc_tree.proofs.Orderly.{height_deleted, node_lawful, set_text_lawful}
 use Rattle.doc_records.specs.Pool.{Shown}
 use Rattle.doc_records.specs.Trees.{IsNodeAt, tree_of}
-use Rattle.doc_edits.specs.Edits.{answered}
 use Rattle.doc_edits.specs.Tops.{IsTreeAt}
 
 -- how large a tree is after a deletion

@@ -1,4 +1,3 @@
-pub mod Edits
 pub mod Ends
 pub mod Entries
 pub mod Pools

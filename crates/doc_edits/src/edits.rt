@@ -5,12 +5,11 @@
 ghost use Rattle.std.specs.Prelude.{◌≡◌, ◌+◌, ◌*◌, ◌≤◌, ◌<◌, ◌↔◌, None, OnErr, IsTrue, length};
 ghost use Rattle.std.specs.Option.{option_map};
 ghost use Rattle.std.specs.Result.{ForOk};
-ghost use Rattle.doc_tree.specs.Edits.{attach, edit_along, edited, set_text, start};
+ghost use Rattle.doc_tree.specs.Edits.{answered, attach, edit_along, edited, set_text, start};
 ghost use Rattle.doc_tree.specs.Edits.{with_text, within_limits};
 ghost use Rattle.doc_tree.specs.Tree.{child as child_of_name, kid_count};
 ghost use Rattle.doc_records.specs.Pool.{Later};
 ghost use Rattle.doc_records.specs.Trees.{IsNodeAt, IsTreeNode, tree_of};
-ghost use Rattle.doc_edits.specs.Edits.{answered};
 ghost use Rattle.doc_edits.specs.Ends.{StandsAtEnd, made_at};
 ghost use Rattle.doc_edits.specs.Tops.{IsTop, IsTreeAt, IsWithin, tree_under};
 

@@ -1,10 +1,9 @@
 //! Deletion: down the path, and back up with a copy of each node on it.
 ghost use Rattle.std.specs.Prelude.{◌≡◌, ◌+◌, ◌*◌, ◌≤◌, OnErr, length};
 ghost use Rattle.std.specs.Result.{ForOk};
-ghost use Rattle.doc_tree.specs.Edits.{delete};
+ghost use Rattle.doc_tree.specs.Edits.{answered, delete};
 ghost use Rattle.doc_records.specs.Pool.{Later};
 ghost use Rattle.doc_records.specs.Trees.{IsNodeAt, IsTreeNode, tree_of};
-ghost use Rattle.doc_edits.specs.Edits.{answered};
 ghost use Rattle.doc_edits.specs.Tops.{IsTreeAt};
 
 use crate::nodes::{with_child, without_child};

@@ -88,3 +88,8 @@ Gives (Err fault.Many) wanted = wanted ≡ Err fault.Many
 Gives (Err fault.Deep) wanted = wanted ≡ Err fault.Deep
 Gives (Err fault.Big) wanted = wanted ≡ Err fault.Big
 Gives (Err fault.NoMemory) wanted = Unit {0}
+
+-- the tree that an answer spells, or why there is none
+abbrev pub answered : {A : Type 0} → (A → DocTree) → Result A EditFault → Result DocTree EditFault
+answered tree (Ok a) = Ok (tree a)
+answered tree (Err e) = Err e
