@@ -4,19 +4,14 @@
 -- least_*  the row is as high as the child that comes makes it.
 -- rest_*   whatever else was as high as the row still is there.
 use Rattle.std.proofs.Common.{◌≡◌, ℕ, ◌+◌, ◌<◌, ◌≤◌, List, Option, None, Some, max, ap, arith}
-use Rattle.std.proofs.Common.{refl, ◌∙◌, ◌^◌}
+use Rattle.std.proofs.Common.{◌∙◌, ◌^◌}
 use Rattle.std.specs.declared.cmp.Ordering.TheVariants.{Less, Equal, Greater}
 use Rattle.doc_tree.specs.Edits.{delete_child}
-use Rattle.doc_tree.specs.Tree.{DocTree, Kids, no_kids, kid, child, put_child}
+use Rattle.doc_tree.specs.Tree.{DocTree, Kids, child, kid, no_kids, nodes_in, put_child}
 use Rattle.doc_tree.specs.Tree.{height_below, count, height, name_cmp, by_order}
 use Rattle.doc_tree.proofs.Sizes.{nodes_delete, nodes_put, delete_lower, put_height}
-use Rattle.doc_tree.proofs.Sizes.{nodes_in as nodes_there}
 use Rattle.doc_edits.specs.declared.sizes.Change.{Change}
-use Rattle.doc_edits.specs.Sizes.{Changes, IsChange, levels_in, nodes_in}
-
-nodes_same : (o : Option DocTree) → nodes_there o ≡ nodes_in o
-nodes_same None = refl
-nodes_same (Some d) = refl
+use Rattle.doc_edits.specs.Sizes.{Changes, IsChange, levels_in}
 
 least_put : (n : List ℕ) (d : DocTree) (kids : Kids)
     → height d + 1 ≤ height_below (put_child n d kids)
@@ -66,7 +61,6 @@ put_changes c n d t went came kids row is there new same made few =
           omega (
             arith,
             nodes_put n d t.kids,
-            nodes_same (child n t.kids),
             is.nodes,
             is.nodes_gone ∙ ap nodes_in there,
             is.nodes_come ∙ ap nodes_in new,
@@ -86,7 +80,6 @@ delete_changes c n t went came kids row is there none same made few =
           omega (
             arith,
             nodes_delete n t.kids,
-            nodes_same (child n t.kids),
             is.nodes,
             is.nodes_gone ∙ ap nodes_in there,
             is.nodes_come ∙ ap nodes_in none,

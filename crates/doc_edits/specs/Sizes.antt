@@ -1,14 +1,10 @@
 -- How many nodes and levels a node has of which one child comes, goes or is changed.
 -- Source: this project's.
 use Rattle.std.specs.Prelude.{◌≡◌, ℕ, ◌+◌, ◌≤◌, ◌<◌, ◌^◌, Option, Some, None, max}
-use Rattle.doc_tree.specs.Tree.{DocTree, Kids, count, height, height_below, nodes_below}
+use Rattle.doc_tree.specs.Tree.{DocTree, Kids, count, height, height_below, nodes_below, nodes_in}
 use Rattle.doc_edits.specs.declared.sizes.Change.{Change}
 
--- what a child adds to the sizes of a row; none adds nothing
-abbrev pub nodes_in : Option DocTree → ℕ
-nodes_in None = 0
-nodes_in (Some d) = count d
-
+-- how many levels a child adds to a row; none adds nothing
 abbrev pub levels_in : Option DocTree → ℕ
 levels_in None = 0
 levels_in (Some d) = height d + 1

@@ -9,7 +9,8 @@ ghost use Rattle.cell_words.specs.Term.{part, IsFive};
 ghost use Rattle.doc_tree.specs.Tree.{count, height, height_below, kid_count, nodes_below};
 ghost use Rattle.doc_records.specs.Pool.{Later, Stands, part_term};
 ghost use Rattle.doc_records.specs.Trees.{AreEntries, IsNodeAt, tree_of};
-ghost use Rattle.doc_edits.specs.Sizes.{Changes, IsChange, levels_in, nodes_in};
+ghost use Rattle.doc_edits.specs.Sizes.{Changes, IsChange, levels_in};
+ghost use Rattle.doc_tree.specs.Tree.{nodes_in};
 ghost use Rattle.doc_edits.specs.Tops.{IsRowAt, IsTop, row_of, tree_under};
 
 use doc_records::{

@@ -4,11 +4,11 @@
 -- put_*     a child that is put makes the tree no higher than its own height and one asks for.
 -- delete_*  what is left without a child is no greater and no higher.
 -- nodes_*   how many nodes there are then, exactly.
-use Rattle.std.proofs.Common.{◌≡◌, ℕ, ◌+◌, ◌≤◌, List, Option, None, Some, max, ap, arith}
+use Rattle.std.proofs.Common.{◌≡◌, ℕ, ◌+◌, ◌≤◌, List, None, Some, max, ap, arith}
 use Rattle.std.specs.declared.cmp.Ordering.TheVariants.{Less, Equal, Greater}
 use Rattle.doc_tree.specs.Edits.{delete_child}
 use Rattle.doc_tree.specs.Tree.{DocTree, Kids, no_kids, kid, child, put_child, nodes_below}
-use Rattle.doc_tree.specs.Tree.{height_below, count, height, name_cmp, by_order}
+use Rattle.doc_tree.specs.Tree.{height_below, count, height, name_cmp, by_order, nodes_in}
 
 pub child_count : (n : List ℕ) (kids : Kids) (d : DocTree) → child n kids ≡ Some d
     → count d ≤ nodes_below kids
@@ -89,10 +89,6 @@ delete_lower n (kid m text inside rest) =
     ]
 
 -- Exactly: the nodes of a child that is put come in place of those of the child that stood there.
-abbrev pub nodes_in : Option DocTree → ℕ
-nodes_in None = 0
-nodes_in (Some d) = count d
-
 pub nodes_put : (n : List ℕ) (d : DocTree) (kids : Kids)
     → nodes_below (put_child n d kids) + nodes_in (child n kids) ≡ nodes_below kids + count d
 nodes_put n d no_kids = omega arith

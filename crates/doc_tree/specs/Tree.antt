@@ -60,6 +60,11 @@ child n no_kids = None
 child n (kid m text inside rest) =
     by_order (name_cmp n m) None (Some (record { text = text; kids = inside })) (child n rest)
 
+-- how many nodes a child has; none has none
+abbrev pub nodes_in : Option DocTree → ℕ
+nodes_in None = 0
+nodes_in (Some d) = count d
+
 -- the node at the end of a way down
 abbrev pub node : List (List ℕ) → DocTree → Option DocTree
 node [] t = Some t
