@@ -3,7 +3,7 @@ use Rattle.std.proofs.Common.{◌≡◌, ℕ, ◌≤◌, sym, ◌∙◌, subst}
 use Rattle.client_session.specs.Handles.{Handles, Still}
 use Rattle.client_session.specs.Turns.{Opens}
 use Rattle.client_session.specs.declared.held.HeldVersion.{HeldVersion}
-use Rattle.client_turns.specs.Demands.{version_asks}
+use Rattle.version_rule.specs.Shows.{version_asks}
 use Rattle.client_turns.specs.State.{ClientState, Rests}
 use Rattle.client_turns.proofs.Reading.{read_current, read_on, tree_known}
 use Rattle.client_turns.proofs.States.{rests_none, rests_then}

@@ -6,7 +6,7 @@ use Rattle.client_session.specs.Turns.{bounds}
 use Rattle.client_session.specs.declared.given.Opened.{Opened}
 use Rattle.client_session.specs.declared.journal.Journal.{Journal}
 use Rattle.client_session.proofs.Readings.{account_is}
-use Rattle.client_turns.specs.Demands.{version_asks}
+use Rattle.version_rule.specs.Shows.{version_asks}
 use Rattle.client_turns.specs.Progress.{MakesNone}
 use Rattle.client_turns.specs.State.{ClientState, Lasts, Rests, StaysSmall}
 use Rattle.client_turns.proofs.Reading.{read_current, read_late}

@@ -5,7 +5,7 @@ ghost use Rattle.std.specs.Prelude.{◌&&◌, Option, nat_le};
 ghost use Rattle.std.specs.Option.{option_map};
 ghost use Rattle.cell_words.specs.declared.fields.Field.TheVariants as field;
 ghost use Rattle.client_session.specs.Handles.{Edits, GivesBack, Handles, Still, is_one};
-ghost use Rattle.client_turns.specs.Demands.{version_asks};
+ghost use Rattle.version_rule.specs.Shows.{version_asks};
 ghost use Rattle.client_turns.specs.State.{ClientState, IsReady, IsSettled, Lasts, Rests};
 ghost use Rattle.client_turns.specs.State.{StaysSmall};
 ghost use Rattle.doc_records.specs.Texts.{name_asks, text_asks};

@@ -12,7 +12,8 @@ use Rattle.trails.specs.Stretches.{Had}
 use Rattle.trails.proofs.Orders.{grown_same, shows_none, shows_then}
 use Rattle.trails.proofs.Stretches.{had_late, had_on, had_whole}
 use Rattle.client_turns.specs.Demands.{Demand, FullFor, ReadsFor, ReadsShown, is_drafting}
-use Rattle.client_turns.specs.Demands.{reply_asks, version_asks}
+use Rattle.client_turns.specs.Demands.{reply_asks}
+use Rattle.version_rule.specs.Shows.{version_asks}
 use Rattle.client_turns.specs.State.{ClientState, Lasts}
 
 -- By cases on the guards.

@@ -8,7 +8,7 @@ use Rattle.trails.specs.Asks.{Ask, Shows}
 use Rattle.trails.proofs.Orders.{shows_late, shows_on, shows_then}
 use Rattle.version_rule.specs.Fits.{Fits, Grows, HasTree, IsMade}
 use Rattle.version_rule.specs.Pass.{Commit, Pass, Reading, committed, reading, seeing}
-use Rattle.client_turns.specs.Demands.{version_asks}
+use Rattle.version_rule.specs.Shows.{version_asks}
 use Rattle.client_turns.specs.Progress.{HasRead, KnowsTree, MakesNone}
 use Rattle.client_turns.specs.State.{ClientState}
 use Rattle.client_turns.proofs.States.{none_then}

@@ -21,7 +21,8 @@ use Rattle.trails.specs.Stretches.{Had}
 use Rattle.version_rule.specs.Fits.{Fits}
 use Rattle.version_rule.specs.Pass.{Pass, commit_numbers}
 use Rattle.version_rule.specs.Pass as pass
-use Rattle.client_turns.specs.Demands.{Demand, is_drafting, may_hold_more, reply_asks, version_asks}
+use Rattle.client_turns.specs.Demands.{Demand, is_drafting, may_hold_more, reply_asks}
+use Rattle.version_rule.specs.Shows.{version_asks}
 use Rattle.client_turns.specs.Progress.{Drafts, HasRead, IsAccount, Made, MakesNone}
 use Rattle.client_turns.specs.Progress.{runs_out}
 use Rattle.client_turns.specs.State.{ClientState, IsReady, Lasts, StaysSmall}

@@ -10,14 +10,11 @@ use Rattle.doc_model.specs.declared.command.Entry.{Entry}
 use Rattle.doc_model.specs.declared.command.Reply.{Reply}
 use Rattle.doc_model.specs.declared.command.Reply.TheVariants as reply
 use Rattle.doc_records.specs.Texts.{name_asks, text_asks}
-use Rattle.trails.specs.Asks.{Ask, InOrder, gave, gave_at}
+use Rattle.trails.specs.Asks.{Ask, InOrder, gave}
 use Rattle.trails.specs.Claims.{IsFull}
 use Rattle.trails.specs.Marks.{Mark}
 use Rattle.trails.specs.Stretches.{Had}
-
--- a read of the anchor's field gave a cell, and a later one of this cell's field 0 gave a number
-abbrev pub version_asks : ℕ → ℕ → List Ask
-version_asks cell number = gave_at 0 0 (field.Cell cell) ∷ gave_at cell 0 (field.Num number) ∷ []
+use Rattle.version_rule.specs.Shows.{version_asks}
 
 -- reads that gave what a reply shows
 abbrev pub reply_asks : Reply → List Ask

@@ -11,7 +11,7 @@ use Rattle.doc_tree.specs.declared.edit.EditFault.TheVariants as fault
 use Rattle.trails.specs.Asks.{Ask, Shows}
 use Rattle.version_rule.specs.Fits.{Fits}
 use Rattle.version_rule.specs.Pass.{Pass, commit_numbers}
-use Rattle.client_turns.specs.Demands.{version_asks}
+use Rattle.version_rule.specs.Shows.{version_asks}
 use Rattle.client_turns.specs.State.{ClientState, Lasts, StaysSmall}
 
 -- the account is that of the client in this state

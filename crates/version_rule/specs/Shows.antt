@@ -11,10 +11,14 @@ use Rattle.heap_rule.specs.Asks.{known_of}
 use Rattle.heap_rule.specs.Reads.{HasRead}
 use Rattle.heap_rule.specs.declared.known.Known.TheVariants as knows
 use Rattle.heap_rule.specs.declared.view.View.{View}
-use Rattle.trails.specs.Asks.{InOrder, gave_at}
+use Rattle.trails.specs.Asks.{Ask, InOrder, gave_at}
 use Rattle.trails.specs.Marks.{marks_from}
 use Rattle.version_rule.specs.Knowing.{KnowsVersion}
 use Rattle.version_rule.specs.Pass.{Pass, committed, reading, seeing}
+
+-- a read of the anchor's field gave a cell, and a later one of this cell's field 0 gave a number
+abbrev pub version_asks : ℕ → ℕ → List Ask
+version_asks cell number = gave_at 0 0 (field.Cell cell) ∷ gave_at cell 0 (field.Num number) ∷ []
 
 -- after a read of the anchor: the latest version is held and seen, and none before it was newer
 pub record ShowsLatest (is_tree : Term → Type 0) (v w : View Pass) (place word : ℕ) : Type 0 where
@@ -70,9 +74,7 @@ ShowsLink is_tree v w place word number pass_then =
 pub record ReadsLatest (v x : View Pass) (cell number : ℕ) : Type 0 where
   pub added : List Taken
   pub trail : x.trail ≡ v.trail ++ added
-  pub shown : InOrder
-      (gave_at 0 0 (field.Cell cell) ∷ gave_at cell 0 (field.Num number) ∷ [])
-      (marks_from v.own added)
+  pub shown : InOrder (version_asks cell number) (marks_from v.own added)
   pub pass : x.pass ≡ seeing number v.pass
   pub seen : x.pass.seen ≡ number
 

@@ -25,7 +25,8 @@ use Rattle.version_rule.proofs.Trees.{committed_grows, cutting_grows, grows_stil
 use Rattle.version_rule.proofs.Trees.{seeing_grows}
 use Rattle.version_store.specs.declared.held.HeldVersion.{HeldVersion}
 use Rattle.held_places.specs.Calls.{Goes}
-use Rattle.version_store.specs.Calls.{Holds, version_asks}
+use Rattle.version_store.specs.Calls.{Holds}
+use Rattle.version_rule.specs.Shows.{version_asks}
 use Rattle.version_store.specs.Commits.{Committed, FindsNewer, ShowsNewer}
 use Rattle.version_store.specs.Held.{GivesLatest, GivesRoot, IsRecord, root_at, term_at}
 use Rattle.version_store.specs.Held.{term_told}

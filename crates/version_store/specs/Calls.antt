@@ -1,14 +1,13 @@
--- What a call leaves of a mutator of versions, whose fixed fields are those of a version; and the
--- reads that give the latest one.
+-- What a call leaves of a mutator of versions, whose fixed fields are those of a version.
 -- Source: this project's.
-use Rattle.std.specs.Prelude.{ℕ, List, [], ◌∷◌}
+use Rattle.std.specs.Prelude.{ℕ, List}
 use Rattle.cell_words.specs.declared.fields.Field.{Field}
 use Rattle.cell_words.specs.declared.fields.Field.TheVariants as field
 use Rattle.heap_rule.specs.declared.known.Known.{Known}
 use Rattle.held_places.specs.Calls as places
 use Rattle.mutator_seat.specs.Bound.{Bound}
-use Rattle.trails.specs.Asks.{Ask, gave_at}
 use Rattle.version_rule.specs.Pass.{Pass}
+pub use Rattle.version_rule.specs.Shows.{version_asks}
 use Rattle.version_rule.specs.Versions.{is_fixed}
 
 -- what was known of a cell is still known
@@ -26,7 +25,3 @@ Holds cells old new = places.Holds is_fixed cells old new
 -- one read of this field of the cell at a place, which gave this
 abbrev pub WasRead : Bound Pass → Bound Pass → ℕ → ℕ → Field → Type 0
 WasRead old new place f found = places.WasRead is_fixed old new place f found
-
--- a read of the anchor's field gave a cell, and a later one of this cell's field 0 gave a number
-abbrev pub version_asks : ℕ → ℕ → List Ask
-version_asks cell number = gave_at 0 0 (field.Cell cell) ∷ gave_at cell 0 (field.Num number) ∷ []

@@ -13,7 +13,8 @@ use Rattle.version_rule.specs.Knowing.{KnowsVersion, root_told}
 use Rattle.version_rule.specs.Pass.{Pass, reading, seeing}
 use Rattle.version_store.specs.declared.held.HeldVersion.{HeldVersion}
 use Rattle.held_places.specs.Calls.{Goes}
-use Rattle.version_store.specs.Calls.{Holds, version_asks}
+use Rattle.version_store.specs.Calls.{Holds}
+use Rattle.version_rule.specs.Shows.{version_asks}
 
 -- the place of the version holds a box that is neither the anchor nor fresh, with this number and
 -- with some root

@@ -6,7 +6,7 @@ ghost use Rattle.heap_rule.specs.Asks.{target};
 ghost use Rattle.trails.specs.Asks.{Shows, gave_at};
 ghost use Rattle.version_rule.specs.Knowing.{KnowsVersion};
 ghost use Rattle.held_places.specs.Calls.{IsCoherent, IsIn};
-ghost use Rattle.version_store.specs.Calls.{version_asks};
+ghost use Rattle.version_rule.specs.Shows.{version_asks};
 ghost use Rattle.version_store.specs.Held.{GivesLatest, GivesRoot, IsHeld};
 ghost use Rattle.version_store.specs.Lasts.{IsSameMutator, LastsAcross, marks};
 ghost use Rattle.version_store.specs.Reads.{FindsLatest, FindsNumber};
