@@ -7,7 +7,8 @@ use Rattle.std.proofs.lemmas.List.{append_assoc, append-nil, length-append}
 use Rattle.std.proofs.lemmas.List.Folds.{list_all-append}
 use Rattle.std.specs.List.{list_all}
 use Rattle.core_machine.specs.declared.events.Taken.{Taken}
-use Rattle.collector.specs.Counting.{goes_on, is_duty, is_end, is_free}
+use Rattle.dlg_core.specs.PlainCycle.{ends_cycle}
+use Rattle.collector.specs.Counting.{goes_on, is_duty, is_free}
 use Rattle.collector.specs.Cycles.{AfterOver, AreWhole, Heard, IsWhole, MadeCycles, Wholes}
 use Rattle.collector.specs.Cycles.{joined}
 use Rattle.collector.specs.Over.{AllOver}
@@ -130,7 +131,7 @@ on_no_duty [] on = refl
 on_no_duty (x ∷ xs) on =
     let parts = and_parts (goes_on x.event) (list_all (λ (t : Taken). goes_on t.event) xs) on in
     and_from (not (is_duty x.event)) (no_duty xs)
-    (and_parts (not (is_end x.event)) (not (is_duty x.event)) parts.0).1
+    (and_parts (not (ends_cycle x.event)) (not (is_duty x.event)) parts.0).1
     (on_no_duty xs parts.1)
 
 pub no_duty_more : (xs ys : List Taken) → no_duty xs ≡ true → IsWhole ys

@@ -3,11 +3,10 @@
 -- Source: this project's.
 use Rattle.std.specs.Prelude.{ℕ, ◌≡◌, ◌≤◌, ◌+◌, ◌==◌, ◌&&◌, Bool, true, false, not, List}
 use Rattle.std.specs.List.{count_by, list_all}
-use Rattle.cell_words.specs.declared.controls.Stage.{Stage}
-use Rattle.cell_words.specs.declared.controls.Stage.TheVariants as stage
 use Rattle.core_machine.specs.declared.events.Event.{Event}
 use Rattle.core_machine.specs.declared.events.Event.TheVariants as event
 use Rattle.core_machine.specs.declared.events.Taken.{Taken}
+use Rattle.dlg_core.specs.PlainCycle.{ends_cycle}
 use Rattle.collector.specs.Answering.{AnswersWhoIsOut}
 use Rattle.collector.specs.Bound.{Bound, cells_of, part_of}
 use Rattle.collector.specs.Replay.{Work, count_along, ends_pass, spills, stacks, strays}
@@ -16,26 +15,13 @@ use Rattle.collector.specs.Replay.{work_of}
 use Rattle.collector.specs.Stretches.{Stretch}
 use Rattle.collector.specs.declared.report.CycleReport.{CycleReport}
 
-abbrev pub is_idle : Stage → Bool
-is_idle stage.Idle = true
-is_idle stage.Sync1 = false
-is_idle stage.Clear = false
-is_idle stage.Sync2 = false
-is_idle stage.Trace = false
-is_idle stage.Sweep = false
-
--- the event ends a cycle
-abbrev pub is_end : Event → Bool
-is_end (event.Post target) = is_idle target
-is_end _ = false
-
 abbrev pub is_duty : Event → Bool
 is_duty (event.Duty on) = true
 is_duty _ = false
 
 -- an event within a cycle neither ends it nor tells of duty
 abbrev pub goes_on : Event → Bool
-goes_on e = not (is_end e) && not (is_duty e)
+goes_on e = not (ends_cycle e) && not (is_duty e)
 
 abbrev pub is_blacken : Event → Bool
 is_blacken event.Blacken = true
