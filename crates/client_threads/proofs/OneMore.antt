@@ -23,7 +23,8 @@ use Rattle.heap_rule.specs.declared.view.Place.TheVariants as places
 use Rattle.heap_rule.specs.declared.view.Share.{Share}
 use Rattle.heap_table.specs.Seats.{HeapId}
 use Rattle.run_history.specs.Left.{AreLeft, IsLeft}
-use Rattle.client_threads.specs.Taken.{AllHadRoom, lists_of}
+use Rattle.client_threads.specs.Taken.{AllHadRoom}
+use Rattle.doc_model.specs.Scripts.{lists_of}
 use Rattle.version_rule.specs.Pass.{Pass}
 
 -- the next script, as a list of commands

@@ -15,7 +15,8 @@ use Rattle.doc_model.specs.declared.command.Entry.{Entry}
 use Rattle.heap_rule.specs.Moves.{joined_view}
 use Rattle.heap_rule.specs.Rule.{share_of}
 use Rattle.heap_table.specs.Seats.{HeapId, SeatView}
-use Rattle.client_threads.specs.Taken.{AreFronts, AreTaken, commands_in, lists_of}
+use Rattle.client_threads.specs.Taken.{AreFronts, AreTaken, commands_in}
+use Rattle.doc_model.specs.Scripts.{lists_of}
 use Rattle.version_rule.specs.Pass.{Pass}
 use Rattle.client_threads.proofs.OneMore.{scripts_more}
 use Rattle.client_threads.proofs.Places.{DoneAt}

@@ -1,14 +1,13 @@
 -- The clients after their run: their logs, and the collector's seat with theirs joined.
 -- Source: this project's.
-use Rattle.std.specs.Prelude.{ℕ, ◌≡◌, ◌<◌, List, [], ◌∷◌, length, map, take}
-use Rattle.std.specs.Prelude.{Vec}
-use Rattle.std.specs.declared.alloc.Global.{Global}
+use Rattle.std.specs.Prelude.{ℕ, ◌≡◌, ◌<◌, List, [], ◌∷◌, length, take}
 use mathlib.Core.Option.{some}
 use lib.ListN.{get_elem?}
 use Rattle.client_threads.specs.Clients.{commands_of}
 use Rattle.beside_collector.specs.Serving.{IsStill}
 use Rattle.doc_model.specs.Answers.{Limits}
 use Rattle.doc_model.specs.ClientLog.{ClientLog}
+pub use Rattle.doc_model.specs.Scripts.{lists_of}
 use Rattle.doc_model.specs.declared.command.Command.{Command}
 use Rattle.heap_rule.specs.declared.view.Place.{Place}
 use Rattle.heap_rule.specs.declared.view.Place.TheVariants as places
@@ -16,10 +15,6 @@ use Rattle.heap_rule.specs.declared.view.Share.{Share}
 use Rattle.heap_table.specs.Seats.{SeatView}
 use Rattle.run_history.specs.Left.{AreLeft}
 use Rattle.version_rule.specs.Pass.{Pass}
-
--- the scripts as lists of commands
-abbrev pub lists_of : List (Vec Command Global) → List (List Command)
-lists_of scripts = map (λ script. script.items) scripts
 
 -- the commands of a log
 abbrev pub commands_in : ClientLog → List Command

@@ -3,7 +3,8 @@
 ghost use Rattle.std.specs.Prelude.{◌≡◌, ◌≤◌, [], false, true, length, map};
 ghost use Rattle.std.specs.Prelude.{vec_capacity};
 ghost use Rattle.client_threads.specs.Clients.{AllDone, IsDone, places_for, store_limits};
-ghost use Rattle.client_threads.specs.Taken.{AreFronts, AreTaken, commands_in, lists_of};
+ghost use Rattle.client_threads.specs.Taken.{AreFronts, AreTaken, commands_in};
+ghost use Rattle.doc_model.specs.Scripts.{lists_of};
 ghost use Rattle.heap_rule.specs.Moves.{joined_view};
 ghost use Rattle.heap_table.specs.Seats.{IsSeatOf};
 

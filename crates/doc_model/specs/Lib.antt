@@ -5,5 +5,6 @@ pub mod Growth
 pub mod History
 pub mod LawfulStore
 pub mod Merge
+pub mod Scripts
 pub mod Store
 pub mod StoreView

@@ -12,7 +12,8 @@ use Rattle.script_files.proofs.Files.{first_decided, next_decided, none_decided}
 use Rattle.script_files.proofs.MadeLines.{made_scripts}
 use Rattle.script_files.specs.Files.{Agree}
 use Rattle.script_files.specs.Made.{DecidesMade, texts_from}
-use Rattle.script_files.specs.Reading.{Decides, DecidesFile, DecidesFrom, lists_of}
+use Rattle.script_files.specs.Reading.{Decides, DecidesFile, DecidesFrom}
+use Rattle.doc_model.specs.Scripts.{lists_of}
 use Rattle.script_files.specs.Scripts.{AreScriptsFrom, script_in, scripts_from}
 use Rattle.script_files.proofs.Sorting.{is_memory, is_reading, refused_as, refused_wanting}
 use Rattle.script_files.specs.Sorts.{OfScripts, sort_of}

@@ -5,7 +5,7 @@ use Rattle.cmd_text.specs.Form.{form_of}
 use Rattle.cmd_text.specs.declared.form.Form.{Form}
 use Rattle.doc_model.specs.declared.command.Command.{Command}
 use Rattle.script_files.specs.Files.{Agree}
-use Rattle.script_files.specs.Reading.{lists_of}
+use Rattle.doc_model.specs.Scripts.{lists_of}
 use Rattle.script_files.specs.Scripts.{AreScripts, scripts_of}
 use Rattle.script_files.specs.Sorts.{OfScripts, Refused, sort_of}
 use Rattle.script_files.specs.declared.fault.Fault.{Fault}

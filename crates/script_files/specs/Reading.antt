@@ -1,7 +1,8 @@
 -- How the answer to a file, or to several in turn, stands to what they hold.
 -- Source: this project's own.
-use Rattle.std.specs.Prelude.{◌≡◌, ℕ, List, ◌++◌, Option, Result, Ok, Err, Vec, map}
+use Rattle.std.specs.Prelude.{◌≡◌, ℕ, List, ◌++◌, Option, Result, Ok, Err, Vec}
 use Rattle.std.specs.declared.alloc.Global.{Global}
+pub use Rattle.doc_model.specs.Scripts.{lists_of}
 use Rattle.doc_model.specs.declared.command.Command.{Command}
 use Rattle.script_files.specs.Scripts.{IsScriptIn, AreScriptsFrom}
 use Rattle.script_files.specs.Sorts.{OfScripts, Refused, sort_of}
@@ -19,10 +20,6 @@ DecidesFile place before (Ok commands) told = IsScriptIn place before told (Ok c
 DecidesFile place before (Err fault) told =
     Refused OfScripts (sort_of fault) (IsScriptIn place before told (Err fault))
     (fault ≡ ReadFault place)
-
--- lists in the program's memory
-abbrev pub lists_of : List (Vec Command Global) → List (List Command)
-lists_of scripts = map (λ script. script.items) scripts
 
 -- the scripts of the files from this one on were added to a list, or the answer is the fault that
 -- decides, or a file could not be read, or memory ran out

@@ -3,7 +3,8 @@ ghost use Rattle.std.specs.Prelude.{◌≡◌, ℕ, ◌+◌, ◌*◌, ◌≤◌,
 ghost use Rattle.std.specs.Prelude.{IfOk, OnOk, sum_by};
 ghost use Rattle.std.specs.Prelude.{IsErrOf, nat_lt};
 ghost use Rattle.script_files.specs.Made.{DecidesMade, texts_from};
-ghost use Rattle.script_files.specs.Reading.{Decides, DecidesFrom, lists_of};
+ghost use Rattle.script_files.specs.Reading.{Decides, DecidesFrom};
+ghost use Rattle.doc_model.specs.Scripts.{lists_of};
 ghost use Rattle.script_files.specs.InTurn.{most_commands};
 ghost use Rattle.script_files.specs.Scripts.{script_in};
 ghost use Rattle.script_generator.specs.Generated.{generated_of};

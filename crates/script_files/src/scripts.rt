@@ -10,7 +10,8 @@ ghost use Rattle.script_files.specs.Files.{OpensInTurn, files_read, opened};
 ghost use Rattle.cmd_text.specs.Form.{form_of};
 ghost use Rattle.script_files.specs.Formed.{DecidesFiles};
 ghost use Rattle.script_files.specs.InTurn.{counted};
-ghost use Rattle.script_files.specs.Reading.{Decides, lists_of};
+ghost use Rattle.script_files.specs.Reading.{Decides};
+ghost use Rattle.doc_model.specs.Scripts.{lists_of};
 ghost use Rattle.script_files.specs.Scripts.{StopsBehind, parse_script, script_in};
 ghost use Rattle.script_files.specs.Sorts.{OfScripts};
 

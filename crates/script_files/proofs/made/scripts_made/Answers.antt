@@ -1,6 +1,6 @@
 use Rattle.std.proofs.Common.{Err, [], ap}
 use Rattle.script_files.proofs.MadeScripts.{made_all, made_not}
-use Rattle.script_files.specs.Reading.{lists_of}
+use Rattle.doc_model.specs.Scripts.{lists_of}
 use Rattle.script_files.proofs.made.scripts_made.Goals as goal
 
 pub returns-in-Ok-clause-scripts : goal.returns-in-Ok-clause-scripts

@@ -5,7 +5,7 @@ use Rattle.std.specs.declared.alloc.Global.{Global}
 use Rattle.doc_model.specs.declared.command.Command.{Command}
 use Rattle.script_files.proofs.Files.{one_refused, told_names}
 use Rattle.script_files.proofs.Gathered.{all_gathered, count_of, total_of}
-use Rattle.script_files.specs.Reading.{lists_of}
+use Rattle.doc_model.specs.Scripts.{lists_of}
 use Rattle.script_files.specs.Scripts.{parse_script}
 use Rattle.script_files.specs.Sorts.{OfScripts}
 use Rattle.script_files.proofs.scripts.scripts_in_turn.Goals as goal
