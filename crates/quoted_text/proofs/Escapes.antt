@@ -4,7 +4,8 @@ use Rattle.std.proofs.Common.{refl, sym, ap, subst, ◌∙◌, arith}
 use Rattle.std.specs.Prelude.{◌==◌, if◌then◌else◌}
 use Rattle.std.proofs.lemmas.Bool.{cond-true, cond-false, eqb-true}
 use Rattle.std.proofs.lemmas.Bool.Decides.{nat_tests}
-use Rattle.quoted_text.specs.Quoted.{escaped, inside_of, is_raw, is_text_byte, unescaped, with_byte}
+use Rattle.quoted_text.specs.Quoted.{escaped, inside_of, is_raw, unescaped, with_byte}
+use Rattle.doc_tree.specs.Words.{is_text_byte}
 
 -- a byte that stands for itself
 raw_escaped : (b : ℕ) → is_raw b ≡ true → escaped b ≡ b ∷ []

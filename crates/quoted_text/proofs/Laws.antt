@@ -5,7 +5,8 @@ use Rattle.std.specs.Prelude.{◌==◌, if◌then◌else◌}
 use Rattle.std.specs.List.{flat_map, list_all}
 use Rattle.std.proofs.lemmas.Bool.{and_from, and_parts, eqb-true}
 use Rattle.quoted_text.specs.Quoted.{escaped, inside_from, inside_of, is_raw}
-use Rattle.quoted_text.specs.Quoted.{is_text_byte, quoted_of, unescaped, unquoted_of, with_byte}
+use Rattle.quoted_text.specs.Quoted.{quoted_of, unescaped, unquoted_of, with_byte}
+use Rattle.doc_tree.specs.Words.{is_text_byte}
 use Rattle.quoted_text.proofs.Escapes.{byte_read, escape_back, raw_back}
 
 -- a text after its first quote

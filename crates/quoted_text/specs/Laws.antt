@@ -2,7 +2,8 @@
 -- Source: this project's own.
 use Rattle.std.specs.Prelude.{◌≡◌, ℕ, List, Some, IsTrue}
 use Rattle.std.specs.List.{list_all}
-use Rattle.quoted_text.specs.Quoted.{is_text_byte, quoted_of, unquoted_of}
+use Rattle.quoted_text.specs.Quoted.{quoted_of, unquoted_of}
+use Rattle.doc_tree.specs.Words.{is_text_byte}
 
 -- a text that was written is read back
 abbrev pub IsReadBack : Type 0

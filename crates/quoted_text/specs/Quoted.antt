@@ -1,16 +1,12 @@
 -- Quoted texts: which bytes are one, and of which text.
 --
--- A text is bytes from the space to the tilde, tabs and line feeds. Its quoted text begins and ends
--- with a quote. Between them a quote and a backslash stand behind a backslash, a tab is `\t`, a
--- line feed is `\n`, and each other byte stands for itself.
+-- A text is bytes from the space to the tilde, tabs and line feeds, as in doc_tree specs/Words. Its
+-- quoted text begins and ends with a quote. Between them a quote and a backslash stand after a
+-- backslash, a tab is `\t`, a line feed is `\n`, and each other byte stands for itself.
 -- Source: this project's own.
-use Rattle.std.specs.Prelude.{ℕ, Bool, not, ◌&&◌, ◌||◌, ◌==◌, nat_le, List, [], ◌∷◌, ◌++◌, Option}
+use Rattle.std.specs.Prelude.{ℕ, Bool, not, ◌&&◌, ◌==◌, nat_le, List, [], ◌∷◌, ◌++◌, Option}
 use Rattle.std.specs.Prelude.{Some, None, if◌then◌else◌}
 use Rattle.std.specs.List.{flat_map}
-
--- the space to the tilde, the tab and the line feed
-abbrev pub is_text_byte : ℕ → Bool
-is_text_byte b = (nat_le 32 b && nat_le b 126) || (b == 9) || (b == 10)
 
 -- how a byte of a text is written
 abbrev pub escaped : ℕ → List ℕ
