@@ -3,7 +3,7 @@ use Rattle.std.proofs.Common.{◌≡◌, ◌∙◌, ℕ, List, ◌∷◌, length
 use Rattle.std.proofs.Common.{Some, None, refl, arith}
 use Rattle.std.proofs.lemmas.Bool.{false_from_ne_true}
 use Rattle.closed_store.specs.Chain.{ShowsVersions}
-use Rattle.closed_store.specs.Closing.{EndedStore}
+use Rattle.document_versions.specs.Closing.{EndedStore}
 use Rattle.core_machine.specs.InRange.{IsShaped}
 use Rattle.core_machine.specs.State.{State}
 use Rattle.dlg_core.specs.Collects.{IsTidy}

@@ -2,7 +2,7 @@
 ghost use Rattle.std.specs.Prelude.{List, length, ℕ, ◌≡◌, ◌∷◌};
 ghost use Rattle.closed_census.specs.Kept.{HasCensus};
 ghost use Rattle.closed_store.specs.Chain.{ShowsVersions};
-ghost use Rattle.closed_store.specs.Closing.{EndedStore};
+ghost use Rattle.document_versions.specs.Closing.{EndedStore};
 ghost use Rattle.dlg_core.specs.Collects.{IsTidy};
 ghost use Rattle.doc_tree.specs.Tree.{DocTree};
 ghost use Rattle.heap_census.specs.Census.{IsFloating, IsSound};

@@ -9,7 +9,7 @@ use Rattle.cell_words.specs.declared.fields.Field.TheVariants as field
 use Rattle.cell_words.specs.Term.{num}
 use Rattle.closed_store.specs.Chain.{IsChain, IsVersionAt, ShowsVersions, last as ends}
 use Rattle.closed_store.specs.Chain.{more as links}
-use Rattle.closed_store.specs.Closing.{EndedStore}
+use Rattle.document_versions.specs.Closing.{EndedStore}
 use Rattle.core_machine.specs.InRange.{IsShaped}
 use Rattle.core_machine.specs.State.{State, field_of}
 use Rattle.dlg_core.specs.Collects.{AreOut}

@@ -3,7 +3,7 @@ ghost use Rattle.std.specs.Prelude.{List, length, ℕ, ◌≡◌, ◌≤◌, ◌
 ghost use mathlib.Core.Option.{some};
 ghost use lib.ListN.{get_elem?};
 ghost use Rattle.closed_store.specs.Chain.{ShowsVersions};
-ghost use Rattle.closed_store.specs.Closing.{EndedStore};
+ghost use Rattle.document_versions.specs.Closing.{EndedStore};
 ghost use Rattle.dlg_core.specs.Collects.{AreOut};
 ghost use Rattle.heap_rule.specs.Shape.{Shape};
 ghost use Rattle.heap_rule.specs.declared.view.View.{View};

@@ -36,7 +36,8 @@ use Rattle.version_rule.specs.Tied.{Tied}
 use Rattle.version_rule.specs.Versions.{IsInStep}
 use Rattle.version_rule.proofs.Passing.{all_at}
 use Rattle.version_rule.proofs.Tying.{agree}
-use Rattle.run_history.specs.Agreed.{EachShowsLog, HasEnded, IsCutFar, LogsAgree, ShowsLog}
+use Rattle.run_history.specs.Agreed.{EachShowsLog, IsCutFar, LogsAgree, ShowsLog}
+use Rattle.document_versions.specs.Closing.{EndedStore}
 use Rattle.run_history.specs.Left.{AreLeft, IsClientLeft, IsLeft}
 use Rattle.run_history.proofs.Finding.{IsFoundIn, found_in, last_risen, oks_joined, oks_of}
 use Rattle.run_history.proofs.Indices.{all_within, at_below, at_once, at_read, at_there, rising_at}
@@ -80,7 +81,7 @@ module _ (l : Limits) (cells client : ℕ) (log : ClientLog) (share : Share Pass
 -- All of them.
 
 module _ (l : Limits) (h : Shape) (words : List ℕ) (v : View Pass) (logs : List ClientLog)
-    (ended : HasEnded h words v) (some_one : 1 ≤ h.mutators) (many : length logs ≡ h.mutators)
+    (ended : EndedStore h words v) (some_one : 1 ≤ h.mutators) (many : length logs ≡ h.mutators)
     (left : AreLeft l h.cells logs v.places h.mutators) where
   client_at : (i : ℕ) (log : ClientLog) → get_elem? logs i ≡ some log
       → IsClientLeft l h.cells logs v.places i

@@ -10,8 +10,8 @@ use Rattle.doc_model.specs.Answers.{Limits, is_full}
 use Rattle.doc_model.specs.ClientLog.{ClientLog}
 use Rattle.doc_model.specs.Merge.{IsMerge, all_entries}
 use Rattle.doc_model.specs.declared.command.Entry.{Entry}
-use Rattle.doc_records.specs.Trees.{IsTreeNode, tree_of}
-use Rattle.heap_rule.specs.Laws.{Ended}
+use Rattle.document_versions.specs.Closing.{EndedStore}
+pub use Rattle.document_versions.specs.Closing.{EndedStore as HasEnded}
 use Rattle.heap_rule.specs.Shape.{Shape}
 use Rattle.heap_rule.specs.declared.view.Place.{Place}
 use Rattle.heap_rule.specs.declared.view.Place.TheVariants as places
@@ -20,14 +20,8 @@ use Rattle.heap_rule.specs.declared.view.View.{View}
 use Rattle.trails.specs.Claims.{IsFull}
 use Rattle.trails.specs.Marks.{marks_of}
 use Rattle.trails.specs.Stretches.{Had}
-use Rattle.version_rule.specs.Pass.{Pass, opening_pass}
+use Rattle.version_rule.specs.Pass.{Pass}
 use Rattle.version_rule.specs.Tied.{Tied}
-use Rattle.version_rule.specs.Versions.{HoldsVersions, is_fixed}
-
--- what the heap shows at its close, where its boxes are versions of documents
-abbrev pub HasEnded : Shape → List ℕ → View Pass → Type 0
-HasEnded h words v =
-    Ended opening_pass (HoldsVersions IsTreeNode tree_of) is_fixed h (Unit {0}) words v
 
 -- some pass has cut the link of the oldest version that stays, or all of them stay
 pub record IsCutFar (keep versions : ℕ) (passes : List Pass) : Type 0 where
@@ -53,7 +47,7 @@ EachShowsLog l cells logs joined = (i : ℕ) (log : ClientLog) (share : Share Pa
 -- By the limits, the heap's shape, its words and the collector's view at the close: the logs agree
 -- on the versions that the heap had, and all of them together are a history of one store.
 pub record LogsAgree (l : Limits) (h : Shape) (words : List ℕ) (v : View Pass)
-    (logs : List ClientLog) (ended : HasEnded h words v) : Type 0 where
+    (logs : List ClientLog) (ended : EndedStore h words v) : Type 0 where
   pub agree : Agree l ended.shows.kept.trees logs
   pub legal : (merged : List Entry) → IsMerge logs merged
       → MergedIsLegal l ended.shows.kept.trees logs merged
