@@ -1,6 +1,5 @@
 pub mod Lines
 pub mod Parts
-pub mod Plain
 pub mod Quoting
 pub mod Seconds
 pub mod Versions
