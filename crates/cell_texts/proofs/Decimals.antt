@@ -11,23 +11,12 @@ use Rattle.std.proofs.lemmas.Bool.{and_from, and_parts, cases_lt, eq-eqb, eqb-tr
 use Rattle.std.proofs.lemmas.Bool.{leb-true}
 use Rattle.std.proofs.lemmas.Fmt.{decimal_is_IsNumeral, decimal-digits_value, first_decimal}
 use Rattle.std.proofs.lemmas.Fmt.{length-decimal-le, decimal_digit}
-use Rattle.std.proofs.lemmas.Str.{digit_value_digit}
 use Rattle.std.proofs.lemmas.Str.Parse.{numerals_by_value, tells_digits, digit_from_value}
 use Rattle.line_words.specs.Numbers.{are_digits, decimal_of, digits_of, is_shortest}
-
-in_range : (c : ℕ) → is_ascii_digit c ≡ true → IsInRange 48 57 c
-in_range c is = search (rules, tests)
+use Rattle.line_words.proofs.Digits.{all_digits}
 
 is_digit : (c : ℕ) → IsInRange 48 57 c → is_ascii_digit c ≡ true
 is_digit c is = search (rules, tests)
-
-all_digits : (ds : List ℕ) → list_all is_ascii_digit ds ≡ true → AllDigits 10 ds
-all_digits [] all = tt
-all_digits (c ∷ cs) all =
-    let parts = and_parts (is_ascii_digit c) (list_all is_ascii_digit cs) all in
-    let is = in_range c parts.0 in
-    let value = digit_value_digit c is in
-    (omega arith, all_digits cs parts.1)
 
 digits_all : (ds : List ℕ) → AllDigits 10 ds → list_all is_ascii_digit ds ≡ true
 digits_all [] all = refl

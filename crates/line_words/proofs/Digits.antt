@@ -16,7 +16,7 @@ use Rattle.std.proofs.lemmas.Str.{digit_value_digit}
 in_range : (c : ℕ) → is_ascii_digit c ≡ true → IsInRange 48 57 c
 in_range c is = search (rules, tests)
 
-all_digits : (ds : List ℕ) → list_all is_ascii_digit ds ≡ true → AllDigits 10 ds
+pub all_digits : (ds : List ℕ) → list_all is_ascii_digit ds ≡ true → AllDigits 10 ds
 all_digits [] all = tt
 all_digits (c ∷ cs) all =
     let parts = and_parts (is_ascii_digit c) (list_all is_ascii_digit cs) all in
