@@ -41,7 +41,7 @@ rising_right no_kids r rising = rising
 rising_right (kid k text inside rest) r rising = rising_right rest r rising.1
 
 -- a name before the second row belongs in the first
-above_child : (n : List ℕ) (kids : Kids) → IsAbove n kids → child n kids ≡ None
+pub above_child : (n : List ℕ) (kids : Kids) → IsAbove n kids → child n kids ≡ None
 above_child n no_kids above = refl
 above_child n (kid m text inside rest) above = rw above.0 refl
 

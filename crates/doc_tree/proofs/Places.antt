@@ -15,6 +15,7 @@ use Rattle.doc_tree.specs.Tree.{Kids, no_kids, kid, kid_count, name_cmp, child, 
 use Rattle.doc_tree.specs.Tree.{IsAbove, IsRising}
 use Rattle.doc_tree.specs.Edits.{delete_child}
 use Rattle.doc_tree.specs.Rows.{row_of, IsHere, IsGap}
+use Rattle.doc_tree.proofs.Joined.{above_child}
 use Rattle.doc_tree.proofs.Rising.{less_turned, greater_turned, equal_turned, less_equal}
 
 abbrev Row : Type 0
@@ -112,10 +113,6 @@ here_child n [] at found here is = absurd here
 here_child n (k ∷ ks) zero found here is =
     rw here (ap (λ (x : Rc Kid Global). Some x.value.tree) (sym is))
 here_child n (k ∷ ks) (suc at) found here is = rw here.0 (here_child n ks at found here.1 is)
-
-above_child : (n : List ℕ) (kids : Kids) → IsAbove n kids → child n kids ≡ None
-above_child n no_kids above = refl
-above_child n (kid m text inside rest) above = rw above.0 refl
 
 pub gap_child : (n : List ℕ) (kids : Kids) (at : ℕ) → IsGap n kids at → child n kids ≡ None
 gap_child n kids zero gap = above_child n kids gap

@@ -13,7 +13,7 @@ use Rattle.doc_tree.specs.Lawful.{AreOrderly, IsOrdered}
 use Rattle.doc_tree.specs.Rows.{join, IsBelow}
 use Rattle.doc_tree.specs.Tree.{DocTree, Kids, no_kids, kid, name_cmp, by_order, child, IsAbove}
 use Rattle.doc_tree.specs.Tree.{IsRising}
-use Rattle.doc_tree.proofs.Joined.{above_right, child_past}
+use Rattle.doc_tree.proofs.Joined.{above_child, above_right, child_past}
 use Rattle.doc_tree.proofs.Rising.{above_later, greater_turned, less_turned}
 use Rattle.version_dump.specs.Listing.{listed, listed_below, root_of, under}
 use Rattle.version_dump.specs.Order.{Path, comes_after, has_parent, is_child}
@@ -110,10 +110,6 @@ ordered_last kids front m text inside all is =
 abbrev pub parent_in : Option DocTree → Path → Bool
 parent_in None path = false
 parent_in (Some d) path = has_parent (listed d) path
-
-pub above_child : (n : List ℕ) (kids : Kids) → IsAbove n kids → child n kids ≡ None
-above_child n no_kids above = refl
-above_child n (kid m text inside rest) above = rw above.0 refl
 
 parent_at : (o : Ordering) (n m text : List ℕ) (inside rest : Kids) (path : Path)
     → name_cmp n m ≡ o → IsAbove m rest

@@ -22,7 +22,8 @@ use Rattle.version_dump.specs.Laws.{has_words}
 use Rattle.version_dump.specs.Listing.{Listed, listed, listed_below, root_of, under}
 use Rattle.version_dump.specs.Order.{Path, comes_after, has_parent, is_child}
 use Rattle.version_dump.specs.Order.{is_sibling, last_path, siblings}
-use Rattle.version_dump.proofs.Edges.{above_child, after_none}
+use Rattle.version_dump.proofs.Edges.{after_none}
+use Rattle.doc_tree.proofs.Joined.{above_child}
 use Rattle.version_dump.proofs.Listings.{any-append, count-append, count-cons, count_listed}
 use Rattle.version_dump.proofs.Listings.{last-append, parent_under, siblings_below, siblings_root}
 use Rattle.version_dump.proofs.Listings.{siblings_under}
