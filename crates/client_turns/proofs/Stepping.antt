@@ -1,11 +1,11 @@
 -- A log stays in step with its pass and its trail: at the opening, after a turn that was lost, and
 -- after one that was answered.
 use Rattle.std.proofs.Common.{◌≡◌, ℕ, ◌+◌, ◌<◌, ◌≤◌, Bool, true, false, cond, List, [], ◌∷◌, ◌++◌}
-use Rattle.std.proofs.Common.{All, length, map, filter, inl, inr, refl, sym, ◌∙◌, ap, subst}
+use Rattle.std.proofs.Common.{All, length, map, inl, inr, refl, sym, ◌∙◌, ap, subst}
 use Rattle.std.proofs.Common.{arith, unwrap_or}
 use Rattle.std.proofs.lemmas.Bool.{cases_lt}
-use Rattle.std.proofs.lemmas.List.{append-nil, length-append, length_push, map-append}
-use Rattle.std.proofs.lemmas.List.Elements.{All-nil, All-push, All-weaker, filter-append}
+use Rattle.std.proofs.lemmas.List.{append-nil, length-append, length_push}
+use Rattle.std.proofs.lemmas.List.Elements.{All-nil, All-push, All-weaker}
 use Rattle.cell_words.specs.Term.{Term}
 use Rattle.doc_model.specs.Agreement.{ok_places}
 use Rattle.doc_model.specs.Answers.{Limits, is_ok}
@@ -23,6 +23,7 @@ use Rattle.trails.proofs.Stretches.{turns_grown, turns_had}
 use Rattle.version_rule.specs.Fits.{Fits, Grows}
 use Rattle.version_rule.specs.Pass.{Pass, commit_numbers}
 use Rattle.version_rule.specs.Tied.{Tied}
+use Rattle.version_rule.proofs.Tying.{oks_append}
 use Rattle.client_turns.specs.Demands.{Demand}
 use Rattle.client_turns.specs.Progress.{IsAccount}
 use Rattle.client_turns.specs.State.{ClientState}
@@ -30,13 +31,6 @@ use Rattle.client_turns.specs.Turns.{Answers, IsInStep, Lost, Turned, account_in
 use Rattle.client_turns.specs.Turns.{new_numbers}
 
 -- The numbers of the versions that a log made.
-
-pub oks_append : (ds es : List Entry) → ok_places (ds ++ es) ≡ ok_places ds ++ ok_places es
-oks_append ds es =
-    ap (λ (xs : List Entry). map (λ e. e.place) xs)
-    (filter-append (λ (e : Entry). is_ok e.reply) ds es)
-    ∙ map-append (λ (e : Entry). e.place) (filter (λ (e : Entry). is_ok e.reply) ds)
-    (filter (λ (e : Entry). is_ok e.reply) es)
 
 ok_one : (b : Bool) (e : Entry)
     → map (λ (x : Entry). x.place) (cond b (e ∷ []) []) ≡ new_numbers b e.place

@@ -6,7 +6,7 @@ use Rattle.std.specs.List.{Contains}
 use Rattle.std.proofs.lemmas.List.Elements.{Contains-append_cases, Contains-append_right}
 use mathlib.Core.Option.{some}
 use lib.ListN.{get_elem?}
-use Rattle.client_turns.proofs.Stepping.{oks_append}
+use Rattle.version_rule.proofs.Tying.{oks_append}
 use Rattle.doc_model.specs.Agreement.{ok_places, rising}
 use Rattle.doc_model.specs.ClientLog.{ClientLog}
 use Rattle.doc_model.specs.Merge.{all_entries}

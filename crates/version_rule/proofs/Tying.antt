@@ -15,7 +15,7 @@ use Rattle.version_rule.specs.Fits.{Fits, HasVersions}
 use Rattle.version_rule.specs.Pass.{Pass, commit_numbers}
 use Rattle.version_rule.specs.Tied.{Tied}
 
-oks_append : (ds es : List Entry) → ok_places (ds ++ es) ≡ ok_places ds ++ ok_places es
+pub oks_append : (ds es : List Entry) → ok_places (ds ++ es) ≡ ok_places ds ++ ok_places es
 oks_append ds es =
     ap (λ (xs : List Entry). map (λ e. e.place) xs)
     (filter-append (λ (e : Entry). is_ok e.reply) ds es)
