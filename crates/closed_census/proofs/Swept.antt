@@ -1,7 +1,7 @@
 -- Where the anchor leads to every used cell, none is floating: each cell that a cell with a role
 -- names has a role, since a part of a layout that is a cell gives one.
-use Rattle.std.proofs.Common.{◌≡◌, ◌≢◌, ◌≤◌, ◌∙◌, ℕ, true, false, List}
-use Rattle.std.proofs.Common.{[], inl, inr, refl, sym, ap, arith, get_or}
+use Rattle.std.proofs.Common.{◌≡◌, ◌≢◌, ◌∙◌, ℕ, true, false, List}
+use Rattle.std.proofs.Common.{[], inl, inr, refl, sym, ap, arith}
 use Rattle.std.proofs.lemmas.Bool.{cases_lt}
 use Rattle.std.proofs.lemmas.List.{get_or_past}
 use Rattle.cell_words.specs.declared.colours.Colour.{Colour}
@@ -11,7 +11,7 @@ use Rattle.cell_words.specs.declared.fields.Field.TheVariants as field
 use Rattle.cell_words.specs.declared.presences.Presence.{Presence}
 use Rattle.closed_store.specs.Chain.{ShowsVersions}
 use Rattle.core_machine.specs.InRange.{IsShaped}
-use Rattle.core_machine.specs.State.{State, colour_of, field_of, no_presence, presence_in, row_in}
+use Rattle.core_machine.specs.State.{State, colour_of, field_of, no_presence, presence_in}
 use Rattle.core_machine.specs.Words.{is_blue}
 use Rattle.dlg_core.specs.Collects.{IsFromAnchor, IsTidy}
 use Rattle.dlg_core.specs.Reachable.{anchor, held, named}
@@ -26,22 +26,13 @@ use Rattle.heap_census.specs.Roles as roles
 use Rattle.closed_census.proofs.Anchored.{IsBare}
 use Rattle.closed_census.proofs.Layouts.{cell_gives}
 use Rattle.closed_census.proofs.Roles.{shape_of}
+use Rattle.version_rule.proofs.Reached.{past_six}
 
 nobody : (i : ℕ) → (presence_in [] i).inside ≡ true → ⊥
 nobody i inside =
     let out : (presence_in [] i).inside ≡ false =
     ap (λ (p : Presence). p.inside) (get_or_past [] i no_presence (omega arith)) in
     let clash : false ≡ true = sym out ∙ inside in cc
-
--- a row has six fields
-past_six : (s : State) (c f : ℕ) → IsShaped s → 6 ≤ f → field_of s c f ≡ field.Null
-past_six s c f shape past = elim (cases_lt c s.cells) [
-  | inl lt ↦ get_or_past (row_in s.rows c) f field.Null
-      (let six = shape.cells_fit.six_fields c lt in omega (arith, six, past))
-  | inr le ↦
-      ap (λ (row : List Field). get_or row f field.Null)
-      (get_or_past s.rows c [] (let fit = shape.cells_fit.rows_fit in omega (arith, fit, le)))
-]
 
 not_blue : (x : Colour) → is_blue x ≡ false → x ≢ colour.Blue
 not_blue x is blue = let clash : true ≡ false = sym (ap is_blue blue) ∙ is in cc

@@ -31,7 +31,7 @@ use Rattle.heap_rule.proofs.Entries.{named_inj, same_entry}
 use Rattle.heap_rule.proofs.EntryWords.{null_word}
 
 -- a row has six fields
-past_six : (s : State) (c f : ℕ) → IsShaped s → 6 ≤ f → field_of s c f ≡ field.Null
+pub past_six : (s : State) (c f : ℕ) → IsShaped s → 6 ≤ f → field_of s c f ≡ field.Null
 past_six s c f shape past = elim (cases_lt c s.cells) [
   | inl lt ↦ get_or_past (row_in s.rows c) f field.Null
       (let six = shape.cells_fit.six_fields c lt in omega (arith, six, past))
