@@ -26,4 +26,4 @@ mod seat;
 mod walking;
 
 pub use heap::OwnHeap;
-pub use seat::StoreSeat;
+pub use seat::{DocumentSeat, StoreSeat};

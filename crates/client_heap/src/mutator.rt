@@ -1,36 +1,23 @@
 //! A mutator of documents is such a seat, with hints of any queue.
-ghost use Rattle.std.specs.Prelude.{◌≡◌, ◌<◌, ◌≤◌, ◌+◌, IfErr, IfOk, OnErr};
-ghost use Rattle.std.specs.Prelude.{OnOk, Err, [], ◌∷◌, IfSome, IsNone, None, Ok, length, max};
-ghost use Rattle.std.specs.Prelude.{◌==◌, true};
-ghost use Rattle.std.specs.Option.{ForSome, option_map};
-ghost use Rattle.std.specs.Result.{ForOk};
-ghost use Rattle.cell_words.specs.declared.fields.Field.TheVariants as field;
+//!
+//! The first impl has the clauses of its trait. The second repeats them: the toolchain gives none to
+//! a method of a trait whose argument names a lifetime.
+ghost use Rattle.std.specs.Prelude.{◌≡◌, ◌<◌, ◌≤◌, ◌+◌, IfOk, OnErr};
+ghost use Rattle.std.specs.Prelude.{OnOk, Err, IfSome, IsNone, None, Ok, length, max, true};
 ghost use Rattle.client_heap.specs.Carries.{Carries, Follows};
 ghost use Rattle.client_heap.specs.Shows.{node_term, stored};
-ghost use Rattle.client_heap.specs.Sound.{HasRoom, IsCleared, IsSound, is_cleared};
+ghost use Rattle.client_heap.specs.Sound.{HasRoom, IsCleared, IsSound};
 ghost use Rattle.client_records.specs.Records.{is_shared};
-ghost use Rattle.client_records.specs.declared.at.NodeAt.TheVariants as at;
-ghost use Rattle.client_trees.specs.Leaves.{Leaves, LeavesAll};
 ghost use Rattle.client_trees.specs.Nodes.{IsTreeAt, tree_at};
-ghost use Rattle.doc_records.specs.Texts.{name_asks, text_asks};
-ghost use Rattle.doc_records.specs.Trees.{IsTreeNode, tree_of};
-ghost use Rattle.doc_tree.specs.Edits.{answered, attach, delete, set_text};
-ghost use Rattle.doc_tree.specs.Tree.{count, names_of, node};
+ghost use Rattle.doc_records.specs.Trees.{tree_of};
 ghost use Rattle.free_cells.specs.Hints.{queue_of};
-ghost use Rattle.heap_rule.specs.Asks.{target};
-ghost use Rattle.trails.specs.Asks.{Shows, gave};
 ghost use Rattle.trails.specs.Claims.{IsFull};
-ghost use Rattle.trails.specs.Marks.{marks_of};
 ghost use Rattle.trails.specs.Stretches.{Had};
 ghost use Rattle.version_rule.specs.Pass.{commit_numbers, committed};
-ghost use Rattle.version_store.specs.Calls.{Holds};
-ghost use Rattle.version_rule.specs.Shows.{version_asks};
-ghost use Rattle.version_store.specs.Commits.{FindsNewer};
-ghost use Rattle.version_store.specs.Held.{GivesLatest, GivesRoot, IsHeld, root_at};
-ghost use Rattle.version_store.specs.Lasts.{IsSameMutator, LastsAcross, marks};
-ghost use Rattle.version_store.specs.Older.{GivesOlder, Trims};
+ghost use Rattle.version_store.specs.Held.{IsHeld, root_at};
+ghost use Rattle.version_store.specs.Lasts.{marks};
 
-use crate::seat::StoreSeat;
+use crate::seat::{DocumentSeat, StoreSeat};
 use crate::{drafting, making, places, publishing, walking};
 use aged_nursery::AgedNursery;
 use client_session::{CommitRefusal, HeapFull, HeldVersion};
@@ -45,34 +32,14 @@ use std::alloc::Global;
 use std::sync::Wait;
 use version_store::Cut;
 
-impl<'h, 'q> StoreSeat<Hints<'q>> for Mutator<'h, Documents> {
+impl<'h> DocumentSeat for Mutator<'h, Documents> {
     ghost bound = { λ m. m };
 
-    ghost queue = { queue_of };
-
-    fn current(&mut self) -> version_store::HeldVersion
-        requires inside { self.old.seat.me.presence.inside ≡ true }
-        requires room { length self.old.seat.me.own.held + 128
-            ≤ self.old.seat.me.room }
-        ensures latest { GivesLatest self.old self.new result }
-        ensures seen { self.new.seat.me.pass.seen ≡ result.number }
-        ensures shows { Shows (version_asks (target self.new.seat.me result.place)
-            result.number) (marks self.old) (marks self.new) }
-        ensures lasts { LastsAcross self.old self.new }
-        ensures same { IsSameMutator self.old self.new }
-    {
+    fn current(&mut self) -> version_store::HeldVersion {
         version_store::current(self)
     }
 
-    fn tree(&mut self, v: version_store::HeldVersion) -> usize
-        requires inside { self.old.seat.me.presence.inside ≡ true }
-        requires room { length self.old.seat.me.own.held + 128
-            ≤ self.old.seat.me.room }
-        requires version { IsHeld self.old v }
-        ensures root { GivesRoot IsTreeNode tree_of self.old self.new v result }
-        ensures lasts { LastsAcross self.old self.new }
-        ensures same { IsSameMutator self.old self.new }
-    {
+    fn tree(&mut self, v: version_store::HeldVersion) -> usize {
         version_store::tree(self, v)
     }
 
@@ -80,57 +47,15 @@ impl<'h, 'q> StoreSeat<Hints<'q>> for Mutator<'h, Documents> {
         &mut self,
         v: version_store::HeldVersion,
         back: u64,
-    ) -> Result<version_store::HeldVersion, Cut>
-        requires inside { self.old.seat.me.presence.inside ≡ true }
-        requires room { length self.old.seat.me.own.held + 128
-            ≤ self.old.seat.me.room }
-        requires version { IsHeld self.old v }
-        requires back { back ≤ v.number }
-        requires kept { back < self.old.seat.me.pass.keep }
-        ensures older { IfOk result (λ older.
-            GivesOlder self.old self.new v back older) }
-        ensures cut { IfErr result (λ cut.
-            FindsNewer self.old self.new v cut.newer) }
-        ensures held { OnErr result (Holds [] self.old self.new) }
-        ensures claims { self.new.seat.me.own.claims ≡ self.old.seat.me.own.claims }
-        ensures lasts { LastsAcross self.old self.new }
-        ensures same { IsSameMutator self.old self.new }
-    {
+    ) -> Result<version_store::HeldVersion, Cut> {
         version_store::older(self, v, back)
     }
 
-    fn trim(&mut self, v: version_store::HeldVersion, keep: u64)
-        requires inside { self.old.seat.me.presence.inside ≡ true }
-        requires room { length self.old.seat.me.own.held + 128
-            ≤ self.old.seat.me.room }
-        requires version { IsHeld self.old v }
-        requires setting { keep ≡ self.old.seat.me.pass.keep }
-        ensures trims { keep ≤ v.number → Trims self.old self.new v keep }
-        ensures nothing { v.number < keep → self.new ≡ self.old }
-        ensures held { Holds [] self.old self.new }
-        ensures lasts { LastsAcross self.old self.new }
-        ensures same { IsSameMutator self.old self.new }
-    {
+    fn trim(&mut self, v: version_store::HeldVersion, keep: u64) {
         version_store::trim(self, v, keep);
     }
 
-    fn node_below(&mut self, minor: &mut MinorHeap, at: NodeAt, names: &[Name]) -> Option<NodeAt>
-        requires inside { self.old.seat.me.presence.inside ≡ true }
-        requires node { IsTreeAt self.old minor.old at }
-        requires room { length self.old.seat.me.own.held + (8192 + length names.now)
-            ≤ self.old.seat.me.room }
-        ensures tree { option_map (tree_at self.new minor.new) result
-            ≡ node names.now (tree_at self.old minor.old at) }
-        ensures node { ForSome result (IsTreeAt self.new minor.new) }
-        ensures shared { is_shared at ≡ true → ForSome result (λ a. is_shared a ≡ true) }
-        ensures carries { Carries (length self.old.seat.me.own.held)
-            self.old self.new minor.old minor.new }
-        ensures pass { self.new.seat.me.pass ≡ self.old.seat.me.pass }
-        ensures claims { self.new.seat.me.own.claims ≡ self.old.seat.me.own.claims }
-        ensures minor { minor.new ≡ minor.old }
-        ensures held { length self.new.seat.me.own.held
-            ≤ length self.old.seat.me.own.held + length names.now }
-    {
+    fn node_below(&mut self, minor: &mut MinorHeap, at: NodeAt, names: &[Name]) -> Option<NodeAt> {
         walking::node_below(self, minor, at, names)
     }
 
@@ -139,46 +64,20 @@ impl<'h, 'q> StoreSeat<Hints<'q>> for Mutator<'h, Documents> {
         alloc: Global,
         minor: &mut MinorHeap,
         at: NodeAt,
-    ) -> Result<Text, NoMemory>
-        requires inside { self.old.seat.me.presence.inside ≡ true }
-        requires node { IsTreeAt self.old minor.old at }
-        requires room { length self.old.seat.me.own.held + 8192
-            ≤ self.old.seat.me.room }
-        ensures text { IfOk result (λ text. text
-            ≡ (tree_at self.old minor.old at).text) }
-        ensures leaves { LeavesAll self.old self.new minor.old minor.new }
-        ensures shows { OnOk result (is_shared at ≡ true
-            → Shows (text_asks (tree_at self.old minor.old at).text)
-            (marks_of self.old.seat.me.trail) (marks_of self.new.seat.me.trail)) }
-    {
+    ) -> Result<Text, NoMemory> {
         client_trees::text_of(alloc, self, minor, at)
     }
 
-    fn names(&mut self, alloc: Global, minor: &mut MinorHeap, at: NodeAt) -> Result<Names, NoMemory>
-        requires inside { self.old.seat.me.presence.inside ≡ true }
-        requires node { IsTreeAt self.old minor.old at }
-        requires room { length self.old.seat.me.own.held + 8192
-            ≤ self.old.seat.me.room }
-        ensures names { IfOk result (λ names. names
-            ≡ names_of (tree_at self.old minor.old at).kids) }
-        ensures leaves { LeavesAll self.old self.new minor.old minor.new }
-        ensures shows { OnOk result (is_shared at ≡ true
-            → Shows (name_asks (names_of (tree_at self.old minor.old at).kids))
-            (marks_of self.old.seat.me.trail) (marks_of self.new.seat.me.trail)) }
-    {
+    fn names(
+        &mut self,
+        alloc: Global,
+        minor: &mut MinorHeap,
+        at: NodeAt,
+    ) -> Result<Names, NoMemory> {
         client_trees::names(alloc, self, minor, at)
     }
 
-    fn count(&mut self, minor: &mut MinorHeap, at: NodeAt) -> u64
-        requires inside { self.old.seat.me.presence.inside ≡ true }
-        requires node { IsTreeAt self.old minor.old at }
-        requires room { length self.old.seat.me.own.held + 8192
-            ≤ self.old.seat.me.room }
-        ensures count { result ≡ count (tree_at self.old minor.old at) }
-        ensures leaves { LeavesAll self.old self.new minor.old minor.new }
-        ensures shows { is_shared at ≡ true → Shows (gave (field.Num result) ∷ [])
-            (marks_of self.old.seat.me.trail) (marks_of self.new.seat.me.trail) }
-    {
+    fn count(&mut self, minor: &mut MinorHeap, at: NodeAt) -> u64 {
         client_trees::count(self, minor, at)
     }
 
@@ -188,22 +87,7 @@ impl<'h, 'q> StoreSeat<Hints<'q>> for Mutator<'h, Documents> {
         root: NodeAt,
         path: &Path,
         text: &Text,
-    ) -> Result<NodeAt, EditFault>
-        requires inside { self.old.seat.me.presence.inside ≡ true }
-        requires node { IsTreeAt self.old minor.old root }
-        requires room { length self.old.seat.me.own.held + 8192
-            ≤ self.old.seat.me.room }
-        requires spare { length minor.old.records + 2285 ≤ minor.old.room }
-        ensures tree { answered (tree_at self.new minor.new) result
-            ≡ set_text path.now text.now (tree_at self.old minor.old root) }
-        ensures node { ForOk result (IsTreeAt self.new minor.new) }
-        ensures leaves { Leaves self.old self.new minor.old minor.new }
-        ensures held { length self.new.seat.me.own.held
-            ≤ length self.old.seat.me.own.held + 8192 }
-        ensures refused { OnErr result (length self.new.seat.me.own.held
-            ≡ length self.old.seat.me.own.held) }
-        ensures records { length minor.new.records ≤ length minor.old.records + 509 }
-    {
+    ) -> Result<NodeAt, EditFault> {
         client_trees::set_text(self, minor, root, path, text)
     }
 
@@ -212,22 +96,7 @@ impl<'h, 'q> StoreSeat<Hints<'q>> for Mutator<'h, Documents> {
         minor: &mut MinorHeap,
         root: NodeAt,
         path: &Path,
-    ) -> Result<NodeAt, EditFault>
-        requires inside { self.old.seat.me.presence.inside ≡ true }
-        requires node { IsTreeAt self.old minor.old root }
-        requires room { length self.old.seat.me.own.held + 8192
-            ≤ self.old.seat.me.room }
-        requires spare { length minor.old.records + 2285 ≤ minor.old.room }
-        ensures tree { answered (tree_at self.new minor.new) result
-            ≡ delete path.now (tree_at self.old minor.old root) }
-        ensures node { ForOk result (IsTreeAt self.new minor.new) }
-        ensures leaves { Leaves self.old self.new minor.old minor.new }
-        ensures held { length self.new.seat.me.own.held
-            ≤ length self.old.seat.me.own.held + 8192 }
-        ensures refused { OnErr result (length self.new.seat.me.own.held
-            ≡ length self.old.seat.me.own.held) }
-        ensures records { length minor.new.records ≤ length minor.old.records + 509 }
-    {
+    ) -> Result<NodeAt, EditFault> {
         client_trees::delete(self, minor, root, path)
     }
 
@@ -237,61 +106,33 @@ impl<'h, 'q> StoreSeat<Hints<'q>> for Mutator<'h, Documents> {
         root: NodeAt,
         path: &Path,
         sub: NodeAt,
-    ) -> Result<NodeAt, EditFault>
-        requires inside { self.old.seat.me.presence.inside ≡ true }
-        requires node { IsTreeAt self.old minor.old root }
-        requires sub { IsTreeAt self.old minor.old sub }
-        requires room { length self.old.seat.me.own.held + 8192
-            ≤ self.old.seat.me.room }
-        requires spare { length minor.old.records + 2285 ≤ minor.old.room }
-        ensures tree { answered (tree_at self.new minor.new) result
-            ≡ attach path.now (tree_at self.old minor.old sub)
-            (tree_at self.old minor.old root) }
-        ensures node { ForOk result (IsTreeAt self.new minor.new) }
-        ensures leaves { Leaves self.old self.new minor.old minor.new }
-        ensures held { length self.new.seat.me.own.held
-            ≤ length self.old.seat.me.own.held + 8192 }
-        ensures refused { OnErr result (length self.new.seat.me.own.held
-            ≡ length self.old.seat.me.own.held) }
-        ensures records { length minor.new.records ≤ length minor.old.records + 509 }
-    {
+    ) -> Result<NodeAt, EditFault> {
         client_trees::attach(self, minor, root, path, sub)
     }
 
-    fn make_draft(&mut self, minor: &MinorHeap, draft: &mut NodeAt, base: &mut usize, at: NodeAt)
-        requires sound { IsSound self.old minor.now draft.old base.old }
-        requires node { IsTreeAt self.old minor.now at }
-        requires room { length self.old.seat.me.own.held + length minor.now.records + 9100
-            ≤ self.old.seat.me.room }
-        ensures sound { IsSound self.new minor.now draft.new base.new }
-        ensures term { node_term self.new minor.now draft.new
-            ≡ node_term self.old minor.now at }
-        ensures pass { self.new.seat.me.pass ≡ self.old.seat.me.pass }
-        ensures held { length self.new.seat.me.own.held
-            ≤ length self.old.seat.me.own.held }
-        ensures follows { Follows self.old self.new minor.now minor.now }
-    {
+    fn make_draft(&mut self, minor: &MinorHeap, draft: &mut NodeAt, base: &mut usize, at: NodeAt) {
         drafting::make_draft(self, minor, draft, base, at);
     }
 
-    fn is_same(&mut self, minor: &MinorHeap, first: usize, second: usize) -> bool
-        requires inside { self.old.seat.me.presence.inside ≡ true }
-        requires first { IsTreeAt self.old minor.now (at.Shared first) }
-        requires second { IsTreeAt self.old minor.now (at.Shared second) }
-        ensures same { result ≡ (target self.old.seat.me first
-            == target self.old.seat.me second) }
-        ensures term { result ≡ true → node_term self.old minor.now (at.Shared first)
-            ≡ node_term self.old minor.now (at.Shared second) }
-        ensures carries { Carries (length self.old.seat.me.own.held)
-            self.old self.new minor.now minor.now }
-        ensures held { length self.new.seat.me.own.held
-            ≡ length self.old.seat.me.own.held }
-        ensures pass { self.new.seat.me.pass ≡ self.old.seat.me.pass }
-        ensures claims { self.new.seat.me.own.claims
-            ≡ self.old.seat.me.own.claims }
-    {
+    fn is_same(&mut self, minor: &MinorHeap, first: usize, second: usize) -> bool {
         places::is_same(self, minor, first, second)
     }
+
+    fn has_room(&self, minor: &MinorHeap) -> bool {
+        drafting::has_room(self, minor)
+    }
+
+    fn safe_point(&mut self, minor: &MinorHeap) {
+        places::safe_point(self, minor);
+    }
+
+    fn cut_back(&mut self, minor: &MinorHeap, places: usize) {
+        places::cut_back(self, minor, places);
+    }
+}
+
+impl<'h, 'q> StoreSeat<Hints<'q>> for Mutator<'h, Documents> {
+    ghost queue = { queue_of };
 
     fn share<R: Wait>(
         &mut self,
@@ -360,12 +201,6 @@ impl<'h, 'q> StoreSeat<Hints<'q>> for Mutator<'h, Documents> {
         ensures queue { queue_of hints.new ≡ queue_of hints.old }
     {
         publishing::commit(rt, hints, self, minor, v, node, versions)
-    }
-
-    fn has_room(&self, minor: &MinorHeap) -> bool
-        ensures room { result ≡ is_cleared self.now minor.now }
-    {
-        drafting::has_room(self, minor)
     }
 
     fn make_room<R: Wait>(
@@ -442,29 +277,5 @@ impl<'h, 'q> StoreSeat<Hints<'q>> for Mutator<'h, Documents> {
         ensures queue { queue_of hints.new ≡ queue_of hints.old }
     {
         making::make_room_for(rt, hints, self, nursery, promoter, draft, base, tree)
-    }
-
-    fn safe_point(&mut self, minor: &MinorHeap)
-        requires inside { self.old.seat.me.presence.inside ≡ true }
-        ensures carries { Carries (length self.old.seat.me.own.held)
-            self.old self.new minor.now minor.now }
-        ensures held { length self.new.seat.me.own.held
-            ≡ length self.old.seat.me.own.held }
-        ensures pass { self.new.seat.me.pass ≡ self.old.seat.me.pass }
-        ensures claims { self.new.seat.me.own.claims ≡ self.old.seat.me.own.claims }
-    {
-        places::safe_point(self, minor);
-    }
-
-    fn cut_back(&mut self, minor: &MinorHeap, places: usize)
-        requires inside { self.old.seat.me.presence.inside ≡ true }
-        requires some { 1 ≤ places }
-        requires kept { places ≤ length self.old.seat.me.own.held }
-        ensures carries { Carries places self.old self.new minor.now minor.now }
-        ensures held { length self.new.seat.me.own.held ≡ places }
-        ensures claims { self.new.seat.me.own.claims ≡ self.old.seat.me.own.claims }
-        ensures pass { self.new.seat.me.pass ≡ self.old.seat.me.pass }
-    {
-        places::cut_back(self, minor, places);
     }
 }

@@ -42,13 +42,10 @@ use std::alloc::Global;
 use std::sync::Wait;
 use version_store::Cut;
 
-/// A mutator of documents, and the hints that it works with, as types that name no lifetime: the
-/// state of what is lent in a struct is known again when the loan ends, if its type is a parameter.
-pub trait StoreSeat<Q> {
+/// A mutator of documents, as one of a type that names no lifetime: the state of what is lent in a
+/// struct is known again when the loan ends, if its type is a parameter.
+pub trait DocumentSeat {
     ghost bound: { Self → Bound Pass };
-
-    /// The queue that the hints are of.
-    ghost queue: { Q → FreeQueue };
 
     /// The latest version.
     fn current(&mut self) -> version_store::HeldVersion
@@ -269,151 +266,9 @@ pub trait StoreSeat<Q> {
         ensures claims { (bound self.new).seat.me.own.claims
             ≡ (bound self.old).seat.me.own.claims };
 
-    /// A node as one of the shared heap: a private one is promoted.
-    fn share<R: Wait>(
-        &mut self,
-        rt: &R,
-        hints: &mut Q,
-        minor: &MinorHeap,
-        promoter: &mut Promoter,
-        node: NodeAt,
-    ) -> Result<NodeAt, HeapFull>
-        requires inside { (bound self.old).seat.me.presence.inside ≡ true }
-        requires room { length (bound self.old).seat.me.own.held + length minor.now.records + 8192
-            ≤ (bound self.old).seat.me.room }
-        requires copies { minor.now.room ≤ promoter.old }
-        requires node { IsTreeAt (bound self.old) minor.now node }
-        ensures node { IfOk result (λ made. IsTreeAt (bound self.new) minor.now made) }
-        ensures tree { IfOk result (λ made. tree_at (bound self.new) minor.now made
-            ≡ tree_at (bound self.old) minor.now node) }
-        ensures shared { IfOk result (λ made. is_shared made ≡ true) }
-        ensures full { OnErr result (Had (IsFull (bound self.old).seat.me.shape.cells)
-            (marks (bound self.old)) (marks (bound self.new))) }
-        ensures carries { Carries (length (bound self.old).seat.me.own.held)
-            (bound self.old) (bound self.new) minor.now minor.now }
-        ensures held { length (bound self.new).seat.me.own.held
-            ≤ length (bound self.old).seat.me.own.held + 1 }
-        ensures pass { (bound self.new).seat.me.pass ≡ (bound self.old).seat.me.pass }
-        ensures promoter { promoter.new ≡ promoter.old }
-        ensures queue { queue hints.new ≡ queue hints.old };
-
-    /// Makes the next version, with the tree of a shared node.
-    fn commit<R: Wait>(
-        &mut self,
-        rt: &R,
-        hints: &mut Q,
-        minor: &MinorHeap,
-        v: HeldVersion,
-        node: NodeAt,
-        versions: u64,
-    ) -> Result<u64, CommitRefusal>
-        requires inside { (bound self.old).seat.me.presence.inside ≡ true }
-        requires room { length (bound self.old).seat.me.own.held + 128
-            ≤ (bound self.old).seat.me.room }
-        requires version { IsHeld (bound self.old) (stored v) }
-        requires node { IsTreeAt (bound self.old) minor.now node }
-        requires shared { is_shared node ≡ true }
-        requires below { v.number < versions }
-        requires few { length (commit_numbers (bound self.old).seat.me.pass) < 100000 }
-        ensures number { IfOk result (λ number. number ≡ v.number + 1) }
-        ensures pass { OnOk result ((bound self.new).seat.me.pass ≡ committed (v.number + 1)
-            (tree_of (root_at (bound self.old) v.place))
-            (tree_at (bound self.old) minor.now node) (bound self.old).seat.me.pass) }
-        ensures rose { OnOk result ((bound self.old).seat.me.own.claims
-            < (bound self.new).seat.me.own.claims) }
-        ensures same { OnErr result (commit_numbers (bound self.new).seat.me.pass
-            ≡ commit_numbers (bound self.old).seat.me.pass) }
-        ensures moved { result ≡ Err CommitRefusal.Moved
-            → v.number < (bound self.new).seat.me.pass.seen }
-        ensures full { result ≡ Err CommitRefusal.Full
-            → Had (IsFull (bound self.old).seat.me.shape.cells)
-            (marks (bound self.old)) (marks (bound self.new)) }
-        ensures carries { Carries (length (bound self.old).seat.me.own.held)
-            (bound self.old) (bound self.new) minor.now minor.now }
-        ensures held { length (bound self.new).seat.me.own.held
-            ≡ length (bound self.old).seat.me.own.held }
-        ensures queue { queue hints.new ≡ queue hints.old };
-
     /// Whether there is room for an edit, so that none has to be made.
     fn has_room(&self, minor: &MinorHeap) -> bool
         ensures room { result ≡ is_cleared (bound self.now) minor.now };
-
-    /// Makes room for an edit where there is too little: the private records age once, or are
-    /// collected.
-    fn make_room<R: Wait>(
-        &mut self,
-        rt: &R,
-        hints: &mut Q,
-        nursery: &mut AgedNursery,
-        promoter: &mut Promoter,
-        draft: &mut NodeAt,
-        base: &mut usize,
-    ) -> Result<(), HeapFull>
-        requires sound { IsSound (bound self.old) nursery.old.heap draft.old base.old }
-        requires whole { nursery.old.heap.room ≡ nursery.old.records }
-        requires copies { nursery.old.heap.room ≤ promoter.old }
-        requires ready { length (bound self.old).seat.me.own.held
-            + length nursery.old.heap.records + 9000 ≤ (bound self.old).seat.me.room }
-        ensures sound { IsSound (bound self.new) nursery.new.heap draft.new base.new }
-        ensures records { nursery.new.records ≡ nursery.old.records }
-        ensures cleared { OnOk result (IsCleared (bound self.new) nursery.new.heap) }
-        ensures idle { IsCleared (bound self.old) nursery.old.heap
-            → (bound self.new ≡ bound self.old) × (nursery.new ≡ nursery.old)
-            × (draft.new ≡ draft.old) × (base.new ≡ base.old) }
-        ensures full { OnErr result (Had (IsFull (bound self.old).seat.me.shape.cells)
-            (marks (bound self.old)) (marks (bound self.new))) }
-        ensures kept { length (bound self.new).seat.me.own.held + length nursery.new.heap.records
-            ≤ length (bound self.old).seat.me.own.held + length nursery.old.heap.records }
-        ensures term { node_term (bound self.new) nursery.new.heap draft.new
-            ≡ node_term (bound self.old) nursery.old.heap draft.old }
-        ensures small { base.new ≤ max base.old 2 }
-        ensures follows { Follows (bound self.old) (bound self.new) nursery.old.heap
-            nursery.new.heap }
-        ensures pass { (bound self.new).seat.me.pass ≡ (bound self.old).seat.me.pass }
-        ensures promoter { promoter.new ≡ promoter.old }
-        ensures queue { queue hints.new ≡ queue hints.old };
-
-    /// Makes room for one more edit of a tree in the making where there is too little: the private
-    /// records age once, or are collected.
-    fn make_room_for<R: Wait>(
-        &mut self,
-        rt: &R,
-        hints: &mut Q,
-        nursery: &mut AgedNursery,
-        promoter: &mut Promoter,
-        draft: &mut NodeAt,
-        base: &mut usize,
-        tree: NodeAt,
-    ) -> Result<Option<NodeAt>, HeapFull>
-        requires sound { IsSound (bound self.old) nursery.old.heap draft.old base.old }
-        requires node { IsTreeAt (bound self.old) nursery.old.heap tree }
-        requires whole { nursery.old.heap.room ≡ nursery.old.records }
-        requires copies { nursery.old.heap.room ≤ promoter.old }
-        requires ready { length (bound self.old).seat.me.own.held
-            + length nursery.old.heap.records + 9000 ≤ (bound self.old).seat.me.room }
-        ensures sound { IsSound (bound self.new) nursery.new.heap draft.new base.new }
-        ensures records { nursery.new.records ≡ nursery.old.records }
-        ensures room { OnOk result (HasRoom (bound self.new) nursery.new.heap) }
-        ensures unmoved { HasRoom (bound self.old) nursery.old.heap → result ≡ Ok None }
-        ensures idle { IfOk result (λ moved. IsNone moved → (bound self.new ≡ bound self.old)
-            × (nursery.new ≡ nursery.old) × (draft.new ≡ draft.old) × (base.new ≡ base.old)) }
-        ensures node { IfOk result (λ moved.
-            IfSome moved (IsTreeAt (bound self.new) nursery.new.heap)) }
-        ensures tree { IfOk result (λ moved. IfSome moved (λ next.
-            tree_at (bound self.new) nursery.new.heap next
-            ≡ tree_at (bound self.old) nursery.old.heap tree)) }
-        ensures full { OnErr result (Had (IsFull (bound self.old).seat.me.shape.cells)
-            (marks (bound self.old)) (marks (bound self.new))) }
-        ensures kept { length (bound self.new).seat.me.own.held + length nursery.new.heap.records
-            ≤ length (bound self.old).seat.me.own.held + length nursery.old.heap.records }
-        ensures term { node_term (bound self.new) nursery.new.heap draft.new
-            ≡ node_term (bound self.old) nursery.old.heap draft.old }
-        ensures small { base.new ≤ max base.old 2 }
-        ensures follows { Follows (bound self.old) (bound self.new) nursery.old.heap
-            nursery.new.heap }
-        ensures pass { (bound self.new).seat.me.pass ≡ (bound self.old).seat.me.pass }
-        ensures promoter { promoter.new ≡ promoter.old }
-        ensures queue { queue hints.new ≡ queue hints.old };
 
     /// Answers a handshake, if one is asked for.
     fn safe_point(&mut self, minor: &MinorHeap)
@@ -436,4 +291,155 @@ pub trait StoreSeat<Q> {
         ensures claims { (bound self.new).seat.me.own.claims
             ≡ (bound self.old).seat.me.own.claims }
         ensures pass { (bound self.new).seat.me.pass ≡ (bound self.old).seat.me.pass };
+}
+
+/// The same with the hints that it works with: what claims cells.
+pub trait StoreSeat<Q>: DocumentSeat {
+    /// The queue that the hints are of.
+    ghost queue: { Q → FreeQueue };
+
+    /// A node as one of the shared heap: a private one is promoted.
+    fn share<R: Wait>(
+        &mut self,
+        rt: &R,
+        hints: &mut Q,
+        minor: &MinorHeap,
+        promoter: &mut Promoter,
+        node: NodeAt,
+    ) -> Result<NodeAt, HeapFull>
+        requires inside { (Self.bound self.old).seat.me.presence.inside ≡ true }
+        requires room { length (Self.bound self.old).seat.me.own.held
+            + length minor.now.records + 8192 ≤ (Self.bound self.old).seat.me.room }
+        requires copies { minor.now.room ≤ promoter.old }
+        requires node { IsTreeAt (Self.bound self.old) minor.now node }
+        ensures node { IfOk result (λ made. IsTreeAt (Self.bound self.new) minor.now made) }
+        ensures tree { IfOk result (λ made. tree_at (Self.bound self.new) minor.now made
+            ≡ tree_at (Self.bound self.old) minor.now node) }
+        ensures shared { IfOk result (λ made. is_shared made ≡ true) }
+        ensures full { OnErr result (Had (IsFull (Self.bound self.old).seat.me.shape.cells)
+            (marks (Self.bound self.old)) (marks (Self.bound self.new))) }
+        ensures carries { Carries (length (Self.bound self.old).seat.me.own.held)
+            (Self.bound self.old) (Self.bound self.new) minor.now minor.now }
+        ensures held { length (Self.bound self.new).seat.me.own.held
+            ≤ length (Self.bound self.old).seat.me.own.held + 1 }
+        ensures pass { (Self.bound self.new).seat.me.pass ≡ (Self.bound self.old).seat.me.pass }
+        ensures promoter { promoter.new ≡ promoter.old }
+        ensures queue { queue hints.new ≡ queue hints.old };
+
+    /// Makes the next version, with the tree of a shared node.
+    fn commit<R: Wait>(
+        &mut self,
+        rt: &R,
+        hints: &mut Q,
+        minor: &MinorHeap,
+        v: HeldVersion,
+        node: NodeAt,
+        versions: u64,
+    ) -> Result<u64, CommitRefusal>
+        requires inside { (Self.bound self.old).seat.me.presence.inside ≡ true }
+        requires room { length (Self.bound self.old).seat.me.own.held + 128
+            ≤ (Self.bound self.old).seat.me.room }
+        requires version { IsHeld (Self.bound self.old) (stored v) }
+        requires node { IsTreeAt (Self.bound self.old) minor.now node }
+        requires shared { is_shared node ≡ true }
+        requires below { v.number < versions }
+        requires few { length (commit_numbers (Self.bound self.old).seat.me.pass) < 100000 }
+        ensures number { IfOk result (λ number. number ≡ v.number + 1) }
+        ensures pass { OnOk result ((Self.bound self.new).seat.me.pass ≡ committed (v.number + 1)
+            (tree_of (root_at (Self.bound self.old) v.place))
+            (tree_at (Self.bound self.old) minor.now node) (Self.bound self.old).seat.me.pass) }
+        ensures rose { OnOk result ((Self.bound self.old).seat.me.own.claims
+            < (Self.bound self.new).seat.me.own.claims) }
+        ensures same { OnErr result (commit_numbers (Self.bound self.new).seat.me.pass
+            ≡ commit_numbers (Self.bound self.old).seat.me.pass) }
+        ensures moved { result ≡ Err CommitRefusal.Moved
+            → v.number < (Self.bound self.new).seat.me.pass.seen }
+        ensures full { result ≡ Err CommitRefusal.Full
+            → Had (IsFull (Self.bound self.old).seat.me.shape.cells)
+            (marks (Self.bound self.old)) (marks (Self.bound self.new)) }
+        ensures carries { Carries (length (Self.bound self.old).seat.me.own.held)
+            (Self.bound self.old) (Self.bound self.new) minor.now minor.now }
+        ensures held { length (Self.bound self.new).seat.me.own.held
+            ≡ length (Self.bound self.old).seat.me.own.held }
+        ensures queue { queue hints.new ≡ queue hints.old };
+
+    /// Makes room for an edit where there is too little: the private records age once, or are
+    /// collected.
+    fn make_room<R: Wait>(
+        &mut self,
+        rt: &R,
+        hints: &mut Q,
+        nursery: &mut AgedNursery,
+        promoter: &mut Promoter,
+        draft: &mut NodeAt,
+        base: &mut usize,
+    ) -> Result<(), HeapFull>
+        requires sound { IsSound (Self.bound self.old) nursery.old.heap draft.old base.old }
+        requires whole { nursery.old.heap.room ≡ nursery.old.records }
+        requires copies { nursery.old.heap.room ≤ promoter.old }
+        requires ready { length (Self.bound self.old).seat.me.own.held
+            + length nursery.old.heap.records + 9000 ≤ (Self.bound self.old).seat.me.room }
+        ensures sound { IsSound (Self.bound self.new) nursery.new.heap draft.new base.new }
+        ensures records { nursery.new.records ≡ nursery.old.records }
+        ensures cleared { OnOk result (IsCleared (Self.bound self.new) nursery.new.heap) }
+        ensures idle { IsCleared (Self.bound self.old) nursery.old.heap
+            → (Self.bound self.new ≡ Self.bound self.old) × (nursery.new ≡ nursery.old)
+            × (draft.new ≡ draft.old) × (base.new ≡ base.old) }
+        ensures full { OnErr result (Had (IsFull (Self.bound self.old).seat.me.shape.cells)
+            (marks (Self.bound self.old)) (marks (Self.bound self.new))) }
+        ensures kept { length (Self.bound self.new).seat.me.own.held
+            + length nursery.new.heap.records
+            ≤ length (Self.bound self.old).seat.me.own.held + length nursery.old.heap.records }
+        ensures term { node_term (Self.bound self.new) nursery.new.heap draft.new
+            ≡ node_term (Self.bound self.old) nursery.old.heap draft.old }
+        ensures small { base.new ≤ max base.old 2 }
+        ensures follows { Follows (Self.bound self.old) (Self.bound self.new) nursery.old.heap
+            nursery.new.heap }
+        ensures pass { (Self.bound self.new).seat.me.pass ≡ (Self.bound self.old).seat.me.pass }
+        ensures promoter { promoter.new ≡ promoter.old }
+        ensures queue { queue hints.new ≡ queue hints.old };
+
+    /// Makes room for one more edit of a tree in the making where there is too little: the private
+    /// records age once, or are collected.
+    fn make_room_for<R: Wait>(
+        &mut self,
+        rt: &R,
+        hints: &mut Q,
+        nursery: &mut AgedNursery,
+        promoter: &mut Promoter,
+        draft: &mut NodeAt,
+        base: &mut usize,
+        tree: NodeAt,
+    ) -> Result<Option<NodeAt>, HeapFull>
+        requires sound { IsSound (Self.bound self.old) nursery.old.heap draft.old base.old }
+        requires node { IsTreeAt (Self.bound self.old) nursery.old.heap tree }
+        requires whole { nursery.old.heap.room ≡ nursery.old.records }
+        requires copies { nursery.old.heap.room ≤ promoter.old }
+        requires ready { length (Self.bound self.old).seat.me.own.held
+            + length nursery.old.heap.records + 9000 ≤ (Self.bound self.old).seat.me.room }
+        ensures sound { IsSound (Self.bound self.new) nursery.new.heap draft.new base.new }
+        ensures records { nursery.new.records ≡ nursery.old.records }
+        ensures room { OnOk result (HasRoom (Self.bound self.new) nursery.new.heap) }
+        ensures unmoved { HasRoom (Self.bound self.old) nursery.old.heap → result ≡ Ok None }
+        ensures idle { IfOk result (λ moved. IsNone moved
+            → (Self.bound self.new ≡ Self.bound self.old)
+            × (nursery.new ≡ nursery.old) × (draft.new ≡ draft.old) × (base.new ≡ base.old)) }
+        ensures node { IfOk result (λ moved.
+            IfSome moved (IsTreeAt (Self.bound self.new) nursery.new.heap)) }
+        ensures tree { IfOk result (λ moved. IfSome moved (λ next.
+            tree_at (Self.bound self.new) nursery.new.heap next
+            ≡ tree_at (Self.bound self.old) nursery.old.heap tree)) }
+        ensures full { OnErr result (Had (IsFull (Self.bound self.old).seat.me.shape.cells)
+            (marks (Self.bound self.old)) (marks (Self.bound self.new))) }
+        ensures kept { length (Self.bound self.new).seat.me.own.held
+            + length nursery.new.heap.records
+            ≤ length (Self.bound self.old).seat.me.own.held + length nursery.old.heap.records }
+        ensures term { node_term (Self.bound self.new) nursery.new.heap draft.new
+            ≡ node_term (Self.bound self.old) nursery.old.heap draft.old }
+        ensures small { base.new ≤ max base.old 2 }
+        ensures follows { Follows (Self.bound self.old) (Self.bound self.new) nursery.old.heap
+            nursery.new.heap }
+        ensures pass { (Self.bound self.new).seat.me.pass ≡ (Self.bound self.old).seat.me.pass }
+        ensures promoter { promoter.new ≡ promoter.old }
+        ensures queue { queue hints.new ≡ queue hints.old };
 }

@@ -8,7 +8,7 @@ pub invariant_of-self : goal.invariant_of-self
 invariant_of-self g c =
     let left = rw c.heap_mut.ensures.heap at c.attach.ensures.leaves in
     let few = rw c.heap_mut.ensures.heap at c.attach.ensures.records in
-    let bound = g.M.StoreSeat.bound in
+    let bound = g.M.DocumentSeat.bound in
     let was = c.args.self.now in
     let did = c.attach.ensures in
     let room = c.requires.room in
@@ -27,7 +27,7 @@ pub returns-clause-edits : goal.returns-clause-edits
 returns-clause-edits g c =
     let left = rw c.heap_mut.ensures.heap at c.attach.ensures.leaves in
     let few = rw c.heap_mut.ensures.heap at c.attach.ensures.records in
-    let bound = g.M.StoreSeat.bound in
+    let bound = g.M.DocumentSeat.bound in
     let was = c.args.self.now in
     let did = c.attach.ensures in
     left_edits (bound was.m.now) (bound c.attach.new.self) was.nursery.now.heap c.attach.new.minor
@@ -36,7 +36,7 @@ returns-clause-edits g c =
 pub returns-clause-still : goal.returns-clause-still
 returns-clause-still g c =
     let left = rw c.heap_mut.ensures.heap at c.attach.ensures.leaves in
-    let bound = g.M.StoreSeat.bound in
+    let bound = g.M.DocumentSeat.bound in
     let was = c.args.self.now in
     left_still (bound was.m.now) (bound c.attach.new.self) was.nursery.now.heap c.attach.new.minor
     left
@@ -44,6 +44,6 @@ returns-clause-still g c =
 pub returns-clause-lent : goal.returns-clause-lent
 returns-clause-lent g c =
     let left = rw c.heap_mut.ensures.heap at c.attach.ensures.leaves in
-    let bound = g.M.StoreSeat.bound in
+    let bound = g.M.DocumentSeat.bound in
     lent_stays (bound c.args.self.now.m.now) (bound c.attach.new.self) (left_same _ _ _ _ left) refl
     left.records_room refl

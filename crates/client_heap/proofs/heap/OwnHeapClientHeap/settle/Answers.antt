@@ -7,14 +7,14 @@ pub cut_newer-requires : goal.cut_newer-requires
 cut_newer-requires g c =
     let was = c.args.self.now in
     record {
-      there = sound_there (g.M.StoreSeat.bound was.m.now) was.nursery.now.heap was.draft was.base
+      there = sound_there (g.M.DocumentSeat.bound was.m.now) was.nursery.now.heap was.draft was.base
           was.sound;
     }
 
 pub invariant_of-self : goal.invariant_of-self
 invariant_of-self g c =
     let carried = rw c.heap.ensures.heap at c.cut_back.ensures.carries in
-    let bound = g.M.StoreSeat.bound in
+    let bound = g.M.DocumentSeat.bound in
     let was = c.args.self.now in
     let did = c.cut_newer.ensures in
     record {
@@ -28,7 +28,7 @@ invariant_of-self g c =
 pub returns-clause-gives_back : goal.returns-clause-gives_back
 returns-clause-gives_back g c =
     let carried = rw c.heap.ensures.heap at c.cut_back.ensures.carries in
-    let bound = g.M.StoreSeat.bound in
+    let bound = g.M.DocumentSeat.bound in
     let was = c.args.self.now in
     let did = c.cut_newer.ensures in
     let gave = c.cut_back.ensures in
@@ -46,7 +46,7 @@ returns-clause-room g c =
 
 pub returns-clause-lent : goal.returns-clause-lent
 returns-clause-lent g c =
-    let bound = g.M.StoreSeat.bound in
+    let bound = g.M.DocumentSeat.bound in
     let did = c.cut_back.ensures in
     lent_stays (bound c.args.self.now.m.now) (bound c.cut_back.new.self) did.carries.follows.same
     refl c.cut_newer.ensures.room refl
