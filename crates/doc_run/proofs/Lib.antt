@@ -12,4 +12,5 @@ pub mod Mailboxes
 pub mod Writing
 pub mod Summaries
 pub mod Deciding
+pub mod Reported
 pub mod Sentences

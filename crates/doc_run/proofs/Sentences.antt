@@ -26,6 +26,7 @@ use Rattle.doc_run.specs.Request.{files_of, names_of}
 use Rattle.doc_run.specs.Sentences.{Calls, Completed, Due, Failures, Refusals, Written}
 use Rattle.doc_run.specs.Texts.{WritesAll, WritesFront}
 use Rattle.doc_run.specs.declared.outcome.Outcome.{Outcome}
+use Rattle.doc_run.proofs.Reported.{report_of}
 
 module _ (holds : List ℕ → Option (List ℕ)) (asked : Option Asked) (result : Outcome) where
   -- done
@@ -35,7 +36,7 @@ module _ (holds : List ℕ → Option (List ℕ)) (asked : Option Asked) (result
     pub done : IfRun asked (λ report run. IsSomeAnd result.finished (λ f.
         IsRunGiven (AreScripts (map holds run.files)) (options_of run) f
         × WritesAll (IsReportOf report (map holds run.files) run f) old new))
-    done = (all zero).done
+    done = report_of holds (Appends old new) asked result.finished (all zero).done (all zero).heap
 
     pub made : IfGen asked (λ made. ByPrint made.print (IsSomeAnd result.finished (λ f.
         IsRunGiven (IsMade made) default_options f × WritesAll (IsSummaryOf made f) old new))
@@ -97,7 +98,9 @@ module _ (holds : List ℕ → Option (List ℕ)) (asked : Option Asked) (result
         IsSomeAnd result.finished (λ f.
         IsRunGiven (AreScripts (map holds run.files)) (options_of run) f
         × WritesFront (IsReportOf report (map holds run.files) run f) old new))
-    write_part four = (is.front four).done
+    write_part four =
+        report_of holds (AppendsPart old new) asked result.finished (is.front four).done
+        (is.front four).heap
 
     pub write_made : result.status ≡ 4 → IfGen asked (λ made. ByPrint made.print
         (IsSomeAnd result.finished (λ f.

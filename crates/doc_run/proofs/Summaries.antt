@@ -17,7 +17,7 @@ use Rattle.run_output.specs.declared.summary.Made.{Made}
 use Rattle.run_words.specs.declared.request.GenWords.{GenWords}
 use Rattle.script_files.proofs.Counting.{scripts_few, scripts_length, texts_length}
 use Rattle.script_files.specs.Made.{texts_from}
-use Rattle.store_run.specs.Finished.{commands_of}
+use Rattle.store_run.specs.Answered.{commands_of}
 use Rattle.store_run.specs.declared.finished.Finished.{Finished}
 use Rattle.doc_run.specs.Clients.{IsRunGiven, IsMade, default_options}
 use Rattle.doc_run.specs.Ending.{IsSummaryOf, numbers_of}
@@ -57,7 +57,7 @@ few_entries made f merged comes is =
       few,
       length_permutation (all_entries logs) merged is.same,
       length-flat_map (λ (g : ClientLog). g.entries) logs,
-      entries_of_logs logs comes.0 comes.2.answered,
+      entries_of_logs logs comes.0 comes.2.answered.commands,
     )
 
 -- there is a log for each client
@@ -65,7 +65,7 @@ logs_many : (made : GenWords) (f : Finished) → IsRunGiven (IsMade made) defaul
     → length f.logs.items ≡ made.clients
 logs_many made f comes =
     let texts = texts_from made.start made.commands 1 made.clients in
-    sym (length-map f.logs.items commands_of) ∙ ap length comes.2.answered
+    sym (length-map f.logs.items commands_of) ∙ ap length comes.2.answered.commands
     ∙ scripts_length 1 0 texts comes.0 comes.1
     ∙ texts_length made.start made.commands 1 made.clients
 
@@ -77,7 +77,7 @@ is_summary : (made : GenWords) (f : Finished) (merged : List Entry) (legal : Boo
     merged) → numbers ≡ numbers_of made
     → text ≡ summary_text_of numbers merged f.totals.nodes legal → IsSummaryOf made f text
 is_summary made f merged legal numbers text comes is looked same said =
-    let history = (comes.2.merged merged is).1 in
+    let history = (comes.2.answered.merged merged is).1 in
     let yes : legal ≡ true = looked.1 (subst
     (λ n. IsLegal (opening n (record { keep = 8; versions = 1000000 })) merged)
     (logs_many made f comes) history) in (

@@ -1,6 +1,7 @@
 pub mod Texts
 pub mod Faults
 pub mod Clients
+pub mod Replies
 pub mod Reports
 pub mod Reading
 pub mod Guested

@@ -11,13 +11,9 @@ use Rattle.run_output.specs.Output.{IsOutput}
 use Rattle.run_output.specs.declared.output.Shown.{Shown}
 use Rattle.run_words.specs.Requests.{RunAsked}
 use Rattle.store_run.specs.declared.finished.Finished.{Finished}
-use Rattle.doc_run.specs.Clients.{IsRunWithForms, options_of}
+use Rattle.doc_run.specs.Replies.{AreReplies}
 use Rattle.doc_run.specs.declared.report.Report.{Report}
 use Rattle.doc_run.specs.declared.report.Report.TheVariants.{Replies, Heap}
-
--- what is written behind the replies of a run
-abbrev pub shown_of : RunAsked → Shown
-shown_of run = record { history = run.history; stats = run.stats }
 
 -- the text of a closed heap: that of each core state that its words show
 abbrev pub IsHeapText : ImageView → List ℕ → Type 0
@@ -28,8 +24,7 @@ abbrev pub Tells : Report → Shown → Finished → List Form → List ℕ → 
 Tells Replies shown f forms text = IsOutput shown f.logs.items forms f.totals text
 Tells Heap shown f forms text = IsHeapText f.image text
 
--- the report of a run with these words, with the forms of the scripts that it was a run of
+-- the report of a run with these words
 abbrev pub IsReportOf : Report → List (Option (List ℕ)) → RunAsked → Finished → List ℕ → Type 0
-IsReportOf report told run f text =
-    (forms : List Form) × IsRunWithForms told (options_of run) f forms
-    × Tells report (shown_of run) f forms text
+IsReportOf Replies told run f text = AreReplies told run f text
+IsReportOf Heap told run f text = IsHeapText f.image text

@@ -71,6 +71,16 @@ IfRun (Some (Dump names)) Fact = Unit {0}
 IfRun (Some (Census name)) Fact = Unit {0}
 IfRun (Some (Mail mail)) Fact = Unit {0}
 
+-- the fact holds, if it is the replies that are written of a run
+abbrev pub IfReplies : Report → Type 0 → Type 0
+IfReplies Replies Fact = Fact
+IfReplies Heap Fact = Unit {0}
+
+-- or if it is the heap that the run left
+abbrev pub IfHeap : Report → Type 0 → Type 0
+IfHeap Replies Fact = Unit {0}
+IfHeap Heap Fact = Fact
+
 -- the fact holds of the names, if the request is to dump a version beside the scripts of files
 abbrev pub IfDump : Option Asked → (List (List ℕ) → Type 0) → Type 0
 IfDump None Fact = Unit {0}

@@ -24,9 +24,10 @@ use Rattle.doc_run.specs.Ending.{IsRefusal, IsSummaryOf, OpensFiles, printed_of}
 use Rattle.doc_run.specs.Guested.{IsDumpRunGiven, IsDumpDueFor, IsDumpText}
 use Rattle.doc_run.specs.Mailed.{IsMailedText, MailsBy}
 use Rattle.doc_run.specs.Reading.{IsAnswerOf, IsFileDue}
-use Rattle.doc_run.specs.Reports.{IsReportOf}
-use Rattle.doc_run.specs.Request.{ByPrint, IfDump, IfGen, IfMail, IfRead, IfRun, IfScripts}
-use Rattle.doc_run.specs.Request.{files_of, names_of}
+use Rattle.doc_run.specs.Replies.{AreReplies}
+use Rattle.doc_run.specs.Reports.{IsHeapText}
+use Rattle.doc_run.specs.Request.{ByPrint, IfDump, IfGen, IfHeap, IfMail, IfRead, IfReplies, IfRun}
+use Rattle.doc_run.specs.Request.{IfScripts, files_of, names_of}
 use Rattle.doc_run.specs.Texts.{WritesBy}
 use Rattle.doc_run.specs.declared.outcome.Outcome.{Outcome}
 
@@ -34,10 +35,13 @@ module _ (holds : List ℕ → Option (List ℕ)) (asked : Option Asked) (result
   -- What the request came to is handed back, and of its text was written what the relation says:
   -- all of it, or a front of it.
   pub record Completed (Wrote : List ℕ → Type 0) : Type 0 where
-    -- what the run of the files' scripts came to; its report
-    pub done : IfRun asked (λ report run. IsSomeAnd result.finished (λ f.
+    -- the replies of the clients of the files' scripts, unless the heap is asked for
+    pub done : IfRun asked (λ report run. IsSomeAnd result.finished (λ f. IfReplies report
+        ((text : List ℕ) × AreReplies (map holds run.files) run f text × Wrote text)))
+    -- what the run of these clients came to, with the heap that it left; the heap's text
+    pub heap : IfRun asked (λ report run. IsSomeAnd result.finished (λ f.
         IsRunGiven (AreScripts (map holds run.files)) (options_of run) f
-        × WritesBy Wrote (IsReportOf report (map holds run.files) run f)))
+        × IfHeap report (WritesBy Wrote (IsHeapText f.image))))
     -- what the run of generated scripts came to; its summary, or the script that was asked for
     pub made : IfGen asked (λ made. ByPrint made.print
         (IsSomeAnd result.finished (λ f. IsRunGiven (IsMade made) default_options f

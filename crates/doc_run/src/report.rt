@@ -1,6 +1,7 @@
 //! What is written of a run of the scripts of files.
 ghost use Rattle.std.specs.Prelude.{◌≡◌, IfOk};
-ghost use Rattle.doc_run.specs.Reports.{Tells, shown_of};
+ghost use Rattle.doc_run.specs.Replies.{shown_of};
+ghost use Rattle.doc_run.specs.Reports.{Tells};
 ghost use Rattle.run_words.specs.Requests.{run_asked_by};
 
 use crate::clients::Ran;

@@ -36,7 +36,8 @@ use Rattle.heap_rule.specs.declared.view.Place.TheVariants as places
 use Rattle.heap_rule.specs.declared.view.View.{View}
 use Rattle.heap_table.specs.Images.{ImageView, Shows}
 use Rattle.run_history.specs.Agreed.{LogsAgree}
-use Rattle.store_run.specs.Finished.{Comes, IsTotals, commands_of}
+use Rattle.store_run.specs.Answered.{commands_of}
+use Rattle.store_run.specs.Finished.{Comes, IsTotals}
 use Rattle.store_run.specs.Parts.{IsCounted}
 use Rattle.version_rule.specs.Pass.{Pass}
 
@@ -174,26 +175,30 @@ module _ (o : Options) (scripts : List (List Command)) (logs : List ClientLog)
         let a = totals_are.versions in
         let b = totals_are.claimed in
         record {
-          clients = agrees.agree.clients ∙ ap (λ (n : ℕ). rising 0 n) at.many;
-          answered = answered;
-          ended = ended;
-          shown = shown;
-          tied = λ i lt. tied o n n logs image.words v at ended i lt (omega arith);
-          agree = agrees.agree;
-          merged = agrees.legal;
-          totals_are = totals_are;
-          balance = are.balance;
-          all_cells = are.all_cells;
-          stay = stay;
-          made = agrees.made ∙ ap (λ (n : ℕ). n + 1) (sym a);
-          claims = omega (arith, claimed, a, b);
-          full = λ met. let whole = full_here met in omega (arith, whole, b);
-          service = service o n n logs image.words v at ended totals.cycles cycles;
-          cycles = few_cycles o n n logs image.words v at ended totals.cycles cycles;
-          tidy = tidy o n n logs image.words v at ended totals.cycles cycles;
-          census = census_kept (shape_of o (length scripts)) image v ended o.keep
-              ended.shows.kept.trees stay (totals.cycles < o.cycles) shown
-              (tidy o n n logs image.words v at ended totals.cycles cycles);
+          heap = record {
+            ended = ended;
+            shown = shown;
+            tied = λ i lt. tied o n n logs image.words v at ended i lt (omega arith);
+            totals_are = totals_are;
+            balance = are.balance;
+            all_cells = are.all_cells;
+            stay = stay;
+            made = agrees.made ∙ ap (λ (n : ℕ). n + 1) (sym a);
+            claims = omega (arith, claimed, a, b);
+            full = λ met. let whole = full_here met in omega (arith, whole, b);
+            service = service o n n logs image.words v at ended totals.cycles cycles;
+            cycles = few_cycles o n n logs image.words v at ended totals.cycles cycles;
+            tidy = tidy o n n logs image.words v at ended totals.cycles cycles;
+            census = census_kept (shape_of o (length scripts)) image v ended o.keep
+                ended.shows.kept.trees stay (totals.cycles < o.cycles) shown
+                (tidy o n n logs image.words v at ended totals.cycles cycles);
+          };
+          answered = record {
+            clients = agrees.agree.clients ∙ ap (λ (n : ℕ). rising 0 n) at.many;
+            commands = answered;
+            agree = agrees.agree;
+            merged = agrees.legal;
+          };
         }
 
   -- the heap's shape is that of the run

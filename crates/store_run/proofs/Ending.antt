@@ -25,7 +25,7 @@ use Rattle.doc_model.specs.declared.command.Entry.{Entry}
 use Rattle.free_cells.specs.declared.queue.FreeQueue.{FreeQueue}
 use Rattle.heap_rule.specs.Shape.{Shape}
 use Rattle.heap_table.specs.Seats.{SeatView}
-use Rattle.store_run.specs.Finished.{commands_of}
+use Rattle.store_run.specs.Answered.{commands_of}
 use Rattle.store_run.specs.Parts.{IsOpened}
 use Rattle.store_run.specs.declared.opened.Opened.{Opened}
 use Rattle.version_rule.specs.Pass.{Pass}

@@ -1,12 +1,11 @@
--- What a run of clients comes to: its logs, the image of its heap, what the seats had at the close,
--- and the totals.
+-- What a run of clients comes to: what they were answered, and the heap that it leaves.
 --
 -- All is said of one heap that was opened for this run and closed after it: of the core state that
 -- its words show at the close, and of the trails and passes that its seats left.
 -- Source: this project's.
 use Rattle.std.specs.Prelude.{ℕ, ◌≡◌, ◌≤◌, ◌<◌, ◌+◌, ◌-◌}
 use Rattle.std.specs.Prelude.{true}
-use Rattle.std.specs.Prelude.{List, ◌∷◌, length, map}
+use Rattle.std.specs.Prelude.{List, ◌∷◌, length}
 use Rattle.std.specs.List.{list_any}
 use Rattle.client_run.specs.Options.{limits_of, shape_of}
 use Rattle.client_run.specs.declared.options.Options.{Options}
@@ -19,22 +18,17 @@ use Rattle.closed_store.specs.Closing.{EndedStore}
 use Rattle.core_machine.specs.State.{State, free_count_of}
 use Rattle.dlg_core.specs.Collects.{IsTidy}
 use Rattle.dlg_core.specs.Sums.{claims_of, used_count_of}
-use Rattle.doc_model.specs.Agreement.{Agree, MergedIsLegal, ok_places, rising}
+use Rattle.doc_model.specs.Agreement.{ok_places}
 use Rattle.doc_model.specs.ClientLog.{ClientLog}
-use Rattle.doc_model.specs.Merge.{IsMerge, all_entries}
+use Rattle.doc_model.specs.Merge.{all_entries}
 use Rattle.doc_model.specs.Store.{tree_at}
 use Rattle.doc_model.specs.declared.command.Command.{Command}
-use Rattle.doc_model.specs.declared.command.Entry.{Entry}
 use Rattle.doc_model.specs.declared.totals.Totals.{Totals}
 use Rattle.doc_tree.specs.Tree.{DocTree, count}
-use Rattle.heap_rule.specs.declared.view.Place.TheVariants as places
 use Rattle.heap_rule.specs.declared.view.View.{View}
 use Rattle.heap_table.specs.Images.{ImageView, Shows}
 use Rattle.version_rule.specs.Pass.{Pass}
-
--- The commands of a log.
-abbrev pub commands_of : ClientLog → List Command
-commands_of log = map (λ (e : Entry). e.command) log.entries
+use Rattle.store_run.specs.Answered.{Answered}
 
 -- What the totals count: entries and new versions of the logs; of the state at the close claims,
 -- frees, cells and cycles; and the nodes of the latest tree.
@@ -49,22 +43,16 @@ pub record IsTotals (s : State) (logs : List ClientLog) (trees : List DocTree) (
   pub cycles : t.cycles ≡ s.control.cycles
   pub nodes : t.nodes ≡ count (tree_at trees (length trees - 1))
 
-pub record Comes (o : Options) (scripts : List (List Command)) (logs : List ClientLog)
-    (image : ImageView) (passes : View Pass) (totals : Totals) : Type 0 where
-  -- a log for each script, of clients 1, 2 and so on: it has the script's commands, in order
-  pub clients : map (λ (g : ClientLog). g.client) logs ≡ rising 0 (length scripts)
-  pub answered : map commands_of logs ≡ scripts
+-- The heap that a run of so many clients leaves, which have these logs.
+pub record LeavesHeap (o : Options) (clients : ℕ) (logs : List ClientLog) (image : ImageView)
+    (passes : View Pass) (totals : Totals) : Type 0 where
   -- the image is that of a store's heap, which opened with a mutator for each client
-  pub ended : EndedStore (shape_of o (length scripts)) image.words passes
+  pub ended : EndedStore (shape_of o clients) image.words passes
   pub shown : Shows image ended.shows.core
   -- each log is tied to what its own mutator left, which had the places that go with a private heap
   -- of so many records
-  pub tied : (i : ℕ) → i < length scripts
+  pub tied : (i : ℕ) → i < clients
       → IsTiedTo (limits_of o) o.cells (places_for o.minor) logs passes.places i
-  -- the logs agree on the versions of that heap, and merged they are a legal history
-  pub agree : Agree (limits_of o) ended.shows.kept.trees logs
-  pub merged : (entries : List Entry) → IsMerge logs entries
-      → MergedIsLegal (limits_of o) ended.shows.kept.trees logs entries
   -- the totals, and how they hang together
   pub totals_are : IsTotals ended.shows.core logs ended.shows.kept.trees totals
   pub balance : 3 + totals.claimed ≡ totals.used + totals.freed
@@ -76,9 +64,16 @@ pub record Comes (o : Options) (scripts : List (List Command)) (logs : List Clie
   -- a command finds the heap full only where every cell was claimed
   pub full : list_any was_full (all_entries logs) ≡ true → o.cells ≤ 3 + totals.claimed
   -- the collector served, in as many cycles as it may; and fewer leave no garbage
-  pub service : IsService o.cycles (length scripts) totals.cycles passes.trail
+  pub service : IsService o.cycles clients totals.cycles passes.trail
   pub cycles : totals.cycles ≤ o.cycles
   pub tidy : totals.cycles < o.cycles → IsTidy ended.shows.core
   -- a census of the image is never refused: it counts the versions of that chain, and after fewer
   -- cycles nothing that floats
   pub census : HasCensus image (length (stay.latest ∷ stay.older)) (totals.cycles < o.cycles)
+
+-- Both, by the limits of the options: the clients were answered on the versions of the heap that
+-- is left.
+pub record Comes (o : Options) (scripts : List (List Command)) (logs : List ClientLog)
+    (image : ImageView) (passes : View Pass) (totals : Totals) : Type 0 where
+  pub heap : LeavesHeap o (length scripts) logs image passes totals
+  pub answered : Answered (limits_of o) scripts logs heap.ended.shows.kept.trees

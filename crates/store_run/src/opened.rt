@@ -7,7 +7,8 @@ ghost use Rattle.std.specs.Prelude.{◌≡◌, ◌≤◌, All, IfOk, [], false, 
 ghost use Rattle.client_run.specs.Options.{IsWithin};
 ghost use Rattle.client_threads.specs.Clients.{AllDone, AllReady};
 ghost use Rattle.client_threads.specs.Taken.{AreFronts, lists_of};
-ghost use Rattle.store_run.specs.Finished.{Comes, commands_of};
+ghost use Rattle.store_run.specs.Answered.{commands_of};
+ghost use Rattle.store_run.specs.Finished.{Comes};
 ghost use Rattle.store_run.specs.Parts.{IsOpened};
 
 use crate::finished::Finished;

@@ -5,6 +5,7 @@ use Rattle.script_files.specs.Sorts.{OfScripts}
 use Rattle.doc_run.specs.Clients.{IsRunGiven, options_of}
 use Rattle.doc_run.specs.Reports.{IsReportOf}
 use Rattle.doc_run.proofs.Deciding.{comes_by}
+use Rattle.doc_run.proofs.Reported.{reported}
 use Rattle.doc_run.proofs.Writing.{by_done, by_explained, by_failed, by_no_file, by_no_read}
 use Rattle.doc_run.proofs.Writing.{by_wanting, by_written, kept_finished}
 use Rattle.doc_run.proofs.scripts.run_scripts.Goals as goal
@@ -39,7 +40,8 @@ returns-clause-written g c =
     (kept_finished c.write_lines.result f c.by_writing.result.finished
     c.by_writing.ensures.finished)
     (comes_by told (options_of asked) f forms c.in-Ok.ensures.finished)
-    (forms, c.in-Ok.ensures.finished, c.in-Ok-report_text.ensures)
+    (reported c.args.report told asked f forms text c.in-Ok.ensures.finished
+    c.in-Ok-report_text.ensures)
     c.deref.ensures.value c.write_lines.ensures.ok c.write_lines.ensures.err
 
 pub returns-clause-read : goal.returns-clause-read

@@ -7,7 +7,8 @@ use Rattle.doc_model.specs.ClientLog.{ClientLog}
 use Rattle.heap_rule.specs.Shape.{Shape}
 use Rattle.heap_rule.specs.declared.view.Place.{Place}
 use Rattle.heap_rule.specs.declared.view.View.{View}
-use Rattle.store_run.specs.Finished.{Comes, IsTotals, commands_of}
+use Rattle.store_run.specs.Answered.{commands_of}
+use Rattle.store_run.specs.Finished.{Comes, IsTotals}
 use Rattle.version_rule.specs.Pass.{Pass}
 use Rattle.store_run.proofs.Closed.{comes, counted}
 use Rattle.client_threads.proofs.Serving.{late_seat, may_serve, stands_places, stands_seat}
