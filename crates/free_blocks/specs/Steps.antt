@@ -9,9 +9,9 @@ use Rattle.free_blocks.specs.declared.steps.Step.TheVariants.{Freed, Asked, Foun
 abbrev pub one_more : Count → Count
 one_more c = record c { number = min (c.number + 1) 512 }
 
--- a cell was freed
-abbrev pub freed_in : Count → Count
-freed_in c = record { number = min (c.number + 1) 512; freed = (c.freed + 1) % 2 ^ 54 }
+-- so many cells were freed
+abbrev pub freed_in : ℕ → Count → Count
+freed_in n c = record { number = min (c.number + n) 512; freed = (c.freed + n) % 2 ^ 54 }
 
 -- a cell is wanted: one is taken off, if there is one
 abbrev pub asked_of : Count → Option Count
@@ -22,6 +22,6 @@ abbrev pub found_none_in : ℕ → Count → Count
 found_none_in freed c = if c.freed == freed then record c { number = 0 } else one_more c
 
 abbrev pub after_of : Step → Count → Option Count
-after_of Freed c = Some (freed_in c)
+after_of (Freed n) c = Some (freed_in n c)
 after_of Asked c = asked_of c
 after_of (FoundNone freed) c = Some (found_none_in freed c)

@@ -13,7 +13,20 @@ impl FreeBlocks {
     pub fn note_free(&self, cell: u32)
         requires cell { cell < cells_of self.now }
     {
-        let _before = self.change(cell / BLOCK, Step::Freed);
+        self.note_freed(cell / BLOCK, 1);
+    }
+
+    /// So many cells of a block were freed. Who frees many notes them together, since the others
+    /// ask at the same word.
+    pub fn note_freed(&self, block: u32, cells: u32)
+        requires block { block < blocks_of self.now }
+    {
+        let _before = self.change(block, Step::Freed(cells));
+    }
+
+    /// A block for one of so many threads to start at, so that they meet late.
+    pub fn start_of(&self, thread: u32, threads: u32) -> u32 {
+        thread.wrapping_mul(self.blocks() / threads.max(1))
     }
 
     /// The next block in which a cell is thought free, from `start` on and then from the first one,
@@ -31,6 +44,17 @@ impl FreeBlocks {
             Some(seen) => Some(seen),
             None => self.first_within(0, from),
         }
+    }
+
+    /// About how many cells are thought free: all those of the blocks in which one is. One load.
+    pub fn about(&self) -> u64
+        ensures few { result ≤ cells_of self.now }
+    {
+        let blocks = self
+            .with_some
+            .load(Ordering::SeqCst)
+            .min(u64::from(self.blocks()));
+        (blocks * u64::from(BLOCK)).min(u64::from(self.cells))
     }
 
     /// All cells of the block that was given were tried in vain. Its number is 0 now, if no cell was

@@ -11,7 +11,7 @@ pub(crate) const BLOCK: u32 = 512;
 const FREED: u64 = 1024;
 
 /// How often a cell may be noted as freed until that count begins again at 0.
-const FREED_ROUND: u64 = 1 << 54;
+pub(crate) const FREED_ROUND: u64 = 1 << 54;
 
 /// The rule of each word: its number is at most 512.
 pub struct InBlock;

@@ -27,5 +27,5 @@ mod steps;
 
 pub use blocks::FreeBlocks;
 pub use counts::Seen;
-pub use opening::Span;
+pub use opening::{Span, block_of};
 pub use std::alloc::AllocError as NoMemory;

@@ -1,5 +1,5 @@
 //! Making the words, and which cells a block has.
-ghost use Rattle.std.specs.Prelude.{◌≡◌, ◌<◌, ◌≤◌, ◌+◌, ◌*◌, ◌-◌, IfOk, min, max};
+ghost use Rattle.std.specs.Prelude.{◌≡◌, ◌<◌, ◌≤◌, ◌+◌, ◌*◌, ◌-◌, ◌/◌, IfOk, min, max};
 ghost use Rattle.free_blocks.specs.Blocks.{blocks_of, cells_of};
 
 use crate::NoMemory;
@@ -37,6 +37,13 @@ fn free_in(span: Span, first: u32) -> u64
     u64::from(span.end.saturating_sub(span.first.max(first)))
 }
 
+/// The block that a cell is in.
+pub fn block_of(cell: u32) -> u32
+    ensures block { result ≡ cell / 512 }
+{
+    cell / BLOCK
+}
+
 impl FreeBlocks {
     /// Words for so many cells, of which those from `first` on are thought free.
     pub fn open(alloc: Global, cells: u32, first: u32) -> Result<FreeBlocks, NoMemory>
@@ -65,7 +72,7 @@ impl FreeBlocks {
     }
 
     /// How many blocks there are.
-    pub(crate) fn blocks(&self) -> u32
+    pub fn blocks(&self) -> u32
         ensures blocks { result ≡ blocks_of self.now }
     {
         self.cells.div_ceil(BLOCK)

@@ -2,19 +2,16 @@
 ghost use Rattle.std.specs.Prelude.{◌≡◌, ◌<◌, ◌≤◌, ◌^◌, IfSome};
 ghost use Rattle.free_blocks.specs.Steps.{after_of, asked_of, found_none_in, freed_in, one_more};
 
-use crate::counts::Count;
+use crate::counts::{Count, FREED_ROUND};
 
 /// How many cells a block has at most.
 const MOST: u64 = 512;
 
-/// The greatest count of cells that were freed.
-const LAST_FREED: u64 = (1 << 54) - 1;
-
 /// What is done to a block's word.
 #[derive(Clone, Copy)]
 pub enum Step {
-    /// a cell was freed
-    Freed,
+    /// so many cells were freed
+    Freed(u32),
     /// a cell is wanted
     Asked,
     /// who asked when so many were freed found none
@@ -32,19 +29,15 @@ impl Count {
         }
     }
 
-    /// A cell was freed.
-    fn freed_in(self) -> Count
+    /// So many cells were freed.
+    fn freed_in(self, cells: u32) -> Count
         requires freed { self.freed < 2 ^ 54 }
-        ensures freed { result ≡ freed_in self }
+        ensures freed { result ≡ freed_in cells self }
     {
-        let freed = if self.freed == LAST_FREED {
-            0
-        } else {
-            self.freed + 1
-        };
+        let cells = u64::from(cells);
         Count {
-            number: self.number.min(MOST - 1) + 1,
-            freed,
+            number: (self.number.min(MOST) + cells).min(MOST),
+            freed: (self.freed + cells) % FREED_ROUND,
         }
     }
 
@@ -85,7 +78,7 @@ impl Count {
         ensures freed { IfSome result (λ count. count.freed < 2 ^ 54) }
     {
         match step {
-            Step::Freed => Some(self.freed_in()),
+            Step::Freed(cells) => Some(self.freed_in(cells)),
             Step::Asked => self.asked_of(),
             Step::FoundNone(freed) => Some(self.found_none_in(freed)),
         }
