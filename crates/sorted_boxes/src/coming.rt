@@ -2,8 +2,8 @@
 //!
 //! A mutator that comes in holds the anchor alone. Before it is used it makes its scratch box of a
 //! cell that it claims, as often as it takes until the box was shown (`make_scratch`).
-ghost use Rattle.std.specs.Prelude.{◌≡◌, ◌<◌, ◌+◌, IfNone, IfSome, false, length, true, ℕ};
-ghost use Rattle.mutator_seat.specs.Bound.{IsBound, bound};
+ghost use Rattle.std.specs.Prelude.{◌≡◌, ◌<◌, ◌+◌, ◌∷◌, ◌++◌, [], IfNone, IfSome, false, length, true, ℕ};
+ghost use Rattle.mutator_seat.specs.Bound.{IsBound, bound, held_cells};
 ghost use Rattle.mutator_seat.specs.Claims.{HasMode};
 ghost use Rattle.mutator_seat.specs.Stretches.{Calm};
 ghost use Rattle.sorted_boxes.specs.Calls.{KeepsPlaces};
@@ -64,6 +64,8 @@ pub fn try_cell(heap: &CellHeap<Sorting>, seat: &mut MutSeat<Sorting>, cell: u32
     ensures place { IfSome result (λ place. place ≡ length seat.old.me.own.held) }
     ensures longer { IfSome result (λ place. length seat.new.me.own.held
         ≡ length seat.old.me.own.held + 1) }
+    ensures cells { IfSome result (λ place. held_cells (bound heap.now seat.new)
+        ≡ held_cells (bound heap.now seat.old) ++ cell ∷ []) }
     ensures pass { seat.new.me.pass ≡ seat.old.me.pass }
     ensures room { seat.new.me.room ≡ seat.old.me.room }
     ensures used { IfNone result (Calm (AllUsed cell (cell + 1)) (bound heap.now seat.old)

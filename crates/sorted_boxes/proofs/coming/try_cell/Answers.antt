@@ -22,6 +22,7 @@ returns-in-Some c =
       got = record { before = was; opened = c.requires.opened; claimed = got };
       place = got.place_is;
       longer = claimed_longer was now c.in-Some.place got;
+      cells = c.in-Some.ensures.cell;
       pass = claimed_pass was now c.in-Some.place got;
       room = (claimed_goes was now c.in-Some.place got).room;
       used = tt;
@@ -40,6 +41,7 @@ returns-in-None c =
       got = tt;
       place = tt;
       longer = tt;
+      cells = tt;
       pass = calm.kept.pass;
       room = calm.kept.room;
       used = calm;
