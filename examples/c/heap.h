@@ -83,6 +83,7 @@ typedef struct {
     uint32_t cycles, stage;    /* ended; 0 idle, 1 sync1, 2 clear, 3 sync2, 4 trace, 5 sweep */
     uint32_t heard, asks;      /* asks 1: mutator number `heard` has to answer first */
     uint64_t freed;            /* cells, since the opening */
+    uint64_t free_about;       /* now: all cells of those blocks of 512 that have a free one */
     uint64_t passes, scanned;  /* of tracing: passes over the heap, cells whose fields were read */
     uint64_t stacked, spilled; /* children put on the mark stack, and those that found it full */
 } heap_stats;

@@ -29,10 +29,11 @@ static void cycles(small *s) {
     HOLDS(!"a cycle ends");
 }
 
-static uint64_t freed(small *s) {
+static heap_stats looked(small *s) {
     heap_stats stats;
     GIVES(heap_look(&s->col, &stats), HEAP_OK);
-    return stats.freed;
+    HOLDS(stats.free_about <= s->cells);
+    return stats;
 }
 
 /* Puts so many cells in front of the list at place HEAP_FIRST, or of none. The last answer. */
@@ -136,11 +137,12 @@ static void one_heap(uint64_t seed) {
     HOLDS(length == s.cells - HEAP_FIRST);
     for (int i = 0; i < 3; i++) {
         is_full(&s, m, &length);
-        uint64_t before = freed(&s), fewer = 1 + pick(&s.random, length);
+        HOLDS(looked(&s).free_about == 0);
+        uint64_t before = looked(&s).freed, fewer = 1 + pick(&s.random, length);
         shrinks(m, &length, fewer);
         cycles(&s);
         cycles(&s);
-        HOLDS(freed(&s) == before + fewer);
+        HOLDS(looked(&s).freed == before + fewer && looked(&s).free_about >= fewer);
         is_whole(m, length);
         HOLDS(grows(m, &length, fewer) == HEAP_OK);
     }

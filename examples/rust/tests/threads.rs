@@ -4,6 +4,7 @@ use heap::{Collector, Frame, Heap, Result, Setting, Value};
 use std::sync::mpsc;
 use std::thread;
 
+const CELLS: u32 = 100_000;
 const THREADS: u64 = 4;
 const NUMBERS: u64 = 20_000;
 const TOP: usize = 0;
@@ -58,7 +59,7 @@ fn work(frame: &mut Frame<'_>, me: u64) -> Result<u64> {
 #[test]
 fn what_threads_push_on_a_stack_is_popped_once_and_a_blocked_one_keeps_what_it_holds() {
     let setting = Setting {
-        cells: 100_000,
+        cells: CELLS,
         mutators: THREADS as u32 + 1,
         stack: 1000,
     };
@@ -102,6 +103,11 @@ fn what_threads_push_on_a_stack_is_popped_once_and_a_blocked_one_keeps_what_it_h
     sleeper.join().unwrap();
 
     let mut collector = collector.stop();
-    while collector.step(500) != Ok(heap::Step::Ended) {}
-    assert!(collector.look().unwrap().cycles > 0);
+    for _ in 0..2 {
+        while collector.step(500) != Ok(heap::Step::Ended) {}
+    }
+    let stats = collector.look().unwrap();
+    assert!(stats.cycles > 0 && stats.stage <= 5);
+    assert!(stats.freed >= THREADS * NUMBERS); // the stack is empty
+    assert!(stats.free_about <= u64::from(CELLS) && stats.free_about > 0);
 }
