@@ -1,6 +1,6 @@
 -- What C may give to a new box.
-use Rattle.std.proofs.Common.{◌≡◌, ◌<◌, ◌≤◌, ℕ, zero, suc, true, false, List, length, refl, sym}
-use Rattle.std.proofs.Common.{◌∙◌, ap, arith, subst}
+use Rattle.std.proofs.Common.{◌≡◌, ◌≤◌, ℕ, zero, suc, List, refl, sym}
+use Rattle.std.proofs.Common.{arith, subst}
 use Rattle.cell_making.specs.Makes.{value_at}
 use Rattle.heap_rule.specs.declared.view.View.{View}
 use Rattle.mutator_events.specs.declared.values.Value.{Value}

@@ -1,4 +1,6 @@
+pub mod Claims
 pub mod Keeping
+pub mod Making
 pub mod OfCollecting
 pub mod OfMine
 pub mod Owner

@@ -1,6 +1,6 @@
 -- Which mutators have no seat yet: all at the opening, and one less after each split. And that a
 -- collector stays one that may be moved on.
-use Rattle.std.proofs.Common.{◌≡◌, ◌<◌, ◌≤◌, ◌+◌, ◌≢◌, ℕ, zero, suc, List, [], refl, sym, ◌∙◌, ap}
+use Rattle.std.proofs.Common.{◌≡◌, ◌<◌, ◌+◌, ◌≢◌, ℕ, zero, suc, List, [], refl, sym, ◌∙◌, ap}
 use Rattle.std.proofs.Common.{arith, replicate, subst, Option, Some}
 use Rattle.atomic_table.proofs.Lists.{set_else}
 use mathlib.Core.Option.{some}

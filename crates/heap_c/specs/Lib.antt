@@ -1,5 +1,9 @@
 pub mod Answers
+pub mod Calls
+pub mod Claiming
+pub mod Handles
 pub mod Holding
 pub mod Keeping
 pub mod Lending
 pub mod Owning
+pub mod Refusing

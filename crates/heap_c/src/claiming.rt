@@ -1,5 +1,6 @@
-//! Claiming a cell: one block is asked for, and its cells are tried. Nothing waits here.
+//! Claiming a cell: a few blocks are asked for, and their cells are tried. Nothing waits here.
 ghost use Rattle.std.specs.Prelude.{◌≡◌, ◌<◌, ◌≤◌, ◌+◌, IfErr, IfNone, IfOk, IfSome, length, true, ℕ};
+ghost use Rattle.heap_c.specs.Claiming.{FindsNone, HoldsOneMore, SaysNone};
 ghost use Rattle.mutator_seat.specs.Bound.{IsBound, bound};
 ghost use Rattle.mutator_seat.specs.Claims.{HasMode};
 ghost use Rattle.sorted_boxes.specs.Calls.{KeepsPlaces};
@@ -15,16 +16,29 @@ use mutator_events::MutSeat;
 use mutator_seat::operations;
 use sorted_boxes::coming;
 
-/// How a mutator waits for a cell, and the block that it asks for first.
+/// In how many blocks a call looks for a cell before it answers that it found none.
+const BLOCKS_TRIED: u32 = 4;
+
+/// How a mutator waits for a cell, and where it looks first.
 #[derive(Drop)]
 pub(crate) struct Waiting {
     /// the cycles that were begun at its first try in vain
     pub(crate) began: Option<u32>,
-    pub(crate) start: u32,
+    pub(crate) looks: Looks,
+}
+
+/// Where a mutator looks for a cell. A block is mostly free from there on, since it was swept, and
+/// is claimed, from its first cell to its last.
+#[derive(Clone, Copy, Drop)]
+pub(crate) struct Looks {
+    /// the block that it asks for first
+    pub(crate) block: u32,
+    /// the cell after the last one that it claimed
+    pub(crate) next: u32,
 }
 
 /// Looks at the control, before cells are tried.
-fn look(heap: &CellHeap<Rule>, seat: &mut MutSeat<Rule>) -> Control
+pub(crate) fn look(heap: &CellHeap<Rule>, seat: &mut MutSeat<Rule>) -> Control
     requires seat { IsBound heap.now seat.old }
     requires inside { seat.old.me.presence.inside ≡ true }
     ensures seat { IsBound heap.now seat.new }
@@ -37,8 +51,14 @@ fn look(heap: &CellHeap<Rule>, seat: &mut MutSeat<Rule>) -> Control
     operations::look_once(heap, seat)
 }
 
-/// Tries the cells of a block, one after the other: the place of the one that it claimed.
-fn try_span(heap: &CellHeap<Rule>, seat: &mut MutSeat<Rule>, span: Span) -> Option<usize>
+/// Tries cells one after the other: the place of the one that it claimed. `next` is the cell after
+/// that one then.
+fn try_cells(
+    heap: &CellHeap<Rule>,
+    seat: &mut MutSeat<Rule>,
+    span: Span,
+    next: &mut u32,
+) -> Option<usize>
     requires seat { IsBound heap.now seat.old }
     requires opened { HoldsAnchor seat.old.me }
     requires mode { HasMode (bound heap.now seat.old) }
@@ -50,14 +70,86 @@ fn try_span(heap: &CellHeap<Rule>, seat: &mut MutSeat<Rule>, span: Span) -> Opti
         ≡ length seat.old.me.own.held + 1) }
     ensures pass { seat.new.me.pass ≡ seat.old.me.pass }
     ensures room { seat.new.me.room ≡ seat.old.me.room }
-    ensures opened { IfNone result ((least : ℕ) → HoldsAtLeast least seat.old.me
-        → HoldsAtLeast least seat.new.me) }
+    ensures cells { IfSome result (λ place. HoldsOneMore (bound heap.now seat.old)
+        (bound heap.now seat.new)) }
+    ensures none { IfNone result (FindsNone (bound heap.now seat.old) (bound heap.now seat.new)) }
 {
     let end = span.end.min(heap.cells());
     for cell in span.first..end {
         if let Some(place) = coming::try_cell(heap, seat, cell) {
+            *next = cell + 1;
             return Some(place);
         }
+    }
+    None
+}
+
+/// Tries the cells of a block, from `next` on to its end and then from its front.
+fn try_block(
+    heap: &CellHeap<Rule>,
+    seat: &mut MutSeat<Rule>,
+    span: Span,
+    next: &mut u32,
+) -> Option<usize>
+    requires seat { IsBound heap.now seat.old }
+    requires opened { HoldsAnchor seat.old.me }
+    requires mode { HasMode (bound heap.now seat.old) }
+    requires room { length seat.old.me.own.held < seat.old.me.room }
+    ensures seat { IsBound heap.now seat.new }
+    ensures got { IfSome result (λ place. HoldsRaw (bound heap.now seat.new) place) }
+    ensures place { IfSome result (λ place. place ≡ length seat.old.me.own.held) }
+    ensures longer { IfSome result (λ place. length seat.new.me.own.held
+        ≡ length seat.old.me.own.held + 1) }
+    ensures pass { seat.new.me.pass ≡ seat.old.me.pass }
+    ensures room { seat.new.me.room ≡ seat.old.me.room }
+    ensures cells { IfSome result (λ place. HoldsOneMore (bound heap.now seat.old)
+        (bound heap.now seat.new)) }
+    ensures none { IfNone result (FindsNone (bound heap.now seat.old) (bound heap.now seat.new)) }
+{
+    let Span { first, end } = span;
+    let from = first.max(end.min(*next));
+    match try_cells(heap, seat, Span { first: from, end }, next) {
+        Some(place) => Some(place),
+        None => try_cells(heap, seat, Span { first, end: from }, next),
+    }
+}
+
+/// Asks for a few blocks, one after the other, and tries their cells.
+fn try_blocks(
+    heap: &CellHeap<Rule>,
+    seat: &mut MutSeat<Rule>,
+    sharing: &Sharing,
+    looks: &mut Looks,
+) -> Option<usize>
+    requires seat { IsBound heap.now seat.old }
+    requires opened { HoldsAnchor seat.old.me }
+    requires mode { HasMode (bound heap.now seat.old) }
+    requires room { length seat.old.me.own.held < seat.old.me.room }
+    ensures seat { IsBound heap.now seat.new }
+    ensures got { IfSome result (λ place. HoldsRaw (bound heap.now seat.new) place) }
+    ensures place { IfSome result (λ place. place ≡ length seat.old.me.own.held) }
+    ensures longer { IfSome result (λ place. length seat.new.me.own.held
+        ≡ length seat.old.me.own.held + 1) }
+    ensures pass { seat.new.me.pass ≡ seat.old.me.pass }
+    ensures room { seat.new.me.room ≡ seat.old.me.room }
+    ensures cells { IfSome result (λ place. HoldsOneMore (bound heap.now seat.old)
+        (bound heap.now seat.new)) }
+    ensures none { IfNone result (FindsNone (bound heap.now seat.old) (bound heap.now seat.new)) }
+{
+    for _tried in 0..BLOCKS_TRIED {
+        let Some(seen) = sharing.blocks.next_block(looks.block) else {
+            return None;
+        };
+        looks.block = seen.block;
+        if let Some(place) = try_block(
+            heap,
+            seat,
+            sharing.blocks.span(seen.block),
+            &mut looks.next,
+        ) {
+            return Some(place);
+        }
+        sharing.blocks.found_none(seen);
     }
     None
 }
@@ -66,6 +158,7 @@ fn try_span(heap: &CellHeap<Rule>, seat: &mut MutSeat<Rule>, span: Span) -> Opti
 /// more use.
 fn waits(control: Control, sharing: &Sharing, wait: &mut Waiting) -> Code
     requires few { control.cycles ≤ 4000000000 }
+    ensures code { SaysNone result }
 {
     if !sharing.is_on_duty() {
         return Code::Full;
@@ -86,15 +179,18 @@ fn waits(control: Control, sharing: &Sharing, wait: &mut Waiting) -> Code
     }
 }
 
-/// Claims a cell of the next block in which one is thought free: its place.
+/// Claims a cell of the next blocks in which one is thought free: its place.
 pub(crate) fn claim(
     heap: &CellHeap<Rule>,
     seat: &mut MutSeat<Rule>,
+    control: Control,
     sharing: &Sharing,
     wait: &mut Waiting,
 ) -> Result<usize, Code>
     requires seat { IsBound heap.now seat.old }
     requires opened { HoldsAnchor seat.old.me }
+    requires mode { HasMode (bound heap.now seat.old) }
+    requires few { control.cycles ≤ 4000000000 }
     requires room { length seat.old.me.own.held < seat.old.me.room }
     ensures seat { IsBound heap.now seat.new }
     ensures got { IfOk result (λ place. HoldsRaw (bound heap.now seat.new) place) }
@@ -103,22 +199,17 @@ pub(crate) fn claim(
         ≡ length seat.old.me.own.held + 1) }
     ensures pass { seat.new.me.pass ≡ seat.old.me.pass }
     ensures room { seat.new.me.room ≡ seat.old.me.room }
-    ensures opened { IfErr result (λ code. (least : ℕ) → HoldsAtLeast least seat.old.me
-        → HoldsAtLeast least seat.new.me) }
+    ensures cells { IfOk result (λ place. HoldsOneMore (bound heap.now seat.old)
+        (bound heap.now seat.new)) }
+    ensures none { IfErr result (λ code. FindsNone (bound heap.now seat.old)
+        (bound heap.now seat.new)) }
+    ensures codes { IfErr result SaysNone }
 {
-    let control = look(heap, seat);
-    let Some(seen) = sharing.blocks.next_block(wait.start) else {
-        return Err(waits(control, sharing, wait));
-    };
-    wait.start = seen.block;
-    match try_span(heap, seat, sharing.blocks.span(seen.block)) {
+    match try_blocks(heap, seat, sharing, &mut wait.looks) {
         Some(place) => {
             wait.began = None;
             Ok(place)
         }
-        None => {
-            sharing.blocks.found_none(seen);
-            Err(waits(control, sharing, wait))
-        }
+        None => Err(waits(control, sharing, wait)),
     }
 }

@@ -1,3 +1,6 @@
+ghost use Rattle.std.specs.Prelude.{◌≡◌};
+ghost use Rattle.heap_c.specs.Handles.{number_of};
+
 /// What a call answers. The numbers are those of heap.h.
 #[derive(Clone, Copy, Debug, PartialEq, Eq)]
 pub enum Code {
@@ -34,7 +37,9 @@ pub enum Code {
 
 impl Code {
     /// As C has it.
-    pub(crate) fn number(self) -> i32 {
+    pub(crate) fn number(self) -> i32
+        ensures number { result ≡ number_of self }
+    {
         self as i32
     }
 }

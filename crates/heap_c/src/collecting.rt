@@ -5,7 +5,7 @@ ghost use Rattle.heap_c.specs.Keeping.{IsKeeping};
 use crate::looking::{HeapStats, number_of};
 use crate::mine::Mine;
 use crate::rule::Rule;
-use crate::sharing::Sharing;
+use crate::sharing::{Sharing, Unnoted};
 use crate::works::{Counts, How, Works, work};
 use cell_heap::{CellHeap, NoMemory};
 use std::alloc::Global;
@@ -61,6 +61,7 @@ impl Collecting {
                 freed: 0,
                 stacked: 0,
                 spilled: 0,
+                unnoted: Unnoted { block: 0, cells: 0 },
             },
             asks: false,
         }
@@ -81,13 +82,13 @@ impl Collecting {
         let heap = Arc::try_clone(&self.heap)?;
         let sharing = Arc::try_clone(&self.sharing)?;
         // As many as there are fit a number, and so does one more than were given.
-        let _mutators = self.heap.mutators();
+        let start = sharing.blocks.start_of(self.given, self.heap.mutators());
         let Some(works) = &mut self.works else {
             return Err(NoMemory);
         };
         let seat = works.seat.split(alloc, &self.heap, self.given, room)?;
         self.given += 1;
-        Ok(Mine::new(heap, sharing, seat, 0))
+        Ok(Mine::new(heap, sharing, seat, start))
     }
 
     /// Makes at most so many moves.
@@ -117,6 +118,7 @@ impl Collecting {
             heard,
             asks: if self.asks { 1 } else { 0 },
             freed: counts.freed,
+            free_about: self.sharing.blocks.about(),
             passes: counts.passes,
             scanned: counts.scanned,
             stacked: counts.stacked,

@@ -1,6 +1,8 @@
 //! Coming in, going out, answering, and leaving; and how many places a mutator has.
-ghost use Rattle.std.specs.Prelude.{◌≡◌, None};
+ghost use Rattle.std.specs.Prelude.{◌≡◌, None, pos};
 ghost use Rattle.heap_c.specs.Answers.{when_in, when_out};
+ghost use Rattle.heap_c.specs.Calls.{ComesIn, GoesOut, ReachesSafePoint};
+ghost use Rattle.heap_c.specs.Handles.{Numbered, OfHandle, number_of, places_free, places_held};
 ghost use Rattle.heap_c.specs.declared.codes.Code.TheVariants as code;
 
 use crate::codes::Code;
@@ -8,7 +10,7 @@ use crate::handle::HeapMut;
 use std::alloc::Global;
 
 fn begin(mutator: &mut HeapMut) -> Code
-    ensures none { mutator.old.mine ≡ None → result ≡ code.NoHandle }
+    ensures begun { OfHandle ComesIn mutator.old.mine mutator.new.mine result }
 {
     match mutator.mine() {
         None => Code::NoHandle,
@@ -18,6 +20,7 @@ fn begin(mutator: &mut HeapMut) -> Code
 
 fn end(mutator: &mut HeapMut) -> Code
     ensures answer { result ≡ when_in mutator.old.mine }
+    ensures ended { OfHandle GoesOut mutator.old.mine mutator.new.mine result }
 {
     match mutator.mine() {
         None => Code::NoHandle,
@@ -27,6 +30,7 @@ fn end(mutator: &mut HeapMut) -> Code
 
 fn answer(mutator: &mut HeapMut) -> Code
     ensures answer { result ≡ when_in mutator.old.mine }
+    ensures answered { OfHandle ReachesSafePoint mutator.old.mine mutator.new.mine result }
 {
     match mutator.mine() {
         None => Code::NoHandle,
@@ -47,6 +51,7 @@ fn may_leave(mutator: &mut HeapMut) -> Code
 
 fn leave(alloc: Global, mutator: &mut HeapMut) -> Code
     ensures answer { result ≡ when_out mutator.old.mine }
+    ensures gone { result ≡ code.Ok → mutator.new.mine ≡ None }
 {
     let code = may_leave(mutator);
     if code == Code::Ok {
@@ -59,25 +64,34 @@ fn leave(alloc: Global, mutator: &mut HeapMut) -> Code
 
 /// Comes in. The mutator holds the anchor and the library's scratch box.
 #[unsafe(no_mangle)]
-pub extern "C" fn heap_begin(mutator: &mut HeapMut) -> i32 {
+pub extern "C" fn heap_begin(mutator: &mut HeapMut) -> i32
+    ensures begun { Numbered result (OfHandle ComesIn mutator.old.mine mutator.new.mine) }
+{
     begin(mutator).number()
 }
 
 /// Goes out. The mutator holds nothing.
 #[unsafe(no_mangle)]
-pub extern "C" fn heap_end(mutator: &mut HeapMut) -> i32 {
+pub extern "C" fn heap_end(mutator: &mut HeapMut) -> i32
+    ensures ended { Numbered result (OfHandle GoesOut mutator.old.mine mutator.new.mine) }
+{
     end(mutator).number()
 }
 
 /// The safe point.
 #[unsafe(no_mangle)]
-pub extern "C" fn heap_answer(mutator: &mut HeapMut) -> i32 {
+pub extern "C" fn heap_answer(mutator: &mut HeapMut) -> i32
+    ensures answered { Numbered result (OfHandle ReachesSafePoint mutator.old.mine
+        mutator.new.mine) }
+{
     answer(mutator).number()
 }
 
 /// How many places it holds; 0 where it is out, or of a handle of nothing.
 #[unsafe(no_mangle)]
-pub extern "C" fn heap_held(mutator: &mut HeapMut) -> usize {
+pub extern "C" fn heap_held(mutator: &mut HeapMut) -> usize
+    ensures held { result ≡ places_held mutator.old.mine }
+{
     match mutator.mine() {
         None => 0,
         Some(mine) => { if mine.is_in() { mine.held_len() } else { 0 } }
@@ -86,7 +100,9 @@ pub extern "C" fn heap_held(mutator: &mut HeapMut) -> usize {
 
 /// How many more it may hold; 0 where it is out, or of a handle of nothing.
 #[unsafe(no_mangle)]
-pub extern "C" fn heap_room(mutator: &mut HeapMut) -> usize {
+pub extern "C" fn heap_room(mutator: &mut HeapMut) -> usize
+    ensures room { result ≡ places_free mutator.old.mine }
+{
     match mutator.mine() {
         None => 0,
         Some(mine) => { if mine.is_in() { mine.room() } else { 0 } }
@@ -95,6 +111,9 @@ pub extern "C" fn heap_room(mutator: &mut HeapMut) -> usize {
 
 /// Is over for good. The handle is one of nothing then.
 #[unsafe(no_mangle)]
-pub extern "C" fn heap_leave(alloc: Global, mutator: &mut HeapMut) -> i32 {
+pub extern "C" fn heap_leave(alloc: Global, mutator: &mut HeapMut) -> i32
+    ensures left { result ≡ number_of (when_out mutator.old.mine) }
+    ensures gone { result ≡ pos 0 → mutator.new.mine ≡ None }
+{
     leave(alloc, mutator).number()
 }

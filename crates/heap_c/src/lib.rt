@@ -9,7 +9,7 @@
 //! what it owns). Each of its parts may be.
 //!
 //! Reading order: `rule`, `sharing`, `claiming`, `mine`, `parts`, `handle`, `works`, `collecting`,
-//! `keeper`, `codes`, `values`; `using`, which works on a seat; then the calls, `opening`, `coming`,
+//! `keeper`, `codes`, `values`; `using` and `fields`, which work on a seat; then the calls, `opening`, `coming`,
 //! `calls`, `looking`.
 #![tactic(auto)]
 
@@ -18,6 +18,7 @@ mod claiming;
 mod codes;
 mod collecting;
 mod coming;
+mod fields;
 mod handle;
 mod keeper;
 mod looking;

@@ -13,6 +13,7 @@ pub struct HeapStats {
     pub(crate) heard: u32,
     pub(crate) asks: u32,
     pub(crate) freed: u64,
+    pub(crate) free_about: u64,
     pub(crate) passes: u64,
     pub(crate) scanned: u64,
     pub(crate) stacked: u64,

@@ -1,15 +1,18 @@
 //! What a mutator's handle owns: its seat, and a share of the heap that the seat is of.
 ghost use Rattle.std.specs.Prelude.{◌≡◌, ◌+◌, if◌then◌else◌, length, false};
+ghost use Rattle.heap_c.specs.Calls.{ComesIn, ComparesPlaces, GoesOut, KeepsChosen, MakesCell};
+ghost use Rattle.heap_c.specs.Calls.{ReachesSafePoint, ReadsAllFields, ReadsField, SwapsField};
+ghost use Rattle.heap_c.specs.Calls.{WritesField};
 ghost use Rattle.heap_c.specs.declared.codes.Code.TheVariants as code;
 ghost use Rattle.heap_table.specs.Seats.{IsSeatOf};
 ghost use Rattle.heap_rule.specs.Asks.{MayComeIn};
 
-use crate::claiming::Waiting;
+use crate::claiming::{Looks, Waiting};
 use crate::codes::Code;
 use crate::rule::Rule;
 use crate::sharing::Sharing;
-use crate::using;
 use crate::values::HeapVal;
+use crate::{fields, using};
 use heap_table::CellHeap;
 use mutator_events::MutSeat;
 use mutator_seat::{Value, operations};
@@ -61,7 +64,13 @@ impl Mine {
             heap,
             sharing,
             seat,
-            wait: Waiting { began: None, start },
+            wait: Waiting {
+                began: None,
+                looks: Looks {
+                    block: start,
+                    next: 0,
+                },
+            },
         }
     }
 
@@ -87,13 +96,16 @@ impl Mine {
     }
 
     /// Comes in.
-    pub(crate) fn begin(&mut self) -> Code {
+    pub(crate) fn begin(&mut self) -> Code
+        ensures begun { ComesIn self.old self.new result }
+    {
         using::begin(&self.heap, &mut self.seat, &self.sharing, &mut self.wait)
     }
 
     /// Goes out.
     pub(crate) fn end(&mut self) -> Code
         ensures answer { result ≡ (if self.old.seat.me.presence.inside then code.Ok else code.NotIn) }
+        ensures ended { GoesOut self.old self.new result }
     {
         using::end(&self.heap, &mut self.seat)
     }
@@ -101,17 +113,22 @@ impl Mine {
     /// Answers a handshake, if one is asked for.
     pub(crate) fn answer(&mut self) -> Code
         ensures answer { result ≡ (if self.old.seat.me.presence.inside then code.Ok else code.NotIn) }
+        ensures answered { ReachesSafePoint self.old self.new result }
     {
         using::answer(&self.heap, &mut self.seat)
     }
 
     /// Keeps the first n places, and behind them so many from a place on.
-    pub(crate) fn keep(&mut self, n: usize, place: usize, count: usize) -> Code {
+    pub(crate) fn keep(&mut self, n: usize, place: usize, count: usize) -> Code
+        ensures kept { KeepsChosen self.old self.new n place count result }
+    {
         using::keep(&self.heap, &mut self.seat, n, place, count)
     }
 
     /// Makes a box.
-    pub(crate) fn make(&mut self, vals: &[HeapVal]) -> Result<usize, Code> {
+    pub(crate) fn make(&mut self, vals: &[HeapVal]) -> Result<usize, Code>
+        ensures made { MakesCell self.old self.new vals.now result }
+    {
         using::make(
             &self.heap,
             &mut self.seat,
@@ -122,28 +139,38 @@ impl Mine {
     }
 
     /// Reads one field.
-    pub(crate) fn read(&mut self, place: usize, field: usize) -> Result<Value, Code> {
-        using::read(&self.heap, &mut self.seat, place, field)
+    pub(crate) fn read(&mut self, place: usize, field: usize) -> Result<Value, Code>
+        ensures read { ReadsField self.old self.new place field result }
+    {
+        fields::read(&self.heap, &mut self.seat, place, field)
     }
 
     /// Reads all five, which are so many.
-    pub(crate) fn read_all(&mut self, place: usize, five: usize) -> Result<[Value; 5], Code> {
-        using::read_all(&self.heap, &mut self.seat, place, five)
+    pub(crate) fn read_all(&mut self, place: usize, five: usize) -> Result<[Value; 5], Code>
+        ensures read { ReadsAllFields self.old self.new place five result }
+    {
+        fields::read_all(&self.heap, &mut self.seat, place, five)
     }
 
     /// Stores a value.
-    pub(crate) fn write(&mut self, place: usize, field: usize, val: HeapVal) -> Code {
-        using::write(&self.heap, &mut self.seat, place, field, val)
+    pub(crate) fn write(&mut self, place: usize, field: usize, val: HeapVal) -> Code
+        ensures wrote { WritesField self.old self.new place field val result }
+    {
+        fields::write(&self.heap, &mut self.seat, place, field, val)
     }
 
     /// Exchanges a value.
-    pub(crate) fn swap(&mut self, place: usize, field: usize, was: HeapVal, now: HeapVal) -> Code {
-        using::swap(&self.heap, &mut self.seat, place, field, was, now)
+    pub(crate) fn swap(&mut self, place: usize, field: usize, was: HeapVal, now: HeapVal) -> Code
+        ensures swapped { SwapsField self.old self.new place field was now result }
+    {
+        fields::swap(&self.heap, &mut self.seat, place, field, was, now)
     }
 
     /// Whether two places hold one cell.
-    pub(crate) fn is_same(&mut self, one: usize, other: usize) -> Result<bool, Code> {
-        using::is_same(&self.heap, &mut self.seat, one, other)
+    pub(crate) fn is_same(&mut self, one: usize, other: usize) -> Result<bool, Code>
+        ensures same { ComparesPlaces self.old self.new one other result }
+    {
+        fields::is_same(&self.heap, &mut self.seat, one, other)
     }
 
     /// Is over: the collector waits for it no more.

@@ -1,22 +1,25 @@
 //! What a mutator does for C: each function tests what it is given, and answers why it did nothing.
-ghost use Rattle.std.specs.Prelude.{◌≡◌, ◌<◌, ◌≤◌, IsTrue, if◌then◌else◌, length};
+ghost use Rattle.std.specs.Prelude.{◌≡◌, ◌<◌, ◌≤◌, if◌then◌else◌, length, true};
+ghost use Rattle.heap_c.specs.Calls.{ComesIn, GoesOut, HasBegun, KeepsChosen, MakesCell};
+ghost use Rattle.heap_c.specs.Calls.{AnswersFirst, ReachesSafePoint};
 ghost use Rattle.heap_c.specs.Holding.{IsMine};
 ghost use Rattle.heap_c.specs.declared.codes.Code.TheVariants as code;
 ghost use Rattle.mutator_seat.specs.Bound.{IsBound, bound};
+ghost use Rattle.mutator_seat.specs.Claims.{HasMode};
+ghost use Rattle.sorted_boxes.specs.Calls.{KeepsPlaces};
 ghost use Rattle.sorted_boxes.specs.Holding.{HoldsRaw};
 
-use crate::claiming::{Waiting, claim};
+use crate::claiming::{Waiting, claim, look};
 use crate::codes::Code;
 use crate::rule::Rule;
 use crate::sharing::Sharing;
-use crate::values::{FIRST, HeapVal, value_of, values_of};
+use crate::values::{FIELDS, FIRST, HeapVal, values_of};
+use cell_words::Control;
+use cell_words::modes::{next_status, requested};
 use heap_table::CellHeap;
 use mutator_events::MutSeat;
 use mutator_seat::Value;
-use sorted_boxes::{coming, making, placing, reading, writing};
-
-/// How many fields a cell has.
-const FIELDS: usize = 5;
+use sorted_boxes::{coming, making, placing, writing};
 
 /// The places of the anchor and of the scratch box, and the fields by which sorted_boxes shows a
 /// scratch box, in the anchor, and a new one, in the scratch box.
@@ -28,24 +31,11 @@ const SCRATCH: usize = 1;
 
 const SHOWN_BY: usize = 0;
 
-/// Whether C may use this place, where so many are held: the anchor's, or one of its own.
-fn is_place(place: usize, held: usize) -> bool
-    ensures there { IsTrue result → place < held }
-{
-    place < held && (place == 0 || FIRST <= place)
-}
-
-/// Whether C may use this field of the cell at this place.
-fn is_field(place: usize, field: usize) -> bool
-    ensures there { IsTrue result → field ≤ 4 }
-{
-    field < FIELDS && (place != 0 || field != 4)
-}
-
 /// Empties the field by which a box was shown, so that nothing stays for it.
 fn forget(heap: &CellHeap<Rule>, seat: &mut MutSeat<Rule>, place: usize, field: usize)
     requires mine { IsMine heap.now seat.old }
     ensures mine { IsMine heap.now seat.new }
+    ensures keeps { KeepsPlaces (bound heap.now seat.old) (bound heap.now seat.new) }
 {
     if seat.is_in() && place < seat.held_len() && field < FIELDS && 1 <= seat.room() {
         let _emptied = writing::write(heap, seat, place, field, Value::Null);
@@ -61,6 +51,7 @@ pub(crate) fn begin(
 ) -> Code
     requires mine { IsMine heap.now seat.old }
     ensures mine { IsMine heap.now seat.new }
+    ensures begun { ComesIn (bound heap.now seat.old) (bound heap.now seat.new) result }
 {
     if seat.is_in() {
         return Code::IsIn;
@@ -70,8 +61,15 @@ pub(crate) fn begin(
         coming::end(heap, seat);
         return Code::NoRoom;
     }
-    match claim(heap, seat, sharing, wait) {
-        Ok(place) => begin_with(heap, seat, place),
+    let control = look(heap, seat);
+    match claim(heap, seat, control, sharing, wait) {
+        Ok(place) => {
+            if begin_with(heap, seat, place) {
+                Code::Ok
+            } else {
+                Code::Wait
+            }
+        }
         Err(code) => {
             coming::end(heap, seat);
             code
@@ -79,20 +77,21 @@ pub(crate) fn begin(
     }
 }
 
-/// Makes the scratch box of the cell that was claimed, or goes out again.
-fn begin_with(heap: &CellHeap<Rule>, seat: &mut MutSeat<Rule>, place: usize) -> Code
+/// Makes the scratch box of the cell that was claimed: whether it did. If not it goes out again.
+fn begin_with(heap: &CellHeap<Rule>, seat: &mut MutSeat<Rule>, place: usize) -> bool
     requires seat { IsBound heap.now seat.old }
     requires raw { HoldsRaw (bound heap.now seat.old) place }
     requires room { length seat.old.me.own.held < seat.old.me.room }
     requires five { seat.old.me.pass.boxes ≡ 5 }
     ensures mine { IsMine heap.now seat.new }
+    ensures begun { HasBegun (bound heap.now seat.old) (bound heap.now seat.new) result }
 {
     if making::make_scratch(heap, seat, place) {
         forget(heap, seat, ANCHOR, OWN_FIELD);
-        Code::Ok
+        true
     } else {
         coming::end(heap, seat);
-        Code::Wait
+        false
     }
 }
 
@@ -101,6 +100,7 @@ pub(crate) fn end(heap: &CellHeap<Rule>, seat: &mut MutSeat<Rule>) -> Code
     requires mine { IsMine heap.now seat.old }
     ensures mine { IsMine heap.now seat.new }
     ensures answer { result ≡ (if seat.old.me.presence.inside then code.Ok else code.NotIn) }
+    ensures ended { GoesOut (bound heap.now seat.old) (bound heap.now seat.new) result }
 {
     if !seat.is_in() {
         return Code::NotIn;
@@ -114,12 +114,44 @@ pub(crate) fn answer(heap: &CellHeap<Rule>, seat: &mut MutSeat<Rule>) -> Code
     requires mine { IsMine heap.now seat.old }
     ensures mine { IsMine heap.now seat.new }
     ensures answer { result ≡ (if seat.old.me.presence.inside then code.Ok else code.NotIn) }
+    ensures answered { ReachesSafePoint (bound heap.now seat.old) (bound heap.now seat.new) result }
 {
     if !seat.is_in() {
         return Code::NotIn;
     }
-    let _was_asked = placing::answer(heap, seat);
+    answer_and_forget(heap, seat);
     Code::Ok
+}
+
+/// Answers a handshake, if one is asked for, and lets go of the box that was shown last then: once
+/// a cycle is often enough.
+fn answer_and_forget(heap: &CellHeap<Rule>, seat: &mut MutSeat<Rule>)
+    requires mine { IsMine heap.now seat.old }
+    requires inside { seat.old.me.presence.inside ≡ true }
+    ensures mine { IsMine heap.now seat.new }
+    ensures answered { AnswersFirst (bound heap.now seat.old) (bound heap.now seat.new) }
+    ensures keeps { KeepsPlaces (bound heap.now seat.old) (bound heap.now seat.new) }
+{
+    if placing::answer(heap, seat) {
+        forget(heap, seat, SCRATCH, SHOWN_BY);
+    }
+}
+
+/// Looks before a cell is claimed, and answers the handshake that is asked for.
+fn look_or_answer(heap: &CellHeap<Rule>, seat: &mut MutSeat<Rule>) -> Control
+    requires mine { IsMine heap.now seat.old }
+    requires inside { seat.old.me.presence.inside ≡ true }
+    ensures mine { IsMine heap.now seat.new }
+    ensures mode { HasMode (bound heap.now seat.new) }
+    ensures keeps { KeepsPlaces (bound heap.now seat.old) (bound heap.now seat.new) }
+    ensures few { result.cycles ≤ 4000000000 }
+{
+    let control = look(heap, seat);
+    if requested(control.stage) != next_status(seat.status()) {
+        return control;
+    }
+    answer_and_forget(heap, seat);
+    look(heap, seat)
 }
 
 /// Keeps the first n places, and behind them so many from a place on.
@@ -132,6 +164,8 @@ pub(crate) fn keep(
 ) -> Code
     requires mine { IsMine heap.now seat.old }
     ensures mine { IsMine heap.now seat.new }
+    ensures kept { KeepsChosen (bound heap.now seat.old) (bound heap.now seat.new) n place count
+        result }
 {
     if !seat.is_in() {
         return Code::NotIn;
@@ -156,7 +190,7 @@ pub(crate) fn keep(
     Code::Ok
 }
 
-/// Makes a box with these fields, and answers the handshake before.
+/// Makes a box with these fields. A handshake that is asked for is answered first.
 pub(crate) fn make(
     heap: &CellHeap<Rule>,
     seat: &mut MutSeat<Rule>,
@@ -166,11 +200,11 @@ pub(crate) fn make(
 ) -> Result<usize, Code>
     requires mine { IsMine heap.now seat.old }
     ensures mine { IsMine heap.now seat.new }
+    ensures made { MakesCell (bound heap.now seat.old) (bound heap.now seat.new) vals.now result }
 {
     if !seat.is_in() {
         return Err(Code::NotIn);
     }
-    let _was_asked = placing::answer(heap, seat);
     if FIELDS < vals.len() {
         return Err(Code::BadSize);
     }
@@ -180,147 +214,11 @@ pub(crate) fn make(
     let Some(fields) = values_of(vals, seat.held_len()) else {
         return Err(Code::BadValue);
     };
-    let place = claim(heap, seat, sharing, wait)?;
+    let control = look_or_answer(heap, seat);
+    let place = claim(heap, seat, control, sharing, wait)?;
     if making::make(heap, seat, place, fields) {
-        forget(heap, seat, SCRATCH, SHOWN_BY);
         Ok(place)
     } else {
         Err(Code::Wait)
     }
-}
-
-/// Reads one field.
-pub(crate) fn read(
-    heap: &CellHeap<Rule>,
-    seat: &mut MutSeat<Rule>,
-    place: usize,
-    field: usize,
-) -> Result<Value, Code>
-    requires mine { IsMine heap.now seat.old }
-    ensures mine { IsMine heap.now seat.new }
-{
-    if !seat.is_in() {
-        return Err(Code::NotIn);
-    }
-    if !is_place(place, seat.held_len()) {
-        return Err(Code::BadPlace);
-    }
-    if !is_field(place, field) {
-        return Err(Code::BadField);
-    }
-    if seat.room() < 1 {
-        return Err(Code::NoRoom);
-    }
-    Ok(reading::read(heap, seat, place, field))
-}
-
-/// Reads all five.
-pub(crate) fn read_all(
-    heap: &CellHeap<Rule>,
-    seat: &mut MutSeat<Rule>,
-    place: usize,
-    five: usize,
-) -> Result<[Value; 5], Code>
-    requires mine { IsMine heap.now seat.old }
-    ensures mine { IsMine heap.now seat.new }
-{
-    if !seat.is_in() {
-        return Err(Code::NotIn);
-    }
-    if place < FIRST || seat.held_len() <= place {
-        return Err(Code::BadPlace);
-    }
-    if five != FIELDS {
-        return Err(Code::BadSize);
-    }
-    if seat.room() < FIELDS {
-        return Err(Code::NoRoom);
-    }
-    Ok(reading::read_all(heap, seat, place))
-}
-
-/// Stores a value in a field, whatever stands there.
-pub(crate) fn write(
-    heap: &CellHeap<Rule>,
-    seat: &mut MutSeat<Rule>,
-    place: usize,
-    field: usize,
-    val: HeapVal,
-) -> Code
-    requires mine { IsMine heap.now seat.old }
-    ensures mine { IsMine heap.now seat.new }
-{
-    if !seat.is_in() {
-        return Code::NotIn;
-    }
-    if !is_place(place, seat.held_len()) {
-        return Code::BadPlace;
-    }
-    if !is_field(place, field) {
-        return Code::BadField;
-    }
-    if seat.room() < 1 {
-        return Code::NoRoom;
-    }
-    let Some(value) = value_of(val, seat.held_len()) else {
-        return Code::BadValue;
-    };
-    if writing::write(heap, seat, place, field, value) {
-        Code::Ok
-    } else {
-        Code::Moved
-    }
-}
-
-/// Exchanges what a field holds, if it is as expected.
-pub(crate) fn swap(
-    heap: &CellHeap<Rule>,
-    seat: &mut MutSeat<Rule>,
-    place: usize,
-    field: usize,
-    was: HeapVal,
-    now: HeapVal,
-) -> Code
-    requires mine { IsMine heap.now seat.old }
-    ensures mine { IsMine heap.now seat.new }
-{
-    if !seat.is_in() {
-        return Code::NotIn;
-    }
-    if !is_place(place, seat.held_len()) {
-        return Code::BadPlace;
-    }
-    if !is_field(place, field) {
-        return Code::BadField;
-    }
-    let Some(expected) = value_of(was, seat.held_len()) else {
-        return Code::BadValue;
-    };
-    let Some(value) = value_of(now, seat.held_len()) else {
-        return Code::BadValue;
-    };
-    if writing::swap(heap, seat, place, field, expected, value) {
-        Code::Ok
-    } else {
-        Code::Moved
-    }
-}
-
-/// Whether two places hold one cell.
-pub(crate) fn is_same(
-    heap: &CellHeap<Rule>,
-    seat: &mut MutSeat<Rule>,
-    one: usize,
-    other: usize,
-) -> Result<bool, Code>
-    requires mine { IsMine heap.now seat.old }
-    ensures mine { IsMine heap.now seat.new }
-{
-    if !seat.is_in() {
-        return Err(Code::NotIn);
-    }
-    if !is_place(one, seat.held_len()) || !is_place(other, seat.held_len()) {
-        return Err(Code::BadPlace);
-    }
-    Ok(placing::is_same(heap, seat, one, other))
 }

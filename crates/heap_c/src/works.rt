@@ -7,7 +7,7 @@ ghost use Rattle.core_machine.specs.State.{greatest_cycles};
 ghost use Rattle.heap_c.specs.Keeping.{IsWorked, collector_of};
 
 use crate::rule::Rule;
-use crate::sharing::Sharing;
+use crate::sharing::{Sharing, Unnoted};
 use cell_heap::{CellHeap, ColSeat};
 use collector::{Collector, CycleReport, MarkStack, Step, Went};
 use std::marker::Model;
@@ -35,7 +35,7 @@ impl Model for Works {
     ghost view = { λ w. record { seat = w.seat; stack = w.stack; heard = w.heard } };
 }
 
-/// What the moves came to since the opening.
+/// What the moves came to since the opening, and the freed cells that are not noted yet.
 #[derive(Clone, Copy, Drop)]
 pub(crate) struct Counts {
     pub(crate) passes: u64,
@@ -43,6 +43,7 @@ pub(crate) struct Counts {
     pub(crate) freed: u64,
     pub(crate) stacked: u64,
     pub(crate) spilled: u64,
+    pub(crate) unnoted: Unnoted,
 }
 
 impl Counts {
@@ -70,7 +71,7 @@ pub(crate) enum How {
 fn noted(sharing: &Sharing, counts: &mut Counts, step: Step) -> How {
     counts.add(step.came);
     if let Some(cell) = step.freed {
-        sharing.note_free(cell);
+        sharing.add_freed(cell, &mut counts.unnoted);
     }
     match step.went {
         Went::More => How::More,
@@ -138,6 +139,7 @@ pub(crate) fn work(
     } = works;
     let mut collector = Collector::resume(heap, seat, stack);
     let how = moves_on(&mut collector, &mut heard, sharing, counts, moves);
+    sharing.note(&mut counts.unnoted);
     let (seat, stack) = collector.into_parts();
     (Works { seat, stack, heard }, how)
 }

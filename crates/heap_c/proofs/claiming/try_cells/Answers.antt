@@ -1,8 +1,8 @@
-use Rattle.std.proofs.Common.{ℕ, ◌+◌, ◌∙◌, ap, arith}
-use Rattle.heap_rule.specs.Shape.{Shape}
+use Rattle.std.proofs.Common.{ℕ, ◌+◌, ◌∙◌, ap}
 use Rattle.mutator_seat.specs.Bound.{bound}
 use Rattle.sorted_boxes.proofs.Again.{keeps_none, keeps_then, many_again, room_again}
-use Rattle.heap_c.proofs.claiming.try_span.Goals as goal
+use Rattle.heap_c.proofs.Claims.{one_after}
+use Rattle.heap_c.proofs.claiming.try_cells.Goals as goal
 
 pub loop-cell-init : goal.loop-cell-init
 loop-cell-init c = (
@@ -41,9 +41,11 @@ returns-in-Some c =
       got = c.in-Some.ensures.got;
       place = c.in-Some.ensures.place ∙ many_again was now kept.3;
       longer = c.in-Some.ensures.longer ∙ ap (λ (n : ℕ). n + 1) (many_again was now kept.3);
+      cells = one_after was now (bound c.args.heap.now c.try_cell.new.seat) c.loop-cell.cell kept.3
+          c.in-Some.ensures.cells;
       pass = c.try_cell.ensures.pass ∙ kept.3.pass;
       room = c.try_cell.ensures.room ∙ kept.3.goes.room;
-      opened = tt;
+      none = tt;
     }
 
 pub returns : goal.returns
@@ -54,7 +56,8 @@ returns c =
       got = tt;
       place = tt;
       longer = tt;
+      cells = tt;
       pass = kept.3.pass;
       room = kept.3.goes.room;
-      opened = kept.2;
+      none = record { mode = kept.1; opened = kept.2; keeps = kept.3 };
     }

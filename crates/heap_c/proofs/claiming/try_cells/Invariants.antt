@@ -3,7 +3,7 @@ use Rattle.mutator_seat.specs.Bound.{IsBound, bound}
 use Rattle.mutator_seat.specs.Claims.{HasMode}
 use Rattle.sorted_boxes.specs.Calls.{KeepsPlaces}
 use Rattle.sorted_boxes.specs.Holding.{HoldsAtLeast}
-use Rattle.heap_c.proofs.claiming.try_span.Given as goal
+use Rattle.heap_c.proofs.claiming.try_cells.Given as goal
 
 abbrev pub invariant-loop-cell : goal.invariant-loop-cell
 invariant-loop-cell l =

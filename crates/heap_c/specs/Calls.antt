@@ -1,0 +1,128 @@
+-- What a mutator's calls answer, code by code, and what they leave of the mutator. Where a test
+-- refuses a call the mutator is as it was.
+-- Source: this project's.
+use Rattle.std.specs.Prelude.{ℕ, ◌≡◌, ◌≤◌, ◌+◌, ◌==◌, false, true, Bool}
+use Rattle.std.specs.Prelude.{List, Ok, Err}
+use Rattle.std.specs.declared.result.Result.{Result}
+use Rattle.cell_words.specs.declared.fields.Field.{Field}
+use Rattle.core_machine.specs.Words.{same_field}
+use Rattle.heap_rule.specs.Asks.{target}
+use Rattle.heap_rule.specs.NoRule.{no_field_is_fixed}
+use Rattle.heap_rule.specs.Steps.{same_pass}
+use Rattle.mutator_events.specs.declared.values.Value.{Value}
+use Rattle.mutator_events.specs.Values.{field_at}
+use Rattle.mutator_seat.specs.Bound.{Bound, held_cells}
+use Rattle.mutator_seat.specs.Stretches.{Calm, LookAndAnswer}
+use Rattle.mutator_seat.specs.Writes.{Updated}
+use Rattle.sorted_boxes.specs.Calls.{AllRefused, Gave, GaveAll, KeepsPlaces, Made, Narrows, Wrote}
+use Rattle.sorted_boxes.specs.Holding.{HoldsOpen, HoldsRaw, scratch, shown_by}
+use Rattle.sorted_rule.specs.Sorted.{HoldsSorted}
+use Rattle.sorted_rule.specs.declared.sorting.Sorting.{Sorting}
+use Rattle.heap_c.specs.declared.codes.Code.{Code}
+use Rattle.heap_c.specs.declared.codes.Code.TheVariants as code
+use Rattle.heap_c.specs.declared.values.HeapVal.{HeapVal}
+use Rattle.heap_c.specs.Claiming.{HoldsOneMore}
+use Rattle.heap_c.specs.Refusing.{AreMeant, IsField, IsOut, IsPlace, Means, NotCompared, NotKept}
+use Rattle.heap_c.specs.Refusing.{NotMade, NotRead, NotReadAll, NotSwapped, NotWritten, held_of}
+
+abbrev pub IsIn : Bound Sorting → Type 0
+IsIn m = m.seat.me.presence.inside ≡ true
+
+abbrev pub HasRoom : Bound Sorting → ℕ → Type 0
+HasRoom m places = held_of m + places ≤ m.seat.me.room
+
+-- it is in, and the place and the field are C's
+abbrev pub MayReach : Bound Sorting → (place f : ℕ) → Type 0
+MayReach m place f = IsIn m × (IsPlace (held_of m) place × IsField place f)
+
+-- the same cells at the same places, and the same room
+abbrev pub HoldsTheSame : Bound Sorting → Bound Sorting → Type 0
+HoldsTheSame old new =
+    (held_cells new ≡ held_cells old) × (new.seat.me.room ≡ old.seat.me.room)
+
+module _ (old new : Bound Sorting) where
+  -- Coming in: it holds the anchor and the library's box.
+  abbrev pub ComesIn : Code → Type 0
+  ComesIn code.Ok = IsOut old × (HoldsOpen new.seat.me
+      × ((held_of new ≡ 2) × (new.seat.me.room ≡ old.seat.me.room)))
+  ComesIn code.IsIn = IsIn old × (new ≡ old)
+  ComesIn code.NoRoom = IsOut old × (IsOut new × (new.seat.me.room ≡ old.seat.me.room))
+  ComesIn code.Wait = IsOut old × (IsOut new × (new.seat.me.room ≡ old.seat.me.room))
+  ComesIn code.Full = IsOut old × (IsOut new × (new.seat.me.room ≡ old.seat.me.room))
+  ComesIn _ = ⊥
+
+  -- The second half of it, with the cell that was claimed: whether it came in.
+  abbrev pub HasBegun : Bool → Type 0
+  HasBegun true = HoldsOpen new.seat.me
+      × ((held_of new ≡ held_of old) × (new.seat.me.room ≡ old.seat.me.room))
+  HasBegun false = IsOut new × (new.seat.me.room ≡ old.seat.me.room)
+
+  -- Going out.
+  abbrev pub GoesOut : Code → Type 0
+  GoesOut code.Ok = IsIn old × (IsOut new × (new.seat.me.room ≡ old.seat.me.room))
+  GoesOut code.NotIn = IsOut old × (new ≡ old)
+  GoesOut _ = ⊥
+
+  -- The safe point: one look, and the answer exactly where this asked for one. What follows an
+  -- answer keeps all places.
+  abbrev pub AnswersFirst : Type 0
+  AnswersFirst = (asked : Bool) × ((between : Bound Sorting)
+      × (Calm (LookAndAnswer old.seat.me.number old.seat.me.presence.status asked) old between
+      × KeepsPlaces between new))
+
+  abbrev pub ReachesSafePoint : Code → Type 0
+  ReachesSafePoint code.Ok = IsIn old × AnswersFirst
+  ReachesSafePoint code.NotIn = IsOut old × (new ≡ old)
+  ReachesSafePoint _ = ⊥
+
+  abbrev pub KeepsChosen : (n place count : ℕ) → Code → Type 0
+  KeepsChosen n place count code.Ok = IsIn old × Narrows n place count old new
+  KeepsChosen n place count c = NotKept old n place count c × (new ≡ old)
+
+  -- One load of the field gave the value.
+  abbrev pub ReadsField : (place f : ℕ) → Result Value Code → Type 0
+  ReadsField place f (Ok value) = MayReach old place f × Gave old place f value new
+  ReadsField place f (Err c) = NotRead old place f c × (new ≡ old)
+
+  -- Five loads, one after the other.
+  abbrev pub ReadsAllFields : (place five : ℕ) → Result (List Value) Code → Type 0
+  ReadsAllFields place five (Ok given) = MayReach old place 0 × GaveAll old place given new
+  ReadsAllFields place five (Err c) = NotReadAll old place five c × (new ≡ old)
+
+  -- One store, or one exchange for what was read just before; or each try was refused, since another
+  -- thread wrote the field.
+  abbrev pub WritesField : (place f : ℕ) → HeapVal → Code → Type 0
+  WritesField place f val code.Ok = MayReach old place f × ((value : Value)
+      × (Means (held_of old) val value × Wrote place f value old new))
+  WritesField place f val code.Moved = MayReach old place f × ((value : Value)
+      × (Means (held_of old) val value × AllRefused place f value old new))
+  WritesField place f val c = NotWritten old place f val c × (new ≡ old)
+
+  -- One exchange, which found this.
+  abbrev pub Exchanges : (place f : ℕ) → (was now : HeapVal) → (Value → Field → Type 0) → Type 0
+  Exchanges place f was now Found = MayReach old place f × ((expected value : Value)
+      × (Means (held_of old) was expected × (Means (held_of old) now value × ((found : Field)
+      × (Found expected found × Updated HoldsSorted no_field_is_fixed same_pass old place f expected
+      value found new)))))
+
+  -- What the exchange found is what was expected, or something else.
+  abbrev pub SwapsField : (place f : ℕ) → (was now : HeapVal) → Code → Type 0
+  SwapsField place f was now code.Ok = Exchanges place f was now
+      (λ expected found. found ≡ field_at old.seat.me.own.held expected)
+  SwapsField place f was now code.Moved = Exchanges place f was now
+      (λ expected found. same_field found (field_at old.seat.me.own.held expected) ≡ false)
+  SwapsField place f was now c = NotSwapped old place f was now c × (new ≡ old)
+
+  abbrev pub ComparesPlaces : (one other : ℕ) → Result Bool Code → Type 0
+  ComparesPlaces one other (Ok same) = IsIn old
+      × ((same ≡ (target old.seat.me one == target old.seat.me other)) × KeepsPlaces old new)
+  ComparesPlaces one other (Err c) = NotCompared old one other c × (new ≡ old)
+
+  -- A box of these fields was made of a cell that was claimed, and shown; or no cell was found.
+  abbrev pub MakesCell : List HeapVal → Result ℕ Code → Type 0
+  MakesCell vals (Ok place) = IsIn old × ((place ≡ held_of old) × ((HoldsOneMore old new × (new.seat.me.room ≡ old.seat.me.room))
+      × ((given : List Value) × (AreMeant (held_of old) vals given × ((raw : Bound Sorting)
+      × (HoldsRaw raw place × Made scratch shown_by place given raw new))))))
+  MakesCell vals (Err code.Wait) = IsIn old × HoldsTheSame old new
+  MakesCell vals (Err code.Full) = IsIn old × HoldsTheSame old new
+  MakesCell vals (Err c) = NotMade old vals c × (new ≡ old)
