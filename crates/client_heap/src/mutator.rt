@@ -1,7 +1,7 @@
 //! A mutator of documents is such a seat, with hints of any queue.
 //!
-//! The first impl has the clauses of its trait. The second repeats them: the toolchain gives none to
-//! a method of a trait whose argument names a lifetime.
+//! The first impl has the clauses of its trait. The second repeats them: the toolchain gives none
+//! to a method of a trait whose argument names a lifetime.
 ghost use Rattle.std.specs.Prelude.{◌≡◌, ◌<◌, ◌≤◌, ◌+◌, IfOk, OnErr};
 ghost use Rattle.std.specs.Prelude.{OnOk, Err, IfSome, IsNone, None, Ok, length, max, true};
 ghost use Rattle.client_heap.specs.Carries.{Carries, Follows};
