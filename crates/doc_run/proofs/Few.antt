@@ -1,13 +1,13 @@
 -- Of few files the scripts beside whose run a version is dumped are those of a run without.
 use Rattle.std.proofs.Common.{◌≡◌, ◌∙◌, ℕ, ◌<◌, ◌≤◌, List, Option, Result, Ok, Err}
-use Rattle.std.proofs.Common.{◌+◌, ◌*◌, length, map, refl, sym, subst, arith}
+use Rattle.std.proofs.Common.{length, map, refl, arith}
 use Rattle.std.specs.Borrow.{Bor}
 use Rattle.std.proofs.lemmas.Bool.{le-ltb, lt-ltb}
 use Rattle.cmd_text.specs.declared.form.Form.{Form}
 use Rattle.doc_model.specs.declared.command.Command.{Command}
 use Rattle.script_files.proofs.Files.{some_told, told_length, told_names}
 use Rattle.script_files.proofs.Sorting.{refused_as}
-use Rattle.script_files.specs.Files.{OpensInTurn, files_read}
+use Rattle.script_files.specs.Files.{files_read}
 use Rattle.script_files.specs.Formed.{AreRead}
 use Rattle.script_files.specs.Scripts.{AreScripts, scripts_of}
 use Rattle.script_files.specs.Sorts.{OfScripts, Refused, sort_of}
@@ -65,24 +65,8 @@ many_scripts holds names many =
     (some.0, some.1, rw (lt-ltb 63 (length some.0) more) refl)
 
 -- how many of them are opened
-same_read : (n : ℕ) → n ≤ 63 → files_read n ≡ few_read n
+pub same_read : (n : ℕ) → n ≤ 63 → files_read n ≡ few_read n
 same_read n short = rw (le-ltb 63 n short, le-ltb 64 n (omega (arith, short))) refl
 
-pub few_opened : (before now n : ℕ) → n ≤ 63 → OpensInTurn before now (files_read n)
-    → OpensInTurn before now (few_read n)
-few_opened before now n short is = subst (OpensInTurn before now) (same_read n short) is
-
-pub few_called : (before now n most : ℕ) → n ≤ 63 → now ≤ before + files_read n * most
-    → now ≤ before + few_read n * most
-few_called before now n most short is =
-    subst (λ m. now ≤ before + m * most) (same_read n short) is
-
-none_read : (n : ℕ) → 63 < n → few_read n ≡ 0
+pub none_read : (n : ℕ) → 63 < n → few_read n ≡ 0
 none_read n many = rw (lt-ltb 63 n many) refl
-
-pub none_opened : (before n : ℕ) → 63 < n → OpensInTurn before before (few_read n)
-none_opened before n many =
-    subst (OpensInTurn before before) (sym (none_read n many))
-    (0, omega arith, (λ some. omega (arith, some)), refl)
-
-pub ruleset few = (none_opened)

@@ -1,29 +1,18 @@
 -- A run of clients beside which a version is dumped: its status is that which the scripts of the
 -- files and the tree of the version call for.
 use Rattle.std.proofs.Common.{◌≡◌, ◌∙◌, ℕ, List, Option, None, Some, Result, Ok, Err}
-use Rattle.std.proofs.Common.{map, OnOk, OnErr, inl, inr, refl, sym, ap, subst, rules, arith}
+use Rattle.std.proofs.Common.{OnOk, inl, inr, refl, sym, ap, subst, rules, arith}
 use Rattle.std.specs.Prelude.{◌⊎◌, IsNone, IsSomeAnd, Vec}
 use Rattle.std.specs.declared.alloc.Global.{Global}
-use Rattle.std.specs.Io.KnownBytes.{Appends}
 use Rattle.doc_export.specs.declared.dumped.Dumped.{Dumped}
 use Rattle.doc_model.specs.declared.command.Command.{Command}
-use Rattle.outside.specs.Pieces.{AppendsPart}
-use Rattle.outside.specs.declared.fault.OutFault.{OutFault}
-use Rattle.outside.specs.declared.fault.OutFault.TheVariants.{Failed, NoMemory}
-use Rattle.run_words.specs.Requests.{Asked, Dump}
-use Rattle.script_files.specs.Fault.{status_by, status_of}
+use Rattle.script_files.specs.Fault.{status_by}
 use Rattle.script_files.specs.Sorts.{OfScripts, Refused, Sort, sort_of}
 use Rattle.script_files.specs.Sorts.{OfWords, OfLine, OfReading, OfWriting, OfMemory, OfSize}
 use Rattle.script_files.specs.declared.fault.Fault.{Fault}
 use Rattle.script_files.specs.declared.fault.Fault.TheVariants.{TooLarge}
-use Rattle.doc_run.specs.Faults.{BySort}
-use Rattle.doc_run.specs.Guested.{AreFewScripts, DecidesDump, ExplainsDump, FinishesDump}
-use Rattle.doc_run.specs.Guested.{IsDumpRunGiven}
-use Rattle.doc_run.specs.Guested.{IsDumpDue, IsDumpDueFor, IsDumpText, IsTooLarge, WritesDump}
-use Rattle.doc_run.specs.Guested.{WritesDumpPart}
-use Rattle.doc_run.specs.Request.{IfDump}
-use Rattle.doc_run.specs.Texts.{WritesFront}
-use Rattle.doc_run.specs.Written.{fault_by, kept_dump}
+use Rattle.doc_run.specs.Guested.{AreFewScripts, DecidesDump, FinishesDump, IsDumpDue}
+use Rattle.doc_run.specs.Guested.{IsDumpDueFor, IsDumpRunGiven, IsDumpText, IsTooLarge}
 
 -- Of the version.
 
@@ -36,13 +25,10 @@ some_none : {X : Type 0} (P : X → Type 0) (found : Option X) → IsSomeAnd fou
 some_none P None is none = is
 some_none P (Some x) is none = cc
 
--- what was written of it shows that it is not too large
-small : (Q : List ℕ → Type 0) (dumped : Option Dumped)
-    → IsSomeAnd dumped (λ d. (text : List ℕ) × IsDumpText d text × Q text)
-    → IsTooLarge dumped → ⊥
-small Q None is big = is
-small Q (Some d) is big =
-    some_none (λ (bytes : Vec ℕ Global). is.0 ≡ bytes.items) d.bytes is.1 big
+-- its dump shows that it is not too large
+has_bytes : (d : Dumped) (text : List ℕ) → IsDumpText d text → IsNone d.bytes → ⊥
+has_bytes d text is none =
+    some_none (λ (bytes : Vec ℕ Global). text ≡ bytes.items) d.bytes is none
 
 pub none_small : (dumped : Option Dumped) → IsNone dumped → IsTooLarge dumped → ⊥
 none_small None none big = big
@@ -129,13 +115,13 @@ pub beside_wanting : (told : List (Option (List ℕ))) (dumped : Option Dumped) 
     → status ≡ 5 → IsDumpDueFor told dumped status
 beside_wanting told dumped status is scripts decided = wanting_due scripts dumped status is
 
--- the run came to an end
-ended : (told : List (Option (List ℕ))) (dumped : Option Dumped) (status : ℕ)
-    → (status ≡ 0) ⊎ (status ≡ 4) → IsSomeAnd dumped (IsDumpRunGiven told) → (IsTooLarge dumped → ⊥)
-    → IsDumpDueFor told dumped status
-ended told None status ends is fits = absurd is
-ended told (Some d) status ends is fits =
-    due_by told (Ok is.0) (Some d) status is.1 (ended_due is.0 (Some d) status ends fits)
+-- the run came to an end, with this dump
+pub dump_answered : (told : List (Option (List ℕ))) (d : Dumped) (text : List ℕ) (status : ℕ)
+    → (status ≡ 0) ⊎ (status ≡ 4) → IsDumpRunGiven told d → IsDumpText d text
+    → IsDumpDueFor told (Some d) status
+dump_answered told d text status ends is said =
+    due_by told (Ok is.0) (Some d) status is.1
+    (ended_due is.0 (Some d) status ends (λ big. has_bytes d text said big))
 
 -- with too large a tree
 many : (told : List (Option (List ℕ))) (dumped : Option Dumped)
@@ -144,62 +130,36 @@ many told None is = absurd is
 many told (Some d) is =
     due_by told (Ok is.0.0) (Some d) 6 is.0.1 (many_due is.0.0 (Some d) is.1)
 
-due_sort : (told : List (Option (List ℕ))) (fault : Fault) (dumped : Option Dumped) (sort : Sort)
-    (old new : Option (List ℕ)) → sort_of fault ≡ sort
-    → BySort sort
-    ((Refused OfScripts sort (AreFewScripts told (Err fault)) (Unit {0}) × IsNone dumped)
-    ⊎ ((fault ≡ TooLarge 0) × IsSomeAnd dumped (λ d. IsDumpRunGiven told d × IsNone d.bytes)))
-    (IsSomeAnd dumped (IsDumpRunGiven told)) (IsNone dumped)
-    → BySort sort (new ≡ old) (IsSomeAnd dumped (λ d. WritesFront (IsDumpText d) old new))
-    (WritesDumpPart told old new)
+refused_sort : (told : List (Option (List ℕ))) (fault : Fault) (dumped : Option Dumped)
+    (sort : Sort) → sort_of fault ≡ sort
+    → Refused OfScripts sort (AreFewScripts told (Err fault)) (Unit {0}) → IsNone dumped
     → IsDumpDueFor told dumped (status_by sort)
-due_sort told fault dumped OfWords old new same is written = elim is [
-  | inl refused ↦ absurd refused.0
-  | inr large ↦
-      let size : sort_of fault ≡ OfSize =
-      subst (λ (f : Fault). sort_of f ≡ OfSize) (sym large.0) refl in
-      absurd (cc)
-]
-due_sort told fault dumped (OfLine grammar) old new same is written = elim is [
-  | inl refused ↦
-      due_by told (Err fault) dumped 2 refused.0.1
-      (faulty_due fault dumped (same ∙ ap OfLine refused.0.0) refused.1)
-  | inr large ↦
-      let size : sort_of fault ≡ OfSize =
-      subst (λ (f : Fault). sort_of f ≡ OfSize) (sym large.0) refl in
-      absurd (cc)
-]
-due_sort told fault dumped OfReading old new same is written =
+refused_sort told fault dumped OfWords same is none = absurd is
+refused_sort told fault dumped (OfLine grammar) same is none =
+    due_by told (Err fault) dumped 2 is.1
+    (faulty_due fault dumped (same ∙ ap OfLine is.0) none)
+refused_sort told fault dumped OfReading same is none =
     λ scripts decided. unread_due scripts dumped
-due_sort told fault dumped OfWriting old new same is written =
-    ended told dumped 4 (inr refl) is (small (λ text. AppendsPart old new text) dumped written)
-due_sort told fault dumped OfMemory old new same is written =
+refused_sort told fault dumped OfWriting same is none = absurd is
+refused_sort told fault dumped OfMemory same is none =
     λ scripts decided. wanting_due scripts dumped 5 refl
-due_sort told fault dumped OfSize old new same is written = elim is [
-  | inl refused ↦ due_by told (Err fault) dumped 6 refused.0 (large_due fault dumped same)
-  | inr large ↦ many told dumped large.1
+refused_sort told fault dumped OfSize same is none =
+    due_by told (Err fault) dumped 6 is (large_due fault dumped same)
+
+-- it was refused, before it or after it
+pub dump_refused : (told : List (Option (List ℕ))) (dumped : Option Dumped) (fault : Fault)
+    → (Refused OfScripts (sort_of fault) (AreFewScripts told (Err fault)) (Unit {0})
+    × IsNone dumped)
+    ⊎ ((fault ≡ TooLarge 0) × IsSomeAnd dumped (λ d. IsDumpRunGiven told d × IsNone d.bytes))
+    → IsDumpDueFor told dumped (status_by (sort_of fault))
+dump_refused told dumped fault is = elim is [
+  | inl refused ↦ refused_sort told fault dumped (sort_of fault) refl refused.0 refused.1
+  | inr large ↦
+      subst (λ (f : Fault). IsDumpDueFor told dumped (status_by (sort_of f))) (sym large.0)
+      (many told dumped large.1)
 ]
 
-dump_due : (told : List (Option (List ℕ))) (fault : Option Fault) (dumped : Option Dumped)
-    (old new : Option (List ℕ)) → ExplainsDump told fault dumped
-    → WritesDump told old new fault dumped → IsDumpDueFor told dumped (status_of fault)
-dump_due told None dumped old new is written =
-    ended told dumped 0 (inl refl) is (small (λ text. Appends old new text) dumped written)
-dump_due told (Some fault) dumped old new is written =
-    due_sort told fault dumped (sort_of fault) old new refl is written
-
-pub dump_asked : (asked : Option Asked) (names : List (List ℕ)) (holds : List ℕ → Option (List ℕ))
-    (fault : Option Fault) (dumped : Option Dumped) (status : ℕ) (old new : Option (List ℕ))
-    → asked ≡ Some (Dump names) → status ≡ status_of fault
-    → ExplainsDump (map holds names) fault dumped
-    → WritesDump (map holds names) old new fault dumped
-    → IfDump asked (λ these. IsDumpDueFor (map holds these) dumped status)
-dump_asked asked names holds fault dumped status old new is by explained written =
-    subst (λ a. IfDump a (λ these. IsDumpDueFor (map holds these) dumped status)) (sym is)
-    (subst (λ (s : ℕ). IsDumpDueFor (map holds names) dumped s) (sym by)
-    (dump_due (map holds names) fault dumped old new explained written))
-
--- The dump was offered to a sink.
+-- What the run comes to.
 
 pub decided : (told : List (Option (List ℕ))) (scripts : List (List Command))
     (r : Result Dumped Fault) → AreFewScripts told (Ok scripts) → FinishesDump scripts r
@@ -207,46 +167,6 @@ pub decided : (told : List (Option (List ℕ))) (scripts : List (List Command))
 decided told scripts (Ok d) given comes = (scripts, given, comes)
 decided told scripts (Err fault) given wants =
     subst (λ (x : Fault). DecidesDump told (Err x)) (sym wants) tt
-
-offered : (told : List (Option (List ℕ))) (d : Dumped) (wrote : Result (Unit {0}) OutFault)
-    → IsDumpRunGiven told d → ExplainsDump told (fault_by wrote) (kept_dump wrote d)
-offered told d (Ok taken) comes = comes
-offered told d (Err Failed) comes = comes
-offered told d (Err NoMemory) comes = refl
-
-pub by_offered : (told : List (Option (List ℕ))) (d : Dumped) (wrote : Result (Unit {0}) OutFault)
-    (fault : Option Fault) (dumped : Option Dumped) → fault ≡ fault_by wrote
-    → dumped ≡ kept_dump wrote d → IsDumpRunGiven told d → ExplainsDump told fault dumped
-by_offered told d wrote fault dumped is kept comes =
-    subst (λ e. ExplainsDump told e dumped) (sym is)
-    (subst (λ o. ExplainsDump told (fault_by wrote) o) (sym kept) (offered told d wrote comes))
-
-some_bytes : (found : Option (Vec ℕ Global)) (bytes : Vec ℕ Global) → found ≡ Some bytes
-    → IsSomeAnd found (λ b. bytes.items ≡ b.items)
-some_bytes found bytes is =
-    subst (λ (o : Option (Vec ℕ Global)). IsSomeAnd o (λ b. bytes.items ≡ b.items)) (sym is) refl
-
-written : (told : List (Option (List ℕ))) (d : Dumped) (text : List ℕ) (old new : Option (List ℕ))
-    (wrote : Result (Unit {0}) OutFault) → IsDumpRunGiven told d → IsDumpText d text
-    → OnOk wrote (Appends old new text) → OnErr wrote (AppendsPart old new text)
-    → WritesDump told old new (fault_by wrote) (kept_dump wrote d)
-written told d text old new (Ok taken) comes is all part = (text, is, all)
-written told d text old new (Err Failed) comes is all part = (text, is, part)
-written told d text old new (Err NoMemory) comes is all part =
-    inr (d, comes, (text, is, part))
-
-pub by_dumped : (told : List (Option (List ℕ))) (d : Dumped) (bytes : Vec ℕ Global)
-    (lent : List ℕ) (old new : Option (List ℕ)) (wrote : Result (Unit {0}) OutFault)
-    (fault : Option Fault) (dumped : Option Dumped) → fault ≡ fault_by wrote
-    → dumped ≡ kept_dump wrote d → IsDumpRunGiven told d → d.bytes ≡ Some bytes → lent ≡ bytes.items
-    → OnOk wrote (Appends old new lent) → OnErr wrote (AppendsPart old new lent)
-    → WritesDump told old new fault dumped
-by_dumped told d bytes lent old new wrote fault dumped is kept comes some same all part =
-    subst (λ e. WritesDump told old new e dumped) (sym is)
-    (subst (λ o. WritesDump told old new (fault_by wrote) o) (sym kept)
-    (written told d bytes.items old new wrote comes (some_bytes d.bytes bytes some)
-    (subst (λ b. OnOk wrote (Appends old new b)) same all)
-    (subst (λ b. OnErr wrote (AppendsPart old new b)) same part)))
 
 -- what stands behind the reading of all scripts stands wherever the run comes to an end
 pub on_end : {X : Type 0} (r : Result Dumped Fault) → X → OnOk r X

@@ -1,14 +1,13 @@
 -- The status of a request for one file is that which the file calls for.
 use Rattle.std.proofs.Common.{◌≡◌, ◌∙◌, ℕ, ◌<◌, ◌≤◌, List, Option, None, Some, Result, Ok, Err}
-use Rattle.std.proofs.Common.{length, inl, inr, refl, sym, ap, subst, rules, arith}
+use Rattle.std.proofs.Common.{length, inl, inr, refl, ap, subst, rules, arith}
 use Rattle.std.specs.Prelude.{◌⊎◌, Bool, true, false, IfSome, if◌then◌else◌, nat_lt}
 use Rattle.core_replay.specs.Schedule.{schedule_of}
 use Rattle.core_replay.specs.ScheduleValue.{ScheduleValue}
 use Rattle.core_replay.specs.declared.fault.ScheduleFault.{ScheduleFault}
-use Rattle.run_words.specs.Requests.{Asked}
 use Rattle.script_files.proofs.Images.{refused_none}
 use Rattle.script_files.specs.Counted.{IsCensusOf, IsFaultyImage, RefusesBytes}
-use Rattle.script_files.specs.Fault.{status_by, status_of}
+use Rattle.script_files.specs.Fault.{status_by}
 use Rattle.script_files.specs.Loaded.{after_dump, contents_by, dump_in}
 use Rattle.script_files.specs.Replayed.{after_schedule, steps_of}
 use Rattle.script_files.specs.Sorts.{OfDumps, OfImages, OfSchedules, Refused, Sort, sort_of}
@@ -17,11 +16,8 @@ use Rattle.script_files.specs.declared.fault.Fault.{Fault}
 use Rattle.script_files.specs.declared.fault.Fault.TheVariants.{Dump, Image, ReadFault, Schedule}
 use Rattle.version_dump.specs.Contents.{Contents, contents_of}
 use Rattle.version_dump.specs.declared.fault.LoadFault.{LoadFault}
-use Rattle.doc_run.specs.Faults.{BySort}
-use Rattle.doc_run.specs.Reading.{Decides, ExplainsFile, IsAnswerOf, IsFaultyFile, IsFileDue}
-use Rattle.doc_run.specs.Reading.{IsGoodFile, WritesFile, grammar_of}
-use Rattle.doc_run.specs.Request.{IfRead, asked_of}
-use Rattle.doc_run.specs.Texts.{WritesFront, WritesTextPart}
+use Rattle.doc_run.specs.Reading.{Decides, IsAnswerOf, IsFaultyFile, IsFileDue, IsGoodFile}
+use Rattle.doc_run.specs.Reading.{grammar_of}
 use Rattle.doc_run.specs.declared.reading.Reading.{Reading}
 use Rattle.doc_run.specs.declared.reading.Reading.TheVariants.{Schedules, Dumps, Images}
 use Rattle.doc_run.proofs.Sizes.{after, fine_read, good_read, line_read, read, size_read}
@@ -185,7 +181,7 @@ unread reading bytes = record {
 }
 
 -- memory was wanting
-pub wanting : (reading : Reading) (bytes : List ℕ) (status : ℕ) → status ≡ 5
+wanting : (reading : Reading) (bytes : List ℕ) (status : ℕ) → status ≡ 5
     → IsFileDue reading bytes status
 wanting reading bytes status is = record {
   faulty = ((λ two. absurd (omega (arith, is, two))), (λ facts. absurd (facts.0.1 is)));
@@ -193,16 +189,12 @@ wanting reading bytes status is = record {
   complete = λ good. inr (inr (inr is));
 }
 
-due_sort : (reading : Reading) (bytes : List ℕ) (fault : Fault) (sort : Sort)
-    (old new : Option (List ℕ)) → sort_of fault ≡ sort
-    → BySort sort
-    (Refused (grammar_of reading) sort (Decides reading (Some bytes) fault) (fault ≡ ReadFault 1))
-    (Unit {0}) (Unit {0})
-    → BySort sort (new ≡ old) (WritesFront (IsAnswerOf reading (Some bytes)) old new)
-    (WritesTextPart (IsAnswerOf reading (Some bytes)) old new)
+refused_sort : (reading : Reading) (bytes : List ℕ) (fault : Fault) (sort : Sort)
+    → sort_of fault ≡ sort
+    → Refused (grammar_of reading) sort (Decides reading (Some bytes) fault) (fault ≡ ReadFault 1)
     → IsFileDue reading bytes (status_by sort)
-due_sort reading bytes fault OfWords old new same is written = absurd is
-due_sort reading bytes fault (OfLine grammar) old new same is written =
+refused_sort reading bytes fault OfWords same is = absurd is
+refused_sort reading bytes fault (OfLine grammar) same is =
     let faulty = decides_line reading bytes fault is.1 (same ∙ ap OfLine is.0) in
     let short = faulty_short reading bytes faulty in
     record {
@@ -213,11 +205,10 @@ due_sort reading bytes fault (OfLine grammar) old new same is written =
       );
       complete = λ good. absurd (decides_good reading bytes fault is.1 good);
     }
-due_sort reading bytes fault OfReading old new same is written = unread reading bytes
-due_sort reading bytes fault OfWriting old new same is written =
-    answered reading bytes written.0 4 (inr refl) written.1
-due_sort reading bytes fault OfMemory old new same is written = wanting reading bytes 5 refl
-due_sort reading bytes fault OfSize old new same is written =
+refused_sort reading bytes fault OfReading same is = unread reading bytes
+refused_sort reading bytes fault OfWriting same is = absurd is
+refused_sort reading bytes fault OfMemory same is = wanting reading bytes 5 refl
+refused_sort reading bytes fault OfSize same is =
     let long = decides_size reading bytes fault is same in
     record {
       faulty = (
@@ -229,32 +220,27 @@ due_sort reading bytes fault OfSize old new same is written =
       complete = λ good. absurd (decides_good reading bytes fault is good);
     }
 
-file_due : (reading : Reading) (told : Option (List ℕ)) (fault : Option Fault)
-    (old new : Option (List ℕ)) → ExplainsFile reading told fault
-    → WritesFile reading told old new fault
-    → IfSome told (λ bytes. IsFileDue reading bytes (status_of fault))
-file_due reading None fault old new is written = tt
-file_due reading (Some bytes) None old new is written =
-    answered reading bytes written.0 0 (inl refl) written.1
-file_due reading (Some bytes) (Some fault) old new is written =
-    due_sort reading bytes fault (sort_of fault) old new refl is written
+-- Of a file that is told or not.
 
--- what is so of a request for one file
-pub of_file : (reading : Reading) (name : List ℕ) (Fact : Reading → List ℕ → Type 0)
-    → Fact reading name → IfRead (Some (asked_of reading name)) Fact
-of_file Schedules name Fact is = is
-of_file Dumps name Fact is = is
-of_file Images name Fact is = is
+-- it was answered, wholly or as far as the device took it
+pub file_answered : (reading : Reading) (told : Option (List ℕ)) (text : List ℕ) (status : ℕ)
+    → (status ≡ 0) ⊎ (status ≡ 4) → IsAnswerOf reading told text
+    → IfSome told (λ bytes. IsFileDue reading bytes status)
+file_answered reading None text status ends is = tt
+file_answered reading (Some bytes) text status ends is =
+    answered reading bytes text status ends is
 
--- the status of a request that is known
-pub file_asked : (asked : Option Asked) (reading : Reading) (name : List ℕ)
-    (holds : List ℕ → Option (List ℕ)) (fault : Option Fault) (status : ℕ)
-    (old new : Option (List ℕ)) → asked ≡ Some (asked_of reading name)
-    → status ≡ status_of fault → ExplainsFile reading (holds name) fault
-    → WritesFile reading (holds name) old new fault
-    → IfRead asked (λ r n. IfSome (holds n) (λ bytes. IsFileDue r bytes status))
-file_asked asked reading name holds fault status old new is by explained written =
-    subst (λ a. IfRead a (λ r n. IfSome (holds n) (λ bytes. IsFileDue r bytes status))) (sym is)
-    (of_file reading name (λ r n. IfSome (holds n) (λ bytes. IsFileDue r bytes status))
-    (subst (λ (s : ℕ). IfSome (holds name) (λ bytes. IsFileDue reading bytes s)) (sym by)
-    (file_due reading (holds name) fault old new explained written)))
+-- it was refused, or could not be read, or memory was wanting
+pub file_refused : (reading : Reading) (told : Option (List ℕ)) (fault : Fault)
+    → Refused (grammar_of reading) (sort_of fault) (Decides reading told fault)
+    (fault ≡ ReadFault 1)
+    → IfSome told (λ bytes. IsFileDue reading bytes (status_by (sort_of fault)))
+file_refused reading None fault is = tt
+file_refused reading (Some bytes) fault is =
+    refused_sort reading bytes fault (sort_of fault) refl is
+
+-- memory was wanting
+pub file_wanted : (reading : Reading) (told : Option (List ℕ)) (status : ℕ) → status ≡ 5
+    → IfSome told (λ bytes. IsFileDue reading bytes status)
+file_wanted reading None status is = tt
+file_wanted reading (Some bytes) status is = wanting reading bytes status is

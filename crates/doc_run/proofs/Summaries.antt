@@ -20,7 +20,7 @@ use Rattle.script_files.specs.Made.{texts_from}
 use Rattle.store_run.specs.Answered.{commands_of}
 use Rattle.store_run.specs.declared.finished.Finished.{Finished}
 use Rattle.doc_run.specs.Clients.{IsRunGiven, IsMade, default_options}
-use Rattle.doc_run.specs.Ending.{IsSummaryOf, numbers_of}
+use Rattle.doc_run.specs.Made.{IsSummaryOf, numbers_of}
 
 each : (logs : List ClientLog)
     → sum_by (λ (g : ClientLog). length g.entries) logs ≡ sum_by length (map commands_of logs)

@@ -1,9 +1,9 @@
--- A run of clients beside which a version is dumped, and how it ends.
+-- A run of clients beside which a version is dumped: what it comes to, and which status is due.
 --
 -- The guest that dumps is one mutator more, so that one script fewer is taken than of a run without
 -- it.
 -- Source: this project's own.
-use Rattle.std.specs.Prelude.{◌≡◌, ℕ, List, length, Option, None, Some, IsNone, IsSomeAnd}
+use Rattle.std.specs.Prelude.{◌≡◌, ℕ, List, length, Option, IsNone, IsSomeAnd}
 use Rattle.std.specs.Prelude.{Result, Ok, Err, IsOk, IsErrAnd, ◌⊎◌, ◌↔◌, if◌then◌else◌, nat_lt}
 use Rattle.doc_export.specs.Dumps.{Dumps}
 use Rattle.doc_export.specs.declared.dumped.Dumped.{Dumped}
@@ -15,8 +15,6 @@ use Rattle.script_files.specs.Sorts.{OfScripts, Refused, sort_of}
 use Rattle.script_files.specs.declared.fault.Fault.{Fault}
 use Rattle.script_files.specs.declared.fault.Fault.TheVariants.{Memory, TooLarge}
 use Rattle.doc_run.specs.Clients.{default_options}
-use Rattle.doc_run.specs.Faults.{BySort}
-use Rattle.doc_run.specs.Texts.{WritesAll, WritesFront}
 
 -- how many scripts a dump has at most
 abbrev pub most_beside : ℕ
@@ -84,27 +82,3 @@ abbrev pub IsDumpDueFor : List (Option (List ℕ)) → Option Dumped → ℕ →
 IsDumpDueFor told dumped status = (scripts : Result (List (List Command)) Fault)
     → ((contents : List (List ℕ)) → Agree told contents → few_scripts_of contents ≡ scripts)
     → IsDumpDue scripts dumped status
-
--- what an ending says of the files, and of what the run came to
-abbrev pub ExplainsDump : List (Option (List ℕ)) → Option Fault → Option Dumped → Type 0
-ExplainsDump told None dumped = IsSomeAnd dumped (IsDumpRunGiven told)
-ExplainsDump told (Some fault) dumped =
-    BySort (sort_of fault)
-    ((Refused OfScripts (sort_of fault) (AreFewScripts told (Err fault)) (Unit {0})
-    × IsNone dumped)
-    ⊎ ((fault ≡ TooLarge 0) × IsSomeAnd dumped (λ d. IsDumpRunGiven told d × IsNone d.bytes)))
-    (IsSomeAnd dumped (IsDumpRunGiven told)) (IsNone dumped)
-
--- nothing was written, or a front of the dump that a run of the files' scripts comes to
-abbrev pub WritesDumpPart : List (Option (List ℕ)) → Option (List ℕ) → Option (List ℕ) → Type 0
-WritesDumpPart told old new =
-    (new ≡ old)
-    ⊎ ((d : Dumped) × IsDumpRunGiven told d × WritesFront (IsDumpText d) old new)
-
--- what an ending says of what was written
-abbrev pub WritesDump : List (Option (List ℕ)) → Option (List ℕ) → Option (List ℕ) → Option Fault
-    → Option Dumped → Type 0
-WritesDump told old new None dumped = IsSomeAnd dumped (λ d. WritesAll (IsDumpText d) old new)
-WritesDump told old new (Some fault) dumped =
-    BySort (sort_of fault) (new ≡ old)
-    (IsSomeAnd dumped (λ d. WritesFront (IsDumpText d) old new)) (WritesDumpPart told old new)

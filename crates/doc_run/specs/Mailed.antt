@@ -1,4 +1,4 @@
--- A run of a mailbox: what it comes to, and how it ends.
+-- A run of a mailbox: what it comes to.
 -- Source: this project's own.
 use Rattle.std.specs.Prelude.{◌≡◌, ℕ, List, Option, Result, Ok, Err}
 use Rattle.mail_run.specs.Comes.{ComesMail}
@@ -9,7 +9,6 @@ use Rattle.script_files.specs.Mail.{IsMail}
 use Rattle.script_files.specs.Sorts.{OfMail, Refused, sort_of}
 use Rattle.script_files.specs.declared.fault.Fault.{Fault}
 use Rattle.script_files.specs.declared.fault.Fault.TheVariants.{Memory}
-use Rattle.doc_run.specs.Ending.{ExplainsRun, WritesRun, WritesRunPart}
 
 -- this is what a run of these values came to, on so many cells, in so many cycles at most
 abbrev pub MailsOf : ℕ → ℕ → List (List ℕ) → MailRun → Type 0
@@ -37,21 +36,3 @@ abbrev pub DecidesMailRun : MailAsked → List (Option (List ℕ)) → Result Ma
 DecidesMailRun mail told (Ok ran) = MailsBy mail told ran
 DecidesMailRun mail told (Err fault) =
     Refused OfMail (sort_of fault) (IsMail told (Err fault)) (Unit {0})
-
--- what an ending says of the files, and of what the run came to
-abbrev pub ExplainsMail : MailAsked → List (Option (List ℕ)) → Option Fault → Option MailRun
-    → Type 0
-ExplainsMail mail told fault mailed =
-    ExplainsRun OfMail (λ one. IsMail told (Err one)) (λ ran. MailsBy mail told ran) fault mailed
-
--- nothing was written, or a front of the text of what the run comes to
-abbrev pub WritesMailPart : MailAsked → List (Option (List ℕ)) → Option (List ℕ)
-    → Option (List ℕ) → Type 0
-WritesMailPart mail told old new =
-    WritesRunPart (λ ran. MailsBy mail told ran) IsMailedText old new
-
--- what an ending says of what was written
-abbrev pub WritesMail : MailAsked → List (Option (List ℕ)) → Option (List ℕ) → Option (List ℕ)
-    → Option Fault → Option MailRun → Type 0
-WritesMail mail told old new fault mailed =
-    WritesRun (λ ran. MailsBy mail told ran) IsMailedText old new fault mailed

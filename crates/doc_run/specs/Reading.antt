@@ -1,8 +1,8 @@
--- What the file of a request for one file is read as, what is written of it, and how that ends.
+-- What the file of a request for one file is read as, and what is written of it.
 --
 -- What the file holds is told or not.
 -- Source: this project's own.
-use Rattle.std.specs.Prelude.{◌≡◌, ℕ, ◌<◌, List, length, Option, None, Some, IfSome, Result, Ok}
+use Rattle.std.specs.Prelude.{◌≡◌, ℕ, ◌<◌, List, length, Option, IfSome, Result, Ok}
 use Rattle.std.specs.Prelude.{Err, ◌⊎◌, ◌↔◌, Vec}
 use Rattle.std.specs.declared.alloc.Global.{Global}
 use Rattle.doc_tree.specs.Tree.{DocTree}
@@ -15,12 +15,9 @@ use Rattle.script_files.specs.Loaded.{HoldsDump, IsDumpFile, IsDumpRead, IsFault
 use Rattle.script_files.specs.Replayed.{IsFaultySchedule, IsReading, IsSchedule, IsTextOf}
 use Rattle.script_files.specs.InTurn.{largest_file}
 use Rattle.script_files.specs.Due.{IsUnhindered}
-use Rattle.script_files.specs.Sorts.{Grammar, OfSchedules, OfDumps, OfImages, Refused, Sort}
-use Rattle.script_files.specs.Sorts.{sort_of}
+use Rattle.script_files.specs.Sorts.{Grammar, OfSchedules, OfDumps, OfImages, Refused, sort_of}
 use Rattle.script_files.specs.declared.fault.Fault.{Fault}
 use Rattle.script_files.specs.declared.fault.Fault.TheVariants.{ReadFault}
-use Rattle.doc_run.specs.Faults.{ByContents, BySort}
-use Rattle.doc_run.specs.Texts.{WritesAll, WritesFront, WritesTextPart}
 use Rattle.doc_run.specs.declared.reading.Reading.{Reading}
 use Rattle.doc_run.specs.declared.reading.Reading.TheVariants.{Schedules, Dumps, Images}
 
@@ -67,30 +64,9 @@ pub record IsFileDue (reading : Reading) (bytes : List ℕ) (status : ℕ) : Typ
   pub complete : IsGoodFile reading bytes
       → (status ≡ 0) ⊎ (status ≡ 3) ⊎ (status ≡ 4) ⊎ (status ≡ 5)
 
--- a fault of this sort decides it, and one of a line is of the grammar of the reading
-abbrev pub ByReading : Reading → Sort → Type 0 → Type 0
-ByReading reading sort Decided =
-    ByContents sort (λ grammar. (grammar ≡ grammar_of reading) × Decided) Decided
-
 -- it is answered, or refused by the fault that decides, or could not be read, or memory was wanting
 abbrev pub AnswersFile : Reading → Option (List ℕ) → Result (Vec ℕ Global) Fault → Type 0
 AnswersFile reading told (Ok text) = IsAnswerOf reading told text.items
 AnswersFile reading told (Err fault) =
     Refused (grammar_of reading) (sort_of fault) (Decides reading told fault)
     (fault ≡ ReadFault 1)
-
--- what an ending says of the file
-abbrev pub ExplainsFile : Reading → Option (List ℕ) → Option Fault → Type 0
-ExplainsFile reading told None = Unit {0}
-ExplainsFile reading told (Some fault) =
-    BySort (sort_of fault)
-    (Refused (grammar_of reading) (sort_of fault) (Decides reading told fault)
-    (fault ≡ ReadFault 1)) (Unit {0}) (Unit {0})
-
--- what an ending says of what was written
-abbrev pub WritesFile : Reading → Option (List ℕ) → Option (List ℕ) → Option (List ℕ)
-    → Option Fault → Type 0
-WritesFile reading told old new None = WritesAll (IsAnswerOf reading told) old new
-WritesFile reading told old new (Some fault) =
-    BySort (sort_of fault) (new ≡ old) (WritesFront (IsAnswerOf reading told) old new)
-    (WritesTextPart (IsAnswerOf reading told) old new)

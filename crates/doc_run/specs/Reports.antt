@@ -1,7 +1,7 @@
 -- What is written of a run of the scripts of files: the clients' replies, or the heap that the run
 -- left.
 -- Source: this project's own.
-use Rattle.std.specs.Prelude.{◌≡◌, ℕ, List, Option}
+use Rattle.std.specs.Prelude.{◌≡◌, ℕ, List}
 use Rattle.cmd_text.specs.declared.form.Form.{Form}
 use Rattle.core_machine.specs.State.{State}
 use Rattle.heap_census.specs.Heap.{heap_of}
@@ -9,9 +9,7 @@ use Rattle.heap_census.specs.ImageText.{image_text}
 use Rattle.heap_table.specs.Images.{ImageView, Shows}
 use Rattle.run_output.specs.Output.{IsOutput}
 use Rattle.run_output.specs.declared.output.Shown.{Shown}
-use Rattle.run_words.specs.Requests.{RunAsked}
 use Rattle.store_run.specs.declared.finished.Finished.{Finished}
-use Rattle.doc_run.specs.Replies.{AreReplies}
 use Rattle.doc_run.specs.declared.report.Report.{Report}
 use Rattle.doc_run.specs.declared.report.Report.TheVariants.{Replies, Heap}
 
@@ -23,8 +21,3 @@ IsHeapText image text = (s : State) → Shows image s → text ≡ image_text (h
 abbrev pub Tells : Report → Shown → Finished → List Form → List ℕ → Type 0
 Tells Replies shown f forms text = IsOutput shown f.logs.items forms f.totals text
 Tells Heap shown f forms text = IsHeapText f.image text
-
--- the report of a run with these words
-abbrev pub IsReportOf : Report → List (Option (List ℕ)) → RunAsked → Finished → List ℕ → Type 0
-IsReportOf Replies told run f text = AreReplies told run f text
-IsReportOf Heap told run f text = IsHeapText f.image text

@@ -1,94 +1,60 @@
--- What is promised of a run of the whole program: six sentences, each a record of facts by name.
+-- What is promised of a run of the whole program: five sentences, each a record of facts by name. A
+-- sixth, which status is due, is a line a request (Due).
 --
 -- In front of each stands what it speaks of: what the files hold, where the shelf tells it, what
 -- the words ask for, and what was handed back. What a shelf or a sink shows is `old` before the run
--- and `new` behind it. Where the shelf does not tell what a file holds, the facts are of some bytes
+-- and `new` after it. Where the shelf does not tell what a file holds, the facts are of some bytes
 -- that it may have held.
--- Source: this project's.
-use Rattle.std.specs.Prelude.{◌≡◌, ◌≢◌, ℕ, ◌+◌, ◌*◌, ◌≤◌, ◌<◌, ◌⊎◌, ◌↔◌, List, Option, Some, IsNone}
-use Rattle.std.specs.Prelude.{IsSomeAnd, IfSome, length, map}
+-- Source: this project's own.
+use Rattle.std.specs.Prelude.{◌≡◌, ◌≢◌, ℕ, ◌+◌, ◌*◌, ◌≤◌, ◌⊎◌, ◌↔◌, List, Option, Some, IsNone}
+use Rattle.std.specs.Prelude.{IsSomeAnd, length, map}
 use Rattle.outside.specs.Calls.{IsUnbroken, IsOrderly}
 use Rattle.outside.specs.Causes.{Rose}
 use Rattle.outside.specs.Pieces.{AppendsPart}
 use Rattle.outside.specs.declared.course.Course.{Course}
 use Rattle.run_words.specs.Requests.{Asked}
 use Rattle.script_files.specs.Files.{opened}
-use Rattle.script_files.specs.InTurn.{most_commands}
-use Rattle.script_files.specs.Mail.{IsMailDueFor, StopsAtMail}
-use Rattle.script_files.specs.Scripts.{AreScripts, IsDueFor, StopsBehind}
 use Rattle.script_files.specs.declared.fault.Fault.{Fault}
 use Rattle.script_files.specs.declared.fault.Fault.TheVariants.{ReadFault}
-use Rattle.doc_run.specs.Asked.{IsFaultOf, WritesPartOf}
-use Rattle.doc_run.specs.Clients.{IsRunGiven, IsMade, default_options, options_of}
-use Rattle.doc_run.specs.Ending.{IsRefusal, IsSummaryOf, OpensFiles, printed_of}
-use Rattle.doc_run.specs.Guested.{IsDumpRunGiven, IsDumpDueFor, IsDumpText}
-use Rattle.doc_run.specs.Mailed.{IsMailedText, MailsBy}
-use Rattle.doc_run.specs.Reading.{IsAnswerOf, IsFileDue}
+use Rattle.doc_run.specs.Answers.{Answers, HandsBack, IsRefusedBy, text_of}
+use Rattle.doc_run.specs.Reads.{OpensFiles, StopsOf}
 use Rattle.doc_run.specs.Replies.{AreReplies}
-use Rattle.doc_run.specs.Reports.{IsHeapText}
-use Rattle.doc_run.specs.Request.{ByPrint, IfDump, IfGen, IfHeap, IfMail, IfRead, IfReplies, IfRun}
-use Rattle.doc_run.specs.Request.{IfScripts, files_of, names_of}
-use Rattle.doc_run.specs.Texts.{WritesBy}
+use Rattle.doc_run.specs.Request.{IfRun, files_of, names_of}
+use Rattle.doc_run.specs.declared.answer.Answer.{Answer}
 use Rattle.doc_run.specs.declared.outcome.Outcome.{Outcome}
+
+-- the run was refused: for its words, its files or the reading of them
+abbrev pub IsRefusal : ℕ → Type 0
+IsRefusal status = (status ≡ 1) ⊎ (status ≡ 2) ⊎ (status ≡ 3) ⊎ (status ≡ 6)
 
 module _ (holds : List ℕ → Option (List ℕ)) (asked : Option Asked) (result : Outcome) where
   -- What the request came to is handed back, and of its text was written what the relation says:
   -- all of it, or a front of it.
   pub record Completed (Wrote : List ℕ → Type 0) : Type 0 where
-    -- the replies of the clients of the files' scripts, unless the heap is asked for
-    pub done : IfRun asked (λ report run. IsSomeAnd result.finished (λ f. IfReplies report
-        ((text : List ℕ) × AreReplies (map holds run.files) run f text × Wrote text)))
-    -- what the run of these clients came to, with the heap that it left; the heap's text
-    pub heap : IfRun asked (λ report run. IsSomeAnd result.finished (λ f.
-        IsRunGiven (AreScripts (map holds run.files)) (options_of run) f
-        × IfHeap report (WritesBy Wrote (IsHeapText f.image))))
-    -- what the run of generated scripts came to; its summary, or the script that was asked for
-    pub made : IfGen asked (λ made. ByPrint made.print
-        (IsSomeAnd result.finished (λ f. IsRunGiven (IsMade made) default_options f
-        × WritesBy Wrote (IsSummaryOf made f)))
-        (λ client. Wrote (printed_of made client)))
-    -- the answer to the one file
-    pub answered : IfRead asked (λ reading name.
-        WritesBy Wrote (IsAnswerOf reading (holds name)))
-    -- what the run came to beside which a version was dumped; the dump
-    pub beside : IfDump asked (λ names. IsSomeAnd result.dumped (λ d.
-        IsDumpRunGiven (map holds names) d × WritesBy Wrote (IsDumpText d)))
-    -- what the run of a mailbox came to; its text
-    pub sent : IfMail asked (λ mail. IsSomeAnd result.mailed (λ m.
-        MailsBy mail (map holds mail.files) m × WritesBy Wrote (IsMailedText m)))
+    -- the replies of the clients of the files' scripts
+    pub done : IfRun asked (λ run. IsSomeAnd result.finished (λ f.
+        (text : List ℕ) × AreReplies (map holds run.files) run f text × Wrote text))
+    -- all that the request came to, by its own line
+    pub answer : Answer
+    pub comes : Answers holds asked answer
+    pub handed : HandsBack answer result
+    pub wrote : Wrote (text_of answer)
 
   -- what is refused, and why
   pub record Refusals : Type 0 where
     -- faulty words, and no others
     pub usage : (result.status ≡ 1) ↔ ((result.status ≢ 5) × IsNone asked)
-    -- generated scripts of too many commands, and no others
-    pub large_made : IfGen asked (λ made. (result.status ≡ 6)
-        ↔ ((result.status ≢ 5) × (most_commands < made.clients * made.commands)))
-    -- behind its run a version whose tree has too many nodes for a dump
-    pub too_large : result.status ≡ 6 → IfSome result.dumped (λ d. IfDump asked (λ names.
-        IsDumpRunGiven (map holds names) d × IsNone d.bytes))
-    -- what is refused for what it holds is what its fault says
-    pub refused : (fault : Fault) → result.fault ≡ Some fault
-        → IsFaultOf holds asked result.dumped fault
-
-  -- The status is that which is due: by the files, where what is told of them decides that. With
-  -- good ones it is 0, or a device failed, or memory was wanting.
-  pub record Due : Type 0 where
-    pub scripts : IfRun asked (λ report run. IsDueFor (map holds run.files) result.status)
-    pub file : IfRead asked (λ reading name.
-        IfSome (holds name) (λ bytes. IsFileDue reading bytes result.status))
-    pub scripts_beside : IfDump asked (λ names.
-        IsDumpDueFor (map holds names) result.dumped result.status)
-    pub senders : IfMail asked (λ mail. IsMailDueFor (map holds mail.files) result.status)
-    pub complete_made : IfGen asked (λ made. made.clients * made.commands ≤ most_commands
-        → (result.status ≡ 0) ⊎ (result.status ≡ 4) ⊎ (result.status ≡ 5))
+    -- each request by its own line, and a version that is too large for a dump after its run
+    pub refused : IsRefusal result.status → (fault : Fault) → result.fault ≡ Some fault
+        → IsRefusedBy holds asked result.dumped fault
 
   -- how much was written of a request that was not done
   pub record Written (old new : Option (List ℕ)) : Type 0 where
     -- where a write failed, a front of the text of what it came to
     pub front : result.status ≡ 4 → Completed (AppendsPart old new)
     -- where memory was wanting, nothing or a front of such a text
-    pub memory_part : result.status ≡ 5 → WritesPartOf holds asked old new
+    pub memory_part : result.status ≡ 5 → (new ≡ old)
+        ⊎ ((answer : Answer) × Answers holds asked answer × AppendsPart old new (text_of answer))
     -- where it was refused, nothing
     pub unwritten : IsRefusal result.status → new ≡ old
 
@@ -106,11 +72,8 @@ module _ (holds : List ℕ → Option (List ℕ)) (asked : Option Asked) (result
     pub opens : OpensFiles result.status old_opens new_opens (files_of asked)
     -- at status 0 all are
     pub all_opened : result.status ≡ 0 → new_opens ≡ opened old_opens (length (names_of asked))
-    -- none is opened behind one that is refused
-    pub stops : IfScripts asked (λ names.
-        StopsBehind 1 0 (map holds names) old_opens new_opens)
-    pub stops_mail : IfMail asked (λ mail.
-        StopsAtMail (map holds mail.files) old_opens new_opens)
+    -- none is opened after one that is refused
+    pub stops : StopsOf holds asked old_opens new_opens
     -- each further call of a file but the last takes at least a byte of it
     pub calls : new_calls ≤ old_calls + files_of asked * (limit + 1)
 

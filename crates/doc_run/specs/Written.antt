@@ -1,34 +1,38 @@
--- How a run ends whose text was offered to a sink, by what became of the text.
+-- How a run ends, by the answer to its request and by what became of the text.
 -- Source: this project's own.
-use Rattle.std.specs.Prelude.{Option, None, Some, Result, Ok, Err}
-use Rattle.outside.specs.declared.fault.OutFault.{OutFault}
-use Rattle.outside.specs.declared.fault.OutFault.TheVariants.{Failed, NoMemory}
-use Rattle.doc_export.specs.declared.dumped.Dumped.{Dumped}
-use Rattle.mail_run.specs.declared.finished.MailRun.{MailRun}
-use Rattle.script_files.specs.declared.fault.Fault.{Fault}
+use Rattle.std.specs.Prelude.{◌≡◌, ℕ, List, Option, None, Some, Result, Ok, Err, ◌⊎◌}
+use Rattle.std.specs.Io.KnownBytes.{Appends}
+use Rattle.outside.specs.Pieces.{AppendsPart}
 use Rattle.script_files.specs.declared.fault.Fault.TheVariants.{WriteFault, Memory}
-use Rattle.store_run.specs.declared.finished.Finished.{Finished}
+use Rattle.doc_run.specs.Answers.{HandsBack, text_of}
+use Rattle.doc_run.specs.declared.answer.Answer.{Answer}
+use Rattle.doc_run.specs.declared.answer.Refusal.{Refusal}
+use Rattle.doc_run.specs.declared.outcome.Outcome.{Outcome}
 
--- the fault of the run
-abbrev pub fault_by : Result (Unit {0}) OutFault → Option Fault
-fault_by (Ok taken) = None
-fault_by (Err Failed) = Some WriteFault
-fault_by (Err NoMemory) = Some Memory
+-- its text was written whole, and it is handed back
+abbrev pub IsDone : Answer → Outcome → Option (List ℕ) → Option (List ℕ) → Type 0
+IsDone answer result old new =
+    (result.fault ≡ None) × HandsBack answer result × Appends old new (text_of answer)
 
--- what it came to, which is let go where memory was wanting
-abbrev pub kept_by : Result (Unit {0}) OutFault → Option Finished → Option Finished
-kept_by (Ok taken) finished = finished
-kept_by (Err Failed) finished = finished
-kept_by (Err NoMemory) finished = None
+-- a front of its text was written, and it is handed back
+abbrev pub IsCut : Answer → Outcome → Option (List ℕ) → Option (List ℕ) → Type 0
+IsCut answer result old new =
+    (result.fault ≡ Some WriteFault) × HandsBack answer result
+    × AppendsPart old new (text_of answer)
 
--- and what a run came to beside which a version was dumped
-abbrev pub kept_dump : Result (Unit {0}) OutFault → Dumped → Option Dumped
-kept_dump (Ok taken) dumped = Some dumped
-kept_dump (Err Failed) dumped = Some dumped
-kept_dump (Err NoMemory) dumped = None
+-- a front of its text was written, and it is let go
+abbrev pub IsLetGo : Answer → Outcome → Option (List ℕ) → Option (List ℕ) → Type 0
+IsLetGo answer result old new =
+    (result.fault ≡ Some Memory) × (result.finished ≡ None) × (result.dumped ≡ None)
+    × (result.mailed ≡ None) × AppendsPart old new (text_of answer)
 
--- and what a run of a mailbox came to
-abbrev pub kept_mail : Result (Unit {0}) OutFault → MailRun → Option MailRun
-kept_mail (Ok taken) mailed = Some mailed
-kept_mail (Err Failed) mailed = Some mailed
-kept_mail (Err NoMemory) mailed = None
+-- nothing was written
+abbrev pub IsRefused : Refusal → Outcome → Option (List ℕ) → Option (List ℕ) → Type 0
+IsRefused refusal result old new =
+    (result.fault ≡ Some refusal.fault) × (result.finished ≡ None)
+    × (result.dumped ≡ refusal.dumped) × (result.mailed ≡ None) × (new ≡ old)
+
+abbrev pub Ended : Result Answer Refusal → Outcome → Option (List ℕ) → Option (List ℕ) → Type 0
+Ended (Ok answer) result old new =
+    IsDone answer result old new ⊎ IsCut answer result old new ⊎ IsLetGo answer result old new
+Ended (Err refusal) result old new = IsRefused refusal result old new

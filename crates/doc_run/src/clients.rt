@@ -1,16 +1,12 @@
 //! A run of clients, from where their scripts come from to what it came to.
-ghost use Rattle.std.specs.Prelude.{◌≡◌, ℕ, ◌+◌, ◌*◌, ◌≤◌, IsErrOf, OnOk, length};
-ghost use Rattle.std.specs.Prelude.{map, sum_by};
+ghost use Rattle.std.specs.Prelude.{◌≡◌, ◌*◌, ◌≤◌, Some, length, map, sum_by};
 ghost use Rattle.client_run.specs.Options.{IsWithin};
-ghost use Rattle.outside.specs.Calls.{IsUnbroken, IsOrderly};
-ghost use Rattle.outside.specs.Causes.{Rose};
 ghost use Rattle.doc_run.specs.Clients.{DecidesRun, Finishes, FinishesWith, MakesRun, options_of};
+ghost use Rattle.doc_run.specs.Guested.{DecidesDump, FinishesDump};
+ghost use Rattle.doc_run.specs.Reads.{Reads, err_of};
 ghost use Rattle.run_words.specs.Limits.{IsGenWithin, IsRunWithin};
-ghost use Rattle.doc_run.specs.Guested.{DecidesDump, FinishesDump, few_read};
-ghost use Rattle.run_words.specs.Requests.{names_by, run_asked_by};
-ghost use Rattle.script_files.specs.Files.{OpensInTurn, files_read, opened};
+ghost use Rattle.run_words.specs.Requests.{Dump, Run, names_by, run_asked_by};
 ghost use Rattle.script_files.specs.Reading.{lists_of};
-ghost use Rattle.script_files.specs.Scripts.{StopsBehind};
 
 use cmd_text::Form;
 use doc_export::{Dumped, dump_run};
@@ -52,21 +48,9 @@ pub fn run_files<R: Threads + Wait + Sync, H: Shelf, G: Gate + Sync>(
     ensures finished { DecidesRun
         (map (H.holds shelf.old) (run_asked_by run.now).files)
         (options_of (run_asked_by run.now)) result }
-    ensures read { (file : ℕ) → IsErrOf result (Fault.ReadFault file) →
-        Rose (H.faults shelf.old) (H.faults shelf.new) }
-    ensures read_file { (file : ℕ) → IsErrOf result (Fault.ReadFault file) →
-        H.opens shelf.new ≡ opened (H.opens shelf.old) file }
-    ensures opens { OpensInTurn (H.opens shelf.old) (H.opens shelf.new)
-        (files_read (length run.now.files.items)) }
-    ensures all_opened { OnOk result (H.opens shelf.new
-        ≡ opened (H.opens shelf.old) (length run.now.files.items)) }
-    ensures stops { StopsBehind 1 0 (map (H.holds shelf.old) (run_asked_by run.now).files)
-        (H.opens shelf.old) (H.opens shelf.new) }
-    ensures calls { H.calls shelf.new
-        ≤ H.calls shelf.old + files_read (length run.now.files.items) * (READ_LIMIT + 1) }
-    ensures unbroken { OnOk result (IsUnbroken (H.course shelf.old)
-        → IsUnbroken (H.course shelf.new)) }
-    ensures orderly { IsUnbroken (H.course shelf.old) → IsOrderly (H.course shelf.new) }
+    ensures reads { Reads (H.holds shelf.old) (Some (Run (run_asked_by run.now))) (err_of result)
+        READ_LIMIT (H.opens shelf.old) (H.opens shelf.new) (H.calls shelf.old) (H.calls shelf.new)
+        (H.faults shelf.old) (H.faults shelf.new) (H.course shelf.old) (H.course shelf.new) }
 {
     match scripts_in_files(alloc, &run.files, shelf) {
         Ok(scripts) => run_formed(alloc, rt, scripts, options(run), gate),
@@ -86,21 +70,9 @@ pub fn dump_files<R: Threads + Wait + Sync, H: Shelf, G: Gate + Sync>(
     requires some { 1 ≤ length names.now.items }
     requires few { length names.now.items ≤ 63 }
     ensures dumped { DecidesDump (map (H.holds shelf.old) (names_by names.now)) result }
-    ensures read { (file : ℕ) → IsErrOf result (Fault.ReadFault file) →
-        Rose (H.faults shelf.old) (H.faults shelf.new) }
-    ensures read_file { (file : ℕ) → IsErrOf result (Fault.ReadFault file) →
-        H.opens shelf.new ≡ opened (H.opens shelf.old) file }
-    ensures opens { OpensInTurn (H.opens shelf.old) (H.opens shelf.new)
-        (few_read (length names.now.items)) }
-    ensures all_opened { OnOk result (H.opens shelf.new
-        ≡ opened (H.opens shelf.old) (length names.now.items)) }
-    ensures stops { StopsBehind 1 0 (map (H.holds shelf.old) (names_by names.now))
-        (H.opens shelf.old) (H.opens shelf.new) }
-    ensures calls { H.calls shelf.new
-        ≤ H.calls shelf.old + few_read (length names.now.items) * (READ_LIMIT + 1) }
-    ensures unbroken { OnOk result (IsUnbroken (H.course shelf.old)
-        → IsUnbroken (H.course shelf.new)) }
-    ensures orderly { IsUnbroken (H.course shelf.old) → IsOrderly (H.course shelf.new) }
+    ensures reads { Reads (H.holds shelf.old) (Some (Dump (names_by names.now))) (err_of result)
+        READ_LIMIT (H.opens shelf.old) (H.opens shelf.new) (H.calls shelf.old) (H.calls shelf.new)
+        (H.faults shelf.old) (H.faults shelf.new) (H.course shelf.old) (H.course shelf.new) }
 {
     match scripts_in_files(alloc, names, shelf) {
         Ok(scripts) => dump_all(alloc, rt, &scripts.commands, gate),

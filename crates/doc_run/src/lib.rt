@@ -10,11 +10,14 @@
 //! The layer above hands `run` the real shelf and sink, a runtime with threads and a gate; what a
 //! file holds, and what became of standard output, no contract says.
 //!
-//! Reading order: `words`, `outcome`, `clients`, `report`, `summary`, then a file for each
-//! request's ending, `scripts`, `beside`, `generated`, `mailing` and `reading`, then `requests` and
-//! `whole_run`.
+//! A request comes to an answer, with its text, or is refused; and one place writes.
+//!
+//! Reading order: `words`, `outcome`, `answer`, specs/Answers, `clients`, `report`, `summary`; then a
+//! file for each kind of request, `scripts`, `beside`, `generated`, `mailing` and `reading`; then
+//! `requests`, `writing` and `whole_run`.
 #![tactic(auto)]
 
+mod answer;
 mod beside;
 mod clients;
 mod generated;
@@ -27,6 +30,7 @@ mod scripts;
 mod summary;
 mod whole_run;
 mod words;
+mod writing;
 
 pub use outcome::Outcome;
 pub use whole_run::run;

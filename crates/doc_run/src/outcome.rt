@@ -1,10 +1,10 @@
 ghost use Rattle.std.specs.Prelude.{◌≡◌, Some, None};
-ghost use Rattle.doc_run.specs.Written.{fault_by, kept_by, kept_dump, kept_mail};
+ghost use Rattle.doc_run.specs.Answers.{HandsBack};
 ghost use Rattle.script_files.specs.Fault.{status_of};
 
+use crate::answer::{Answer, Refusal};
 use doc_export::Dumped;
 use mail_run::MailRun;
-use outside::OutFault;
 use script_files::{Fault, status};
 use store_run::Finished;
 
@@ -31,119 +31,37 @@ impl Drop for Outcome {
 }
 
 impl Outcome {
-    pub(crate) fn new(fault: Option<Fault>, finished: Option<Finished>) -> Outcome
+    /// How a run ends that hands back its answer.
+    pub(crate) fn with(fault: Option<Fault>, answer: Answer) -> Outcome
         ensures status { result.status ≡ status_of fault }
         ensures fault { result.fault ≡ fault }
-        ensures finished { result.finished ≡ finished }
-        ensures dumped { result.dumped ≡ None }
-        ensures mailed { result.mailed ≡ None }
+        ensures handed { HandsBack answer result }
     {
+        let (finished, dumped, mailed) = answer.parts();
         Outcome {
             status: status(fault),
             fault,
             finished,
-            dumped: None,
-            mailed: None,
+            dumped,
+            mailed,
         }
     }
 
-    /// How a run ends behind which a version was dumped.
-    pub(crate) fn with_dump(fault: Option<Fault>, dumped: Dumped) -> Outcome
-        ensures status { result.status ≡ status_of fault }
-        ensures fault { result.fault ≡ fault }
+    /// How a run ends whose request has none.
+    pub(crate) fn refused(refusal: Refusal) -> Outcome
+        ensures status { result.status ≡ status_of (Some refusal.fault) }
+        ensures fault { result.fault ≡ Some refusal.fault }
         ensures finished { result.finished ≡ None }
-        ensures dumped { result.dumped ≡ Some dumped }
+        ensures dumped { result.dumped ≡ refusal.dumped }
         ensures mailed { result.mailed ≡ None }
     {
+        let Refusal { fault, dumped } = refusal;
         Outcome {
-            status: status(fault),
-            fault,
+            status: status(Some(fault)),
+            fault: Some(fault),
             finished: None,
-            dumped: Some(dumped),
+            dumped,
             mailed: None,
-        }
-    }
-
-    /// How a run of a mailbox ends.
-    pub(crate) fn with_mail(fault: Option<Fault>, mailed: MailRun) -> Outcome
-        ensures status { result.status ≡ status_of fault }
-        ensures fault { result.fault ≡ fault }
-        ensures finished { result.finished ≡ None }
-        ensures dumped { result.dumped ≡ None }
-        ensures mailed { result.mailed ≡ Some mailed }
-    {
-        Outcome {
-            status: status(fault),
-            fault,
-            finished: None,
-            dumped: None,
-            mailed: Some(mailed),
-        }
-    }
-
-    pub(crate) fn refused(fault: Fault) -> Outcome
-        ensures status { result.status ≡ status_of (Some fault) }
-        ensures fault { result.fault ≡ Some fault }
-        ensures finished { result.finished ≡ None }
-        ensures dumped { result.dumped ≡ None }
-        ensures mailed { result.mailed ≡ None }
-    {
-        Outcome::new(Some(fault), None)
-    }
-
-    /// How a run ends whose words are faulty.
-    pub(crate) fn usage() -> Outcome
-        ensures status { result.status ≡ 1 }
-        ensures fault { result.fault ≡ Some Fault.Usage }
-        ensures finished { result.finished ≡ None }
-        ensures dumped { result.dumped ≡ None }
-        ensures mailed { result.mailed ≡ None }
-    {
-        Outcome::refused(Fault::Usage)
-    }
-
-    /// How a run ends whose text was offered to a sink, by what became of the text.
-    pub(crate) fn by_writing(wrote: Result<(), OutFault>, finished: Option<Finished>) -> Outcome
-        ensures status { result.status ≡ status_of result.fault }
-        ensures fault { result.fault ≡ fault_by wrote }
-        ensures finished { result.finished ≡ kept_by wrote finished }
-        ensures dumped { result.dumped ≡ None }
-        ensures mailed { result.mailed ≡ None }
-    {
-        match wrote {
-            Ok(()) => Outcome::new(None, finished),
-            Err(OutFault::Failed) => Outcome::new(Some(Fault::WriteFault), finished),
-            Err(OutFault::NoMemory) => Outcome::refused(Fault::Memory),
-        }
-    }
-
-    /// The same of a run whose dump was offered.
-    pub(crate) fn by_dumping(wrote: Result<(), OutFault>, dumped: Dumped) -> Outcome
-        ensures status { result.status ≡ status_of result.fault }
-        ensures fault { result.fault ≡ fault_by wrote }
-        ensures finished { result.finished ≡ None }
-        ensures dumped { result.dumped ≡ kept_dump wrote dumped }
-        ensures mailed { result.mailed ≡ None }
-    {
-        match wrote {
-            Ok(()) => Outcome::with_dump(None, dumped),
-            Err(OutFault::Failed) => Outcome::with_dump(Some(Fault::WriteFault), dumped),
-            Err(OutFault::NoMemory) => Outcome::refused(Fault::Memory),
-        }
-    }
-
-    /// The same of a run of a mailbox, whose text was offered.
-    pub(crate) fn by_mailing(wrote: Result<(), OutFault>, mailed: MailRun) -> Outcome
-        ensures status { result.status ≡ status_of result.fault }
-        ensures fault { result.fault ≡ fault_by wrote }
-        ensures finished { result.finished ≡ None }
-        ensures dumped { result.dumped ≡ None }
-        ensures mailed { result.mailed ≡ kept_mail wrote mailed }
-    {
-        match wrote {
-            Ok(()) => Outcome::with_mail(None, mailed),
-            Err(OutFault::Failed) => Outcome::with_mail(Some(Fault::WriteFault), mailed),
-            Err(OutFault::NoMemory) => Outcome::refused(Fault::Memory),
         }
     }
 }

@@ -1,12 +1,14 @@
 //! One file: it is replayed as a schedule, loaded as a dump or counted as a heap.
-ghost use Rattle.std.specs.Prelude.{◌≡◌, ℕ, ◌+◌, ◌≤◌, ◌⊎◌, IsErrOf, None, OnOk};
+ghost use Rattle.std.specs.Prelude.{◌≡◌, ℕ, ◌+◌, ◌≤◌, IsErrOf, OnOk, Some};
 ghost use Rattle.outside.specs.Calls.{IsUnbroken, IsOrderly};
 ghost use Rattle.outside.specs.Causes.{Rose, next_count};
-ghost use Rattle.doc_run.specs.Reading.{AnswersFile, ExplainsFile, WritesFile};
-ghost use Rattle.script_files.specs.Fault.{status_of};
+ghost use Rattle.doc_run.specs.Answers.{Decided, refusal_of};
+ghost use Rattle.doc_run.specs.Reading.{AnswersFile};
+ghost use Rattle.doc_run.specs.Reads.{Reads};
+ghost use Rattle.doc_run.specs.Request.{asked_of};
 
-use crate::outcome::Outcome;
-use outside::{OutFault, READ_LIMIT, Shelf, Sink, write_all};
+use crate::answer::{Answer, Refusal};
+use outside::{READ_LIMIT, Shelf};
 use run_output::{census_text, loaded_text};
 use script_files::{Fault, census_in_file, dump_in_file, replay_in_file};
 use std::alloc::Global;
@@ -22,46 +24,26 @@ pub enum Reading {
     Images,
 }
 
-/// Reads the file of this name, and writes the answer to it.
-pub fn answer_file<H: Shelf, S: Sink>(
+/// Its text.
+pub fn answer_file<H: Shelf>(
     alloc: Global,
     reading: Reading,
     name: &str,
     shelf: &mut H,
-    sink: &mut S,
-) -> Outcome
-    ensures status { result.status ≡ status_of result.fault }
-    ensures finished { result.finished ≡ None }
-    ensures dumped { result.dumped ≡ None }
-    ensures mailed { result.mailed ≡ None }
-    ensures explained { ExplainsFile reading (H.holds shelf.old name.now) result.fault }
-    ensures written { WritesFile reading (H.holds shelf.old name.now) (S.written sink.old)
-        (S.written sink.new) result.fault }
-    ensures read { result.status ≡ 3 → Rose (H.faults shelf.old) (H.faults shelf.new) }
-    ensures write { result.status ≡ 4 → Rose (S.faults sink.old) (S.faults sink.new) }
-    ensures memory { result.status ≡ 5 → (S.written sink.new ≡ S.written sink.old)
-        ⊎ Rose (S.wants sink.old) (S.wants sink.new) }
-    ensures unbroken_shelf { result.status ≡ 0 → IsUnbroken (H.course shelf.old)
-        → IsUnbroken (H.course shelf.new) }
-    ensures unbroken_sink { result.status ≡ 0 → IsUnbroken (S.course sink.old)
-        → IsUnbroken (S.course sink.new) }
-    ensures orderly_shelf { IsUnbroken (H.course shelf.old) → IsOrderly (H.course shelf.new) }
-    ensures orderly_sink { IsUnbroken (S.course sink.old) → IsOrderly (S.course sink.new) }
-    ensures opens { H.opens shelf.new ≡ next_count (H.opens shelf.old) }
-    ensures calls { H.calls shelf.new ≤ H.calls shelf.old + READ_LIMIT + 1 }
+) -> Result<Answer, Refusal>
+    ensures decided { Decided (H.holds shelf.old) (Some (asked_of reading name.now)) result }
+    ensures reads { Reads (H.holds shelf.old) (Some (asked_of reading name.now))
+        (refusal_of result) READ_LIMIT (H.opens shelf.old) (H.opens shelf.new)
+        (H.calls shelf.old) (H.calls shelf.new) (H.faults shelf.old) (H.faults shelf.new)
+        (H.course shelf.old) (H.course shelf.new) }
 {
-    let text = match file_text(alloc, reading, name, shelf) {
-        Ok(text) => text,
-        Err(fault) => return Outcome::refused(fault),
-    };
-    match write_all(sink, &text) {
-        Ok(()) => Outcome::new(None, None),
-        Err(OutFault::Failed) => Outcome::refused(Fault::WriteFault),
-        Err(OutFault::NoMemory) => Outcome::refused(Fault::Memory),
+    match file_text(alloc, reading, name, shelf) {
+        Ok(text) => Ok(Answer::Text(text)),
+        Err(fault) => Err(Refusal::by(fault)),
     }
 }
 
-// The answer to the file of this name.
+// Its text.
 fn file_text<H: Shelf>(
     alloc: Global,
     reading: Reading,

@@ -1,7 +1,7 @@
 //! The summary of a run of generated scripts.
 ghost use Rattle.std.specs.Prelude.{◌≡◌, ◌*◌, ◌≤◌, IfOk};
 ghost use Rattle.doc_run.specs.Clients.{IsRunGiven, IsMade, default_options};
-ghost use Rattle.doc_run.specs.Ending.{IsSummaryOf, numbers_of};
+ghost use Rattle.doc_run.specs.Made.{IsSummaryOf, numbers_of};
 ghost use Rattle.run_words.specs.Limits.{IsGenWithin};
 
 use doc_model::{NoMemory, is_legal, merge};

@@ -1,18 +1,20 @@
 //! The top call: what is promised of it are six sentences, and four lines on what it hands back.
 //!
-//! A sentence is a record of `specs/Sentences`, whose fields are its facts by name. `requests` has
-//! what is done.
+//! A sentence is a record of `specs/Sentences`, whose fields are its facts by name; that on the
+//! status which is due is a line a request, of `specs/Due`.
 ghost use Rattle.std.specs.Prelude.{◌≡◌, ◌⊎◌, ◌↔◌, IsSome};
 ghost use Rattle.std.specs.Io.KnownBytes.{Appends};
+ghost use Rattle.doc_run.specs.Due.{IsDueOf};
 ghost use Rattle.doc_run.specs.Guested.{IsTooLarge};
-ghost use Rattle.doc_run.specs.Request.{AsksDump, AsksMail, RunsClients};
-ghost use Rattle.doc_run.specs.Sentences.{Calls, Completed, Due, Failures, Refusals, Written};
+ghost use Rattle.doc_run.specs.Request.{ForClients, ForDump, ForMailbox, kind_of};
+ghost use Rattle.doc_run.specs.Sentences.{Calls, Completed, Failures, Refusals, Written};
 ghost use Rattle.run_words.specs.Requests.{request_of};
 ghost use Rattle.script_files.specs.Fault.{status_of};
 
 use crate::outcome::Outcome;
 use crate::requests::answer_request;
 use crate::words::Words;
+use crate::writing::write;
 use outside::{Gate, READ_LIMIT, Shelf, Sink};
 use std::alloc::Global;
 use std::sync::Wait;
@@ -30,14 +32,14 @@ pub fn run<R: Threads + Wait + Sync, H: Shelf, S: Sink, G: Gate + Sync>(
 ) -> Outcome
     ensures status { result.status ≡ status_of result.fault }
     ensures finished { IsSome result.finished
-        ↔ (RunsClients (request_of words.now)
+        ↔ ((kind_of (request_of words.now) ≡ ForClients)
         × ((result.status ≡ 0) ⊎ (result.status ≡ 4))) }
     ensures dumped { IsSome result.dumped
-        ↔ (AsksDump (request_of words.now)
+        ↔ ((kind_of (request_of words.now) ≡ ForDump)
         × ((result.status ≡ 0) ⊎ (result.status ≡ 4)
         ⊎ ((result.status ≡ 6) × IsTooLarge result.dumped))) }
     ensures mailed { IsSome result.mailed
-        ↔ (AsksMail (request_of words.now)
+        ↔ ((kind_of (request_of words.now) ≡ ForMailbox)
         × ((result.status ≡ 0) ⊎ (result.status ≡ 4))) }
 
     // At status 0 what the request comes to is handed back, and all of its text was written.
@@ -47,7 +49,7 @@ pub fn run<R: Threads + Wait + Sync, H: Shelf, S: Sink, G: Gate + Sync>(
     // Words are refused, and files, for what they are.
     ensures refused { Refusals (H.holds shelf.old) (request_of words.now) result }
     // The status is that which the files call for.
-    ensures due { Due (H.holds shelf.old) (request_of words.now) result }
+    ensures due { IsDueOf (H.holds shelf.old) (request_of words.now) result.dumped result.status }
     // Any other comes where a device failed, or memory was wanting.
     ensures failed { Failures result (H.opens shelf.old) (H.opens shelf.new)
         (H.faults shelf.old) (H.faults shelf.new)
@@ -61,5 +63,5 @@ pub fn run<R: Threads + Wait + Sync, H: Shelf, S: Sink, G: Gate + Sync>(
         (H.opens shelf.old) (H.opens shelf.new) (H.calls shelf.old) (H.calls shelf.new)
         (H.course shelf.old) (H.course shelf.new) (S.course sink.old) (S.course sink.new) }
 {
-    answer_request(alloc, rt, words, shelf, sink, gate)
+    write(sink, answer_request(alloc, rt, words, shelf, gate))
 }
