@@ -1,3 +1,4 @@
+pub mod EachDone
 pub mod FirstRows
-mod Joins
+pub mod Joined
 pub mod Sums

@@ -1,8 +1,8 @@
--- The sum over all passes, where one of them grows.
-use Rattle.std.proofs.Common.{◌≡◌, ◌<◌, ◌+◌, ℕ, zero, suc, List, [], ◌∷◌, length}
-use Rattle.std.proofs.Common.{ap, refl, arith, slice_set}
+-- Sums over all passes, where one of them grows, and over what all workers have.
+use Rattle.std.proofs.Common.{◌≡◌, ◌≤◌, ◌<◌, ◌+◌, ℕ, zero, suc, List, [], ◌∷◌, length}
+use Rattle.std.proofs.Common.{All, ap, refl, arith, slice_set, take}
 use Rattle.std.specs.Prelude.{slice_index_or, sum_by}
-use Rattle.std.proofs.lemmas.List.Sums.{sum_by-set}
+use Rattle.std.proofs.lemmas.List.Sums.{sum_by-le, sum_by-set, sum_by_more_le}
 use mathlib.Core.Option.{some, some-injective}
 use lib.ListN.{get_elem?}
 
@@ -25,3 +25,14 @@ module _ {P : Type 0} where
       let all = sum_by-set of passes i q p (within passes i p at) in
       let was : of (slice_index_or passes i p) ≡ of p = ap of (there passes i p at) in
       omega (arith, all, was, one)
+
+-- a sum of numbers below 2^32, of which there are fewer than 2^32, is below 2^64: so is each that
+-- it grows by
+pub sum_fits : {A : Type 0} (of : A → ℕ) (xs : List A) (i : ℕ) (x : A) → length xs ≤ 4294967295
+    → All (λ (y : A). of y ≤ 4294967295) xs → i < length xs → x ≡ slice_index_or xs i x
+    → sum_by of (take i xs) + of x < 18446744073709551616
+sum_fits of xs i x few small lt is =
+    let part = sum_by_more_le of xs i x lt in
+    let same : of x ≡ of (slice_index_or xs i x) = ap of is in
+    let all = sum_by-le of 4294967295 xs small in
+    omega (arith, part, same, all, few)

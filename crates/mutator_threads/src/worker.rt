@@ -2,9 +2,10 @@ use cell_heap::MutSeat;
 use free_cells::HintPass;
 use heap_rule::Keeping;
 
-/// What a mutator's thread owns: its seat, and its pass of the hints.
+/// What the thread of a mutator owns: its seat, its pass of the hints, and what it has of its own.
 #[derive(Drop)]
-pub struct Worker<P: Keeping> {
+pub struct Worker<P: Keeping, T> {
     pub seat: MutSeat<P>,
     pub pass: HintPass,
+    pub own: T,
 }

@@ -1,25 +1,30 @@
--- The counter at the close: it is the sum of what the four mutators added.
+-- The counter at the close: it is the sum of what the mutators added.
 use Rattle.std.proofs.Common.{◌≡◌, ◌∙◌, ◌+◌, ◌∷◌, ℕ, List, [], Bool, true, false, Option, Some, None}
-use Rattle.std.proofs.Common.{ap, sym, refl, arith, length}
-use Rattle.beside_collector.specs.Freed.{freed_by}
+use Rattle.std.proofs.Common.{◌≤◌, All, ap, sym, subst, refl, arith, length, sum_by}
+use Rattle.std.proofs.lemmas.List.Elements.{All-cons, All-nil}
+use Rattle.std.proofs.lemmas.List.Sums.{sum_by-cons}
+use Rattle.beside_collector.specs.Places.{AllFrom}
 use Rattle.cell_words.specs.Term.{Term, num, number, part, parts}
-use Rattle.cell_words.specs.declared.controls.Control.{Control}
 use Rattle.cell_words.specs.declared.fields.Field.{Field}
 use Rattle.cell_words.specs.declared.fields.Field.TheVariants as word
-use Rattle.core_machine.specs.State.{State, field_of}
+use Rattle.core_machine.specs.State.{State, field_of, greatest_cycles}
 use Rattle.dlg_core.specs.Reachable.{Reachable, anchor, named}
 use Rattle.heap_rule.specs.Facts.{Facts, TermFits, is_record_kind}
-use Rattle.heap_rule.specs.Laws.{ShowsRun}
 use Rattle.heap_rule.specs.Lore.{Entry, Lore, Plain, Terms, entry_of, five_of, named_or, term_of}
 use Rattle.heap_rule.specs.NoRule.{no_field_is_fixed}
 use Rattle.heap_rule.specs.Shape.{Shape}
 use Rattle.heap_rule.specs.declared.view.View.{View}
-use Rattle.heap_table.specs.Images.{ImageView}
-use Rattle.mutator_threads.specs.Closing.{IsClosed}
+use Rattle.heap_table.specs.Seats.{HeapId}
+use Rattle.mutator_threads.specs.Closing.{IsClosed, passes_of}
+use Rattle.mutator_threads.specs.Mutators.{own_of, views_of}
+use Rattle.mutator_threads.specs.declared.closing.Closed.{Closed}
+use Rattle.mutator_threads.specs.declared.worker.Worker.{Worker}
+use Rattle.shared_counter.specs.Adding.{HasAdded}
 use Rattle.shared_counter.specs.Counting.{Counts, nothing_added, number_behind, number_in}
 use Rattle.shared_counter.specs.Counting.{number_record, sum_of}
-use Rattle.shared_counter.specs.Leaving.{Leaves}
+use Rattle.shared_counter.specs.Leaving.{Leaves, counter_shape}
 use Rattle.shared_counter.specs.declared.counter.Added.{Added}
+use Rattle.shared_counter.specs.declared.running.Adder.{Adder}
 use Rattle.shared_counter.proofs.Anchors.{named_term}
 use Rattle.shared_counter.proofs.Picks.{counter_is}
 
@@ -75,36 +80,74 @@ module _ (s : State) (l : Lore) (facts : Facts no_field_is_fixed s l) where
         ),
       )
 
+-- what the workers counted is what their passes sum to
+sums : (heap : HeapId) (place : ℕ) (workers : List (Worker Added Adder))
+    → AllFrom (HasAdded heap) place workers
+    → sum_of (passes_of (views_of workers)) ≡ sum_by (λ (a : Adder). a.sum) (own_of workers)
+sums heap place [] all = refl
+sums heap place (w ∷ ws) all =
+    let passes = sum_by-cons (λ (p : Added). p.sum) w.seat.me.pass (passes_of (views_of ws)) in
+    let counted = sum_by-cons (λ (a : Adder). a.sum) w.own (own_of ws) in
+    let same : w.seat.me.pass.sum ≡ w.own.sum = ap (λ (p : Added). p.sum) all.0.pass_is in
+    let more = sums heap (place + 1) ws all.1 in
+    omega (arith, passes, counted, same, more)
+
 -- The seats of all mutators were joined, and the heap was closed.
-module _ (h : Shape) (image : ImageView) (was view : View Added) (a b c d : ℕ)
-    (passes : List Added) (left : passes ≡ record { sum = a } ∷ record { sum = b }
-    ∷ record { sum = c } ∷ record { sum = d } ∷ []) (mutators : h.mutators ≡ 4)
-    (closed : IsClosed nothing_added Counts no_field_is_fixed h was passes image view) where
-  abbrev shown : ShowsRun nothing_added Counts no_field_is_fixed h closed.ended.at
-  shown = closed.ended.shows
-
-  -- the passes sum to what they have added
-  summed : sum_of shown.passes ≡ a + b + c + d
-  summed = ap sum_of (closed.passes_are ∙ left) ∙ omega arith
-
-  -- and so the anchor names the record of that number
-  counted : (cell : ℕ) × ((field_of shown.core 0 0 ≡ word.Cell cell)
-      × (field_of shown.core cell 0 ≡ word.Num (a + b + c + d)))
-  counted =
-      counter_from shown.core shown.lore shown.facts (a + b + c + d) (field_of shown.core 0 0) refl
+module _ (cells threads sum : ℕ) (views : List (View Added)) (closed : Closed Added)
+    (summed : sum_of (passes_of views) ≡ sum) where
+  at_shape : IsClosed nothing_added Counts no_field_is_fixed (counter_shape cells threads)
+      greatest_cycles views closed
+      → Leaves cells threads sum closed.freed closed.image closed.passes
+  at_shape done =
+      let has = done.has_closed in
+      let shown = has.ended.shows in
+      let all : sum_of shown.passes ≡ sum = ap sum_of done.passes_are ∙ summed in
+      let counted = counter_from shown.core shown.lore shown.facts sum (field_of shown.core 0 0)
+      refl
       (counter_is shown.core shown.lore shown.passes shown.kept
-      ∙ ap (λ (n : ℕ). Plain (number_record n)) summed)
+      ∙ ap (λ (n : ℕ). Plain (number_record n)) all) in
+      record {
+        ended = has.ended;
+        shows = has.shows;
+        counter = ap (number_behind shown.core) counted.1.0 ∙ ap number_in counted.1.1;
+        summed = all;
+        collected = has.collected;
+      }
 
-  pub leaves : was.control.duty ≡ false
-      → Leaves h.cells (a + b + c + d) (freed_by was.trail) image view
-  leaves off = record {
-    shape = h;
-    cells_are = refl;
-    mutators_are = mutators;
-    ended = closed.ended;
-    shows = closed.shows;
-    counter = ap (number_behind shown.core) counted.1.0 ∙ ap number_in counted.1.1;
-    summed = summed;
-    freed_are = ap freed_by closed.trail_is;
-    off_duty = ap (λ (k : Control). k.duty) closed.control_is ∙ off;
-  }
+  leaves_so : (h : Shape) → h ≡ counter_shape cells threads
+      → IsClosed nothing_added Counts no_field_is_fixed h greatest_cycles views closed
+      → Leaves cells threads sum closed.freed closed.image closed.passes
+  leaves_so h is =
+      subst (λ (k : Shape).
+      IsClosed nothing_added Counts no_field_is_fixed k greatest_cycles views closed
+      → Leaves cells threads sum closed.freed closed.image closed.passes) (sym is) at_shape
+
+-- of the workers, whose counts are these
+pub leaves : (heap : HeapId) (cells threads : ℕ) (workers : List (Worker Added Adder))
+    (adders : List Adder) (closed : Closed Added) → adders ≡ own_of workers
+    → AllFrom (HasAdded heap) 0 workers → heap.shape ≡ counter_shape cells threads
+    → IsClosed nothing_added Counts no_field_is_fixed heap.shape greatest_cycles
+    (views_of workers) closed
+    → Leaves cells threads (sum_by (λ (a : Adder). a.sum) adders) closed.freed closed.image
+    closed.passes
+leaves heap cells threads workers adders closed are all is done =
+    leaves_so cells threads (sum_by (λ (a : Adder). a.sum) adders) (views_of workers) closed
+    (sums heap 0 workers all
+    ∙ ap (λ (xs : List Adder). sum_by (λ (a : Adder). a.sum) xs) (sym are))
+    heap.shape is done
+
+-- their counts are small
+small_own : (heap : HeapId) (place : ℕ) (workers : List (Worker Added Adder))
+    → AllFrom (HasAdded heap) place workers
+    → All (λ (a : Adder). a.sum ≤ 4294967295) (own_of workers)
+small_own heap place [] all = All-nil (λ (a : Adder). a.sum ≤ 4294967295)
+small_own heap place (w ∷ ws) all =
+    All-cons (λ (a : Adder). a.sum ≤ 4294967295) w.own (own_of ws) all.0.few
+    (small_own heap (place + 1) ws all.1)
+
+pub small_counts : (heap : HeapId) (workers : List (Worker Added Adder)) (adders : List Adder)
+    → adders ≡ own_of workers → AllFrom (HasAdded heap) 0 workers
+    → All (λ (a : Adder). a.sum ≤ 4294967295) adders
+small_counts heap workers adders are all =
+    subst (λ (xs : List Adder). All (λ (a : Adder). a.sum ≤ 4294967295) xs) (sym are)
+    (small_own heap 0 workers all)

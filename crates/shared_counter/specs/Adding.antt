@@ -10,8 +10,9 @@ use Rattle.mutator_events.specs.declared.values.Value.TheVariants as values
 use Rattle.mutator_seat.specs.Bound.{Bound, held_cells}
 use Rattle.mutator_threads.specs.Mutators.{IsOver, IsWorker}
 use Rattle.shared_counter.specs.declared.counter.Added.{Added}
+use Rattle.mutator_threads.specs.declared.worker.Worker.{Worker}
+use Rattle.shared_counter.specs.Counting.{nothing_added, number_record}
 use Rattle.shared_counter.specs.declared.running.Adder.{Adder}
-use Rattle.shared_counter.specs.Counting.{number_record}
 
 -- it is in, and holds the anchor and then these cells, of which it knows this
 pub record Holds (cells : List ℕ) (more : List Known) (m : Bound Added) : Type 0 where
@@ -68,8 +69,15 @@ pub record IsDone (heap : HeapId) (number sum : ℕ) (seat : SeatView Added) : T
   pub pass_is : seat.me.pass ≡ record { sum = sum }
   pub few : sum ≤ 4294967295
 
--- a thread that adds also has a private heap of one record
-pub record IsAdder (heap : HeapId) (queue : FreeQueue) (number : ℕ) (adder : Adder) : Type 0 where
-  pub worker : IsWorker heap queue number 8 (record { sum = 0 }) adder.worker
+-- what a thread has of its own before it begins: a private heap of one record
+pub record IsIdle (adder : Adder) : Type 0 where
   pub minor : adder.nursery.minor.room ≡ 1
   pub promoter : adder.nursery.promoter ≡ 1
+
+abbrev pub IsAdder : HeapId → FreeQueue → ℕ → Worker Added Adder → Type 0
+IsAdder heap queue number worker =
+    IsWorker nothing_added heap queue 8 (λ (place : ℕ) (adder : Adder). IsIdle adder) number worker
+
+-- it is over, and has added what it counted
+abbrev pub HasAdded : HeapId → ℕ → Worker Added Adder → Type 0
+HasAdded heap number worker = IsDone heap number worker.own.sum worker.seat

@@ -195,22 +195,20 @@ fn try_to_add<R: Wait>(
 pub(crate) fn work<R: Wait>(
     rt: &R,
     heap: &CellHeap<Added>,
-    hints: Hints<'_>,
+    hints: &mut Hints<'_>,
     seat: MutSeat<Added>,
-    nursery: Nursery,
+    nursery: &mut Nursery,
     tries: u32,
 ) -> (MutSeat<Added>, u64)
     requires new { IsNew heap.now seat.me.number 8 (record { sum = 0 }) seat }
-    requires minor { nursery.minor.room ≡ 1 }
-    requires promoter { nursery.promoter ≡ 1 }
+    requires minor { nursery.old.minor.room ≡ 1 }
+    requires promoter { nursery.old.promoter ≡ 1 }
     ensures done { IsDone heap.now seat.me.number result.1 result.0 }
 {
-    let mut hints = hints;
-    let mut nursery = nursery;
     let mut m = come_in(heap, seat);
     let mut sum = 0;
     for _tried in 0..tries {
-        sum += try_to_add(rt, &mut hints, &mut m, &mut nursery);
+        sum += try_to_add(rt, hints, &mut m, nursery);
     }
     (leave(m), sum)
 }

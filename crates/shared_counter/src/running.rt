@@ -1,9 +1,8 @@
 //! A thread that adds.
-ghost use Rattle.std.specs.Prelude.{◌≡◌, IfOk};
-ghost use Rattle.shared_counter.specs.Adding.{IsAdder, IsDone};
+ghost use Rattle.std.specs.Prelude.{IfOk};
+ghost use Rattle.shared_counter.specs.Adding.{HasAdded, IsAdder, IsIdle};
 
 use crate::adding::{Nursery, work};
-use crate::closing::Done;
 use crate::counter::Added;
 use cell_heap::{CellHeap, NoMemory};
 use free_cells::FreeQueue;
@@ -16,21 +15,23 @@ use std::sync::Wait;
 /// How often each thread tries to add one.
 const TRIES: u32 = 200;
 
-/// What a thread that adds owns.
+/// What a thread that adds has of its own: its private heap, and how much it has added.
 #[derive(Drop)]
 pub(crate) struct Adder {
-    pub(crate) worker: Worker<Added>,
     pub(crate) nursery: Nursery,
+    pub(crate) sum: u64,
 }
 
-/// A private heap of one record, and what promotes it.
-pub(crate) fn nursery(alloc: Global) -> Result<Nursery, NoMemory>
-    ensures minor { IfOk result (λ made. made.minor.room ≡ 1) }
-    ensures promoter { IfOk result (λ made. made.promoter ≡ 1) }
+/// A thread that has added nothing. Its private heap is of one record.
+pub(crate) fn new_adder(alloc: Global) -> Result<Adder, NoMemory>
+    ensures idle { IfOk result (λ made. IsIdle made) }
 {
-    Ok(Nursery {
-        minor: MinorHeap::with_room(alloc, 1)?,
-        promoter: Promoter::with_room(alloc, 1)?,
+    Ok(Adder {
+        nursery: Nursery {
+            minor: MinorHeap::with_room(alloc, 1)?,
+            promoter: Promoter::with_room(alloc, 1)?,
+        },
+        sum: 0,
     })
 }
 
@@ -40,12 +41,19 @@ pub(crate) fn add<R: Wait>(
     heap: &CellHeap<Added>,
     queue: &FreeQueue,
     number: u32,
-    adder: Adder,
-) -> Done
-    requires adder { IsAdder heap.now queue.now number adder }
-    ensures done { IsDone heap.now number result.1 result.0 }
+    worker: Worker<Added, Adder>,
+) -> Worker<Added, Adder>
+    requires adder { IsAdder heap.now queue.now number worker }
+    ensures added { HasAdded heap.now number result }
 {
     let _ = number;
-    let Worker { seat, pass } = adder.worker;
-    work(rt, heap, queue.hints(pass), seat, adder.nursery, TRIES)
+    let Worker { seat, pass, own } = worker;
+    let mut nursery = own.nursery;
+    let mut hints = queue.hints(pass);
+    let (seat, sum) = work(rt, heap, &mut hints, seat, &mut nursery, TRIES);
+    Worker {
+        seat,
+        pass: hints.into_pass(),
+        own: Adder { nursery, sum },
+    }
 }

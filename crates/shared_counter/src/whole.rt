@@ -1,18 +1,18 @@
-//! The whole run: a heap is opened, four threads add alongside the collector, and it is closed.
-ghost use Rattle.std.specs.Prelude.{◌≡◌, IfOk, Some};
+//! The whole run: a heap is opened, threads add alongside the collector, and it is closed.
+ghost use Rattle.std.specs.Prelude.{◌≡◌, ◌≤◌, All, IfOk, Some, length, sum_by};
 ghost use Rattle.core_machine.specs.State.{State};
 ghost use Rattle.heap_table.specs.Images.{Shows};
-ghost use Rattle.shared_counter.specs.Adding.{IsAdder, IsDone};
+ghost use Rattle.shared_counter.specs.Adding.{HasAdded, IsAdder};
 ghost use Rattle.shared_counter.specs.Counting.{counter_in, number_in};
 ghost use Rattle.shared_counter.specs.Leaving.{Leaves};
 
-use crate::closing::{Done, close_counter, open_counter};
 use crate::counter::Added;
-use crate::running::{Adder, add, nursery};
+use crate::opening::open_counter;
+use crate::running::{Adder, add};
 use cell_heap::{Image, NoMemory, Passes};
-use cell_words::Field;
+use cell_words::{Field, GREATEST_CYCLES};
 use closed_heap::field_at;
-use mutator_threads::{OnFour, Opened, run_four};
+use mutator_threads::{Closed, Opened, Worker, close, run_workers};
 use std::alloc::Global;
 use std::sync::Wait;
 use std::thread::Threads;
@@ -40,6 +40,19 @@ fn counter_of(image: &Image) -> Option<u64>
     }
 }
 
+/// What the threads counted, in all.
+fn sum_of(adders: &[Adder]) -> u64
+    requires few { length adders.now ≤ 4294967295 }
+    requires small { All (λ adder. adder.sum ≤ 4294967295) adders.now }
+    ensures sum { result ≡ sum_by (λ adder. adder.sum) adders.now }
+{
+    let mut sum = 0;
+    for adder in adders {
+        sum += adder.sum;
+    }
+    sum
+}
+
 /// The result of a run.
 #[derive(Drop)]
 pub(crate) struct Ran {
@@ -54,50 +67,37 @@ pub(crate) struct Ran {
     pub(crate) freed: u64,
 }
 
-/// Four threads add to the counter of a new heap, alongside the collector.
-pub(crate) fn run<R: Threads + Wait + Sync>(alloc: Global, rt: &R) -> Result<Ran, NoMemory>
-    ensures leaves { IfOk result (λ ran. Leaves 64 ran.sum ran.freed ran.image ran.passes) }
+/// So many threads add to the counter of a new heap, alongside the collector.
+pub(crate) fn run<R: Threads + Wait + Sync>(
+    alloc: Global,
+    rt: &R,
+    threads: u32,
+) -> Result<Ran, NoMemory>
+    ensures leaves { IfOk result (λ ran. Leaves 64 threads ran.sum ran.freed ran.image ran.passes) }
     ensures counter { IfOk result (λ ran. ran.counter ≡ Some ran.sum) }
 {
-    let opened = open_counter(alloc, rt, CELLS)?;
+    let adders = Vec::with_capacity(alloc, threads as usize)?;
+    let opened = open_counter(alloc, rt, CELLS, threads)?;
     let Opened {
         heap,
         queue,
         keeper,
-        first,
-        second,
-        third,
-        fourth,
+        workers,
     } = opened;
     let at = &heap;
     let hints = &queue;
-    let each = move |number: u32, adder: Adder| -> Done
-        requires { IsAdder at.now hints.now number adder }
-        ensures { IsDone at.entry.now number result.1 result.0 }
-    { add(rt, at, hints, number, adder) };
-    let work = OnFour {
-        first: Adder {
-            worker: first,
-            nursery: nursery(alloc)?,
-        },
-        second: Adder {
-            worker: second,
-            nursery: nursery(alloc)?,
-        },
-        third: Adder {
-            worker: third,
-            nursery: nursery(alloc)?,
-        },
-        fourth: Adder {
-            worker: fourth,
-            nursery: nursery(alloc)?,
-        },
-        each,
-    };
-    let (done, collector, freed) = run_four(alloc, rt, at, hints, keeper, work);
-    let ((first, second), (third, fourth)) = done;
-    let sum = first.1 + second.1 + third.1 + fourth.1;
-    let (image, passes) = close_counter(heap, collector, first, second, third, fourth);
+    let each = move |number: u32, worker: Worker<Added, Adder>| -> Worker<Added, Adder>
+        requires { IsAdder at.now hints.now number worker }
+        ensures { HasAdded at.entry.now number result }
+    { add(rt, at, hints, number, worker) };
+    let (workers, off) = run_workers(alloc, rt, at, hints, keeper, GREATEST_CYCLES, workers, each);
+    let (closed, adders) = close(rt, heap, &queue, GREATEST_CYCLES, off, workers, adders);
+    let Closed {
+        image,
+        passes,
+        freed,
+    } = closed;
+    let sum = sum_of(&adders);
     let counter = counter_of(&image);
     Ok(Ran {
         image,

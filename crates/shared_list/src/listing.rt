@@ -42,8 +42,18 @@ fn number_at(image: &Image, node: u32, i: usize) -> u64
     }
 }
 
+/// Whether the list has of each thread as many nodes as this says, in their order.
+pub(crate) fn has_all(image: &Image, pushed: &[u64]) -> bool {
+    for (number, count) in pushed.iter().enumerate() {
+        if !has_pushed(image, number as u64, *count) {
+            return false;
+        }
+    }
+    true
+}
+
 /// Whether the list has so many nodes of this thread, and the last that it pushed comes first.
-pub(crate) fn has_pushed(image: &Image, number: u64, pushed: u64) -> bool {
+fn has_pushed(image: &Image, number: u64, pushed: u64) -> bool {
     let mut at = field_at(image, 0, 0);
     let mut left = pushed;
     for _seen in 0..image.cells() {

@@ -11,7 +11,7 @@
 //! is known to be sealed. That no reachable cell is ever free is proved all the same, once for
 //! every program. That the list has all that was pushed is not proved: `main` checks it.
 //!
-//! Reading order: `pushing`, specs/Pushing, `listing`, `whole`, `main`.
+//! Reading order: `pushing`, specs/Pushing, `listing`, specs/Leaving, `whole`, `main`.
 #![tactic(auto)]
 
 mod listing;
@@ -20,18 +20,19 @@ mod whole;
 
 use std::io;
 
+/// How many threads push.
+const THREADS: u32 = 4;
+
 fn main(rt: HostRuntime) -> io::Result<()> {
-    match whole::run(rt.alloc(), &rt) {
+    match whole::run(rt.alloc(), &rt, THREADS) {
         Ok(ran) => {
-            let (first, second, third, fourth) = ran.pushed;
-            let whole = listing::has_pushed(&ran.image, 0, first)
-                && listing::has_pushed(&ran.image, 1, second)
-                && listing::has_pushed(&ran.image, 2, third)
-                && listing::has_pushed(&ran.image, 3, fourth);
+            let whole = listing::has_all(&ran.image, &ran.pushed);
             let nodes = listing::count_nodes(&ran.image);
             let some = nodes > 0;
             let alone = listing::count_used(&ran.image) == 2 * nodes + 1;
-            println!(rt; "the list has what each of four threads pushed: {whole}, some: {some}")?;
+            println!(rt;
+                "the list has what each of {THREADS} threads pushed: {whole}, some: {some}"
+            )?;
             println!(rt; "no other cell is used: {alone}")
         }
         Err(_) => println!(rt; "there is no memory"),

@@ -193,7 +193,7 @@ fn try_to_push<R: Wait>(
 pub(crate) fn work<R: Wait>(
     rt: &R,
     heap: &CellHeap<NoRule>,
-    hints: Hints<'_>,
+    hints: &mut Hints<'_>,
     seat: MutSeat<NoRule>,
     number: u32,
     tries: u32,
@@ -201,11 +201,10 @@ pub(crate) fn work<R: Wait>(
     requires new { IsNew heap.now number 8 (record {}) seat }
     ensures over { IsOver heap.now number result.0 }
 {
-    let mut hints = hints;
     let mut m = enter(heap, seat);
     let mut count = 0;
     for _tried in 0..tries {
-        count += try_to_push(rt, &mut hints, &mut m, number, count);
+        count += try_to_push(rt, hints, &mut m, number, count);
     }
     (go(m), count)
 }

@@ -1,12 +1,13 @@
-//! The whole run: a heap is opened, four threads push alongside the collector, and it is closed.
-ghost use Rattle.std.specs.Prelude.{◌≤◌, IfOk};
-ghost use Rattle.mutator_threads.specs.Mutators.{IsOver, IsWorker};
+//! The whole run: a heap is opened, threads push alongside the collector, and it is closed.
+ghost use Rattle.std.specs.Prelude.{◌≡◌, IfOk, length};
+ghost use Rattle.shared_list.specs.Leaving.{HasPushed, IsPusher, Leaves};
 
 use crate::pushing::work;
-use cell_heap::{Image, MutSeat, NoMemory};
-use cell_words::Field;
+use cell_heap::{CellHeap, Image, NoMemory, Passes};
+use cell_words::{Field, GREATEST_CYCLES};
+use free_cells::FreeQueue;
 use heap_rule::NoRule;
-use mutator_threads::{OnFour, Opened, Worker, close_four, open_four, run_four};
+use mutator_threads::{Closed, Opened, Worker, close, open, run_workers};
 use std::alloc::Global;
 use std::sync::Wait;
 use std::thread::Threads;
@@ -17,47 +18,78 @@ const CELLS: u32 = 1700;
 /// How often each thread tries to push a node.
 const TRIES: u32 = 200;
 
+/// Pushes, on this thread.
+fn push_all<R: Wait>(
+    rt: &R,
+    heap: &CellHeap<NoRule>,
+    queue: &FreeQueue,
+    number: u32,
+    worker: Worker<NoRule, u64>,
+) -> Worker<NoRule, u64>
+    requires worker { IsPusher heap.now queue.now number worker }
+    ensures pushed { HasPushed heap.now number result }
+{
+    let Worker { seat, pass, .. } = worker;
+    let mut hints = queue.hints(pass);
+    let (seat, own) = work(rt, heap, &mut hints, seat, number, TRIES);
+    Worker {
+        seat,
+        pass: hints.into_pass(),
+        own,
+    }
+}
+
 /// The result of a run.
 #[derive(Drop)]
 pub(crate) struct Ran {
-    /// the closed heap
+    /// the closed heap, and what its collector knew
     pub(crate) image: Image,
+    pub(crate) passes: Passes<NoRule>,
     /// how many nodes each thread says that it pushed
-    pub(crate) pushed: (u64, u64, u64, u64),
+    pub(crate) pushed: Vec<u64>,
+    /// how many cells the collector freed
+    pub(crate) freed: u64,
 }
 
-/// Four threads push on the list of a new heap, alongside the collector.
-pub(crate) fn run<R: Threads + Wait + Sync>(alloc: Global, rt: &R) -> Result<Ran, NoMemory> {
+/// So many threads push on the list of a new heap, alongside the collector.
+pub(crate) fn run<R: Threads + Wait + Sync>(
+    alloc: Global,
+    rt: &R,
+    threads: u32,
+) -> Result<Ran, NoMemory>
+    ensures leaves { IfOk result (λ ran. Leaves 1700 threads ran.freed ran.image ran.passes) }
+    ensures many { IfOk result (λ ran. length ran.pushed.items ≡ threads) }
+{
+    let pushed = Vec::with_capacity(alloc, threads as usize)?;
     let null = Field::Null;
     let anchor = [null, null, null, null, null, Field::Num(2)];
+    let own = move |_number: u32| -> Result<u64, NoMemory>
+        ensures { IfOk result (λ count. count ≡ 0) }
+    { Ok(0) };
+    let opened = open::<NoRule, _, _, R>(alloc, rt, CELLS, threads, 0, &[anchor], 8, own)?;
     let Opened {
         heap,
         queue,
         keeper,
-        first,
-        second,
-        third,
-        fourth,
-    } = open_four::<NoRule, R>(alloc, rt, CELLS, 8, &[anchor])?;
+        workers,
+    } = opened;
     let at = &heap;
     let hints = &queue;
-    let each = move |number: u32, worker: Worker<NoRule>| -> (MutSeat<NoRule>, u64)
-        requires { IsWorker at.now hints.now number 8 (record {}) worker }
-        ensures { IsOver at.entry.now number result.0 }
-    {
-        let Worker { seat, pass } = worker;
-        work(rt, at, hints.hints(pass), seat, number, TRIES)
-    };
-    let work = OnFour {
-        first,
-        second,
-        third,
-        fourth,
-        each,
-    };
-    let (done, collector, _freed) = run_four(alloc, rt, at, hints, keeper, work);
-    let ((first, second), (third, fourth)) = done;
-    let pushed = (first.1, second.1, third.1, fourth.1);
-    let (image, _passes) = close_four(heap, collector, first.0, second.0, third.0, fourth.0);
-    Ok(Ran { image, pushed })
+    let each = move |number: u32, worker: Worker<NoRule, u64>| -> Worker<NoRule, u64>
+        requires { IsPusher at.now hints.now number worker }
+        ensures { HasPushed at.entry.now number result }
+    { push_all(rt, at, hints, number, worker) };
+    let (workers, off) = run_workers(alloc, rt, at, hints, keeper, GREATEST_CYCLES, workers, each);
+    let (closed, pushed) = close(rt, heap, &queue, GREATEST_CYCLES, off, workers, pushed);
+    let Closed {
+        image,
+        passes,
+        freed,
+    } = closed;
+    Ok(Ran {
+        image,
+        passes,
+        pushed,
+        freed,
+    })
 }

@@ -1,26 +1,31 @@
--- The log at the close: it has what the four mutators appended, in the words of the closed heap.
-use Rattle.std.proofs.Common.{◌≡◌, ◌<◌, ◌∙◌, ◌+◌, ◌∷◌, ◌⊎◌, ℕ, zero, suc, List, [], inl, inr}
-use Rattle.std.proofs.Common.{ap, sym, refl, arith, false, length}
-use mathlib.Core.Option.{some}
+-- The log at the close: it has what the mutators appended, in the words of the closed heap.
+use Rattle.std.proofs.Common.{◌≡◌, ◌≤◌, ◌<◌, ◌∙◌, ◌+◌, ◌∷◌, ◌⊎◌, ℕ, zero, suc, List, [], inl, inr}
+use Rattle.std.proofs.Common.{All, ap, sym, subst, refl, arith, length, map, sum}
+use Rattle.std.proofs.lemmas.List.{length-map}
+use Rattle.std.proofs.lemmas.List.Elements.{All-cons, All-nil}
+use Rattle.std.proofs.lemmas.List.Sums.{sum_by-cons}
+use Rattle.atomic_table.proofs.Lists.{at_map}
 use lib.ListN.{get_elem?}
-use Rattle.beside_collector.specs.Freed.{freed_by}
+use Rattle.beside_collector.specs.Places.{AllFrom}
 use Rattle.cell_words.specs.Term.{null, num}
-use Rattle.cell_words.specs.declared.controls.Control.{Control}
 use Rattle.cell_words.specs.declared.fields.Field.{Field}
 use Rattle.cell_words.specs.declared.fields.Field.TheVariants as word
-use Rattle.core_machine.specs.State.{State, field_of}
+use Rattle.core_machine.specs.State.{State, field_of, greatest_cycles}
 use Rattle.heap_rule.specs.Boxes.{boxes_of, payload_of}
 use Rattle.heap_rule.specs.Facts.{Facts}
-use Rattle.heap_rule.specs.Laws.{ShowsRun}
 use Rattle.heap_rule.specs.Lore.{Lore, Named, Plain}
 use Rattle.heap_rule.specs.Shape.{Shape}
 use Rattle.heap_rule.specs.declared.view.View.{View}
 use Rattle.heap_rule.proofs.Entries.{same_entry}
 use Rattle.heap_rule.proofs.EntryWords.{null_word, number_word}
 use Rattle.heap_rule.proofs.Maps.{In, entry_names, in_map, of_map}
-use Rattle.heap_table.specs.Images.{ImageView}
-use Rattle.mutator_threads.specs.Closing.{IsClosed}
-use Rattle.shared_log.specs.Leaving.{Counts, Leaves, LogFrom, all_of, boxes_from}
+use Rattle.heap_table.specs.Seats.{HeapId}
+use Rattle.mutator_threads.specs.Closing.{IsClosed, passes_of}
+use Rattle.mutator_threads.specs.Mutators.{own_of, views_of}
+use Rattle.mutator_threads.specs.declared.closing.Closed.{Closed}
+use Rattle.mutator_threads.specs.declared.worker.Worker.{Worker}
+use Rattle.shared_log.specs.Appending.{HasAppended}
+use Rattle.shared_log.specs.Leaving.{Leaves, LogFrom, boxes_from, log_shape}
 use Rattle.shared_log.specs.Logging.{Chain, HasNumber, KeepsLog, entries_of, is_fixed}
 use Rattle.shared_log.specs.Logging.{nothing_appended, sum_of}
 use Rattle.shared_log.specs.declared.log.Appended.{Appended}
@@ -72,44 +77,91 @@ module _ (s : State) (l : Lore) (facts : Facts is_fixed s l) where
       log_from h.newest h.writers (field_of s 0 0)
       (entry_names l.terms (field_of s 0 0) h.newest (anchor_entry s l passes h ∙ h.names)) h.chain
 
+-- the pass of who has appended so many
+abbrev pass_with : ℕ → Appended
+pass_with n = record { count = n }
+
+-- the passes of the workers are those of their counts
+passes_so : (heap : HeapId) (place : ℕ) (workers : List (Worker Appended ℕ))
+    → AllFrom (HasAppended heap) place workers
+    → passes_of (views_of workers) ≡ map pass_with (own_of workers)
+passes_so heap place [] all = refl
+passes_so heap place (w ∷ ws) all =
+    let first : w.seat.me.pass ≡ pass_with w.own = all.0.pass_is in
+    let more : passes_of (views_of ws) ≡ map pass_with (own_of ws) =
+    passes_so heap (place + 1) ws all.1 in
+    (λ i. first i ∷ more i)
+
+sum_with : (counts : List ℕ) → sum_of (map pass_with counts) ≡ sum counts
+sum_with [] = refl
+sum_with (n ∷ counts) =
+    let passes = sum_by-cons (λ (p : Appended). p.count) (pass_with n) (map pass_with counts) in
+    let numbers = sum_by-cons (λ (k : ℕ). k) n counts in
+    let more = sum_with counts in
+    omega (arith, passes, numbers, more)
+
 -- The seats of all mutators were joined, and the heap was closed.
-module _ (h : Shape) (image : ImageView) (was view : View Appended) (counts : Counts)
-    (passes : List Appended) (left : passes ≡ record { count = counts.first }
-    ∷ record { count = counts.second } ∷ record { count = counts.third }
-    ∷ record { count = counts.fourth } ∷ []) (mutators : h.mutators ≡ 4)
-    (closed : IsClosed nothing_appended KeepsLog is_fixed h was passes image view) where
-  abbrev shown : ShowsRun nothing_appended KeepsLog is_fixed h closed.ended.at
-  shown = closed.ended.shows
+module _ (cells : ℕ) (counts : List ℕ) (views : List (View Appended)) (closed : Closed Appended)
+    (those : passes_of views ≡ map pass_with counts) where
+  at_shape : IsClosed nothing_appended KeepsLog is_fixed (log_shape cells (length counts))
+      greatest_cycles views closed
+      → Leaves cells counts closed.freed closed.image closed.passes
+  at_shape done =
+      let has = done.has_closed in
+      let shown = has.ended.shows in
+      let log = shown.kept in
+      let passes : shown.passes ≡ map pass_with counts = done.passes_are ∙ those in
+      record {
+        ended = has.ended;
+        shows = has.shows;
+        writers = log.writers;
+        log = whole_log shown.core shown.lore shown.facts shown.passes log;
+        many = log.many ∙ ap sum_of passes ∙ sum_with counts;
+        by = λ number count at.
+            sym (log.own number (pass_with count)
+            (ap (λ (ps : List Appended). get_elem? ps number) passes
+            ∙ at_map pass_with counts number count at));
+        collected = has.collected;
+      }
 
-  abbrev log : KeepsLog (boxes_of shown.core shown.lore) shown.passes
-  log = shown.kept
+  leaves_so : (h : Shape) → h ≡ log_shape cells (length counts)
+      → IsClosed nothing_appended KeepsLog is_fixed h greatest_cycles views closed
+      → Leaves cells counts closed.freed closed.image closed.passes
+  leaves_so h is =
+      subst (λ (k : Shape).
+      IsClosed nothing_appended KeepsLog is_fixed k greatest_cycles views closed
+      → Leaves cells counts closed.freed closed.image closed.passes) (sym is) at_shape
 
-  many_are : length log.writers ≡ all_of counts
-  many_are = log.many ∙ ap sum_of (closed.passes_are ∙ left) ∙ omega arith
+-- of the workers, whose counts are these
+pub leaves : (heap : HeapId) (cells : ℕ) (workers : List (Worker Appended ℕ))
+    (counts : List ℕ) (closed : Closed Appended) → counts ≡ own_of workers
+    → AllFrom (HasAppended heap) 0 workers → heap.shape ≡ log_shape cells (length workers)
+    → IsClosed nothing_appended KeepsLog is_fixed heap.shape greatest_cycles
+    (views_of workers) closed
+    → Leaves cells counts closed.freed closed.image closed.passes
+leaves heap cells workers counts closed are all is done =
+    let many : length workers ≡ length counts =
+    sym (ap (λ (xs : List ℕ). length xs) are
+    ∙ length-map workers (λ (w : Worker Appended ℕ). w.own)) in
+    leaves_so cells counts (views_of workers) closed
+    (passes_so heap 0 workers all ∙ ap (map pass_with) (sym are)) heap.shape
+    (is ∙ ap (λ (n : ℕ). log_shape cells n) many) done
 
-  by : (i n : ℕ) → get_elem? passes i ≡ some record { count = n } → entries_of i log.writers ≡ n
-  by i n at =
-      sym (log.own i record { count = n }
-      (ap (λ (ps : List Appended). get_elem? ps i) closed.passes_are ∙ at))
+-- their counts are small
+small_own : (heap : HeapId) (place : ℕ) (workers : List (Worker Appended ℕ))
+    → AllFrom (HasAppended heap) place workers
+    → All (λ (n : ℕ). n ≤ 4294967295) (own_of workers)
+small_own heap place [] all = All-nil (λ (n : ℕ). n ≤ 4294967295)
+small_own heap place (w ∷ ws) all =
+    All-cons (λ (n : ℕ). n ≤ 4294967295) w.own (own_of ws) all.0.few
+    (small_own heap (place + 1) ws all.1)
 
-  pub leaves : was.control.duty ≡ false
-      → Leaves h.cells counts (freed_by was.trail) image view
-  leaves off = record {
-    shape = h;
-    cells_are = refl;
-    mutators_are = mutators;
-    ended = closed.ended;
-    shows = closed.shows;
-    writers = log.writers;
-    log = whole_log shown.core shown.lore shown.facts shown.passes log;
-    many = many_are;
-    by_first = by 0 counts.first (ap (λ (ps : List Appended). get_elem? ps 0) left);
-    by_second = by 1 counts.second (ap (λ (ps : List Appended). get_elem? ps 1) left);
-    by_third = by 2 counts.third (ap (λ (ps : List Appended). get_elem? ps 2) left);
-    by_fourth = by 3 counts.fourth (ap (λ (ps : List Appended). get_elem? ps 3) left);
-    freed_are = ap freed_by closed.trail_is;
-    off_duty = ap (λ (k : Control). k.duty) closed.control_is ∙ off;
-  }
+pub small_counts : (heap : HeapId) (workers : List (Worker Appended ℕ)) (counts : List ℕ)
+    → counts ≡ own_of workers → AllFrom (HasAppended heap) 0 workers
+    → All (λ (n : ℕ). n ≤ 4294967295) counts
+small_counts heap workers counts are all =
+    subst (λ (xs : List ℕ). All (λ (n : ℕ). n ≤ 4294967295) xs) (sym are)
+    (small_own heap 0 workers all)
 
 -- A walk along the log, from its newest entry on.
 module _ (s : State) where

@@ -37,7 +37,7 @@ entry_values number writer count =
     ∷ values.Null ∷ []
 
 module _ (a : Bound Appended) (number writer count : ℕ) (at : HoldsEntry number a) where
-  pub may_name : number < 1000000 → writer < 4 → count ≤ 4294967295
+  pub may_name : number < 1000000 → writer ≤ 4294967295 → count ≤ 4294967295
       → (i : ℕ) → i < 5
       → MayName a.seat.me (length a.seat.me.own.held)
       (value_at (entry_values number writer count) i)

@@ -1,11 +1,13 @@
 -- What a thread knows of its mutator between two calls.
 -- Source: this project's.
 use Rattle.std.specs.Prelude.{ℕ, ◌≡◌, ◌≤◌, ◌+◌, length}
+use Rattle.free_cells.specs.declared.queue.FreeQueue.{FreeQueue}
 use Rattle.heap_table.specs.Seats.{HeapId, SeatView}
 use Rattle.mutator_seat.specs.Bound.{Bound}
-use Rattle.mutator_threads.specs.Mutators.{IsOver}
+use Rattle.mutator_threads.specs.Mutators.{IsOver, IsWorker}
+use Rattle.mutator_threads.specs.declared.worker.Worker.{Worker}
 use Rattle.cell_making.specs.Resting.{Loose}
-use Rattle.shared_log.specs.Logging.{KnowsEntry, MayAppend}
+use Rattle.shared_log.specs.Logging.{KnowsEntry, MayAppend, nothing_appended}
 use Rattle.shared_log.specs.declared.log.Appended.{Appended}
 
 -- It holds the anchor and the box with this number, and has room for eight places.
@@ -34,3 +36,17 @@ pub record IsDone (heap : HeapId) (number count : ℕ) (seat : SeatView Appended
   pub is_over : IsOver heap number seat
   pub pass_is : seat.me.pass ≡ record { count = count }
   pub few : count ≤ 4294967295
+
+-- What a thread has of its own is how many it has appended.
+
+-- it has appended none
+abbrev pub IsIdle : ℕ → ℕ → Type 0
+IsIdle number count = count ≡ 0
+
+abbrev pub IsAppender : HeapId → FreeQueue → ℕ → Worker Appended ℕ → Type 0
+IsAppender heap queue number worker =
+    IsWorker nothing_appended heap queue 8 IsIdle number worker
+
+-- it is over, and has appended what it counted
+abbrev pub HasAppended : HeapId → ℕ → Worker Appended ℕ → Type 0
+HasAppended heap number worker = IsDone heap number worker.own worker.seat

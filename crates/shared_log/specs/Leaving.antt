@@ -1,15 +1,18 @@
--- What a run of the four threads leaves: the log in the words of the closed heap.
+-- What a heap with a log opens with, and what a run of threads leaves: the log in the words of the
+-- closed heap.
 -- Source: this project's.
-use Rattle.std.specs.Prelude.{ℕ, ◌≡◌, ◌+◌, zero, suc, false, List, [], ◌∷◌, length}
+use Rattle.std.specs.Prelude.{ℕ, ◌≡◌, zero, suc, List, [], ◌∷◌, length, sum}
+use mathlib.Core.Option.{some}
+use lib.ListN.{get_elem?}
 use Rattle.cell_words.specs.declared.fields.Field.{Field}
 use Rattle.cell_words.specs.declared.fields.Field.TheVariants as field
-use Rattle.core_machine.specs.State.{State, field_of}
+use Rattle.core_machine.specs.State.{State, field_of, greatest_cycles}
 use Rattle.heap_rule.specs.Laws.{Ended}
 use Rattle.heap_rule.specs.Shape.{Shape}
 use Rattle.heap_rule.specs.declared.view.View.{View}
 use Rattle.heap_table.specs.Images.{ImageView, Shows}
-use Rattle.shared_log.specs.Logging.{KeepsLog, entries_of, is_fixed}
-use Rattle.beside_collector.specs.Freed.{freed_by}
+use Rattle.mutator_threads.specs.Closing.{HasCollected}
+use Rattle.shared_log.specs.Logging.{KeepsLog, entries_of, is_fixed, nothing_appended}
 use Rattle.shared_log.specs.declared.log.Appended.{Appended}
 
 -- the field names the box that the log opened with
@@ -40,36 +43,29 @@ boxes_from (suc n) s field.Null = 0
 boxes_from (suc n) s (field.Num k) = 0
 boxes_from (suc n) s (field.Cell c) = suc (boxes_from n s (field_of s c 1))
 
--- what the four have appended
-pub record Counts : Type 0 where
-  pub first : ℕ
-  pub second : ℕ
-  pub third : ℕ
-  pub fourth : ℕ
+-- the anchor, which names the box before the first entry, and that box
+abbrev pub log_rows : List (List Field)
+log_rows =
+    (field.Cell 1 ∷ field.Null ∷ field.Null ∷ field.Null ∷ field.Null ∷ field.Num 2 ∷ [])
+    ∷ (field.Num 0 ∷ field.Null ∷ field.Null ∷ field.Null ∷ field.Null ∷ field.Num 2 ∷ []) ∷ []
 
-abbrev pub four : ℕ → ℕ → ℕ → ℕ → Counts
-four a b c d = record { first = a; second = b; third = c; fourth = d }
+abbrev pub log_shape : ℕ → ℕ → Shape
+log_shape cells threads =
+    record { cells = cells; mutators = threads; setting = 0; first = log_rows }
 
-abbrev pub all_of : Counts → ℕ
-all_of counts = counts.first + counts.second + counts.third + counts.fourth
-
--- A heap of so many cells and of four mutators was closed, by a collector that is off duty and has
--- freed so many cells. The anchor of its last state names the newest entry of a log. The log has as
--- many entries as the four have appended, and of each of them as many as it has appended.
-pub record Leaves (cells : ℕ) (counts : Counts) (freed : ℕ) (image : ImageView)
+-- A heap with a log, of so many cells and for as many threads as have these counts, was closed. The
+-- anchor of its last state names the newest entry. The log has as many entries as all threads have
+-- appended, and of each of them as many as it has appended. The collector has served, and has freed
+-- so many cells.
+pub record Leaves (cells : ℕ) (counts : List ℕ) (freed : ℕ) (image : ImageView)
     (view : View Appended) : Type 0 where
-  pub shape : Shape
-  pub cells_are : shape.cells ≡ cells
-  pub mutators_are : shape.mutators ≡ 4
-  pub ended : Ended (λ number setting. record { count = 0 }) KeepsLog is_fixed shape (Unit {0})
-      image.words view
+  pub ended : Ended nothing_appended KeepsLog is_fixed (log_shape cells (length counts))
+      (Unit {0}) image.words view
   pub shows : Shows image ended.shows.core
   pub writers : List ℕ
   pub log : LogFrom ended.shows.core (field_of ended.shows.core 0 0) writers
-  pub many : length writers ≡ all_of counts
-  pub by_first : entries_of 0 writers ≡ counts.first
-  pub by_second : entries_of 1 writers ≡ counts.second
-  pub by_third : entries_of 2 writers ≡ counts.third
-  pub by_fourth : entries_of 3 writers ≡ counts.fourth
-  pub freed_are : freed_by view.trail ≡ freed
-  pub off_duty : view.control.duty ≡ false
+  pub many : length writers ≡ sum counts
+  pub by : (number count : ℕ) → get_elem? counts number ≡ some count
+      → entries_of number writers ≡ count
+  pub collected : HasCollected (log_shape cells (length counts)) greatest_cycles freed
+      ended.shows.core view

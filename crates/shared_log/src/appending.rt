@@ -83,7 +83,7 @@ fn make_entry<R: Wait>(
     requires holds { HoldsEntry number m.old }
     requires small { number < 1000000 }
     requires writer { writer ≡ m.old.seat.me.number }
-    requires small_writer { writer < 4 }
+    requires small_writer { writer ≤ 4294967295 }
     requires count { count ≡ m.old.seat.me.pass.count }
     requires few { count ≤ 4294967295 }
     ensures made { OnTrue result (HoldsNext number m.new) }
@@ -127,7 +127,7 @@ fn append_behind<R: Wait>(
 ) -> u64
     requires rests { Rests 8 m.old }
     requires writer { writer ≡ m.old.seat.me.number }
-    requires small_writer { writer < 4 }
+    requires small_writer { writer ≤ 4294967295 }
     requires count { count ≡ m.old.seat.me.pass.count }
     requires few { count ≤ 4294967295 }
     ensures loose { Loose 8 m.new }
@@ -153,7 +153,7 @@ fn try_to_append<R: Wait>(
 ) -> u64
     requires rests { Rests 8 m.old }
     requires writer { writer ≡ m.old.seat.me.number }
-    requires small_writer { writer < 4 }
+    requires small_writer { writer ≤ 4294967295 }
     requires count { count ≡ m.old.seat.me.pass.count }
     requires few { count ≤ 4294967295 }
     ensures rests { Rests 8 m.new }
@@ -171,20 +171,18 @@ fn try_to_append<R: Wait>(
 pub(crate) fn work<R: Wait>(
     rt: &R,
     heap: &CellHeap<Appended>,
-    hints: Hints<'_>,
+    hints: &mut Hints<'_>,
     seat: MutSeat<Appended>,
     writer: u32,
     tries: u32,
 ) -> (MutSeat<Appended>, u64)
     requires new { IsNew heap.now writer 8 (record { count = 0 }) seat }
-    requires small_writer { writer < 4 }
     ensures done { IsDone heap.now writer result.1 result.0 }
 {
-    let mut hints = hints;
     let mut m = come_in(heap, seat);
     let mut count = 0;
     for _tried in 0..tries {
-        count += try_to_append(rt, &mut hints, &mut m, writer as u64, count);
+        count += try_to_append(rt, hints, &mut m, writer as u64, count);
     }
     (leave(m), count)
 }

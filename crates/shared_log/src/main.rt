@@ -10,24 +10,27 @@
 //! count on their own.
 //!
 //! Reading order: `log`, specs/Logging, Shrinks, `appending`, specs/Appending, `running`,
-//! `closing`, specs/Leaving, `whole`, `main`.
+//! specs/Leaving, `opening`, `whole`, `main`.
 #![tactic(auto)]
 
 mod appending;
-mod closing;
 mod log;
+mod opening;
 mod running;
 mod whole;
 
 use std::io;
 
+/// How many threads append.
+const THREADS: u32 = 4;
+
 fn main(rt: HostRuntime) -> io::Result<()> {
-    match whole::run(rt.alloc(), &rt) {
+    match whole::run(rt.alloc(), &rt, THREADS) {
         Ok(ran) => {
             let same = ran.boxes == ran.sum + 1;
             let some = ran.sum > 0;
             let alone = ran.used == ran.sum + 2;
-            println!(rt; "the log has what four threads appended: {same}, and they did: {some}")?;
+            println!(rt; "the log has what {THREADS} threads appended: {same}, some: {some}")?;
             println!(rt; "no other cell is used: {alone}")
         }
         Err(_) => println!(rt; "there is no memory"),

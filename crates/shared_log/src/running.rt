@@ -1,10 +1,7 @@
 //! A thread that appends.
-ghost use Rattle.std.specs.Prelude.{◌<◌};
-ghost use Rattle.mutator_threads.specs.Mutators.{IsWorker};
-ghost use Rattle.shared_log.specs.Appending.{IsDone};
+ghost use Rattle.shared_log.specs.Appending.{HasAppended, IsAppender};
 
 use crate::appending::work;
-use crate::closing::Done;
 use crate::log::Appended;
 use cell_heap::CellHeap;
 use free_cells::FreeQueue;
@@ -20,12 +17,17 @@ pub(crate) fn append<R: Wait>(
     heap: &CellHeap<Appended>,
     queue: &FreeQueue,
     number: u32,
-    worker: Worker<Appended>,
-) -> Done
-    requires worker { IsWorker heap.now queue.now number 8 (record { count = 0 }) worker }
-    requires small { number < 4 }
-    ensures done { IsDone heap.now number result.1 result.0 }
+    worker: Worker<Appended, u64>,
+) -> Worker<Appended, u64>
+    requires worker { IsAppender heap.now queue.now number worker }
+    ensures appended { HasAppended heap.now number result }
 {
-    let Worker { seat, pass } = worker;
-    work(rt, heap, queue.hints(pass), seat, number, TRIES)
+    let Worker { seat, pass, .. } = worker;
+    let mut hints = queue.hints(pass);
+    let (seat, own) = work(rt, heap, &mut hints, seat, number, TRIES);
+    Worker {
+        seat,
+        pass: hints.into_pass(),
+        own,
+    }
 }

@@ -1,18 +1,17 @@
-//! The whole run: a heap is opened, four threads append alongside the collector, and it is closed.
-ghost use Rattle.std.specs.Prelude.{◌≡◌, ◌<◌, ◌≤◌, ◌+◌, IfOk};
+//! The whole run: a heap is opened, threads append alongside the collector, and it is closed.
+ghost use Rattle.std.specs.Prelude.{◌≡◌, ◌<◌, ◌≤◌, ◌+◌, ◌*◌, All, IfOk, ℕ, length, sum};
 ghost use Rattle.core_machine.specs.State.{State, field_of};
 ghost use Rattle.heap_table.specs.Images.{Shows};
-ghost use Rattle.mutator_threads.specs.Mutators.{IsWorker};
-ghost use Rattle.shared_log.specs.Appending.{IsDone};
-ghost use Rattle.shared_log.specs.Leaving.{Leaves, boxes_from, four};
+ghost use Rattle.shared_log.specs.Appending.{HasAppended, IsAppender};
+ghost use Rattle.shared_log.specs.Leaving.{Leaves, boxes_from};
 
-use crate::closing::{Done, close_log, open_log};
 use crate::log::Appended;
+use crate::opening::open_log;
 use crate::running::append;
 use cell_heap::{Image, NoMemory, Passes};
-use cell_words::{Colour, Field};
+use cell_words::{Colour, Field, GREATEST_CYCLES};
 use closed_heap::field_at;
-use mutator_threads::{OnFour, Opened, Worker, run_four};
+use mutator_threads::{Closed, Opened, Worker, close, run_workers};
 use std::alloc::Global;
 use std::sync::Wait;
 use std::thread::Threads;
@@ -50,6 +49,20 @@ fn count_used(image: &Image) -> u64 {
     used
 }
 
+/// How many entries the threads counted, in all.
+fn sum_of(counts: &[u64]) -> u64
+    requires few { length counts.now ≤ 4294967295 }
+    requires small { All (λ (count : ℕ). count ≤ 4294967295) counts.now }
+    ensures sum { result ≡ sum counts.now }
+    ensures small { result ≤ length counts.now * 4294967295 }
+{
+    let mut sum = 0;
+    for count in counts {
+        sum += *count;
+    }
+    sum
+}
+
 /// The result of a run.
 #[derive(Drop)]
 pub(crate) struct Ran {
@@ -59,52 +72,48 @@ pub(crate) struct Ran {
     /// how many boxes the log has at the close: its entries, and the first box
     pub(crate) boxes: u64,
     /// how many entries each thread says that it appended, and all of them
-    pub(crate) counts: (u64, u64, u64, u64),
+    pub(crate) counts: Vec<u64>,
     pub(crate) sum: u64,
     /// how many cells are not free, and how many the collector freed
     pub(crate) used: u64,
     pub(crate) freed: u64,
 }
 
-/// Four threads append to the log of a new heap, alongside the collector.
-pub(crate) fn run<R: Threads + Wait + Sync>(alloc: Global, rt: &R) -> Result<Ran, NoMemory>
-    ensures leaves { IfOk result (λ ran. Leaves 1000
-        (four ran.counts.0 ran.counts.1 ran.counts.2 ran.counts.3)
-        ran.freed ran.image ran.passes) }
+/// So many threads append to the log of a new heap, alongside the collector.
+pub(crate) fn run<R: Threads + Wait + Sync>(
+    alloc: Global,
+    rt: &R,
+    threads: u32,
+) -> Result<Ran, NoMemory>
+    ensures leaves { IfOk result (λ ran. Leaves 1000 ran.counts.items ran.freed ran.image
+        ran.passes) }
+    ensures many { IfOk result (λ ran. length ran.counts.items ≡ threads) }
     ensures boxes { IfOk result (λ ran. ran.boxes ≡ ran.sum + 1) }
-    ensures sum { IfOk result (λ ran.
-        ran.sum ≡ ran.counts.0 + ran.counts.1 + ran.counts.2 + ran.counts.3) }
-    ensures small { IfOk result (λ ran. ran.sum ≤ 17179869180) }
+    ensures sum { IfOk result (λ ran. ran.sum ≡ sum ran.counts.items) }
+    ensures small { IfOk result (λ ran. ran.sum ≤ threads * 4294967295) }
 {
-    let opened = open_log(alloc, rt, CELLS)?;
+    let counts = Vec::with_capacity(alloc, threads as usize)?;
+    let opened = open_log(alloc, rt, CELLS, threads)?;
     let Opened {
         heap,
         queue,
         keeper,
-        first,
-        second,
-        third,
-        fourth,
+        workers,
     } = opened;
     let at = &heap;
     let hints = &queue;
-    let each = move |number: u32, worker: Worker<Appended>| -> Done
-        requires { (number < 4)
-            × IsWorker at.now hints.now number 8 (record { count = 0 }) worker }
-        ensures { IsDone at.entry.now number result.1 result.0 }
+    let each = move |number: u32, worker: Worker<Appended, u64>| -> Worker<Appended, u64>
+        requires { IsAppender at.now hints.now number worker }
+        ensures { HasAppended at.entry.now number result }
     { append(rt, at, hints, number, worker) };
-    let work = OnFour {
-        first,
-        second,
-        third,
-        fourth,
-        each,
-    };
-    let (done, collector, freed) = run_four(alloc, rt, at, hints, keeper, work);
-    let ((first, second), (third, fourth)) = done;
-    let counts = (first.1, second.1, third.1, fourth.1);
-    let sum = counts.0 + counts.1 + counts.2 + counts.3;
-    let (image, passes) = close_log(heap, collector, first, second, third, fourth);
+    let (workers, off) = run_workers(alloc, rt, at, hints, keeper, GREATEST_CYCLES, workers, each);
+    let (closed, counts) = close(rt, heap, &queue, GREATEST_CYCLES, off, workers, counts);
+    let Closed {
+        image,
+        passes,
+        freed,
+    } = closed;
+    let sum = sum_of(&counts);
     let boxes = count_boxes(&image, sum + 2);
     let used = count_used(&image);
     Ok(Ran {

@@ -1,0 +1,62 @@
+-- Workers by their places: the last one apart, and after all others again.
+use Rattle.std.proofs.Common.{◌≡◌, ◌+◌, ℕ, suc, List, [], ◌∷◌, ◌++◌, length}
+use Rattle.std.proofs.Common.{sym, arith, subst}
+use Rattle.beside_collector.specs.Places.{AllFrom}
+use Rattle.beside_collector.proofs.Places.{all_back, all_front}
+use Rattle.mutator_threads.specs.Each.{EachFrom}
+
+module _ {W : Type 0} (Ready : ℕ → W → Type 0) (all front : List W) (last : W)
+    (is : all ≡ front ++ last ∷ []) (ready : AllFrom Ready 0 all) where
+  parted : AllFrom Ready 0 (front ++ last ∷ [])
+  parted = subst (λ (xs : List W). AllFrom Ready 0 xs) is ready
+
+  pub front_ready : AllFrom Ready 0 front
+  front_ready = all_front Ready 0 front (last ∷ []) parted
+
+  pub last_ready : (place : ℕ) → place ≡ length front → Ready place last
+  last_ready place at =
+      let here : 0 + length front ≡ place = omega (arith, at) in
+      subst (λ (k : ℕ). Ready k last) here (all_back Ready 0 front (last ∷ []) parted).0
+
+module _ {W : Type 0} (Done : ℕ → W → W → Type 0) where
+  each_both : (place : ℕ) (olds news : List W) (old new : W) → EachFrom Done place olds news
+      → Done (place + length olds) old new
+      → EachFrom Done place (olds ++ old ∷ []) (news ++ new ∷ [])
+  each_both place [] [] old new all one =
+      let same : place + 0 ≡ place = omega arith in
+      (subst (λ (k : ℕ). Done k old new) same one, tt)
+  each_both place [] (b ∷ news) old new all one = absurd all
+  each_both place (a ∷ olds) [] old new all one = absurd all
+  each_both place (a ∷ olds) (b ∷ news) old new all one =
+      let same : place + suc (length olds) ≡ place + 1 + length olds = omega arith in (
+        all.0,
+        each_both (place + 1) olds news old new all.1
+            (subst (λ (k : ℕ). Done k old new) same one),
+      )
+
+  -- one more at the end, before and after
+  pub each_push : (all front left done : List W) (last now : W) (place : ℕ)
+      → all ≡ front ++ last ∷ [] → EachFrom Done 0 front left → place ≡ length front
+      → Done place last now → done ≡ left ++ now ∷ [] → EachFrom Done 0 all done
+  each_push all front left done last now place is each at one are =
+      let here : place ≡ 0 + length front = omega (arith, at) in
+      subst (λ (xs : List W). EachFrom Done 0 xs done) (sym is)
+      (subst (λ (ys : List W). EachFrom Done 0 (front ++ last ∷ []) ys) (sym are)
+      (each_both 0 front left last now each (subst (λ (k : ℕ). Done k last now) here one)))
+
+-- What follows for the workers after their calls.
+
+pub all_done : {W : Type 0} (Post : ℕ → W → W → Type 0) (Done : ℕ → W → Type 0)
+    → ((place : ℕ) (old new : W) → Post place old new → Done place new)
+    → (place : ℕ) (olds news : List W) → EachFrom Post place olds news → AllFrom Done place news
+all_done Post Done so place [] [] each = tt
+all_done Post Done so place [] (new ∷ news) each = absurd each
+all_done Post Done so place (old ∷ olds) [] each = absurd each
+all_done Post Done so place (old ∷ olds) (new ∷ news) each =
+    (so place old new each.0, all_done Post Done so (place + 1) olds news each.1)
+
+pub all_follow : {W : Type 0} (F G : ℕ → W → Type 0)
+    → ((place : ℕ) (one : W) → F place one → G place one)
+    → (place : ℕ) (ws : List W) → AllFrom F place ws → AllFrom G place ws
+all_follow F G so place [] all = tt
+all_follow F G so place (w ∷ ws) all = (so place w all.0, all_follow F G so (place + 1) ws all.1)
