@@ -1,6 +1,6 @@
 -- What the program knows of a mutator between two calls.
 -- Source: this project's.
-use Rattle.std.specs.Prelude.{ℕ, ◌≡◌, ◌<◌, true, false, List, length, Option, Some, None}
+use Rattle.std.specs.Prelude.{ℕ, ◌≡◌, ◌<◌, true, List, length, Option, Some}
 use Rattle.cell_words.specs.Term.{Term}
 use Rattle.heap_rule.specs.declared.known.Known.TheVariants as knows
 use Rattle.heap_rule.specs.Asks.{known_of, target}
@@ -54,12 +54,3 @@ pub record IsDone (heap : HeapId) (number : ℕ) (kept : Option ℕ) (seat : Sea
   pub number_is : seat.me.number ≡ number
   pub over : seat.me.presence.over ≡ true
   pub kept_is : seat.me.pass.number ≡ kept
-
--- it was just split off
-pub record IsNew (heap : HeapId) (number : ℕ) (seat : SeatView Kept) : Type 0 where
-  pub seat_is : IsSeatOf heap seat
-  pub number_is : seat.me.number ≡ number
-  pub room : seat.me.room ≡ 8
-  pub out : seat.me.presence.inside ≡ false
-  pub not_over : seat.me.presence.over ≡ false
-  pub none : seat.me.pass.number ≡ None

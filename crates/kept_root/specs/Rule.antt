@@ -19,6 +19,10 @@ use Rattle.mutator_events.specs.declared.values.Value.{Value}
 use Rattle.mutator_events.specs.declared.values.Value.TheVariants as values
 use Rattle.kept_root.specs.declared.kept.Kept.{Kept}
 
+-- the pass of a mutator at the start
+abbrev pub nothing_kept : ℕ → ℕ → Kept
+nothing_kept number setting = record { number = None }
+
 -- the record of a number
 abbrev pub number_record : ℕ → Term
 number_record n = five (num n) null null null null

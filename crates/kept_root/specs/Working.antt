@@ -1,19 +1,24 @@
 -- What the two mutators have before they begin, and what they leave.
 -- Source: this project's.
 use Rattle.std.specs.Prelude.{ℕ, ◌≡◌, ◌<◌, IfSome, None}
-use Rattle.free_cells.specs.Passes.{IsHintPass}
 use Rattle.free_cells.specs.declared.queue.FreeQueue.{FreeQueue}
 use Rattle.heap_table.specs.Seats.{HeapId}
-use Rattle.kept_root.specs.Holding.{IsDone, IsNew}
+use Rattle.mutator_threads.specs.Mutators.{IsWorker as IsNewWorker}
+use Rattle.mutator_threads.specs.declared.worker.Worker.{Worker}
+use Rattle.kept_root.specs.Holding.{IsDone}
 use Rattle.kept_root.specs.ReadBack.{ReadBack}
-use Rattle.kept_root.specs.declared.wasting.Worker.{Worker}
+use Rattle.kept_root.specs.Rule.{nothing_kept}
+use Rattle.kept_root.specs.declared.kept.Kept.{Kept}
 use Rattle.kept_root.specs.declared.working.Blocking.{Blocking}
 use Rattle.kept_root.specs.declared.working.Report.{Report}
 
-pub record IsWorker (heap : HeapId) (queue : FreeQueue) (number : ℕ) (worker : Worker)
-    : Type 0 where
-  pub new : IsNew heap number worker.seat
-  pub pass : IsHintPass queue worker.pass
+-- a mutator has nothing of its own
+abbrev pub anything_of : ℕ → Unit {0} → Type 0
+anything_of number own = Unit {0}
+
+abbrev pub IsWorker : HeapId → FreeQueue → ℕ → Worker Kept (Unit {0}) → Type 0
+IsWorker heap queue number worker =
+    IsNewWorker nothing_kept heap queue 8 anything_of number worker
 
 pub record AreWorkers (heap : HeapId) (queue : FreeQueue) (work : Blocking) : Type 0 where
   pub first : IsWorker heap queue 0 work.first

@@ -1,7 +1,6 @@
 //! The rule: a box that the anchor names has what the first mutator keeps.
-ghost use Rattle.std.specs.Prelude.{None};
 ghost use Rattle.heap_rule.specs.NoRule.{no_field_is_fixed};
-ghost use Rattle.kept_root.specs.Rule.{HasKept, kept_shrinks};
+ghost use Rattle.kept_root.specs.Rule.{HasKept, kept_shrinks, nothing_kept};
 
 use heap_rule::Keeping;
 
@@ -12,7 +11,7 @@ pub struct Kept {
 }
 
 impl Keeping for Kept {
-    ghost opening = { λ number setting. record { number = None } };
+    ghost opening = { nothing_kept };
 
     ghost holds = { HasKept };
 

@@ -6,11 +6,11 @@
 //! record of a number, keeps it, and makes a call that blocks: the second mutator makes many more
 //! records than there are cells, so that its claims wait until the collector has freed some. If the
 //! first mutator were still in, they would wait for ever. It is proved that the first mutator reads
-//! after the call the number that it kept. How the collector gets its thread is told in
-//! beside_collector.
+//! after the call the number that it kept. How a heap opens, runs and closes under any rule is told
+//! in mutator_threads.
 //!
 //! Reading order: `kept`, specs/Rule, specs/Holding, `places`, `storing`, `wasting`,
-//! specs/ReadBack, specs/Working, `working`, `closing`, specs/Leaving, `whole`, `main`.
+//! specs/ReadBack, specs/Working, `working`, specs/Leaving, `closing`, `whole`, `main`.
 #![tactic(auto)]
 
 mod closing;
@@ -28,7 +28,7 @@ fn main(rt: HostRuntime) -> io::Result<()> {
         Ok(ran) => {
             let same = ran.found == Some(whole::NUMBER);
             let more = ran.made > whole::CELLS as u64;
-            println!(rt; "behind the call it reads the number that it kept: {same}")?;
+            println!(rt; "after the call it reads the number that it kept: {same}")?;
             println!(rt; "meanwhile more records were made than there are cells: {more}")
         }
         Err(_) => println!(rt; "there is no memory"),

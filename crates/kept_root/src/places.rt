@@ -1,11 +1,12 @@
 //! Coming in, going out, and what a mutator finds from the anchor on: the box, the record that is
 //! kept in it, and the number of that.
-ghost use Rattle.std.specs.Prelude.{◌≡◌, ◌∷◌, [], Some, ℕ};
+ghost use Rattle.std.specs.Prelude.{◌≡◌, ◌∷◌, [], None, Some, ℕ};
 ghost use Rattle.cell_words.specs.declared.fields.Field.TheVariants as field;
 ghost use Rattle.heap_rule.specs.Asks.{target};
 ghost use Rattle.held_places.specs.Calls.{Goes};
+ghost use Rattle.mutator_threads.specs.Mutators.{IsNew};
 ghost use Rattle.trails.specs.Asks.{gave_at};
-ghost use Rattle.kept_root.specs.Holding.{Has, HoldsBox, HoldsRecord, HoldsSome, IsDone, IsNew};
+ghost use Rattle.kept_root.specs.Holding.{Has, HoldsBox, HoldsRecord, HoldsSome, IsDone};
 ghost use Rattle.kept_root.specs.Holding.{KeepsSome};
 ghost use Rattle.kept_root.specs.ReadBack.{EndsTrail, ReadsBox};
 ghost use Rattle.cell_making.specs.Resting.{Loose, Rests};
@@ -17,7 +18,7 @@ use std::marker::Brand;
 
 /// The mutator of the seat, in.
 pub(crate) fn come_in<'a>(heap: &'a CellHeap<Kept>, seat: MutSeat<Kept>) -> Mutator<'a, Kept>
-    requires new { IsNew heap.now seat.me.number seat }
+    requires new { IsNew heap.now seat.me.number 8 (record { number = None }) seat }
     ensures rests { Rests 8 result }
     ensures heap { result.heap ≡ heap.now }
     ensures number { result.seat.me.number ≡ seat.me.number }

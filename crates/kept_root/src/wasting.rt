@@ -8,20 +8,14 @@ ghost use Rattle.kept_root.specs.Working.{IsWorker};
 use crate::kept::Kept;
 use crate::places::{come_in, leave, let_go};
 use cell_making::fill_record;
-use free_cells::{FreeQueue, HintPass, Hints};
+use free_cells::{FreeQueue, Hints};
 use heap_table::CellHeap;
 use mutator_seat::{MutSeat, Mutator, Value};
+use mutator_threads::Worker;
 use std::sync::Wait;
 
 /// How many records it makes.
 const RECORDS: u32 = 500;
-
-/// What a mutator's thread owns.
-#[derive(Drop)]
-pub(crate) struct Worker {
-    pub(crate) seat: MutSeat<Kept>,
-    pub(crate) pass: HintPass,
-}
 
 /// Comes to a safe point, makes a record, and drops it. It tells how many it made.
 fn waste_one<R: Wait>(rt: &R, hints: &mut Hints<'_>, m: &mut Mutator<'_, Kept>, number: u32) -> u64
@@ -53,7 +47,7 @@ pub(crate) fn waste<R: Wait>(
     rt: &R,
     heap: &CellHeap<Kept>,
     queue: &FreeQueue,
-    worker: Worker,
+    worker: Worker<Kept, ()>,
 ) -> (MutSeat<Kept>, u64)
     requires worker { IsWorker heap.now queue.now 1 worker }
     ensures done { IsDone heap.now 1 None result.0 }

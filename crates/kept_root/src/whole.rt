@@ -4,15 +4,12 @@ ghost use Rattle.std.specs.Prelude.{◌≡◌, IfOk, IfSome};
 ghost use Rattle.kept_root.specs.Leaving.{Leaves};
 ghost use Rattle.kept_root.specs.ReadBack.{WasReadBack};
 
-use crate::closing::{Opened, close_two, open_two};
+use crate::closing::{close_two, open_two};
 use crate::kept::Kept;
-use crate::wasting::Worker;
-use crate::working::{Blocking, Report};
-use beside_collector::{Keeper, begin_duty, run_beside};
+use crate::working::{Blocking, Report, both};
 use cell_heap::{Image, NoMemory, Passes};
 use cell_words::GREATEST_CYCLES;
-use collector::MarkStack;
-use free_cells::FreeQueue;
+use mutator_threads::{Closed, Opened, run_alongside};
 use std::alloc::Global;
 use std::sync::Wait;
 use std::thread::Threads;
@@ -35,6 +32,8 @@ pub(crate) struct Ran {
     pub(crate) left: Option<u64>,
     /// how many records were made during the call
     pub(crate) made: u64,
+    /// how many cells the collector freed
+    pub(crate) freed: u64,
 }
 
 /// A number is kept over a call that blocks, on a new heap whose collector runs alongside.
@@ -42,41 +41,17 @@ pub(crate) struct Ran {
 pub(crate) fn run<R: Threads + Wait + Sync>(alloc: Global, rt: &R) -> Result<Ran, NoMemory>
     ensures found { IfOk result (λ ran. IfSome ran.found
         (λ number. (number ≡ 42) × WasReadBack number ran.passes)) }
-    ensures leaves { IfOk result (λ ran. Leaves 32 ran.left ran.image ran.passes) }
+    ensures leaves { IfOk result (λ ran. Leaves 32 ran.left ran.freed ran.image ran.passes) }
 {
-    let (queue, mut pass) = FreeQueue::open(alloc, rt, CELLS, 2)?;
-    let second_pass = queue.split(&mut pass)?;
-    let collector_pass = queue.split(&mut pass)?;
-    let stack = MarkStack::with_room(alloc, 8)?;
+    let opened = open_two(alloc, rt, CELLS)?;
     let Opened {
         heap,
-        mut collector,
-        first,
-        second,
-    } = open_two(alloc, CELLS)?;
-    begin_duty(&heap, GREATEST_CYCLES, &mut collector);
-    let keeper = Keeper {
-        seat: collector,
-        stack,
-        pass: collector_pass,
-    };
-    let work = Blocking {
-        first: Worker { seat: first, pass },
-        second: Worker {
-            seat: second,
-            pass: second_pass,
-        },
-        number: NUMBER,
-    };
-    let (report, collector, _standby) = run_beside(
-        alloc,
-        rt,
-        &heap,
-        &queue,
+        queue,
         keeper,
-        GREATEST_CYCLES,
-        work,
-    );
+        workers,
+    } = opened;
+    let work: Blocking = both(&heap, &queue, workers, NUMBER);
+    let (report, off) = run_alongside(alloc, rt, &heap, &queue, keeper, GREATEST_CYCLES, work);
     let Report {
         first,
         second,
@@ -84,12 +59,17 @@ pub(crate) fn run<R: Threads + Wait + Sync>(alloc: Global, rt: &R) -> Result<Ran
         left,
         made,
     } = report;
-    let (image, passes) = close_two(heap, collector, first, second, left);
+    let Closed {
+        image,
+        passes,
+        freed,
+    } = close_two(rt, heap, &queue, off, first, second, left);
     Ok(Ran {
         image,
         passes,
         found,
         left,
         made,
+        freed,
     })
 }

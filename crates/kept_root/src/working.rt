@@ -1,5 +1,6 @@
 //! What the first mutator does: it keeps a record over a call that blocks, and reads it afterwards.
-ghost use Rattle.std.specs.Prelude.{◌≡◌, ◌<◌, IfNone, IfSome, None, Some, ℕ};
+ghost use Rattle.std.specs.Prelude.{◌≡◌, ◌<◌, IfNone, IfSome, None, Some, ℕ, length};
+ghost use Rattle.beside_collector.specs.Places.{AllFrom};
 ghost use Rattle.std.specs.Bool.{OnFalse, OnTrue};
 ghost use Rattle.free_cells.specs.declared.queue.FreeQueue.{FreeQueue as Queue};
 ghost use Rattle.heap_table.specs.Seats.{HeapId};
@@ -13,11 +14,12 @@ ghost use Rattle.kept_root.specs.Working.{AreWorkers, IsWorker, Reports};
 use crate::kept::Kept;
 use crate::places::{come_in, hold_box, hold_kept, leave, let_go, read_number};
 use crate::storing::{forget, keep, make_record};
-use crate::wasting::{Worker, waste};
+use crate::wasting::waste;
 use beside_collector::Work;
 use free_cells::{FreeQueue, Hints};
 use heap_table::CellHeap;
 use mutator_seat::{MutSeat, Mutator};
+use mutator_threads::Worker;
 use std::alloc::Global;
 use std::sync::Wait;
 use std::thread::Threads;
@@ -53,7 +55,7 @@ fn over_call<R: Wait>(
     heap: &CellHeap<Kept>,
     queue: &FreeQueue,
     m: &mut Mutator<'_, Kept>,
-    other: Worker,
+    other: Worker<Kept, ()>,
 ) -> (MutSeat<Kept>, u64)
     requires rests { Rests 8 m.old }
     requires other { IsWorker heap.now queue.now 1 other }
@@ -143,8 +145,8 @@ fn work<R: Wait>(
     rt: &R,
     heap: &CellHeap<Kept>,
     queue: &FreeQueue,
-    first: Worker,
-    second: Worker,
+    first: Worker<Kept, ()>,
+    second: Worker<Kept, ()>,
     number: u64,
 ) -> Report
     requires first { IsWorker heap.now queue.now 0 first }
@@ -169,9 +171,39 @@ fn work<R: Wait>(
 /// The work of both mutators, alongside the collector.
 #[derive(Drop)]
 pub(crate) struct Blocking {
-    pub(crate) first: Worker,
-    pub(crate) second: Worker,
+    pub(crate) first: Worker<Kept, ()>,
+    pub(crate) second: Worker<Kept, ()>,
     pub(crate) number: u64,
+}
+
+/// The work of the two workers with this number. The heap and the queue are those that they were
+/// opened with: only contracts read them.
+pub(crate) fn both(
+    heap: &CellHeap<Kept>,
+    queue: &FreeQueue,
+    workers: Vec<Worker<Kept, ()>>,
+    number: u64,
+) -> Blocking
+    requires two { length workers.items ≡ 2 }
+    requires workers { AllFrom (IsWorker heap.now queue.now) 0 workers.items }
+    requires small { number < 1000000 }
+    ensures workers { AreWorkers heap.now queue.now result }
+    ensures number { result.number ≡ number }
+{
+    let _ = heap;
+    let _ = queue;
+    let mut workers = workers;
+    let Some(second) = workers.pop() else {
+        unreachable!();
+    };
+    let Some(first) = workers.pop() else {
+        unreachable!();
+    };
+    Blocking {
+        first,
+        second,
+        number,
+    }
 }
 
 impl Work<Kept> for Blocking {

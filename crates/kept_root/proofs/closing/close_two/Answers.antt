@@ -1,29 +1,54 @@
-use Rattle.std.proofs.Common.{◌∙◌, ap, subst, sym}
-use Rattle.heap_rule.specs.Moves.{joined_view}
-use Rattle.heap_rule.specs.declared.view.View.{View}
+use Rattle.std.proofs.Common.{◌∙◌, List, ap}
+use lib.ListN.{get_elem?}
+use Rattle.heap_rule.specs.Shape.{Shape}
+use Rattle.heap_rule.specs.declared.view.Place.{Place}
 use Rattle.heap_table.specs.Seats.{SeatView}
-use Rattle.kept_root.specs.Leaving.{Leaves}
 use Rattle.kept_root.specs.declared.kept.Kept.{Kept}
-use Rattle.kept_root.proofs.Ending.{leaves}
-use Rattle.kept_root.proofs.Reading.{first_joined}
+use Rattle.mutator_threads.proofs.Joined.{off_duty_seat}
+use Rattle.kept_root.proofs.Ending.{are_joined, first_there, leaves, still_both}
 use Rattle.kept_root.proofs.closing.close_two.Goals as goal
 
-pub returns : goal.returns
-returns c =
-    let joined = ap (λ (s : SeatView Kept). s.me) c.join-2.ensures.both
-    ∙ ap (λ (s : SeatView Kept). joined_view s.me c.args.second.me) c.join.ensures.both in
+pub join-requires-clause-seat : goal.join-requires-clause-seat
+join-requires-clause-seat g c =
+    off_duty_seat c.args.heap c.args.queue.now _ c.args.off.seat c.args.off.standby
+    c.args.off.freed c.requires.off
+
+pub join-requires-2-clause-seat : goal.join-requires-2-clause-seat
+join-requires-2-clause-seat g c =
+    let seat = off_duty_seat c.args.heap c.args.queue.now _ c.args.off.seat c.args.off.standby
+    c.args.off.freed c.requires.off in (
+      ap (λ (s : SeatView Kept). s.table) c.join.ensures.both ∙ seat.0,
+      ap (λ (s : SeatView Kept). s.me.shape) c.join.ensures.both ∙ seat.1,
+    )
+
+pub close_joined-requires : goal.close_joined-requires
+close_joined-requires g c =
+    let seat = off_duty_seat c.args.heap c.args.queue.now _ c.args.off.seat c.args.off.standby
+    c.args.off.freed c.requires.off in
+    let many = c.requires.off.all ∙ c.requires.two in
     record {
-      first = first_joined c.args.collector.me c.close.result.1 c.args.first.me c.args.second.me
-          c.requires.places c.requires.first.number_is c.requires.second.number_is
-          (c.close.ensures.passes ∙ joined);
-      leaves =
-          subst (λ (v : View Kept). Leaves c.args.heap.shape.cells c.args.left c.close.result.0 v)
-          (sym c.close.ensures.passes)
-          (leaves c.args.heap.shape c.close.result.0 c.args.collector.me
-          c.join-2.new.self.me c.args.first.me c.args.second.me c.args.left
-          c.requires.places c.requires.two
-          c.requires.first.number_is c.requires.second.number_is
-          c.requires.first.kept_is
-          joined
-          c.close.ensures.ended (c.close.ensures.shown c.close.ensures.ended));
+      joined = record {
+        before = c.args.off.seat;
+        went = c.requires.off;
+        still = still_both c.args.off.seat c.join.new.self c.join-2.new.self c.args.first
+            c.args.second c.join.ensures.both c.join-2.ensures.both many
+            c.requires.first.number_is c.requires.second.number_is;
+        joined = are_joined c.args.off.seat c.join.new.self c.join-2.new.self c.args.first
+            c.args.second c.join.ensures.both c.join-2.ensures.both many
+            c.requires.first.number_is c.requires.second.number_is
+            (ap (λ (h : Shape). h.mutators) seat.1 ∙ c.requires.two);
+      };
+    }
+
+pub returns : goal.returns
+returns g c =
+    let many = c.requires.off.all ∙ c.requires.two in
+    let at = first_there c.args.off.seat c.join.new.self c.join-2.new.self c.args.first
+    c.args.second c.join.ensures.both c.join-2.ensures.both many
+    c.requires.first.number_is c.requires.second.number_is in
+    let has = c.close_joined.ensures.closed in
+    record {
+      leaves = leaves c.args.heap.shape c.join-2.new.self.me c.args.first.me c.args.left
+          c.close_joined.result c.requires.two c.requires.first.kept_is at has;
+      first = ap (λ (ps : List (Place Kept)). get_elem? ps 0) has.places_are ∙ at;
     }
