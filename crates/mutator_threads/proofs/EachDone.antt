@@ -1,9 +1,12 @@
 -- Workers by their places: the last one apart, and after all others again.
 use Rattle.std.proofs.Common.{◌≡◌, ◌+◌, ℕ, suc, List, [], ◌∷◌, ◌++◌, length}
-use Rattle.std.proofs.Common.{sym, arith, subst}
+use Rattle.std.proofs.Common.{All, sym, arith, subst}
+use Rattle.std.proofs.lemmas.List.Elements.{All-cons, All-nil}
 use Rattle.beside_collector.specs.Places.{AllFrom}
 use Rattle.beside_collector.proofs.Places.{all_back, all_front}
 use Rattle.mutator_threads.specs.Each.{EachFrom}
+use Rattle.mutator_threads.specs.Mutators.{own_of}
+use Rattle.mutator_threads.specs.declared.worker.Worker.{Worker}
 
 module _ {W : Type 0} (Ready : ℕ → W → Type 0) (all front : List W) (last : W)
     (is : all ≡ front ++ last ∷ []) (ready : AllFrom Ready 0 all) where
@@ -55,8 +58,10 @@ all_done Post Done so place (old ∷ olds) [] each = absurd each
 all_done Post Done so place (old ∷ olds) (new ∷ news) each =
     (so place old new each.0, all_done Post Done so (place + 1) olds news each.1)
 
-pub all_follow : {W : Type 0} (F G : ℕ → W → Type 0)
-    → ((place : ℕ) (one : W) → F place one → G place one)
-    → (place : ℕ) (ws : List W) → AllFrom F place ws → AllFrom G place ws
-all_follow F G so place [] all = tt
-all_follow F G so place (w ∷ ws) all = (so place w all.0, all_follow F G so (place + 1) ws all.1)
+-- each has of its own what this says
+pub all_own : {P T : Type 0} (Done : ℕ → Worker P T → Type 0) (Own : T → Type 0)
+    → ((place : ℕ) (one : Worker P T) → Done place one → Own one.own)
+    → (place : ℕ) (ws : List (Worker P T)) → AllFrom Done place ws → All Own (own_of ws)
+all_own Done Own so place [] all = All-nil Own
+all_own Done Own so place (w ∷ ws) all =
+    All-cons Own w.own (own_of ws) (so place w all.0) (all_own Done Own so (place + 1) ws all.1)

@@ -39,6 +39,15 @@ use Rattle.mutator_threads.specs.declared.worker.Worker.{Worker}
 
 -- The joins, one after the other.
 
+-- a seat to which another is joined is still the heap's
+pub seat_joined : {P : Type 0} (heap : HeapId) (mid new one : SeatView P)
+    → new ≡ record mid { me = joined_view mid.me one.me } → IsSeatOf heap mid
+    → IsSeatOf heap new
+seat_joined {P} heap mid new one made is = (
+  ap (λ (s : SeatView P). s.table) made ∙ is.0,
+  ap (λ (s : SeatView P). s.me.shape) made ∙ is.1,
+)
+
 module _ {P T : Type 0} (heap : HeapId) where
   -- The workers that are left are over, from some place on.
   pub record OverFrom (workers : List (Worker P T)) : Type 0 where
@@ -71,22 +80,24 @@ module _ {P T : Type 0} (heap : HeapId) where
   next_over all left rest one given old mid so is =
       subst (λ (ws : List (Worker P T)). OverFrom ws) is so.over
 
-  pub one_joined : (all left rest : List (Worker P T)) (one : Worker P T) (given : List T)
-      (gift : T) (old mid new : SeatView P) → JoinedSoFar all left given old mid → left ≡ one ∷ rest
-      → gift ≡ one.own → new ≡ record mid { me = joined_view mid.me one.seat.me }
-      → JoinedSoFar all rest (given ++ gift ∷ []) old new
-  one_joined all left rest one given gift old mid new so is gift_is made =
+  pub one_joined : (all left rest : List (Worker P T)) (one : Worker P T) (given now : List T)
+      (gift : T) (old mid new : SeatView P) → JoinedSoFar all left given old mid
+      → left ≡ one ∷ rest → gift ≡ one.own → now ≡ given ++ gift ∷ []
+      → new ≡ record mid { me = joined_view mid.me one.seat.me }
+      → JoinedSoFar all rest now old new
+  one_joined all left rest one given now gift old mid new so is gift_is now_is made =
       let over = next_over all left rest one given old mid so is in
       record {
-        own = append_assoc given (gift ∷ []) (own_of rest)
-            ∙ ap (λ (x : T). given ++ (x ∷ own_of rest)) gift_is
-            ∙ ap (λ (ws : List (Worker P T)). given ++ own_of ws) (sym is) ∙ so.own;
         still = record {
           table = ap (λ (s : SeatView P). s.table) made ∙ so.still.table;
           shape = ap (λ (s : SeatView P). s.me.shape) made ∙ so.still.shape;
           control = ap (λ (s : SeatView P). s.me.control) made ∙ so.still.control;
           trail = ap (λ (s : SeatView P). s.me.trail) made ∙ so.still.trail;
         };
+        own = ap (λ (xs : List T). xs ++ own_of rest) now_is
+            ∙ append_assoc given (gift ∷ []) (own_of rest)
+            ∙ ap (λ (x : T). given ++ (x ∷ own_of rest)) gift_is
+            ∙ ap (λ (ws : List (Worker P T)). given ++ own_of ws) (sym is) ∙ so.own;
         over = record { place = over.place + 1; over = over.over.1 };
         left = ap (λ (s : SeatView P). joined_with s.me (views_of rest)) made
             ∙ ap (λ (ws : List (Worker P T)). joined_with mid.me (views_of ws)) (sym is)

@@ -26,13 +26,11 @@ module _ {P : Type 0} where
       let was : of (slice_index_or passes i p) ≡ of p = ap of (there passes i p at) in
       omega (arith, all, was, one)
 
--- a sum of numbers below 2^32, of which there are fewer than 2^32, is below 2^64: so is each that
--- it grows by
-pub sum_fits : {A : Type 0} (of : A → ℕ) (xs : List A) (i : ℕ) (x : A) → length xs ≤ 4294967295
-    → All (λ (y : A). of y ≤ 4294967295) xs → i < length xs → x ≡ slice_index_or xs i x
-    → sum_by of (take i xs) + of x < 18446744073709551616
-sum_fits of xs i x few small lt is =
-    let part = sum_by_more_le of xs i x lt in
-    let same : of x ≡ of (slice_index_or xs i x) = ap of is in
+-- the sum of fewer than 2^32 numbers below 2^32 is below 2^64, and so is each step towards it
+pub sum_fits : {A : Type 0} (of : A → ℕ) (xs : List A) (i : ℕ) (d : A) → length xs ≤ 4294967295
+    → All (λ (x : A). of x ≤ 4294967295) xs → i < length xs
+    → sum_by of (take i xs) + of (slice_index_or xs i d) < 18446744073709551616
+sum_fits of xs i d few small lt =
+    let part = sum_by_more_le of xs i d lt in
     let all = sum_by-le of 4294967295 xs small in
-    omega (arith, part, same, all, few)
+    omega (arith, part, all, few)

@@ -1,7 +1,6 @@
 -- The counter at the close: it is the sum of what the mutators added.
 use Rattle.std.proofs.Common.{◌≡◌, ◌∙◌, ◌+◌, ◌∷◌, ℕ, List, [], Bool, true, false, Option, Some, None}
-use Rattle.std.proofs.Common.{◌≤◌, All, ap, sym, subst, refl, arith, length, sum_by}
-use Rattle.std.proofs.lemmas.List.Elements.{All-cons, All-nil}
+use Rattle.std.proofs.Common.{ap, sym, subst, refl, arith, length, sum_by}
 use Rattle.std.proofs.lemmas.List.Sums.{sum_by-cons}
 use Rattle.beside_collector.specs.Places.{AllFrom}
 use Rattle.cell_words.specs.Term.{Term, num, number, part, parts}
@@ -135,19 +134,3 @@ leaves heap cells threads workers adders closed are all is done =
     (sums heap 0 workers all
     ∙ ap (λ (xs : List Adder). sum_by (λ (a : Adder). a.sum) xs) (sym are))
     heap.shape is done
-
--- their counts are small
-small_own : (heap : HeapId) (place : ℕ) (workers : List (Worker Added Adder))
-    → AllFrom (HasAdded heap) place workers
-    → All (λ (a : Adder). a.sum ≤ 4294967295) (own_of workers)
-small_own heap place [] all = All-nil (λ (a : Adder). a.sum ≤ 4294967295)
-small_own heap place (w ∷ ws) all =
-    All-cons (λ (a : Adder). a.sum ≤ 4294967295) w.own (own_of ws) all.0.few
-    (small_own heap (place + 1) ws all.1)
-
-pub small_counts : (heap : HeapId) (workers : List (Worker Added Adder)) (adders : List Adder)
-    → adders ≡ own_of workers → AllFrom (HasAdded heap) 0 workers
-    → All (λ (a : Adder). a.sum ≤ 4294967295) adders
-small_counts heap workers adders are all =
-    subst (λ (xs : List Adder). All (λ (a : Adder). a.sum ≤ 4294967295) xs) (sym are)
-    (small_own heap 0 workers all)

@@ -32,7 +32,7 @@ fn main(rt: HostRuntime) -> io::Result<()> {
             let some = ran.sum > 0;
             let freed = ran.freed > 0;
             println!(rt; "the counter is what {THREADS} threads added: {same}, some: {some}")?;
-            println!(rt; "cells were freed meanwhile: {freed}")
+            println!(rt; "cells were freed: {freed}")
         }
         Err(_) => println!(rt; "there is no memory"),
     }

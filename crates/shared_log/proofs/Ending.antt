@@ -1,8 +1,7 @@
 -- The log at the close: it has what the mutators appended, in the words of the closed heap.
-use Rattle.std.proofs.Common.{◌≡◌, ◌≤◌, ◌<◌, ◌∙◌, ◌+◌, ◌∷◌, ◌⊎◌, ℕ, zero, suc, List, [], inl, inr}
-use Rattle.std.proofs.Common.{All, ap, sym, subst, refl, arith, length, map, sum}
+use Rattle.std.proofs.Common.{◌≡◌, ◌<◌, ◌∙◌, ◌+◌, ◌∷◌, ◌⊎◌, ℕ, zero, suc, List, [], inl, inr}
+use Rattle.std.proofs.Common.{ap, sym, subst, refl, arith, length, map, sum}
 use Rattle.std.proofs.lemmas.List.{length-map}
-use Rattle.std.proofs.lemmas.List.Elements.{All-cons, All-nil}
 use Rattle.std.proofs.lemmas.List.Sums.{sum_by-cons}
 use Rattle.atomic_table.proofs.Lists.{at_map}
 use lib.ListN.{get_elem?}
@@ -146,22 +145,6 @@ leaves heap cells workers counts closed are all is done =
     leaves_so cells counts (views_of workers) closed
     (passes_so heap 0 workers all ∙ ap (map pass_with) (sym are)) heap.shape
     (is ∙ ap (λ (n : ℕ). log_shape cells n) many) done
-
--- their counts are small
-small_own : (heap : HeapId) (place : ℕ) (workers : List (Worker Appended ℕ))
-    → AllFrom (HasAppended heap) place workers
-    → All (λ (n : ℕ). n ≤ 4294967295) (own_of workers)
-small_own heap place [] all = All-nil (λ (n : ℕ). n ≤ 4294967295)
-small_own heap place (w ∷ ws) all =
-    All-cons (λ (n : ℕ). n ≤ 4294967295) w.own (own_of ws) all.0.few
-    (small_own heap (place + 1) ws all.1)
-
-pub small_counts : (heap : HeapId) (workers : List (Worker Appended ℕ)) (counts : List ℕ)
-    → counts ≡ own_of workers → AllFrom (HasAppended heap) 0 workers
-    → All (λ (n : ℕ). n ≤ 4294967295) counts
-small_counts heap workers counts are all =
-    subst (λ (xs : List ℕ). All (λ (n : ℕ). n ≤ 4294967295) xs) (sym are)
-    (small_own heap 0 workers all)
 
 -- A walk along the log, from its newest entry on.
 module _ (s : State) where

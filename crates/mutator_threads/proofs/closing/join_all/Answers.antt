@@ -1,9 +1,8 @@
-use Rattle.std.proofs.Common.{◌∙◌, ap, arith, length, subst, sym, List}
+use Rattle.std.proofs.Common.{◌∙◌, ap, arith, length, sym, List}
 use Rattle.std.specs.Vec.Iter.{into_iter_items}
-use Rattle.heap_table.specs.Seats.{SeatView}
 use Rattle.mutator_threads.specs.declared.worker.Worker.{Worker}
-use Rattle.mutator_threads.proofs.Joined.{JoinedSoFar, all_given, next_over, one_joined}
-use Rattle.mutator_threads.proofs.Joined.{parts_joined}
+use Rattle.mutator_threads.proofs.Joined.{all_given, next_over, one_joined, parts_joined}
+use Rattle.mutator_threads.proofs.Joined.{seat_joined}
 use Rattle.mutator_threads.proofs.closing.join_all.Goals as goal
 
 pub joined-requires-clause-worker : goal.joined-requires-clause-worker
@@ -27,23 +26,16 @@ loop-worker-preserved g c =
     let one = ap (λ (ws : List (Worker _ _)). length ws) steps.0 in
     let len = c.push_reserved.ensures.len in
     let capacity = c.push_reserved.ensures.capacity in
-    let made = c.joined.ensures.seat in
-    let heap = c.args.heap.now in
-    let all = c.args.workers.items in
-    let rest = into_iter_items c.next.new.self in
-    let old = c.args.seat.now in
     record {
       left = omega (arith, one, steps.1, at.invariant.left);
       room = omega (arith, one, len, capacity, at.invariant.room);
-      seat = (
-        ap (λ (s : SeatView _). s.table) made ∙ at.invariant.seat.0,
-        ap (λ (s : SeatView _). s.me.shape) made ∙ at.invariant.seat.1,
-      );
-      joined = subst (λ (given : List _). JoinedSoFar heap all rest given old c.joined.new.seat)
-          (sym c.push_reserved.ensures.items)
-          (one_joined heap all (into_iter_items at.worker-iterator) rest c.in-Some.worker
-          at.own.items c.joined.result old at.seat c.joined.new.seat at.invariant.joined steps.0
-          c.joined.ensures.own made);
+      seat = seat_joined c.args.heap.now at.seat c.joined.new.seat c.in-Some.worker.seat
+          c.joined.ensures.seat at.invariant.seat;
+      joined = one_joined c.args.heap.now c.args.workers.items
+          (into_iter_items at.worker-iterator) (into_iter_items c.next.new.self)
+          c.in-Some.worker at.own.items c.push_reserved.new.self.items c.joined.result
+          c.args.seat.now at.seat c.joined.new.seat at.invariant.joined steps.0
+          c.joined.ensures.own c.push_reserved.ensures.items c.joined.ensures.seat;
     }
 
 pub returns : goal.returns

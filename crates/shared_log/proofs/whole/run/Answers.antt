@@ -1,13 +1,13 @@
-use Rattle.std.proofs.Common.{◌≡◌, ◌∙◌, ◌+◌, ℕ, List, ap, arith, length, sum, sym}
+use Rattle.std.proofs.Common.{◌≡◌, ◌≤◌, ◌∙◌, ◌+◌, ℕ, List, All, ap, arith, length, subst, sum, sym}
 use Rattle.std.proofs.lemmas.List.{length-map}
 use Rattle.core_machine.specs.State.{field_of}
 use Rattle.heap_rule.specs.Shape.{Shape}
 use Rattle.mutator_threads.specs.declared.worker.Worker.{Worker}
-use Rattle.mutator_threads.proofs.EachDone.{all_done}
+use Rattle.mutator_threads.proofs.EachDone.{all_done, all_own}
 use Rattle.shared_log.specs.Appending.{HasAppended}
 use Rattle.shared_log.specs.Leaving.{log_shape}
 use Rattle.shared_log.specs.declared.log.Appended.{Appended}
-use Rattle.shared_log.proofs.Ending.{boxes_are, leaves, small_counts}
+use Rattle.shared_log.proofs.Ending.{boxes_are, leaves}
 use Rattle.shared_log.proofs.whole.run.Goals as goal
 
 pub run_workers-workers-requires-clause-few : goal.run_workers-workers-requires-clause-few
@@ -41,11 +41,13 @@ sum_of-sum-requires-clause-few g c =
 
 pub sum_of-sum-requires-clause-small : goal.sum_of-sum-requires-clause-small
 sum_of-sum-requires-clause-small g c =
-    small_counts c.in_ok-opened.opened.heap c.run_workers-workers.result.0.items
-    c.deref.result.now (c.deref.ensures.value ∙ c.close-closed.ensures.own)
+    subst (λ (counts : List ℕ). All (λ (n : ℕ). n ≤ 4294967295) counts)
+    (sym (c.deref.ensures.value ∙ c.close-closed.ensures.own))
+    (all_own (HasAppended c.in_ok-opened.opened.heap) (λ (n : ℕ). n ≤ 4294967295)
+    (λ place worker has. has.few) 0 c.run_workers-workers.result.0.items
     (all_done _ (HasAppended c.in_ok-opened.opened.heap) (λ place old new has. has) 0
     c.in_ok-opened.opened.workers.items c.run_workers-workers.result.0.items
-    c.run_workers-workers.ensures.done)
+    c.run_workers-workers.ensures.done))
 
 pub returns : goal.returns
 returns g c =
