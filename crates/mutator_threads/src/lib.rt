@@ -4,8 +4,8 @@
 //! The layer above may rely on this: after `open` each worker's seat is new, its pass is the one
 //! that the rule opens with, and the collector has made no event. `run_workers` calls one closure
 //! for each worker, with the number of its mutator, and tells what each call returned. After
-//! `close` the passes of the rule are those that the workers left, in their order, and the collector
-//! has served: alongside them, or after the joins if it got no thread.
+//! `close` the passes of the rule are those that the workers left, in their order, and the
+//! collector has served: alongside them, or after the joins if it got no thread.
 //!
 //! Each of these stands on a part that can be called alone: `run_each` calls a closure for each
 //! element of any list; `run_alongside` does work of another form; `close_joined` closes a heap
