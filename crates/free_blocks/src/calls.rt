@@ -57,8 +57,8 @@ impl FreeBlocks {
         (blocks * u64::from(BLOCK)).min(u64::from(self.cells))
     }
 
-    /// All cells of the block that was given were tried in vain. Its number is 0 now, if no cell was
-    /// noted as freed there since.
+    /// All cells of the block that was given were tried in vain. Its number is 0 now, if no cell
+    /// was noted as freed there since.
     pub fn found_none(&self, seen: Seen)
         requires block { seen.block < blocks_of self.now }
     {

@@ -1,7 +1,7 @@
 -- What a mutator's calls answer, code by code, and what they leave of the mutator. Where a test
 -- refuses a call the mutator is as it was.
 -- Source: this project's.
-use Rattle.std.specs.Prelude.{ℕ, ◌≡◌, ◌≤◌, ◌+◌, ◌==◌, false, true, Bool}
+use Rattle.std.specs.Prelude.{ℕ, ◌≡◌, ◌<◌, ◌≤◌, ◌+◌, ◌==◌, ◌⊎◌, false, true, Bool}
 use Rattle.std.specs.Prelude.{List, Ok, Err}
 use Rattle.std.specs.declared.result.Result.{Result}
 use Rattle.cell_words.specs.declared.fields.Field.{Field}
@@ -86,11 +86,12 @@ module _ (old new : Bound Sorting) where
 
   -- Five loads, one after the other.
   abbrev pub ReadsAllFields : (place five : ℕ) → Result (List Value) Code → Type 0
-  ReadsAllFields place five (Ok given) = MayReach old place 0 × GaveAll old place given new
+  ReadsAllFields place five (Ok given) =
+      (five ≡ 5) × (MayReach old place 0 × GaveAll old place given new)
   ReadsAllFields place five (Err c) = NotReadAll old place five c × (new ≡ old)
 
-  -- One store, or one exchange for what was read just before; or each try was refused, since another
-  -- thread wrote the field.
+  -- One store, or one exchange for what was read just before; or each try was refused, since
+  -- another thread wrote the field.
   abbrev pub WritesField : (place f : ℕ) → HeapVal → Code → Type 0
   WritesField place f val code.Ok = MayReach old place f × ((value : Value)
       × (Means (held_of old) val value × Wrote place f value old new))
@@ -120,9 +121,18 @@ module _ (old new : Bound Sorting) where
 
   -- A box of these fields was made of a cell that was claimed, and shown; or no cell was found.
   abbrev pub MakesCell : List HeapVal → Result ℕ Code → Type 0
-  MakesCell vals (Ok place) = IsIn old × ((place ≡ held_of old) × ((HoldsOneMore old new × (new.seat.me.room ≡ old.seat.me.room))
+  MakesCell vals (Ok place) = IsIn old × (IsIn new × ((place ≡ held_of old)
+      × ((HoldsOneMore old new × (new.seat.me.room ≡ old.seat.me.room))
       × ((given : List Value) × (AreMeant (held_of old) vals given × ((raw : Bound Sorting)
-      × (HoldsRaw raw place × Made scratch shown_by place given raw new))))))
+      × (HoldsRaw raw place × Made scratch shown_by place given raw new)))))))
   MakesCell vals (Err code.Wait) = IsIn old × HoldsTheSame old new
   MakesCell vals (Err code.Full) = IsIn old × HoldsTheSame old new
   MakesCell vals (Err c) = NotMade old vals c × (new ≡ old)
+
+-- A cell is made, and the first places are kept with it alone; or no more than a make may do.
+abbrev pub MakesAt : (old new : Bound Sorting) → (first : ℕ) → List HeapVal → Code → Type 0
+MakesAt old new first vals c =
+    ((c ≡ code.Ok) × ((place : ℕ) × ((between : Bound Sorting)
+    × (MakesCell old between vals (Ok place) × KeepsChosen between new first place 1 code.Ok))))
+    ⊎ (((c ≡ code.BadPlace) × (((first < 2) ⊎ (held_of old < first)) × (new ≡ old)))
+    ⊎ MakesCell old new vals (Err c))

@@ -1,15 +1,17 @@
--- What the calls of a handle answer and hand out, by what it owns: of nothing, `NoHandle`; else what
--- its mutator's call says. What is handed out is so where the answer is `Ok`, and else as it was.
+-- What the calls of a handle answer and hand out, by what it owns: of nothing, `NoHandle`; else
+-- what its mutator's call says. What is handed out is so where the answer is `Ok`, and else as it
+-- was.
 -- Source: this project's.
-use Rattle.std.specs.Prelude.{ℕ, ◌≡◌, ◌-◌, ◌⊎◌, ℤ, pos, Bool, List, Option, Some, None, Ok, Err}
-use Rattle.std.specs.Prelude.{if◌then◌else◌}
+use Rattle.std.specs.Prelude.{ℕ, ◌≡◌, ◌≢◌, ◌<◌, ◌-◌, ◌⊎◌, ℤ, pos, Bool, List, Option, Some, None}
+use Rattle.std.specs.Prelude.{Ok, Err, MatchOption, if◌then◌else◌, length, slice_get}
+use Rattle.cell_making.specs.Makes.{value_at}
 use Rattle.mutator_events.specs.declared.values.Value.{Value}
 use Rattle.mutator_seat.specs.Bound.{Bound}
 use Rattle.sorted_rule.specs.declared.sorting.Sorting.{Sorting}
 use Rattle.heap_c.specs.declared.codes.Code.{Code}
 use Rattle.heap_c.specs.declared.codes.Code.TheVariants as code
 use Rattle.heap_c.specs.declared.values.HeapVal.{HeapVal}
-use Rattle.heap_c.specs.Calls.{ComparesPlaces, MakesCell, ReadsField}
+use Rattle.heap_c.specs.Calls.{ComparesPlaces, MakesAt, MakesCell, ReadsAllFields, ReadsField}
 use Rattle.heap_c.specs.Refusing.{IsVal, held_of}
 
 -- the numbers of heap.h
@@ -35,13 +37,17 @@ number_of code.NotZero = pos 15
 abbrev pub Numbered : ℤ → (Code → Type 0) → Type 0
 Numbered n Is = (c : Code) × ((n ≡ number_of c) × Is c)
 
--- A handle of nothing is left so, and the call says `NoHandle`; of another one the call does this.
-module _ (Does : Bound Sorting → Bound Sorting → Code → Type 0) where
-  abbrev pub OfHandle : Option (Bound Sorting) → Option (Bound Sorting) → Code → Type 0
-  OfHandle None new code.NoHandle = new ≡ None
-  OfHandle None new _ = ⊥
-  OfHandle (Some old) (Some new) c = Does old new c
-  OfHandle (Some old) None c = ⊥
+-- A handle of nothing is left so, this is as it was, and the call says `NoHandle`; with another one
+-- it does that.
+module _ {A : Type 0} (Rest : Type 0) (Does : A → A → Code → Type 0) where
+  abbrev pub OfHandleOr : Option A → Option A → Code → Type 0
+  OfHandleOr None new code.NoHandle = (new ≡ None) × Rest
+  OfHandleOr None new _ = ⊥
+  OfHandleOr (Some old) (Some new) c = Does old new c
+  OfHandleOr (Some old) None c = ⊥
+
+abbrev pub OfHandle : {A : Type 0} → (A → A → Code → Type 0) → Option A → Option A → Code → Type 0
+OfHandle Does old new c = OfHandleOr (Unit {0}) Does old new c
 
 -- how many places it holds, and how many more it may: none where it is out
 abbrev pub places_held : Option (Bound Sorting) → ℕ
@@ -73,3 +79,22 @@ GivesSame one other was given old new c =
     ((c ≡ code.Ok) × ((same : Bool) × ((given ≡ (if same then pos 1 else pos 0))
     × ComparesPlaces old new one other (Ok same))))
     ⊎ ((given ≡ was) × ComparesPlaces old new one other (Err c))
+
+-- the new cell's place, where it was kept
+abbrev pub GivesKept : (first : ℕ) → List HeapVal → (was given : ℕ) → Bound Sorting
+    → Bound Sorting → Code → Type 0
+GivesKept first vals was given old new c =
+    MakesAt old new first vals c
+    × (((c ≡ code.Ok) × (given ≡ first)) ⊎ ((c ≢ code.Ok) × (given ≡ was)))
+
+-- five values
+abbrev pub AreVals : List HeapVal → List Value → Type 0
+AreVals vals given =
+    (i : ℕ) → i < 5 → MatchOption (slice_get vals i) ⊥ (λ val. IsVal val (value_at given i))
+
+abbrev pub GivesAll : (place : ℕ) → (was given : List HeapVal) → Bound Sorting → Bound Sorting
+    → Code → Type 0
+GivesAll place was given old new c =
+    ((c ≡ code.Ok) × ((values : List Value) × (AreVals given values
+    × ReadsAllFields old new place (length was) (Ok values))))
+    ⊎ ((given ≡ was) × ReadsAllFields old new place (length was) (Err c))

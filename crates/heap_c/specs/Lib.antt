@@ -7,3 +7,4 @@ pub mod Keeping
 pub mod Lending
 pub mod Owning
 pub mod Refusing
+pub mod Seating

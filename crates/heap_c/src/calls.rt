@@ -1,11 +1,13 @@
 //! The calls of a mutator that is in.
-ghost use Rattle.std.specs.Prelude.{◌≡◌, IfErr};
+ghost use Rattle.std.specs.Prelude.{◌≡◌, length};
 ghost use Rattle.heap_c.specs.Calls.{KeepsChosen, MakesCell, SwapsField, WritesField};
-ghost use Rattle.heap_c.specs.Handles.{GivesPlace, GivesSame, GivesVal, Numbered, OfHandle};
+ghost use Rattle.heap_c.specs.Handles.{AreVals, GivesAll, GivesKept, GivesPlace, GivesSame, GivesVal};
+ghost use Rattle.heap_c.specs.Handles.{Numbered, OfHandle, OfHandleOr};
 
 use crate::codes::Code;
 use crate::handle::HeapMut;
-use crate::values::{FIRST, HeapVal, val_of};
+use crate::values::{HeapVal, val_of};
+use mutator_seat::Value;
 
 fn keep(mutator: &mut HeapMut, n: usize, place: usize, count: usize) -> Code
     ensures kept { OfHandle (λ old new c. KeepsChosen old new n place count c) mutator.old.mine
@@ -18,7 +20,7 @@ fn keep(mutator: &mut HeapMut, n: usize, place: usize, count: usize) -> Code
 }
 
 fn make(mutator: &mut HeapMut, vals: &[HeapVal], place: &mut usize) -> Code
-    ensures made { OfHandle (λ old new c. GivesPlace vals.now place.old place.new old new c)
+    ensures made { OfHandleOr (place.new ≡ place.old) (λ old new c. GivesPlace vals.now place.old place.new old new c)
         mutator.old.mine mutator.new.mine result }
 {
     match mutator.mine() {
@@ -33,41 +35,24 @@ fn make(mutator: &mut HeapMut, vals: &[HeapVal], place: &mut usize) -> Code
     }
 }
 
-/// Whether the first places may be kept with one more. A handle of nothing holds none.
-fn may_keep(mutator: &mut HeapMut, keep: usize) -> Code {
+fn make_at(mutator: &mut HeapMut, first: usize, vals: &[HeapVal], place: &mut usize) -> Code
+    ensures made { OfHandleOr (place.new ≡ place.old) (λ old new c. GivesKept first vals.now place.old place.new old new c)
+        mutator.old.mine mutator.new.mine result }
+{
     match mutator.mine() {
         None => Code::NoHandle,
         Some(mine) => {
-            if !mine.is_in() {
-                Code::NotIn
-            } else if keep < FIRST || mine.held_len() < keep {
-                Code::BadPlace
-            } else {
-                Code::Ok
+            let code = mine.make_at(first, vals);
+            if code == Code::Ok {
+                *place = first;
             }
+            code
         }
     }
 }
 
-fn make_at(mutator: &mut HeapMut, first: usize, vals: &[HeapVal], place: &mut usize) -> Code {
-    let code = may_keep(mutator, first);
-    if code != Code::Ok {
-        return code;
-    }
-    let mut at: usize = 0;
-    let code = make(mutator, vals, &mut at);
-    if code != Code::Ok {
-        return code;
-    }
-    let code = keep(mutator, first, at, 1);
-    if code == Code::Ok {
-        *place = first;
-    }
-    code
-}
-
 fn read(mutator: &mut HeapMut, place: usize, field: usize, out: &mut HeapVal) -> Code
-    ensures read { OfHandle (λ old new c. GivesVal place field out.old out.new old new c)
+    ensures read { OfHandleOr (out.new ≡ out.old) (λ old new c. GivesVal place field out.old out.new old new c)
         mutator.old.mine mutator.new.mine result }
 {
     match mutator.mine() {
@@ -82,16 +67,27 @@ fn read(mutator: &mut HeapMut, place: usize, field: usize, out: &mut HeapVal) ->
     }
 }
 
-fn read_all(mutator: &mut HeapMut, place: usize, out: &mut [HeapVal]) -> Code {
+/// Hands five values out.
+fn give_five(values: [Value; 5], out: &mut [HeapVal])
+    requires five { length out.old ≡ 5 }
+    ensures given { AreVals out.new values }
+{
+    out[0] = val_of(values[0]);
+    out[1] = val_of(values[1]);
+    out[2] = val_of(values[2]);
+    out[3] = val_of(values[3]);
+    out[4] = val_of(values[4]);
+}
+
+fn read_all(mutator: &mut HeapMut, place: usize, out: &mut [HeapVal]) -> Code
+    ensures read { OfHandleOr (out.new ≡ out.old) (λ old new c. GivesAll place out.old out.new old new c)
+        mutator.old.mine mutator.new.mine result }
+{
     match mutator.mine() {
         None => Code::NoHandle,
         Some(mine) => match mine.read_all(place, out.len()) {
             Ok(values) => {
-                for i in 0..5 {
-                    if i < out.len() {
-                        out[i] = val_of(values[i]);
-                    }
-                }
+                give_five(values, out);
                 Code::Ok
             }
             Err(code) => code,
@@ -120,7 +116,7 @@ fn swap(mutator: &mut HeapMut, place: usize, field: usize, was: HeapVal, now: He
 }
 
 fn same(mutator: &mut HeapMut, one: usize, other: usize, same: &mut i32) -> Code
-    ensures same { OfHandle (λ old new c. GivesSame one other same.old same.new old new c)
+    ensures same { OfHandleOr (same.new ≡ same.old) (λ old new c. GivesSame one other same.old same.new old new c)
         mutator.old.mine mutator.new.mine result }
 {
     match mutator.mine() {
@@ -147,7 +143,7 @@ pub extern "C" fn heap_keep(mutator: &mut HeapMut, n: usize, place: usize, count
 /// Makes a cell with these values, the other fields null.
 #[unsafe(no_mangle)]
 pub extern "C" fn heap_make(mutator: &mut HeapMut, vals: &[HeapVal], place: &mut usize) -> i32
-    ensures made { Numbered result (OfHandle (λ old new c. GivesPlace vals.now place.old place.new old
+    ensures made { Numbered result (OfHandleOr (place.new ≡ place.old) (λ old new c. GivesPlace vals.now place.old place.new old
         new c) mutator.old.mine mutator.new.mine) }
 {
     make(mutator, vals, place).number()
@@ -160,7 +156,10 @@ pub extern "C" fn heap_make_at(
     keep: usize,
     vals: &[HeapVal],
     place: &mut usize,
-) -> i32 {
+) -> i32
+    ensures made { Numbered result (OfHandleOr (place.new ≡ place.old) (λ old new c. GivesKept keep vals.now place.old
+        place.new old new c) mutator.old.mine mutator.new.mine) }
+{
     make_at(mutator, keep, vals, place).number()
 }
 
@@ -172,7 +171,7 @@ pub extern "C" fn heap_read(
     field: usize,
     out: &mut HeapVal,
 ) -> i32
-    ensures read { Numbered result (OfHandle (λ old new c. GivesVal place field out.old out.new old new
+    ensures read { Numbered result (OfHandleOr (out.new ≡ out.old) (λ old new c. GivesVal place field out.old out.new old new
         c) mutator.old.mine mutator.new.mine) }
 {
     read(mutator, place, field, out).number()
@@ -180,7 +179,10 @@ pub extern "C" fn heap_read(
 
 /// Reads all fields, one after the other.
 #[unsafe(no_mangle)]
-pub extern "C" fn heap_read_all(mutator: &mut HeapMut, place: usize, out: &mut [HeapVal]) -> i32 {
+pub extern "C" fn heap_read_all(mutator: &mut HeapMut, place: usize, out: &mut [HeapVal]) -> i32
+    ensures read { Numbered result (OfHandleOr (out.new ≡ out.old) (λ old new c. GivesAll place out.old out.new old new
+        c) mutator.old.mine mutator.new.mine) }
+{
     read_all(mutator, place, out).number()
 }
 
@@ -216,7 +218,7 @@ pub extern "C" fn heap_same(
     other: usize,
     is_same: &mut i32,
 ) -> i32
-    ensures same { Numbered result (OfHandle (λ old new c. GivesSame one other is_same.old is_same.new
+    ensures same { Numbered result (OfHandleOr (is_same.new ≡ is_same.old) (λ old new c. GivesSame one other is_same.old is_same.new
         old new c) mutator.old.mine mutator.new.mine) }
 {
     same(mutator, one, other, is_same).number()

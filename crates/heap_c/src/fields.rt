@@ -1,7 +1,8 @@
 //! What a mutator does with fields for C: each function tests what it is given, and answers why it
 //! did nothing.
 ghost use Rattle.std.specs.Prelude.{◌≡◌, ◌<◌, ◌≤◌, length};
-ghost use Rattle.heap_c.specs.Calls.{ComparesPlaces, ReadsAllFields, ReadsField, SwapsField, WritesField};
+ghost use Rattle.heap_c.specs.Calls.{ComparesPlaces, ReadsAllFields, ReadsField, SwapsField};
+ghost use Rattle.heap_c.specs.Calls.{WritesField};
 ghost use Rattle.heap_c.specs.Holding.{IsMine};
 ghost use Rattle.mutator_seat.specs.Bound.{bound};
 

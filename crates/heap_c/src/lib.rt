@@ -9,8 +9,9 @@
 //! what it owns). Each of its parts may be.
 //!
 //! Reading order: `rule`, `sharing`, `claiming`, `mine`, `parts`, `handle`, `works`, `collecting`,
-//! `keeper`, `codes`, `values`; `using` and `fields`, which work on a seat; then the calls, `opening`, `coming`,
-//! `calls`, `looking`.
+//! `keeper`, `codes`, `values`; `using` and `fields`, which work on a seat; then the calls,
+//! `opening`, `coming`, `calls`, `looking`. Of the definitions: Owning, Holding, Keeping, Refusing,
+//! Calls, Handles, Seating.
 #![tactic(auto)]
 
 mod calls;

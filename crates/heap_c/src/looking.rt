@@ -1,4 +1,7 @@
 //! What the collector's handle tells of the collector.
+ghost use Rattle.std.specs.Prelude.{◌≡◌};
+ghost use Rattle.heap_c.specs.Handles.{number_of};
+ghost use Rattle.heap_c.specs.Seating.{when_there};
 
 use crate::codes::Code;
 use crate::keeper::HeapCol;
@@ -32,7 +35,9 @@ pub(crate) fn number_of(stage: Stage) -> u32 {
     }
 }
 
-fn look(col: &mut HeapCol, out: &mut HeapStats) -> Code {
+fn look(col: &mut HeapCol, out: &mut HeapStats) -> Code
+    ensures told { result ≡ when_there col.old.collecting }
+{
     match col.collecting() {
         None => Code::NoHandle,
         Some(keeper) => {
@@ -44,6 +49,8 @@ fn look(col: &mut HeapCol, out: &mut HeapStats) -> Code {
 
 /// Tells where the collector is.
 #[unsafe(no_mangle)]
-pub extern "C" fn heap_look(col: &mut HeapCol, out: &mut HeapStats) -> i32 {
+pub extern "C" fn heap_look(col: &mut HeapCol, out: &mut HeapStats) -> i32
+    ensures told { result ≡ number_of (when_there col.old.collecting) }
+{
     look(col, out).number()
 }

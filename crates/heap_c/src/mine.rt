@@ -1,6 +1,6 @@
 //! What a mutator's handle owns: its seat, and a share of the heap that the seat is of.
 ghost use Rattle.std.specs.Prelude.{◌≡◌, ◌+◌, if◌then◌else◌, length, false};
-ghost use Rattle.heap_c.specs.Calls.{ComesIn, ComparesPlaces, GoesOut, KeepsChosen, MakesCell};
+ghost use Rattle.heap_c.specs.Calls.{ComesIn, ComparesPlaces, GoesOut, KeepsChosen, MakesAt, MakesCell};
 ghost use Rattle.heap_c.specs.Calls.{ReachesSafePoint, ReadsAllFields, ReadsField, SwapsField};
 ghost use Rattle.heap_c.specs.Calls.{WritesField};
 ghost use Rattle.heap_c.specs.declared.codes.Code.TheVariants as code;
@@ -134,6 +134,20 @@ impl Mine {
             &mut self.seat,
             &self.sharing,
             &mut self.wait,
+            vals,
+        )
+    }
+
+    /// Makes a box, and keeps the first places and it alone.
+    pub(crate) fn make_at(&mut self, first: usize, vals: &[HeapVal]) -> Code
+        ensures made { MakesAt self.old self.new first vals.now result }
+    {
+        using::make_at(
+            &self.heap,
+            &mut self.seat,
+            &self.sharing,
+            &mut self.wait,
+            first,
             vals,
         )
     }

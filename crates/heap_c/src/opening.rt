@@ -1,5 +1,8 @@
 //! Opening a heap, giving out the seats of its mutators, and letting the collector's handle go.
-ghost use Rattle.std.specs.Prelude.{◌≡◌, ◌<◌, ◌≤◌, IsTrue, ◌↔◌};
+ghost use Rattle.std.specs.Prelude.{◌≡◌, ◌<◌, ◌≤◌, IsSome, IsTrue, None, ◌↔◌};
+ghost use Rattle.std.specs.Bool.{OnFalse, OnTrue};
+ghost use Rattle.heap_c.specs.Handles.{Numbered, OfHandleOr, number_of};
+ghost use Rattle.heap_c.specs.Seating.{Opens, Seats, StepSays, when_there};
 
 use crate::codes::Code;
 use crate::collecting::Collecting;
@@ -79,15 +82,40 @@ fn opened(alloc: Global, cells: u32, mutators: u32, stack: u32) -> Result<Box<Co
     }
 }
 
-fn open(
-    alloc: Global,
-    cells: u32,
-    mutators: u32,
-    stack: u32,
-    boxes: u32,
-    out: &mut HeapCol,
-) -> Code {
-    if out.collecting().is_some() {
+/// Whether a handle owns something already.
+fn has_heap(out: &mut HeapCol) -> bool
+    ensures same { out.new.collecting ≡ out.old.collecting }
+    ensures has { OnTrue result (IsSome out.old.collecting) }
+    ensures none { OnFalse result (out.old.collecting ≡ None) }
+{
+    match out.collecting() {
+        None => false,
+        Some(keeper) => {
+            let _spent = keeper.is_spent();
+            true
+        }
+    }
+}
+
+/// The same of a mutator's.
+fn has_seat(out: &mut HeapMut) -> bool
+    ensures same { out.new.mine ≡ out.old.mine }
+    ensures has { OnTrue result (IsSome out.old.mine) }
+    ensures none { OnFalse result (out.old.mine ≡ None) }
+{
+    match out.mine() {
+        None => false,
+        Some(mine) => {
+            let _inside = mine.is_in();
+            true
+        }
+    }
+}
+
+fn open(alloc: Global, cells: u32, mutators: u32, stack: u32, boxes: u32, out: &mut HeapCol) -> Code
+    ensures opened { Opens cells mutators stack boxes out.old.collecting out.new.collecting result }
+{
+    if has_heap(out) {
         return Code::NotZero;
     }
     if !fits(cells, mutators, stack, boxes) {
@@ -103,11 +131,13 @@ fn open(
 }
 
 /// Gives the seat of the next mutator.
-fn give(alloc: Global, keeper: &mut Collecting, room: u32, out: &mut HeapMut) -> Code {
+fn give(alloc: Global, keeper: &mut Collecting, room: u32, out: &mut HeapMut) -> Code
+    ensures given { Seats room keeper.old out.old.mine out.new.mine result }
+{
     if keeper.is_spent() {
         return Code::NoSeat;
     }
-    if out.mine().is_some() {
+    if has_seat(out) {
         return Code::NotZero;
     }
     if room < LEAST_ROOM {
@@ -125,14 +155,20 @@ fn give(alloc: Global, keeper: &mut Collecting, room: u32, out: &mut HeapMut) ->
     }
 }
 
-fn seat(alloc: Global, col: &mut HeapCol, room: u32, out: &mut HeapMut) -> Code {
+fn seat(alloc: Global, col: &mut HeapCol, room: u32, out: &mut HeapMut) -> Code
+    ensures given { OfHandleOr (out.new.mine ≡ out.old.mine) (λ old new c. Seats room old
+        out.old.mine out.new.mine c) col.old.collecting col.new.collecting result }
+{
     match col.collecting() {
         None => Code::NoHandle,
         Some(keeper) => give(alloc, keeper, room, out),
     }
 }
 
-fn close(alloc: Global, col: &mut HeapCol) -> Code {
+fn close(alloc: Global, col: &mut HeapCol) -> Code
+    ensures closed { result ≡ when_there col.old.collecting }
+    ensures gone { col.new.collecting ≡ None }
+{
     match col.take(alloc) {
         None => Code::NoHandle,
         Some(mut keeper) => {
@@ -142,7 +178,9 @@ fn close(alloc: Global, col: &mut HeapCol) -> Code {
     }
 }
 
-fn step(col: &mut HeapCol, moves: u32, how: &mut i32) -> Code {
+fn step(col: &mut HeapCol, moves: u32, how: &mut i32) -> Code
+    ensures stepped { StepSays col.old.collecting result }
+{
     match col.collecting() {
         None => Code::NoHandle,
         Some(keeper) => {
@@ -160,7 +198,9 @@ fn step(col: &mut HeapCol, moves: u32, how: &mut i32) -> Code {
     }
 }
 
-fn duty(col: &mut HeapCol, on: i32) -> Code {
+fn duty(col: &mut HeapCol, on: i32) -> Code
+    ensures told { result ≡ when_there col.old.collecting }
+{
     match col.collecting() {
         None => Code::NoHandle,
         Some(keeper) => {
@@ -180,30 +220,43 @@ pub extern "C" fn heap_open(
     stack: u32,
     boxes: u32,
     out: &mut HeapCol,
-) -> i32 {
+) -> i32
+    ensures opened { Numbered result (Opens cells mutators stack boxes out.old.collecting
+        out.new.collecting) }
+{
     open(alloc, cells, mutators, stack, boxes, out).number()
 }
 
 /// Gives the seat of the next mutator, which is out, with room for so many places.
 #[unsafe(no_mangle)]
-pub extern "C" fn heap_seat(alloc: Global, col: &mut HeapCol, room: u32, out: &mut HeapMut) -> i32 {
+pub extern "C" fn heap_seat(alloc: Global, col: &mut HeapCol, room: u32, out: &mut HeapMut) -> i32
+    ensures given { Numbered result (OfHandleOr (out.new.mine ≡ out.old.mine) (λ old new c. Seats
+        room old out.old.mine out.new.mine c) col.old.collecting col.new.collecting) }
+{
     seat(alloc, col, room, out).number()
 }
 
 /// Lets go what the collector's handle owns. The heap goes with the last handle.
 #[unsafe(no_mangle)]
-pub extern "C" fn heap_close(alloc: Global, col: &mut HeapCol) -> i32 {
+pub extern "C" fn heap_close(alloc: Global, col: &mut HeapCol) -> i32
+    ensures closed { result ≡ number_of (when_there col.old.collecting) }
+    ensures gone { col.new.collecting ≡ None }
+{
     close(alloc, col).number()
 }
 
 /// Makes at most so many moves of the collector.
 #[unsafe(no_mangle)]
-pub extern "C" fn heap_step(col: &mut HeapCol, moves: u32, how: &mut i32) -> i32 {
+pub extern "C" fn heap_step(col: &mut HeapCol, moves: u32, how: &mut i32) -> i32
+    ensures stepped { Numbered result (StepSays col.old.collecting) }
+{
     step(col, moves, how).number()
 }
 
 /// Goes on duty, or off.
 #[unsafe(no_mangle)]
-pub extern "C" fn heap_duty(col: &mut HeapCol, on: i32) -> i32 {
+pub extern "C" fn heap_duty(col: &mut HeapCol, on: i32) -> i32
+    ensures told { result ≡ number_of (when_there col.old.collecting) }
+{
     duty(col, on).number()
 }

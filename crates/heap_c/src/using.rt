@@ -1,6 +1,6 @@
 //! What a mutator does for C: each function tests what it is given, and answers why it did nothing.
 ghost use Rattle.std.specs.Prelude.{◌≡◌, ◌<◌, ◌≤◌, if◌then◌else◌, length, true};
-ghost use Rattle.heap_c.specs.Calls.{ComesIn, GoesOut, HasBegun, KeepsChosen, MakesCell};
+ghost use Rattle.heap_c.specs.Calls.{ComesIn, GoesOut, HasBegun, KeepsChosen, MakesAt, MakesCell};
 ghost use Rattle.heap_c.specs.Calls.{AnswersFirst, ReachesSafePoint};
 ghost use Rattle.heap_c.specs.Holding.{IsMine};
 ghost use Rattle.heap_c.specs.declared.codes.Code.TheVariants as code;
@@ -220,5 +220,35 @@ pub(crate) fn make(
         Ok(place)
     } else {
         Err(Code::Wait)
+    }
+}
+
+/// Makes a box, and keeps the first places and it alone.
+pub(crate) fn make_at(
+    heap: &CellHeap<Rule>,
+    seat: &mut MutSeat<Rule>,
+    sharing: &Sharing,
+    wait: &mut Waiting,
+    first: usize,
+    vals: &[HeapVal],
+) -> Code
+    requires mine { IsMine heap.now seat.old }
+    ensures mine { IsMine heap.now seat.new }
+    ensures made { MakesAt (bound heap.now seat.old) (bound heap.now seat.new) first vals.now
+        result }
+{
+    if !seat.is_in() {
+        return Code::NotIn;
+    }
+    if first < FIRST || seat.held_len() < first {
+        return Code::BadPlace;
+    }
+    match make(heap, seat, sharing, wait, vals) {
+        Ok(place) => {
+            let _room = seat.room();
+            placing::keep(heap, seat, first, place, 1);
+            Code::Ok
+        }
+        Err(code) => code,
     }
 }

@@ -14,21 +14,17 @@ returns-then-make-clause-made c =
     let keeps = c.look_or_answer-control.ensures.keeps in
     let claimed = c.in_ok-place.ensures in
     let given = c.in-Some.fields in
-    let made = c.if-make.ensures.made in (
+    let made = c.if-make.ensures.made in
+    let held = made_holds was looked raw now c.in_ok-place.place keeps claimed.cells claimed.room
+    _ _ given made in
+    let means = subst (λ (many : ℕ). AreMeant many c.args.vals.now given) c.held_len.ensures.len
+    c.in-Some.ensures.means in (
       sym c.if-not-is_in.ensures.inside,
       (
-        claimed.place ∙ many_again was looked keeps,
+        c.make.ensures.opened.inside,
         (
-          made_holds was looked raw now c.in_ok-place.place keeps claimed.cells claimed.room _ _ given
-              made,
-          (
-            given,
-            (
-              subst (λ (held : ℕ). AreMeant held c.args.vals.now given) c.held_len.ensures.len
-                  c.in-Some.ensures.means,
-              (raw, (claimed.got, made)),
-            ),
-          ),
+          claimed.place ∙ many_again was looked keeps,
+          (held, (given, (means, (raw, (claimed.got, made))))),
         ),
       ),
     )

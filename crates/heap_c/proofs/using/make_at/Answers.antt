@@ -1,0 +1,39 @@
+use Rattle.std.proofs.Common.{◌≡◌, ◌∷◌, [], arith, inl, length, refl}
+use Rattle.held_places.proofs.Going.{many_held}
+use Rattle.mutator_seat.specs.Bound.{bound}
+use Rattle.heap_c.proofs.using.make_at.Goals as goal
+
+pub keep-requires-clause-kept : goal.keep-requires-clause-kept
+keep-requires-clause-kept c =
+    let more = c.in-Ok.ensures.made.1.1.1.0.0 in
+    let many = many_held (bound c.args.heap.now c.args.seat.now)
+    (bound c.args.heap.now c.make.new.seat) (more.0 ∷ []) more.1 in
+    omega (arith, many, c.held_len.ensures.len)
+
+pub keep-requires-clause-others : goal.keep-requires-clause-others
+keep-requires-clause-others c =
+    let more = c.in-Ok.ensures.made.1.1.1.0.0 in
+    let at = c.in-Ok.ensures.made.1.1.0 in
+    let many = many_held (bound c.args.heap.now c.args.seat.now)
+    (bound c.args.heap.now c.make.new.seat) (more.0 ∷ []) more.1 in
+    omega (arith, many, at)
+
+pub keep-requires-clause-room : goal.keep-requires-clause-room
+keep-requires-clause-room c =
+    let more = c.in-Ok.ensures.made.1.1.1.0.0 in
+    let many = many_held (bound c.args.heap.now c.args.seat.now)
+    (bound c.args.heap.now c.make.new.seat) (more.0 ∷ []) more.1 in
+    omega (arith, many, c.held_len.ensures.len, c.room-room.ensures)
+
+pub returns-in-Ok-clause-made : goal.returns-in-Ok-clause-made
+returns-in-Ok-clause-made c =
+    inl (
+      refl,
+      (
+        c.in-Ok.place,
+        (
+          bound c.args.heap.now c.make.new.seat,
+          (c.in-Ok.ensures.made, (c.in-Ok.ensures.made.1.0, c.keep.ensures.narrows)),
+        ),
+      ),
+    )

@@ -1,0 +1,44 @@
+-- What the calls of the collector's handle answer, code by code.
+-- Source: this project's.
+use Rattle.std.specs.Prelude.{ℕ, ◌≡◌, ◌<◌, ◌≤◌, ◌⊎◌, Option, Some, None, IsSome}
+use Rattle.mutator_seat.specs.Bound.{Bound}
+use Rattle.sorted_rule.specs.declared.sorting.Sorting.{Sorting}
+use Rattle.heap_c.specs.Keeping.{Keeps}
+use Rattle.heap_c.specs.declared.codes.Code.{Code}
+use Rattle.heap_c.specs.declared.codes.Code.TheVariants as code
+
+-- of a call that needs no more than a handle
+abbrev pub when_there : Option Keeps → Code
+when_there None = code.NoHandle
+when_there (Some k) = code.Ok
+
+-- of moves: they were made, or all cycles were
+abbrev pub StepSays : Option Keeps → Code → Type 0
+StepSays None c = c ≡ code.NoHandle
+StepSays (Some k) c = (c ≡ code.Ok) ⊎ (c ≡ code.Spent)
+
+-- the sizes that a heap may have
+abbrev pub IsSize : (cells mutators stack boxes : ℕ) → Type 0
+IsSize cells mutators stack boxes = (0 < cells) × (cells ≤ 4194304) × (0 < mutators)
+    × (mutators ≤ 1048576) × (0 < stack) × (stack ≤ 1048576) × (boxes ≡ 5)
+
+-- of an opening, with what the handle owned and owns
+abbrev pub Opens : (cells mutators stack boxes : ℕ) → (was given : Option Keeps) → Code → Type 0
+Opens cells mutators stack boxes was given code.Ok =
+    (was ≡ None) × (IsSize cells mutators stack boxes × IsSome given)
+Opens cells mutators stack boxes was given code.NotZero = IsSome was × (given ≡ was)
+Opens cells mutators stack boxes was given code.BadSize =
+    (was ≡ None) × ((¬ IsSize cells mutators stack boxes) × (given ≡ was))
+Opens cells mutators stack boxes was given code.NoMemory =
+    (was ≡ None) × (IsSize cells mutators stack boxes × (given ≡ was))
+Opens cells mutators stack boxes was given _ = ⊥
+
+-- of a seat that is asked for
+abbrev pub Seats : (room : ℕ) → Keeps → (was given : Option (Bound Sorting)) → Code → Type 0
+Seats room k was given code.Ok =
+    (was ≡ None) × ((8 ≤ room) × ((k.given < k.heap.shape.mutators) × IsSome given))
+Seats room k was given code.NoSeat = (k.heap.shape.mutators ≤ k.given) × (given ≡ was)
+Seats room k was given code.NotZero = IsSome was × (given ≡ was)
+Seats room k was given code.BadSize = (room < 8) × (given ≡ was)
+Seats room k was given code.NoMemory = given ≡ was
+Seats room k was given _ = ⊥
