@@ -1,12 +1,11 @@
 ghost use Rattle.std.specs.Prelude.{◌≡◌, vec_len};
 ghost use Rattle.std.specs.Int.{div_ceil};
 
-use crate::counts::InBlock;
-use std::sync::atomic::{AtomicIn, AtomicU64};
+use std::sync::atomic::AtomicU64;
 
 /// A word for each block, and how many of them have a number that is not 0.
 pub struct FreeBlocks {
-    pub(crate) words: Vec<AtomicIn<InBlock>>,
+    pub(crate) words: Vec<AtomicU64>,
     pub(crate) with_some: AtomicU64,
     pub(crate) cells: u32,
     ghost sized: { vec_len words ≡ div_ceil cells 512 },

@@ -1,8 +1,6 @@
 //! What the word of a block says, and how each call changes it.
 ghost use Rattle.std.specs.Prelude.{◌≡◌, ◌<◌, ◌≤◌, ◌^◌};
-ghost use Rattle.free_blocks.specs.Words.{IsWord, count_of};
-
-use std::sync::atomic::Rule;
+ghost use Rattle.free_blocks.specs.Words.{count_of};
 
 /// How many cells a block has; the last one may have fewer.
 pub(crate) const BLOCK: u32 = 512;
@@ -12,15 +10,6 @@ const FREED: u64 = 1024;
 
 /// How often a cell may be noted as freed until that count begins again at 0.
 pub(crate) const FREED_ROUND: u64 = 1 << 54;
-
-/// The rule of each word: its number is at most 512.
-pub struct InBlock;
-
-impl Rule for InBlock {
-    ghost use Rattle.free_blocks.specs.Words.{IsWord};
-
-    ghost invariant = { IsWord };
-}
 
 /// What a block's word says.
 #[derive(Clone, Copy)]
@@ -32,15 +21,14 @@ pub struct Count {
 }
 
 impl Count {
-    /// Reads a word.
+    /// Reads a word. What no call here writes reads as a full block's.
     pub(crate) fn of(word: u64) -> Count
-        requires word { IsWord word }
         ensures count { result ≡ count_of word }
         ensures number { result.number ≤ 512 }
         ensures freed { result.freed < 2 ^ 54 }
     {
         Count {
-            number: word % FREED,
+            number: (word % FREED).min(u64::from(BLOCK)),
             freed: word / FREED,
         }
     }
@@ -49,7 +37,6 @@ impl Count {
     pub(crate) fn word(self) -> u64
         requires number { self.number ≤ 512 }
         requires freed { self.freed < 2 ^ 54 }
-        ensures word { IsWord result }
         ensures count { count_of result ≡ self }
     {
         self.freed * FREED + self.number

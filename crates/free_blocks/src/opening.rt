@@ -6,7 +6,7 @@ use crate::NoMemory;
 use crate::blocks::FreeBlocks;
 use crate::counts::{BLOCK, Count};
 use std::alloc::Global;
-use std::sync::atomic::{AtomicIn, AtomicU64};
+use std::sync::atomic::AtomicU64;
 
 /// The cells of a block: from `first` on, up to `end`, which is none of them.
 #[derive(Clone, Copy, Debug, PartialEq, Eq)]
@@ -54,7 +54,7 @@ impl FreeBlocks {
         let mut with_some: u64 = 0;
         for block in 0..blocks {
             let number = free_in(span_in(cells, block), first);
-            words.push(AtomicIn::new(Count { number, freed: 0 }.word()))?;
+            words.push(AtomicU64::new(Count { number, freed: 0 }.word()))?;
             with_some = with_some.saturating_add(number.min(1));
         }
         Ok(FreeBlocks {
