@@ -1,4 +1,5 @@
 pub mod Claims
+pub mod Crossing
 pub mod Keeping
 pub mod Making
 pub mod OfCollecting

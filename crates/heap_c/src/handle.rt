@@ -28,6 +28,8 @@ impl Model for HeapMut {
     ghost also_owns = { λ h. owns_mine h.alloc h.ptr h.mine };
 }
 
+unsafe impl Send for HeapMut {}
+
 impl HeapMut {
     ghost use types.Logic.{sem};
     ghost use Rattle.heap_c.specs.Lending.{lends_mine};

@@ -22,6 +22,8 @@ impl Model for HeapCol {
     ghost also_owns = { λ h. owns_collecting h.alloc h.ptr h.collecting };
 }
 
+unsafe impl Send for HeapCol {}
+
 impl HeapCol {
     ghost use types.Logic.{sem};
     ghost use Rattle.heap_c.specs.Lending.{lends_collecting};

@@ -5,8 +5,7 @@
 //! not `Ok` nothing has changed. No call asks for anything but good addresses: each misuse that can
 //! be tested has a code.
 //!
-//! Not proved yet: that a handle may be used by another thread than the one that made it (`Send` of
-//! what it owns). Each of its parts may be.
+//! A handle may go to another thread, and is used by one call at a time: `Send` is proved of both.
 //!
 //! Reading order: `rule`, `sharing`, `claiming`, `mine`, `parts`, `handle`, `works`, `collecting`,
 //! `keeper`, `codes`, `values`; `using` and `fields`, which work on a seat; then the calls,
