@@ -27,7 +27,7 @@ void *hostile_collector(void *given);
 /* small.c: heaps that one thread opens, fills, collects and closes. */
 void small_heaps(uint64_t seed, int rounds);
 void no_memory(void);
-/* Makes all the cycles that a heap may have: half an hour or more, so not in the gate. */
+/* Makes all the cycles that a heap may have: ten minutes of a processor, so not in the gate. */
 void all_cycles(void);
 
 /* ends.c: threads that die parked, end early, never answer. Each of these two makes a list and
