@@ -239,7 +239,7 @@ module _ (holds : List ℕ → Option (List ℕ)) where
   due_wanted (Some (Mail mail)) dumped status is =
       wanted_due OfMail (λ contents. mail_of contents) (map holds mail.files) status is
 
-  -- want of memory refuses every request
+  -- every request may be refused since memory ran out
   pub memory_refuses : (asked : Option Asked) (dumped : Option Dumped) → dumped ≡ None
       → IsRefusedBy holds asked dumped Memory
   memory_refuses None dumped none = (inr refl, is_none dumped none)

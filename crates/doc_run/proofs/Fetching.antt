@@ -40,7 +40,7 @@ use Rattle.doc_run.proofs.ByRequest.{stops_before}
 same_fault : (one other : Fault) → Some one ≡ Some other → one ≡ other
 same_fault one other is = cc
 
--- what stands behind a reading stands where it gives a value
+-- what is so after a reading stands where it gives a value
 on_any : {X P : Type 0} (r : Result X Fault) → P → OnOk r P
 on_any (Ok value) fact = fact
 on_any (Err fault) fact = tt

@@ -52,7 +52,7 @@ finished_of (came.Ran text f) = Some f
 finished_of (came.Dumped d) = None
 finished_of (came.Mailed text ran) = None
 
--- or a run beside which a version was dumped
+-- or a run during which a version was dumped
 abbrev pub dumped_of : Answer → Option Dumped
 dumped_of (came.Text text) = None
 dumped_of (came.Ran text f) = None
@@ -86,7 +86,7 @@ OfRun (came.Ran text f) Fact = Fact f text.items
 OfRun (came.Dumped d) Fact = ⊥
 OfRun (came.Mailed text ran) Fact = ⊥
 
--- it is of a run beside which a version was dumped
+-- it is of a run during which a version was dumped
 abbrev pub OfDump : Answer → (Dumped → List ℕ → Type 0) → Type 0
 OfDump (came.Text text) Fact = ⊥
 OfDump (came.Ran text f) Fact = ⊥

@@ -14,7 +14,7 @@ pub enum Answer {
     Text(Vec<u8>),
     /// what a run of clients came to, and the text of it
     Ran(Vec<u8>, Finished),
-    /// what a run came to beside which a version was dumped: its dump is the text
+    /// what a run came to during which a version was dumped: its dump is the text
     Dumped(Dumped),
     /// what a run of a mailbox came to, and the text of it
     Mailed(Vec<u8>, MailRun),
@@ -43,7 +43,7 @@ impl Answer {
         }
     }
 
-    /// What is handed back of it, behind its text.
+    /// What is handed back of it, besides its text.
     pub(crate) fn parts(self) -> (Option<Finished>, Option<Dumped>, Option<MailRun>)
         ensures finished { result.0 ≡ finished_of self }
         ensures dumped { result.1 ≡ dumped_of self }

@@ -1,4 +1,4 @@
-//! The scripts of files: they are answered, and beside their clients a version is dumped.
+//! The scripts of files: they are answered, and alongside their clients a version is dumped.
 ghost use Rattle.std.specs.Prelude.{◌≤◌, Some, length};
 ghost use Rattle.doc_run.specs.Answers.{Decided, IsOfDump, refusal_of};
 ghost use Rattle.doc_run.specs.Reads.{Reads};
@@ -16,7 +16,7 @@ use std::thread::Threads;
 // How many scripts there are at most: the guest that dumps takes the place of one.
 const MOST_BESIDE: usize = 63;
 
-/// Answers the scripts in the files of these names, with a version that is dumped beside them.
+/// Answers the scripts in the files of these names, with a version that is dumped alongside them.
 pub fn dump_beside<R: Threads + Wait + Sync, H: Shelf, G: Gate + Sync>(
     alloc: Global,
     rt: &R,

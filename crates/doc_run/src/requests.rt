@@ -1,6 +1,6 @@
 //! Each request is handed on to the file that answers it.
 //!
-//! The words are read with memory, so want of it may come before all else.
+//! The words are read with memory, which may run out before all else.
 ghost use Rattle.doc_run.specs.Answers.{Decided, refusal_of};
 ghost use Rattle.doc_run.specs.Reads.{Reads};
 ghost use Rattle.run_words.specs.Requests.{request_of};
