@@ -1,5 +1,5 @@
 use minor_heap::MinorField::{Minor, Null, Num, Shared};
-use minor_heap::{MinorField, MinorFull, MinorHeap, MinorRef, NoMemory, RecordSpan};
+use minor_heap::{FieldKind, MinorField, MinorFull, MinorHeap, MinorRef, NoMemory, RecordSpan};
 use std::alloc::Global;
 use std::test::Fail;
 
@@ -234,5 +234,68 @@ fn the_first_records_stay_and_the_next_one_follows_them(rt: HostRuntime) -> Resu
         all: 4,
     };
     assert_eq!(rt; truncate_chain(rt.alloc())?, wanted);
+    Ok(())
+}
+
+/// The fields of a record that was made of kinds and words, and whether a record may name itself, a
+/// place that is not held, or a number of 63 bits.
+#[derive(Clone, Copy, Debug, PartialEq, Eq)]
+struct OfWords {
+    may: bool,
+    fields: Option<[MinorField; 5]>,
+    names_itself: bool,
+    unheld: bool,
+    too_great: bool,
+}
+
+const KINDS: [FieldKind; 5] = [
+    FieldKind::Null,
+    FieldKind::Num,
+    FieldKind::Minor,
+    FieldKind::Shared,
+    FieldKind::Num,
+];
+
+/// Makes a record of these words, which names the first record and the last of three places.
+fn make_of(heap: &mut MinorHeap, words: [u64; 5]) -> Option<[MinorField; 5]> {
+    if !heap.may_make(&KINDS, &words, 3) {
+        return None;
+    }
+    match heap.make_of_words(KINDS, words) {
+        Ok(r) => Some([
+            heap.field(r, 0),
+            heap.field(r, 1),
+            heap.field(r, 2),
+            heap.field(r, 3),
+            heap.field(r, 4),
+        ]),
+        Err(MinorFull) => None,
+    }
+}
+
+fn of_words(alloc: Global) -> Result<OfWords, NoMemory> {
+    let mut heap = MinorHeap::with_room(alloc, 2)?;
+    let _first = heap.make([Null, Null, Null, Null, Null]);
+    let words = [9, 7, 0, 2, (1 << 62) - 1];
+    Ok(OfWords {
+        may: heap.may_make(&KINDS, &words, 3),
+        names_itself: heap.may_make(&KINDS, &[0, 7, 1, 2, 0], 3),
+        unheld: heap.may_make(&KINDS, &[0, 7, 0, 3, 0], 3),
+        too_great: heap.may_make(&KINDS, &[0, 7, 0, 2, 1 << 62], 3),
+        fields: make_of(&mut heap, words),
+    })
+}
+
+#[test]
+fn a_record_of_words_has_the_fields_that_they_are(rt: HostRuntime) -> Result<(), Fail> {
+    let first = MinorRef { number: 0 };
+    let wanted = OfWords {
+        may: true,
+        fields: Some([Null, Num(7), Minor(first), Shared(2), Num((1 << 62) - 1)]),
+        names_itself: false,
+        unheld: false,
+        too_great: false,
+    };
+    assert_eq!(rt; of_words(rt.alloc())?, wanted);
     Ok(())
 }

@@ -3,3 +3,4 @@ pub mod Passing
 pub mod Reached
 pub mod Spanning
 pub mod Terms
+mod Within

@@ -1,11 +1,13 @@
 -- Five fields and their kinds and words.
 use Rattle.std.proofs.Common.{◌≡◌, ℕ, zero, suc, ◌<◌, List, [], ◌∷◌, length, refl, ◌∙◌, arith}
-use Rattle.std.specs.Prelude.{slice_index_or}
+use Rattle.std.specs.Prelude.{All, ◌^◌, slice_index_or}
 use Rattle.minor_heap.specs.declared.fields.MinorField.{MinorField}
 use Rattle.minor_heap.specs.declared.fields.MinorField.TheVariants as field
 use Rattle.minor_heap.specs.declared.record.FieldKind.{FieldKind}
 use Rattle.minor_heap.specs.declared.record.FieldKind.TheVariants as kind
-use Rattle.minor_heap.specs.Record.{field_of, fields_of, kind_of, word_of, IsNumbered, AreNumbered}
+use Rattle.minor_heap.specs.Nursery.{FitsRecord}
+use Rattle.minor_heap.specs.Record.{AreNumbered, IsNumbered, field_of, fields_of}
+use Rattle.minor_heap.specs.Record.{kind_of, word_of}
 
 pub unpacks : (f : MinorField) → field_of (kind_of f) (word_of f) ≡ f
 unpacks field.Null = refl
@@ -47,3 +49,20 @@ numbered_there (k ∷ ks) [] i a b all = absurd (omega (arith, b))
 numbered_there (k ∷ ks) (w ∷ ws) zero a b all = all.0
 numbered_there (k ∷ ks) (w ∷ ws) (suc i) a b all =
     numbered_there ks ws i (omega (arith, a)) (omega (arith, b)) all.1
+
+-- a word that names an older record is a record's number
+numbered_of : (n : ℕ) → n < 2 ^ 32 → (k : FieldKind) (w : ℕ) → FitsRecord n (field_of k w)
+    → IsNumbered k w
+numbered_of n few kind.Null w fits = tt
+numbered_of n few kind.Num w fits = tt
+numbered_of n few kind.Minor w fits = omega (arith, few, fits)
+numbered_of n few kind.Shared w fits = tt
+
+pub fits_numbered : (n : ℕ) → n < 2 ^ 32 → (ks : List FieldKind) (ws : List ℕ)
+    → All (FitsRecord n) (fields_of ks ws) → AreNumbered ks ws
+fits_numbered n few [] ws fits = tt
+fits_numbered n few (k ∷ ks) [] fits = tt
+fits_numbered n few (k ∷ ks) (w ∷ ws) fits = (
+  numbered_of n few k w (fits 0 field.Null (omega arith)),
+  fits_numbered n few ks ws (λ j d lt. fits (suc j) d (omega (arith, lt))),
+)

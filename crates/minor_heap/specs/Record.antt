@@ -24,6 +24,13 @@ field_of kind.Num word = field.Num word
 field_of kind.Minor word = field.Minor record { number = word }
 field_of kind.Shared word = field.Shared word
 
+-- what a field names is there: of these records, and of the owner's first places
+abbrev pub IsWithin : ℕ → ℕ → MinorField → Type 0
+IsWithin records places field.Null = Unit {0}
+IsWithin records places (field.Num n) = n < 2 ^ 62
+IsWithin records places (field.Minor r) = r.number < records
+IsWithin records places (field.Shared place) = place < places
+
 -- the word of a record is its number
 abbrev pub IsNumbered : FieldKind → ℕ → Type 0
 IsNumbered kind.Null word = Unit {0}

@@ -1,12 +1,13 @@
-ghost use Rattle.std.specs.Prelude.{◌≡◌, ◌<◌, ◌+◌, ◌++◌, ◌↔◌, ◌∷◌, [], List, All, length};
+ghost use Rattle.std.specs.Prelude.{◌≡◌, ◌<◌, ◌+◌, ◌++◌, ◌↔◌, ◌∷◌, [], List, All, length, true};
 ghost use Rattle.std.specs.Prelude.{IfOk, IsErr, OnErr, OnOk, take};
 ghost use Rattle.cell_words.specs.Term.{Term, part, IsFive};
 ghost use Rattle.minor_heap.specs.Nursery.{Stands, field_at, FitsRecord, IsOrdered};
+ghost use Rattle.minor_heap.specs.Record.{IsWithin, fields_of};
 ghost use Rattle.minor_heap.specs.Terms.{field_term, record_term, term_of, terms_of};
 
 use crate::NoMemory;
 use crate::fields::{MinorField, MinorRef};
-use crate::record::Record;
+use crate::record::{FieldKind, Record, is_within};
 use std::alloc::Global;
 use std::marker::Model;
 
@@ -64,12 +65,65 @@ impl MinorHeap {
         ensures full { IsErr result ↔ (length self.old.records ≡ self.old.room) }
         ensures unchanged { OnErr result (self.new ≡ self.old) }
     {
+        self.push(Record::new(&fields))
+    }
+
+    /// The same of fields by their kinds and words, as they lie in a record.
+    pub fn make_of_words(
+        &mut self,
+        kinds: [FieldKind; 5],
+        words: [u64; 5],
+    ) -> Result<MinorRef, MinorFull>
+        requires fields { All (FitsRecord (length self.old.records)) (fields_of kinds words) }
+        ensures made { IfOk result (λ made. made.number ≡ length self.old.records) }
+        ensures records { OnOk result
+            (self.new.records ≡ self.old.records ++ fields_of kinds words ∷ []) }
+        ensures room { self.new.room ≡ self.old.room }
+        ensures term { OnOk result ((shared : List Term) → terms_of shared self.new.records
+            ≡ terms_of shared self.old.records
+            ++ record_term shared (terms_of shared self.old.records) (fields_of kinds words) ∷ []) }
+        ensures full { IsErr result ↔ (length self.old.records ≡ self.old.room) }
+        ensures unchanged { OnErr result (self.new ≡ self.old) }
+    {
+        let _ = &self.records;
+        self.push(Record::of_words(kinds, words))
+    }
+
+    /// The record, as one more.
+    fn push(&mut self, fields: Record) -> Result<MinorRef, MinorFull>
+        requires fields { All (FitsRecord (length self.old.records)) fields }
+        ensures made { IfOk result (λ made. made.number ≡ length self.old.records) }
+        ensures records { OnOk result (self.new.records ≡ self.old.records ++ fields ∷ []) }
+        ensures room { self.new.room ≡ self.old.room }
+        ensures term { OnOk result ((shared : List Term) → terms_of shared self.new.records
+            ≡ terms_of shared self.old.records
+            ++ record_term shared (terms_of shared self.old.records) fields ∷ []) }
+        ensures full { IsErr result ↔ (length self.old.records ≡ self.old.room) }
+        ensures unchanged { OnErr result (self.new ≡ self.old) }
+    {
         if self.spare() == 0 {
             return Err(MinorFull);
         }
         let number = self.records.len() as u32;
-        self.records.push_reserved(Record::new(&fields));
+        self.records.push_reserved(fields);
         Ok(MinorRef { number })
+    }
+
+    /// Whether fields, by their kinds and words, may be a record's whose owner holds so many
+    /// places: numbers are below 2^62, records stand, and places are held.
+    pub fn may_make(&self, kinds: &[FieldKind; 5], words: &[u64; 5], places: usize) -> bool
+        ensures may { (result ≡ true) ↔ All (IsWithin (length self.now.records) places)
+            (fields_of kinds.now words.now) }
+        ensures fits { result ≡ true
+            → All (FitsRecord (length self.now.records)) (fields_of kinds.now words.now) }
+    {
+        let records = self.len();
+        for i in 0..5 {
+            if !is_within(kinds[i], words[i], records, places) {
+                return false;
+            }
+        }
+        true
     }
 
     /// A field of a record.

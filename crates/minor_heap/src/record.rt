@@ -2,15 +2,16 @@
 //!
 //! The kinds and the words of the five fields stand apart, so that a record takes 48 bytes. Five
 //! fields as they are would take 80.
-ghost use Rattle.std.specs.Prelude.{◌≡◌, ◌<◌, length, slice_index_or};
+ghost use Rattle.std.specs.Prelude.{◌≡◌, ◌<◌, ◌↔◌, length, slice_index_or, true};
 ghost use Rattle.minor_heap.specs.declared.fields.MinorField.TheVariants as field;
-ghost use Rattle.minor_heap.specs.Record.{field_of, kind_of, word_of, IsNumbered};
+ghost use Rattle.minor_heap.specs.Record.{AreNumbered, IsNumbered, IsWithin, field_of};
+ghost use Rattle.minor_heap.specs.Record.{fields_of, kind_of, word_of};
 
 use crate::fields::{MinorField, MinorRef};
 use std::marker::Model;
 
 /// Which of the four a field is.
-#[derive(Clone, Copy)]
+#[derive(Clone, Copy, Debug, PartialEq, Eq)]
 pub enum FieldKind {
     Null,
     Num,
@@ -62,6 +63,14 @@ impl Record {
         }
     }
 
+    /// Five fields by their kinds and words, as they lie.
+    pub fn of_words(kinds: [FieldKind; 5], words: [u64; 5]) -> Record
+        requires numbered { AreNumbered kinds words }
+        ensures fields { result ≡ fields_of kinds words }
+    {
+        Record { kinds, words }
+    }
+
     pub fn field(&self, i: usize) -> MinorField
         requires range { i < 5 }
         ensures field { result ≡ slice_index_or self.now i field.Null }
@@ -90,6 +99,18 @@ fn word(field: MinorField) -> u64
         MinorField::Num(number) => number,
         MinorField::Minor(older) => u64::from(older.number),
         MinorField::Shared(place) => place as u64,
+    }
+}
+
+/// Whether a field may be a record's where so many records stand and so many places are held.
+pub fn is_within(kind: FieldKind, word: u64, records: u32, places: usize) -> bool
+    ensures within { (result ≡ true) ↔ IsWithin records places (field_of kind word) }
+{
+    match kind {
+        FieldKind::Null => true,
+        FieldKind::Num => word < 1 << 62,
+        FieldKind::Minor => word < u64::from(records),
+        FieldKind::Shared => word < places as u64,
     }
 }
 

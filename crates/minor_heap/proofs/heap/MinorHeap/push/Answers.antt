@@ -4,16 +4,14 @@ use Rattle.minor_heap.specs.declared.fields.MinorField.{MinorField}
 use Rattle.minor_heap.specs.Nursery.{IsOrdered, Nursery}
 use Rattle.minor_heap.specs.Terms.{terms_of}
 use Rattle.minor_heap.proofs.Terms.{ordered_snoc, terms_snoc}
-use Rattle.minor_heap.proofs.heap.MinorHeap.make.Goals as goal
+use Rattle.minor_heap.proofs.heap.MinorHeap.push.Goals as goal
 
 -- the records after the push
 records : (c : goal.After-push_reserved) → c.push_reserved.new.self.items
     ≡ c.args.self.now.records ++ c.args.fields ∷ []
 records c =
     let old = ap (λ (n : Nursery). n.records ++ c.args.fields ∷ []) c.self.view_is in
-    let more =
-    ap (λ (f : List MinorField). c.self.inside.records.items ++ f ∷ []) c.new.ensures.fields in
-    c.push_reserved.ensures.items ∙ more ∙ old
+    c.push_reserved.ensures.items ∙ old
 
 pub invariant_of-self : goal.invariant_of-self
 invariant_of-self c =

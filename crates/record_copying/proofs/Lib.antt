@@ -1,0 +1,3 @@
+pub mod Readiness
+pub mod Slicing
+pub mod Standing
