@@ -1,5 +1,5 @@
 -- The result of a run, from what holds at the close of its heap.
-use Rattle.std.proofs.Common.{◌≡◌, ◌≤◌, ◌<◌, ◌+◌, ◌-◌, ◌++◌, ℕ, zero, suc, false, List, [], ◌∷◌}
+use Rattle.std.proofs.Common.{◌≡◌, ◌≤◌, ◌<◌, ◌+◌, ◌-◌, ◌++◌, ℕ, suc, false, List, [], ◌∷◌}
 use Rattle.std.proofs.Common.{All, length}
 use Rattle.std.proofs.Common.{Contains, flat_map, map, Option, None, inl, inr, refl, sym, ◌∙◌, ap}
 use Rattle.std.proofs.Common.{subst, arith}
@@ -11,14 +11,10 @@ use Rattle.std.proofs.lemmas.Bool.{cases_lt}
 use Rattle.std.proofs.lemmas.List.{length-map}
 use mathlib.Core.Option.{some, some-injective}
 use lib.ListN.{get_elem?}
-use Rattle.beside_collector.specs.Service.{HasServed}
-use Rattle.beside_collector.proofs.Closing.{cycles_made, few_cycles, service, tidy}
 use Rattle.closed_heap.proofs.Claiming.{all_claimed}
-use Rattle.dlg_core.specs.FirstRows.{AreRows}
 use Rattle.dlg_core.specs.Sums.{claims_of}
 use Rattle.heap_rule.specs.Boxes.{Map, boxes_of}
 use Rattle.heap_rule.specs.Laws.{Ended}
-use Rattle.heap_rule.specs.Shape.{IsSound}
 use Rattle.heap_rule.specs.declared.view.Place.TheVariants as places
 use Rattle.heap_rule.specs.declared.view.Share.{Share}
 use Rattle.heap_rule.specs.declared.view.View.{View}
@@ -26,7 +22,6 @@ use Rattle.heap_rule.proofs.Moving.{some_below}
 use Rattle.mail_rule.specs.Counted.{EachOnce, WasSent, all_sent, sent_in}
 use Rattle.mail_rule.specs.Items.{item_at, positions_of}
 use Rattle.mail_rule.specs.Mail.{HoldsMail, is_fixed}
-use Rattle.mail_rule.specs.Opening.{first_rows}
 use Rattle.mail_rule.specs.Passes.{opening_pass}
 use Rattle.mail_rule.specs.declared.items.Item.{Item}
 use Rattle.mail_rule.specs.declared.items.Sent.{Sent}
@@ -42,20 +37,8 @@ use Rattle.mail_run.proofs.Answered.{found_full, is_send, positions_of_all, posi
 use Rattle.mail_run.proofs.Behind.{rest_is}
 use Rattle.mail_run.proofs.Lists.{each_made, made_back, made_parts}
 use Rattle.mail_run.proofs.Takers.{one_took}
+use Rattle.mutator_threads.specs.Closing.{HasCollected}
 use Rattle.trails.specs.Marks.{marks_of}
-
-rows_are : AreRows first_rows
-rows_are zero lt = refl
-rows_are (suc zero) lt = refl
-rows_are (suc (suc c)) lt = absurd (omega (arith, lt))
-
-sound : (cells senders : ℕ) → 64 ≤ cells → cells ≤ 4_194_304 → IsSound (mail_shape cells senders)
-sound cells senders least most = record {
-  rows = rows_are;
-  first = refl;
-  fit = omega (arith, least);
-  few = most;
-}
 
 -- there is one element at an index
 once_at : {A : Type 0} (xs : List A) (i : ℕ) (x y : A) → get_elem? xs i ≡ some x
@@ -237,34 +220,29 @@ module _ (cells : ℕ) (scripts : List (List ℕ)) (sent : List (Vec (Option ℕ
       all_claimed (mail_shape cells (length scripts)) words v ended i p.share
       found.before found.stretch found.after p.share_at found.is found.meets
 
-  pub comes : (cycles : ℕ) → 64 ≤ cells → cells ≤ 4_194_304
-      → HasServed cycles (length scripts + 1) v
+  pub comes : (cycles freed : ℕ)
+      → HasCollected (mail_shape cells (length scripts)) cycles freed ended.shows.core v
       → ComesMail cells cycles scripts sent (taken ++ rest_in ended.shows.core) v
-  comes cycles least most served =
-      let h = mail_shape cells (length scripts) in
-      let made = cycles_made h words v ended cycles served in
-      record {
-        words = words;
-        ended = ended;
-        many = through.many;
-        posted = λ i lt. posted i lt;
-        rise = λ i lt. risen i lt;
-        once = positions_once;
-        positions = item_positions;
-        lines = items_lines;
-        taken = taken;
-        rest = rest_in ended.shows.core;
-        items_are = refl;
-        received = record {
-          share = through.drained.share;
-          share_at = through.drained.share_at;
-          receives = through.drained.receives refl;
-          emptied = through.drained.emptied refl;
-        };
-        full = full_here;
-        service = service cycles (length scripts + 1) v served ended.shows.core.control.cycles made;
-        cycles_are = few_cycles cycles (length scripts + 1) v served
-            ended.shows.core.control.cycles made;
-        tidy = λ fewer. tidy h words v ended cycles served
-            (sound cells (length scripts) least most) (omega (arith, made, fewer));
-      }
+  comes cycles freed collected = record {
+    words = words;
+    ended = ended;
+    many = through.many;
+    posted = λ i lt. posted i lt;
+    rise = λ i lt. risen i lt;
+    once = positions_once;
+    positions = item_positions;
+    lines = items_lines;
+    taken = taken;
+    rest = rest_in ended.shows.core;
+    items_are = refl;
+    received = record {
+      share = through.drained.share;
+      share_at = through.drained.share_at;
+      receives = through.drained.receives refl;
+      emptied = through.drained.emptied refl;
+    };
+    full = full_here;
+    service = collected.service;
+    cycles_are = collected.cycles_are;
+    tidy = collected.tidy;
+  }

@@ -1,155 +1,194 @@
--- The seats of the senders and then that of the receiver are joined, and the collector has served.
-use Rattle.std.proofs.Common.{◌≡◌, ◌<◌, ◌+◌, ℕ, Bool, List, length, slice_set}
-use Rattle.std.proofs.Common.{Option, inl, inr, sym, ◌∙◌, ap, subst, arith}
+-- What is so at the close, where the harness has joined the seats of the senders and then that of
+-- the receiver.
+use Rattle.std.proofs.Common.{◌≡◌, ◌<◌, ◌+◌, ◌++◌, ℕ, zero, suc, List, [], ◌∷◌, length, map, take}
+use Rattle.std.proofs.Common.{Option, refl, sym, ◌∙◌, ap, subst, arith}
 use Rattle.std.specs.Prelude.{Vec}
 use Rattle.std.specs.declared.alloc.Global.{Global}
-use Rattle.std.proofs.lemmas.Bool.{cases_lt}
-use Rattle.std.proofs.lemmas.List.{length-map}
-use Rattle.atomic_table.proofs.Lists.{set_else, set_here}
+use Rattle.std.proofs.Math.Seq.{take-append_seam}
+use Rattle.std.proofs.lemmas.List.{length-map, length_push, map-append}
+use Rattle.atomic_table.proofs.Lists.{at_last, at_longer, at_map}
 use mathlib.Core.Option.{some}
 use lib.ListN.{get_elem?}
-use Rattle.beside_collector.specs.Duty.{duty_on}
-use Rattle.beside_collector.specs.Service.{HasServed}
-use Rattle.beside_collector.specs.Serving.{IsStill, ServesLate, Stands}
-use Rattle.beside_collector.specs.declared.keeper.Standby.{Standby}
-use Rattle.beside_collector.proofs.Closing.{Worked, has_served, stands_seat, still_seat, worked}
-use Rattle.cell_heap.specs.Telling.{AreJoined}
-use Rattle.free_cells.specs.declared.queue.FreeQueue.{FreeQueue}
-use Rattle.heap_rule.specs.Laws.{Ended}
-use Rattle.heap_rule.specs.Moves.{joined_view}
+use Rattle.beside_collector.specs.Places.{AllFrom}
+use Rattle.beside_collector.specs.Scripts.{script_of}
+use Rattle.beside_collector.proofs.Places.{all_both}
 use Rattle.heap_rule.specs.Rule.{share_of}
 use Rattle.heap_rule.specs.Shape.{Shape}
 use Rattle.heap_rule.specs.declared.view.Place.{Place}
 use Rattle.heap_rule.specs.declared.view.Place.TheVariants as places
-use Rattle.heap_table.specs.Images.{Shows}
-use Rattle.heap_table.specs.Seats.{HeapId, IsSeatOf, SeatView}
+use Rattle.heap_table.specs.Seats.{HeapId}
 use Rattle.mail_rule.specs.Mail.{HoldsMail, is_fixed}
 use Rattle.mail_rule.specs.Passes.{opening_pass}
-use Rattle.mail_rule.specs.declared.items.Item.{Item}
 use Rattle.mail_rule.specs.declared.mail_pass.MailPass.{MailPass}
 use Rattle.mail_threads.specs.Opened.{mail_shape}
+use Rattle.mail_threads.specs.Posts.{Posts}
 use Rattle.mail_threads.specs.Receipts.{Empties, Receives}
-use Rattle.mail_threads.specs.Taken.{AreTaken, lists_of}
-use Rattle.mail_threads.specs.Workers.{HasReceived}
-use Rattle.mail_threads.specs.declared.workers.Receiver.{Receiver}
-use Rattle.mail_run.specs.Closed.{AreBack, AreThrough, HasDrained, IsClosed}
+use Rattle.mail_threads.specs.Taken.{lists_of}
+use Rattle.mail_threads.specs.Workers.{HaveWorked, IsDone, Mailer}
+use Rattle.mail_threads.specs.declared.workers.Received.{Received}
+use Rattle.mail_run.specs.Closed.{AreThrough, IsClosed}
 use Rattle.mail_run.specs.Comes.{lines_in}
 use Rattle.mail_run.specs.declared.closed.Closed.{Closed}
+use Rattle.mutator_threads.specs.Closing.{HasClosed, joined_parts}
+use Rattle.mutator_threads.specs.Closing.{IsClosed as IsClosedHeap}
+use Rattle.mutator_threads.specs.Mutators.{AreOver, IsOver, own_of, views_of}
 use Rattle.trails.specs.Marks.{marks_of}
 
 pub so_many : (scripts : List (Vec ℕ Global)) → length (lists_of scripts) ≡ length scripts
 so_many scripts = length-map scripts (λ (script : Vec ℕ Global). script.items)
 
--- a join after others changes no more of the collector's seat
-pub still_joined : (old mid new seat : SeatView MailPass) → IsStill old mid
-    → new ≡ record mid { me = joined_view mid.me seat.me } → IsStill old new
-still_joined old mid new seat still new_is = record {
-  table = ap (λ (s : SeatView MailPass). s.table) new_is ∙ still.table;
-  shape = ap (λ (s : SeatView MailPass). s.me.shape) new_is ∙ still.shape;
-  control = ap (λ (s : SeatView MailPass). s.me.control) new_is ∙ still.control;
-  trail = ap (λ (s : SeatView MailPass). s.me.trail) new_is ∙ still.trail;
-}
+-- the script of a place is the list that stands there
+list_there : (scripts : List (Vec ℕ Global)) (i : ℕ) → i < length scripts
+    → get_elem? (lists_of scripts) i ≡ some (script_of scripts i)
+list_there [] i lt = absurd (omega (arith, lt))
+list_there (s ∷ ss) zero lt = refl
+list_there (s ∷ ss) (suc i) lt = list_there ss i (omega (arith, lt))
 
--- the receiver's join, after those of the senders
-pub back : (heap : HeapId) (scripts : List (Vec ℕ Global)) (sent : List (Vec (Option ℕ) Global))
-    (receiver : Receiver) (lines : ℕ) (items : List Item) (failed : Bool)
-    (old mid new : SeatView MailPass) → AreTaken heap.shape.cells scripts sent old mid
-    → length scripts < length mid.me.places
-    → HasReceived heap (length scripts) lines receiver → lines ≡ lines_in (lists_of scripts)
-    → items ≡ receiver.items.items → failed ≡ receiver.failed
-    → new ≡ record mid { me = joined_view mid.me receiver.seat.me }
-    → AreBack heap.shape.cells (lists_of scripts) sent items failed old new
-back heap scripts sent receiver lines items failed old mid new taken fit through lines_are items_are
-    failed_is new_is =
-    let n = length scripts in
-    let same = so_many scripts in
-    let joined = places.Joined (share_of receiver.seat.me) in
-    let ps = slice_set mid.me.places n joined in
-    let placed : new.me.places ≡ ps =
-    ap (λ (s : SeatView MailPass). s.me.places) new_is
-    ∙ ap (λ (k : ℕ). slice_set mid.me.places k joined) through.number_is in
-    record {
-      still = still_joined old mid new receiver.seat taken.still new_is;
-      through = subst (λ (qs : List (Place MailPass)).
-          AreThrough heap.shape.cells (lists_of scripts) sent items failed qs) (sym placed) record {
-            many = taken.many ∙ sym same;
-            posted = λ i lt. let was = taken.posted i (omega (arith, lt, same)) in record {
-              lines = was.lines;
-              lines_at = was.lines_at;
-              answers = was.answers;
-              answers_at = was.answers_at;
-              share = was.share;
-              share_at = subst (λ p. p ≡ some (places.Joined was.share))
-                  (sym (set_else mid.me.places n i joined (λ e. omega (arith, lt, e, same))))
-                  was.share_at;
-              posts = was.posts;
+-- the share of a mutator stands at its place
+abbrev part_of : Mailer → Place MailPass
+part_of mailer = places.Joined (share_of mailer.seat.me)
+
+parts_are : (mailers : List Mailer) → joined_parts (views_of mailers) ≡ map part_of mailers
+parts_are [] = refl
+parts_are (m ∷ ms) = ap (λ (ps : List (Place MailPass)). part_of m ∷ ps) (parts_are ms)
+
+module _ (heap : HeapId) (scripts : List (Vec ℕ Global)) where
+  record DoneAt (senders : List Mailer) (place i : ℕ) : Type 0 where
+    pub sender : Mailer
+    pub at : get_elem? senders i ≡ some sender
+    pub done : IsDone heap scripts (place + i) sender
+
+  done_at : (place : ℕ) (senders : List Mailer) (i : ℕ) → i < length senders
+      → AllFrom (λ number sender. IsDone heap scripts number sender) place senders
+      → DoneAt senders place i
+  done_at place [] i lt all = absurd (omega (arith, lt))
+  done_at place (s ∷ ss) zero lt all =
+      let same : place ≡ place + 0 = omega arith in
+      record {
+        sender = s;
+        at = refl;
+        done = subst (λ (k : ℕ). IsDone heap scripts k s) same all.0;
+      }
+  done_at place (s ∷ ss) (suc i) lt all =
+      let rest = done_at (place + 1) ss i (omega (arith, lt)) all.1 in
+      let same : place + 1 + i ≡ place + suc i = omega arith in
+      record {
+        sender = rest.sender;
+        at = rest.at;
+        done = subst (λ (k : ℕ). IsDone heap scripts k rest.sender) same rest.done;
+      }
+
+  senders_over : (place : ℕ) (senders : List Mailer)
+      → AllFrom (λ number sender. IsDone heap scripts number sender) place senders
+      → AllFrom (λ number (m : Mailer). IsOver heap number m.seat) place senders
+  senders_over place [] all = tt
+  senders_over place (s ∷ ss) all = (all.0.is_over, senders_over (place + 1) ss all.1)
+
+module _ (heap : HeapId) (scripts : List (Vec ℕ Global)) (lines : ℕ) (mailers : List Mailer)
+    (received : Received) (w : HaveWorked heap scripts lines mailers received) where
+  abbrev last : List Mailer
+  last = w.receiver ∷ []
+
+  pub all_over : AreOver heap mailers
+  all_over =
+      let over = w.taken.is_over in
+      let many = w.many in
+      let here : length scripts ≡ 0 + length w.senders = omega (arith, many) in
+      subst (λ (ms : List Mailer). AreOver heap ms) (sym w.mailers_are)
+      (all_both (λ number (m : Mailer). IsOver heap number m.seat) 0 w.senders last
+      (senders_over heap scripts 0 w.senders w.done)
+      (subst (λ (k : ℕ). IsOver heap k w.receiver.seat) here over, tt))
+
+  pub all_mailers : length mailers ≡ length scripts + 1
+  all_mailers =
+      ap (λ (ms : List Mailer). length ms) w.mailers_are ∙ length_push w.senders w.receiver
+      ∙ ap (λ (k : ℕ). k + 1) w.many
+
+  -- what the senders have of their own is what is left of all
+  answers_are : (all sent : List (Vec (Option ℕ) Global)) → all ≡ own_of mailers
+      → sent ≡ take (length scripts) all → sent ≡ own_of w.senders
+  answers_are all sent all_is is =
+      let own = own_of w.senders in
+      let many : length scripts ≡ length own =
+      sym w.many ∙ sym (length-map w.senders (λ (m : Mailer). m.own)) in
+      is ∙ ap (λ (xs : List (Vec (Option ℕ) Global)). take (length scripts) xs)
+      (all_is ∙ ap (λ (ms : List Mailer). own_of ms) w.mailers_are
+      ∙ map-append (λ (m : Mailer). m.own) w.senders last)
+      ∙ ap (λ (k : ℕ). take k (own ++ own_of last)) many
+      ∙ take-append_seam own (own_of last)
+
+  part_at : (joined : List (Place MailPass)) → joined ≡ joined_parts (views_of mailers)
+      → (i : ℕ) (m : Mailer) → get_elem? (w.senders ++ last) i ≡ some m
+      → get_elem? joined i ≡ some (part_of m)
+  part_at joined is i m at =
+      ap (λ (ps : List (Place MailPass)). get_elem? ps i)
+      (is ∙ parts_are mailers ∙ ap (λ (ms : List Mailer). map part_of ms) w.mailers_are)
+      ∙ at_map part_of (w.senders ++ last) i m at
+
+  pub through : (cells : ℕ) (joined : List (Place MailPass))
+      (all sent : List (Vec (Option ℕ) Global)) → heap.shape.cells ≡ cells
+      → lines ≡ lines_in (lists_of scripts)
+      → joined ≡ joined_parts (views_of mailers) → all ≡ own_of mailers
+      → sent ≡ take (length scripts) all
+      → AreThrough cells (lists_of scripts) sent received.items.items received.failed joined
+  through cells joined all sent cells_are lines_are is all_is sent_is =
+      let same = so_many scripts in
+      let own = answers_are all sent all_is sent_is in
+      let many : length sent ≡ length scripts =
+      ap (λ (xs : List (Vec (Option ℕ) Global)). length xs) own
+      ∙ length-map w.senders (λ (m : Mailer). m.own) ∙ w.many in
+      record {
+        many = many ∙ sym same;
+        posted = λ i lt.
+            let fits = w.many in
+            let its = done_at heap scripts 0 w.senders i (omega (arith, lt, same, fits)) w.done in
+            let here : 0 + i ≡ i = omega arith in
+            let done = subst (λ (k : ℕ). IsDone heap scripts k its.sender) here its.done in
+            record {
+              lines = script_of scripts i;
+              lines_at = list_there scripts i (omega (arith, lt, same));
+              answers = its.sender.own.items;
+              answers_at = at_map (λ (xs : Vec (Option ℕ) Global). xs.items) sent i its.sender.own
+                  (ap (λ (xs : List (Vec (Option ℕ) Global)). get_elem? xs i) own
+                  ∙ at_map (λ (m : Mailer). m.own) w.senders i its.sender its.at);
+              share = share_of its.sender.seat.me;
+              share_at = part_at joined is i its.sender
+                  (at_longer w.senders last i its.sender its.at);
+              posts = subst (λ (k : ℕ). Posts k (script_of scripts i) its.sender.own.items
+                  its.sender.seat.me.pass (marks_of its.sender.seat.me.trail)) cells_are
+                  done.posts;
             };
-            drained = subst (λ (k : ℕ). HasDrained (lines_in (lists_of scripts)) items failed ps k)
-                (sym same) record {
-                  share = share_of receiver.seat.me;
-                  share_at = set_here mid.me.places n joined fit;
-                  receives = λ whole.
-                      subst (λ (xs : List Item). Receives (lines_in (lists_of scripts)) xs
-                      receiver.seat.me.pass (marks_of receiver.seat.me.trail)) (sym items_are)
-                      (subst (λ (k : ℕ). Receives k receiver.items.items
-                      receiver.seat.me.pass (marks_of receiver.seat.me.trail)) lines_are
-                      (through.received (sym failed_is ∙ whole)));
-                  emptied = λ whole.
-                      subst (λ (k : ℕ). Empties k (marks_of receiver.seat.me.trail)) lines_are
-                      (through.emptied (sym failed_is ∙ whole));
-                };
-          };
-    }
+        drained = record {
+          share = share_of w.receiver.seat.me;
+          share_at = part_at joined is (length (lists_of scripts)) w.receiver
+              (at_last w.senders w.receiver (length (lists_of scripts)) (w.many ∙ sym same));
+          receives = λ whole. subst (λ (k : ℕ). Receives k received.items.items
+              w.receiver.seat.me.pass (marks_of w.receiver.seat.me.trail)) lines_are
+              (w.taken.taken whole);
+          emptied = λ whole. subst (λ (k : ℕ). Empties k
+              (marks_of w.receiver.seat.me.trail)) lines_are (w.taken.emptied whole);
+        };
+      }
 
--- the collector after all joins
-pub served : (heap : HeapId) (queue : FreeQueue) (cells cycles : ℕ) (scripts : List (List ℕ))
-    (sent : List (Vec (Option ℕ) Global)) (items : List Item) (failed : Bool)
-    (first mid joined last : SeatView MailPass) (standby : Option Standby)
-    → heap.shape ≡ mail_shape cells (length scripts) → IsSeatOf heap first
-    → first.me.trail ≡ duty_on cycles → first.me.control.cycles ≡ 0
-    → Stands heap queue cycles first mid standby
-    → AreBack heap.shape.cells scripts sent items failed mid joined
-    → ServesLate cycles standby joined last
-    → AreThrough cells scripts sent items failed last.me.places
-    × HasServed cycles (length scripts + 1) last.me
-served heap queue cells cycles scripts sent items failed first mid joined last standby shape is
-    trail none stands behind late =
-    let n = length scripts in
-    let there = still_seat heap queue cycles first mid joined
-    (stands_seat heap queue cycles first mid joined standby is stands) behind.still in
-    let those : joined.me.shape.mutators ≡ n + 1 =
-    ap (λ (h : Shape). h.mutators) (there.1 ∙ shape) in
-    let all : AreJoined joined.me =
-    (λ i lt. elim (cases_lt i n) [
-      | inl before ↦ let one = behind.through.posted i before in (one.share, one.share_at)
-      | inr from ↦ let one = behind.through.drained in (
-        one.share,
-        subst (λ (k : ℕ). get_elem? joined.me.places k ≡ some (places.Joined one.share))
-            (let e : n ≡ i = omega (arith, lt, those, from) in e) one.share_at,
-      )
-    ]) in
-    let w : Worked cycles first joined last =
-    worked heap queue cycles first mid joined standby last stands behind.still all late in (
-      subst (λ (ps : List (Place MailPass)). AreThrough cells scripts sent items failed ps)
-          (sym w.places)
-          (subst (λ (h : Shape). AreThrough h.cells scripts sent items failed joined.me.places)
-          shape behind.through),
-      has_served cycles (n + 1) first joined last (ap (λ (h : Shape). h.mutators) (is.1 ∙ shape))
-          trail none w,
-    )
-
--- and the image then
-pub closed : (cells cycles : ℕ) (scripts : List (List ℕ)) (c : Closed) (h : Shape)
-    → h ≡ mail_shape cells (length scripts)
-    → (ended : Ended opening_pass HoldsMail is_fixed h (Unit {0}) c.image.words c.passes)
-    → Shows c.image ended.shows.core
-    → AreThrough cells scripts c.sent.items c.items.items c.failed c.passes.places
-    → HasServed cycles (length scripts + 1) c.passes → IsClosed cells cycles scripts c
-closed cells cycles scripts c h is =
-    subst (λ (k : Shape).
-    (ended : Ended opening_pass HoldsMail is_fixed k (Unit {0}) c.image.words c.passes)
-    → Shows c.image ended.shows.core
-    → AreThrough cells scripts c.sent.items c.items.items c.failed c.passes.places
-    → HasServed cycles (length scripts + 1) c.passes → IsClosed cells cycles scripts c) (sym is)
-    (λ ended shown through served.
-    record { ended = ended; shown = shown; through = through; served = served })
+  -- and the image then
+  pub closed : (cells cycles : ℕ) (c : Closed) (all : List (Vec (Option ℕ) Global))
+      → heap.shape ≡ mail_shape cells (length scripts) → lines ≡ lines_in (lists_of scripts)
+      → IsClosedHeap opening_pass HoldsMail is_fixed heap.shape cycles (views_of mailers) c.heap
+      → c.received ≡ received → all ≡ own_of mailers
+      → c.sent.items ≡ take (length scripts) all
+      → IsClosed cells cycles (lists_of scripts) c
+  closed cells cycles c all shape lines_are is received_is all_is sent_is =
+      let has = is.has_closed in
+      let same : heap.shape ≡ mail_shape cells (length (lists_of scripts)) =
+      shape ∙ ap (λ (k : ℕ). mail_shape cells k) (sym (so_many scripts)) in
+      let at = subst (λ (h : Shape). HasClosed opening_pass HoldsMail is_fixed h cycles
+      (joined_parts (views_of mailers)) c.heap) same has in
+      record {
+        ended = at.ended;
+        shown = at.shows;
+        through = subst (λ (r : Received). AreThrough cells (lists_of scripts) c.sent.items
+            r.items.items r.failed c.heap.passes.places) (sym received_is)
+            (through cells c.heap.passes.places all c.sent.items
+            (ap (λ (h : Shape). h.cells) shape) lines_are has.places_are all_is sent_is);
+        collected = at.collected;
+      }

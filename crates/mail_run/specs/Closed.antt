@@ -1,17 +1,14 @@
 -- What holds when the heap of a run is closed, before its image is read.
 -- Source: this project's.
-use Rattle.std.specs.Prelude.{ℕ, ◌≡◌, ◌<◌, ◌+◌, Bool, false, List, length, Vec, Option}
+use Rattle.std.specs.Prelude.{ℕ, ◌≡◌, ◌<◌, Bool, false, List, length, Vec, Option}
 use Rattle.std.specs.declared.alloc.Global.{Global}
 use mathlib.Core.Option.{some}
 use lib.ListN.{get_elem?}
-use Rattle.beside_collector.specs.Service.{HasServed}
-use Rattle.beside_collector.specs.Serving.{IsStill}
 use Rattle.heap_rule.specs.Laws.{Ended}
 use Rattle.heap_rule.specs.declared.view.Place.{Place}
 use Rattle.heap_rule.specs.declared.view.Place.TheVariants as places
 use Rattle.heap_rule.specs.declared.view.Share.{Share}
 use Rattle.heap_table.specs.Images.{Shows}
-use Rattle.heap_table.specs.Seats.{SeatView}
 use Rattle.mail_rule.specs.Mail.{HoldsMail, is_fixed}
 use Rattle.mail_rule.specs.Passes.{opening_pass}
 use Rattle.mail_rule.specs.declared.items.Item.{Item}
@@ -21,6 +18,7 @@ use Rattle.mail_threads.specs.Receipts.{Empties, Receives}
 use Rattle.mail_threads.specs.Taken.{HasPosted, answers_of}
 use Rattle.mail_run.specs.Comes.{lines_in}
 use Rattle.mail_run.specs.declared.closed.Closed.{Closed}
+use Rattle.mutator_threads.specs.Closing.{HasCollected}
 use Rattle.trails.specs.Marks.{marks_of}
 
 -- The receiver's seat was joined. Unless memory ran out, it took a turn for each of so many lines,
@@ -41,20 +39,13 @@ pub record AreThrough (cells : ℕ) (scripts : List (List ℕ))
       → HasPosted cells scripts (answers_of sent) joined i
   pub drained : HasDrained (lines_in scripts) items failed joined (length scripts)
 
--- This is so after the joins; the collector's seat is as it was, except for where the parts of its
--- mutators are.
-pub record AreBack (cells : ℕ) (scripts : List (List ℕ))
-    (sent : List (Vec (Option ℕ) Global)) (items : List Item) (failed : Bool)
-    (old new : SeatView MailPass) : Type 0 where
-  pub still : IsStill old new
-  pub through : AreThrough cells scripts sent items failed new.me.places
-
 -- This is so at the close, where the image shows a mailbox's heap, and the collector has served.
 pub record IsClosed (cells cycles : ℕ) (scripts : List (List ℕ)) (closed : Closed)
     : Type 0 where
   pub ended : Ended opening_pass HoldsMail is_fixed (mail_shape cells (length scripts)) (Unit {0})
-      closed.image.words closed.passes
-  pub shown : Shows closed.image ended.shows.core
-  pub through : AreThrough cells scripts closed.sent.items closed.items.items closed.failed
-      closed.passes.places
-  pub served : HasServed cycles (length scripts + 1) closed.passes
+      closed.heap.image.words closed.heap.passes
+  pub shown : Shows closed.heap.image ended.shows.core
+  pub through : AreThrough cells scripts closed.sent.items closed.received.items.items
+      closed.received.failed closed.heap.passes.places
+  pub collected : HasCollected (mail_shape cells (length scripts)) cycles closed.heap.freed
+      ended.shows.core closed.heap.passes

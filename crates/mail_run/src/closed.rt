@@ -1,14 +1,12 @@
-use cell_heap::{Image, Passes};
-use cell_mailbox::{Item, MailPass};
+use cell_mailbox::MailPass;
+use mail_threads::{Answers, Received};
+use mutator_threads::Closed as ClosedHeap;
 
-/// The result of a run when its heap is closed.
+/// The result of a run when its heap is closed: what each line was answered, and what the receiver
+/// has taken.
 #[derive(Drop)]
 pub(crate) struct Closed {
-    pub(crate) image: Image,
-    pub(crate) passes: Passes<MailPass>,
-    pub(crate) sent: Vec<Vec<Option<u64>>>,
-    /// what the receiver has taken
-    pub(crate) items: Vec<Item>,
-    /// memory ran out for an item
-    pub(crate) failed: bool,
+    pub(crate) heap: ClosedHeap<MailPass>,
+    pub(crate) sent: Vec<Answers>,
+    pub(crate) received: Received,
 }

@@ -10,7 +10,7 @@ use crate::closing::run_opened;
 use crate::finished::MailRun;
 use crate::following::append_rest;
 use collector::NoMemory;
-use mail_threads::open_mail;
+use mail_threads::{Received, open_mail};
 use std::alloc::Global;
 use std::sync::Wait;
 use std::thread::Threads;
@@ -36,8 +36,8 @@ pub fn mail_run<R: Threads + Wait + Sync>(
     ensures { IfOk result (λ run. ComesMail cells cycles (lists_of scripts.now) run.sent.items
         run.items.items run.passes) }
 {
-    let sent = Vec::with_capacity(alloc, scripts.len())?;
-    let opened = open_mail(alloc, rt, scripts, cells, cycles)?;
+    let sent = Vec::with_capacity(alloc, scripts.len() + 1)?;
+    let opened = open_mail(alloc, rt, scripts, cells)?;
     let closed = run_opened(alloc, rt, scripts, cells, cycles, opened, sent);
     finish(scripts, cells, cycles, closed)
 }
@@ -50,7 +50,6 @@ fn finish(
     cycles: u32,
     closed: Closed,
 ) -> Result<MailRun, NoMemory>
-    requires cells { (64 ≤ cells) × (cells ≤ 4_194_304) }
     requires closed { IsClosed cells cycles (lists_of scripts.now) closed }
     ensures { IfOk result (λ run. ComesMail cells cycles (lists_of scripts.now) run.sent.items
         run.items.items run.passes) }
@@ -59,19 +58,18 @@ fn finish(
     let _ = cells;
     let _ = cycles;
     let Closed {
-        image,
-        passes,
+        heap,
         sent,
-        mut items,
-        failed,
+        received,
     } = closed;
-    let whole = append_rest(&image, &mut items);
+    let Received { mut items, failed } = received;
+    let whole = append_rest(&heap.image, &mut items);
     if failed || !whole {
         return Err(NoMemory);
     }
     Ok(MailRun {
         sent,
         items,
-        passes,
+        passes: heap.passes,
     })
 }

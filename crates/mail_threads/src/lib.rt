@@ -7,22 +7,16 @@
 //! nothing more. No clause says that anything runs concurrently.
 //!
 //! Reading order: specs/Posts, Receipts; specs/Calls, `posting`, `receiving`; `workers`,
-//! specs/Workers, `running`, `joining`; specs/Opened, `opened`, `opening`; specs/Taken,
-//! `taking_back`.
+//! specs/Workers, `running`, `joining`; specs/Opened, `opening`; specs/Taken.
 #![tactic(auto)]
 
 mod joining;
-mod opened;
 mod opening;
 mod posting;
 mod receiving;
 mod running;
-mod taking_back;
 mod workers;
 
 pub use joining::run_all;
-pub use opened::OpenMail;
 pub use opening::open_mail;
-pub use running::run_each;
-pub use taking_back::take_back;
-pub use workers::{Receiver, Sender};
+pub use workers::{Answers, Mailer, Received};

@@ -1,23 +1,18 @@
 //! Who works on a mailbox, between two threads: what a thread takes with it, and gives back.
 use cell_mailbox::{Item, MailPass};
-use free_cells::HintPass;
-use mutator_seat::MutSeat;
+use mutator_threads::Worker;
 
-/// A sender with the seat of its mutator, and the answers to its lines.
-#[derive(Drop)]
-pub struct Sender {
-    /// the number of its mutator, and the place of its script
-    pub place: u32,
-    pub seat: MutSeat<MailPass>,
-    pub pass: HintPass,
-    /// the position of each line in order, or none where the heap was full
-    pub sent: Vec<Option<u64>>,
-}
+/// What a mutator of a mailbox has of its own: the position of each line of its script in order, or
+/// none where the heap was full.
+pub type Answers = Vec<Option<u64>>;
 
-/// The receiver with the seat of its mutator, and what it has taken.
+/// A mutator of a mailbox. The first have a script each, and send its lines; the last one receives,
+/// and has no lines.
+pub type Mailer = Worker<MailPass, Answers>;
+
+/// What the receiver has taken.
 #[derive(Drop)]
-pub struct Receiver {
-    pub seat: MutSeat<MailPass>,
+pub struct Received {
     pub items: Vec<Item>,
     /// memory ran out for an item, and it stopped there
     pub failed: bool,

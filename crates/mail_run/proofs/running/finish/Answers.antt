@@ -11,11 +11,11 @@ returns c =
     let closed = c.requires.closed in
     let scripts = lists_of c.args.scripts.now in
     let sent = c.args.closed.sent.items in
-    let taken = c.args.closed.items.items in
-    let v = c.args.closed.passes in
+    let taken = c.args.closed.received.items.items in
+    let heap = c.args.closed.heap in
+    let v = heap.passes in
     subst (λ (items : List Item). ComesMail c.args.cells c.args.cycles scripts sent items v)
     (sym (c.if-not-whole.ensures.rest closed.ended.shows.core closed.shown))
-    (comes c.args.cells scripts sent taken c.args.closed.image.words v closed.ended
+    (comes c.args.cells scripts sent taken heap.image.words v closed.ended
     (subst (λ (failed : Bool). AreThrough c.args.cells scripts sent taken failed v.places)
-    c.if-failed.false closed.through) c.args.cycles c.requires.cells.0 c.requires.cells.1
-    closed.served)
+    c.if-failed.false closed.through) c.args.cycles heap.freed closed.collected)

@@ -1,13 +1,11 @@
 -- The opening of a mailbox's heap.
-use Rattle.std.proofs.Common.{◌≡◌, ◌≤◌, ◌+◌, ℕ, List, refl, sym, subst}
+use Rattle.std.proofs.Common.{◌≡◌, ◌≤◌, ℕ, List, refl, sym, subst}
 use Rattle.cell_words.specs.declared.fields.Field.{Field}
-use Rattle.heap_rule.specs.Shape.{Shape}
 use Rattle.heap_table.specs.Opening.{Opens}
 use Rattle.mail_rule.specs.Mail.{HoldsMail}
 use Rattle.mail_rule.specs.Opening.{first_rows, first_terms}
 use Rattle.mail_rule.specs.Passes.{opening_pass}
 use Rattle.mail_rule.proofs.Openings.{firsts, opened}
-use Rattle.mail_threads.specs.Opened.{mail_shape}
 
 pub opens : (cells mutators setting : ℕ) (rows : List (List Field)) → rows ≡ first_rows
     → mutators ≤ 64
@@ -21,11 +19,3 @@ opens cells mutators setting rows is most =
       opened record { cells = cells; mutators = mutators; setting = setting; first = first_rows }
           record { first = refl; few = most },
     )
-
--- the shape of the heap that is opened is that of a mailbox
-pub opened_shape : (cells senders : ℕ) (h : Shape) (rows : List (List Field))
-    → h ≡ record { cells = cells; mutators = senders + 1; setting = 0; first = rows }
-    → rows ≡ first_rows → h ≡ mail_shape cells senders
-opened_shape cells senders h rows is are =
-    subst (λ (first : List (List Field)). h
-    ≡ record { cells = cells; mutators = senders + 1; setting = 0; first = first }) are is
