@@ -103,6 +103,34 @@ module _ (v : View Sorting) (s : State) (l : Lore) (passes : List Sorting)
           not_anchor);
     }
 
+    -- and the map, where the box is named in a field of its own
+    named_itself : (f : ℕ) → sort_at v 1 f ≡ Boxes → (x : ℕ) → x ≡ z
+        → AreSorted h.boxes
+        (written_map (boxes_of s (revealing l (field.Cell z))) x f (entry_of l.terms (field.Cell z)))
+    named_itself f boxes_there x is =
+        let comes = fresh_comes 1 f boxes_there in
+        written_sorted h.boxes (boxes_of s (revealing l (field.Cell z))) comes.shown x f
+        (entry_of l.terms (field.Cell z))
+        (subst (λ (sort : Sort). IsOfSort sort (entry_of l.terms (field.Cell z)))
+        (sort_else h.boxes 1 z f (λ e. omega (arith, e)) not_anchor
+        ∙ ap (λ (y : ℕ). sort_of h.boxes y f) (sym is)) comes.entry)
+
+    named_or_not : (f : ℕ) → sort_at v 1 f ≡ Boxes → (made : Bool) (x : ℕ) → x ≡ z
+        → AreSorted h.boxes (written_if made s l x f (field.Cell z))
+    named_or_not f boxes_there true x is = named_itself f boxes_there x is
+    named_or_not f boxes_there false x is = h.sorted
+
+    names_stand : (f : ℕ) → sort_at v 1 f ≡ Boxes → (old : Field)
+        → HoldsSorted
+        (written_if (same_field (field_of s (target_of s v.number fresh) f) old) s l
+        (target_of s v.number fresh) f (field.Cell z))
+        (slice_set passes v.number v.pass)
+    names_stand f boxes_there old =
+        let x = target_of s v.number fresh in
+        stands (written_if (same_field (field_of s x f) old) s l x f (field.Cell z))
+        (named_or_not f boxes_there (same_field (field_of s x f) old) x
+        (target_now v s l mine fresh))
+
   -- The write, at the cell of an open place.
 
   module _ (place f : ℕ) (new : Field) (there : place < length v.own.held)
@@ -150,6 +178,13 @@ module _ (v : View Sorting) (s : State) (l : Lore) (passes : List Sorting)
   begun_now = ap (λ (own : Own). pending_or_none own.pending) mine.own
 
 -- In the shape that a call of a seat asks for.
+
+pub itself_picks : (v : View Sorting) (fresh f : ℕ) → MayShow v fresh → sort_at v 1 f ≡ Boxes
+    → (old : Field)
+    → Picks HoldsSorted no_field_is_fixed same_pass v
+    (event.Write v.number fresh f old (field.Cell (target v fresh)))
+itself_picks v fresh f may boxes_there old s l passes mine happens proper at h =
+    names_stand v s l passes mine h at fresh may f boxes_there old
 
 module _ (v : View Sorting) (place f : ℕ) (there : place < length v.own.held)
     (open_is : IsOpen v place) where

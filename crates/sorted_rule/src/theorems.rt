@@ -66,3 +66,12 @@ pub fn a_new_box_may_be_shown()
         → Picks HoldsSorted no_field_is_fixed same_pass v
         (event.Store v.number (field.Cell (target v fresh))) }
 {}
+
+/// So does a write of such a box into a field of its own that names boxes. No other cell is needed
+/// to show it, and nobody else comes to know it by that.
+pub fn a_new_box_may_name_itself()
+    ensures { (v : View Sorting) (fresh f : ℕ) → MayShow v fresh → sort_at v 1 f ≡ Boxes
+        → (old : Field)
+        → Picks HoldsSorted no_field_is_fixed same_pass v
+        (event.Write v.number fresh f old (field.Cell (target v fresh))) }
+{}
