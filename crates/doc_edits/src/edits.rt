@@ -13,6 +13,9 @@ ghost use Rattle.doc_records.specs.Trees.{IsNodeAt, IsTreeNode, tree_of};
 ghost use Rattle.doc_edits.specs.Ends.{StandsAtEnd, made_at};
 ghost use Rattle.doc_edits.specs.Tops.{IsTop, IsTreeAt, IsWithin, tree_under};
 
+use crate::bounds::{
+    EDIT_PLACES, EDIT_RECORDS, END_PLACES, LEVEL_PLACES, LEVEL_RECORDS, TEXT_RECORDS,
+};
 use crate::nodes::{open, with_child};
 use crate::rows::has_room;
 use doc_records::{
@@ -32,13 +35,13 @@ pub(crate) enum End<'a, At> {
 fn text_under<R: RecordPool>(records: &mut R, at: Option<R::At>, text: &Text) -> R::At
     requires top { IsTop (R.shown records.old) at }
     requires places { (R.shown records.old).held + 2 ≤ (R.shown records.old).room }
-    requires records { 197 ≤ (R.shown records.old).records }
+    requires records { TEXT_RECORDS ≤ (R.shown records.old).records }
     ensures node { IsNodeAt (R.shown records.new) result }
     ensures tree { tree_of ((R.shown records.new).term result)
         ≡ with_text text.now (tree_under (R.shown records.old) at) }
     ensures later { Later (R.shown records.old) (R.shown records.new) }
     ensures held { (R.shown records.new).held ≤ (R.shown records.old).held + 2 }
-    ensures records { (R.shown records.old).records ≤ (R.shown records.new).records + 197 }
+    ensures records { (R.shown records.old).records ≤ (R.shown records.new).records + TEXT_RECORDS }
 {
     let bytes = text.bytes();
     match at {
@@ -54,13 +57,13 @@ fn at_end<R: RecordPool>(records: &mut R, at: Option<R::At>, end: End<'_, R::At>
     requires top { IsTop (R.shown records.old) at }
     requires end { StandsAtEnd (R.shown records.old) end }
     requires places { (R.shown records.old).held + 2 ≤ (R.shown records.old).room }
-    requires records { 197 ≤ (R.shown records.old).records }
+    requires records { TEXT_RECORDS ≤ (R.shown records.old).records }
     ensures node { IsNodeAt (R.shown records.new) result }
     ensures tree { tree_of ((R.shown records.new).term result)
         ≡ made_at (R.shown records.old) end.entry (tree_under (R.shown records.old) at) }
     ensures later { Later (R.shown records.old) (R.shown records.new) }
     ensures held { (R.shown records.new).held ≤ (R.shown records.old).held + 2 }
-    ensures records { (R.shown records.old).records ≤ (R.shown records.new).records + 197 }
+    ensures records { (R.shown records.old).records ≤ (R.shown records.new).records + TEXT_RECORDS }
 {
     match end {
         End::Text(text) => text_under(records, at, text),
@@ -140,7 +143,6 @@ fn begin<R: RecordPool>(
     }
 }
 
-// Each level takes 324 places at most, and 39 records.
 fn edit_along<R: RecordPool>(
     records: &mut R,
     at: Option<R::At>,
@@ -150,9 +152,10 @@ fn edit_along<R: RecordPool>(
     requires top { IsTop (R.shown records.old) at }
     requires end { StandsAtEnd (R.shown records.old) end }
     requires few { length names.now ≤ 8 }
-    requires places { (R.shown records.old).held + 324 * length names.now + 1100
+    requires places { (R.shown records.old).held + LEVEL_PLACES * length names.now + END_PLACES
         ≤ (R.shown records.old).room }
-    requires records { 39 * length names.now + 197 ≤ (R.shown records.old).records }
+    requires records { LEVEL_RECORDS * length names.now + TEXT_RECORDS
+        ≤ (R.shown records.old).records }
     ensures tree { answered (λ a. tree_of ((R.shown records.new).term a)) result ≡ edit_along
         (made_at (R.shown records.old) end.entry) names.now (tree_under (R.shown records.old) at) }
     ensures node { ForOk result (IsNodeAt (R.shown records.new)) }
@@ -160,9 +163,9 @@ fn edit_along<R: RecordPool>(
         (λ a. IsWithin (length names.now) (tree_of ((R.shown records.new).term a))) }
     ensures later { Later (R.shown records.old) (R.shown records.new) }
     ensures held { (R.shown records.new).held
-        ≤ (R.shown records.old).held + 324 * length names.now + 2 }
+        ≤ (R.shown records.old).held + LEVEL_PLACES * length names.now + 2 }
     ensures records { (R.shown records.old).records
-        ≤ (R.shown records.new).records + (39 * length names.now + 197) }
+        ≤ (R.shown records.new).records + (LEVEL_RECORDS * length names.now + TEXT_RECORDS) }
 {
     let [name, rest @ ..] = names else {
         return Ok(at_end(records, at, end));
@@ -203,15 +206,15 @@ fn edit_whole<R: RecordPool>(
     requires root { IsTreeAt (R.shown records.old) root }
     requires end { StandsAtEnd (R.shown records.old) end }
     requires few { length names.now ≤ 8 }
-    requires places { (R.shown records.old).held + 8192 ≤ (R.shown records.old).room }
-    requires records { 509 ≤ (R.shown records.old).records }
+    requires places { (R.shown records.old).held + EDIT_PLACES ≤ (R.shown records.old).room }
+    requires records { EDIT_RECORDS ≤ (R.shown records.old).records }
     ensures tree { answered (λ a. tree_of ((R.shown records.new).term a)) result
         ≡ edited within_limits (edit_along (made_at (R.shown records.old) end.entry) names.now
         (tree_of ((R.shown records.old).term root))) }
     ensures node { ForOk result (IsNodeAt (R.shown records.new)) }
     ensures later { Later (R.shown records.old) (R.shown records.new) }
-    ensures held { (R.shown records.new).held ≤ (R.shown records.old).held + 8192 }
-    ensures records { (R.shown records.old).records ≤ (R.shown records.new).records + 509 }
+    ensures held { (R.shown records.new).held ≤ (R.shown records.old).held + EDIT_PLACES }
+    ensures records { (R.shown records.old).records ≤ (R.shown records.new).records + EDIT_RECORDS }
 {
     let whole = edit_along(records, Some(root), names, end)?;
     within_limits(records, whole)
@@ -228,16 +231,16 @@ fn edit<R: RecordPool>(
     requires root { IsTreeAt (R.shown records.old) root }
     requires end { StandsAtEnd (R.shown records.old) end }
     requires few { length names.now ≤ 8 }
-    requires places { (R.shown records.old).held + 8192 ≤ (R.shown records.old).room }
-    requires records { 509 ≤ (R.shown records.old).records }
+    requires places { (R.shown records.old).held + EDIT_PLACES ≤ (R.shown records.old).room }
+    requires records { EDIT_RECORDS ≤ (R.shown records.old).records }
     ensures tree { answered (λ a. tree_of ((R.shown records.new).term a)) result
         ≡ edited within_limits (edit_along (made_at (R.shown records.old) end.entry) names.now
         (tree_of ((R.shown records.old).term root))) }
     ensures node { ForOk result (IsNodeAt (R.shown records.new)) }
     ensures later { Later (R.shown records.old) (R.shown records.new) }
-    ensures held { (R.shown records.new).held ≤ (R.shown records.old).held + 8192 }
+    ensures held { (R.shown records.new).held ≤ (R.shown records.old).held + EDIT_PLACES }
     ensures refused { OnErr result ((R.shown records.new).held ≡ (R.shown records.old).held) }
-    ensures records { (R.shown records.old).records ≤ (R.shown records.new).records + 509 }
+    ensures records { (R.shown records.old).records ≤ (R.shown records.new).records + EDIT_RECORDS }
 {
     let held = records.held();
     match edit_whole(records, root, names, end) {
@@ -259,15 +262,15 @@ pub fn set_text<R: RecordPool>(
 ) -> Result<R::At, EditFault>
     requires stands { (R.shown records.old).stands (R.shown records.old).held root }
     requires node { IsTreeNode ((R.shown records.old).term root) }
-    requires places { (R.shown records.old).held + 8192 ≤ (R.shown records.old).room }
-    requires records { 509 ≤ (R.shown records.old).records }
+    requires places { (R.shown records.old).held + EDIT_PLACES ≤ (R.shown records.old).room }
+    requires records { EDIT_RECORDS ≤ (R.shown records.old).records }
     ensures tree { answered (λ a. tree_of ((R.shown records.new).term a)) result
         ≡ set_text path.now text.now (tree_of ((R.shown records.old).term root)) }
     ensures node { ForOk result (IsTreeAt (R.shown records.new)) }
     ensures later { Later (R.shown records.old) (R.shown records.new) }
-    ensures held { (R.shown records.new).held ≤ (R.shown records.old).held + 8192 }
+    ensures held { (R.shown records.new).held ≤ (R.shown records.old).held + EDIT_PLACES }
     ensures refused { OnErr result ((R.shown records.new).held ≡ (R.shown records.old).held) }
-    ensures records { (R.shown records.old).records ≤ (R.shown records.new).records + 509 }
+    ensures records { (R.shown records.old).records ≤ (R.shown records.new).records + EDIT_RECORDS }
 {
     edit(records, root, path.names(), End::Text(text))
 }
@@ -285,16 +288,16 @@ pub fn attach<R: RecordPool>(
     requires node { IsTreeNode ((R.shown records.old).term root) }
     requires sub_stands { (R.shown records.old).stands (R.shown records.old).held sub }
     requires sub { IsTreeNode ((R.shown records.old).term sub) }
-    requires places { (R.shown records.old).held + 8192 ≤ (R.shown records.old).room }
-    requires records { 509 ≤ (R.shown records.old).records }
+    requires places { (R.shown records.old).held + EDIT_PLACES ≤ (R.shown records.old).room }
+    requires records { EDIT_RECORDS ≤ (R.shown records.old).records }
     ensures tree { answered (λ a. tree_of ((R.shown records.new).term a)) result
         ≡ attach path.now (tree_of ((R.shown records.old).term sub))
         (tree_of ((R.shown records.old).term root)) }
     ensures node { ForOk result (IsTreeAt (R.shown records.new)) }
     ensures later { Later (R.shown records.old) (R.shown records.new) }
-    ensures held { (R.shown records.new).held ≤ (R.shown records.old).held + 8192 }
+    ensures held { (R.shown records.new).held ≤ (R.shown records.old).held + EDIT_PLACES }
     ensures refused { OnErr result ((R.shown records.new).held ≡ (R.shown records.old).held) }
-    ensures records { (R.shown records.old).records ≤ (R.shown records.new).records + 509 }
+    ensures records { (R.shown records.old).records ≤ (R.shown records.new).records + EDIT_RECORDS }
 {
     edit(records, root, path.names(), End::Node(sub))
 }

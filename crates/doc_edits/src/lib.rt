@@ -6,10 +6,11 @@
 //! stood before stands unchanged, and each edit stays within a number of places and records. Edits
 //! take no memory but the records that they make.
 //!
-//! Reading order: specs/Tops, Entries, Pools, Ends, Edits; then `entries`, `rows`, `sizes`,
-//! `nodes`, `edits`, `removals`.
+//! Reading order: `bounds`; specs/Tops, Entries, Pools, Ends, Edits; then `entries`, `rows`,
+//! `sizes`, `nodes`, `edits`, `removals`.
 #![tactic(auto)]
 
+mod bounds;
 mod edits;
 mod entries;
 mod nodes;
@@ -17,5 +18,6 @@ mod removals;
 mod rows;
 mod sizes;
 
+pub use crate::bounds::{EDIT_PLACES, EDIT_RECORDS};
 pub use crate::edits::{attach, set_text};
 pub use crate::removals::delete;

@@ -10,6 +10,7 @@ ghost use Rattle.doc_records.specs.Trees.{IsNodeAt, tree_of};
 ghost use Rattle.doc_edits.specs.Sizes.{Changes};
 ghost use Rattle.doc_edits.specs.Tops.{IsRowAt, IsTop, IsTreeAt, row_of, tree_under};
 
+use crate::bounds::LEVEL_RECORDS;
 use crate::rows::{with_entry, without_entry};
 use crate::sizes::{Change, change_of, sizes_after};
 use doc_records::{NODE_ENTRIES, NODE_TEXT, Part, RecordPool, make_text, read_part, with_text};
@@ -103,13 +104,14 @@ pub(crate) fn with_child<R: RecordPool>(
     requires room { child_of_name name.now (tree_under (R.shown records.old) at).kids ≡ None
         → kid_count (tree_under (R.shown records.old) at).kids < 256 }
     requires places { (R.shown records.old).held + 1027 ≤ (R.shown records.old).room }
-    requires records { 39 ≤ (R.shown records.old).records }
+    requires records { LEVEL_RECORDS ≤ (R.shown records.old).records }
     ensures node { IsNodeAt (R.shown records.new) result }
     ensures tree { tree_of ((R.shown records.new).term result) ≡ with_child name.now
         (tree_of ((R.shown records.old).term child)) (tree_under (R.shown records.old) at) }
     ensures later { Later (R.shown records.old) (R.shown records.new) }
     ensures held { (R.shown records.new).held ≤ (R.shown records.old).held + 258 }
-    ensures records { (R.shown records.old).records ≤ (R.shown records.new).records + 39 }
+    ensures records { (R.shown records.old).records
+        ≤ (R.shown records.new).records + LEVEL_RECORDS }
 {
     let change = change_of(records, at, was, Some(child));
     let node = open(records, at);

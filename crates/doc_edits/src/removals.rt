@@ -6,6 +6,7 @@ ghost use Rattle.doc_records.specs.Pool.{Later};
 ghost use Rattle.doc_records.specs.Trees.{IsNodeAt, IsTreeNode, tree_of};
 ghost use Rattle.doc_edits.specs.Tops.{IsTreeAt};
 
+use crate::bounds::{EDIT_PLACES, EDIT_RECORDS, END_PLACES, LEVEL_PLACES, LEVEL_RECORDS};
 use crate::nodes::{with_child, without_child};
 use doc_records::{RecordPool, find_child};
 use doc_tree::{EditFault, Name, Path};
@@ -16,17 +17,17 @@ fn delete_along<R: RecordPool>(
     names: &[Name],
 ) -> Result<R::At, EditFault>
     requires root { IsTreeAt (R.shown records.old) at }
-    requires places { (R.shown records.old).held + 324 * length names.now + 1100
+    requires places { (R.shown records.old).held + LEVEL_PLACES * length names.now + END_PLACES
         ≤ (R.shown records.old).room }
-    requires records { 39 * length names.now ≤ (R.shown records.old).records }
+    requires records { LEVEL_RECORDS * length names.now ≤ (R.shown records.old).records }
     ensures tree { answered (λ a. tree_of ((R.shown records.new).term a)) result
         ≡ delete names.now (tree_of ((R.shown records.old).term at)) }
     ensures node { ForOk result (IsNodeAt (R.shown records.new)) }
     ensures later { Later (R.shown records.old) (R.shown records.new) }
     ensures held { (R.shown records.new).held
-        ≤ (R.shown records.old).held + 324 * length names.now }
+        ≤ (R.shown records.old).held + LEVEL_PLACES * length names.now }
     ensures records { (R.shown records.old).records
-        ≤ (R.shown records.new).records + 39 * length names.now }
+        ≤ (R.shown records.new).records + LEVEL_RECORDS * length names.now }
 {
     let [name, rest @ ..] = names else {
         return Err(EditFault::Absent);
@@ -46,15 +47,15 @@ fn delete_along<R: RecordPool>(
 pub fn delete<R: RecordPool>(records: &mut R, root: R::At, path: &Path) -> Result<R::At, EditFault>
     requires stands { (R.shown records.old).stands (R.shown records.old).held root }
     requires node { IsTreeNode ((R.shown records.old).term root) }
-    requires places { (R.shown records.old).held + 8192 ≤ (R.shown records.old).room }
-    requires records { 509 ≤ (R.shown records.old).records }
+    requires places { (R.shown records.old).held + EDIT_PLACES ≤ (R.shown records.old).room }
+    requires records { EDIT_RECORDS ≤ (R.shown records.old).records }
     ensures tree { answered (λ a. tree_of ((R.shown records.new).term a)) result
         ≡ delete path.now (tree_of ((R.shown records.old).term root)) }
     ensures node { ForOk result (IsTreeAt (R.shown records.new)) }
     ensures later { Later (R.shown records.old) (R.shown records.new) }
-    ensures held { (R.shown records.new).held ≤ (R.shown records.old).held + 8192 }
+    ensures held { (R.shown records.new).held ≤ (R.shown records.old).held + EDIT_PLACES }
     ensures refused { OnErr result ((R.shown records.new).held ≡ (R.shown records.old).held) }
-    ensures records { (R.shown records.old).records ≤ (R.shown records.new).records + 509 }
+    ensures records { (R.shown records.old).records ≤ (R.shown records.new).records + EDIT_RECORDS }
 {
     let held = records.held();
     match delete_along(records, root, path.names()) {
