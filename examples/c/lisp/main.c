@@ -18,7 +18,12 @@ typedef struct {
     const char *prompt;
     char **numbers;
     int status, is_shown;
+    long cells;
+    value reserve; /* an atom: a list of cells that can be given up, so that a form can be read when
+                    * all the others are used */
 } session;
+
+enum { MOST_RESERVED = 1000, PART_RESERVED = 16 };
 
 static void report(interpreter *t) {
     char place[64];
@@ -36,14 +41,30 @@ static void report(interpreter *t) {
     flush(t);
 }
 
+/* Makes the reserve again if it was given up and there is room. */
+static void fill_reserve(session *s) {
+    interpreter *t = s->t;
+    size_t frame = mem_frame(t->m);
+    value list = nil();
+    if (is_cell(mem_get(t->m, s->reserve))) { mem_leave(t->m, frame); return; }
+    if (setjmp(t->top) == 0) {
+        for (long i = 0; i < MOST_RESERVED && i < s->cells / PART_RESERVED; i++)
+            list = mem_give(t->m, frame, mem_pair(t->m, 0, nil(), list));
+        mem_set(t->m, s->reserve, list);
+    }
+    mem_leave(t->m, frame);
+}
+
 /* One form: 0 at the end. After a fault nothing is left of it but what it did to atoms and names. */
 static int does_form(session *s, reader *r) {
     interpreter *t = s->t;
     size_t frame = mem_frame(t->m);
     value form;
+    fill_reserve(s);
     t->depth = 0;
     if (setjmp(t->top) != 0) {
         t->subject = mem_give(t->m, frame, t->subject);
+        if (t->why == OUT_OF_MEMORY) mem_set(t->m, s->reserve, nil());
         report(t);
         mem_leave(t->m, frame);
         skip_form(t, r);
@@ -61,6 +82,18 @@ static int does_form(session *s, reader *r) {
     return 1;
 }
 
+static void usage(void) {
+    fprintf(stderr, "usage: lisp [--cells N] [--always] [FILE [NUMBER ..]]\n");
+    exit(2);
+}
+
+static int64_t argument(const char *text) {
+    char *end;
+    long long n = strtoll(text, &end, 10);
+    if (*end || end == text || n < MEM_LEAST || n > MEM_MOST) usage();
+    return n;
+}
+
 static void define(interpreter *t, const char *name, value v) {
     size_t frame = mem_frame(t->m);
     mem_define(t->m, mem_symbol(t->m, name, strlen(name)), v);
@@ -71,6 +104,7 @@ static void opens(session *s) {
     interpreter *t = s->t;
     value list = nil();
     size_t n = 0;
+    s->reserve = mem_atom(t->m, nil());
     evaluator_opens(t);
     t->truth = mem_symbol(t->m, "t", 1);
     builtins_open(t);
@@ -78,7 +112,7 @@ static void opens(session *s) {
     define(t, "else", t->truth);
     define(t, "nil", nil());
     while (s->numbers[n]) n++;
-    while (n > 0) list = mem_pair(t->m, 0, number(atoll(s->numbers[--n])), list);
+    while (n > 0) list = mem_pair(t->m, 0, number(argument(s->numbers[--n])), list);
     define(t, "arguments", list);
 }
 
@@ -100,18 +134,12 @@ static void *run(void *given) {
     return NULL;
 }
 
-static void usage(void) {
-    fprintf(stderr, "usage: lisp [--cells N] [--always] [FILE [NUMBER ..]]\n");
-    exit(2);
-}
-
 int main(int argc, char **argv) {
-    session s = { .file = stdin, .is_shown = 1 };
-    long cells = 1000000;
+    session s = { .file = stdin, .is_shown = 1, .cells = 1000000 };
     int always = 0;
     for (argv++; *argv && strncmp(*argv, "--", 2) == 0; argv++) {
         if (strcmp(*argv, "--always") == 0) always = 1;
-        else if (strcmp(*argv, "--cells") == 0 && argv[1]) cells = atol(*++argv);
+        else if (strcmp(*argv, "--cells") == 0 && argv[1]) s.cells = (long)argument(*++argv);
         else usage();
     }
     (void)argc;
@@ -124,8 +152,8 @@ int main(int argc, char **argv) {
     }
     s.numbers = argv;
     s.t = first_interpreter();
-    if (cells < 1 || cells > 4194304) usage();
-    if (!mem_open((uint32_t)cells, always) || !start_thread(s.t, run, &s)) {
+    if (s.cells < 1 || s.cells > 4194304) usage();
+    if (!mem_open((uint32_t)s.cells, always) || !start_thread(s.t, run, &s)) {
         fprintf(stderr, "lisp: out of memory\n");
         return 2;
     }

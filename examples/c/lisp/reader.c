@@ -68,8 +68,9 @@ static value read_text(interpreter *t, reader *r) {
 static value read_number(interpreter *t, const char *digits, int is_negative) {
     int64_t n = 0;
     for (; *digits; digits++) {
-        n = n * 10 + (*digits - '0');
-        if (n > MEM_MOST + is_negative) fail(t, BAD_NUMBER, nil());
+        int digit = *digits - '0';
+        if (n > (MEM_MOST + is_negative - digit) / 10) fail(t, BAD_NUMBER, nil());
+        n = n * 10 + digit;
     }
     return number(is_negative ? -n : n);
 }
