@@ -2,7 +2,7 @@
  * is parked, and looks at the cell again each time that some task was settled. */
 #define _POSIX_C_SOURCE 200809L
 #include "lisp.h"
-#include <sched.h>
+#include <time.h>
 
 enum { DONE = 1 }; /* a task's state; with a fault it is 1 more than the fault's number */
 
@@ -116,8 +116,9 @@ value await(interpreter *t, value task) {
 }
 
 void give_way(interpreter *t) {
+    struct timespec time = { 0, 50000 };
     mem_park(t->m);
-    sched_yield();
+    nanosleep(&time, NULL);
     mem_unpark(t->m);
 }
 
