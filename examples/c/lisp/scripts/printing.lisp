@@ -1,0 +1,17 @@
+; options: --cells 8000
+; What is printed has bounds: 1000 items of a list, 24 levels, and an atom in itself ends there too.
+(print nil 'a 1 "text" '("text" "with \"quotes\"" "and \\"))
+(print (lambda (x) x) + car (atom 1) (atom (list 1 (atom 2))))
+(print (cons 1 2) '(1 (2 (3 (4)))) '((((5)))))
+(define (nest n x) (if (= n 0) x (nest (- n 1) (list x))))
+(print (nest 10 'x))
+(print (nest 100 'x))
+(define self (atom nil))
+(reset! self (list 'self self))
+(print self)
+(define long (range 0 1003))
+(print long)
+(print (range 0 1000))
+(print)
+(print "" "")
+(error self)

@@ -1,0 +1,37 @@
+; options: --cells 4000
+; What is quoted is not evaluated.
+(print 'a '(a b (c)) '() ''a (quote (quote a)))
+(print (car ''a) (car (cdr ''a)) (pair? '(1)) (symbol? 'a) (symbol? (car '(a))))
+(print '(1 . 2) '(1 . (2 . (3 . ()))) '(if and or))
+(define code '(lambda (x) (* x x)))
+(print code (car code) (length code))
+(print (equal? '(a (b c)) (list 'a (list 'b 'c))) (eq? 'a 'a) (eq? '() nil))
+
+; A small evaluator of quoted expressions.
+(define (look name names)
+  (cond ((null? names) (error (list 'free name)))
+        ((eq? name (car (car names))) (cdr (car names)))
+        (else (look name (cdr names)))))
+(define (work x names)
+  (cond ((number? x) x)
+        ((symbol? x) (look x names))
+        ((eq? (car x) 'plus) (+ (work (car (cdr x)) names) (work (car (cdr (cdr x))) names)))
+        ((eq? (car x) 'times) (* (work (car (cdr x)) names) (work (car (cdr (cdr x))) names)))
+        ((eq? (car x) 'with)
+         (let ((name (car (cdr x))) (v (work (car (cdr (cdr x))) names)))
+           (work (car (cdr (cdr (cdr x)))) (cons (cons name v) names))))
+        (else (error (list 'no-such x)))))
+(print (work '(plus 1 (times 2 3)) nil))
+(print (work '(with x 5 (with y (plus x 1) (times x y))) nil))
+(work '(plus x 1) nil)
+(work '(minus 1 1) nil)
+
+; The derivative of an expression.
+(define (derive x)
+  (cond ((number? x) 0)
+        ((eq? x 'x) 1)
+        ((eq? (car x) 'plus) (list 'plus (derive (car (cdr x))) (derive (car (cdr (cdr x))))))
+        ((eq? (car x) 'times)
+         (let ((a (car (cdr x))) (b (car (cdr (cdr x)))))
+           (list 'plus (list 'times (derive a) b) (list 'times a (derive b)))))))
+(print (derive '(plus (times x x) (times 3 x))))
