@@ -386,9 +386,9 @@ uint64_t mem_settled(mem *m, value task, uint64_t *at, value *v) {
     return state;
 }
 
-/* One field of the anchor is the way. Nothing waits for the collector in here. */
+/* One field of the anchor is the way. Nothing waits for the collector in here, and nothing fails: a
+ * write needs one place, and who made v just before has one left. */
 value mem_hand(mem *from, value v, mem *to) {
-    if (heap_room(&from->spot.m) < 2) from->handler(from->owner, MEM_DEEP);
     pthread_mutex_lock(&handing);
     set_field(from, anchor(), HANDED, v);
     value it = field(to, anchor(), HANDED);

@@ -57,7 +57,8 @@ int64_t mem_used(void);    /* how many cells were not free when the last one end
 mem *mem_seat(size_t number);
 int mem_enter(mem *m, mem *by);
 void mem_exit(mem *m);
-value mem_hand(mem *from, value v, mem *to); /* to a seat that is in, before its thread begins */
+/* Hands over what `from` made last, to a seat that is in, before its thread begins. */
+value mem_hand(mem *from, value v, mem *to);
 
 /* What a call does that cannot do its work: it calls this, which does not return. MEM_FULL: no cell
  * is free, and cycles did not help; MEM_DEEP: too few places are left. */
