@@ -211,7 +211,8 @@ static const struct {
 } builtins[] = {
     { "+", add, 0, MOST_ARGUMENTS }, { "-", subtract, 1, MOST_ARGUMENTS },
     { "*", multiply, 0, MOST_ARGUMENTS }, { "quotient", quotient, 2, 2 },
-    { "remainder", rest_of, 2, 2 }, { "<", below, 2, 2 }, { ">", above, 2, 2 }, { "=", alike, 2, 2 },
+    { "remainder", rest_of, 2, 2 }, { "<", below, 2, 2 }, { ">", above, 2, 2 },
+    { "=", alike, 2, 2 },
     { "cons", cons, 2, 2 }, { "car", car, 1, 1 }, { "cdr", cdr, 1, 1 },
     { "null?", is_null, 1, 1 }, { "pair?", is_pair, 1, 1 }, { "symbol?", is_symbol, 1, 1 },
     { "number?", is_whole, 1, 1 }, { "text?", is_text, 1, 1 }, { "eq?", is_same, 2, 2 },

@@ -1,4 +1,4 @@
-/* Evaluation. A tail call goes round the loop of `evaluate`, so it takes neither stack nor places. */
+/* Evaluation. A tail call goes round the loop of `evaluate`: it takes neither stack nor places. */
 #include "lisp.h"
 #include <string.h>
 

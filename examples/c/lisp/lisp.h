@@ -8,8 +8,8 @@
 
 enum { MOST_ARGUMENTS = 16, MOST_DEPTH = 10000, STACK_BYTES = 64 << 20, OUT = 4096 };
 
-/* Why a form has no value. names_of_faults has the names, in this order. Those up to RAISED are about
- * a value. */
+/* Why a form has no value. names_of_faults has the names, in this order. Those up to RAISED are
+ * about a value. */
 typedef enum {
     NO_FAULT, UNBOUND, NOT_A_NUMBER, NOT_A_PAIR, NOT_A_FUNCTION, NOT_AN_ATOM, NOT_A_TASK,
     WRONG_ARGUMENTS, BAD_FORM, RAISED, OVERFLOW, DIVIDED_BY_ZERO, TOO_DEEP, OUT_OF_MEMORY,

@@ -2,8 +2,8 @@
  *
  *     lisp [--cells N] [--always] [FILE [NUMBER ..]]
  *
- * Without FILE it reads forms from standard input and shows their values. `arguments` is the list of
- * the numbers. --cells is how many cells the heap has; with --always one cycle of the collector
+ * Without FILE it reads forms from standard input and shows their values. `arguments` is the list
+ * of the numbers. --cells is how many cells the heap has; with --always one cycle of the collector
  * follows another. After a fault it goes on with the next form. Status: 0; 1 after a fault; 2 if it
  * could not begin. */
 #define _POSIX_C_SOURCE 200809L
@@ -55,7 +55,7 @@ static void fill_reserve(session *s) {
     mem_leave(t->m, frame);
 }
 
-/* One form: 0 at the end. After a fault nothing is left of it but what it did to atoms and names. */
+/* One form: 0 at the end. After a fault nothing is left but what it did to atoms and names. */
 static int does_form(session *s, reader *r) {
     interpreter *t = s->t;
     size_t frame = mem_frame(t->m);

@@ -277,7 +277,7 @@ value mem_text(mem *m, const char *text, size_t length) {
     for (;;) {
         value fields[MORE] = { number(0), number(0), number(0), it };
         for (size_t i = at; i < length && i < at + CHUNK; i++)
-            fields[(i - at) / BYTES].n |= (uint64_t)(unsigned char)text[i] << 8 * ((i - at) % BYTES);
+            fields[(i - at) / BYTES].n |= (uint64_t)(unsigned char)text[i] << 8 * (i % BYTES);
         it = mem_give(m, frame, make(m, TEXT, length - at, fields, MORE));
         if (at == 0) return it;
         at -= CHUNK;
@@ -296,12 +296,13 @@ size_t mem_chars(mem *m, value text, char out[MEM_TEXT]) {
     return length;
 }
 
-/* Symbols are a tree, by a hash of the name and then by the name. A new one is put at its end by one
- * compare and exchange. */
+/* Symbols are a tree, by a hash of the name and then by the name. A new one is put at its end by
+ * one compare and exchange. */
 
 static uint64_t hash_of(const char *name, size_t length) {
     uint64_t hash = UINT64_C(2166136261); /* 32 bits of Fowler, Noll and Vo */
-    for (size_t i = 0; i < length; i++) hash = (hash ^ (unsigned char)name[i]) * 16777619 % 4294967296;
+    for (size_t i = 0; i < length; i++)
+        hash = (hash ^ (unsigned char)name[i]) * 16777619 % 4294967296;
     return hash;
 }
 
@@ -385,9 +386,9 @@ uint64_t mem_settled(mem *m, value task, uint64_t *at, value *v) {
     return state;
 }
 
-/* One field of the anchor is the way. Nothing waits for the collector in here. */
+/* One field of the anchor is the way. Nothing waits for the collector in here, and nothing fails: a
+ * write needs one place, and who made v just before has one left. */
 value mem_hand(mem *from, value v, mem *to) {
-    if (heap_room(&from->spot.m) < 2) from->handler(from->owner, MEM_DEEP);
     pthread_mutex_lock(&handing);
     set_field(from, anchor(), HANDED, v);
     value it = field(to, anchor(), HANDED);

@@ -1,9 +1,9 @@
-/* mem.h: the values of the language. All of them lie in the heap of ../heap.h, and mem.c alone calls
- * that: how values lie in cells is its affair (a table is in README.md).
+/* mem.h: the values of the language. All of them lie in the heap of ../heap.h, and mem.c alone
+ * calls that: how values lie in cells is its affair (a table is in README.md).
  *
  * A value is nil, a number, or a cell that the thread holds at a place of its list. A place is a
- * root, so what it leads to is not freed. Places are taken as on a stack: each call that hands out a
- * cell takes the next one. A function notes mem_frame at its entry; mem_leave lets the places of
+ * root, so what it leads to is not freed. Places are taken as on a stack: each call that hands out
+ * a cell takes the next one. A function notes mem_frame at its entry; mem_leave lets the places of
  * its frame go, mem_give those but the one of its result. What lies below the frame is not touched.
  *
  * With -DMEM_CHECK each value has the stamp of its place, which is another one each time the place
@@ -30,7 +30,7 @@ static inline int is_nil(value v) { return v.tag == NIL; }
 static inline int is_number(value v) { return v.tag == NUMBER; }
 static inline int is_cell(value v) { return v.tag == CELL; }
 
-/* Numbers are whole ones from MEM_LEAST to MEM_MOST: 62 bits, the greatest one negated and less 1. */
+/* Numbers are whole ones from MEM_LEAST to MEM_MOST, in 62 bits. */
 #define MEM_MOST ((INT64_C(1) << 61) - 1)
 #define MEM_LEAST (-(INT64_C(1) << 61))
 static inline value number(int64_t n) {
@@ -40,7 +40,7 @@ static inline int64_t number_of(value v) {
     return (int64_t)v.n > MEM_MOST ? (int64_t)v.n + 2 * MEM_LEAST : (int64_t)v.n;
 }
 
-/* A cell begins with a word that never changes: its kind, and 58 bits that the kind has a use for. */
+/* A cell begins with a word that never changes: its kind, and 58 bits that are the kind's own. */
 enum { PAIR, SYMBOL, TEXT, CLOSURE, BUILTIN, ATOM, BINDING, TASK, KINDS = 16 };
 static inline unsigned kind_of(uint64_t word) { return (unsigned)(word % KINDS); }
 static inline uint64_t info_of(uint64_t word) { return word / KINDS; }
@@ -57,7 +57,8 @@ int64_t mem_used(void);    /* how many cells were not free when the last one end
 mem *mem_seat(size_t number);
 int mem_enter(mem *m, mem *by);
 void mem_exit(mem *m);
-value mem_hand(mem *from, value v, mem *to); /* to a seat that is in, before its thread begins */
+/* Hands over what `from` made last, to a seat that is in, before its thread begins. */
+value mem_hand(mem *from, value v, mem *to);
 
 /* What a call does that cannot do its work: it calls this, which does not return. MEM_FULL: no cell
  * is free, and cycles did not help; MEM_DEEP: too few places are left. */
@@ -91,8 +92,8 @@ int mem_same(mem *m, value one, value other);
 value mem_bound(mem *m, value binding);
 value mem_next(mem *m, value binding);
 
-/* Symbols: one for each name. The first ones have the numbers 0, 1, 2 .. in order. A global value is
- * behind its symbol; 0: it has none. */
+/* Symbols: one for each name. The first ones have the numbers 0, 1, 2 .. in order. A global value
+ * is behind its symbol; 0: it has none. */
 value mem_symbol(mem *m, const char *name, size_t length);
 static inline uint64_t symbol_number(uint64_t info) { return info % (UINT64_C(1) << 26); }
 value mem_name(mem *m, value symbol);

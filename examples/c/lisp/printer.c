@@ -1,5 +1,5 @@
-/* Printing, to a buffer of the thread first. Lists are cut off after so many items, and what is nested
- * too deeply, as an atom in itself, is three points. */
+/* Printing, to a buffer of the thread first. Lists are cut off after so many items, and what is
+ * nested too deeply, as an atom in itself, is three points. */
 #include "lisp.h"
 #include <string.h>
 

@@ -96,8 +96,8 @@ static int read_token(interpreter *t, reader *r, value *v) {
 
 static value read_value(interpreter *t, reader *r, int *is_point);
 
-/* The items are put in front of one another, and turned round at the end. After a point there is one
- * more, the list's end. */
+/* The items are put in front of one another, and turned round at the end. After a point there is
+ * one more, the list's end. */
 static value read_list(interpreter *t, reader *r) {
     size_t frame = mem_frame(t->m);
     uint64_t at = here(r);

@@ -15,8 +15,8 @@ big
 (await (spawn (lambda ()
   (range 0 1000000))))
 (print (drop 10) (await (spawn (lambda () (length (append thousand thousand))))))
-; What is kept on purpose fills the heap. A form that makes little still works, as long as some cells
-; are left that the prompt keeps for that, and once the list is dropped there is room.
+; What is kept on purpose fills the heap. A form that makes little still works, since the prompt
+; keeps some cells for that, and once the list is dropped there is room.
 (define kept (atom nil))
 (define (fill)
   (reset! kept (append thousand (deref kept)))
