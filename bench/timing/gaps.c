@@ -1,6 +1,8 @@
 /* Clocks for a build by build.py --gaps, which calls count_event before each command of a client: the
-   file that GAPS names holds, for each thread, how many commands it began behind its first one, and
-   the longest time between two such moments, by the clock and by the thread's own processor time. */
+   file that GAPS names holds, for each thread, how many commands it began after its first one, the
+   longest time between two such moments, by the clock and by the thread's own processor time, and
+   the command after which the longest by the clock came. With -DLOOKS the program is one thread
+   that only calls count_event, so many times: what gaps the machine itself makes. */
 #include <fcntl.h>
 #include <stdint.h>
 #include <stdlib.h>
@@ -9,7 +11,7 @@
 #include <unistd.h>
 
 struct client {
-    uint64_t last, own_last, commands, longest, own_longest, above_100us, above_1ms, unused;
+    uint64_t last, own_last, commands, longest, own_longest, above_100us, above_1ms, longest_after;
 };
 struct file {
     uint64_t clients, unused[7];
@@ -40,7 +42,7 @@ void count_event(int64_t k) {
     if (me->last) {
         uint64_t gap = at - me->last, own_gap = own - me->own_last;
         me->commands++;
-        if (gap > me->longest) me->longest = gap;
+        if (gap > me->longest) me->longest = gap, me->longest_after = me->commands;
         if (own_gap > me->own_longest) me->own_longest = own_gap;
         me->above_100us += gap > 100000;
         me->above_1ms += gap > 1000000;
@@ -48,3 +50,9 @@ void count_event(int64_t k) {
     me->own_last = now(CLOCK_THREAD_CPUTIME_ID);
     me->last = now(CLOCK_MONOTONIC);
 }
+
+#ifdef LOOKS
+int main(void) {
+    for (int k = 0; k < LOOKS; k++) count_event(0);
+}
+#endif
