@@ -44,7 +44,7 @@ static uint64_t sum_of(heap_mut *m, size_t list) {
 static void *block(void *given) {
     heap_mut *m = &((heap_spot *)given)->m;
     char byte = 0;
-    MUST(heap_begin_wait(m));
+    MUST(heap_begin(m));
     size_t list = make_list(m);
     heap_park(given);
     atomic_store(&blocked, 1);
@@ -58,7 +58,7 @@ static void *block(void *given) {
 /* Makes lists and drops them, so that each cell that is freed is claimed again. */
 static void *waste(void *given) {
     heap_mut *m = &((heap_spot *)given)->m;
-    MUST(heap_begin_wait(m));
+    MUST(heap_begin(m));
     while (!atomic_load(&done)) {
         size_t frame = heap_held(m);
         (void)make_list(m);

@@ -17,7 +17,7 @@ static size_t some_place(caller *c) {
     size_t held = c->model.held;
     if (!by_chance(c, 12) && held > HEAP_FIRST)
         return by_chance(c, 8) ? 0 : HEAP_FIRST + (size_t)pick(&c->random, held - HEAP_FIRST);
-    size_t bad[] = { 0, 1, held, held + 1, ROOM, SIZE_MAX, SIZE_MAX - 1, ((size_t)1 << 32),
+    size_t bad[] = { 0, held, held + 1, ROOM, SIZE_MAX, SIZE_MAX - 1, ((size_t)1 << 32),
                      ((size_t)1 << 32) + HEAP_FIRST, ((size_t)1 << 63) + HEAP_FIRST };
     return bad[pick(&c->random, sizeof bad / sizeof bad[0])];
 }
@@ -141,7 +141,7 @@ static void lets_go(caller *c) {
     call keep = { .kind = CALL_KEEP, .n = HEAP_FIRST };
     call write = { .kind = CALL_WRITE, .field = c->model.anchor_field };
     calls(c, &c->spot->m, &c->model, keep);
-    if (c->model.anchor_field < 4) calls(c, &c->spot->m, &c->model, write);
+    if (c->model.anchor_field < HEAP_FIELDS) calls(c, &c->spot->m, &c->model, write);
 }
 
 static void parks(caller *c) {
@@ -153,7 +153,7 @@ static void parks(caller *c) {
 void caller_begins(caller *c, heap_spot *spot, size_t number, uint64_t seed, uint64_t least) {
     *c = (caller){ .spot = spot, .number = number, .least = least };
     c->random = seed * 1000 + number;
-    model_opens(&c->model, ROOM, number < 4 ? number : HEAP_FIELDS);
+    model_opens(&c->model, ROOM, number < HEAP_FIELDS ? number : HEAP_FIELDS);
 }
 
 void *caller_runs(void *given) {

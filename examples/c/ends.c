@@ -36,7 +36,7 @@ int has_list(heap_mut *m, uint64_t length) {
 
 void *dies_parked(void *given) {
     heap_spot *spot = given;
-    MUST(heap_begin_wait(&spot->m));
+    MUST(heap_begin(&spot->m));
     makes_list(&spot->m, LIST_LENGTH);
     heap_park(spot);
     return NULL;
@@ -44,7 +44,7 @@ void *dies_parked(void *given) {
 
 void *ends_early(void *given) {
     heap_spot *spot = given;
-    MUST(heap_begin_wait(&spot->m));
+    MUST(heap_begin(&spot->m));
     makes_list(&spot->m, EARLY);
     MUST(heap_end(&spot->m));
     MUST(heap_leave(&spot->m));
@@ -53,7 +53,7 @@ void *ends_early(void *given) {
 
 static void *never_answers(void *given) {
     heap_spot *spot = given;
-    MUST(heap_begin_wait(&spot->m));
+    MUST(heap_begin(&spot->m));
     makes_list(&spot->m, LIST_LENGTH);
     return NULL;
 }

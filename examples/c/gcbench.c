@@ -165,7 +165,7 @@ static void opens(void) {
     col.count = (size_t)threads;
     collector_starts(&col, cells, ROOM);
 }
-static void comes_in(worker *w) { MUST(heap_begin_wait(&w->spot->m)); }
+static void comes_in(worker *w) { MUST(heap_begin(&w->spot->m)); }
 static void goes_out(worker *w) { MUST(heap_end(&w->spot->m)); }
 static void closes(void) {
     collector_stops(&col);

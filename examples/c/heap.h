@@ -17,9 +17,9 @@
  *
  * A cell has five fields: each is null, a number below 2^62, or a cell. A mutator that is in holds
  * cells at the places 0, 1, 2 .. of its list. Place 0 is the anchor, the one cell that all threads
- * share from the start; it is named by no field, and its field 4 is the library's. Places below
- * HEAP_FIRST are the library's but for the anchor; yours begin there. A call that hands out a cell
- * holds it at the next place. What is held, or reached from there or from the anchor, is not freed.
+ * share from the start; no field names it. The others begin at HEAP_FIRST. A call that hands out a
+ * cell holds it at the next place. What is held, or reached from there or from the anchor, is not
+ * freed.
  * Nanoseconds below are of one thread without a collector. */
 #ifndef HEAP_H
 #define HEAP_H
@@ -39,13 +39,13 @@ typedef atomic_uint heap_word;
 typedef enum {
     HEAP_OK = 0,
     HEAP_NO_MEMORY = 1,  /* malloc had none; heap_open and heap_seat alone */
-    HEAP_BAD_PLACE = 2,  /* no such place, or it is the library's */
-    HEAP_BAD_FIELD = 3,  /* above 4, or field 4 of the anchor */
+    HEAP_BAD_PLACE = 2,  /* no such place, or the anchor's where another is wanted */
+    HEAP_BAD_FIELD = 3,  /* above 4 */
     HEAP_NO_ROOM = 4,    /* too few places are free: see heap_room */
     HEAP_WAIT = 5,       /* no cell is free now: answer, sleep, try again; or heap_make_wait */
     HEAP_MOVED = 6,      /* the field holds something else */
     HEAP_NOT_IN = 7,     /* the mutator is out */
-    HEAP_BAD_VALUE = 8,  /* tag above 2, number from 2^62 on, or no place of yours */
+    HEAP_BAD_VALUE = 8,  /* tag above 2, number from 2^62 on, or no place from HEAP_FIRST on */
     HEAP_IS_IN = 9,      /* the mutator is in already, or in at its end */
     HEAP_NO_HANDLE = 10, /* a handle that is zero: never opened, or ended */
     HEAP_FULL = 11,      /* no cell is free, and two whole cycles did not help; or off duty */
@@ -59,7 +59,7 @@ typedef struct { void *p; } heap_mut;         /* a mutator's handle */
 typedef struct { void *p; } heap_col;         /* the collector's */
 typedef struct { uint64_t tag, n; } heap_val; /* HEAP_NULL; HEAP_NUM n; HEAP_REF, the cell at n */
 enum { HEAP_NULL = 0, HEAP_NUM = 1, HEAP_REF = 2 };
-enum { HEAP_FIRST = 2, HEAP_FIELDS = 5, HEAP_LEAST_ROOM = 8, HEAP_PATIENCE = 8 };
+enum { HEAP_FIRST = 1, HEAP_FIELDS = 5, HEAP_LEAST_ROOM = 8, HEAP_PATIENCE = 8 };
 #define HEAP_ZERO { NULL }
 
 /* Opening. cells 1 to 4194304, mutators 1 to 1048576, stack (places of the mark stack) 1 to
@@ -89,19 +89,19 @@ typedef struct {
 } heap_stats;
 heap_code heap_look(heap_col *c, heap_stats *out);
 
-/* A mutator comes in, and holds HEAP_FIRST places; IS_IN, and WAIT, FULL as heap_make. 100 ns. It
- * goes out, and holds nothing; NOT_IN. The other calls want it in, or answer NOT_IN. */
+/* A mutator comes in, and holds the anchor alone; IS_IN. It goes out, and holds nothing; NOT_IN.
+ * The other calls want it in, or answer NOT_IN. */
 heap_code heap_begin(heap_mut *m);
 heap_code heap_end(heap_mut *m);
 heap_code heap_answer(heap_mut *m); /* the safe point: 4 ns, or a mark for each place it holds */
 size_t heap_held(heap_mut *m);      /* how many places it holds; 0 out or without a handle */
 size_t heap_room(heap_mut *m);      /* how many more it may hold; 0 out or without a handle */
-/* Keeps the first n places, HEAP_FIRST or more, and then `count` of yours from `place` on, which is
- * not looked at if count is 0. A frame notes heap_held at its entry, and at its exit keeps
- * (base, 0, 0), or (base, p, 1) to hand on a result. BAD_PLACE, NO_ROOM. 6 ns */
+/* Keeps the first n places, the anchor's at least, and then `count` from `place` on, without the
+ * anchor's; `place` is not looked at if count is 0. A frame notes heap_held at its entry, and at its
+ * exit keeps (base, 0, 0), or (base, p, 1) to hand on a result. BAD_PLACE, NO_ROOM. 6 ns */
 heap_code heap_keep(heap_mut *m, size_t n, size_t place, size_t count);
-/* A new cell of n values, 5 at most, the other fields null. The safe point too. 2 places free, or
- * NO_ROOM; BAD_SIZE, BAD_VALUE, WAIT, FULL. 80 ns. make_at: and then heap_keep(m, keep, it, 1). */
+/* A new cell of n values, 5 at most, the other fields null. The safe point too. 1 place free, or
+ * NO_ROOM; BAD_SIZE, BAD_VALUE, WAIT, FULL. 70 ns. make_at: and then heap_keep(m, keep, it, 1). */
 heap_code heap_make(heap_mut *m, const heap_val *v, size_t n, size_t *place);
 heap_code heap_make_at(heap_mut *m, size_t keep, const heap_val *v, size_t n, size_t *place);
 /* One load. 1 place free (read_all: 5), or NO_ROOM; BAD_PLACE, BAD_FIELD. 4 ns, a cell 10. All five
@@ -138,13 +138,6 @@ static inline int heap_again(heap_mut *m, heap_code code, int *fulls) {
 }
 
 /* These wait while no cell is free. */
-static inline heap_code heap_begin_wait(heap_mut *m) {
-    int fulls = 0;
-    heap_code code;
-    do code = heap_begin(m); while (heap_again(m, code, &fulls));
-    return code;
-}
-
 static inline heap_code heap_make_wait(heap_mut *m, const heap_val *v, size_t n, size_t *place) {
     int fulls = 0;
     heap_code code;

@@ -8,7 +8,6 @@ void model_opens(model *m, size_t room, size_t anchor_field) {
     m->given = 1;
     m->room = room;
     m->anchor_field = anchor_field;
-    m->library.stranger = 1;
 }
 
 /* The cells. Those that nothing leads to are forgotten when there are too many. */
@@ -22,7 +21,7 @@ static void mark(model_cell *c) {
 
 static void forget(model *m) {
     for (size_t i = 0; i < MODEL_CELLS; i++) m->cells[i].marked = 0;
-    m->anchor.marked = m->library.marked = 0;
+    m->anchor.marked = 0;
     mark(&m->anchor);
     for (size_t i = 0; i < m->held; i++) mark(m->place[i]);
     m->used = 0;
@@ -52,9 +51,7 @@ static model_cell *new_cell(model *m, int stranger) {
 
 /* What each call has to answer. */
 
-static int is_place(const model *m, size_t p) {
-    return p < m->held && (p == 0 || p >= HEAP_FIRST);
-}
+static int is_place(const model *m, size_t p) { return p < m->held; }
 
 static unsigned value_codes(const model *m, const heap_val *v, size_t n) {
     for (size_t i = 0; i < n; i++) {
@@ -68,7 +65,7 @@ static unsigned value_codes(const model *m, const heap_val *v, size_t n) {
 
 static unsigned field_codes(const model *m, const call *c) {
     unsigned codes = is_place(m, c->place) ? 0 : CODE(HEAP_BAD_PLACE);
-    if (c->field >= HEAP_FIELDS || (c->place == 0 && c->field == 4)) codes |= CODE(HEAP_BAD_FIELD);
+    if (c->field >= HEAP_FIELDS) codes |= CODE(HEAP_BAD_FIELD);
     return codes;
 }
 
@@ -86,7 +83,7 @@ static unsigned keep_codes(const model *m, const call *c) {
 
 static unsigned make_codes(const model *m, const call *c) {
     unsigned codes = c->n > HEAP_FIELDS ? CODE(HEAP_BAD_SIZE) : 0;
-    return codes | value_codes(m, c->value, c->n) | room_codes(m, 2);
+    return codes | value_codes(m, c->value, c->n) | room_codes(m, 1);
 }
 
 static model_val *field_of(const model *m, const call *c) {
@@ -136,7 +133,7 @@ unsigned model_codes(const model *m, const call *c) {
     if (c->kind == CALL_BEGIN || c->kind == CALL_LEAVE) codes = m->in ? CODE(HEAP_IS_IN) : 0;
     else codes = m->in ? wrong(m, c) : CODE(HEAP_NOT_IN);
     if (codes) return codes;
-    if (c->kind == CALL_BEGIN || c->kind == CALL_MAKE || c->kind == CALL_MAKE_AT)
+    if (c->kind == CALL_MAKE || c->kind == CALL_MAKE_AT)
         return CODE(HEAP_OK) | CODE(HEAP_WAIT) | CODE(HEAP_FULL);
     return CODE(HEAP_OK);
 }
@@ -210,7 +207,7 @@ const char *model_takes(model *m, const call *c) {
     case CALL_BEGIN:
         m->in = 1;
         m->held = HEAP_FIRST;
-        for (size_t i = 0; i < HEAP_FIRST; i++) m->place[i] = i ? &m->library : &m->anchor;
+        m->place[0] = &m->anchor;
         return NULL;
     case CALL_END: m->in = 0; m->held = 0; return NULL;
     case CALL_KEEP:

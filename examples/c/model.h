@@ -22,7 +22,7 @@ typedef struct {
     int given, in;
     size_t held, room, anchor_field; /* the field of the anchor that it alone writes */
     model_cell *place[MODEL_ROOM];
-    model_cell anchor, library;      /* what the first places hold */
+    model_cell anchor;               /* what the first place holds */
     model_cell cells[MODEL_CELLS];
     size_t used, next;
 } model;

@@ -46,7 +46,7 @@ static void *work(void *given) {
     size_t me = (size_t)((heap_spot *)given - spots);
     heap_mut *m = &spots[me].m;
     uint64_t number;
-    MUST(heap_begin_wait(m));
+    MUST(heap_begin(m));
     for (uint64_t round = 0; round < ROUNDS; round++) {
         for (uint64_t i = 0; i < NUMBERS; i++) {
             number = (me * ROUNDS + round) * NUMBERS + i;
@@ -68,7 +68,7 @@ int main(void) {
     collector_starts(&col, 65536, 64);
     for (size_t i = 0; i < THREADS; i++) threads[i] = start(work, &spots[i]);
     for (size_t i = 0; i < THREADS; i++) join(threads[i]);
-    MUST(heap_begin_wait(&spots[0].m));
+    MUST(heap_begin(&spots[0].m));
     while (pop(&spots[0].m, &number)) { out += number; all++; }
     MUST(heap_end(&spots[0].m));
     for (size_t i = 0; i < THREADS; i++) { in += pushed[i]; out += popped[i]; all += count[i]; }

@@ -109,14 +109,11 @@ static void closes(small *s) {
     if (first) GIVES(heap_close(&s->col), HEAP_OK);
     for (uint32_t i = 0; i < s->mutators; i++) {
         heap_code code = saw(heap_begin(&s->m[i]));
-        HOLDS(code == HEAP_OK || code == HEAP_FULL || code == HEAP_IS_IN
-              || (code == HEAP_WAIT && !first));
-        if (code != HEAP_FULL && code != HEAP_WAIT) {
-            code = saw(heap_make(&s->m[i], NULL, 0, &at));
-            HOLDS(code == HEAP_OK || code == HEAP_FULL || (code == HEAP_WAIT && !first));
-            GIVES(heap_leave(&s->m[i]), HEAP_IS_IN);
-            GIVES(heap_end(&s->m[i]), HEAP_OK);
-        }
+        HOLDS(code == HEAP_OK || code == HEAP_IS_IN);
+        code = saw(heap_make(&s->m[i], NULL, 0, &at));
+        HOLDS(code == HEAP_OK || code == HEAP_FULL || (code == HEAP_WAIT && !first));
+        GIVES(heap_leave(&s->m[i]), HEAP_IS_IN);
+        GIVES(heap_end(&s->m[i]), HEAP_OK);
         GIVES(heap_leave(&s->m[i]), HEAP_OK);
         GIVES(heap_leave(&s->m[i]), HEAP_NO_HANDLE);
     }
@@ -149,7 +146,7 @@ static void one_heap(uint64_t seed) {
     GIVES(heap_write(m, 0, 1, heap_ref(HEAP_FIRST)), HEAP_OK);
     GIVES(heap_end(m), HEAP_OK);
     for (int i = 0; i < 2; i++) cycles(&s);
-    GIVES(heap_begin(m), HEAP_OK); /* in the place of what it held for itself */
+    GIVES(heap_begin(m), HEAP_OK); /* which no full heap refuses */
     heap_val list;
     GIVES(heap_read(m, 0, 1, &list), HEAP_OK);
     HOLDS(list.tag == HEAP_REF && list.n == HEAP_FIRST);

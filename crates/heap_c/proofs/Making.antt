@@ -12,15 +12,15 @@ use Rattle.heap_c.specs.Claiming.{HoldsOneMore}
 -- After a look, a claim and what came then.
 module _ (a b c d : Bound Sorting) (place : ℕ) (keeps : KeepsPlaces a b) (more : HoldsOneMore b c)
     (room : c.seat.me.room ≡ b.seat.me.room) where
-  pub made_holds : (at f : ℕ) (given : List Value) → Made at f place given c d
+  pub made_holds : (given : List Value) → Made place given c d
       → HoldsOneMore a d × (d.seat.me.room ≡ a.seat.me.room)
-  made_holds at f given made = (
+  made_holds given made = (
     (
       more.0,
-      made.shown.keeps.held ∙ made.is_sealed.held ∙ more.1
+      made.keeps.held ∙ made.is_sealed.held ∙ more.1
           ∙ ap (λ (cells : List ℕ). cells ++ more.0 ∷ []) keeps.held,
     ),
-    made.shown.keeps.goes.room ∙ made.is_sealed.room ∙ room ∙ keeps.goes.room,
+    made.keeps.goes.room ∙ made.is_sealed.room ∙ room ∙ keeps.goes.room,
   )
 
   pub dropped_holds : place ≡ length b.seat.me.own.held → Drops place c d → HoldsTheSame a d

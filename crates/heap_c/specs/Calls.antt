@@ -15,14 +15,14 @@ use Rattle.mutator_seat.specs.Bound.{Bound, held_cells}
 use Rattle.mutator_seat.specs.Stretches.{Calm, LookAndAnswer}
 use Rattle.mutator_seat.specs.Writes.{Updated}
 use Rattle.sorted_boxes.specs.Calls.{AllRefused, Gave, GaveAll, KeepsPlaces, Made, Narrows, Wrote}
-use Rattle.sorted_boxes.specs.Holding.{HoldsOpen, HoldsRaw, scratch, shown_by}
+use Rattle.sorted_boxes.specs.Holding.{HoldsOpen, HoldsRaw}
 use Rattle.sorted_rule.specs.Sorted.{HoldsSorted}
 use Rattle.sorted_rule.specs.declared.sorting.Sorting.{Sorting}
 use Rattle.heap_c.specs.declared.codes.Code.{Code}
 use Rattle.heap_c.specs.declared.codes.Code.TheVariants as code
 use Rattle.heap_c.specs.declared.values.HeapVal.{HeapVal}
 use Rattle.heap_c.specs.Claiming.{HoldsOneMore}
-use Rattle.heap_c.specs.Refusing.{AreMeant, IsField, IsOut, IsPlace, Means, NotCompared, NotKept}
+use Rattle.heap_c.specs.Refusing.{AreMeant, IsOut, Means, NotCompared, NotKept}
 use Rattle.heap_c.specs.Refusing.{NotMade, NotRead, NotReadAll, NotSwapped, NotWritten, held_of}
 
 abbrev pub IsIn : Bound Sorting → Type 0
@@ -31,9 +31,9 @@ IsIn m = m.seat.me.presence.inside ≡ true
 abbrev pub HasRoom : Bound Sorting → ℕ → Type 0
 HasRoom m places = held_of m + places ≤ m.seat.me.room
 
--- it is in, and the place and the field are C's
+-- it is in, and there are such a place and such a field
 abbrev pub MayReach : Bound Sorting → (place f : ℕ) → Type 0
-MayReach m place f = IsIn m × (IsPlace (held_of m) place × IsField place f)
+MayReach m place f = IsIn m × ((place < held_of m) × (f ≤ 4))
 
 -- the same cells at the same places, and the same room
 abbrev pub HoldsTheSame : Bound Sorting → Bound Sorting → Type 0
@@ -41,21 +41,12 @@ HoldsTheSame old new =
     (held_cells new ≡ held_cells old) × (new.seat.me.room ≡ old.seat.me.room)
 
 module _ (old new : Bound Sorting) where
-  -- Coming in: it holds the anchor and the library's box.
+  -- Coming in: it holds the anchor alone.
   abbrev pub ComesIn : Code → Type 0
   ComesIn code.Ok = IsOut old × (HoldsOpen new.seat.me
-      × ((held_of new ≡ 2) × (new.seat.me.room ≡ old.seat.me.room)))
+      × ((held_of new ≡ 1) × (new.seat.me.room ≡ old.seat.me.room)))
   ComesIn code.IsIn = IsIn old × (new ≡ old)
-  ComesIn code.NoRoom = IsOut old × (IsOut new × (new.seat.me.room ≡ old.seat.me.room))
-  ComesIn code.Wait = IsOut old × (IsOut new × (new.seat.me.room ≡ old.seat.me.room))
-  ComesIn code.Full = IsOut old × (IsOut new × (new.seat.me.room ≡ old.seat.me.room))
   ComesIn _ = ⊥
-
-  -- The second half of it, with the cell that was claimed: whether it came in.
-  abbrev pub HasBegun : Bool → Type 0
-  HasBegun true = HoldsOpen new.seat.me
-      × ((held_of new ≡ held_of old) × (new.seat.me.room ≡ old.seat.me.room))
-  HasBegun false = IsOut new × (new.seat.me.room ≡ old.seat.me.room)
 
   -- Going out.
   abbrev pub GoesOut : Code → Type 0
@@ -63,15 +54,10 @@ module _ (old new : Bound Sorting) where
   GoesOut code.NotIn = IsOut old × (new ≡ old)
   GoesOut _ = ⊥
 
-  -- The safe point: one look, and the answer exactly where this asked for one. What follows an
-  -- answer keeps all places.
-  abbrev pub AnswersFirst : Type 0
-  AnswersFirst = (asked : Bool) × ((between : Bound Sorting)
-      × (Calm (LookAndAnswer old.seat.me.number old.seat.me.presence.status asked) old between
-      × KeepsPlaces between new))
-
+  -- The safe point: one look, and the answer exactly where this asked for one.
   abbrev pub ReachesSafePoint : Code → Type 0
-  ReachesSafePoint code.Ok = IsIn old × AnswersFirst
+  ReachesSafePoint code.Ok = IsIn old × ((asked : Bool)
+      × Calm (LookAndAnswer old.seat.me.number old.seat.me.presence.status asked) old new)
   ReachesSafePoint code.NotIn = IsOut old × (new ≡ old)
   ReachesSafePoint _ = ⊥
 
@@ -124,7 +110,7 @@ module _ (old new : Bound Sorting) where
   MakesCell vals (Ok place) = IsIn old × (IsIn new × ((place ≡ held_of old)
       × ((HoldsOneMore old new × (new.seat.me.room ≡ old.seat.me.room))
       × ((given : List Value) × (AreMeant (held_of old) vals given × ((raw : Bound Sorting)
-      × (HoldsRaw raw place × Made scratch shown_by place given raw new)))))))
+      × (HoldsRaw raw place × Made place given raw new)))))))
   MakesCell vals (Err code.Wait) = IsIn old × HoldsTheSame old new
   MakesCell vals (Err code.Full) = IsIn old × HoldsTheSame old new
   MakesCell vals (Err c) = NotMade old vals c × (new ≡ old)
@@ -134,5 +120,5 @@ abbrev pub MakesAt : (old new : Bound Sorting) → (first : ℕ) → List HeapVa
 MakesAt old new first vals c =
     ((c ≡ code.Ok) × ((place : ℕ) × ((between : Bound Sorting)
     × (MakesCell old between vals (Ok place) × KeepsChosen between new first place 1 code.Ok))))
-    ⊎ (((c ≡ code.BadPlace) × (((first < 2) ⊎ (held_of old < first)) × (new ≡ old)))
+    ⊎ (((c ≡ code.BadPlace) × (((first < 1) ⊎ (held_of old < first)) × (new ≡ old)))
     ⊎ MakesCell old new vals (Err c))

@@ -18,19 +18,9 @@ held_of m = length m.seat.me.own.held
 abbrev pub IsOut : Bound Sorting → Type 0
 IsOut m = m.seat.me.presence.inside ≡ false
 
--- no place is there, or it is the library's
-abbrev pub NoPlace : ℕ → ℕ → Type 0
-NoPlace held place = (held ≤ place) ⊎ (place ≡ 1)
-
-abbrev pub IsPlace : ℕ → ℕ → Type 0
-IsPlace held place = (place < held) × ((place ≡ 0) ⊎ (2 ≤ place))
-
--- no field is there, or it is the library's, of the anchor
-abbrev pub NoField : ℕ → ℕ → Type 0
-NoField place f = (5 ≤ f) ⊎ ((place ≡ 0) × (f ≡ 4))
-
-abbrev pub IsField : ℕ → ℕ → Type 0
-IsField place f = (f ≤ 4) × ((1 ≤ place) ⊎ (f ≤ 3))
+-- no field is there
+abbrev pub NoField : ℕ → Type 0
+NoField f = 5 ≤ f
 
 -- fewer places are free
 abbrev pub NoRoomFor : Bound Sorting → ℕ → Type 0
@@ -41,7 +31,7 @@ abbrev pub Means : ℕ → HeapVal → Value → Type 0
 Means held val values.Null = val.tag ≡ 0
 Means held val (values.Num n) = (val.tag ≡ 1) × ((val.n ≡ n) × (n < 2 ^ 62))
 Means held val (values.Held place) =
-    (val.tag ≡ 2) × ((val.n ≡ place) × ((2 ≤ place) × (place < held)))
+    (val.tag ≡ 2) × ((val.n ≡ place) × ((1 ≤ place) × (place < held)))
 
 -- the bytes of a value that is handed out
 abbrev pub IsVal : HeapVal → Value → Type 0
@@ -53,12 +43,12 @@ IsVal val (values.Held place) = (val.tag ≡ 2) × (val.n ≡ place)
 abbrev pub NoValue : ℕ → HeapVal → Type 0
 NoValue held val =
     (3 ≤ val.tag) ⊎ (((val.tag ≡ 1) × (2 ^ 62 ≤ val.n))
-    ⊎ ((val.tag ≡ 2) × ((val.n < 2) ⊎ (held ≤ val.n))))
+    ⊎ ((val.tag ≡ 2) × ((val.n < 1) ⊎ (held ≤ val.n))))
 
 -- The first n places and then `count` from a place on are no places that may be kept.
 abbrev pub NoneToKeep : ℕ → (n place count : ℕ) → Type 0
 NoneToKeep held n place count =
-    (n < 2) ⊎ ((held < n) ⊎ ((1 ≤ count) × ((place < 2) ⊎ (held < place + count))))
+    (n < 1) ⊎ ((held < n) ⊎ ((1 ≤ count) × ((place < 1) ⊎ (held < place + count))))
 
 -- the same of the value at an index, which is null past the end
 abbrev pub MeansAt : ℕ → List HeapVal → ℕ → Value → Type 0
@@ -81,14 +71,14 @@ module _ (m : Bound Sorting) where
 
   abbrev pub NotRead : (place f : ℕ) → Code → Type 0
   NotRead place f code.NotIn = IsOut m
-  NotRead place f code.BadPlace = NoPlace (held_of m) place
-  NotRead place f code.BadField = NoField place f
+  NotRead place f code.BadPlace = held_of m ≤ place
+  NotRead place f code.BadField = NoField f
   NotRead place f code.NoRoom = NoRoomFor m 1
   NotRead place f _ = ⊥
 
   abbrev pub NotReadAll : (place five : ℕ) → Code → Type 0
   NotReadAll place five code.NotIn = IsOut m
-  NotReadAll place five code.BadPlace = (place < 2) ⊎ (held_of m ≤ place)
+  NotReadAll place five code.BadPlace = (place < 1) ⊎ (held_of m ≤ place)
   NotReadAll place five code.BadSize = ¬ (five ≡ 5)
   NotReadAll place five code.NoRoom = NoRoomFor m 5
   NotReadAll place five _ = ⊥
@@ -96,8 +86,8 @@ module _ (m : Bound Sorting) where
   -- but for `Moved`
   abbrev pub NotWritten : (place f : ℕ) → HeapVal → Code → Type 0
   NotWritten place f val code.NotIn = IsOut m
-  NotWritten place f val code.BadPlace = NoPlace (held_of m) place
-  NotWritten place f val code.BadField = NoField place f
+  NotWritten place f val code.BadPlace = held_of m ≤ place
+  NotWritten place f val code.BadField = NoField f
   NotWritten place f val code.NoRoom = NoRoomFor m 1
   NotWritten place f val code.BadValue = NoValue (held_of m) val
   NotWritten place f val _ = ⊥
@@ -105,21 +95,21 @@ module _ (m : Bound Sorting) where
   -- but for `Moved`
   abbrev pub NotSwapped : (place f : ℕ) → (was now : HeapVal) → Code → Type 0
   NotSwapped place f was now code.NotIn = IsOut m
-  NotSwapped place f was now code.BadPlace = NoPlace (held_of m) place
-  NotSwapped place f was now code.BadField = NoField place f
+  NotSwapped place f was now code.BadPlace = held_of m ≤ place
+  NotSwapped place f was now code.BadField = NoField f
   NotSwapped place f was now code.BadValue =
       NoValue (held_of m) was ⊎ NoValue (held_of m) now
   NotSwapped place f was now _ = ⊥
 
   abbrev pub NotCompared : (one other : ℕ) → Code → Type 0
   NotCompared one other code.NotIn = IsOut m
-  NotCompared one other code.BadPlace = NoPlace (held_of m) one ⊎ NoPlace (held_of m) other
+  NotCompared one other code.BadPlace = (held_of m ≤ one) ⊎ (held_of m ≤ other)
   NotCompared one other _ = ⊥
 
   -- but for `Wait` and `Full`
   abbrev pub NotMade : List HeapVal → Code → Type 0
   NotMade vals code.NotIn = IsOut m
   NotMade vals code.BadSize = 5 < length vals
-  NotMade vals code.NoRoom = NoRoomFor m 2
+  NotMade vals code.NoRoom = NoRoomFor m 1
   NotMade vals code.BadValue = (i : ℕ) × NoValueAt (held_of m) vals i
   NotMade vals _ = ⊥

@@ -4,7 +4,7 @@ ghost use Rattle.heap_c.specs.Claiming.{FindsNone, HoldsOneMore, SaysNone};
 ghost use Rattle.mutator_seat.specs.Bound.{IsBound, bound};
 ghost use Rattle.mutator_seat.specs.Claims.{HasMode};
 ghost use Rattle.sorted_boxes.specs.Calls.{KeepsPlaces};
-ghost use Rattle.sorted_boxes.specs.Holding.{HoldsAnchor, HoldsAtLeast, HoldsRaw};
+ghost use Rattle.sorted_boxes.specs.Holding.{HoldsAtLeast, HoldsOpen, HoldsRaw};
 
 use crate::codes::Code;
 use crate::rule::Rule;
@@ -60,7 +60,7 @@ fn try_cells(
     next: &mut u32,
 ) -> Option<usize>
     requires seat { IsBound heap.now seat.old }
-    requires opened { HoldsAnchor seat.old.me }
+    requires opened { HoldsOpen seat.old.me }
     requires mode { HasMode (bound heap.now seat.old) }
     requires room { length seat.old.me.own.held < seat.old.me.room }
     ensures seat { IsBound heap.now seat.new }
@@ -92,7 +92,7 @@ fn try_block(
     next: &mut u32,
 ) -> Option<usize>
     requires seat { IsBound heap.now seat.old }
-    requires opened { HoldsAnchor seat.old.me }
+    requires opened { HoldsOpen seat.old.me }
     requires mode { HasMode (bound heap.now seat.old) }
     requires room { length seat.old.me.own.held < seat.old.me.room }
     ensures seat { IsBound heap.now seat.new }
@@ -122,7 +122,7 @@ fn try_blocks(
     looks: &mut Looks,
 ) -> Option<usize>
     requires seat { IsBound heap.now seat.old }
-    requires opened { HoldsAnchor seat.old.me }
+    requires opened { HoldsOpen seat.old.me }
     requires mode { HasMode (bound heap.now seat.old) }
     requires room { length seat.old.me.own.held < seat.old.me.room }
     ensures seat { IsBound heap.now seat.new }
@@ -188,7 +188,7 @@ pub(crate) fn claim(
     wait: &mut Waiting,
 ) -> Result<usize, Code>
     requires seat { IsBound heap.now seat.old }
-    requires opened { HoldsAnchor seat.old.me }
+    requires opened { HoldsOpen seat.old.me }
     requires mode { HasMode (bound heap.now seat.old) }
     requires few { control.cycles ≤ 4000000000 }
     requires room { length seat.old.me.own.held < seat.old.me.room }

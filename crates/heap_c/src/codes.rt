@@ -7,7 +7,7 @@ pub enum Code {
     Ok = 0,
     /// there is no memory
     NoMemory = 1,
-    /// there is no such place, or it is the library's
+    /// there is no such place, or it is the anchor's where another is wanted
     BadPlace = 2,
     BadField = 3,
     NoRoom = 4,

@@ -62,7 +62,7 @@ fn leave(alloc: Global, mutator: &mut HeapMut) -> Code
     code
 }
 
-/// Comes in. The mutator holds the anchor and the library's scratch box.
+/// Comes in. The mutator holds the anchor alone.
 #[unsafe(no_mangle)]
 pub extern "C" fn heap_begin(mutator: &mut HeapMut) -> i32
     ensures begun { Numbered result (OfHandle ComesIn mutator.old.mine mutator.new.mine) }

@@ -32,7 +32,7 @@ pub(crate) fn read(
     if !is_place(place, seat.held_len()) {
         return Err(Code::BadPlace);
     }
-    if !is_field(place, field) {
+    if !is_field(field) {
         return Err(Code::BadField);
     }
     if seat.room() < 1 {
@@ -87,7 +87,7 @@ pub(crate) fn write(
     if !is_place(place, seat.held_len()) {
         return Code::BadPlace;
     }
-    if !is_field(place, field) {
+    if !is_field(field) {
         return Code::BadField;
     }
     if seat.room() < 1 {
@@ -123,7 +123,7 @@ pub(crate) fn swap(
     if !is_place(place, seat.held_len()) {
         return Code::BadPlace;
     }
-    if !is_field(place, field) {
+    if !is_field(field) {
         return Code::BadField;
     }
     let Some(expected) = value_of(was, seat.held_len()) else {

@@ -99,7 +99,7 @@ impl Mine {
     pub(crate) fn begin(&mut self) -> Code
         ensures begun { ComesIn self.old self.new result }
     {
-        using::begin(&self.heap, &mut self.seat, &self.sharing, &mut self.wait)
+        using::begin(&self.heap, &mut self.seat)
     }
 
     /// Goes out.

@@ -1,13 +1,12 @@
 //! What a mutator does for C: each function tests what it is given, and answers why it did nothing.
-ghost use Rattle.std.specs.Prelude.{◌≡◌, ◌<◌, ◌≤◌, if◌then◌else◌, length, true};
-ghost use Rattle.heap_c.specs.Calls.{ComesIn, GoesOut, HasBegun, KeepsChosen, MakesAt, MakesCell};
-ghost use Rattle.heap_c.specs.Calls.{AnswersFirst, ReachesSafePoint};
+ghost use Rattle.std.specs.Prelude.{◌≡◌, ◌≤◌, if◌then◌else◌, true};
+ghost use Rattle.heap_c.specs.Calls.{ComesIn, GoesOut, KeepsChosen, MakesAt, MakesCell};
+ghost use Rattle.heap_c.specs.Calls.{ReachesSafePoint};
 ghost use Rattle.heap_c.specs.Holding.{IsMine};
 ghost use Rattle.heap_c.specs.declared.codes.Code.TheVariants as code;
-ghost use Rattle.mutator_seat.specs.Bound.{IsBound, bound};
+ghost use Rattle.mutator_seat.specs.Bound.{bound};
 ghost use Rattle.mutator_seat.specs.Claims.{HasMode};
 ghost use Rattle.sorted_boxes.specs.Calls.{KeepsPlaces};
-ghost use Rattle.sorted_boxes.specs.Holding.{HoldsRaw};
 
 use crate::claiming::{Waiting, claim, look};
 use crate::codes::Code;
@@ -18,37 +17,10 @@ use cell_words::Control;
 use cell_words::modes::{next_status, requested};
 use heap_table::CellHeap;
 use mutator_events::MutSeat;
-use mutator_seat::Value;
-use sorted_boxes::{coming, making, placing, writing};
+use sorted_boxes::{coming, making, placing};
 
-/// The places of the anchor and of the scratch box, and the fields by which sorted_boxes shows a
-/// scratch box, in the anchor, and a new one, in the scratch box.
-const ANCHOR: usize = 0;
-
-const OWN_FIELD: usize = 4;
-
-const SCRATCH: usize = 1;
-
-const SHOWN_BY: usize = 0;
-
-/// Empties the field by which a box was shown, so that nothing stays for it.
-fn forget(heap: &CellHeap<Rule>, seat: &mut MutSeat<Rule>, place: usize, field: usize)
-    requires mine { IsMine heap.now seat.old }
-    ensures mine { IsMine heap.now seat.new }
-    ensures keeps { KeepsPlaces (bound heap.now seat.old) (bound heap.now seat.new) }
-{
-    if seat.is_in() && place < seat.held_len() && field < FIELDS && 1 <= seat.room() {
-        let _emptied = writing::write(heap, seat, place, field, Value::Null);
-    }
-}
-
-/// Comes in, and makes the scratch box.
-pub(crate) fn begin(
-    heap: &CellHeap<Rule>,
-    seat: &mut MutSeat<Rule>,
-    sharing: &Sharing,
-    wait: &mut Waiting,
-) -> Code
+/// Comes in.
+pub(crate) fn begin(heap: &CellHeap<Rule>, seat: &mut MutSeat<Rule>) -> Code
     requires mine { IsMine heap.now seat.old }
     ensures mine { IsMine heap.now seat.new }
     ensures begun { ComesIn (bound heap.now seat.old) (bound heap.now seat.new) result }
@@ -57,42 +29,7 @@ pub(crate) fn begin(
         return Code::IsIn;
     }
     coming::begin(heap, seat);
-    if seat.room() < 2 {
-        coming::end(heap, seat);
-        return Code::NoRoom;
-    }
-    let control = look(heap, seat);
-    match claim(heap, seat, control, sharing, wait) {
-        Ok(place) => {
-            if begin_with(heap, seat, place) {
-                Code::Ok
-            } else {
-                Code::Wait
-            }
-        }
-        Err(code) => {
-            coming::end(heap, seat);
-            code
-        }
-    }
-}
-
-/// Makes the scratch box of the cell that was claimed: whether it did. If not it goes out again.
-fn begin_with(heap: &CellHeap<Rule>, seat: &mut MutSeat<Rule>, place: usize) -> bool
-    requires seat { IsBound heap.now seat.old }
-    requires raw { HoldsRaw (bound heap.now seat.old) place }
-    requires room { length seat.old.me.own.held < seat.old.me.room }
-    requires five { seat.old.me.pass.boxes ≡ 5 }
-    ensures mine { IsMine heap.now seat.new }
-    ensures begun { HasBegun (bound heap.now seat.old) (bound heap.now seat.new) result }
-{
-    if making::make_scratch(heap, seat, place) {
-        forget(heap, seat, ANCHOR, OWN_FIELD);
-        true
-    } else {
-        coming::end(heap, seat);
-        false
-    }
+    Code::Ok
 }
 
 /// Goes out.
@@ -119,22 +56,8 @@ pub(crate) fn answer(heap: &CellHeap<Rule>, seat: &mut MutSeat<Rule>) -> Code
     if !seat.is_in() {
         return Code::NotIn;
     }
-    answer_and_forget(heap, seat);
+    let _was_asked = placing::answer(heap, seat);
     Code::Ok
-}
-
-/// Answers a handshake, if one is asked for, and lets go of the box that was shown last then: once
-/// a cycle is often enough.
-fn answer_and_forget(heap: &CellHeap<Rule>, seat: &mut MutSeat<Rule>)
-    requires mine { IsMine heap.now seat.old }
-    requires inside { seat.old.me.presence.inside ≡ true }
-    ensures mine { IsMine heap.now seat.new }
-    ensures answered { AnswersFirst (bound heap.now seat.old) (bound heap.now seat.new) }
-    ensures keeps { KeepsPlaces (bound heap.now seat.old) (bound heap.now seat.new) }
-{
-    if placing::answer(heap, seat) {
-        forget(heap, seat, SCRATCH, SHOWN_BY);
-    }
 }
 
 /// Looks before a cell is claimed, and answers the handshake that is asked for.
@@ -150,7 +73,7 @@ fn look_or_answer(heap: &CellHeap<Rule>, seat: &mut MutSeat<Rule>) -> Control
     if requested(control.stage) != next_status(seat.status()) {
         return control;
     }
-    answer_and_forget(heap, seat);
+    let _answered = placing::answer(heap, seat);
     look(heap, seat)
 }
 
@@ -208,7 +131,7 @@ pub(crate) fn make(
     if FIELDS < vals.len() {
         return Err(Code::BadSize);
     }
-    if seat.room() < 2 {
+    if seat.room() < 1 {
         return Err(Code::NoRoom);
     }
     let Some(fields) = values_of(vals, seat.held_len()) else {

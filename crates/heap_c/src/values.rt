@@ -2,8 +2,8 @@
 ghost use Rattle.std.specs.Prelude.{◌<◌, ◌≤◌, ◌≡◌, ◌⊎◌, IfSome, IsTrue, MatchOption, ℕ};
 ghost use Rattle.std.specs.Bool.{OnFalse, OnTrue};
 ghost use Rattle.heap_c.specs.Holding.{AreGood, IsGood};
-ghost use Rattle.heap_c.specs.Refusing.{AreMeant, IsField, IsPlace, IsVal, Means, MeansAt, NoField};
-ghost use Rattle.heap_c.specs.Refusing.{NoPlace, NoValue, NoValueAt};
+ghost use Rattle.heap_c.specs.Refusing.{AreMeant, IsVal, Means, MeansAt, NoField, NoValue};
+ghost use Rattle.heap_c.specs.Refusing.{NoValueAt};
 ghost use Rattle.mutator_events.specs.declared.values.Value.TheVariants as values;
 
 use mutator_seat::Value;
@@ -22,8 +22,8 @@ const NUM: u64 = 1;
 
 const REF: u64 = 2;
 
-/// The first place of C.
-pub(crate) const FIRST: usize = 2;
+/// The first place after the anchor's.
+pub(crate) const FIRST: usize = 1;
 
 /// How many fields a cell has.
 pub(crate) const FIELDS: usize = 5;
@@ -31,22 +31,22 @@ pub(crate) const FIELDS: usize = 5;
 /// No number is so large.
 const NUMBERS_END: u64 = 1 << 62;
 
-/// Whether C may use this place, where so many are held: the anchor's, or one of its own.
+/// Whether there is this place, where so many are held.
 pub(crate) fn is_place(place: usize, held: usize) -> bool
     ensures there { IsTrue result → place < held }
-    ensures place { OnTrue result (IsPlace held place) }
-    ensures none { OnFalse result (NoPlace held place) }
+    ensures place { OnTrue result (place < held) }
+    ensures none { OnFalse result (held ≤ place) }
 {
-    place < held && (place == 0 || FIRST <= place)
+    place < held
 }
 
-/// Whether C may use this field of the cell at this place.
-pub(crate) fn is_field(place: usize, field: usize) -> bool
+/// Whether a cell has this field.
+pub(crate) fn is_field(field: usize) -> bool
     ensures there { IsTrue result → field ≤ 4 }
-    ensures field { OnTrue result (IsField place field) }
-    ensures none { OnFalse result (NoField place field) }
+    ensures field { OnTrue result (field ≤ 4) }
+    ensures none { OnFalse result (NoField field) }
 {
-    field < FIELDS && (place != 0 || field != 4)
+    field < FIELDS
 }
 
 /// The value that this is, where so many places are held.
@@ -69,11 +69,11 @@ pub(crate) fn value_of(val: HeapVal, held: usize) -> Option<Value>
     }
 }
 
-/// The value that is a place of C.
+/// The value that is a place, but for the anchor's.
 fn place_of(place: usize, held: usize) -> Option<Value>
     ensures good { IfSome result (λ value. IsGood held value) }
-    ensures place { MatchOption result ((place < 2) ⊎ (held ≤ place))
-        (λ value. (value ≡ values.Held place) × ((2 ≤ place) × (place < held))) }
+    ensures place { MatchOption result ((place < 1) ⊎ (held ≤ place))
+        (λ value. (value ≡ values.Held place) × ((1 ≤ place) × (place < held))) }
 {
     if FIRST <= place && place < held {
         Some(Value::Held(place))

@@ -9,9 +9,9 @@ use Rattle.heap_rule.specs.Steps.{same_pass}
 use Rattle.heap_rule.specs.declared.known.Known.{Known}
 use Rattle.heap_rule.specs.declared.known.Known.TheVariants as knows
 use Rattle.heap_rule.proofs.Many.{known_many}
-use Rattle.held_places.specs.Calls.{KnownNamed, Overwrote, StillKnown, known_fresh}
+use Rattle.held_places.specs.Calls.{Overwrote, StillKnown, known_fresh}
 use Rattle.held_places.proofs.Going.{target_still}
-use Rattle.held_places.proofs.Overwriting.{exchanged, exchanged_box, overwrote, overwrote_box}
+use Rattle.held_places.proofs.Overwriting.{exchanged, overwrote}
 use Rattle.held_places.proofs.Writing.{wrote_goes, wrote_known}
 use Rattle.mutator_events.specs.declared.values.Value.{Value}
 use Rattle.mutator_seat.specs.Bound.{Bound, held_cells}
@@ -54,11 +54,6 @@ module _ (a b : Bound Sorting) (place f : ℕ) (value : Value)
   stored_wrote (inl stored) = overwrote a b place f value there named stored
   stored_wrote (inr other) = exchanged a b place f value there named other.0 other.0 other.1
 
-  -- a new box that the value names is known as a box that others may know
-  pub stored_box : Stored place f value a b → KnownNamed a b value
-  stored_box (inl stored) = overwrote_box a b place f value there named stored
-  stored_box (inr other) = exchanged_box a b place f value there named other.0 other.1
-
   refused_wrote : Refused place f value a b → Overwrote no_field_is_fixed a b place value
   refused_wrote refused =
       exchanged a b place f value there named refused.0 refused.1 refused.2.1
@@ -90,7 +85,7 @@ module _ (a b : Bound Sorting) (place f : ℕ) (value : Value)
 
 module _ (a b : Bound Sorting) (place f : ℕ) (old new : Value) (found : Field)
     (wrote : Updated HoldsSorted no_field_is_fixed same_pass a place f old new found b) where
-  many_known : length a.seat.me.known ≡ length a.seat.me.own.held
+  pub many_known : length a.seat.me.known ≡ length a.seat.me.own.held
   many_known =
       let kept = wrote.calm.kept in
       sym (ap (λ (ks : List Known). length ks) kept.known)

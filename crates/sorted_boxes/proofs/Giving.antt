@@ -1,6 +1,6 @@
 -- What the calls of a mutator ask of a place that is written and of a value, from what is known of
 -- open places and of a new box.
-use Rattle.std.proofs.Common.{◌≡◌, ◌<◌, ◌≤◌, ◌⊎◌, ℕ, zero, suc, true, length, inl}
+use Rattle.std.proofs.Common.{◌≡◌, ◌<◌, ◌≤◌, ℕ, zero, suc, true, length}
 use Rattle.std.proofs.Common.{refl, sym, ap, subst, arith}
 use Rattle.std.proofs.lemmas.Bool.{lt-ltb}
 use Rattle.cell_making.proofs.Naming.{is_box_of, sealed_value}
@@ -22,17 +22,9 @@ use Rattle.sorted_boxes.specs.Holding.{HoldsAtLeast, IsOpenValue}
 
 -- Values.
 
--- a new box of the mutator's own, for a field that names boxes
-pub record IsNew (v : View Sorting) (place f : ℕ) (value : Value) : Type 0 where
-  pub fresh : ℕ
-  pub value_is : value ≡ values.Held fresh
-  pub may : MayShow v fresh
-  pub sort_is : sort_at v place f ≡ Boxes
-
--- The value may be written to this field: it may stand there, or it is a new box.
+-- The value may stand in this field.
 abbrev pub MayGive : View Sorting → ℕ → ℕ → Value → Type 0
-MayGive v place f value =
-    MayStand v (sort_at v place f) (field_at v.own.held value) ⊎ IsNew v place f value
+MayGive v place f value = MayStand v (sort_at v place f) (field_at v.own.held value)
 
 box_sealed : (k : Known) → KnownOfSort Boxes k → is_sealed k ≡ true
 box_sealed (knows.Boxed told) is = refl
@@ -78,9 +70,9 @@ module _ (least : ℕ) (m : Bound Sorting) (at : HoldsAtLeast least m.seat.me) w
 
   pub open_gives : (place f : ℕ) → sort_at m.seat.me place f ≡ Boxes → (value : Value)
       → IsOpenValue m.seat.me value → MayGive m.seat.me place f value
-  open_gives place f sort_is value is = inl
-      (subst (λ (sort : Sort). MayStand m.seat.me sort (field_at m.seat.me.own.held value))
-      (sym sort_is) (open_stands value is))
+  open_gives place f sort_is value is =
+      subst (λ (sort : Sort). MayStand m.seat.me sort (field_at m.seat.me.own.held value))
+      (sym sort_is) (open_stands value is)
 
 pub new_sealed : (m : Bound Sorting) (fresh : ℕ) → MayShow m.seat.me fresh
     → IsSealedValue (held_cells m) m.seat.me.known
@@ -101,13 +93,28 @@ open_is_box : (v : View Sorting) (place : ℕ) → IsOpen v place
 open_is_box v zero is = is_box_of (target v 0) (known_of v 0) is
 open_is_box v (suc place) is = box_is (target v (suc place)) (known_of v (suc place)) is
 
+none_fixed : (f cell : ℕ) → no_field_is_fixed f ≡ true → cell ≡ 0
+none_fixed f cell fixed = absurd cc
+
+-- a new box may be named in a field of its own
+pub may_name : (m : Bound Sorting) (fresh f : ℕ) → m.seat.me.presence.inside ≡ true
+    → MayShow m.seat.me fresh → f ≤ 4
+    → MayUpdate no_field_is_fixed m.seat.me fresh f values.Null (values.Held fresh)
+may_name m fresh f inside may payload = record {
+  inside = inside;
+  there = may.there;
+  payload = payload;
+  box = subst (λ (k : Known). IsBox (target m.seat.me fresh) k) (sym may.known) tt;
+  old_named = tt;
+  new_named = may.there;
+  sealed = new_sealed m fresh may;
+  spares = none_fixed f (target m.seat.me fresh);
+}
+
 module _ (m : Bound Sorting) (place f : ℕ) (inside : m.seat.me.presence.inside ≡ true)
     (there : place < length m.seat.me.own.held) (open_is : IsOpen m.seat.me place)
     (payload : f ≤ 4) (new : Value) (named : IsNamed m.seat.me.own.held new)
     (sealed : IsSealedValue (held_cells m) m.seat.me.known (field_at m.seat.me.own.held new)) where
-  none_fixed : no_field_is_fixed f ≡ true → target m.seat.me place ≡ 0
-  none_fixed fixed = absurd cc
-
   pub may_overwrite : length m.seat.me.own.held < m.seat.me.room
       → MayOverwrite no_field_is_fixed m.seat.me place f new
   may_overwrite room = record {
@@ -117,7 +124,7 @@ module _ (m : Bound Sorting) (place f : ℕ) (inside : m.seat.me.presence.inside
     box = open_is_box m.seat.me place open_is;
     new_named = named;
     sealed = sealed;
-    spares = none_fixed;
+    spares = none_fixed f (target m.seat.me place);
     room = room;
   }
 
@@ -131,5 +138,5 @@ module _ (m : Bound Sorting) (place f : ℕ) (inside : m.seat.me.presence.inside
     old_named = old_named;
     new_named = named;
     sealed = sealed;
-    spares = none_fixed;
+    spares = none_fixed f (target m.seat.me place);
   }

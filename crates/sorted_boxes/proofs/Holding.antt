@@ -32,7 +32,7 @@ use Rattle.sorted_rule.specs.Sorts.{Boxes, Sort}
 use Rattle.sorted_rule.specs.declared.sorting.Sorting.{Sorting}
 use Rattle.sorted_rule.proofs.Finding.{learned_finds}
 use Rattle.sorted_boxes.specs.Calls.{Gave, KeepsPlaces}
-use Rattle.sorted_boxes.specs.Holding.{HoldsAnchor, HoldsAtLeast}
+use Rattle.sorted_boxes.specs.Holding.{HoldsAtLeast, HoldsOpen}
 use Rattle.sorted_boxes.proofs.Carrying.{open_lasts}
 use Rattle.sorted_boxes.proofs.Giving.{box_known_open}
 
@@ -160,7 +160,7 @@ module _ (a b : Bound Sorting) (heap : b.heap ≡ a.heap) (table : b.seat.table 
 
 -- Coming in.
 pub begun_holds : (m : Bound Sorting) → m.seat.me.presence.inside ≡ true → held_cells m ≡ 0 ∷ []
-    → HoldsAnchor m.seat.me
+    → HoldsOpen m.seat.me
 begun_holds m inside held = record {
   inside = inside;
   some = omega (arith, one);

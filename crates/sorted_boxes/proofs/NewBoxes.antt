@@ -1,6 +1,6 @@
 -- A box that was made of open values: it is held after open places, and may be shown.
 use Rattle.std.proofs.Common.{◌≡◌, ◌<◌, ◌≤◌, ◌+◌, ◌∷◌, ℕ, zero, suc, List, [], true, length}
-use Rattle.std.proofs.Common.{Bool, if◌then◌else◌, take, slice_index_or, refl, sym, ◌∙◌, ap, subst, arith}
+use Rattle.std.proofs.Common.{Bool, if◌then◌else◌, take, slice_index_or, slice_set, refl, sym, ◌∙◌, ap, subst, arith}
 use Rattle.std.proofs.lemmas.Bool.{lt-ltb}
 use Rattle.cell_words.specs.declared.fields.Field.{Field}
 use Rattle.cell_words.specs.declared.fields.Field.TheVariants as field
@@ -24,14 +24,13 @@ use Rattle.mutator_events.specs.declared.values.Value.{Value}
 use Rattle.mutator_events.specs.declared.values.Value.TheVariants as values
 use Rattle.mutator_events.specs.Values.{field_at}
 use Rattle.mutator_seat.specs.Bound.{Bound, held_cells, takes}
-use Rattle.mutator_seat.proofs.Writes.{many_same}
 use Rattle.trails.specs.Asks.{nothing}
 use Rattle.sorted_rule.specs.Open.{IsOpen, KnownOfSort, MayShow, MayStand}
 use Rattle.sorted_rule.specs.Sorts.{Boxes, Records, Sort, sort_of}
 use Rattle.sorted_rule.specs.declared.sorting.Sorting.{Sorting}
-use Rattle.sorted_boxes.specs.Calls.{Drops, KeepsPlaces, Sealed}
+use Rattle.sorted_boxes.specs.Calls.{Drops, Sealed}
 use Rattle.sorted_boxes.specs.Holding.{AreNewValues, HoldsAtLeast, HoldsNew, HoldsRaw}
-use Rattle.sorted_boxes.specs.Holding.{IsNewValue, no_values}
+use Rattle.sorted_boxes.specs.Holding.{IsNewValue, IsOpenValue}
 use Rattle.sorted_boxes.proofs.AfterWrites.{box_not_fresh}
 use Rattle.sorted_boxes.proofs.Carrying.{open_lasts}
 use Rattle.sorted_boxes.proofs.Giving.{open_box_known}
@@ -123,8 +122,9 @@ module _ (least : ℕ) (a : Bound Sorting) (given : List Value) (at : HoldsAtLea
           (stand_by (sort_of a.seat.me.pass.boxes 1 i) (value_at given i) (new i lt)));
     }
 
-    pub new_held : HoldsNew fresh b.seat.me
-    new_held = record {
+    pub new_held : value_at given 0 ≡ values.Null → HoldsNew fresh b.seat.me
+    unfolding new_may
+    new_held null = record {
       first = record {
         inside = makes.goes.inside ∙ at.inside;
         fit = let more = longer in let placed = makes.place_is in omega (arith, more, placed);
@@ -134,6 +134,7 @@ module _ (least : ℕ) (a : Bound Sorting) (given : List Value) (at : HoldsAtLea
       some = subst (λ (n : ℕ). 1 ≤ n) (sym makes.place_is) some;
       last = longer ∙ ap (λ (n : ℕ). n + 1) (sym makes.place_is);
       may = new_may;
+      null = ap (λ (value : Value). field_at a.seat.me.own.held value) null;
     }
 
 -- From the claim of the cell to the seal.
@@ -183,21 +184,13 @@ module _ (b n : Bound Sorting) (place : ℕ) (given : List Value)
   abbrev from : Bound Sorting
   from = sealed.before
 
-  pub sealed_new : HoldsNew place n.seat.me
-  sealed_new =
+  pub sealed_new : value_at given 0 ≡ values.Null → HoldsNew place n.seat.me
+  sealed_new null =
       new_held 1 from given sealed.opened
       (subst (λ (k : ℕ). AreNewValues from.seat.me k given) sealed.claimed.place_is
       (λ i lt. subst (λ (p : Sorting). IsNewValue (sort_of p.boxes 1 i) place (value_at given i))
       (claimed_pass from b place sealed.claimed) (new i lt))) place n sealed.makes
-      sealed.opened.some
-
-  many : length n.seat.me.own.held ≡ length b.seat.me.own.held
-  many = many_same n.seat.me.own.held b.seat.me.own.held sealed.held
-
-  pub sealed_room : length b.seat.me.own.held < b.seat.me.room
-      → length n.seat.me.own.held < n.seat.me.room
-  sealed_room room =
-      let so_many = many in let same = sealed.room in omega (arith, room, so_many, same)
+      sealed.opened.some null
 
   pub sealed_drops : (d : Bound Sorting) → Drops place n d → Drops place b d
   sealed_drops d drops = record {
@@ -206,26 +199,28 @@ module _ (b n : Bound Sorting) (place : ℕ) (given : List Value)
     pass = drops.pass ∙ sealed.pass;
   }
 
-  -- where it is shown a place more than the anchor's is held
-  pub sealed_two : (d : Bound Sorting) → KeepsPlaces n d → 2 ≤ length d.seat.me.own.held
-  sealed_two d keeps =
-      let last = sealed_new.last in
-      let some = sealed_new.some in
-      let same = many_same d.seat.me.own.held n.seat.me.own.held keeps.held in
-      omega (arith, last, some, same)
-
 -- the first field of each box names boxes, where one field does
 pub first_boxes : (boxes cell : ℕ) → 1 ≤ boxes → sort_of boxes cell 0 ≡ Boxes
 first_boxes boxes zero some = refl
 first_boxes boxes (suc cell) some =
     ap (λ (b : Bool). if b then Boxes else Records) (lt-ltb 0 boxes some)
 
--- nothing but null
-pub nulls_new : (v : View Sorting) (end : ℕ)
-    → AreNewValues v end no_values
-nulls_new v end zero lt = tt
-nulls_new v end (suc zero) lt = tt
-nulls_new v end (suc (suc zero)) lt = tt
-nulls_new v end (suc (suc (suc zero))) lt = tt
-nulls_new v end (suc (suc (suc (suc zero)))) lt = tt
-nulls_new v end (suc (suc (suc (suc (suc i))))) lt = absurd (omega (arith, lt))
+-- All values but the first.
+pub others_null : (given : List Value) → value_at (slice_set given 0 values.Null) 0 ≡ values.Null
+others_null [] = refl
+others_null (x ∷ xs) = refl
+
+pub others_new : (v : View Sorting) (end : ℕ) (given : List Value) → AreNewValues v end given
+    → AreNewValues v end (slice_set given 0 values.Null)
+others_new v end [] new i lt = new i lt
+others_new v end (x ∷ xs) new zero lt = tt
+others_new v end (x ∷ xs) new (suc i) lt = new (suc i) lt
+
+-- and the first, once the places below the end are held
+pub new_open : (w : View Sorting) (sort : Sort) (end : ℕ) (value : Value)
+    → IsNewValue sort end value → end ≤ length w.own.held → IsOpenValue w value
+new_open w sort end values.Null is fit = tt
+new_open w sort end (values.Num n) is fit = is
+new_open w Boxes end (values.Held place) is fit =
+    (is.0, (let lt = is.1 in omega (arith, lt, fit)))
+new_open w Records end (values.Held place) is fit = absurd is

@@ -1,5 +1,5 @@
 -- The rule at each moment at which a write of a call may come.
-use Rattle.std.proofs.Common.{◌≡◌, ◌<◌, ℕ, length, inl, inr, refl, sym, ◌∙◌, ap, subst}
+use Rattle.std.proofs.Common.{◌≡◌, ◌<◌, ℕ, length, refl, sym, ◌∙◌, ap, subst}
 use Rattle.cell_words.specs.declared.fields.Field.{Field}
 use Rattle.cell_words.specs.declared.fields.Field.TheVariants as field
 use Rattle.core_machine.specs.Own.{pending_or_none}
@@ -17,11 +17,11 @@ use Rattle.mutator_events.specs.Values.{field_at}
 use Rattle.mutator_seat.specs.Bound.{Bound}
 use Rattle.mutator_seat.specs.Stores.{PicksOverwrite}
 use Rattle.mutator_seat.specs.Writes.{IsNamed, PicksUpdate}
-use Rattle.sorted_rule.specs.Open.{IsOpen, MayStand, sort_at}
+use Rattle.sorted_rule.specs.Open.{IsOpen, MayShow, MayStand, sort_at}
 use Rattle.sorted_rule.specs.Sorted.{HoldsSorted}
-use Rattle.sorted_rule.specs.Sorts.{Sort}
+use Rattle.sorted_rule.specs.Sorts.{Boxes, Sort}
 use Rattle.sorted_rule.specs.declared.sorting.Sorting.{Sorting}
-use Rattle.sorted_rule.proofs.Picking.{store_picks, store_shows, write_picks, write_shows}
+use Rattle.sorted_rule.proofs.Picking.{itself_picks, store_picks, write_picks}
 use Rattle.sorted_boxes.proofs.Carrying.{Carries, carries_then, fetch_carries, kept_carries}
 use Rattle.sorted_boxes.proofs.Carrying.{open_on, read_carries, show_on, sort_on, stand_on, there_on}
 use Rattle.sorted_boxes.proofs.Giving.{MayGive}
@@ -36,18 +36,12 @@ module _ (a b : Bound Sorting) (carries : Carries a b) where
 
   give_on : (place f : ℕ) (value : Value) → IsNamed a.seat.me.own.held value
       → MayGive a.seat.me place f value → MayGive b.seat.me place f value
-  give_on place f value named (inl may) = inl
-      (subst (λ (x : Field). MayStand b.seat.me (sort_at b.seat.me place f) x)
+  give_on place f value named may =
+      subst (λ (x : Field). MayStand b.seat.me (sort_at b.seat.me place f) x)
       (sym (field_on value named))
       (subst (λ (sort : Sort). MayStand b.seat.me sort (field_at a.seat.me.own.held value))
       (sym (sort_on a b carries place f))
-      (stand_on a b carries (sort_at a.seat.me place f) (field_at a.seat.me.own.held value) may)))
-  give_on place f value named (inr new) = inr record {
-    fresh = new.fresh;
-    value_is = new.value_is;
-    may = show_on a b carries new.fresh new.may;
-    sort_is = sort_on a b carries place f ∙ new.sort_is;
-  }
+      (stand_on a b carries (sort_at a.seat.me place f) (field_at a.seat.me.own.held value) may))
 
 -- The write of it.
 module _ (v : View Sorting) (place f : ℕ) (there : place < length v.own.held)
@@ -55,23 +49,15 @@ module _ (v : View Sorting) (place f : ℕ) (there : place < length v.own.held)
   write_gives : (old : Field) (value : Value) → MayGive v place f value
       → Picks HoldsSorted no_field_is_fixed same_pass v
       (event.Write v.number place f old (field_at v.own.held value))
-  write_gives old value (inl may) =
+  write_gives old value may =
       write_picks v place f there open_is old (field_at v.own.held value) may
-  write_gives old value (inr new) =
-      subst (λ (x : Value). Picks HoldsSorted no_field_is_fixed same_pass v
-      (event.Write v.number place f old (field_at v.own.held x))) (sym new.value_is)
-      (write_shows v place f there open_is old new.fresh new.may new.sort_is)
 
   store_gives : (begun_of v).place ≡ place → (begun_of v).f ≡ f → (value : Value)
       → MayGive v place f value
       → Picks HoldsSorted no_field_is_fixed same_pass v
       (event.Store v.number (field_at v.own.held value))
-  store_gives place_is f_is value (inl may) =
+  store_gives place_is f_is value may =
       store_picks v place f there open_is place_is f_is (field_at v.own.held value) may
-  store_gives place_is f_is value (inr new) =
-      subst (λ (x : Value). Picks HoldsSorted no_field_is_fixed same_pass v
-      (event.Store v.number (field_at v.own.held x))) (sym new.value_is)
-      (store_shows v place f there open_is place_is f_is new.fresh new.may new.sort_is)
 
 module _ (a : Bound Sorting) (place f : ℕ) (there : place < length a.seat.me.own.held)
     (open_is : IsOpen a.seat.me place) (value : Value) (named : IsNamed a.seat.me.own.held value)
@@ -107,3 +93,12 @@ module _ (a : Bound Sorting) (place f : ℕ) (there : place < length a.seat.me.o
       write_gives at.seat.me place f (there_on a at all place there)
       (open_on a at all place there open_is) (field_at at.seat.me.own.held old) value
       (give_on a at all place f value named may)
+
+-- A new box names itself.
+pub picks_itself : (a : Bound Sorting) (fresh f : ℕ) → MayShow a.seat.me fresh
+    → sort_at a.seat.me 1 f ≡ Boxes → (old : Value)
+    → PicksUpdate HoldsSorted no_field_is_fixed same_pass a fresh f old (values.Held fresh)
+picks_itself a fresh f may sort_is old at kept presence =
+    let all = kept_carries a at kept in
+    itself_picks at.seat.me fresh f (show_on a at all fresh may) (sort_on a at all 1 f ∙ sort_is)
+    (field_at at.seat.me.own.held old)

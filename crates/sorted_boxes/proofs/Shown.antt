@@ -1,92 +1,118 @@
--- A new box is stored in a field that names boxes, and is open from then on.
-use Rattle.std.proofs.Common.{◌≡◌, ◌<◌, ◌≤◌, ◌+◌, ℕ, Bool, List, [], true, false, length}
+-- A new box names itself in its first field, and is open from then on.
+use Rattle.std.proofs.Common.{◌≡◌, ◌<◌, ◌+◌, ℕ, Bool, List, [], true, false, length}
 use Rattle.std.proofs.Common.{take, inl, inr, refl, sym, ◌∙◌, ap, subst, arith}
 use Rattle.std.specs.Bool.{OnFalse, OnTrue}
 use Rattle.std.proofs.lemmas.Bool.{cases_lt}
 use Rattle.std.proofs.lemmas.List.{append-nil}
+use Rattle.cell_words.specs.declared.fields.Field.{Field}
+use Rattle.cell_words.specs.declared.fields.Field.TheVariants as field
+use Rattle.core_machine.specs.State.{State, field_of, target_of}
+use Rattle.core_machine.specs.Words.{same_field}
 use Rattle.core_machine.specs.declared.events.Event.TheVariants as event
 use Rattle.core_machine.specs.declared.events.Found.{Found}
-use Rattle.heap_rule.specs.Asks.{known_of}
+use Rattle.core_machine.specs.declared.events.Found.TheVariants as finds
+use Rattle.heap_rule.specs.Asks.{known_of, target}
+use Rattle.heap_rule.specs.Facts.{IsKnown}
+use Rattle.heap_rule.specs.Lore.{known_at}
 use Rattle.heap_rule.specs.NoRule.{no_field_is_fixed}
 use Rattle.heap_rule.specs.Steps.{same_pass}
 use Rattle.heap_rule.specs.declared.known.Known.{Known}
+use Rattle.heap_rule.specs.declared.known.Known.TheVariants as knows
+use Rattle.heap_rule.specs.declared.view.View.{View}
+use Rattle.heap_rule.proofs.Seats.{knows_place, target_now}
 use Rattle.held_places.proofs.Going.{cut_goes, cut_held, cut_known, cut_pass, goes_then}
-use Rattle.mutator_events.specs.declared.values.Value.{Value}
+use Rattle.held_places.proofs.Writing.{wrote_box}
 use Rattle.mutator_events.specs.declared.values.Value.TheVariants as values
 use Rattle.mutator_seat.specs.Bound.{Bound, held_cells, takes}
-use Rattle.mutator_seat.specs.Stores.{MayOverwrite, PicksOverwrite}
-use Rattle.sorted_rule.specs.Open.{IsOpen, KnownOfSort, sort_at}
+use Rattle.mutator_seat.specs.Writes.{Updated}
+use Rattle.mutator_seat.proofs.Writes.{many_same}
+use Rattle.sorted_rule.specs.Open.{IsOpen, KnownOfSort}
 use Rattle.sorted_rule.specs.Sorted.{HoldsSorted}
 use Rattle.sorted_rule.specs.Sorts.{Boxes}
 use Rattle.sorted_rule.specs.declared.sorting.Sorting.{Sorting}
-use Rattle.sorted_boxes.specs.Calls.{Drops, KeepsPlaces, Narrows, Stored}
-use Rattle.sorted_boxes.specs.Holding.{HoldsAtLeast, HoldsFirst, HoldsNew}
-use Rattle.sorted_boxes.proofs.AfterWrites.{StillOpen, kept_first, stored_box, stored_still}
+use Rattle.sorted_boxes.specs.Calls.{Drops, KeepsPlaces, Narrows}
+use Rattle.sorted_boxes.specs.Holding.{HoldsFirst, HoldsNew, HoldsOpen}
+use Rattle.sorted_boxes.proofs.AfterWrites.{StillOpen, kept_first, many_known, updated_keeps}
+use Rattle.sorted_boxes.proofs.AfterWrites.{updated_still}
 use Rattle.sorted_boxes.proofs.Again.{many_again}
-use Rattle.sorted_boxes.proofs.Giving.{box_known_open, may_overwrite, new_sealed}
-use Rattle.sorted_boxes.proofs.Picks.{picks_store}
+use Rattle.sorted_boxes.proofs.Giving.{box_known_open}
 
--- The store.
-module _ (a : Bound Sorting) (place f fresh : ℕ) (at : HoldsNew fresh a.seat.me)
-    (before : place < fresh) where
-  pub new_there : fresh < length a.seat.me.own.held
-  new_there = let last = at.last in omega (arith, last)
+same_found : (a b : Field) → finds.Field a ≡ finds.Field b → a ≡ b
+same_found a b is = cc
 
-  pub place_there : place < length a.seat.me.own.held
-  place_there = let last = at.last in omega (arith, last, before)
+module _ (a : Bound Sorting) (fresh : ℕ) (at : HoldsNew fresh a.seat.me) where
+  abbrev Named : Field → Bound Sorting → Type 0
+  Named found b = Updated HoldsSorted no_field_is_fixed same_pass a fresh 0 values.Null
+      (values.Held fresh) found b
 
-  pub show_may : f ≤ 4 → length a.seat.me.own.held < a.seat.me.room
-      → MayOverwrite no_field_is_fixed a.seat.me place f (values.Held fresh)
-  show_may payload room =
-      may_overwrite a place f at.first.inside place_there (at.first.opened place before) payload
-      (values.Held fresh) new_there (new_sealed a fresh at.may) room
+  -- Nobody else knows it, so its first field holds null at the exchange.
+  module _ (b : Bound Sorting) (found : Field) (wrote : Named found b) where
+    abbrev v : View Sorting
+    v = wrote.at.seat.me
 
-  pub show_picks : sort_at a.seat.me place f ≡ Boxes
-      → PicksOverwrite HoldsSorted no_field_is_fixed same_pass same_pass a place f
-      (values.Held fresh)
-  show_picks sort_is =
-      picks_store a place f place_there (at.first.opened place before) (values.Held fresh)
-      new_there
-      (inr record { fresh = fresh; value_is = refl; may = at.may; sort_is = sort_is })
+    abbrev s : State
+    s = wrote.event.core
 
--- What it leaves: the new box is open as the others are.
-module _ (a b : Bound Sorting) (place f fresh : ℕ) (at : HoldsNew fresh a.seat.me)
-    (before : place < fresh) (keeps : KeepsPlaces a b)
-    (stored : Stored place f (values.Held fresh) a b) where
-  abbrev value : Value
-  value = values.Held fresh
+    known_at_it : known_of v fresh ≡ knows.Fresh at.may.fields
+    known_at_it =
+        ap (λ (ks : List Known). known_at ks fresh) wrote.calm.kept.known ∙ at.may.known
 
-  there : place < length a.seat.me.own.held
-  there = place_there a place f fresh at before
+    there_at_it : fresh < length v.own.held
+    there_at_it =
+        let same = many_same v.own.held a.seat.me.own.held wrote.calm.kept.held in
+        let there = at.may.there in
+        omega (arith, same, there)
 
-  named : fresh < length a.seat.me.own.held
-  named = new_there a place f fresh at before
+    is_known : IsKnown no_field_is_fixed s wrote.event.lore v.number (target v fresh)
+        (knows.Fresh at.may.fields)
+    is_known =
+        subst (λ (k : Known). IsKnown no_field_is_fixed s wrote.event.lore v.number
+        (target v fresh) k) known_at_it
+        (knows_place v s wrote.event.lore wrote.event.mine fresh there_at_it)
 
-  new_known : KnownOfSort Boxes (known_of b.seat.me fresh)
-  new_known =
-      let box = stored_box a b place f value there named stored fresh at.may.fields named refl
-      at.may.known in
-      subst (λ (k : Known). KnownOfSort Boxes k) (sym box.1) tt
+    found_null : found ≡ field.Null
+    found_null =
+        sym (same_found (field_of s (target_of s v.number fresh) 0) found wrote.event.found_is)
+        ∙ ap (λ (x : ℕ). field_of s x 0) (target_now v s wrote.event.lore wrote.event.mine fresh)
+        ∙ is_known.2.each 0 (omega arith) ∙ at.null
 
-  long : length b.seat.me.own.held ≡ fresh + 1
-  long = many_again a b keeps ∙ at.last
+    pub never_refused : same_field found field.Null ≡ false → ⊥
+    never_refused other =
+        absurd (let null = found_null in let is : same_field field.Null field.Null ≡ false =
+        subst (λ (w : Field). same_field w field.Null ≡ false) null other in cc)
 
-  first_still : HoldsFirst fresh b.seat.me
-  first_still = kept_first a b keeps (stored_still a b place f value there named stored) fresh
-      at.first
+  -- What it leaves: the new box is open as the others are.
+  module _ (b : Bound Sorting) (named : Named field.Null b) where
+    pub named_keeps : KeepsPlaces a b
+    named_keeps = updated_keeps a b fresh 0 values.Null (values.Held fresh) field.Null named
 
-  pub shown_holds : HoldsAtLeast fresh b.seat.me
-  shown_holds = record {
-    inside = first_still.inside;
-    some = first_still.fit;
-    opened = λ p lt. elim (cases_lt p fresh) [
-      | inl less ↦ first_still.opened p less
-      | inr behind ↦
-          let same : fresh ≡ p = let many = long in omega (arith, lt, behind, many) in
-          subst (λ (n : ℕ). IsOpen b.seat.me n) same
-          (box_known_open b.seat.me fresh at.some new_known)
-    ];
-  }
+    new_known : KnownOfSort Boxes (known_of b.seat.me fresh)
+    new_known =
+        let box = wrote_box no_field_is_fixed HoldsSorted same_pass a b fresh 0 values.Null
+        (values.Held fresh) field.Null named
+        (many_known a b fresh 0 values.Null (values.Held fresh) field.Null named) refl fresh
+        at.may.fields at.may.there refl at.may.known in
+        subst (λ (k : Known). KnownOfSort Boxes k) (sym box.1) tt
+
+    long : length b.seat.me.own.held ≡ fresh + 1
+    long = many_again a b named_keeps ∙ at.last
+
+    first_still : HoldsFirst fresh b.seat.me
+    first_still = kept_first a b named_keeps
+        (updated_still a b fresh 0 values.Null (values.Held fresh) field.Null named) fresh at.first
+
+    pub named_holds : HoldsOpen b.seat.me
+    named_holds = record {
+      inside = first_still.inside;
+      some = let many = long in omega (arith, many);
+      opened = λ p lt. elim (cases_lt p fresh) [
+        | inl less ↦ first_still.opened p less
+        | inr behind ↦
+            let same : fresh ≡ p = let many = long in omega (arith, lt, behind, many) in
+            subst (λ (n : ℕ). IsOpen b.seat.me n) same
+            (box_known_open b.seat.me fresh at.some new_known)
+      ];
+    }
 
 -- Whether two places hold one cell: all places are kept.
 module _ (b c : Bound Sorting) (p : Found)
@@ -119,9 +145,9 @@ narrowed_drops b c n narrow = record {
 
 -- What is so if a call answered so.
 
-pub true_on : {P Q : Type 0} (b : Bool) → (P → Q) → OnTrue b P → OnTrue b Q
-true_on true next is = next is
-true_on false next is = tt
+pub true_both : {P Q R : Type 0} (b : Bool) → (P → Q → R) → OnTrue b P → OnTrue b Q → OnTrue b R
+true_both true next one other = next one other
+true_both false next one other = tt
 
 pub false_on : {P Q : Type 0} (b : Bool) → (P → Q) → OnFalse b P → OnFalse b Q
 false_on true next is = tt

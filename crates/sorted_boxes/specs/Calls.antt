@@ -1,7 +1,7 @@
 -- What the calls tell: the events of each, and what these found.
 -- Source: this project's.
 use Rattle.std.specs.Prelude.{ℕ, ◌≡◌, ◌⊎◌, ◌++◌, [], false, List, length, take}
-use Rattle.std.specs.Prelude.{drop}
+use Rattle.std.specs.Prelude.{drop, slice_set}
 use Rattle.cell_words.specs.declared.fields.Field.{Field}
 use Rattle.core_machine.specs.Words.{same_field}
 use Rattle.core_machine.specs.declared.events.Event.TheVariants as event
@@ -13,11 +13,12 @@ use Rattle.held_places.specs.Calls.{Goes, WasRead}
 use Rattle.mutator_events.specs.declared.values.Value.{Value}
 use Rattle.mutator_events.specs.declared.values.Value.TheVariants as values
 use Rattle.mutator_events.specs.Events.{AtEvent}
-use Rattle.mutator_events.specs.Values.{value_found}
+use Rattle.mutator_events.specs.Values.{field_at, value_found}
 use Rattle.mutator_seat.specs.Bound.{Bound, held_cells}
 use Rattle.mutator_seat.specs.Claims.{Claimed}
 use Rattle.mutator_seat.specs.Stores.{Exchanged, Overwritten}
-use Rattle.sorted_boxes.specs.Holding.{HoldsAnchor}
+use Rattle.mutator_seat.specs.Writes.{Updated}
+use Rattle.sorted_boxes.specs.Holding.{HoldsOpen}
 use Rattle.sorted_rule.specs.Sorted.{HoldsSorted}
 use Rattle.sorted_rule.specs.declared.sorting.Sorting.{Sorting}
 
@@ -92,7 +93,7 @@ Drops n old new = Leaves (take n (held_cells old)) old new
 -- nobody else knows.
 pub record Sealed (place : ℕ) (given : List Value) (old new : Bound Sorting) : Type 0 where
   pub before : Bound Sorting
-  pub opened : HoldsAnchor before.seat.me
+  pub opened : HoldsOpen before.seat.me
   pub claimed : Claimed before place old
   pub makes : MakesBox before place given new
   pub goes : Goes [] old new
@@ -100,14 +101,18 @@ pub record Sealed (place : ℕ) (given : List Value) (old new : Bound Sorting) :
   pub room : new.seat.me.room ≡ old.seat.me.room
   pub pass : new.seat.me.pass ≡ old.seat.me.pass
 
--- The box at a place is shown: it is stored in this field of a box that others may know, and held
--- on.
-pub record Shown (place f fresh : ℕ) (old new : Bound Sorting) : Type 0 where
-  pub stored : Stored place f (values.Held fresh) old new
-  pub keeps : KeepsPlaces old new
+-- One exchange in the first field of the cell at a place, which found what was expected.
+abbrev pub SetsFirst : (place : ℕ) → (old new : Value) → Bound Sorting → Bound Sorting → Type 0
+SetsFirst place was now old new =
+    Updated HoldsSorted no_field_is_fixed same_pass old place 0 was now
+    (field_at old.seat.me.own.held was) new
 
--- A new box of a raw cell: it is sealed, and shown in this field.
-pub record Made (at f place : ℕ) (given : List Value) (old new : Bound Sorting) : Type 0 where
+-- A new box of a raw cell. It is sealed with all its values but the first. Then it names itself in
+-- its first field, so that others may know it, and gets the first value in the place of its name.
+pub record Made (place : ℕ) (given : List Value) (old new : Bound Sorting) : Type 0 where
   pub between : Bound Sorting
-  pub is_sealed : Sealed place given old between
-  pub shown : Shown at f place between new
+  pub named : Bound Sorting
+  pub is_sealed : Sealed place (slice_set given 0 values.Null) old between
+  pub names : SetsFirst place values.Null (values.Held place) between named
+  pub first : SetsFirst place (values.Held place) (value_at given 0) named new
+  pub keeps : KeepsPlaces between new

@@ -1,7 +1,9 @@
 -- What a mutator holds between two calls, and what it may give to them.
 -- Source: this project's.
-use Rattle.std.specs.Prelude.{ℕ, ◌≡◌, ◌<◌, ◌≤◌, ◌+◌, ◌^◌, true, List, [], ◌∷◌, length}
+use Rattle.std.specs.Prelude.{ℕ, ◌≡◌, ◌<◌, ◌≤◌, ◌+◌, ◌^◌, true, List, length}
+use Rattle.std.specs.Prelude.{slice_index_or}
 use Rattle.cell_making.specs.Makes.{value_at}
+use Rattle.cell_words.specs.declared.fields.Field.TheVariants as field
 use Rattle.heap_rule.specs.declared.view.View.{View}
 use Rattle.mutator_events.specs.declared.values.Value.{Value}
 use Rattle.mutator_events.specs.declared.values.Value.TheVariants as values
@@ -18,24 +20,9 @@ pub record HoldsAtLeast (least : ℕ) (v : View Sorting) : Type 0 where
   pub some : least ≤ length v.own.held
   pub opened : (place : ℕ) → place < length v.own.held → IsOpen v place
 
--- the anchor
-abbrev pub HoldsAnchor : View Sorting → Type 0
-HoldsAnchor v = HoldsAtLeast 1 v
-
--- the anchor, and at the next place the scratch box, by which new boxes are shown
+-- the anchor, and maybe boxes after it
 abbrev pub HoldsOpen : View Sorting → Type 0
-HoldsOpen v = HoldsAtLeast 2 v
-
--- The place of the scratch box, and its field by which new boxes are shown; and the field of the
--- anchor by which scratch boxes are.
-abbrev pub scratch : ℕ
-scratch = 1
-
-abbrev pub shown_by : ℕ
-shown_by = 0
-
-abbrev pub own_field : ℕ
-own_field = 4
+HoldsOpen v = HoldsAtLeast 1 v
 
 -- It is in, and the first n of its places are open.
 pub record HoldsFirst (n : ℕ) (v : View Sorting) : Type 0 where
@@ -43,12 +30,14 @@ pub record HoldsFirst (n : ℕ) (v : View Sorting) : Type 0 where
   pub fit : n ≤ length v.own.held
   pub opened : (place : ℕ) → place < n → IsOpen v place
 
--- A new box that nobody else knows is held at the last place, after so many open ones.
+-- A new box that nobody else knows is held at the last place, after so many open ones. Its first
+-- field is null.
 pub record HoldsNew (fresh : ℕ) (v : View Sorting) : Type 0 where
   pub first : HoldsFirst fresh v
   pub some : 1 ≤ fresh
   pub last : length v.own.held ≡ fresh + 1
   pub may : MayShow v fresh
+  pub null : slice_index_or may.fields 0 field.Null ≡ field.Null
 
 -- The value is null, a number that fits a word, or a place behind the anchor's: a box that others
 -- may know.
@@ -69,12 +58,8 @@ abbrev pub AreNewValues : View Sorting → ℕ → List Value → Type 0
 AreNewValues v end given =
     (i : ℕ) → i < 5 → IsNewValue (sort_of v.pass.boxes 1 i) end (value_at given i)
 
-abbrev pub no_values : List Value
-no_values =
-    values.Null ∷ values.Null ∷ values.Null ∷ values.Null ∷ values.Null ∷ []
-
 -- A raw cell is held at the last place, claimed just now by a mutator that held open places alone.
 pub record HoldsRaw (m : Bound Sorting) (place : ℕ) : Type 0 where
   pub before : Bound Sorting
-  pub opened : HoldsAnchor before.seat.me
+  pub opened : HoldsOpen before.seat.me
   pub claimed : Claimed before place m

@@ -1,13 +1,12 @@
 //! Coming in and going out, and claiming the cells that boxes are made of.
 //!
-//! A mutator that comes in holds the anchor alone. Before it is used it makes its scratch box of a
-//! cell that it claims, as often as it takes until the box was shown (`make_scratch`).
+//! A mutator that comes in holds the anchor alone.
 ghost use Rattle.std.specs.Prelude.{◌≡◌, ◌<◌, ◌+◌, ◌∷◌, ◌++◌, [], IfNone, IfSome, false, length, true, ℕ};
 ghost use Rattle.mutator_seat.specs.Bound.{IsBound, bound, held_cells};
 ghost use Rattle.mutator_seat.specs.Claims.{HasMode};
 ghost use Rattle.mutator_seat.specs.Stretches.{Calm};
 ghost use Rattle.sorted_boxes.specs.Calls.{KeepsPlaces};
-ghost use Rattle.sorted_boxes.specs.Holding.{HoldsAnchor, HoldsAtLeast, HoldsRaw};
+ghost use Rattle.sorted_boxes.specs.Holding.{HoldsAtLeast, HoldsOpen, HoldsRaw};
 ghost use Rattle.trails.specs.Claims.{AllUsed};
 
 use heap_table::CellHeap;
@@ -19,7 +18,7 @@ pub fn begin(heap: &CellHeap<Sorting>, seat: &mut MutSeat<Sorting>)
     requires seat { IsBound heap.now seat.old }
     requires out { seat.old.me.presence.inside ≡ false }
     ensures seat { IsBound heap.now seat.new }
-    ensures opened { HoldsAnchor seat.new.me }
+    ensures opened { HoldsOpen seat.new.me }
     ensures alone { length seat.new.me.own.held ≡ 1 }
     ensures pass { seat.new.me.pass ≡ seat.old.me.pass }
     ensures room { seat.new.me.room ≡ seat.old.me.room }
@@ -30,7 +29,7 @@ pub fn begin(heap: &CellHeap<Sorting>, seat: &mut MutSeat<Sorting>)
 /// Goes out, and holds nothing.
 pub fn end(heap: &CellHeap<Sorting>, seat: &mut MutSeat<Sorting>)
     requires seat { IsBound heap.now seat.old }
-    requires opened { HoldsAnchor seat.old.me }
+    requires opened { HoldsOpen seat.old.me }
     ensures seat { IsBound heap.now seat.new }
     ensures out { seat.new.me.presence.inside ≡ false }
     ensures pass { seat.new.me.pass ≡ seat.old.me.pass }
@@ -55,7 +54,7 @@ pub fn look(heap: &CellHeap<Sorting>, seat: &mut MutSeat<Sorting>)
 /// Claims this cell, if it is free: its place, which is the next one.
 pub fn try_cell(heap: &CellHeap<Sorting>, seat: &mut MutSeat<Sorting>, cell: u32) -> Option<usize>
     requires seat { IsBound heap.now seat.old }
-    requires opened { HoldsAnchor seat.old.me }
+    requires opened { HoldsOpen seat.old.me }
     requires mode { HasMode (bound heap.now seat.old) }
     requires cell { cell < seat.old.me.shape.cells }
     requires room { length seat.old.me.own.held < seat.old.me.room }

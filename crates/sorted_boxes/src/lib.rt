@@ -7,8 +7,8 @@
 //! fits, that a field names boxes, and that there is room.
 //!
 //! A box that was just made is known to its maker alone, and the rule says nothing of it. So it is
-//! shown at once: it is stored in the scratch box, which the mutator holds at the second place. The
-//! scratch box itself is shown so in the last field of the anchor, when the mutator comes in.
+//! shown at once: it names itself in its first field, and gets its first value after that. Nobody
+//! else can find it by its own name.
 //!
 //! Reading order: specs/Holding, Calls; then `opening`, `placing`, `reading`, `writing`, `showing`,
 //! `making`, `coming`.

@@ -24,8 +24,8 @@ pub fn answer(heap: &CellHeap<Sorting>, seat: &mut MutSeat<Sorting>) -> bool
     operations::answer(heap, seat)
 }
 
-/// Keeps the first places, the anchor's and the scratch box's at least, and then so many from a
-/// place on. The anchor is not held twice.
+/// Keeps the first places, the anchor's at least, and then so many from a place on. The anchor is
+/// not held twice.
 pub fn keep(
     heap: &CellHeap<Sorting>,
     seat: &mut MutSeat<Sorting>,
@@ -35,7 +35,7 @@ pub fn keep(
 )
     requires seat { IsBound heap.now seat.old }
     requires opened { HoldsOpen seat.old.me }
-    requires some { 2 ≤ first }
+    requires some { 1 ≤ first }
     requires kept { first ≤ length seat.old.me.own.held }
     requires others { place + count ≤ length seat.old.me.own.held }
     requires apart { (1 ≤ place) ⊎ (count ≡ 0) }

@@ -1,48 +1,81 @@
-//! Showing a new box: it is stored in a box that others may know, and is known as one itself from
-//! then on.
+//! Showing a new box: it names itself in its first field, and is known as a box that others may know
+//! from then on. Then its first value stands there in the place of its name.
 ghost use Rattle.std.specs.Prelude.{◌≡◌, ◌<◌, ◌≤◌, false, length};
 ghost use Rattle.std.specs.Bool.{OnFalse, OnTrue};
+ghost use Rattle.mutator_events.specs.declared.values.Value.TheVariants as values;
 ghost use Rattle.mutator_seat.specs.Bound.{IsBound, bound};
-ghost use Rattle.sorted_boxes.specs.Calls.{Drops, Shown};
-ghost use Rattle.sorted_boxes.specs.Holding.{HoldsAtLeast, HoldsFirst, HoldsNew};
+ghost use Rattle.sorted_boxes.specs.Calls.{Drops, KeepsPlaces, SetsFirst};
+ghost use Rattle.sorted_boxes.specs.Holding.{HoldsAtLeast, HoldsFirst, HoldsNew, HoldsOpen};
+ghost use Rattle.sorted_boxes.specs.Holding.{IsOpenValue};
 ghost use Rattle.sorted_rule.specs.Open.{sort_at};
 ghost use Rattle.sorted_rule.specs.Sorts.{Boxes};
 
 use crate::placing::narrow;
+use crate::writing::swap;
 use heap_table::CellHeap;
 use mutator_seat::{MutSeat, Value, operations};
 use sorted_rule::Sorting;
 use std::marker::Brand;
 
-/// Stores the new box at the last place in a field of the box at another one: whether it did. If so
-/// it is held where it was, as a box that others may know; if not it is dropped.
-pub(crate) fn show(
-    heap: &CellHeap<Sorting>,
-    seat: &mut MutSeat<Sorting>,
-    place: usize,
-    field: usize,
-    fresh: usize,
-) -> bool
+/// The field by which a new box is shown.
+const FIRST: usize = 0;
+
+/// Names the new box at the last place in its own first field. Nobody else knows it, so it holds
+/// null there still, and the exchange is made.
+pub(crate) fn show(heap: &CellHeap<Sorting>, seat: &mut MutSeat<Sorting>, fresh: usize)
     requires seat { IsBound heap.now seat.old }
     requires new { HoldsNew fresh seat.old.me }
-    requires before { place < fresh }
-    requires field { field ≤ 4 }
-    requires sort { sort_at seat.old.me place field ≡ Boxes }
-    requires room { length seat.old.me.own.held < seat.old.me.room }
+    requires sort { sort_at seat.old.me 1 0 ≡ Boxes }
     ensures seat { IsBound heap.now seat.new }
-    ensures opened { HoldsAtLeast fresh seat.new.me }
-    ensures shown { OnTrue result (Shown place field fresh (bound heap.now seat.old)
-        (bound heap.now seat.new)) }
-    ensures lost { OnFalse result (Drops fresh (bound heap.now seat.old)
-        (bound heap.now seat.new)) }
+    ensures opened { HoldsOpen seat.new.me }
+    ensures named { SetsFirst fresh values.Null (values.Held fresh) (bound heap.now seat.old)
+        (bound heap.now seat.new) }
+    ensures keeps { KeepsPlaces (bound heap.now seat.old) (bound heap.now seat.new) }
 {
-    match operations::store::<Sorting, Brand, Brand>(heap, seat, place, field, Value::Held(fresh)) {
-        Ok(()) => true,
-        Err(_) => drop_new(heap, seat, fresh),
+    match operations::update::<Sorting, Brand>(
+        heap,
+        seat,
+        fresh,
+        FIRST,
+        Value::Null,
+        Value::Held(fresh),
+    ) {
+        Ok(()) => (),
+        Err(_) => (),
     }
 }
 
-/// Holds what stands before the new box alone. It was not shown.
+/// Puts the value in the place of the name of the box at the last place: whether it did. If not the
+/// box is dropped.
+pub(crate) fn put_first(
+    heap: &CellHeap<Sorting>,
+    seat: &mut MutSeat<Sorting>,
+    place: usize,
+    value: Value,
+) -> bool
+    requires seat { IsBound heap.now seat.old }
+    requires opened { HoldsOpen seat.old.me }
+    requires behind { 1 ≤ place }
+    requires there { place < length seat.old.me.own.held }
+    requires sort { sort_at seat.old.me place 0 ≡ Boxes }
+    requires value { IsOpenValue seat.old.me value }
+    ensures seat { IsBound heap.now seat.new }
+    ensures opened { HoldsOpen seat.new.me }
+    ensures put { OnTrue result (SetsFirst place (values.Held place) value
+        (bound heap.now seat.old) (bound heap.now seat.new)) }
+    ensures keeps { OnTrue result (KeepsPlaces (bound heap.now seat.old)
+        (bound heap.now seat.new)) }
+    ensures lost { OnFalse result (Drops place (bound heap.now seat.old)
+        (bound heap.now seat.new)) }
+{
+    if swap(heap, seat, place, FIRST, Value::Held(place), value) {
+        true
+    } else {
+        drop_new(heap, seat, place)
+    }
+}
+
+/// Holds what stands before the new box alone.
 fn drop_new(heap: &CellHeap<Sorting>, seat: &mut MutSeat<Sorting>, fresh: usize) -> bool
     requires seat { IsBound heap.now seat.old }
     requires first { HoldsFirst fresh seat.old.me }

@@ -6,9 +6,9 @@ use std::os::raw::c_int;
 pub enum Error {
     /// `malloc` had none.
     NoMemory,
-    /// No such place, or it is the library's.
+    /// No such place, or the anchor's where another is wanted.
     BadPlace,
-    /// A field above 4, or field 4 of the anchor.
+    /// A field above 4.
     BadField,
     /// Too few places are free.
     NoRoom,

@@ -37,7 +37,7 @@ impl Mutator {
     /// Comes in, works, and goes out. What the anchor leads to stays, and all else is let go.
     pub fn enter<T>(&mut self, work: impl for<'f> FnOnce(&mut Frame<'f>) -> T) -> Result<T> {
         let handle = self.spot.handle();
-        patiently(handle, || checked(unsafe { raw::heap_begin(handle) }))?;
+        checked(unsafe { raw::heap_begin(handle) })?;
         let inside = Inside(&self.spot);
         let done = work(&mut Frame::new(&self.spot));
         drop(inside);

@@ -1,4 +1,4 @@
-use Rattle.std.proofs.Common.{◌≡◌, List, Option, Some, inl, refl, subst, sym}
+use Rattle.std.proofs.Common.{◌≡◌, Option, Some, inl, refl, subst, sym}
 use Rattle.mutator_seat.specs.Bound.{Bound}
 use Rattle.sorted_rule.specs.declared.sorting.Sorting.{Sorting}
 use Rattle.heap_c.specs.Handles.{GivesAll, OfHandleOr}

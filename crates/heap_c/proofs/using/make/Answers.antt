@@ -16,7 +16,7 @@ returns-then-make-clause-made c =
     let given = c.in-Some.fields in
     let made = c.if-make.ensures.made in
     let held = made_holds was looked raw now c.in_ok-place.place keeps claimed.cells claimed.room
-    _ _ given made in
+    given made in
     let means = subst (λ (many : ℕ). AreMeant many c.args.vals.now given) c.held_len.ensures.len
     c.in-Some.ensures.means in (
       sym c.if-not-is_in.ensures.inside,

@@ -1,4 +1,4 @@
-use Rattle.std.proofs.Common.{◌≡◌, ◌∷◌, [], arith, inl, length, refl}
+use Rattle.std.proofs.Common.{◌∷◌, [], arith, inl, refl}
 use Rattle.held_places.proofs.Going.{many_held}
 use Rattle.mutator_seat.specs.Bound.{bound}
 use Rattle.heap_c.proofs.using.make_at.Goals as goal

@@ -6,4 +6,4 @@ pub returns-clause-opened : goal.returns-clause-opened
 returns-clause-opened c =
     let heap = c.args.heap.now in
     calm_holds _ (bound heap c.args.seat.now) (bound heap c.answer.new.seat) c.answer.ensures.calm
-    2 c.requires.opened
+    1 c.requires.opened

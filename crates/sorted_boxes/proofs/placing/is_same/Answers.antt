@@ -9,7 +9,7 @@ returns-clause-opened c =
     let was = bound heap c.args.seat.now in
     let now = bound heap c.is_same.new.seat in
     kept_holds was now (same_keeps was now _ c.is_same.ensures.told)
-    (same_still was now _ c.is_same.ensures.told) 2 c.requires.opened
+    (same_still was now _ c.is_same.ensures.told) 1 c.requires.opened
 
 pub returns-clause-keeps : goal.returns-clause-keeps
 returns-clause-keeps c =

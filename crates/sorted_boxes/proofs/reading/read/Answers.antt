@@ -18,7 +18,7 @@ returns-clause-opened c =
     let at = c.requires.opened in
     read_holds (bound heap c.args.seat.now) (bound heap c.read.new.seat) refl c.read.ensures.table
     c.args.place c.args.field c.requires.there told.0 told.2 (at.opened c.args.place
-    c.requires.there) c.requires.field c.requires.sort 2 (omega arith) at
+    c.requires.there) c.requires.field c.requires.sort 1 (omega arith) at
 
 pub returns-clause-gave : goal.returns-clause-gave
 returns-clause-gave c =

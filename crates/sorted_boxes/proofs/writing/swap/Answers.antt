@@ -10,9 +10,9 @@ update-requires-clause-may c =
     let at = c.requires.opened in
     may_update was c.args.place c.args.field at.inside c.requires.there
     (at.opened c.args.place c.requires.there) c.requires.field c.args.value
-    (open_named 2 was at c.args.value c.requires.value)
-    (open_sealed 2 was at c.args.value c.requires.value) c.args.expected
-    (open_named 2 was at c.args.expected c.requires.expected)
+    (open_named 1 was at c.args.value c.requires.value)
+    (open_sealed 1 was at c.args.value c.requires.value) c.args.expected
+    (open_named 1 was at c.args.expected c.requires.expected)
 
 pub update-requires-clause-rule : goal.update-requires-clause-rule
 update-requires-clause-rule c =
@@ -20,8 +20,8 @@ update-requires-clause-rule c =
     let at = c.requires.opened in
     picks_update was c.args.place c.args.field c.requires.there
     (at.opened c.args.place c.requires.there) c.args.value
-    (open_named 2 was at c.args.value c.requires.value)
-    (open_gives 2 was at c.args.place c.args.field c.requires.sort c.args.value c.requires.value)
+    (open_named 1 was at c.args.value c.requires.value)
+    (open_gives 1 was at c.args.place c.args.field c.requires.sort c.args.value c.requires.value)
     c.args.expected
 
 pub returns-in-Ok : goal.returns-in-Ok
@@ -34,7 +34,7 @@ returns-in-Ok c =
     record {
       seat = c.update.ensures.seat;
       opened = kept_holds was now keeps
-          (updated_still was now c.args.place c.args.field c.args.expected c.args.value _ wrote) 2
+          (updated_still was now c.args.place c.args.field c.args.expected c.args.value _ wrote) 1
           c.requires.opened;
       keeps = keeps;
       made = wrote;
@@ -52,7 +52,7 @@ returns-in-Err c =
       seat = c.update.ensures.seat;
       opened = kept_holds was now keeps
           (updated_still was now c.args.place c.args.field c.args.expected c.args.value _ moved.1)
-          2 c.requires.opened;
+          1 c.requires.opened;
       keeps = keeps;
       made = tt;
       moved = (_, moved.0, moved.1);

@@ -11,8 +11,8 @@ store-requires-clause-may c =
     let at = c.requires.opened in
     may_overwrite was c.args.place c.args.field at.inside c.requires.there
     (at.opened c.args.place c.requires.there) c.requires.field c.args.value
-    (open_named 2 was at c.args.value c.requires.value)
-    (open_sealed 2 was at c.args.value c.requires.value) c.requires.room
+    (open_named 1 was at c.args.value c.requires.value)
+    (open_sealed 1 was at c.args.value c.requires.value) c.requires.room
 
 pub store-requires-clause-rule : goal.store-requires-clause-rule
 store-requires-clause-rule c =
@@ -20,14 +20,14 @@ store-requires-clause-rule c =
     let at = c.requires.opened in
     picks_store was c.args.place c.args.field c.requires.there
     (at.opened c.args.place c.requires.there) c.args.value
-    (open_named 2 was at c.args.value c.requires.value)
-    (open_gives 2 was at c.args.place c.args.field c.requires.sort c.args.value c.requires.value)
+    (open_named 1 was at c.args.value c.requires.value)
+    (open_gives 1 was at c.args.place c.args.field c.requires.sort c.args.value c.requires.value)
 
 pub returns-in-Ok : goal.returns-in-Ok
 returns-in-Ok c =
     let was = bound c.args.heap.now c.args.seat.now in
     let now = bound c.args.heap.now c.store.new.seat in
-    let named = open_named 2 was c.requires.opened c.args.value c.requires.value in
+    let named = open_named 1 was c.requires.opened c.args.value c.requires.value in
     let stored = c.in-Ok.ensures.made in
     let keeps = stored_keeps was now c.args.place c.args.field c.args.value c.requires.there named
     c.store.ensures.places stored in
@@ -35,7 +35,7 @@ returns-in-Ok c =
       seat = c.store.ensures.seat;
       opened = kept_holds was now keeps
           (stored_still was now c.args.place c.args.field c.args.value c.requires.there named
-          stored) 2 c.requires.opened;
+          stored) 1 c.requires.opened;
       keeps = keeps;
       stored = stored;
       refused = tt;
@@ -45,7 +45,7 @@ pub returns-in-Err : goal.returns-in-Err
 returns-in-Err c =
     let was = bound c.args.heap.now c.args.seat.now in
     let now = bound c.args.heap.now c.store.new.seat in
-    let named = open_named 2 was c.requires.opened c.args.value c.requires.value in
+    let named = open_named 1 was c.requires.opened c.args.value c.requires.value in
     let moved = c.in-Err.ensures.moved in
     let keeps = refused_keeps was now c.args.place c.args.field c.args.value c.requires.there named
     c.store.ensures.places (moved.0, _, (moved.1, moved.2)) in
@@ -53,7 +53,7 @@ returns-in-Err c =
       seat = c.store.ensures.seat;
       opened = kept_holds was now keeps
           (refused_still was now c.args.place c.args.field c.args.value c.requires.there named
-          (moved.0, _, (moved.1, moved.2))) 2 c.requires.opened;
+          (moved.0, _, (moved.1, moved.2))) 1 c.requires.opened;
       keeps = keeps;
       stored = tt;
       refused = (moved.0, _, (moved.1, moved.2));
