@@ -1,3 +1,4 @@
+pub mod AfterRoots
 pub mod Readiness
 pub mod Slicing
 pub mod Standing

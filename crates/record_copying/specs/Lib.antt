@@ -1,3 +1,4 @@
 pub mod Copies
 pub mod Raw
+pub mod Settling
 pub mod Table

@@ -13,12 +13,13 @@
 //!
 //! The calls take the heap and the seat, for an owner of both that keeps no borrow of the heap.
 //!
-//! Reading order: specs/Raw, `copying`; specs/Table, Copies; `cells`, `slices`, `table`,
-//! `theorems`.
+//! Reading order: specs/Raw, `copying`; specs/Table, Copies; `cells`, `slices`;
+//! specs/Settling, `settling`; `table`, `theorems`.
 #![tactic(auto)]
 
 mod cells;
 mod copying;
+mod settling;
 mod slices;
 mod table;
 pub mod theorems;

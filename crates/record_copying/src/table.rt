@@ -8,10 +8,12 @@ ghost use Rattle.mutator_seat.specs.Bound.{IsBound, bound};
 ghost use Rattle.promotion.specs.Copying.{GrownBy};
 ghost use Rattle.promotion.specs.Sharing.{known_terms};
 ghost use Rattle.record_copying.specs.Copies.{AllShare, AreCopies, CopiesUpTo, IsCopied, KeepCopies};
+ghost use Rattle.record_copying.specs.Settling.{Settled};
 ghost use Rattle.record_copying.specs.Table.{AreBelow};
 ghost use Rattle.record_copying.specs.declared.slices.Progress.TheVariants as progress;
 
 use crate::cells::RawCells;
+use crate::settling::settle;
 use crate::slices::{Progress, copy_reached};
 use heap_rule::Keeping;
 use heap_table::CellHeap;
@@ -133,5 +135,31 @@ impl CopyTable {
         let copied = self.copied.as_mut_slice();
         let places = self.places.as_mut_slice();
         copy_reached(heap, seat, cells, minor, roots, marks, copied, places, most)
+    }
+
+    /// Holds the first `base` places and then the copy of each root, in order: for when each root
+    /// has its copy. The private records may go then.
+    pub fn settle<P: Keeping>(
+        &self,
+        heap: &CellHeap<P>,
+        seat: &mut MutSeat<P>,
+        minor: &MinorHeap,
+        roots: &[MinorRef],
+        base: usize,
+    )
+        requires seat { IsBound heap.now seat.old }
+        requires inside { seat.old.me.presence.inside ≡ true }
+        requires some { 1 ≤ base }
+        requires base { base ≤ length seat.old.me.own.held }
+        requires room { length seat.old.me.own.held + length roots.now ≤ seat.old.me.room }
+        requires fits { length minor.now.records ≤ self.now.room }
+        requires copies { AreCopies seat.old.me.known minor.now.records self.now.copied
+            self.now.places }
+        requires done { All (IsCopied self.now.copied) roots.now }
+        ensures seat { IsBound heap.now seat.new }
+        ensures settled { Settled (bound heap.now seat.old) minor.now.records roots.now base
+            (bound heap.now seat.new) }
+    {
+        settle(heap, seat, minor, self.places.as_slice(), roots, base);
     }
 }
