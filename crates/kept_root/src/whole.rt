@@ -63,6 +63,7 @@ pub(crate) fn run<R: Threads + Wait + Sync>(alloc: Global, rt: &R) -> Result<Ran
         image,
         passes,
         freed,
+        ..
     } = close_two(rt, heap, &queue, off, first, second, left);
     Ok(Ran {
         image,

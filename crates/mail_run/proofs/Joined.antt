@@ -1,6 +1,6 @@
 -- What is so at the close, where the harness has joined the seats of the senders and then that of
 -- the receiver.
-use Rattle.std.proofs.Common.{◌≡◌, ◌<◌, ◌+◌, ◌++◌, ℕ, zero, suc, List, [], ◌∷◌, length, map, take}
+use Rattle.std.proofs.Common.{◌≡◌, ◌<◌, ◌+◌, ◌++◌, ℕ, zero, suc, List, [], ◌∷◌, length, take}
 use Rattle.std.proofs.Common.{Option, refl, sym, ◌∙◌, ap, subst, arith}
 use Rattle.std.specs.Prelude.{Vec}
 use Rattle.std.specs.declared.alloc.Global.{Global}
@@ -9,7 +9,6 @@ use Rattle.std.proofs.lemmas.List.{length-map, length_push, map-append}
 use Rattle.atomic_table.proofs.Lists.{at_last, at_longer, at_map}
 use mathlib.Core.Option.{some}
 use lib.ListN.{get_elem?}
-use Rattle.beside_collector.specs.Places.{AllFrom}
 use Rattle.beside_collector.specs.Scripts.{script_of}
 use Rattle.beside_collector.proofs.Places.{all_both}
 use Rattle.heap_rule.specs.Rule.{share_of}
@@ -29,6 +28,7 @@ use Rattle.mail_threads.specs.declared.workers.Received.{Received}
 use Rattle.mail_run.specs.Closed.{AreThrough, IsClosed}
 use Rattle.mail_run.specs.Comes.{lines_in}
 use Rattle.mail_run.specs.declared.closed.Closed.{Closed}
+use Rattle.mutator_threads.proofs.EachDone.{all_so, part_at, stands_at}
 use Rattle.mutator_threads.specs.Closing.{HasClosed, joined_parts}
 use Rattle.mutator_threads.specs.Closing.{IsClosed as IsClosedHeap}
 use Rattle.mutator_threads.specs.Mutators.{AreOver, IsOver, own_of, views_of}
@@ -44,46 +44,6 @@ list_there [] i lt = absurd (omega (arith, lt))
 list_there (s ∷ ss) zero lt = refl
 list_there (s ∷ ss) (suc i) lt = list_there ss i (omega (arith, lt))
 
--- the share of a mutator stands at its place
-abbrev part_of : Mailer → Place MailPass
-part_of mailer = places.Joined (share_of mailer.seat.me)
-
-parts_are : (mailers : List Mailer) → joined_parts (views_of mailers) ≡ map part_of mailers
-parts_are [] = refl
-parts_are (m ∷ ms) = ap (λ (ps : List (Place MailPass)). part_of m ∷ ps) (parts_are ms)
-
-module _ (heap : HeapId) (scripts : List (Vec ℕ Global)) where
-  record DoneAt (senders : List Mailer) (place i : ℕ) : Type 0 where
-    pub sender : Mailer
-    pub at : get_elem? senders i ≡ some sender
-    pub done : IsDone heap scripts (place + i) sender
-
-  done_at : (place : ℕ) (senders : List Mailer) (i : ℕ) → i < length senders
-      → AllFrom (λ number sender. IsDone heap scripts number sender) place senders
-      → DoneAt senders place i
-  done_at place [] i lt all = absurd (omega (arith, lt))
-  done_at place (s ∷ ss) zero lt all =
-      let same : place ≡ place + 0 = omega arith in
-      record {
-        sender = s;
-        at = refl;
-        done = subst (λ (k : ℕ). IsDone heap scripts k s) same all.0;
-      }
-  done_at place (s ∷ ss) (suc i) lt all =
-      let rest = done_at (place + 1) ss i (omega (arith, lt)) all.1 in
-      let same : place + 1 + i ≡ place + suc i = omega arith in
-      record {
-        sender = rest.sender;
-        at = rest.at;
-        done = subst (λ (k : ℕ). IsDone heap scripts k rest.sender) same rest.done;
-      }
-
-  senders_over : (place : ℕ) (senders : List Mailer)
-      → AllFrom (λ number sender. IsDone heap scripts number sender) place senders
-      → AllFrom (λ number (m : Mailer). IsOver heap number m.seat) place senders
-  senders_over place [] all = tt
-  senders_over place (s ∷ ss) all = (all.0.is_over, senders_over (place + 1) ss all.1)
-
 module _ (heap : HeapId) (scripts : List (Vec ℕ Global)) (lines : ℕ) (mailers : List Mailer)
     (received : Received) (w : HaveWorked heap scripts lines mailers received) where
   abbrev last : List Mailer
@@ -96,7 +56,9 @@ module _ (heap : HeapId) (scripts : List (Vec ℕ Global)) (lines : ℕ) (mailer
       let here : length scripts ≡ 0 + length w.senders = omega (arith, many) in
       subst (λ (ms : List Mailer). AreOver heap ms) (sym w.mailers_are)
       (all_both (λ number (m : Mailer). IsOver heap number m.seat) 0 w.senders last
-      (senders_over heap scripts 0 w.senders w.done)
+      (all_so (λ (number : ℕ) (m : Mailer). IsDone heap scripts number m)
+      (λ (number : ℕ) (m : Mailer). IsOver heap number m.seat) (λ number m done. done.is_over) 0
+      w.senders w.done)
       (subst (λ (k : ℕ). IsOver heap k w.receiver.seat) here over, tt))
 
   pub all_mailers : length mailers ≡ length scripts + 1
@@ -117,14 +79,6 @@ module _ (heap : HeapId) (scripts : List (Vec ℕ Global)) (lines : ℕ) (mailer
       ∙ ap (λ (k : ℕ). take k (own ++ own_of last)) many
       ∙ take-append_seam own (own_of last)
 
-  part_at : (joined : List (Place MailPass)) → joined ≡ joined_parts (views_of mailers)
-      → (i : ℕ) (m : Mailer) → get_elem? (w.senders ++ last) i ≡ some m
-      → get_elem? joined i ≡ some (part_of m)
-  part_at joined is i m at =
-      ap (λ (ps : List (Place MailPass)). get_elem? ps i)
-      (is ∙ parts_are mailers ∙ ap (λ (ms : List Mailer). map part_of ms) w.mailers_are)
-      ∙ at_map part_of (w.senders ++ last) i m at
-
   pub through : (cells : ℕ) (joined : List (Place MailPass))
       (all sent : List (Vec (Option ℕ) Global)) → heap.shape.cells ≡ cells
       → lines ≡ lines_in (lists_of scripts)
@@ -134,6 +88,7 @@ module _ (heap : HeapId) (scripts : List (Vec ℕ Global)) (lines : ℕ) (mailer
   through cells joined all sent cells_are lines_are is all_is sent_is =
       let same = so_many scripts in
       let own = answers_are all sent all_is sent_is in
+      let parts = is ∙ ap (λ (ms : List Mailer). joined_parts (views_of ms)) w.mailers_are in
       let many : length sent ≡ length scripts =
       ap (λ (xs : List (Vec (Option ℕ) Global)). length xs) own
       ∙ length-map w.senders (λ (m : Mailer). m.own) ∙ w.many in
@@ -141,26 +96,26 @@ module _ (heap : HeapId) (scripts : List (Vec ℕ Global)) (lines : ℕ) (mailer
         many = many ∙ sym same;
         posted = λ i lt.
             let fits = w.many in
-            let its = done_at heap scripts 0 w.senders i (omega (arith, lt, same, fits)) w.done in
-            let here : 0 + i ≡ i = omega arith in
-            let done = subst (λ (k : ℕ). IsDone heap scripts k its.sender) here its.done in
+            let its = stands_at (λ (number : ℕ) (m : Mailer). IsDone heap scripts number m)
+            w.senders i (omega (arith, lt, same, fits)) w.done in
             record {
               lines = script_of scripts i;
               lines_at = list_there scripts i (omega (arith, lt, same));
-              answers = its.sender.own.items;
-              answers_at = at_map (λ (xs : Vec (Option ℕ) Global). xs.items) sent i its.sender.own
+              answers = its.one.own.items;
+              answers_at = at_map (λ (xs : Vec (Option ℕ) Global). xs.items) sent i its.one.own
                   (ap (λ (xs : List (Vec (Option ℕ) Global)). get_elem? xs i) own
-                  ∙ at_map (λ (m : Mailer). m.own) w.senders i its.sender its.at);
-              share = share_of its.sender.seat.me;
-              share_at = part_at joined is i its.sender
-                  (at_longer w.senders last i its.sender its.at);
-              posts = subst (λ (k : ℕ). Posts k (script_of scripts i) its.sender.own.items
-                  its.sender.seat.me.pass (marks_of its.sender.seat.me.trail)) cells_are
-                  done.posts;
+                  ∙ at_map (λ (m : Mailer). m.own) w.senders i its.one its.at);
+              share = share_of its.one.seat.me;
+              share_at = part_at (w.senders ++ last) joined parts i its.one
+                  (at_longer w.senders last i its.one its.at);
+              posts = subst (λ (k : ℕ). Posts k (script_of scripts i) its.one.own.items
+                  its.one.seat.me.pass (marks_of its.one.seat.me.trail)) cells_are
+                  its.holds.posts;
             };
         drained = record {
           share = share_of w.receiver.seat.me;
-          share_at = part_at joined is (length (lists_of scripts)) w.receiver
+          share_at = part_at (w.senders ++ last) joined parts (length (lists_of scripts))
+              w.receiver
               (at_last w.senders w.receiver (length (lists_of scripts)) (w.many ∙ sym same));
           receives = λ whole. subst (λ (k : ℕ). Receives k received.items.items
               w.receiver.seat.me.pass (marks_of w.receiver.seat.me.trail)) lines_are

@@ -1,6 +1,6 @@
 -- The seats of all mutators are joined in turn, the collector serves if it has not, and the heap is
 -- closed.
-use Rattle.std.proofs.Common.{◌≡◌, ◌<◌, ◌+◌, ◌++◌, ◌∷◌, ℕ, zero, suc, Bool, false, List, []}
+use Rattle.std.proofs.Common.{◌≡◌, ◌<◌, ◌+◌, ◌^◌, ◌++◌, ◌∷◌, ℕ, zero, suc, Bool, false, List, []}
 use Rattle.std.proofs.Common.{Option, Some, None, length, refl, sym, ◌∙◌, ap, subst, arith}
 use Rattle.std.proofs.lemmas.List.{append-nil, append_assoc, length-map}
 use Rattle.atomic_table.proofs.Lists.{at_map}
@@ -175,6 +175,9 @@ module _ {P : Type 0} {opens : ℕ → ℕ → P} {holding : Map → List P → 
       shows = has.shows;
       collected = has.collected;
       places_are = has.places_are ∙ are;
+      cells_are = has.cells_are;
+      number_freed_is = has.number_freed_is;
+      few_freed = has.few_freed;
     };
     passes_are = passes_are;
   }
@@ -248,12 +251,14 @@ module _ {P : Type 0} (heap : HeapId) (queue : FreeQueue) (cycles : ℕ) where
       off_still (Some standby) serves = serves.off_duty
 
       pub has_closed : {opens : ℕ → ℕ → P} {holding : Map → List P → Type 0} {fixed : ℕ → Bool}
-          (image : ImageView) (freed : ℕ)
+          (image : ImageView) (freed number_freed : ℕ)
           (ended : Ended opens holding fixed heap.shape (Unit {0}) image.words last.me)
           → Shows image ended.shows.core → freed_by last.me.trail ≡ freed
+          → image.cells ≡ heap.shape.cells → last.me.part.number_freed ≡ number_freed
+          → number_freed < 2 ^ 63
           → HasClosed opens holding fixed heap.shape cycles off.seat.me.places
-          record { image = image; passes = last.me; freed = freed }
-      has_closed image freed ended shows freed_are =
+          record { image = image; passes = last.me; freed = freed; number_freed = number_freed }
+      has_closed image freed number_freed ended shows freed_are cells number few =
           let made = cycles_made heap.shape image.words last.me ended cycles served in
           let count = ended.shows.core.control.cycles in
           record {
@@ -268,4 +273,7 @@ module _ {P : Type 0} (heap : HeapId) (queue : FreeQueue) (cycles : ℕ) where
               freed_are = freed_are;
             };
             places_are = work.places;
+            cells_are = cells;
+            number_freed_is = number;
+            few_freed = few;
           }

@@ -1,6 +1,6 @@
 -- What the close of a heap says when the seats of all its mutators were joined.
 -- Source: this project's.
-use Rattle.std.specs.Prelude.{ℕ, ◌≡◌, ◌≤◌, ◌<◌, Bool, false, List, map}
+use Rattle.std.specs.Prelude.{ℕ, ◌≡◌, ◌≤◌, ◌<◌, ◌^◌, Bool, false, List, map}
 use Rattle.beside_collector.specs.Freed.{freed_by}
 use Rattle.beside_collector.specs.Service.{IsService}
 use Rattle.core_machine.specs.State.{State}
@@ -33,6 +33,10 @@ module _ {P : Type 0} where
     pub shows : Shows closed.image ended.shows.core
     pub collected : HasCollected shape cycles closed.freed ended.shows.core closed.passes
     pub places_are : closed.passes.places ≡ joined
+    -- the image has the heap's cells, and the collector's own part has this number of freed ones
+    pub cells_are : closed.image.cells ≡ shape.cells
+    pub number_freed_is : closed.passes.part.number_freed ≡ closed.number_freed
+    pub few_freed : closed.number_freed < 2 ^ 63
 
   -- the parts of mutators whose seats, of which these are the views, were joined in their order
   abbrev pub joined_parts : List (View P) → List (Place P)

@@ -25,7 +25,10 @@ use std::sync::Wait;
 pub struct Closed<P: Keeping> {
     pub image: Image,
     pub passes: Passes<P>,
+    /// as its trail has it
     pub freed: u64,
+    /// as its own part has it
+    pub number_freed: u64,
 }
 
 /// Joins the seats of all workers, closes the heap, and gives what the workers have of their own,
@@ -122,11 +125,13 @@ pub fn close_joined<P: Keeping, R: Wait>(
         freed,
     } = off;
     let (seat, freed) = finish_service(rt, &heap, queue, cycles, seat, standby, freed);
+    let number_freed = seat.freed();
     let (image, passes) = seat.close(heap);
     Closed {
         image,
         passes,
         freed,
+        number_freed,
     }
 }
 

@@ -29,8 +29,7 @@ use std::sync::Wait;
 const MOST_MARKS: u32 = 65_536;
 
 /// A new heap with its queue of hints, its collector, and a worker for each mutator in the order of
-/// their numbers.
-#[derive(Drop)]
+/// their numbers. It can't be dropped as a whole: whoever takes it apart has a heap to close.
 pub struct Opened<P: Keeping, T> {
     pub heap: CellHeap<P>,
     pub queue: FreeQueue,

@@ -96,6 +96,7 @@ pub(crate) fn run<R: Threads + Wait + Sync>(
         image,
         passes,
         freed,
+        ..
     } = closed;
     let sum = sum_of(&adders);
     let counter = counter_of(&image);

@@ -85,6 +85,7 @@ pub(crate) fn run<R: Threads + Wait + Sync>(
         image,
         passes,
         freed,
+        ..
     } = closed;
     Ok(Ran {
         image,

@@ -112,6 +112,7 @@ pub(crate) fn run<R: Threads + Wait + Sync>(
         image,
         passes,
         freed,
+        ..
     } = closed;
     let sum = sum_of(&counts);
     let boxes = count_boxes(&image, sum + 2);

@@ -32,9 +32,16 @@ returns g c =
     record {
       closed = subst (λ (v : View _). HasClosed g.P.Keeping.opening g.P.Keeping.holds
           g.P.Keeping.fixed c.args.heap.shape c.args.cycles c.args.off.seat.me.places
-          record { image = image; passes = v; freed = freed })
+          record {
+            image = image;
+            passes = v;
+            freed = freed;
+            number_freed = c.freed-number_freed.result;
+          })
           (sym c.close-image.ensures.passes)
           (has_closed c.args.heap c.args.queue.now c.args.cycles c.args.off c.requires.joined
-          last late.served image freed c.close-image.ensures.ended
-          (c.close-image.ensures.shown c.close-image.ensures.ended) late.freed);
+          last late.served image freed c.freed-number_freed.result c.close-image.ensures.ended
+          (c.close-image.ensures.shown c.close-image.ensures.ended) late.freed
+          c.close-image.ensures.sizes.0 (sym c.freed-number_freed.ensures.freed)
+          c.freed-number_freed.ensures.few);
     }

@@ -1,4 +1,4 @@
-use Rattle.std.proofs.Common.{◌∙◌, ap, sym, subst, replicate}
+use Rattle.std.proofs.Common.{◌∙◌, ℕ, [], ap, sym, subst, replicate}
 use Rattle.cell_words.specs.declared.controls.Control.{Control}
 use Rattle.heap_rule.specs.Shape.{IsSound, Shape}
 use Rattle.heap_rule.specs.declared.view.Place.TheVariants as places
@@ -40,5 +40,7 @@ returns g c =
         };
         workers = c.in_ok-workers.ensures.workers;
         many = c.in_ok-workers.ensures.many;
+        stack = c.in_ok-stack.ensures.stack
+            ∙ ap (λ (n : ℕ). record { room = n; cells = [] }) c.min.ensures;
       };
     }
