@@ -6,10 +6,10 @@ use Rattle.std.specs.Prelude.{slice_index_or}
 use Rattle.std.proofs.lemmas.List.{get_or-map, length-map}
 use Rattle.aged_nursery.specs.Survivors.{AreSurvivors, Leads, by, here, root_at}
 use Rattle.cell_words.specs.Term.{Term, null}
-use Rattle.client_records.specs.declared.at.NodeAt.{NodeAt}
-use Rattle.client_records.specs.declared.at.NodeAt.TheVariants as at
-use Rattle.client_records.specs.Records.{IsAmong, Rests, rests, terms_known}
-use Rattle.client_records.proofs.Resting.{rests_older, rests_place}
+use Rattle.client_trees.specs.declared.at.NodeAt.{NodeAt}
+use Rattle.client_trees.specs.declared.at.NodeAt.TheVariants as at
+use Rattle.client_trees.specs.Records.{IsAmong, Rests, rests, terms_known}
+use Rattle.client_trees.proofs.Resting.{rests_older, rests_place}
 use Rattle.client_trees.specs.Nodes.{IsTreeAt}
 use Rattle.doc_records.specs.Trees.{IsTreeNode}
 use Rattle.minor_heap.specs.declared.fields.MinorField.{MinorField}

@@ -4,10 +4,10 @@ use Rattle.std.proofs.Common.{◌∷◌, length, refl, ap, arith}
 use Rattle.std.proofs.Common.{inl, inr, Result, Ok, Err}
 use Rattle.std.specs.Prelude.{IfOk, OnErr}
 use Rattle.std.proofs.lemmas.Bool.{cases_lt}
-use Rattle.client_records.specs.declared.at.NodeAt.{NodeAt}
+use Rattle.client_trees.specs.declared.at.NodeAt.{NodeAt}
 use Rattle.client_session.specs.Handles.{Edits, Still}
 use Rattle.client_trees.specs.Leaves.{Leaves, LeavesAll}
-use Rattle.client_turns.specs.State.{Rests}
+use Rattle.client_history.specs.State.{Rests}
 use Rattle.minor_heap.specs.Nursery.{IsOrdered, Nursery}
 use Rattle.mutator_seat.specs.Bound.{Bound}
 use Rattle.version_rule.specs.Pass.{Pass, commit_numbers}
@@ -15,7 +15,7 @@ use Rattle.version_store.specs.Calls.{Holds}
 use Rattle.version_store.specs.Lasts.{IsSameMutator, LastsAcross}
 use Rattle.version_store.specs.Older.{GivesOlder, Trims}
 use Rattle.version_store.specs.declared.fault.Cut.{Cut}
-use Rattle.version_store.specs.declared.held.HeldVersion.{HeldVersion}
+use Rattle.version_rule.specs.declared.held.HeldVersion.{HeldVersion}
 use Rattle.held_places.proofs.Going.{many_cells}
 use Rattle.client_heap.specs.Shows.{handles_of, state_of}
 use Rattle.client_heap.specs.Sound.{IsSound}

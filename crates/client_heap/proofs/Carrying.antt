@@ -1,12 +1,12 @@
 -- How calls carry on what stands, by what they tell of it.
 use Rattle.std.proofs.Common.{◌≡◌, ◌<◌, ◌≤◌, ℕ, List, length, refl}
 use Rattle.std.proofs.Common.{sym, ◌∙◌, ap, subst, arith}
-use Rattle.client_records.specs.declared.at.NodeAt.{NodeAt}
-use Rattle.client_records.specs.declared.at.NodeAt.TheVariants as at
-use Rattle.client_records.specs.Records.{IsAmong, IsRecord, IsSomething, known_term, stands_on}
-use Rattle.client_records.specs.Records.{term_at, terms_known}
-use Rattle.client_records.proofs.Places.{known_term_at}
-use Rattle.client_records.proofs.Resting.{rests_map, rests_same}
+use Rattle.client_trees.specs.declared.at.NodeAt.{NodeAt}
+use Rattle.client_trees.specs.declared.at.NodeAt.TheVariants as at
+use Rattle.client_trees.specs.Records.{IsAmong, IsRecord, IsSomething, known_term, stands_on}
+use Rattle.client_trees.specs.Records.{term_at, terms_known}
+use Rattle.client_trees.proofs.Places.{known_term_at}
+use Rattle.client_trees.proofs.Resting.{rests_map, rests_same}
 use Rattle.client_trees.specs.Leaves.{Leaves}
 use Rattle.heap_rule.specs.Asks.{known_of}
 use Rattle.heap_rule.specs.Lore.{known_at}
@@ -23,7 +23,7 @@ use Rattle.version_rule.proofs.Trees.{grows_still}
 use Rattle.version_store.specs.Calls.{StaysKnown, StillKnown}
 use Rattle.version_store.specs.Held.{IsHeld}
 use Rattle.version_store.specs.Lasts.{IsSameMutator, LastsAcross}
-use Rattle.version_store.specs.declared.held.HeldVersion.{HeldVersion}
+use Rattle.version_rule.specs.declared.held.HeldVersion.{HeldVersion}
 use Rattle.held_places.proofs.Going.{many_held}
 use Rattle.version_store.proofs.Remaining.{version_known}
 use Rattle.version_store.proofs.Lasting.{lasts_still, lasts_then, same_still, same_then}

@@ -3,8 +3,8 @@ use Rattle.std.proofs.Common.{◌≡◌, ◌+◌, ℕ, List, length, refl, sym, 
 use Rattle.std.proofs.Common.{subst, arith}
 use Rattle.std.proofs.Common.{Result, Ok, Err}
 use Rattle.std.specs.Prelude.{OnErr}
-use Rattle.client_records.specs.declared.at.NodeAt.TheVariants as at
-use Rattle.client_records.specs.Records.{IsRecord, known_term}
+use Rattle.client_trees.specs.declared.at.NodeAt.TheVariants as at
+use Rattle.client_trees.specs.Records.{IsRecord, known_term}
 use Rattle.client_trees.specs.Nodes.{IsTreeAt, tree_at}
 use Rattle.doc_records.specs.Trees.{IsTreeNode, tree_of}
 use Rattle.heap_rule.specs.Asks.{known_of}

@@ -9,10 +9,10 @@ use Rattle.cell_words.specs.declared.colours.Colour.{Colour}
 use Rattle.cell_words.specs.declared.colours.Colour.TheVariants as colour
 use Rattle.cell_words.specs.declared.fields.Field.{Field}
 use Rattle.cell_words.specs.declared.fields.Field.TheVariants as word
-use Rattle.client_records.specs.declared.at.NodeAt.TheVariants as at
-use Rattle.client_records.specs.Records.{IsAmong, IsRecord, Rests, known_term, terms_known}
-use Rattle.client_records.proofs.Places.{at_kept, at_last, at_more, cut_many}
-use Rattle.client_records.proofs.Resting.{rests_place, rests_reached}
+use Rattle.client_trees.specs.declared.at.NodeAt.TheVariants as at
+use Rattle.client_trees.specs.Records.{IsAmong, IsRecord, Rests, known_term, terms_known}
+use Rattle.client_trees.proofs.Places.{at_kept, at_last, at_more, cut_many}
+use Rattle.client_trees.proofs.Resting.{rests_place, rests_reached}
 use Rattle.client_trees.specs.Nodes.{IsTreeAt, tree_at}
 use Rattle.core_machine.specs.declared.events.Event.{Event}
 use Rattle.core_machine.specs.declared.events.Event.TheVariants as event
@@ -23,7 +23,7 @@ use Rattle.core_machine.specs.Own.{Own, having_claimed, having_claimed_by, havin
 use Rattle.core_machine.specs.Own.{having_fetched_by, having_read_by, looked_by, no_own, own_after}
 use Rattle.core_machine.specs.Trail.{own_along}
 use Rattle.doc_records.specs.Trees.{IsTreeNode, tree_of}
-use Rattle.document_versions.specs.Spelled.{node_is_record}
+use Rattle.client_history.specs.Spelled.{node_is_record}
 use Rattle.heap_rule.specs.Asks.{known_of}
 use Rattle.heap_rule.specs.Facts.{is_term}
 use Rattle.heap_rule.specs.Lore.{known_at}

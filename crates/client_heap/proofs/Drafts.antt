@@ -1,9 +1,9 @@
 -- The draft, as its places and records change.
 use Rattle.std.proofs.Common.{◌≡◌, ◌<◌, ◌≤◌, ◌+◌, ℕ, List, [], length, sym}
 use Rattle.std.proofs.Common.{◌∙◌, ap, subst, arith}
-use Rattle.client_records.specs.declared.at.NodeAt.{NodeAt}
-use Rattle.client_records.specs.declared.at.NodeAt.TheVariants as at
-use Rattle.client_records.specs.Records.{IsRecord, known_term, stands_on}
+use Rattle.client_trees.specs.declared.at.NodeAt.{NodeAt}
+use Rattle.client_trees.specs.declared.at.NodeAt.TheVariants as at
+use Rattle.client_trees.specs.Records.{IsRecord, known_term, stands_on}
 use Rattle.client_trees.specs.Nodes.{IsTreeAt}
 use Rattle.doc_records.specs.Trees.{IsTreeNode}
 use Rattle.heap_rule.specs.Asks.{known_of}

@@ -10,15 +10,15 @@ use Rattle.std.proofs.lemmas.List.{length-append, length-map, length-take-le}
 use Rattle.std.proofs.lemmas.List.Elements.{All-contains}
 use Rattle.aged_nursery.specs.Aged.{Aged}
 use Rattle.cell_words.specs.Term.{Term}
-use Rattle.client_records.specs.declared.at.NodeAt.{NodeAt}
-use Rattle.client_records.specs.declared.at.NodeAt.TheVariants as at
-use Rattle.client_records.specs.Records.{IsRecord, known_term}
-use Rattle.client_records.proofs.Places.{at_kept}
-use Rattle.client_records.proofs.Resting.{rests_stands}
+use Rattle.client_trees.specs.declared.at.NodeAt.{NodeAt}
+use Rattle.client_trees.specs.declared.at.NodeAt.TheVariants as at
+use Rattle.client_trees.specs.Records.{IsRecord, known_term}
+use Rattle.client_trees.proofs.Places.{at_kept}
+use Rattle.client_trees.proofs.Resting.{rests_stands}
 use Rattle.client_session.specs.Handles.{Still}
 use Rattle.client_trees.specs.Nodes.{IsTreeAt}
 use Rattle.doc_records.specs.Trees.{IsTreeNode}
-use Rattle.document_versions.specs.Spelled.{node_is_record}
+use Rattle.client_history.specs.Spelled.{node_is_record}
 use Rattle.heap_rule.specs.Asks.{known_of}
 use Rattle.heap_rule.specs.Lore.{known_at}
 use Rattle.heap_rule.specs.declared.known.Known.{Known}

@@ -1,17 +1,17 @@
 -- What a call that carries everything on leaves of the client's state and of what it holds.
 use Rattle.std.proofs.Common.{◌≡◌, ◌≤◌, ◌+◌, ℕ, length, refl, sym}
 use Rattle.std.proofs.Common.{◌∙◌, ap, subst, arith}
-use Rattle.client_records.specs.declared.at.NodeAt.{NodeAt}
-use Rattle.client_records.specs.Records.{stands_on}
+use Rattle.client_trees.specs.declared.at.NodeAt.{NodeAt}
+use Rattle.client_trees.specs.Records.{stands_on}
 use Rattle.client_session.specs.Handles.{Edits, Still}
 use Rattle.client_trees.specs.Nodes.{IsTreeAt, tree_at}
-use Rattle.client_turns.specs.State.{Lasts, Rests}
+use Rattle.client_history.specs.State.{Lasts, Rests}
 use Rattle.doc_records.specs.Trees.{IsTreeNode, tree_of}
 use Rattle.minor_heap.specs.Nursery.{Nursery}
 use Rattle.mutator_seat.specs.Bound.{Bound}
 use Rattle.version_rule.specs.Pass.{Pass, commit_numbers}
 use Rattle.client_heap.specs.Carries.{Carries, Follows}
-use Rattle.client_heap.specs.Shows.{handles_of, node_term, state_of, stored}
+use Rattle.client_heap.specs.Shows.{handles_of, node_term, state_of}
 use Rattle.client_heap.specs.Sound.{IsSound}
 use Rattle.client_heap.proofs.Carrying.{stands_more}
 
@@ -102,6 +102,6 @@ module _ (m n : Bound Pass) (old new : Nursery)
   still_on = record {
     nodes = node_on;
     trees = tree_on;
-    versions = λ v is. c.versions (stored v) is.knows.there is;
-    roots = λ v is. ap tree_of (c.roots (stored v) is.knows.there is);
+    versions = λ v is. c.versions v is.knows.there is;
+    roots = λ v is. ap tree_of (c.roots v is.knows.there is);
   }

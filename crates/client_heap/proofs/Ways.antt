@@ -3,8 +3,8 @@ use Rattle.std.proofs.Common.{◌≡◌, ◌≤◌, ◌+◌, ◌-◌, ℕ, List,
 use Rattle.std.proofs.Common.{length, take, drop, refl, ◌∙◌}
 use Rattle.std.proofs.Common.{Option, Some, None, ap, arith, get_or}
 use Rattle.std.specs.Option.{option_and_then}
-use Rattle.client_records.specs.declared.at.NodeAt.{NodeAt}
-use Rattle.client_records.specs.declared.at.NodeAt.TheVariants as at
+use Rattle.client_trees.specs.declared.at.NodeAt.{NodeAt}
+use Rattle.client_trees.specs.declared.at.NodeAt.TheVariants as at
 use Rattle.client_trees.specs.Leaves.{IsLast}
 use Rattle.doc_tree.specs.Tree.{DocTree, child, node}
 

@@ -2,14 +2,14 @@
 -- there, and says what it said.
 -- Source: this project's.
 use Rattle.std.specs.Prelude.{ℕ, ◌≡◌, ◌<◌, ◌≤◌, length}
-use Rattle.client_records.specs.declared.at.NodeAt.{NodeAt}
-use Rattle.client_records.specs.Records.{stands_on, term_at}
+use Rattle.client_trees.specs.declared.at.NodeAt.{NodeAt}
+use Rattle.client_trees.specs.Records.{stands_on, term_at}
 use Rattle.minor_heap.specs.Nursery.{Nursery}
 use Rattle.mutator_seat.specs.Bound.{Bound}
 use Rattle.version_rule.specs.Pass.{Pass}
 use Rattle.version_store.specs.Held.{IsHeld, root_at}
 use Rattle.version_store.specs.Lasts.{IsSameMutator, LastsAcross}
-use Rattle.version_store.specs.declared.held.HeldVersion.{HeldVersion}
+use Rattle.version_rule.specs.declared.held.HeldVersion.{HeldVersion}
 
 -- of a mutator and its private heap before and after: it is the same mutator of the same heap, in
 -- or out as it was, with the same room

@@ -7,9 +7,9 @@ use Rattle.std.specs.Ordering.{Ordering-set}
 use Rattle.std.proofs.Math.Bool.{Bool-set}
 use Rattle.std.specs.declared.cmp.Ordering.TheVariants.{Less}
 use Rattle.cell_words.specs.Term.{IsFive, Term, five, null, num, term_code}
-use Rattle.client_records.specs.declared.at.NodeAt.{NodeAt}
-use Rattle.client_records.specs.declared.at.NodeAt.TheVariants as at
-use Rattle.client_records.specs.Records.{IsAmong, IsRecord, Rests, rests, stands_on}
+use Rattle.client_trees.specs.declared.at.NodeAt.{NodeAt}
+use Rattle.client_trees.specs.declared.at.NodeAt.TheVariants as at
+use Rattle.client_trees.specs.Records.{IsAmong, IsRecord, Rests, rests, stands_on}
 use Rattle.doc_records.specs.Texts.{IsName, IsText, IsTextCell, SpellsText, text_of}
 use Rattle.doc_records.specs.Trees.{IsEntryRecord, IsNodeRecord, IsSpelling, IsTreeNode, Role}
 use Rattle.doc_records.specs.Trees.{as_entry, as_node, tree_of}

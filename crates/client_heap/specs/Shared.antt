@@ -2,8 +2,8 @@
 -- Source: this project's.
 use Rattle.std.specs.Prelude.{ℕ, ◌≡◌, ◌<◌, length}
 use Rattle.cell_words.specs.Term.{Term}
-use Rattle.client_records.specs.declared.at.NodeAt.{NodeAt}
-use Rattle.client_records.specs.declared.at.NodeAt.TheVariants as at
+use Rattle.client_trees.specs.declared.at.NodeAt.{NodeAt}
+use Rattle.client_trees.specs.declared.at.NodeAt.TheVariants as at
 use Rattle.heap_rule.specs.Asks.{known_of}
 use Rattle.heap_rule.specs.declared.known.Known.TheVariants as knows
 use Rattle.mutator_seat.specs.Bound.{Bound}

@@ -2,13 +2,12 @@
 -- Source: this project's.
 use Rattle.std.specs.Prelude.{ℕ, ◌+◌, ◌-◌, length, Option, Some, None}
 use Rattle.cell_words.specs.Term.{Term}
-use Rattle.client_records.specs.Records.{term_at}
-use Rattle.client_records.specs.declared.at.NodeAt.{NodeAt}
-use Rattle.client_records.specs.declared.at.NodeAt.TheVariants as at
+use Rattle.client_trees.specs.Records.{term_at}
+use Rattle.client_trees.specs.declared.at.NodeAt.{NodeAt}
+use Rattle.client_trees.specs.declared.at.NodeAt.TheVariants as at
 use Rattle.client_session.specs.Handles.{Handles}
-use Rattle.client_session.specs.declared.held.HeldVersion.{HeldVersion}
 use Rattle.client_trees.specs.Nodes.{IsTreeAt, tree_at}
-use Rattle.client_turns.specs.State.{ClientState}
+use Rattle.client_history.specs.State.{ClientState}
 use Rattle.doc_records.specs.Trees.{tree_of}
 use Rattle.heap_rule.specs.Asks.{target}
 use Rattle.minor_heap.specs.Nursery.{Nursery}
@@ -16,7 +15,6 @@ use Rattle.mutator_seat.specs.Bound.{Bound}
 use Rattle.trails.specs.Marks.{marks_of}
 use Rattle.version_rule.specs.Pass.{Pass}
 use Rattle.version_store.specs.Held.{IsHeld, root_at}
-use Rattle.version_store.specs.declared.held.HeldVersion.{HeldVersion as StoreVersion}
 
 -- the term of the node that stands there
 abbrev pub node_term : Bound Pass → Nursery → NodeAt → Term
@@ -41,14 +39,10 @@ state_of m minor draft base = record {
   spare = minor.room - length minor.records;
 }
 
--- a version in the words of the store
-abbrev pub stored : HeldVersion → StoreVersion
-stored v = record { number = v.number; place = v.place }
-
 abbrev pub handles_of : Bound Pass → Nursery → Handles NodeAt
 handles_of m minor = record {
   is_node = λ a. IsTreeAt m minor a;
   tree = λ a. tree_at m minor a;
-  is_version = λ v. IsHeld m (stored v);
+  is_version = λ v. IsHeld m v;
   root = λ v. tree_of (root_at m v.place);
 }

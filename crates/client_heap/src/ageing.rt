@@ -2,10 +2,11 @@
 //! private heap, and the others are dropped. The shared heap has no part in it.
 ghost use Rattle.std.specs.Prelude.{◌≡◌, ◌<◌, ◌≤◌, ◌+◌, false, length, true};
 ghost use Rattle.client_heap.specs.Ages.{Ages, is_there};
-ghost use Rattle.client_records.specs.declared.at.NodeAt.TheVariants as at;
+ghost use Rattle.client_trees.specs.declared.at.NodeAt.TheVariants as at;
 ghost use Rattle.minor_heap.specs.Nursery.{Stands};
 
 use aged_nursery::AgedNursery;
+use client_history::EDIT_SPARE;
 use client_trees::NodeAt;
 use minor_heap::MinorRef;
 
@@ -122,7 +123,7 @@ pub(crate) fn age_draft(nursery: &mut AgedNursery, draft: &mut NodeAt, places: b
         → nursery.new.aged ≡ length nursery.new.heap.records }
     ensures once { 0 < nursery.old.aged → (nursery.new ≡ nursery.old) × (draft.new ≡ draft.old) }
     ensures spare { result ≡ true → (places ≡ true)
-        × (length nursery.new.heap.records + 2285 ≤ nursery.new.heap.room) }
+        × (length nursery.new.heap.records + EDIT_SPARE ≤ nursery.new.heap.room) }
     ensures fewer { length nursery.new.heap.records ≤ length nursery.old.heap.records }
     ensures room { nursery.new.heap.room ≡ nursery.old.heap.room }
     ensures records { nursery.new.records ≡ nursery.old.records }
@@ -131,7 +132,7 @@ pub(crate) fn age_draft(nursery: &mut AgedNursery, draft: &mut NodeAt, places: b
         return false;
     }
     *draft = age_node(nursery, *draft);
-    2285 <= nursery.heap().spare()
+    EDIT_SPARE <= nursery.heap().spare()
 }
 
 /// The same with a tree in the making as a second root; the first answer is where that is then.
@@ -150,7 +151,7 @@ pub(crate) fn age_both(
         → nursery.new.aged ≡ length nursery.new.heap.records }
     ensures once { 0 < nursery.old.aged → (nursery.new ≡ nursery.old) × (draft.new ≡ draft.old) }
     ensures spare { result.1 ≡ true → (places ≡ true)
-        × (length nursery.new.heap.records + 2285 ≤ nursery.new.heap.room) }
+        × (length nursery.new.heap.records + EDIT_SPARE ≤ nursery.new.heap.room) }
     ensures fewer { length nursery.new.heap.records ≤ length nursery.old.heap.records }
     ensures room { nursery.new.heap.room ≡ nursery.old.heap.room }
     ensures records { nursery.new.records ≡ nursery.old.records }
@@ -160,5 +161,5 @@ pub(crate) fn age_both(
     }
     let (first, second) = age_nodes(nursery, *draft, tree);
     *draft = first;
-    (second, 2285 <= nursery.heap().spare())
+    (second, EDIT_SPARE <= nursery.heap().spare())
 }

@@ -5,7 +5,7 @@ ghost use Rattle.std.specs.List.{All};
 ghost use Rattle.client_heap.specs.Carries.{Carries, Follows};
 ghost use Rattle.client_heap.specs.Shared.{HoldsTerm};
 ghost use Rattle.client_heap.specs.Shows.{node_term};
-ghost use Rattle.client_records.specs.declared.at.NodeAt.TheVariants as at;
+ghost use Rattle.client_trees.specs.declared.at.NodeAt.TheVariants as at;
 ghost use Rattle.client_trees.specs.Nodes.{IsTreeAt};
 ghost use Rattle.free_cells.specs.Hints.{queue_of};
 ghost use Rattle.heap_rule.specs.Asks.{known_of};
@@ -14,11 +14,10 @@ ghost use Rattle.trails.specs.Claims.{IsFull};
 ghost use Rattle.trails.specs.Stretches.{Had};
 ghost use Rattle.version_store.specs.Lasts.{marks};
 
-use client_session::HeapFull;
-use document_versions::Documents;
+use client_history::Documents;
 use free_cells::Hints;
 use minor_heap::{MinorHeap, MinorRef};
-use mutator_seat::Mutator;
+use mutator_seat::{HeapFull, Mutator};
 use promotion::Promoter;
 use std::sync::Wait;
 
@@ -60,7 +59,7 @@ pub(crate) fn share_node<R: Wait>(
     let _spare = minor.spare();
     match promoter.collect(rt, hints, m, minor, &[r], 1) {
         Ok(_) => Ok(()),
-        Err(_) => Err(HeapFull),
+        Err(full) => Err(full),
     }
 }
 
@@ -99,7 +98,7 @@ pub(crate) fn clear_records<R: Wait>(
     let _spare = minor.spare();
     match promoter.collect(rt, hints, m, minor, &[], base) {
         Ok(_) => Ok(()),
-        Err(_) => Err(HeapFull),
+        Err(full) => Err(full),
     }
 }
 
@@ -144,6 +143,6 @@ pub(crate) fn share_nodes<R: Wait>(
     let _spare = minor.spare();
     match promoter.collect(rt, hints, m, minor, roots, held) {
         Ok(first) => Ok(first),
-        Err(_) => Err(HeapFull),
+        Err(full) => Err(full),
     }
 }

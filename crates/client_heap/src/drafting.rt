@@ -4,7 +4,7 @@ ghost use Rattle.std.specs.Prelude.{[], max, true};
 ghost use Rattle.client_heap.specs.Carries.{Carries, Follows};
 ghost use Rattle.client_heap.specs.Shows.{node_term};
 ghost use Rattle.client_heap.specs.Sound.{IsCleared, IsSound, is_cleared};
-ghost use Rattle.client_records.specs.declared.at.NodeAt.TheVariants as at;
+ghost use Rattle.client_trees.specs.declared.at.NodeAt.TheVariants as at;
 ghost use Rattle.client_trees.specs.Nodes.{IsTreeAt};
 ghost use Rattle.free_cells.specs.Hints.{queue_of};
 ghost use Rattle.trails.specs.Claims.{IsFull};
@@ -15,12 +15,11 @@ use crate::ageing::age_draft;
 use crate::collecting::{clear_records, share_node};
 use crate::places::keep_alone;
 use aged_nursery::AgedNursery;
-use client_session::HeapFull;
+use client_history::{Documents, EDIT_SPARE, MADE_ROOM, READY_ROOM, SETTLED_ROOM};
 use client_trees::NodeAt;
-use document_versions::Documents;
 use free_cells::Hints;
 use minor_heap::{MinorHeap, MinorRef};
-use mutator_seat::Mutator;
+use mutator_seat::{HeapFull, Mutator};
 use promotion::Promoter;
 use std::sync::Wait;
 
@@ -35,7 +34,7 @@ pub(crate) fn make_draft(
 )
     requires sound { IsSound m.old minor.now draft.old base.old }
     requires node { IsTreeAt m.old minor.now at }
-    requires room { length m.old.seat.me.own.held + length minor.now.records + 9100
+    requires room { length m.old.seat.me.own.held + length minor.now.records + SETTLED_ROOM
         ≤ m.old.seat.me.room }
     ensures sound { IsSound m.new minor.now draft.new base.new }
     ensures term { node_term m.new minor.now draft.new ≡ node_term m.old minor.now at }
@@ -74,7 +73,7 @@ fn share_draft<R: Wait>(
 ) -> Result<(), HeapFull>
     requires sound { IsSound m.old minor.old (at.Minor r) base }
     requires copies { minor.old.room ≤ promoter.old }
-    requires ready { length m.old.seat.me.own.held + length minor.old.records + 9000
+    requires ready { length m.old.seat.me.own.held + length minor.old.records + READY_ROOM
         ≤ m.old.seat.me.room }
     ensures shared { OnOk result (IsSound m.new minor.new (at.Shared 1) 2) }
     ensures term { OnOk result (node_term m.new minor.new (at.Shared 1)
@@ -113,7 +112,7 @@ fn clear_around<R: Wait>(
     requires sound { IsSound m.old minor.old (at.Shared place) base }
     requires few { base ≤ 2 }
     requires copies { minor.old.room ≤ promoter.old }
-    requires ready { length m.old.seat.me.own.held + length minor.old.records + 9000
+    requires ready { length m.old.seat.me.own.held + length minor.old.records + READY_ROOM
         ≤ m.old.seat.me.room }
     ensures sound { IsSound m.new minor.new (at.Shared place) base }
     ensures term { node_term m.new minor.new (at.Shared place)
@@ -163,7 +162,7 @@ fn share_or_clear<R: Wait>(
 ) -> Result<(), HeapFull>
     requires sound { IsSound m.old minor.old draft.old base.old }
     requires copies { minor.old.room ≤ promoter.old }
-    requires ready { length m.old.seat.me.own.held + length minor.old.records + 9000
+    requires ready { length m.old.seat.me.own.held + length minor.old.records + READY_ROOM
         ≤ m.old.seat.me.room }
     ensures sound { IsSound m.new minor.new draft.new base.new }
     ensures cleared { OnOk result (IsCleared m.new minor.new) }
@@ -213,7 +212,7 @@ fn collect_draft<R: Wait>(
 ) -> Result<(), HeapFull>
     requires sound { IsSound m.old nursery.old.heap draft.old base.old }
     requires copies { nursery.old.heap.room ≤ promoter.old }
-    requires ready { length m.old.seat.me.own.held + length nursery.old.heap.records + 9000
+    requires ready { length m.old.seat.me.own.held + length nursery.old.heap.records + READY_ROOM
         ≤ m.old.seat.me.room }
     ensures sound { IsSound m.new nursery.new.heap draft.new base.new }
     ensures cleared { OnOk result (IsCleared m.new nursery.new.heap) }
@@ -246,7 +245,7 @@ pub(crate) fn has_room(m: &Mutator<'_, Documents>, minor: &MinorHeap) -> bool
     ensures room { result ≡ is_cleared m.now minor.now }
 {
     let records = minor.len() as usize;
-    20480 + records <= m.room() && 2285 <= minor.spare()
+    MADE_ROOM + records <= m.room() && EDIT_SPARE <= minor.spare()
 }
 
 /// Where there is too little room for an edit, drops all private records except those of the draft.
@@ -264,7 +263,7 @@ pub(crate) fn make_room<R: Wait>(
     requires sound { IsSound m.old nursery.old.heap draft.old base.old }
     requires whole { nursery.old.heap.room ≡ nursery.old.records }
     requires copies { nursery.old.heap.room ≤ promoter.old }
-    requires ready { length m.old.seat.me.own.held + length nursery.old.heap.records + 9000
+    requires ready { length m.old.seat.me.own.held + length nursery.old.heap.records + READY_ROOM
         ≤ m.old.seat.me.room }
     ensures sound { IsSound m.new nursery.new.heap draft.new base.new }
     ensures records { nursery.new.records ≡ nursery.old.records }
@@ -284,8 +283,8 @@ pub(crate) fn make_room<R: Wait>(
     ensures queue { queue_of hints.new ≡ queue_of hints.old }
 {
     let records = nursery.heap().len() as usize;
-    let places = 20480 + records <= m.room();
-    if places && 2285 <= nursery.heap().spare() {
+    let places = MADE_ROOM + records <= m.room();
+    if places && EDIT_SPARE <= nursery.heap().spare() {
         return Ok(());
     }
     if age_draft(nursery, draft, places) {

@@ -6,12 +6,14 @@ ghost use Rattle.client_heap.specs.Sound.{IsSound};
 use crate::cutting::cut_newer;
 use crate::seat::StoreSeat;
 use aged_nursery::AgedNursery;
-use client_session::{ClientHeap, CommitRefusal, HeapFull, HeldVersion};
+use client_session::{ClientHeap, CommitRefusal};
 use client_trees::NodeAt;
 use doc_tree::{EditFault, Names, NoMemory, Path, Text};
+use mutator_seat::HeapFull;
 use promotion::Promoter;
 use std::alloc::Global;
 use std::sync::Wait;
+use version_store::HeldVersion;
 
 /// What a client works on, borrowed for a command.
 #[derive(Drop)]
@@ -27,17 +29,6 @@ pub struct OwnHeap<'a, M: StoreSeat<Q>, Q> {
         (M.bound m.now) nursery.now.heap draft base },
     ghost whole: { nursery.now.heap.room ≡ nursery.now.records },
     ghost copies: { nursery.now.heap.room ≤ promoter.now },
-}
-
-/// A version in the words of the store.
-fn stored(v: HeldVersion) -> version_store::HeldVersion
-    ensures number { result.number ≡ v.number }
-    ensures place { result.place ≡ v.place }
-{
-    version_store::HeldVersion {
-        number: v.number,
-        place: v.place,
-    }
 }
 
 impl<'a, M: StoreSeat<Q>, Q> OwnHeap<'a, M, Q> {
@@ -92,9 +83,11 @@ impl<'a, M: StoreSeat<Q>, Q> OwnHeap<'a, M, Q> {
 impl<'a, M: StoreSeat<Q>, Q> ClientHeap for OwnHeap<'a, M, Q> {
     ghost use Rattle.client_heap.specs.Lent.{Lent, identity_of};
     ghost use Rattle.client_heap.specs.Shows.{cell_of, handles_of, state_of};
-    ghost use Rattle.client_records.specs.Records.{is_shared};
+    ghost use Rattle.client_trees.specs.Records.{is_shared};
 
     type At = NodeAt;
+
+    type Full = HeapFull;
 
     ghost state = { λ h. state_of (M.bound h.m.now) h.nursery.now.heap h.draft h.base };
 
@@ -120,24 +113,18 @@ impl<'a, M: StoreSeat<Q>, Q> ClientHeap for OwnHeap<'a, M, Q> {
     fn current(&mut self) -> HeldVersion {
         let _records = self.nursery.heap().len();
         let found = self.m.current();
-        HeldVersion {
-            number: found.number,
-            place: found.place,
-        }
+        found
     }
 
     fn tree(&mut self, v: HeldVersion) -> NodeAt {
         let _records = self.nursery.heap().len();
-        NodeAt::Shared(self.m.tree(stored(v)))
+        NodeAt::Shared(self.m.tree(v))
     }
 
     fn older(&mut self, v: HeldVersion, back: u64) -> Option<HeldVersion> {
         let _records = self.nursery.heap().len();
-        match self.m.older(stored(v), back) {
-            Ok(found) => Some(HeldVersion {
-                number: found.number,
-                place: found.place,
-            }),
+        match self.m.older(v, back) {
+            Ok(found) => Some(found),
             Err(_) => None,
         }
     }
@@ -207,7 +194,7 @@ impl<'a, M: StoreSeat<Q>, Q> ClientHeap for OwnHeap<'a, M, Q> {
 
     fn trim(&mut self, v: HeldVersion, keep: u64) {
         let _records = self.nursery.heap().len();
-        self.m.trim(stored(v), keep);
+        self.m.trim(v, keep);
     }
 
     fn has_room(&self) -> bool {

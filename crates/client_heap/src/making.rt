@@ -5,7 +5,7 @@ ghost use Rattle.client_heap.specs.Carries.{Carries, Follows};
 ghost use Rattle.client_heap.specs.Shared.{HoldsTerm, shared_place};
 ghost use Rattle.client_heap.specs.Shows.{node_term};
 ghost use Rattle.client_heap.specs.Sound.{HasRoom, IsSound};
-ghost use Rattle.client_records.specs.declared.at.NodeAt.TheVariants as at;
+ghost use Rattle.client_trees.specs.declared.at.NodeAt.TheVariants as at;
 ghost use Rattle.client_trees.specs.Nodes.{IsTreeAt, tree_at};
 ghost use Rattle.free_cells.specs.Hints.{queue_of};
 ghost use Rattle.trails.specs.Claims.{IsFull};
@@ -16,12 +16,11 @@ use crate::ageing::age_both;
 use crate::collecting::share_nodes;
 use crate::places::keep_pair;
 use aged_nursery::AgedNursery;
-use client_session::HeapFull;
+use client_history::{BATCH_ROOM, Documents, EDIT_SPARE, READY_ROOM};
 use client_trees::NodeAt;
-use document_versions::Documents;
 use free_cells::Hints;
 use minor_heap::MinorHeap;
-use mutator_seat::Mutator;
+use mutator_seat::{HeapFull, Mutator};
 use promotion::Promoter;
 use std::sync::Wait;
 
@@ -107,7 +106,7 @@ fn share_pair<R: Wait>(
     requires sound { IsSound m.old minor.old draft base }
     requires node { IsTreeAt m.old minor.old tree }
     requires copies { minor.old.room ≤ promoter.old }
-    requires ready { length m.old.seat.me.own.held + length minor.old.records + 9000
+    requires ready { length m.old.seat.me.own.held + length minor.old.records + READY_ROOM
         ≤ m.old.seat.me.room }
     ensures shared { OnOk result (IsSound m.new minor.new (at.Shared 1) 2) }
     ensures term { OnOk result (node_term m.new minor.new (at.Shared 1)
@@ -157,7 +156,7 @@ fn collect_pair<R: Wait>(
     requires sound { IsSound m.old nursery.old.heap draft base }
     requires node { IsTreeAt m.old nursery.old.heap tree }
     requires copies { nursery.old.heap.room ≤ promoter.old }
-    requires ready { length m.old.seat.me.own.held + length nursery.old.heap.records + 9000
+    requires ready { length m.old.seat.me.own.held + length nursery.old.heap.records + READY_ROOM
         ≤ m.old.seat.me.room }
     ensures shared { OnOk result (IsSound m.new nursery.new.heap (at.Shared 1) 2) }
     ensures term { OnOk result (node_term m.new nursery.new.heap (at.Shared 1)
@@ -216,7 +215,7 @@ pub(crate) fn make_room_for<R: Wait>(
     requires node { IsTreeAt m.old nursery.old.heap tree }
     requires whole { nursery.old.heap.room ≡ nursery.old.records }
     requires copies { nursery.old.heap.room ≤ promoter.old }
-    requires ready { length m.old.seat.me.own.held + length nursery.old.heap.records + 9000
+    requires ready { length m.old.seat.me.own.held + length nursery.old.heap.records + READY_ROOM
         ≤ m.old.seat.me.room }
     ensures sound { IsSound m.new nursery.new.heap draft.new base.new }
     ensures records { nursery.new.records ≡ nursery.old.records }
@@ -240,8 +239,8 @@ pub(crate) fn make_room_for<R: Wait>(
     ensures queue { queue_of hints.new ≡ queue_of hints.old }
 {
     let records = nursery.heap().len() as usize;
-    let places = 20011 + records <= m.room();
-    if places && 2285 <= nursery.heap().spare() {
+    let places = BATCH_ROOM + records <= m.room();
+    if places && EDIT_SPARE <= nursery.heap().spare() {
         return Ok(None);
     }
     let (next, enough) = age_both(nursery, draft, tree, places);

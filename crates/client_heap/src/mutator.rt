@@ -5,9 +5,9 @@
 ghost use Rattle.std.specs.Prelude.{◌≡◌, ◌<◌, ◌≤◌, ◌+◌, IfOk, OnErr};
 ghost use Rattle.std.specs.Prelude.{OnOk, Err, IfSome, IsNone, None, Ok, length, max, true};
 ghost use Rattle.client_heap.specs.Carries.{Carries, Follows};
-ghost use Rattle.client_heap.specs.Shows.{node_term, stored};
+ghost use Rattle.client_heap.specs.Shows.{node_term};
 ghost use Rattle.client_heap.specs.Sound.{HasRoom, IsCleared, IsSound};
-ghost use Rattle.client_records.specs.Records.{is_shared};
+ghost use Rattle.client_trees.specs.Records.{is_shared};
 ghost use Rattle.client_trees.specs.Nodes.{IsTreeAt, tree_at};
 ghost use Rattle.doc_records.specs.Trees.{tree_of};
 ghost use Rattle.free_cells.specs.Hints.{queue_of};
@@ -20,38 +20,34 @@ ghost use Rattle.version_store.specs.Lasts.{marks};
 use crate::seat::{DocumentSeat, StoreSeat};
 use crate::{drafting, making, places, publishing, walking};
 use aged_nursery::AgedNursery;
-use client_session::{CommitRefusal, HeapFull, HeldVersion};
+use client_history::{CALL_PLACES, Documents, READY_ROOM};
+use client_session::CommitRefusal;
 use client_trees::NodeAt;
 use doc_tree::{EditFault, Name, Names, NoMemory, Path, Text};
-use document_versions::Documents;
 use free_cells::Hints;
 use minor_heap::MinorHeap;
-use mutator_seat::Mutator;
+use mutator_seat::{HeapFull, Mutator};
 use promotion::Promoter;
 use std::alloc::Global;
 use std::sync::Wait;
-use version_store::Cut;
+use version_store::{Cut, HeldVersion, STORE_PLACES};
 
 impl<'h> DocumentSeat for Mutator<'h, Documents> {
     ghost bound = { λ m. m };
 
-    fn current(&mut self) -> version_store::HeldVersion {
+    fn current(&mut self) -> HeldVersion {
         version_store::current(self)
     }
 
-    fn tree(&mut self, v: version_store::HeldVersion) -> usize {
+    fn tree(&mut self, v: HeldVersion) -> usize {
         version_store::tree(self, v)
     }
 
-    fn older(
-        &mut self,
-        v: version_store::HeldVersion,
-        back: u64,
-    ) -> Result<version_store::HeldVersion, Cut> {
+    fn older(&mut self, v: HeldVersion, back: u64) -> Result<HeldVersion, Cut> {
         version_store::older(self, v, back)
     }
 
-    fn trim(&mut self, v: version_store::HeldVersion, keep: u64) {
+    fn trim(&mut self, v: HeldVersion, keep: u64) {
         version_store::trim(self, v, keep);
     }
 
@@ -143,7 +139,7 @@ impl<'h, 'q> StoreSeat<Hints<'q>> for Mutator<'h, Documents> {
         node: NodeAt,
     ) -> Result<NodeAt, HeapFull>
         requires inside { self.old.seat.me.presence.inside ≡ true }
-        requires room { length self.old.seat.me.own.held + length minor.now.records + 8192
+        requires room { length self.old.seat.me.own.held + length minor.now.records + CALL_PLACES
             ≤ self.old.seat.me.room }
         requires copies { minor.now.room ≤ promoter.old }
         requires node { IsTreeAt self.old minor.now node }
@@ -174,9 +170,9 @@ impl<'h, 'q> StoreSeat<Hints<'q>> for Mutator<'h, Documents> {
         versions: u64,
     ) -> Result<u64, CommitRefusal>
         requires inside { self.old.seat.me.presence.inside ≡ true }
-        requires room { length self.old.seat.me.own.held + 128
+        requires room { length self.old.seat.me.own.held + STORE_PLACES
             ≤ self.old.seat.me.room }
-        requires version { IsHeld self.old (stored v) }
+        requires version { IsHeld self.old v }
         requires node { IsTreeAt self.old minor.now node }
         requires shared { is_shared node ≡ true }
         requires below { v.number < versions }
@@ -200,7 +196,13 @@ impl<'h, 'q> StoreSeat<Hints<'q>> for Mutator<'h, Documents> {
             ≡ length self.old.seat.me.own.held }
         ensures queue { queue_of hints.new ≡ queue_of hints.old }
     {
-        publishing::commit(rt, hints, self, minor, v, node, versions)
+        match node {
+            NodeAt::Shared(place) => {
+                let made = publishing::commit_shared(rt, hints, self, minor, v, place, versions);
+                made
+            }
+            NodeAt::Minor(_) => unreachable!(),
+        }
     }
 
     fn make_room<R: Wait>(
@@ -215,8 +217,8 @@ impl<'h, 'q> StoreSeat<Hints<'q>> for Mutator<'h, Documents> {
         requires sound { IsSound self.old nursery.old.heap draft.old base.old }
         requires whole { nursery.old.heap.room ≡ nursery.old.records }
         requires copies { nursery.old.heap.room ≤ promoter.old }
-        requires ready { length self.old.seat.me.own.held + length nursery.old.heap.records + 9000
-            ≤ self.old.seat.me.room }
+        requires ready { length self.old.seat.me.own.held + length nursery.old.heap.records
+            + READY_ROOM ≤ self.old.seat.me.room }
         ensures sound { IsSound self.new nursery.new.heap draft.new base.new }
         ensures records { nursery.new.records ≡ nursery.old.records }
         ensures cleared { OnOk result (IsCleared self.new nursery.new.heap) }
@@ -252,8 +254,8 @@ impl<'h, 'q> StoreSeat<Hints<'q>> for Mutator<'h, Documents> {
         requires node { IsTreeAt self.old nursery.old.heap tree }
         requires whole { nursery.old.heap.room ≡ nursery.old.records }
         requires copies { nursery.old.heap.room ≤ promoter.old }
-        requires ready { length self.old.seat.me.own.held + length nursery.old.heap.records + 9000
-            ≤ self.old.seat.me.room }
+        requires ready { length self.old.seat.me.own.held + length nursery.old.heap.records
+            + READY_ROOM ≤ self.old.seat.me.room }
         ensures sound { IsSound self.new nursery.new.heap draft.new base.new }
         ensures records { nursery.new.records ≡ nursery.old.records }
         ensures room { OnOk result (HasRoom self.new nursery.new.heap) }

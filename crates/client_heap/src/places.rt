@@ -3,11 +3,11 @@
 ghost use Rattle.std.specs.Prelude.{ℕ, ◌≡◌, ◌<◌, ◌≤◌, ◌+◌, ◌==◌, length, true};
 ghost use Rattle.client_heap.specs.Carries.{Carries};
 ghost use Rattle.client_heap.specs.Shows.{node_term};
-ghost use Rattle.client_records.specs.declared.at.NodeAt.TheVariants as at;
+ghost use Rattle.client_trees.specs.declared.at.NodeAt.TheVariants as at;
 ghost use Rattle.client_trees.specs.Nodes.{IsTreeAt};
 ghost use Rattle.heap_rule.specs.Asks.{known_of, target};
 
-use document_versions::Documents;
+use client_history::Documents;
 use minor_heap::MinorHeap;
 use mutator_seat::Mutator;
 

@@ -3,9 +3,8 @@
 ghost use Rattle.std.specs.Prelude.{◌≡◌, ◌<◌, ◌≤◌, ◌+◌, Err, IfOk, OnErr};
 ghost use Rattle.std.specs.Prelude.{OnOk, length, true};
 ghost use Rattle.client_heap.specs.Carries.{Carries};
-ghost use Rattle.client_heap.specs.Shows.{stored};
-ghost use Rattle.client_records.specs.Records.{is_shared};
-ghost use Rattle.client_records.specs.declared.at.NodeAt.TheVariants as at;
+ghost use Rattle.client_trees.specs.Records.{is_shared};
+ghost use Rattle.client_trees.specs.declared.at.NodeAt.TheVariants as at;
 ghost use Rattle.client_trees.specs.Nodes.{IsTreeAt, tree_at};
 ghost use Rattle.doc_records.specs.Trees.{tree_of};
 ghost use Rattle.free_cells.specs.Hints.{queue_of};
@@ -15,15 +14,15 @@ ghost use Rattle.version_rule.specs.Pass.{commit_numbers, committed};
 ghost use Rattle.version_store.specs.Held.{IsHeld, root_at};
 ghost use Rattle.version_store.specs.Lasts.{marks};
 
-use client_session::{CommitRefusal, HeapFull, HeldVersion};
+use client_history::{CALL_PLACES, Documents};
+use client_session::CommitRefusal;
 use client_trees::NodeAt;
-use document_versions::Documents;
 use free_cells::Hints;
 use minor_heap::{MinorHeap, MinorRef};
-use mutator_seat::Mutator;
+use mutator_seat::{HeapFull, Mutator};
 use promotion::Promoter;
 use std::sync::Wait;
-use version_store::CommitFault;
+use version_store::{CommitFault, HeldVersion, STORE_PLACES};
 
 /// A private node as a shared one, at the end of the held list.
 fn promote<R: Wait>(
@@ -55,12 +54,12 @@ fn promote<R: Wait>(
     let _spare = minor.spare();
     match promoter.promote(rt, hints, m, minor, r) {
         Ok(place) => Ok(place),
-        Err(_) => Err(HeapFull),
+        Err(full) => Err(full),
     }
 }
 
 /// Makes the next version, with the tree of the node at a place.
-fn commit_shared<R: Wait>(
+pub(crate) fn commit_shared<R: Wait>(
     rt: &R,
     hints: &mut Hints<'_>,
     m: &mut Mutator<'_, Documents>,
@@ -70,8 +69,8 @@ fn commit_shared<R: Wait>(
     versions: u64,
 ) -> Result<u64, CommitRefusal>
     requires inside { m.old.seat.me.presence.inside ≡ true }
-    requires room { length m.old.seat.me.own.held + 128 ≤ m.old.seat.me.room }
-    requires version { IsHeld m.old (stored v) }
+    requires room { length m.old.seat.me.own.held + STORE_PLACES ≤ m.old.seat.me.room }
+    requires version { IsHeld m.old v }
     requires node { IsTreeAt m.old minor.now (at.Shared place) }
     requires below { v.number < versions }
     requires few { length (commit_numbers m.old.seat.me.pass) < 100000 }
@@ -91,11 +90,7 @@ fn commit_shared<R: Wait>(
 {
     let _held = m.held_len();
     let _records = minor.len();
-    let version = version_store::HeldVersion {
-        number: v.number,
-        place: v.place,
-    };
-    match version_store::commit(rt, hints, m, version, place, versions) {
+    match version_store::commit(rt, hints, m, v, place, versions) {
         Ok(number) => Ok(number),
         Err(CommitFault::Moved { .. }) => Err(CommitRefusal::Moved),
         Err(CommitFault::Full(_)) => Err(CommitRefusal::Full),
@@ -113,7 +108,7 @@ pub(crate) fn share<R: Wait>(
     node: NodeAt,
 ) -> Result<NodeAt, HeapFull>
     requires inside { m.old.seat.me.presence.inside ≡ true }
-    requires room { length m.old.seat.me.own.held + length minor.now.records + 8192
+    requires room { length m.old.seat.me.own.held + length minor.now.records + CALL_PLACES
         ≤ m.old.seat.me.room }
     requires copies { minor.now.room ≤ promoter.old }
     requires node { IsTreeAt m.old minor.now node }
@@ -135,44 +130,5 @@ pub(crate) fn share<R: Wait>(
             Ok(place) => Ok(NodeAt::Shared(place)),
             Err(full) => Err(full),
         },
-    }
-}
-
-/// Makes the next version, with the tree of a shared node.
-pub(crate) fn commit<R: Wait>(
-    rt: &R,
-    hints: &mut Hints<'_>,
-    m: &mut Mutator<'_, Documents>,
-    minor: &MinorHeap,
-    v: HeldVersion,
-    node: NodeAt,
-    versions: u64,
-) -> Result<u64, CommitRefusal>
-    requires inside { m.old.seat.me.presence.inside ≡ true }
-    requires room { length m.old.seat.me.own.held + 128 ≤ m.old.seat.me.room }
-    requires version { IsHeld m.old (stored v) }
-    requires node { IsTreeAt m.old minor.now node }
-    requires shared { is_shared node ≡ true }
-    requires below { v.number < versions }
-    requires few { length (commit_numbers m.old.seat.me.pass) < 100000 }
-    ensures number { IfOk result (λ number. number ≡ v.number + 1) }
-    ensures pass { OnOk result (m.new.seat.me.pass ≡ committed (v.number + 1)
-        (tree_of (root_at m.old v.place)) (tree_at m.old minor.now node) m.old.seat.me.pass) }
-    ensures rose { OnOk result (m.old.seat.me.own.claims < m.new.seat.me.own.claims) }
-    ensures same { OnErr result (commit_numbers m.new.seat.me.pass
-        ≡ commit_numbers m.old.seat.me.pass) }
-    ensures moved { result ≡ Err CommitRefusal.Moved → v.number < m.new.seat.me.pass.seen }
-    ensures full { result ≡ Err CommitRefusal.Full → Had (IsFull m.old.seat.me.shape.cells)
-        (marks m.old) (marks m.new) }
-    ensures carries { Carries (length m.old.seat.me.own.held) m.old m.new minor.now minor.now }
-    ensures held { length m.new.seat.me.own.held ≡ length m.old.seat.me.own.held }
-    ensures queue { queue_of hints.new ≡ queue_of hints.old }
-{
-    match node {
-        NodeAt::Shared(place) => {
-            let made = commit_shared(rt, hints, m, minor, v, place, versions);
-            made
-        }
-        NodeAt::Minor(_) => unreachable!(),
     }
 }

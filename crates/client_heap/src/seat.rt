@@ -7,10 +7,10 @@ ghost use Rattle.std.specs.Option.{ForSome, option_map};
 ghost use Rattle.std.specs.Result.{ForOk};
 ghost use Rattle.cell_words.specs.declared.fields.Field.TheVariants as field;
 ghost use Rattle.client_heap.specs.Carries.{Carries, Follows};
-ghost use Rattle.client_heap.specs.Shows.{node_term, stored};
+ghost use Rattle.client_heap.specs.Shows.{node_term};
 ghost use Rattle.client_heap.specs.Sound.{HasRoom, IsCleared, IsSound, is_cleared};
-ghost use Rattle.client_records.specs.Records.{is_shared};
-ghost use Rattle.client_records.specs.declared.at.NodeAt.TheVariants as at;
+ghost use Rattle.client_trees.specs.Records.{is_shared};
+ghost use Rattle.client_trees.specs.declared.at.NodeAt.TheVariants as at;
 ghost use Rattle.client_trees.specs.Leaves.{Leaves, LeavesAll};
 ghost use Rattle.client_trees.specs.Nodes.{IsTreeAt, tree_at};
 ghost use Rattle.doc_records.specs.Texts.{name_asks, text_asks};
@@ -33,14 +33,17 @@ ghost use Rattle.version_store.specs.Lasts.{IsSameMutator, LastsAcross, marks};
 ghost use Rattle.version_store.specs.Older.{GivesOlder, Trims};
 
 use aged_nursery::AgedNursery;
-use client_session::{CommitRefusal, HeapFull, HeldVersion};
+use client_history::{CALL_PLACES, EDIT_SPARE, READY_ROOM, SETTLED_ROOM};
+use client_session::CommitRefusal;
 use client_trees::NodeAt;
+use doc_edits::EDIT_RECORDS;
 use doc_tree::{EditFault, Name, Names, NoMemory, Path, Text};
 use minor_heap::MinorHeap;
+use mutator_seat::HeapFull;
 use promotion::Promoter;
 use std::alloc::Global;
 use std::sync::Wait;
-use version_store::Cut;
+use version_store::{Cut, HeldVersion, STORE_PLACES};
 
 /// A mutator of documents, as one of a type that names no lifetime: the state of what is lent in a
 /// struct is known again when the loan ends, if its type is a parameter.
@@ -48,9 +51,9 @@ pub trait DocumentSeat {
     ghost bound: { Self → Bound Pass };
 
     /// The latest version.
-    fn current(&mut self) -> version_store::HeldVersion
+    fn current(&mut self) -> HeldVersion
         requires inside { (bound self.old).seat.me.presence.inside ≡ true }
-        requires room { length (bound self.old).seat.me.own.held + 128
+        requires room { length (bound self.old).seat.me.own.held + STORE_PLACES
             ≤ (bound self.old).seat.me.room }
         ensures latest { GivesLatest (bound self.old) (bound self.new) result }
         ensures seen { (bound self.new).seat.me.pass.seen ≡ result.number }
@@ -60,9 +63,9 @@ pub trait DocumentSeat {
         ensures same { IsSameMutator (bound self.old) (bound self.new) };
 
     /// The root of a version's tree.
-    fn tree(&mut self, v: version_store::HeldVersion) -> usize
+    fn tree(&mut self, v: HeldVersion) -> usize
         requires inside { (bound self.old).seat.me.presence.inside ≡ true }
-        requires room { length (bound self.old).seat.me.own.held + 128
+        requires room { length (bound self.old).seat.me.own.held + STORE_PLACES
             ≤ (bound self.old).seat.me.room }
         requires version { IsHeld (bound self.old) v }
         ensures root { GivesRoot IsTreeNode tree_of (bound self.old) (bound self.new) v result }
@@ -70,13 +73,9 @@ pub trait DocumentSeat {
         ensures same { IsSameMutator (bound self.old) (bound self.new) };
 
     /// The version so many below, or a newer one that was read.
-    fn older(
-        &mut self,
-        v: version_store::HeldVersion,
-        back: u64,
-    ) -> Result<version_store::HeldVersion, Cut>
+    fn older(&mut self, v: HeldVersion, back: u64) -> Result<HeldVersion, Cut>
         requires inside { (bound self.old).seat.me.presence.inside ≡ true }
-        requires room { length (bound self.old).seat.me.own.held + 128
+        requires room { length (bound self.old).seat.me.own.held + STORE_PLACES
             ≤ (bound self.old).seat.me.room }
         requires version { IsHeld (bound self.old) v }
         requires back { back ≤ v.number }
@@ -92,9 +91,9 @@ pub trait DocumentSeat {
         ensures same { IsSameMutator (bound self.old) (bound self.new) };
 
     /// Cuts off what is older than the `keep` versions up to this one.
-    fn trim(&mut self, v: version_store::HeldVersion, keep: u64)
+    fn trim(&mut self, v: HeldVersion, keep: u64)
         requires inside { (bound self.old).seat.me.presence.inside ≡ true }
-        requires room { length (bound self.old).seat.me.own.held + 128
+        requires room { length (bound self.old).seat.me.own.held + STORE_PLACES
             ≤ (bound self.old).seat.me.room }
         requires version { IsHeld (bound self.old) v }
         requires setting { keep ≡ (bound self.old).seat.me.pass.keep }
@@ -108,7 +107,7 @@ pub trait DocumentSeat {
     fn node_below(&mut self, minor: &mut MinorHeap, at: NodeAt, names: &[Name]) -> Option<NodeAt>
         requires inside { (bound self.old).seat.me.presence.inside ≡ true }
         requires node { IsTreeAt (bound self.old) minor.old at }
-        requires room { length (bound self.old).seat.me.own.held + (8192 + length names.now)
+        requires room { length (bound self.old).seat.me.own.held + (CALL_PLACES + length names.now)
             ≤ (bound self.old).seat.me.room }
         ensures tree { option_map (tree_at (bound self.new) minor.new) result
             ≡ node names.now (tree_at (bound self.old) minor.old at) }
@@ -132,7 +131,7 @@ pub trait DocumentSeat {
     ) -> Result<Text, NoMemory>
         requires inside { (bound self.old).seat.me.presence.inside ≡ true }
         requires node { IsTreeAt (bound self.old) minor.old at }
-        requires room { length (bound self.old).seat.me.own.held + 8192
+        requires room { length (bound self.old).seat.me.own.held + CALL_PLACES
             ≤ (bound self.old).seat.me.room }
         ensures text { IfOk result (λ text. text
             ≡ (tree_at (bound self.old) minor.old at).text) }
@@ -145,7 +144,7 @@ pub trait DocumentSeat {
     fn names(&mut self, alloc: Global, minor: &mut MinorHeap, at: NodeAt) -> Result<Names, NoMemory>
         requires inside { (bound self.old).seat.me.presence.inside ≡ true }
         requires node { IsTreeAt (bound self.old) minor.old at }
-        requires room { length (bound self.old).seat.me.own.held + 8192
+        requires room { length (bound self.old).seat.me.own.held + CALL_PLACES
             ≤ (bound self.old).seat.me.room }
         ensures names { IfOk result (λ names. names
             ≡ names_of (tree_at (bound self.old) minor.old at).kids) }
@@ -158,7 +157,7 @@ pub trait DocumentSeat {
     fn count(&mut self, minor: &mut MinorHeap, at: NodeAt) -> u64
         requires inside { (bound self.old).seat.me.presence.inside ≡ true }
         requires node { IsTreeAt (bound self.old) minor.old at }
-        requires room { length (bound self.old).seat.me.own.held + 8192
+        requires room { length (bound self.old).seat.me.own.held + CALL_PLACES
             ≤ (bound self.old).seat.me.room }
         ensures count { result ≡ count (tree_at (bound self.old) minor.old at) }
         ensures leaves { LeavesAll (bound self.old) (bound self.new) minor.old minor.new }
@@ -175,18 +174,18 @@ pub trait DocumentSeat {
     ) -> Result<NodeAt, EditFault>
         requires inside { (bound self.old).seat.me.presence.inside ≡ true }
         requires node { IsTreeAt (bound self.old) minor.old root }
-        requires room { length (bound self.old).seat.me.own.held + 8192
+        requires room { length (bound self.old).seat.me.own.held + CALL_PLACES
             ≤ (bound self.old).seat.me.room }
-        requires spare { length minor.old.records + 2285 ≤ minor.old.room }
+        requires spare { length minor.old.records + EDIT_SPARE ≤ minor.old.room }
         ensures tree { answered (tree_at (bound self.new) minor.new) result
             ≡ set_text path.now text.now (tree_at (bound self.old) minor.old root) }
         ensures node { ForOk result (IsTreeAt (bound self.new) minor.new) }
         ensures leaves { Leaves (bound self.old) (bound self.new) minor.old minor.new }
         ensures held { length (bound self.new).seat.me.own.held
-            ≤ length (bound self.old).seat.me.own.held + 8192 }
+            ≤ length (bound self.old).seat.me.own.held + CALL_PLACES }
         ensures refused { OnErr result (length (bound self.new).seat.me.own.held
             ≡ length (bound self.old).seat.me.own.held) }
-        ensures records { length minor.new.records ≤ length minor.old.records + 509 };
+        ensures records { length minor.new.records ≤ length minor.old.records + EDIT_RECORDS };
 
     /// The tree without the node at a path.
     fn delete(
@@ -197,18 +196,18 @@ pub trait DocumentSeat {
     ) -> Result<NodeAt, EditFault>
         requires inside { (bound self.old).seat.me.presence.inside ≡ true }
         requires node { IsTreeAt (bound self.old) minor.old root }
-        requires room { length (bound self.old).seat.me.own.held + 8192
+        requires room { length (bound self.old).seat.me.own.held + CALL_PLACES
             ≤ (bound self.old).seat.me.room }
-        requires spare { length minor.old.records + 2285 ≤ minor.old.room }
+        requires spare { length minor.old.records + EDIT_SPARE ≤ minor.old.room }
         ensures tree { answered (tree_at (bound self.new) minor.new) result
             ≡ delete path.now (tree_at (bound self.old) minor.old root) }
         ensures node { ForOk result (IsTreeAt (bound self.new) minor.new) }
         ensures leaves { Leaves (bound self.old) (bound self.new) minor.old minor.new }
         ensures held { length (bound self.new).seat.me.own.held
-            ≤ length (bound self.old).seat.me.own.held + 8192 }
+            ≤ length (bound self.old).seat.me.own.held + CALL_PLACES }
         ensures refused { OnErr result (length (bound self.new).seat.me.own.held
             ≡ length (bound self.old).seat.me.own.held) }
-        ensures records { length minor.new.records ≤ length minor.old.records + 509 };
+        ensures records { length minor.new.records ≤ length minor.old.records + EDIT_RECORDS };
 
     /// The tree with another node's tree at a path.
     fn attach(
@@ -221,26 +220,26 @@ pub trait DocumentSeat {
         requires inside { (bound self.old).seat.me.presence.inside ≡ true }
         requires node { IsTreeAt (bound self.old) minor.old root }
         requires sub { IsTreeAt (bound self.old) minor.old sub }
-        requires room { length (bound self.old).seat.me.own.held + 8192
+        requires room { length (bound self.old).seat.me.own.held + CALL_PLACES
             ≤ (bound self.old).seat.me.room }
-        requires spare { length minor.old.records + 2285 ≤ minor.old.room }
+        requires spare { length minor.old.records + EDIT_SPARE ≤ minor.old.room }
         ensures tree { answered (tree_at (bound self.new) minor.new) result
             ≡ attach path.now (tree_at (bound self.old) minor.old sub)
             (tree_at (bound self.old) minor.old root) }
         ensures node { ForOk result (IsTreeAt (bound self.new) minor.new) }
         ensures leaves { Leaves (bound self.old) (bound self.new) minor.old minor.new }
         ensures held { length (bound self.new).seat.me.own.held
-            ≤ length (bound self.old).seat.me.own.held + 8192 }
+            ≤ length (bound self.old).seat.me.own.held + CALL_PLACES }
         ensures refused { OnErr result (length (bound self.new).seat.me.own.held
             ≡ length (bound self.old).seat.me.own.held) }
-        ensures records { length minor.new.records ≤ length minor.old.records + 509 };
+        ensures records { length minor.new.records ≤ length minor.old.records + EDIT_RECORDS };
 
     /// Makes a node the draft.
     fn make_draft(&mut self, minor: &MinorHeap, draft: &mut NodeAt, base: &mut usize, at: NodeAt)
         requires sound { IsSound (bound self.old) minor.now draft.old base.old }
         requires node { IsTreeAt (bound self.old) minor.now at }
-        requires room { length (bound self.old).seat.me.own.held + length minor.now.records + 9100
-            ≤ (bound self.old).seat.me.room }
+        requires room { length (bound self.old).seat.me.own.held + length minor.now.records
+            + SETTLED_ROOM ≤ (bound self.old).seat.me.room }
         ensures sound { IsSound (bound self.new) minor.now draft.new base.new }
         ensures term { node_term (bound self.new) minor.now draft.new
             ≡ node_term (bound self.old) minor.now at }
@@ -309,7 +308,7 @@ pub trait StoreSeat<Q>: DocumentSeat {
     ) -> Result<NodeAt, HeapFull>
         requires inside { (Self.bound self.old).seat.me.presence.inside ≡ true }
         requires room { length (Self.bound self.old).seat.me.own.held
-            + length minor.now.records + 8192 ≤ (Self.bound self.old).seat.me.room }
+            + length minor.now.records + CALL_PLACES ≤ (Self.bound self.old).seat.me.room }
         requires copies { minor.now.room ≤ promoter.old }
         requires node { IsTreeAt (Self.bound self.old) minor.now node }
         ensures node { IfOk result (λ made. IsTreeAt (Self.bound self.new) minor.now made) }
@@ -337,9 +336,9 @@ pub trait StoreSeat<Q>: DocumentSeat {
         versions: u64,
     ) -> Result<u64, CommitRefusal>
         requires inside { (Self.bound self.old).seat.me.presence.inside ≡ true }
-        requires room { length (Self.bound self.old).seat.me.own.held + 128
+        requires room { length (Self.bound self.old).seat.me.own.held + STORE_PLACES
             ≤ (Self.bound self.old).seat.me.room }
-        requires version { IsHeld (Self.bound self.old) (stored v) }
+        requires version { IsHeld (Self.bound self.old) v }
         requires node { IsTreeAt (Self.bound self.old) minor.now node }
         requires shared { is_shared node ≡ true }
         requires below { v.number < versions }
@@ -378,7 +377,7 @@ pub trait StoreSeat<Q>: DocumentSeat {
         requires whole { nursery.old.heap.room ≡ nursery.old.records }
         requires copies { nursery.old.heap.room ≤ promoter.old }
         requires ready { length (Self.bound self.old).seat.me.own.held
-            + length nursery.old.heap.records + 9000 ≤ (Self.bound self.old).seat.me.room }
+            + length nursery.old.heap.records + READY_ROOM ≤ (Self.bound self.old).seat.me.room }
         ensures sound { IsSound (Self.bound self.new) nursery.new.heap draft.new base.new }
         ensures records { nursery.new.records ≡ nursery.old.records }
         ensures cleared { OnOk result (IsCleared (Self.bound self.new) nursery.new.heap) }
@@ -416,7 +415,7 @@ pub trait StoreSeat<Q>: DocumentSeat {
         requires whole { nursery.old.heap.room ≡ nursery.old.records }
         requires copies { nursery.old.heap.room ≤ promoter.old }
         requires ready { length (Self.bound self.old).seat.me.own.held
-            + length nursery.old.heap.records + 9000 ≤ (Self.bound self.old).seat.me.room }
+            + length nursery.old.heap.records + READY_ROOM ≤ (Self.bound self.old).seat.me.room }
         ensures sound { IsSound (Self.bound self.new) nursery.new.heap draft.new base.new }
         ensures records { nursery.new.records ≡ nursery.old.records }
         ensures room { OnOk result (HasRoom (Self.bound self.new) nursery.new.heap) }

@@ -2,13 +2,13 @@
 ghost use Rattle.std.specs.Prelude.{◌≡◌, ◌+◌, ◌≤◌, length, true};
 ghost use Rattle.std.specs.Option.{ForSome, option_map};
 ghost use Rattle.client_heap.specs.Carries.{Carries};
-ghost use Rattle.client_records.specs.Records.{is_shared};
+ghost use Rattle.client_trees.specs.Records.{is_shared};
 ghost use Rattle.client_trees.specs.Nodes.{IsTreeAt, tree_at};
 ghost use Rattle.doc_tree.specs.Tree.{child as child_of_name, node};
 
+use client_history::{CALL_PLACES, Documents};
 use client_trees::{NodeAt, child};
 use doc_tree::Name;
-use document_versions::Documents;
 use minor_heap::MinorHeap;
 use mutator_seat::Mutator;
 
@@ -22,7 +22,7 @@ pub(crate) fn node_below(
 ) -> Option<NodeAt>
     requires inside { m.old.seat.me.presence.inside ≡ true }
     requires node { IsTreeAt m.old minor.old at }
-    requires room { length m.old.seat.me.own.held + (8192 + length names.now)
+    requires room { length m.old.seat.me.own.held + (CALL_PLACES + length names.now)
         ≤ m.old.seat.me.room }
     ensures tree { option_map (tree_at m.new minor.new) result
         ≡ node names.now (tree_at m.old minor.old at) }
@@ -56,7 +56,7 @@ fn step(
 ) -> Option<NodeAt>
     requires inside { m.old.seat.me.presence.inside ≡ true }
     requires node { IsTreeAt m.old minor.old at }
-    requires room { length m.old.seat.me.own.held + 8192 ≤ m.old.seat.me.room }
+    requires room { length m.old.seat.me.own.held + CALL_PLACES ≤ m.old.seat.me.room }
     ensures child { option_map (tree_at m.new minor.new) result
         ≡ child_of_name name.now (tree_at m.old minor.old at).kids }
     ensures node { ForSome result (IsTreeAt m.new minor.new) }

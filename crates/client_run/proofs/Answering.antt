@@ -5,8 +5,8 @@ use Rattle.client_run.specs.Answers.{Answered, IsUntouched, Unanswered}
 use Rattle.client_run.specs.Own.{client_state}
 use Rattle.client_run.specs.declared.session.Session.{Session}
 use Rattle.client_session.specs.Turns.{Enters, IsPlain}
-use Rattle.client_turns.specs.Demands.{is_reading}
-use Rattle.client_turns.specs.Turns.{Lost}
+use Rattle.client_history.specs.Demands.{is_reading}
+use Rattle.client_history.specs.Turns.{Lost}
 use Rattle.doc_model.specs.declared.command.Command.{Command}
 use Rattle.doc_model.specs.declared.command.Reply.{Reply}
 use Rattle.mutator_seat.specs.Bound.{Bound}

@@ -6,15 +6,15 @@ use Rattle.aged_nursery.specs.Aged.{Aged}
 use Rattle.cell_words.specs.Term.{null}
 use Rattle.client_heap.specs.Shows.{node_term, state_of}
 use Rattle.client_heap.specs.Sound.{IsSound}
-use Rattle.client_records.specs.declared.at.NodeAt.{NodeAt}
-use Rattle.client_records.specs.declared.at.NodeAt.TheVariants as at
-use Rattle.client_records.specs.Records.{IsAmong, Rests, rests, stands_on, term_at, terms_known}
+use Rattle.client_trees.specs.declared.at.NodeAt.{NodeAt}
+use Rattle.client_trees.specs.declared.at.NodeAt.TheVariants as at
+use Rattle.client_trees.specs.Records.{IsAmong, Rests, rests, stands_on, term_at, terms_known}
 use Rattle.client_session.specs.declared.journal.Journal.{Journal}
 use Rattle.client_session.specs.Turns.{InStep}
-use Rattle.client_turns.specs.State.{ClientState}
+use Rattle.client_history.specs.State.{ClientState}
 use Rattle.doc_records.specs.Trees.{IsTreeNode, tree_of}
 use Rattle.doc_tree.specs.Tree.{empty}
-use Rattle.document_versions.specs.Spelled.{bare_is_empty, bare_is_node}
+use Rattle.client_history.specs.Spelled.{bare_is_empty, bare_is_node}
 use Rattle.heap_rule.specs.declared.known.Known.{Known}
 use Rattle.minor_heap.specs.declared.fields.MinorField.{MinorField}
 use Rattle.minor_heap.specs.declared.fields.MinorField.TheVariants as field

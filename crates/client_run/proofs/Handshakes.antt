@@ -6,12 +6,12 @@ use Rattle.std.proofs.Common.{◌≡◌, ℕ, List, length, sym}
 use Rattle.std.proofs.Common.{◌∙◌, ap, subst}
 use Rattle.std.proofs.Common.{arith}
 use Rattle.client_heap.specs.Sound.{IsSound}
-use Rattle.client_records.specs.Records.{stands_on, term_at}
+use Rattle.client_trees.specs.Records.{stands_on, term_at}
 use Rattle.client_session.specs.Turns.{bounds}
-use Rattle.client_turns.specs.State.{IsReady}
-use Rattle.client_turns.specs.Turns.{Lost}
-use Rattle.client_turns.proofs.States.{small_still}
-use Rattle.client_turns.proofs.Stepping.{in_step_lost}
+use Rattle.client_history.specs.State.{IsReady}
+use Rattle.client_history.specs.Turns.{Lost}
+use Rattle.client_history.proofs.States.{small_still}
+use Rattle.client_history.proofs.Stepping.{in_step_lost}
 use Rattle.core_machine.specs.Own.{no_own}
 use Rattle.core_machine.specs.Trail.{own_along}
 use Rattle.core_machine.specs.declared.events.Taken.{Taken}

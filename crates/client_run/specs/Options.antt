@@ -2,8 +2,9 @@
 -- heap that they ask for.
 -- Source: this project's.
 use Rattle.std.specs.Prelude.{ℕ, ◌≤◌}
+use Rattle.client_history.specs.declared.places.TheConstants.{LEAST_MINOR}
 use Rattle.client_run.specs.declared.options.Options.{Options}
-use Rattle.client_run.specs.declared.session.Limits.{Limits as ClientLimits}
+use Rattle.client_session.specs.declared.journal.Limits.{Limits as ClientLimits}
 use Rattle.doc_model.specs.Answers.{Limits}
 use Rattle.heap_rule.specs.Shape.{Shape}
 use Rattle.version_rule.specs.Opening.{first_rows}
@@ -11,7 +12,7 @@ use Rattle.version_rule.specs.Opening.{first_rows}
 -- each number is within its range
 pub record IsWithin (o : Options) : Type 0 where
   pub cells : (64 ≤ o.cells) × (o.cells ≤ 4_194_304)
-  pub minor : (4_096 ≤ o.minor) × (o.minor ≤ 262_144)
+  pub minor : (LEAST_MINOR ≤ o.minor) × (o.minor ≤ 262_144)
   pub keep : (1 ≤ o.keep) × (o.keep ≤ 100)
   pub versions : (1 ≤ o.versions) × (o.versions ≤ 1_000_000)
   pub cycles : o.cycles ≤ 4_000_000_000

@@ -4,10 +4,11 @@
 use Rattle.std.specs.Prelude.{ℕ, ◌≡◌, ◌≤◌, ◌+◌, ◌*◌, true, [], length}
 use Rattle.client_heap.specs.Shows.{state_of}
 use Rattle.client_heap.specs.Sound.{IsSound}
-use Rattle.client_run.specs.declared.session.Limits.{Limits}
+use Rattle.client_history.specs.declared.places.TheConstants.{PLACES_BESIDES, PLACES_PER_RECORD}
+use Rattle.client_session.specs.declared.journal.Limits.{Limits}
 use Rattle.client_run.specs.declared.session.Session.{Session}
 use Rattle.client_session.specs.Turns.{InStep}
-use Rattle.client_turns.specs.State.{ClientState, IsReady}
+use Rattle.client_history.specs.State.{ClientState, IsReady}
 use Rattle.mutator_seat.specs.Bound.{Bound}
 use Rattle.version_rule.specs.Pass.{Pass}
 
@@ -35,7 +36,7 @@ pub record IsBegun (keep minor : ℕ) (m : Bound Pass) : Type 0 where
   pub one : length m.seat.me.own.held ≡ 1
   pub keep_is : m.seat.me.pass.keep ≡ keep
   pub none_made : m.seat.me.pass.commits ≡ []
-  pub room : 4 * minor + 16_384 ≤ m.seat.me.room
+  pub room : PLACES_PER_RECORD * minor + PLACES_BESIDES ≤ m.seat.me.room
 
 -- The session was made for this client, and answered nothing yet: its private heap is of as many
 -- records as it is to have, and it may answer by every mutator that has just begun.

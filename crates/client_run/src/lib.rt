@@ -14,5 +14,6 @@ mod over;
 mod session;
 pub mod theorems;
 
+pub use client_session::Limits;
 pub use options::Options;
-pub use session::{Limits, Session};
+pub use session::Session;

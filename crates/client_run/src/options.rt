@@ -1,6 +1,6 @@
 ghost use Rattle.std.specs.Prelude.{◌≡◌};
 
-use crate::session::Limits;
+use client_session::Limits;
 
 /// How a store is run, by numbers.
 #[derive(Clone, Copy, Debug, PartialEq, Eq)]

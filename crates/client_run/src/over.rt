@@ -3,7 +3,7 @@ ghost use Rattle.std.specs.Prelude.{◌≡◌, ◌<◌, IfOk, OnErr, false, leng
 ghost use Rattle.client_run.specs.Answers.{Answered, CollectsNone, HoldsNoMore, IsSameClient};
 ghost use Rattle.client_run.specs.Answers.{Unanswered};
 ghost use Rattle.client_run.specs.Own.{MayAnswer};
-ghost use Rattle.client_turns.specs.Demands.{is_reading, may_hold_more};
+ghost use Rattle.client_history.specs.Demands.{is_reading, may_hold_more};
 
 use crate::session::Session;
 use client_heap::{OwnHeap, StoreSeat};

@@ -3,31 +3,22 @@ ghost use Rattle.std.specs.Prelude.{◌≡◌, ◌<◌, ◌≤◌, IfOk, OnErr, 
 ghost use Rattle.client_run.specs.Answers.{Answered, CollectsNone, HoldsNoMore, IsSameClient};
 ghost use Rattle.client_run.specs.Answers.{Unanswered};
 ghost use Rattle.client_run.specs.Own.{IsNewSession, MayAnswer};
-ghost use Rattle.client_turns.specs.Demands.{is_reading, may_hold_more};
+ghost use Rattle.client_history.specs.Demands.{is_reading, may_hold_more};
 ghost use Rattle.free_cells.specs.Hints.{queue_of};
 
 use crate::over::answer_over;
 use aged_nursery::AgedNursery;
-use client_session::Journal;
+use client_history::{Documents, LEAST_MINOR};
+use client_session::{Journal, Limits};
 use client_trees::NodeAt;
 use doc_model::{Command, Log, Reply};
 use doc_tree::NoMemory;
-use document_versions::Documents;
 use free_cells::Hints;
 use minor_heap::MinorField;
 use mutator_seat::Mutator;
 use promotion::Promoter;
 use std::alloc::Global;
 use std::sync::Wait;
-
-/// How many versions can be asked for, the number of the last that can be made, and how many
-/// private records there is room for.
-#[derive(Clone, Copy, Debug, PartialEq, Eq)]
-pub struct Limits {
-    pub keep: u32,
-    pub versions: u32,
-    pub minor: u32,
-}
 
 /// What a client keeps from one command to the next. Its commands are calls of `answer`, each with
 /// the same mutator.
@@ -57,7 +48,7 @@ impl Session {
     /// here. Its mutator is one that is in, holds the anchor alone and made no version.
     pub fn new(alloc: Global, client: u32, limits: Limits) -> Result<Session, NoMemory>
         requires client { (1 ≤ client) × (client ≤ 64) }
-        requires minor { 4096 ≤ limits.minor }
+        requires minor { LEAST_MINOR ≤ limits.minor }
         ensures new { IfOk result (IsNewSession limits client) }
     {
         let mut nursery = AgedNursery::with_room(alloc, limits.minor)?;
@@ -71,14 +62,7 @@ impl Session {
         ];
         match nursery.heap_mut().make(fields) {
             Ok(made) => Ok(Session {
-                journal: Journal::new(
-                    alloc,
-                    client,
-                    client_session::Limits {
-                        keep: limits.keep,
-                        versions: limits.versions,
-                    },
-                ),
+                journal: Journal::new(alloc, client, limits),
                 nursery,
                 promoter,
                 draft: NodeAt::Minor(made),

@@ -11,12 +11,12 @@ use Rattle.client_session.specs.declared.journal.Journal.{Journal}
 use Rattle.client_session.proofs.Commits.{refused_ends}
 use Rattle.client_session.proofs.Editing.{edits_none, worked_begun}
 use Rattle.client_session.proofs.Rooms.{full_ends}
-use Rattle.client_turns.specs.Progress.{MakesNone}
-use Rattle.client_turns.specs.State.{ClientState}
-use Rattle.client_turns.specs.Turns.{Begun}
-use Rattle.client_turns.proofs.Reading.{read_on}
-use Rattle.client_turns.proofs.Spared.{all_spared}
-use Rattle.client_turns.proofs.States.{none_lost, none_still, none_then}
+use Rattle.client_history.specs.Progress.{MakesNone}
+use Rattle.client_history.specs.State.{ClientState}
+use Rattle.client_history.specs.Turns.{Begun}
+use Rattle.client_history.proofs.Reading.{read_on}
+use Rattle.client_history.proofs.Spared.{all_spared}
+use Rattle.client_history.proofs.States.{none_lost, none_still, none_then}
 use Rattle.doc_model.specs.Answers.{all_made, edit_made, refusal}
 use Rattle.doc_model.specs.declared.command.Command.TheVariants as command
 use Rattle.doc_model.specs.declared.command.Reply.TheVariants as reply

@@ -5,12 +5,12 @@ use Rattle.std.proofs.lemmas.Bool.{true≢false}
 use Rattle.client_session.specs.Turns.{Answered, Outrun, account_of, bounds}
 use Rattle.client_session.specs.declared.given.Given.{Given}
 use Rattle.client_session.specs.declared.journal.Journal.{Journal}
-use Rattle.client_turns.specs.Progress.{MakesNone, runs_out}
-use Rattle.client_turns.specs.State.{ClientState, IsReady, Lasts, Rests}
-use Rattle.client_turns.specs.Turns.{Begun, Turned}
-use Rattle.client_turns.proofs.States.{none_lost, none_then, rests_none}
-use Rattle.client_turns.proofs.Turning.{begun_full, begun_trimmed, begun_on, begun_refused}
-use Rattle.client_turns.proofs.Turning.{begun_worn, commit_made, made_on}
+use Rattle.client_history.specs.Progress.{MakesNone, runs_out}
+use Rattle.client_history.specs.State.{ClientState, IsReady, Lasts, Rests}
+use Rattle.client_history.specs.Turns.{Begun, Turned}
+use Rattle.client_history.proofs.States.{none_lost, none_then, rests_none}
+use Rattle.client_history.proofs.Turning.{begun_full, begun_trimmed, begun_on, begun_refused}
+use Rattle.client_history.proofs.Turning.{begun_worn, commit_made, made_on}
 use Rattle.doc_model.specs.Answers.{full_place, refusal}
 use Rattle.doc_model.specs.declared.command.Command.{Command}
 use Rattle.doc_model.specs.declared.command.Reply.{Reply}

@@ -9,14 +9,14 @@ use Rattle.client_session.specs.declared.given.Opened.{Opened}
 use Rattle.client_session.specs.declared.journal.Journal.{Journal}
 use Rattle.client_session.proofs.Editing.{edits_none}
 use Rattle.client_session.proofs.Readings.{account_is}
-use Rattle.client_turns.specs.Progress.{Drafts, MakesNone}
-use Rattle.client_turns.specs.State.{ClientState, IsReady, Lasts, Rests}
-use Rattle.client_turns.specs.Turns.{Turned}
-use Rattle.client_turns.proofs.Commands.{dput_full, dput_refused, dput_turned, take_absent}
-use Rattle.client_turns.proofs.Commands.{take_turned}
-use Rattle.client_turns.proofs.Reading.{known_on, read_on}
-use Rattle.client_turns.proofs.States.{none_then, rests_none}
-use Rattle.client_turns.proofs.Turning.{drafts_late}
+use Rattle.client_history.specs.Progress.{Drafts, MakesNone}
+use Rattle.client_history.specs.State.{ClientState, IsReady, Lasts, Rests}
+use Rattle.client_history.specs.Turns.{Turned}
+use Rattle.client_history.proofs.Commands.{dput_full, dput_refused, dput_turned, take_absent}
+use Rattle.client_history.proofs.Commands.{take_turned}
+use Rattle.client_history.proofs.Reading.{known_on, read_on}
+use Rattle.client_history.proofs.States.{none_then, rests_none}
+use Rattle.client_history.proofs.Turning.{drafts_late}
 use Rattle.doc_model.specs.Answers.{refusal}
 use Rattle.doc_model.specs.declared.command.Command.TheVariants as command
 use Rattle.doc_model.specs.declared.command.Reply.{Reply}

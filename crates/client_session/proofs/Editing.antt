@@ -7,12 +7,12 @@ use Rattle.client_session.specs.declared.given.Opened.{Opened}
 use Rattle.client_session.specs.declared.journal.Journal.{Journal}
 use Rattle.client_session.proofs.Readings.{account_is}
 use Rattle.client_session.proofs.Rooms.{same_none}
-use Rattle.client_turns.specs.Progress.{MakesNone, runs_out}
-use Rattle.client_turns.specs.State.{ClientState, Rests}
-use Rattle.client_turns.specs.Turns.{Begun}
-use Rattle.client_turns.proofs.Reading.{known_on, read_on}
-use Rattle.client_turns.proofs.States.{lasts_then}
-use Rattle.client_turns.proofs.Turning.{begun_new}
+use Rattle.client_history.specs.Progress.{MakesNone, runs_out}
+use Rattle.client_history.specs.State.{ClientState, Rests}
+use Rattle.client_history.specs.Turns.{Begun}
+use Rattle.client_history.proofs.Reading.{known_on, read_on}
+use Rattle.client_history.proofs.States.{lasts_then}
+use Rattle.client_history.proofs.Turning.{begun_new}
 use Rattle.doc_model.specs.Answers.{committed}
 use Rattle.doc_model.specs.Store.{answer, tree_at}
 use Rattle.doc_model.specs.declared.command.Command.{Command}

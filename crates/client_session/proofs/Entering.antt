@@ -8,10 +8,10 @@ use Rattle.std.specs.List.{filter}
 use Rattle.client_session.specs.Turns.{InStep, MayTurn, account_of, bounds}
 use Rattle.client_session.specs.declared.journal.Journal.{Journal}
 use Rattle.client_session.specs.declared.journal.Limits.{Limits as StoreLimits}
-use Rattle.client_turns.specs.Demands.{Demand}
-use Rattle.client_turns.specs.State.{ClientState}
-use Rattle.client_turns.specs.Turns.{IsInStep, Lost, Turned, account_in}
-use Rattle.client_turns.proofs.Stepping.{in_step_lost, in_step_turned}
+use Rattle.client_history.specs.Demands.{Demand}
+use Rattle.client_history.specs.State.{ClientState}
+use Rattle.client_history.specs.Turns.{IsInStep, Lost, Turned, account_in}
+use Rattle.client_history.proofs.Stepping.{in_step_lost, in_step_turned}
 use Rattle.doc_model.specs.Agreement.{ok_places}
 use Rattle.doc_model.specs.Answers.{Limits, is_ok}
 use Rattle.doc_model.specs.ClientLog.{ClientLog}

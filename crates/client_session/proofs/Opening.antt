@@ -2,11 +2,11 @@
 use Rattle.std.proofs.Common.{◌≡◌, ℕ, ◌≤◌, sym, ◌∙◌, subst}
 use Rattle.client_session.specs.Handles.{Handles, Still}
 use Rattle.client_session.specs.Turns.{Opens}
-use Rattle.client_session.specs.declared.held.HeldVersion.{HeldVersion}
+use Rattle.version_rule.specs.declared.held.HeldVersion.{HeldVersion}
 use Rattle.version_rule.specs.Shows.{version_asks}
-use Rattle.client_turns.specs.State.{ClientState, Rests}
-use Rattle.client_turns.proofs.Reading.{read_current, read_on, tree_known}
-use Rattle.client_turns.proofs.States.{rests_none, rests_then}
+use Rattle.client_history.specs.State.{ClientState, Rests}
+use Rattle.client_history.proofs.Reading.{read_current, read_on, tree_known}
+use Rattle.client_history.proofs.States.{rests_none, rests_then}
 use Rattle.doc_tree.specs.Tree.{DocTree}
 use Rattle.trails.specs.Asks.{Shows}
 use Rattle.version_rule.specs.Pass.{reading, seeing}

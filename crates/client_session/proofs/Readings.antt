@@ -7,14 +7,14 @@ use Rattle.client_session.specs.Turns.{bounds}
 use Rattle.client_session.specs.declared.given.Given.{Given}
 use Rattle.client_session.specs.declared.given.Opened.{Opened}
 use Rattle.client_session.specs.declared.journal.Journal.{Journal}
-use Rattle.client_turns.specs.Demands.{reply_asks}
-use Rattle.client_turns.specs.Progress.{HasRead, IsAccount, KnowsTree, MakesNone}
-use Rattle.client_turns.specs.State.{ClientState, IsReady, Rests}
-use Rattle.client_turns.specs.Turns.{Lost, Turned}
-use Rattle.client_turns.proofs.Commands.{old_before, old_gone, old_is}
-use Rattle.client_turns.proofs.Reading.{known_on, read_more, read_on, tree_known}
-use Rattle.client_turns.proofs.States.{none_lost, rests_none, rests_then}
-use Rattle.client_turns.proofs.Turning.{draft_turned, read_turned}
+use Rattle.client_history.specs.Demands.{reply_asks}
+use Rattle.client_history.specs.Progress.{HasRead, IsAccount, KnowsTree, MakesNone}
+use Rattle.client_history.specs.State.{ClientState, IsReady, Rests}
+use Rattle.client_history.specs.Turns.{Lost, Turned}
+use Rattle.client_history.proofs.Commands.{old_before, old_gone, old_is}
+use Rattle.client_history.proofs.Reading.{known_on, read_more, read_on, tree_known}
+use Rattle.client_history.proofs.States.{none_lost, rests_none, rests_then}
+use Rattle.client_history.proofs.Turning.{draft_turned, read_turned}
 use Rattle.doc_model.specs.Answers.{text_shown, told}
 use Rattle.doc_model.specs.Store.{answer}
 use Rattle.doc_model.specs.declared.command.Command.{Command}

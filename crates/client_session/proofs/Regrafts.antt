@@ -18,11 +18,11 @@ use Rattle.client_session.specs.declared.journal.Journal.{Journal}
 use Rattle.client_session.proofs.Commits.{stopped_ends, worn_ends}
 use Rattle.client_session.proofs.Editing.{edited_begun, edits_none, still_then, worked_begun}
 use Rattle.client_session.proofs.Rooms.{begins_of}
-use Rattle.client_turns.specs.Progress.{KnowsTree, MakesNone}
-use Rattle.client_turns.specs.State.{ClientState, IsReady, Rests}
-use Rattle.client_turns.specs.Turns.{Begun}
-use Rattle.client_turns.proofs.States.{none_lost, none_then, rests_none}
-use Rattle.client_turns.proofs.Turning.{begun_on}
+use Rattle.client_history.specs.Progress.{KnowsTree, MakesNone}
+use Rattle.client_history.specs.State.{ClientState, IsReady, Rests}
+use Rattle.client_history.specs.Turns.{Begun}
+use Rattle.client_history.proofs.States.{none_lost, none_then, rests_none}
+use Rattle.client_history.proofs.Turning.{begun_on}
 use Rattle.doc_model.specs.Answers.{attached, full_place}
 use Rattle.doc_model.specs.declared.command.Command.{Command}
 use Rattle.doc_model.specs.declared.command.Reply.TheVariants as reply

@@ -7,11 +7,11 @@ use Rattle.client_session.specs.declared.given.Opened.{Opened}
 use Rattle.client_session.specs.declared.journal.Journal.{Journal}
 use Rattle.client_session.proofs.Readings.{account_is}
 use Rattle.version_rule.specs.Shows.{version_asks}
-use Rattle.client_turns.specs.Progress.{MakesNone}
-use Rattle.client_turns.specs.State.{ClientState, Lasts, Rests, StaysSmall}
-use Rattle.client_turns.proofs.Reading.{read_current, read_late}
-use Rattle.client_turns.proofs.States.{rests_none}
-use Rattle.client_turns.proofs.Turning.{full_turned}
+use Rattle.client_history.specs.Progress.{MakesNone}
+use Rattle.client_history.specs.State.{ClientState, Lasts, Rests, StaysSmall}
+use Rattle.client_history.proofs.Reading.{read_current, read_late}
+use Rattle.client_history.proofs.States.{rests_none}
+use Rattle.client_history.proofs.Turning.{full_turned}
 use Rattle.doc_model.specs.Answers.{full_place}
 use Rattle.doc_model.specs.declared.command.Command.{Command}
 use Rattle.doc_model.specs.declared.command.Reply.TheVariants as reply

@@ -7,11 +7,11 @@ use Rattle.client_session.specs.Turns.{Answered, Ends, MayTurn, account_of, boun
 use Rattle.client_session.specs.declared.given.Given.{Given}
 use Rattle.client_session.specs.declared.journal.Journal.{Journal}
 use Rattle.client_session.proofs.Rooms.{may_on}
-use Rattle.client_turns.specs.Progress.{MakesNone}
-use Rattle.client_turns.specs.State.{ClientState, IsReady, OnlyReads}
-use Rattle.client_turns.specs.Turns.{Lost, Turned}
-use Rattle.client_turns.proofs.States.{lost_none, lost_then, none_lost}
-use Rattle.client_turns.proofs.Turning.{lost_turned, turned_on}
+use Rattle.client_history.specs.Progress.{MakesNone}
+use Rattle.client_history.specs.State.{ClientState, IsReady, OnlyReads}
+use Rattle.client_history.specs.Turns.{Lost, Turned}
+use Rattle.client_history.proofs.States.{lost_none, lost_then, none_lost}
+use Rattle.client_history.proofs.Turning.{lost_turned, turned_on}
 use Rattle.doc_model.specs.declared.answer.Account.{Account}
 use Rattle.doc_model.specs.declared.command.Command.{Command}
 use Rattle.doc_records.specs.Trees.{tree_of}

@@ -2,6 +2,7 @@
 -- Source: this project's.
 use Rattle.std.specs.Prelude.{ℕ, ◌≡◌, ◌≤◌, ◌<◌, List, Option, Some, None, Result, Ok, take, false}
 use Rattle.std.specs.Borrow.{Bor}
+use Rattle.client_history.specs.declared.places.TheConstants.{EDIT_SPARE, MADE_ROOM, SETTLED_ROOM}
 use Rattle.client_session.specs.Handles.{Handles, Still}
 use Rattle.client_session.specs.Turns.{Answered, MayTurn, Opens, account_of, bounds}
 use Rattle.client_session.specs.declared.given.Along.{Along}
@@ -10,9 +11,9 @@ use Rattle.client_session.specs.declared.given.Opened.{Opened}
 use Rattle.client_session.specs.declared.given.Tried.{Tried}
 use Rattle.client_session.specs.declared.given.Tried.TheVariants as tried
 use Rattle.client_session.specs.declared.journal.Journal.{Journal}
-use Rattle.client_turns.specs.Progress.{MakesNone, runs_out}
-use Rattle.client_turns.specs.State.{ClientState, IsReady}
-use Rattle.client_turns.specs.Turns.{Begun}
+use Rattle.client_history.specs.Progress.{MakesNone, runs_out}
+use Rattle.client_history.specs.State.{ClientState, IsReady}
+use Rattle.client_history.specs.Turns.{Begun}
 use Rattle.doc_model.specs.Answers.{committed, full_place}
 use Rattle.doc_model.specs.Store.{answer, tree_at}
 use Rattle.doc_model.specs.declared.command.Command.{Command}
@@ -57,14 +58,14 @@ module _ {At : Type 0} where
   -- The latest version was read, and what was made over the root made of it.
   pub record CarriesOn (along : Along) (s t : ClientState) (h k : Handles At) (root made : At)
       (next : Edited At) : Type 0 where
-    pub enough : 20_480 ≤ s.room
-    pub spare : 2_285 ≤ s.spare
+    pub enough : MADE_ROOM ≤ s.room
+    pub spare : EDIT_SPARE ≤ s.spare
     pub middle : ClientState
     pub opens : Opens s middle k next.opened
     pub none : MakesNone middle t
     pub source : SourceAgrees along.source (h.tree root) (k.tree next.opened.root)
     pub grafts : Grafts (take 1 along.path.now) h k root made next.opened.root next.node
-    pub room : 9_100 ≤ t.room
+    pub room : SETTLED_ROOM ≤ t.room
 
   -- what an edit made of a version's tree stands, with room to commit it
   pub record Stands (s : ClientState) (h : Handles At) (e : Edited At) : Type 0 where
@@ -72,7 +73,7 @@ module _ {At : Type 0} where
     pub root : h.is_node e.opened.root
     pub node : h.is_node e.node
     pub seen : e.opened.version.number ≤ s.pass.seen
-    pub room : 9_100 ≤ s.room
+    pub room : SETTLED_ROOM ≤ s.room
 
   -- what was made stands, and another client was faster
   pub record IsLost (v : ℕ) (s t : ClientState) (h k : Handles At) (at made : At) : Type 0 where

@@ -2,8 +2,9 @@
 -- that make nodes, and those that give back.
 -- Source: this project's.
 use Rattle.std.specs.Prelude.{ℕ, ◌≡◌, ◌≤◌, ◌+◌, ◌==◌, Bool, false, Option, Some, None}
-use Rattle.client_session.specs.declared.held.HeldVersion.{HeldVersion}
-use Rattle.client_turns.specs.State.{ClientState, Lasts}
+use Rattle.client_history.specs.declared.places.TheConstants.{EDIT_ROOM, EDIT_SPARE}
+use Rattle.version_rule.specs.declared.held.HeldVersion.{HeldVersion}
+use Rattle.client_history.specs.State.{ClientState, Lasts}
 use Rattle.doc_tree.specs.Tree.{DocTree}
 use Rattle.version_rule.specs.Pass.{commit_numbers}
 
@@ -29,8 +30,8 @@ pub record Edits (places : ℕ) (old new : ClientState) : Type 0 where
   pub pass : new.pass ≡ old.pass
   pub draft : new.draft ≡ old.draft
   pub base : new.base ≡ old.base
-  pub room : old.room ≤ new.room + (places + 10_477)
-  pub spare : old.spare ≤ new.spare + 2_285
+  pub room : old.room ≤ new.room + (places + EDIT_ROOM)
+  pub spare : old.spare ≤ new.spare + EDIT_SPARE
 
 -- A call that gives back: as `Rests 0`, but that more private records may have room.
 pub record GivesBack (old new : ClientState) : Type 0 where

@@ -2,14 +2,15 @@
 -- Source: this project's.
 use Rattle.std.specs.Prelude.{ℕ, ◌≡◌, ◌≤◌, ◌<◌, ◌++◌, [], ◌∷◌, Option}
 use Rattle.std.specs.Prelude.{Some, None, IfSome, Result, Ok, Err, IfOk, false, length}
+use Rattle.client_history.specs.declared.places.TheConstants.{BEGUN_ROOM, EDIT_SPARE}
 use Rattle.client_session.specs.Handles.{Handles}
 use Rattle.client_session.specs.declared.given.Given.{Given}
 use Rattle.client_session.specs.declared.given.Opened.{Opened}
 use Rattle.client_session.specs.declared.journal.Journal.{Journal}
 use Rattle.client_session.specs.declared.journal.Limits.{Limits as StoreLimits}
-use Rattle.client_turns.specs.Progress.{HasRead, KnowsTree}
-use Rattle.client_turns.specs.State.{ClientState, IsReady, Rests}
-use Rattle.client_turns.specs.Turns.{IsInStep, Lost, Turned, account_in, entry_for}
+use Rattle.client_history.specs.Progress.{HasRead, KnowsTree}
+use Rattle.client_history.specs.State.{ClientState, IsReady, Rests}
+use Rattle.client_history.specs.Turns.{IsInStep, Lost, Turned, account_in, entry_for}
 use Rattle.doc_model.specs.Answers.{Limits, is_full, is_ok}
 use Rattle.doc_model.specs.declared.answer.Account.{Account}
 use Rattle.doc_model.specs.declared.command.Command.{Command}
@@ -73,8 +74,8 @@ pub record Begins {At : Type 0} (old new : ClientState) (h : Handles At) (o : Op
     : Type 0 where
   pub read : HasRead o.version.number [] old new
   pub holds : HoldsOpen new h o
-  pub room : 20_478 ≤ new.room
-  pub spare : 2_285 ≤ new.spare
+  pub room : BEGUN_ROOM ≤ new.room
+  pub spare : EDIT_SPARE ≤ new.spare
 
 -- No room could be made, and then the latest version was read.
 pub record FindsFull (old new : ClientState) (shown : ℕ) : Type 0 where

@@ -5,8 +5,8 @@ ghost use Rattle.client_session.specs.Batches.{Moves, Works};
 ghost use Rattle.client_session.specs.Handles.{Edits, Still};
 ghost use Rattle.doc_tree.specs.Edits.{answered};
 ghost use Rattle.client_session.specs.Turns.{Begins, Ends, MayTurn};
-ghost use Rattle.client_turns.specs.Progress.{MakesNone};
-ghost use Rattle.client_turns.specs.State.{ClientState};
+ghost use Rattle.client_history.specs.Progress.{MakesNone};
+ghost use Rattle.client_history.specs.State.{ClientState};
 ghost use Rattle.doc_model.specs.Answers.{all_made, edit_made};
 ghost use Rattle.doc_model.specs.declared.command.Command.TheVariants as command;
 ghost use Rattle.doc_records.specs.Trees.{tree_of};
@@ -17,16 +17,16 @@ use crate::committing::{attached, begin};
 use crate::drafting::refused;
 use crate::given::{Given, Opened, Worked, brief};
 use crate::heap::ClientHeap;
-use crate::held::HeapFull;
 use crate::journal::Journal;
+use client_history::{EDIT_SPARE, NEXT_ROOM, SETTLED_ROOM};
 use doc_model::{Edit, Reply};
 use doc_tree::{EditFault, NoMemory};
 use std::sync::Wait;
 
 /// One edit of the tree of a node.
 fn edited<H: ClientHeap>(heap: &mut H, root: H::At, edit: &Edit) -> Result<H::At, EditFault>
-    requires room { 20010 ≤ (H.state heap.old).room }
-    requires spare { 2285 ≤ (H.state heap.old).spare }
+    requires room { NEXT_ROOM ≤ (H.state heap.old).room }
+    requires spare { EDIT_SPARE ≤ (H.state heap.old).spare }
     requires node { (H.shown heap.old).is_node root }
     ensures tree { answered (H.shown heap.new).tree result ≡ edit_made
         (tree_of (H.state heap.old).draft) edit.now ((H.shown heap.old).tree root) }
@@ -62,8 +62,8 @@ fn room_for<H: ClientHeap, R: Wait>(
     rt: &R,
     heap: &mut H,
     opened: Opened<H::At>,
-) -> Result<Option<Opened<H::At>>, HeapFull>
-    requires room { 9100 ≤ (H.state heap.old).room }
+) -> Result<Option<Opened<H::At>>, H::Full>
+    requires room { SETTLED_ROOM ≤ (H.state heap.old).room }
     requires version { (H.shown heap.old).is_version opened.version }
     requires node { (H.shown heap.old).is_node opened.root }
     requires seen { opened.version.number ≤ (H.state heap.old).pass.seen }
@@ -89,7 +89,7 @@ fn room_for<H: ClientHeap, R: Wait>(
                 Ok(None)
             }
         }
-        Err(HeapFull) => Err(HeapFull),
+        Err(full) => Err(full),
     }
 }
 
@@ -100,7 +100,7 @@ fn make_all<H: ClientHeap, R: Wait>(
     opened: Opened<H::At>,
     edits: &[Edit],
 ) -> Worked<H::At>
-    requires room { 9100 ≤ (H.state heap.old).room }
+    requires room { SETTLED_ROOM ≤ (H.state heap.old).room }
     requires version { (H.shown heap.old).is_version opened.version }
     requires node { (H.shown heap.old).is_node opened.root }
     requires seen { opened.version.number ≤ (H.state heap.old).pass.seen }
@@ -122,7 +122,7 @@ fn make_all<H: ClientHeap, R: Wait>(
                 Err(fault) => return Worked::Refused(fault),
             },
             Ok(None) => return Worked::Outrun,
-            Err(HeapFull) => return Worked::Full,
+            Err(_) => return Worked::Full,
         }
     }
     Worked::Made(working)
@@ -139,7 +139,7 @@ impl Journal {
         edits: &[Edit],
     ) -> Result<Option<Given>, NoMemory>
         requires may { MayTurn self.now (H.state heap.old) }
-        requires room { 9100 ≤ (H.state heap.old).room }
+        requires room { SETTLED_ROOM ≤ (H.state heap.old).room }
         requires version { (H.shown heap.old).is_version opened.version }
         requires node { (H.shown heap.old).is_node opened.root }
         requires seen { opened.version.number ≤ (H.state heap.old).pass.seen }
@@ -172,7 +172,7 @@ impl Journal {
         edits: &doc_model::Edits,
     ) -> Result<Option<Given>, NoMemory>
         requires may { MayTurn self.now (H.state heap.old) }
-        requires room { 9100 ≤ (H.state heap.old).room }
+        requires room { SETTLED_ROOM ≤ (H.state heap.old).room }
         ensures ends { Ends self.now (command.Batch edits.now) (H.state heap.old)
             (H.state heap.new) result }
         ensures spared { IsOk result }

@@ -7,13 +7,14 @@
 ghost use Rattle.std.specs.Prelude.{◌≡◌, ◌≤◌, IfSome, true};
 ghost use Rattle.client_session.specs.Carries.{CarriesOn, Grafts, SourceAgrees};
 ghost use Rattle.client_session.specs.Handles.{Edits, Still};
-ghost use Rattle.client_turns.specs.Progress.{MakesNone};
-ghost use Rattle.client_turns.specs.State.{IsReady, Rests};
+ghost use Rattle.client_history.specs.Progress.{MakesNone};
+ghost use Rattle.client_history.specs.State.{IsReady, Rests};
 ghost use Rattle.doc_tree.specs.Tree.{node};
 
 use crate::given::{Along, Edited};
 use crate::heap::ClientHeap;
 use crate::reading::open;
+use client_history::{EDIT_SPARE, READY_ROOM};
 use doc_tree::Path;
 use std::alloc::Global;
 
@@ -78,7 +79,7 @@ fn regraft<H: ClientHeap>(
     first: &Path,
 ) -> Option<H::At>
     requires room { 20024 ≤ (H.state heap.old).room }
-    requires spare { 2285 ≤ (H.state heap.old).spare }
+    requires spare { EDIT_SPARE ≤ (H.state heap.old).spare }
     requires root { (H.shown heap.old).is_node root }
     requires made { (H.shown heap.old).is_node made }
     requires newer { (H.shown heap.old).is_node newer }
@@ -113,7 +114,7 @@ pub(crate) fn carried<H: ClientHeap>(
     made: H::At,
     along: Along<'_>,
 ) -> Option<Edited<H::At>>
-    requires room { 9000 ≤ (H.state heap.old).room }
+    requires room { READY_ROOM ≤ (H.state heap.old).room }
     requires root { (H.shown heap.old).is_node root }
     requires made { (H.shown heap.old).is_node made }
     ensures carries { IfSome result (λ next. CarriesOn along.entry (H.state heap.old)

@@ -4,9 +4,9 @@ ghost use Rattle.std.specs.Prelude.{true};
 ghost use Rattle.client_session.specs.Carries.{Deletes, Makes, Stands, Tries, Works};
 ghost use Rattle.client_session.specs.Handles.{Edits, Still};
 ghost use Rattle.client_session.specs.Turns.{Begins, Ends, FindsFull, MayTurn, account_of, bounds};
-ghost use Rattle.client_turns.specs.Progress.{runs_out};
-ghost use Rattle.client_turns.specs.State.{ClientState};
-ghost use Rattle.client_turns.specs.Turns.{Begun};
+ghost use Rattle.client_history.specs.Progress.{runs_out};
+ghost use Rattle.client_history.specs.State.{ClientState};
+ghost use Rattle.client_history.specs.Turns.{Begun};
 ghost use Rattle.doc_tree.specs.Edits.{answered};
 ghost use Rattle.doc_model.specs.Answers.{attached, full_place};
 ghost use Rattle.doc_model.specs.declared.command.Command.{Command};
@@ -17,20 +17,22 @@ use crate::carrying::carried;
 use crate::drafting::refused;
 use crate::given::{Along, Edited, Given, Opened, Tried, brief};
 use crate::heap::ClientHeap;
-use crate::held::{CommitRefusal, HeapFull, HeldVersion};
 use crate::journal::Journal;
 use crate::reading::open;
+use crate::refusal::CommitRefusal;
 use crate::waiting::{back_off, waits_over};
+use client_history::{EDIT_SPARE, NEXT_ROOM, SETTLED_ROOM};
 use doc_model::Reply;
 use doc_tree::{EditFault, NoMemory, Path, Text};
 use std::alloc::Global;
 use std::sync::Wait;
 use thread_waits::Backoff;
+use version_rule::HeldVersion;
 
 /// Makes room for an edit and reads the latest version. Where the heap is full, that version's
 /// number.
 pub(crate) fn begin<H: ClientHeap, R: Wait>(rt: &R, heap: &mut H) -> Result<Opened<H::At>, u64>
-    requires room { 9100 ≤ (H.state heap.old).room }
+    requires room { SETTLED_ROOM ≤ (H.state heap.old).room }
     ensures begins { IfOk result (λ opened.
         Begins (H.state heap.old) (H.state heap.new) (H.shown heap.new) opened) }
     ensures shared { IfOk result (λ opened. H.shared opened.root ≡ true) }
@@ -39,7 +41,7 @@ pub(crate) fn begin<H: ClientHeap, R: Wait>(rt: &R, heap: &mut H) -> Result<Open
 {
     match heap.make_room(rt) {
         Ok(()) => Ok(open(heap)),
-        Err(HeapFull) => Err(heap.current().number),
+        Err(_) => Err(heap.current().number),
     }
 }
 
@@ -50,8 +52,8 @@ pub(crate) fn attached<H: ClientHeap>(
     from: &Path,
     to: &Path,
 ) -> Result<H::At, EditFault>
-    requires room { 20010 ≤ (H.state heap.old).room }
-    requires spare { 2285 ≤ (H.state heap.old).spare }
+    requires room { NEXT_ROOM ≤ (H.state heap.old).room }
+    requires spare { EDIT_SPARE ≤ (H.state heap.old).spare }
     requires node { (H.shown heap.old).is_node root }
     ensures tree { answered (H.shown heap.new).tree result ≡ attached to.now
         ((H.shown heap.old).tree root) (node «from».now ((H.shown heap.old).tree root)) }
@@ -111,7 +113,7 @@ impl Journal {
         at: H::At,
     ) -> Tried<H::At>
         requires may { MayTurn self.now (H.state heap.old) }
-        requires room { 9100 ≤ (H.state heap.old).room }
+        requires room { SETTLED_ROOM ≤ (H.state heap.old).room }
         requires version { (H.shown heap.old).is_version version }
         requires node { (H.shown heap.old).is_node at }
         requires seen { version.number ≤ (H.state heap.old).pass.seen }
@@ -132,7 +134,7 @@ impl Journal {
                 let tried = self.commit_shared(rt, heap, version, shared);
                 tried
             }
-            Err(HeapFull) => Tried::Answered(brief!(Reply::Full { shown }, shown)),
+            Err(_) => Tried::Answered(brief!(Reply::Full { shown }, shown)),
         }
     }
 
@@ -146,7 +148,7 @@ impl Journal {
         backoff: &mut Backoff,
     ) -> Tried<H::At>
         requires may { MayTurn self.now (H.state heap.old) }
-        requires room { 9100 ≤ (H.state heap.old).room }
+        requires room { SETTLED_ROOM ≤ (H.state heap.old).room }
         requires version { (H.shown heap.old).is_version version }
         requires node { (H.shown heap.old).is_node at }
         requires seen { version.number ≤ (H.state heap.old).pass.seen }
@@ -173,7 +175,7 @@ impl Journal {
         at: H::At,
     ) -> Result<Option<Given>, NoMemory>
         requires may { MayTurn self.now (H.state heap.old) }
-        requires room { 9100 ≤ (H.state heap.old).room }
+        requires room { SETTLED_ROOM ≤ (H.state heap.old).room }
         requires version { (H.shown heap.old).is_version version }
         requires node { (H.shown heap.old).is_node at }
         requires seen { version.number ≤ (H.state heap.old).pass.seen }
@@ -237,7 +239,7 @@ impl Journal {
         edited: Result<H::At, EditFault>,
     ) -> Result<Option<Given>, NoMemory>
         requires may { MayTurn self.now (H.state heap.old) }
-        requires room { 9100 ≤ (H.state heap.old).room }
+        requires room { SETTLED_ROOM ≤ (H.state heap.old).room }
         requires version { (H.shown heap.old).is_version version }
         requires node { IfOk edited (λ at. (H.shown heap.old).is_node at) }
         requires seen { version.number ≤ (H.state heap.old).pass.seen }
@@ -272,7 +274,7 @@ impl Journal {
         along: Along<'_>,
     ) -> Result<Option<Given>, NoMemory>
         requires may { MayTurn self.now (H.state heap.old) }
-        requires room { 9100 ≤ (H.state heap.old).room }
+        requires room { SETTLED_ROOM ≤ (H.state heap.old).room }
         requires version { (H.shown heap.old).is_version opened.version }
         requires root { (H.shown heap.old).is_node opened.root }
         requires node { IfOk edited (λ at. (H.shown heap.old).is_node at) }
@@ -308,7 +310,7 @@ impl Journal {
         path: &Path,
     ) -> Result<Option<Given>, NoMemory>
         requires may { MayTurn self.now (H.state heap.old) }
-        requires room { 9100 ≤ (H.state heap.old).room }
+        requires room { SETTLED_ROOM ≤ (H.state heap.old).room }
         requires version { (H.shown heap.old).is_version opened.version }
         requires root { (H.shown heap.old).is_node opened.root }
         requires node { IfOk edited (λ at. (H.shown heap.old).is_node at) }
@@ -338,7 +340,7 @@ impl Journal {
         text: &Text,
     ) -> Result<Option<Given>, NoMemory>
         requires may { MayTurn self.now (H.state heap.old) }
-        requires room { 9100 ≤ (H.state heap.old).room }
+        requires room { SETTLED_ROOM ≤ (H.state heap.old).room }
         ensures ends { Ends self.now (command.Put path.now text.now) (H.state heap.old)
             (H.state heap.new) result }
         ensures spared { IsOk result }
@@ -364,7 +366,7 @@ impl Journal {
         path: &Path,
     ) -> Result<Option<Given>, NoMemory>
         requires may { MayTurn self.now (H.state heap.old) }
-        requires room { 9100 ≤ (H.state heap.old).room }
+        requires room { SETTLED_ROOM ≤ (H.state heap.old).room }
         ensures ends { Ends self.now (command.Del path.now) (H.state heap.old) (H.state heap.new)
             result }
         ensures spared { IsOk result }
@@ -390,7 +392,7 @@ impl Journal {
         to: &Path,
     ) -> Result<Option<Given>, NoMemory>
         requires may { MayTurn self.now (H.state heap.old) }
-        requires room { 9100 ≤ (H.state heap.old).room }
+        requires room { SETTLED_ROOM ≤ (H.state heap.old).room }
         ensures ends { Ends self.now (command.Copy «from».now to.now) (H.state heap.old)
             (H.state heap.new) result }
         ensures spared { IsOk result }
@@ -419,7 +421,7 @@ impl Journal {
         path: &Path,
     ) -> Result<Option<Given>, NoMemory>
         requires may { MayTurn self.now (H.state heap.old) }
-        requires room { 9100 ≤ (H.state heap.old).room }
+        requires room { SETTLED_ROOM ≤ (H.state heap.old).room }
         ensures ends { Ends self.now (command.Publish path.now) (H.state heap.old)
             (H.state heap.new) result }
         ensures spared { IsOk result }

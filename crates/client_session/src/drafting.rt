@@ -7,8 +7,8 @@ ghost use Rattle.doc_model.specs.declared.command.Command.TheVariants as command
 use crate::committing::begin;
 use crate::given::{Given, brief};
 use crate::heap::ClientHeap;
-use crate::held::HeapFull;
 use crate::journal::Journal;
+use client_history::SETTLED_ROOM;
 use doc_model::Reply;
 use doc_tree::{EditFault, NoMemory, Path, Text};
 use std::sync::Wait;
@@ -40,7 +40,7 @@ impl Journal {
         text: &Text,
     ) -> Result<Option<Given>, NoMemory>
         requires may { MayTurn self.now (H.state heap.old) }
-        requires room { 9100 ≤ (H.state heap.old).room }
+        requires room { SETTLED_ROOM ≤ (H.state heap.old).room }
         ensures ends { Ends self.now (command.DraftPut path.now text.now) (H.state heap.old)
             (H.state heap.new) result }
         ensures spared { IsOk result }
@@ -48,7 +48,7 @@ impl Journal {
     {
         let shown = self.last;
         match heap.make_room(rt) {
-            Err(HeapFull) => Ok(Some(brief!(Reply::Full { shown }, shown))),
+            Err(_) => Ok(Some(brief!(Reply::Full { shown }, shown))),
             Ok(()) => {
                 let draft = heap.draft();
                 match heap.set_text(draft, path, text) {
@@ -73,7 +73,7 @@ impl Journal {
         path: &Path,
     ) -> Result<Option<Given>, NoMemory>
         requires may { MayTurn self.now (H.state heap.old) }
-        requires room { 9100 ≤ (H.state heap.old).room }
+        requires room { SETTLED_ROOM ≤ (H.state heap.old).room }
         ensures ends { Ends self.now (command.Take path.now) (H.state heap.old)
             (H.state heap.new) result }
         ensures spared { IsOk result }

@@ -1,9 +1,9 @@
 //! What a turn hands on: an answer, the latest version once it is read, what was made of it, or how
 //! far a batch came.
 
-use crate::held::HeldVersion;
 use doc_model::Reply;
 use doc_tree::{EditFault, Path};
+use version_rule::HeldVersion;
 
 /// What a command is given. The reply is there twice, for the client and for its log, since once a
 /// version is made nothing may fail any more.

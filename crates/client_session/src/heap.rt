@@ -6,8 +6,8 @@ ghost use Rattle.std.specs.Option.{option_map};
 ghost use Rattle.cell_words.specs.declared.fields.Field.TheVariants as field;
 ghost use Rattle.client_session.specs.Handles.{Edits, GivesBack, Handles, Still, is_one};
 ghost use Rattle.version_rule.specs.Shows.{version_asks};
-ghost use Rattle.client_turns.specs.State.{ClientState, IsReady, IsSettled, Lasts, Rests};
-ghost use Rattle.client_turns.specs.State.{StaysSmall};
+ghost use Rattle.client_history.specs.State.{ClientState, IsReady, IsSettled, Lasts, Rests};
+ghost use Rattle.client_history.specs.State.{StaysSmall};
 ghost use Rattle.doc_records.specs.Texts.{name_asks, text_asks};
 ghost use Rattle.doc_records.specs.Trees.{tree_of};
 ghost use Rattle.doc_tree.specs.Edits.{answered, attach, delete, set_text};
@@ -17,10 +17,14 @@ ghost use Rattle.trails.specs.Claims.{IsFull};
 ghost use Rattle.trails.specs.Stretches.{Had};
 ghost use Rattle.version_rule.specs.Pass.{commit_numbers, committed, reading, seeing};
 
-use crate::held::{CommitRefusal, HeapFull, HeldVersion};
+use crate::refusal::CommitRefusal;
+use client_history::{
+    BATCH_ROOM, CALL_PLACES, EDIT_SPARE, MADE_ROOM, SETTLED_ROOM, TREE_ROOM, WALK_PLACES,
+};
 use doc_tree::{EditFault, Names, NoMemory, Path, Text};
 use std::alloc::Global;
 use std::sync::Wait;
+use version_rule::HeldVersion;
 
 /// The cells, private records and draft of one client. What a call hands out stands across the
 /// calls that have a clause `still`, and the draft across all that do not set it.
@@ -31,6 +35,9 @@ use std::sync::Wait;
 /// draft.
 pub trait ClientHeap {
     type At: Copy;
+
+    /// What is told where no cell could be claimed.
+    type Full: Copy;
 
     ghost state: { Self → ClientState };
 
@@ -50,7 +57,7 @@ pub trait ClientHeap {
 
     /// The latest version.
     fn current(&mut self) -> HeldVersion
-        requires room { 8192 ≤ (state self.old).room }
+        requires room { CALL_PLACES ≤ (state self.old).room }
         ensures shows { (cell : ℕ) × Shows (version_asks cell result.number)
             (state self.old).marks (state self.new).marks }
         ensures pass { (state self.new).pass ≡ seeing result.number (state self.old).pass }
@@ -62,7 +69,7 @@ pub trait ClientHeap {
 
     /// The root of a version's tree, which the pass has read from then on.
     fn tree(&mut self, v: HeldVersion) -> Self::At
-        requires room { 8192 ≤ (state self.old).room }
+        requires room { CALL_PLACES ≤ (state self.old).room }
         requires version { (shown self.old).is_version v }
         ensures pass { (state self.new).pass
             ≡ reading v.number ((shown self.old).root v) (state self.old).pass }
@@ -75,7 +82,7 @@ pub trait ClientHeap {
 
     /// The version so many before, or none where a newer one has cut it off.
     fn older(&mut self, v: HeldVersion, back: u64) -> Option<HeldVersion>
-        requires room { 8192 ≤ (state self.old).room }
+        requires room { CALL_PLACES ≤ (state self.old).room }
         requires version { (shown self.old).is_version v }
         requires back { back ≤ v.number }
         requires kept { back < (state self.old).pass.keep }
@@ -89,7 +96,7 @@ pub trait ClientHeap {
 
     /// The node at a path below a node.
     fn node(&mut self, root: Self::At, path: &Path) -> Option<Self::At>
-        requires room { 8200 ≤ (state self.old).room }
+        requires room { WALK_PLACES ≤ (state self.old).room }
         requires node { (shown self.old).is_node root }
         ensures tree { option_map (shown self.new).tree result
             ≡ node path.now ((shown self.old).tree root) }
@@ -102,7 +109,7 @@ pub trait ClientHeap {
 
     /// The text of a node.
     fn text(&mut self, alloc: Global, at: Self::At) -> Result<Text, NoMemory>
-        requires room { 8192 ≤ (state self.old).room }
+        requires room { CALL_PLACES ≤ (state self.old).room }
         requires node { (shown self.old).is_node at }
         ensures text { IfOk result (λ text. text ≡ ((shown self.old).tree at).text) }
         ensures shows { OnOk result (shared at ≡ true
@@ -115,7 +122,7 @@ pub trait ClientHeap {
 
     /// The names of its children.
     fn names(&mut self, alloc: Global, at: Self::At) -> Result<Names, NoMemory>
-        requires room { 8192 ≤ (state self.old).room }
+        requires room { CALL_PLACES ≤ (state self.old).room }
         requires node { (shown self.old).is_node at }
         ensures names { IfOk result (λ names. names ≡ names_of ((shown self.old).tree at).kids) }
         ensures shows { OnOk result (shared at ≡ true
@@ -128,7 +135,7 @@ pub trait ClientHeap {
 
     /// How many nodes its tree has.
     fn count(&mut self, at: Self::At) -> u64
-        requires room { 8192 ≤ (state self.old).room }
+        requires room { CALL_PLACES ≤ (state self.old).room }
         requires node { (shown self.old).is_node at }
         ensures count { result ≡ count ((shown self.old).tree at) }
         ensures shows { shared at ≡ true → Shows (gave (field.Num result) ∷ [])
@@ -145,8 +152,8 @@ pub trait ClientHeap {
 
     /// The tree with a text at a path, as doc_tree's edit of that name; so the two below.
     fn set_text(&mut self, root: Self::At, path: &Path, text: &Text) -> Result<Self::At, EditFault>
-        requires room { 20000 ≤ (state self.old).room }
-        requires spare { 2285 ≤ (state self.old).spare }
+        requires room { TREE_ROOM ≤ (state self.old).room }
+        requires spare { EDIT_SPARE ≤ (state self.old).spare }
         requires node { (shown self.old).is_node root }
         ensures tree { answered (shown self.new).tree result
             ≡ set_text path.now text.now ((shown self.old).tree root) }
@@ -157,8 +164,8 @@ pub trait ClientHeap {
 
     /// The tree without the node at a path.
     fn delete(&mut self, root: Self::At, path: &Path) -> Result<Self::At, EditFault>
-        requires room { 20000 ≤ (state self.old).room }
-        requires spare { 2285 ≤ (state self.old).spare }
+        requires room { TREE_ROOM ≤ (state self.old).room }
+        requires spare { EDIT_SPARE ≤ (state self.old).spare }
         requires node { (shown self.old).is_node root }
         ensures tree { answered (shown self.new).tree result
             ≡ delete path.now ((shown self.old).tree root) }
@@ -169,8 +176,8 @@ pub trait ClientHeap {
 
     /// The tree with another node's tree at a path.
     fn attach(&mut self, root: Self::At, path: &Path, sub: Self::At) -> Result<Self::At, EditFault>
-        requires room { 20000 ≤ (state self.old).room }
-        requires spare { 2285 ≤ (state self.old).spare }
+        requires room { TREE_ROOM ≤ (state self.old).room }
+        requires spare { EDIT_SPARE ≤ (state self.old).spare }
         requires node { (shown self.old).is_node root }
         requires sub { (shown self.old).is_node sub }
         ensures tree { answered (shown self.new).tree result
@@ -182,7 +189,7 @@ pub trait ClientHeap {
 
     /// The node's tree is the draft from then on, and what it needs stays held.
     fn set_draft(&mut self, at: Self::At)
-        requires room { 9100 ≤ (state self.old).room }
+        requires room { SETTLED_ROOM ≤ (state self.old).room }
         requires node { (shown self.old).is_node at }
         ensures draft { tree_of (state self.new).draft ≡ (shown self.old).tree at }
         ensures pass { (state self.new).pass ≡ (state self.old).pass }
@@ -203,8 +210,8 @@ pub trait ClientHeap {
         ensures lent { lent self.new ≡ lent self.old };
 
     /// A node as one of the shared heap: a private one is promoted.
-    fn share<R: Wait>(&mut self, rt: &R, at: Self::At) -> Result<Self::At, HeapFull>
-        requires room { 8192 ≤ (state self.old).room }
+    fn share<R: Wait>(&mut self, rt: &R, at: Self::At) -> Result<Self::At, Self::Full>
+        requires room { CALL_PLACES ≤ (state self.old).room }
         requires node { (shown self.old).is_node at }
         ensures node { IfOk result (λ made. (shown self.new).is_node made) }
         ensures tree { IfOk result (λ made. (shown self.new).tree made
@@ -229,7 +236,7 @@ pub trait ClientHeap {
         at: Self::At,
         versions: u64,
     ) -> Result<u64, CommitRefusal>
-        requires room { 8192 ≤ (state self.old).room }
+        requires room { CALL_PLACES ≤ (state self.old).room }
         requires version { (shown self.old).is_version v }
         requires node { (shown self.old).is_node at }
         requires shared { shared at ≡ true }
@@ -254,7 +261,7 @@ pub trait ClientHeap {
 
     /// Cuts off what is older than is kept.
     fn trim(&mut self, v: HeldVersion, keep: u64)
-        requires room { 8192 ≤ (state self.old).room }
+        requires room { CALL_PLACES ≤ (state self.old).room }
         requires version { (shown self.old).is_version v }
         requires keep { keep ≡ (state self.old).pass.keep }
         ensures due { v.number + 1 ≤ (state self.new).pass.cut + keep }
@@ -263,15 +270,15 @@ pub trait ClientHeap {
 
     /// Whether there is room for an edit without a minor collection.
     fn has_room(&self) -> bool
-        ensures room { result ≡ (nat_le 20480 (state self.now).room
-            && nat_le 2285 (state self.now).spare) };
+        ensures room { result ≡ (nat_le MADE_ROOM (state self.now).room
+            && nat_le EDIT_SPARE (state self.now).spare) };
 
     /// Makes room for an edit, by a minor collection where there is too little.
-    fn make_room<R: Wait>(&mut self, rt: &R) -> Result<(), HeapFull>
+    fn make_room<R: Wait>(&mut self, rt: &R) -> Result<(), Self::Full>
         requires ready { IsReady (state self.old) }
-        ensures room { OnOk result (20480 ≤ (state self.new).room) }
-        ensures spare { OnOk result (2285 ≤ (state self.new).spare) }
-        ensures idle { 20480 ≤ (state self.old).room → 2285 ≤ (state self.old).spare
+        ensures room { OnOk result (MADE_ROOM ≤ (state self.new).room) }
+        ensures spare { OnOk result (EDIT_SPARE ≤ (state self.new).spare) }
+        ensures idle { MADE_ROOM ≤ (state self.old).room → EDIT_SPARE ≤ (state self.old).spare
             → state self.new ≡ state self.old }
         ensures full { OnErr result (Had (IsFull (state self.old).cells)
             (state self.old).marks (state self.new).marks) }
@@ -286,12 +293,16 @@ pub trait ClientHeap {
     /// there is too little: of the draft and of that tree. The tree is then at the node that is the
     /// answer, and what else was held is given back, versions too. Without a collection nothing
     /// happens.
-    fn make_room_for<R: Wait>(&mut self, rt: &R, at: Self::At) -> Result<Option<Self::At>, HeapFull>
+    fn make_room_for<R: Wait>(
+        &mut self,
+        rt: &R,
+        at: Self::At,
+    ) -> Result<Option<Self::At>, Self::Full>
         requires ready { IsReady (state self.old) }
         requires node { (shown self.old).is_node at }
-        ensures room { OnOk result (20011 ≤ (state self.new).room) }
-        ensures spare { OnOk result (2285 ≤ (state self.new).spare) }
-        ensures unmoved { 20011 ≤ (state self.old).room → 2285 ≤ (state self.old).spare
+        ensures room { OnOk result (BATCH_ROOM ≤ (state self.new).room) }
+        ensures spare { OnOk result (EDIT_SPARE ≤ (state self.new).spare) }
+        ensures unmoved { BATCH_ROOM ≤ (state self.old).room → EDIT_SPARE ≤ (state self.old).spare
             → result ≡ Ok None }
         ensures idle { IfOk result (λ moved. IsNone moved → state self.new ≡ state self.old) }
         ensures still { IfOk result (λ moved. IsNone moved
@@ -312,7 +323,7 @@ pub trait ClientHeap {
     /// does not need.
     fn settle(&mut self)
         ensures settled { IsSettled (state self.new) }
-        ensures room { 9100 ≤ (state self.new).room }
+        ensures room { SETTLED_ROOM ≤ (state self.new).room }
         ensures pass { (state self.new).pass ≡ (state self.old).pass }
         ensures gives_back { GivesBack (state self.old) (state self.new) }
         ensures lent { lent self.new ≡ lent self.old };

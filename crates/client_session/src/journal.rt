@@ -2,18 +2,20 @@
 //! outlives its heap, and whoever owns both decides who joins the mutator.
 ghost use Rattle.std.specs.Prelude.{◌≡◌, ◌≤◌, []};
 ghost use Rattle.client_session.specs.Turns.{InStep};
-ghost use Rattle.client_turns.specs.State.{ClientState};
+ghost use Rattle.client_history.specs.State.{ClientState};
 ghost use Rattle.doc_records.specs.Trees.{tree_of};
 ghost use Rattle.doc_tree.specs.Tree.{empty};
 
 use doc_model::Log;
 use std::alloc::Global;
 
-/// How many versions can be asked for, and the number of the last that can be made.
+/// How many versions can be asked for, the number of the last that can be made, and how many
+/// private records there is room for.
 #[derive(Clone, Copy, Debug, PartialEq, Eq)]
 pub struct Limits {
     pub keep: u32,
     pub versions: u32,
+    pub minor: u32,
 }
 
 /// A client's log, with the place of its last entry. The commands that it answers are calls of

@@ -9,8 +9,8 @@
 //! allows; the log stays in step with the pass and with the trail; and where memory ran out nothing
 //! was made.
 //!
-//! Reading order: specs/Handles, Turns, Carries, Batches; then `held`, `heap`, `journal`, `given`,
-//! `reading`, `drafting`, `waiting`, `carrying`, `committing`, `batching`, `turns`.
+//! Reading order: specs/Handles, Turns, Carries, Batches; then `refusal`, `heap`, `journal`,
+//! `given`, `reading`, `drafting`, `waiting`, `carrying`, `committing`, `batching`, `turns`.
 #![tactic(auto)]
 
 mod batching;
@@ -19,12 +19,12 @@ mod committing;
 mod drafting;
 mod given;
 mod heap;
-mod held;
 mod journal;
 mod reading;
+mod refusal;
 mod turns;
 mod waiting;
 
 pub use crate::heap::ClientHeap;
-pub use crate::held::{CommitRefusal, HeapFull, HeldVersion};
 pub use crate::journal::{Journal, Limits};
+pub use crate::refusal::CommitRefusal;

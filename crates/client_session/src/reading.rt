@@ -2,8 +2,8 @@
 ghost use Rattle.std.specs.Prelude.{◌≡◌, ◌≤◌, IfOk, true};
 ghost use Rattle.client_session.specs.Handles.{Still};
 ghost use Rattle.client_session.specs.Turns.{Ends, EndsPlain, IsPlain, MayTurn, Opens};
-ghost use Rattle.client_turns.specs.Demands.{reply_asks};
-ghost use Rattle.client_turns.specs.State.{OnlyReads, Rests};
+ghost use Rattle.client_history.specs.Demands.{reply_asks};
+ghost use Rattle.client_history.specs.State.{OnlyReads, Rests};
 ghost use Rattle.doc_model.specs.Answers.{count_shown, names_shown, text_shown, told};
 ghost use Rattle.doc_model.specs.declared.command.Command.TheVariants as command;
 ghost use Rattle.doc_tree.specs.Tree.{node};
@@ -12,13 +12,14 @@ ghost use Rattle.trails.specs.Asks.{Shows};
 use crate::given::{Given, Opened, brief};
 use crate::heap::ClientHeap;
 use crate::journal::Journal;
+use client_history::{SETTLED_ROOM, WALK_PLACES};
 use doc_model::Reply;
 use doc_tree::{NoMemory, Path};
 use std::alloc::Global;
 
 /// Reads the latest version and its root.
 pub(crate) fn open<H: ClientHeap>(heap: &mut H) -> Opened<H::At>
-    requires room { 9100 ≤ (H.state heap.old).room }
+    requires room { SETTLED_ROOM ≤ (H.state heap.old).room }
     ensures opens { Opens (H.state heap.old) (H.state heap.new) (H.shown heap.new) result }
     ensures shared { H.shared result.root ≡ true }
     ensures still { Still (H.shown heap.old) (H.shown heap.new) }
@@ -38,7 +39,7 @@ fn text_given<H: ClientHeap>(
     shown: u64,
     place: u64,
 ) -> Result<Given, NoMemory>
-    requires room { 8200 ≤ (H.state heap.old).room }
+    requires room { WALK_PLACES ≤ (H.state heap.old).room }
     requires node { (H.shown heap.old).is_node root }
     ensures told { IfOk result (λ given.
         text_shown shown place (node path.now ((H.shown heap.old).tree root))
@@ -74,7 +75,7 @@ fn names_given<H: ClientHeap>(
     path: &Path,
     shown: u64,
 ) -> Result<Given, NoMemory>
-    requires room { 8200 ≤ (H.state heap.old).room }
+    requires room { WALK_PLACES ≤ (H.state heap.old).room }
     requires node { (H.shown heap.old).is_node root }
     ensures told { IfOk result (λ given.
         names_shown shown (node path.now ((H.shown heap.old).tree root))
@@ -104,7 +105,7 @@ fn names_given<H: ClientHeap>(
 
 /// How many nodes its tree has.
 fn count_given<H: ClientHeap>(heap: &mut H, root: H::At, path: &Path, shown: u64) -> Given
-    requires room { 8200 ≤ (H.state heap.old).room }
+    requires room { WALK_PLACES ≤ (H.state heap.old).room }
     requires node { (H.shown heap.old).is_node root }
     ensures told { count_shown shown (node path.now ((H.shown heap.old).tree root))
         ≡ told result.reply shown }
@@ -135,7 +136,7 @@ impl Journal {
         path: &Path,
     ) -> Result<Option<Given>, NoMemory>
         requires may { MayTurn self.now (H.state heap.old) }
-        requires room { 9100 ≤ (H.state heap.old).room }
+        requires room { SETTLED_ROOM ≤ (H.state heap.old).room }
         ensures ends { Ends self.now (command.Get path.now) (H.state heap.old) (H.state heap.new)
             result }
         ensures reads { OnlyReads (H.state heap.old) (H.state heap.new) }
@@ -156,7 +157,7 @@ impl Journal {
         path: &Path,
     ) -> Result<Option<Given>, NoMemory>
         requires may { MayTurn self.now (H.state heap.old) }
-        requires room { 9100 ≤ (H.state heap.old).room }
+        requires room { SETTLED_ROOM ≤ (H.state heap.old).room }
         ensures ends { Ends self.now (command.List path.now) (H.state heap.old) (H.state heap.new)
             result }
         ensures reads { OnlyReads (H.state heap.old) (H.state heap.new) }
@@ -175,7 +176,7 @@ impl Journal {
         path: &Path,
     ) -> Result<Option<Given>, NoMemory>
         requires may { MayTurn self.now (H.state heap.old) }
-        requires room { 9100 ≤ (H.state heap.old).room }
+        requires room { SETTLED_ROOM ≤ (H.state heap.old).room }
         ensures ends { Ends self.now (command.Size path.now) (H.state heap.old) (H.state heap.new)
             result }
         ensures reads { OnlyReads (H.state heap.old) (H.state heap.new) }
@@ -197,7 +198,7 @@ impl Journal {
         path: &Path,
     ) -> Result<Option<Given>, NoMemory>
         requires may { MayTurn self.now (H.state heap.old) }
-        requires room { 9100 ≤ (H.state heap.old).room }
+        requires room { SETTLED_ROOM ≤ (H.state heap.old).room }
         ensures ends { Ends self.now (command.Old back path.now) (H.state heap.old)
             (H.state heap.new) result }
         ensures reads { OnlyReads (H.state heap.old) (H.state heap.new) }
@@ -231,7 +232,7 @@ impl Journal {
         path: &Path,
     ) -> Result<Option<Given>, NoMemory>
         requires may { MayTurn self.now (H.state heap.old) }
-        requires room { 9100 ≤ (H.state heap.old).room }
+        requires room { SETTLED_ROOM ≤ (H.state heap.old).room }
         ensures ends { Ends self.now (command.DraftGet path.now) (H.state heap.old)
             (H.state heap.new) result }
         ensures reads { OnlyReads (H.state heap.old) (H.state heap.new) }

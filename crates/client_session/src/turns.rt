@@ -6,13 +6,14 @@ ghost use Rattle.std.specs.Prelude.{[], ◌∷◌, ◌++◌, false, true};
 ghost use Rattle.client_session.specs.Handles.{GivesBack};
 ghost use Rattle.client_session.specs.Turns.{Answered, Ends, EndsPlain, Enters, InStep, IsPlain};
 ghost use Rattle.client_session.specs.Turns.{MayTurn};
-ghost use Rattle.client_turns.specs.Demands.{may_hold_more, is_reading};
-ghost use Rattle.client_turns.specs.State.{IsReady, IsSettled, OnlyReads, StaysSmall};
-ghost use Rattle.client_turns.specs.Turns.{Lost};
+ghost use Rattle.client_history.specs.Demands.{may_hold_more, is_reading};
+ghost use Rattle.client_history.specs.State.{IsReady, IsSettled, OnlyReads, StaysSmall};
+ghost use Rattle.client_history.specs.Turns.{Lost};
 
 use crate::given::Given;
 use crate::heap::ClientHeap;
 use crate::journal::Journal;
+use client_history::SETTLED_ROOM;
 use doc_model::{Command, Entry, Reply};
 use doc_tree::NoMemory;
 use std::alloc::Global;
@@ -37,7 +38,7 @@ impl Journal {
         command: &Command,
     ) -> Result<Option<Given>, NoMemory>
         requires may { MayTurn self.now (H.state heap.old) }
-        requires room { 9100 ≤ (H.state heap.old).room }
+        requires room { SETTLED_ROOM ≤ (H.state heap.old).room }
         ensures ends { Ends self.now command.now (H.state heap.old) (H.state heap.new) result }
         ensures reads { is_reading command.now ≡ true
             → OnlyReads (H.state heap.old) (H.state heap.new) }

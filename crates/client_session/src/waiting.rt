@@ -2,11 +2,11 @@
 //! other, each with the cells that it promoted.
 ghost use Rattle.std.specs.Prelude.{◌≡◌};
 ghost use Rattle.client_session.specs.Handles.{Still};
-ghost use Rattle.client_turns.specs.State.{Rests};
+ghost use Rattle.client_history.specs.State.{Rests};
 
 use crate::heap::ClientHeap;
-use crate::held::HeldVersion;
 use thread_waits::{Backoff, wait_piece};
+use version_rule::HeldVersion;
 
 /// More than any client's number.
 const CLIENTS: u64 = 128;

@@ -6,9 +6,9 @@ use Rattle.std.specs.Prelude.{slice_index_or}
 use Rattle.std.specs.List.{Contains}
 use Rattle.std.proofs.lemmas.List.{length-map}
 use Rattle.cell_words.specs.Term.{IsFive, Term, five, null, num}
-use Rattle.client_records.specs.declared.at.NodeAt.TheVariants as at
-use Rattle.client_records.specs.Records.{IsAmong, IsRecord, Rests, known_term, terms_known}
-use Rattle.client_records.proofs.Resting.{rests_place, rests_reached}
+use Rattle.client_trees.specs.declared.at.NodeAt.TheVariants as at
+use Rattle.client_trees.specs.Records.{IsAmong, IsRecord, Rests, known_term, terms_known}
+use Rattle.client_trees.proofs.Resting.{rests_place, rests_reached}
 use Rattle.client_tests.specs.Works.{Works}
 use Rattle.client_trees.specs.Nodes.{IsTreeAt}
 use Rattle.core_machine.specs.declared.places.Held.{Held}

@@ -1,6 +1,6 @@
 -- What the tests know between two calls holds after each call.
 use Rattle.std.proofs.Common.{◌≡◌, ◌∙◌, true, ap}
-use Rattle.client_records.specs.declared.at.NodeAt.{NodeAt}
+use Rattle.client_trees.specs.declared.at.NodeAt.{NodeAt}
 use Rattle.client_tests.specs.Works.{Works}
 use Rattle.client_trees.specs.Leaves.{Leaves}
 use Rattle.client_trees.specs.Nodes.{IsTreeAt}

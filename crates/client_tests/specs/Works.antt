@@ -1,7 +1,7 @@
 -- What the tests know between two calls.
 -- Source: this project's.
 use Rattle.std.specs.Prelude.{◌≡◌, true}
-use Rattle.client_records.specs.declared.at.NodeAt.{NodeAt}
+use Rattle.client_trees.specs.declared.at.NodeAt.{NodeAt}
 use Rattle.client_trees.specs.Nodes.{IsTreeAt}
 use Rattle.minor_heap.specs.Nursery.{Nursery}
 use Rattle.mutator_seat.specs.Bound.{Bound}

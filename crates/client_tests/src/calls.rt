@@ -1,7 +1,7 @@
 //! The calls of client_trees as the tests make them: on the tree of one root, where there is room.
 ghost use Rattle.std.specs.Prelude.{◌≡◌, ◌+◌, ◌≤◌, OnOk, length, true};
 ghost use Rattle.std.specs.Option.{ForSome};
-ghost use Rattle.client_records.specs.declared.at.NodeAt.TheVariants as at;
+ghost use Rattle.client_trees.specs.declared.at.NodeAt.TheVariants as at;
 ghost use Rattle.client_tests.specs.Works.{Works};
 ghost use Rattle.client_trees.specs.Nodes.{IsTreeAt};
 

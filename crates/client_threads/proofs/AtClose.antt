@@ -29,10 +29,10 @@ use Rattle.heap_rule.specs.declared.view.Place.{Place}
 use Rattle.heap_rule.specs.declared.view.Place.TheVariants as places
 use Rattle.heap_rule.specs.declared.view.View.{View}
 use Rattle.heap_table.specs.Seats.{HeapId, IsSeatOf, SeatView}
-use Rattle.run_history.specs.Agreed.{HasEnded, LogsAgree}
-use Rattle.run_history.specs.Left.{AreLeft}
-use Rattle.run_history.proofs.Agreeing.{logs_agree}
-use Rattle.run_history.proofs.Indices.{at_once}
+use Rattle.client_history.specs.Agreed.{HasEnded, LogsAgree}
+use Rattle.client_history.specs.Left.{AreLeft}
+use Rattle.client_history.proofs.Agreeing.{logs_agree}
+use Rattle.client_history.proofs.Indices.{at_once}
 use Rattle.version_rule.specs.Opening.{first_rows}
 use Rattle.version_rule.specs.Pass.{Pass}
 use Rattle.client_threads.specs.Clients.{places_for}

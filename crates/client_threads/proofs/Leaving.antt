@@ -6,10 +6,10 @@ use Rattle.std.proofs.lemmas.Bool.{not-false}
 use Rattle.std.proofs.lemmas.List.{length-map, length-take, take_min}
 use Rattle.beside_collector.specs.Coming.{Entered, Left}
 use Rattle.client_run.specs.Own.{MayAnswer, client_state}
-use Rattle.client_run.specs.declared.session.Limits.{Limits}
+use Rattle.client_session.specs.declared.journal.Limits.{Limits}
 use Rattle.client_run.specs.declared.session.Session.{Session}
 use Rattle.client_session.specs.Turns.{bounds}
-use Rattle.client_turns.specs.Turns.{IsInStep}
+use Rattle.client_history.specs.Turns.{IsInStep}
 use Rattle.doc_model.specs.Answers.{Limits as StoreLimits}
 use Rattle.doc_model.specs.declared.command.Command.{Command}
 use Rattle.doc_model.specs.declared.command.Entry.{Entry}

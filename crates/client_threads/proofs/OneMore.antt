@@ -8,7 +8,7 @@ use Rattle.std.proofs.lemmas.Bool.{cases_lt}
 use Rattle.atomic_table.proofs.Lists.{at_last, at_longer, set_else, set_here}
 use mathlib.Core.Option.{some}
 use lib.ListN.{get_elem?}
-use Rattle.client_run.specs.declared.session.Limits.{Limits as ClientLimits}
+use Rattle.client_session.specs.declared.journal.Limits.{Limits as ClientLimits}
 use Rattle.beside_collector.specs.Scripts.{script_of}
 use Rattle.beside_collector.proofs.Places.{all_push}
 use Rattle.beside_collector.proofs.Scripts.{script_is}
@@ -22,7 +22,7 @@ use Rattle.heap_rule.specs.declared.view.Place.{Place}
 use Rattle.heap_rule.specs.declared.view.Place.TheVariants as places
 use Rattle.heap_rule.specs.declared.view.Share.{Share}
 use Rattle.heap_table.specs.Seats.{HeapId}
-use Rattle.run_history.specs.Left.{AreLeft, IsLeft}
+use Rattle.client_history.specs.Left.{AreLeft, IsLeft}
 use Rattle.client_threads.specs.Taken.{AllHadRoom}
 use Rattle.doc_model.specs.Scripts.{lists_of}
 use Rattle.version_rule.specs.Pass.{Pass}

@@ -2,7 +2,7 @@
 use Rattle.std.proofs.Common.{◌≡◌, ℕ, List, [], ◌∷◌, ◌++◌, length}
 use Rattle.std.specs.Prelude.{Vec}
 use Rattle.std.specs.declared.alloc.Global.{Global}
-use Rattle.client_run.specs.declared.session.Limits.{Limits}
+use Rattle.client_session.specs.declared.journal.Limits.{Limits}
 use Rattle.doc_model.specs.declared.command.Command.{Command}
 use Rattle.free_cells.specs.declared.queue.FreeQueue.{FreeQueue}
 use Rattle.heap_table.specs.Seats.{HeapId}

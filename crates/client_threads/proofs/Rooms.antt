@@ -5,10 +5,10 @@
 use Rattle.std.proofs.Common.{◌≤◌, ◌+◌, ℕ, List, refl, subst, arith}
 use Rattle.client_heap.specs.Sound.{IsSound}
 use Rattle.client_run.specs.Own.{IsBegun, IsNewSession, MayAnswer, client_state}
-use Rattle.client_run.specs.declared.session.Limits.{Limits}
+use Rattle.client_session.specs.declared.journal.Limits.{Limits}
 use Rattle.client_run.specs.declared.session.Session.{Session}
 use Rattle.client_session.specs.Turns.{InStep}
-use Rattle.client_turns.specs.State.{IsReady as HasPlaces}
+use Rattle.client_history.specs.State.{IsReady as HasPlaces}
 use Rattle.doc_model.specs.declared.command.Command.{Command}
 use Rattle.free_cells.specs.declared.queue.FreeQueue.{FreeQueue}
 use Rattle.heap_table.specs.Seats.{HeapId}

@@ -2,7 +2,7 @@
 use Rattle.std.proofs.Common.{◌≡◌, ◌≤◌, ℕ, List, refl, sym, subst}
 use Rattle.cell_words.specs.declared.fields.Field.{Field}
 use Rattle.doc_records.specs.Trees.{IsTreeNode, tree_of}
-use Rattle.document_versions.specs.Spelled.{bare_is_empty, bare_is_node}
+use Rattle.client_history.specs.Spelled.{bare_is_empty, bare_is_node}
 use Rattle.heap_rule.specs.Shape.{Shape}
 use Rattle.heap_table.specs.Opening.{Opens}
 use Rattle.client_threads.specs.Opened.{store_shape}

@@ -6,7 +6,7 @@ use Rattle.std.specs.declared.alloc.Global.{Global}
 use Rattle.std.proofs.lemmas.List.{length-map, length_push, map-append, take_all}
 use Rattle.beside_collector.specs.Scripts.{script_of}
 use Rattle.beside_collector.proofs.TakingBack.{TakenSoFar, all_taken, none_taken, one_taken}
-use Rattle.client_run.specs.declared.session.Limits.{Limits as ClientLimits}
+use Rattle.client_session.specs.declared.journal.Limits.{Limits as ClientLimits}
 use Rattle.client_threads.specs.Clients.{AllDone, places_for, store_limits}
 use Rattle.client_threads.specs.declared.clients.Client.{Client}
 use Rattle.doc_model.specs.ClientLog.{ClientLog}

@@ -6,7 +6,7 @@ use Rattle.std.specs.declared.alloc.Global.{Global}
 use Rattle.beside_collector.specs.Places.{AllFrom}
 use Rattle.beside_collector.specs.Scripts.{script_of}
 use Rattle.client_run.specs.Own.{IsBegun, MayAnswer}
-use Rattle.client_run.specs.declared.session.Limits.{Limits}
+use Rattle.client_session.specs.declared.journal.Limits.{Limits}
 use Rattle.client_run.specs.declared.session.Session.{Session}
 use Rattle.client_threads.specs.declared.clients.Client.{Client}
 use Rattle.doc_model.specs.Answers.{Limits as StoreLimits}
@@ -17,7 +17,7 @@ use Rattle.free_cells.specs.declared.queue.FreeQueue.{FreeQueue}
 use Rattle.heap_rule.specs.Rule.{share_of}
 use Rattle.heap_table.specs.Seats.{HeapId, IsSeatOf, SeatView}
 use Rattle.mutator_seat.specs.Bound.{Bound}
-use Rattle.run_history.specs.Left.{IsLeft}
+use Rattle.client_history.specs.Left.{IsLeft}
 use Rattle.version_rule.specs.Pass.{Pass}
 
 -- the limits of the store, by those of a client

@@ -4,7 +4,7 @@ use Rattle.std.specs.Prelude.{ℕ, ◌≡◌, List}
 use mathlib.Core.Option.{some}
 use lib.ListN.{get_elem?}
 pub use Rattle.beside_collector.specs.Service.{IsService}
-use Rattle.client_turns.specs.Runs.{ShowsRun}
+use Rattle.client_history.specs.Runs.{ShowsRun}
 use Rattle.doc_model.specs.Answers.{Limits}
 use Rattle.doc_model.specs.ClientLog.{ClientLog}
 use Rattle.heap_rule.specs.declared.view.Place.{Place}

@@ -7,7 +7,7 @@ use Rattle.beside_collector.specs.Duty.{duty_on}
 pub use Rattle.beside_collector.specs.Serving.{IsStill}
 pub use Rattle.beside_collector.specs.Splitting.{AreUnsplit, HasSplit}
 use Rattle.cell_words.specs.declared.controls.Stage.TheVariants as stage
-use Rattle.client_run.specs.declared.session.Limits.{Limits}
+use Rattle.client_session.specs.declared.journal.Limits.{Limits}
 use Rattle.client_threads.specs.Clients.{AllReady}
 use Rattle.client_threads.specs.declared.opened.OpenStore.{OpenStore}
 use Rattle.collector.specs.Stack.{Stack}

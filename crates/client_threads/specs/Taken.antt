@@ -13,7 +13,7 @@ use Rattle.heap_rule.specs.declared.view.Place.{Place}
 use Rattle.heap_rule.specs.declared.view.Place.TheVariants as places
 use Rattle.heap_rule.specs.declared.view.Share.{Share}
 use Rattle.heap_table.specs.Seats.{SeatView}
-use Rattle.run_history.specs.Left.{AreLeft}
+use Rattle.client_history.specs.Left.{AreLeft}
 use Rattle.version_rule.specs.Pass.{Pass}
 
 -- the commands of a log

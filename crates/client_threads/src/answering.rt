@@ -11,7 +11,7 @@ ghost use Rattle.version_rule.specs.Pass.{Pass};
 
 use client_run::Session;
 use doc_model::Command;
-use document_versions::Documents;
+use client_history::Documents;
 use free_cells::Hints;
 use mutator_seat::Mutator;
 use outside::Gate;

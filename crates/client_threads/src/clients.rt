@@ -1,6 +1,6 @@
 //! A client between its setup and its end: what its thread takes with it, and gives back.
 use client_run::Session;
-use document_versions::Documents;
+use client_history::Documents;
 use free_cells::HintPass;
 use mutator_seat::MutSeat;
 

@@ -1,6 +1,6 @@
 use crate::clients::Client;
 use beside_collector::Keeper;
-use document_versions::Documents;
+use client_history::Documents;
 use free_cells::FreeQueue;
 use heap_table::CellHeap;
 

@@ -21,7 +21,7 @@ use cell_heap::ColSeat;
 use client_run::{Limits, Session};
 use collector::{MarkStack, NoMemory};
 use doc_model::Command;
-use document_versions::Documents;
+use client_history::Documents;
 use free_cells::{FreeQueue, HintPass};
 use heap_table::CellHeap;
 use std::alloc::Global;

@@ -9,7 +9,7 @@ use crate::clients::Client;
 use beside_collector::{come_in, leave, script_at};
 use client_run::Limits;
 use doc_model::Command;
-use document_versions::Documents;
+use client_history::Documents;
 use free_cells::FreeQueue;
 use heap_table::CellHeap;
 use outside::Gate;

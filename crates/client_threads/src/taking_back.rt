@@ -12,7 +12,7 @@ use crate::clients::Client;
 use cell_heap::ColSeat;
 use client_run::Limits;
 use doc_model::{Command, Log};
-use document_versions::Documents;
+use client_history::Documents;
 use heap_table::CellHeap;
 
 /// Joins the seats of all clients, and puts the logs into the list, in which there is room for

@@ -1,7 +1,7 @@
 //! A law on the sessions that clients begin with: the contract of a function that does nothing.
 ghost use Rattle.std.specs.Prelude.{◌+◌, List, ℕ};
 ghost use Rattle.client_run.specs.Own.{IsNewSession};
-ghost use Rattle.client_run.specs.declared.session.Limits.{Limits};
+ghost use Rattle.client_session.specs.declared.journal.Limits.{Limits};
 ghost use Rattle.client_run.specs.declared.session.Session.{Session};
 ghost use Rattle.client_threads.specs.Clients.{IsReady, IsSessionFor, places_for};
 ghost use Rattle.client_threads.specs.declared.clients.Client.{Client};

@@ -4,11 +4,11 @@ use Rattle.std.proofs.Common.{refl, sym, ◌∙◌, ap, subst, arith}
 use Rattle.std.proofs.Common.{Option, Some, None, true}
 use Rattle.std.proofs.lemmas.List.{append-nil, length-append, length-map}
 use Rattle.std.specs.Option.{ForSome}
-use Rattle.client_records.specs.declared.at.NodeAt.{NodeAt}
-use Rattle.client_records.specs.declared.at.NodeAt.TheVariants as at
-use Rattle.client_records.specs.Records.{Around, BeginWith, HasCell, HasRecords, IsAround}
-use Rattle.client_records.specs.Records.{IsKnownAs, around_of, is_shared, outside_of}
-use Rattle.client_records.specs.Records.{shown_by, stands_on}
+use Rattle.client_trees.specs.declared.at.NodeAt.{NodeAt}
+use Rattle.client_trees.specs.declared.at.NodeAt.TheVariants as at
+use Rattle.client_trees.specs.Records.{Around, BeginWith, HasCell, HasRecords, IsAround}
+use Rattle.client_trees.specs.Records.{IsKnownAs, around_of, is_shared, outside_of}
+use Rattle.client_trees.specs.Records.{shown_by, stands_on}
 use Rattle.client_trees.specs.Leaves.{Leaves, LeavesAll, IsLast}
 use Rattle.client_trees.specs.Nodes.{IsTreeAt, tree_at}
 use Rattle.core_machine.specs.declared.places.Held.{Held}

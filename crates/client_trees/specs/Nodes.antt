@@ -1,8 +1,8 @@
 -- The nodes of trees that a client works on: what is known of them.
 -- Source: this project's.
 use Rattle.std.specs.Prelude.{length}
-use Rattle.client_records.specs.declared.at.NodeAt.{NodeAt}
-use Rattle.client_records.specs.Records.{stands_on, term_at}
+use Rattle.client_trees.specs.declared.at.NodeAt.{NodeAt}
+use Rattle.client_trees.specs.Records.{stands_on, term_at}
 use Rattle.doc_records.specs.Trees.{IsTreeNode, tree_of}
 use Rattle.doc_tree.specs.Tree.{DocTree}
 use Rattle.minor_heap.specs.Nursery.{Nursery}

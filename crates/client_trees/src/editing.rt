@@ -6,7 +6,10 @@ ghost use Rattle.client_trees.specs.Nodes.{IsTreeAt, tree_at};
 ghost use Rattle.doc_tree.specs.Edits.{answered, attach, delete, set_text};
 ghost use Rattle.doc_tree.specs.Tree.{empty};
 
-use client_records::{ClientRecords, ClientSeat, NodeAt};
+use crate::at::NodeAt;
+use crate::records::ClientRecords;
+use crate::seat::ClientSeat;
+use doc_edits::{EDIT_PLACES, EDIT_RECORDS};
 use doc_tree::{EditFault, Path, Text};
 use minor_heap::MinorHeap;
 
@@ -14,7 +17,7 @@ use minor_heap::MinorHeap;
 #[tactic(auto, using(crate::proofs::Leaving::leaving))]
 pub fn empty_node<M: ClientSeat>(m: &mut M, minor: &mut MinorHeap) -> NodeAt
     requires inside { (M.bound m.old).seat.me.presence.inside ≡ true }
-    requires spare { length minor.old.records + 2285 ≤ minor.old.room }
+    requires spare { length minor.old.records + EDIT_RECORDS ≤ minor.old.room }
     ensures tree { tree_at (M.bound m.new) minor.new result ≡ empty }
     ensures node { IsTreeAt (M.bound m.new) minor.new result }
     ensures leaves { Leaves (M.bound m.old) (M.bound m.new) minor.old minor.new }
@@ -40,18 +43,18 @@ pub fn set_text<M: ClientSeat>(
 ) -> Result<NodeAt, EditFault>
     requires inside { (M.bound m.old).seat.me.presence.inside ≡ true }
     requires node { IsTreeAt (M.bound m.old) minor.old root }
-    requires room { length (M.bound m.old).seat.me.own.held + 8192
+    requires room { length (M.bound m.old).seat.me.own.held + EDIT_PLACES
         ≤ (M.bound m.old).seat.me.room }
-    requires spare { length minor.old.records + 2285 ≤ minor.old.room }
+    requires spare { length minor.old.records + EDIT_RECORDS ≤ minor.old.room }
     ensures tree { answered (tree_at (M.bound m.new) minor.new) result
         ≡ set_text path.now text.now (tree_at (M.bound m.old) minor.old root) }
     ensures node { ForOk result (IsTreeAt (M.bound m.new) minor.new) }
     ensures leaves { Leaves (M.bound m.old) (M.bound m.new) minor.old minor.new }
     ensures held { length (M.bound m.new).seat.me.own.held
-        ≤ length (M.bound m.old).seat.me.own.held + 8192 }
+        ≤ length (M.bound m.old).seat.me.own.held + EDIT_PLACES }
     ensures refused { OnErr result
         (length (M.bound m.new).seat.me.own.held ≡ length (M.bound m.old).seat.me.own.held) }
-    ensures records { length minor.new.records ≤ length minor.old.records + 509 }
+    ensures records { length minor.new.records ≤ length minor.old.records + EDIT_RECORDS }
 {
     let _spare = minor.spare();
     let mut records = ClientRecords::new(m, minor);
@@ -73,19 +76,19 @@ pub fn attach<M: ClientSeat>(
     requires inside { (M.bound m.old).seat.me.presence.inside ≡ true }
     requires node { IsTreeAt (M.bound m.old) minor.old root }
     requires sub { IsTreeAt (M.bound m.old) minor.old sub }
-    requires room { length (M.bound m.old).seat.me.own.held + 8192
+    requires room { length (M.bound m.old).seat.me.own.held + EDIT_PLACES
         ≤ (M.bound m.old).seat.me.room }
-    requires spare { length minor.old.records + 2285 ≤ minor.old.room }
+    requires spare { length minor.old.records + EDIT_RECORDS ≤ minor.old.room }
     ensures tree { answered (tree_at (M.bound m.new) minor.new) result
         ≡ attach path.now (tree_at (M.bound m.old) minor.old sub)
         (tree_at (M.bound m.old) minor.old root) }
     ensures node { ForOk result (IsTreeAt (M.bound m.new) minor.new) }
     ensures leaves { Leaves (M.bound m.old) (M.bound m.new) minor.old minor.new }
     ensures held { length (M.bound m.new).seat.me.own.held
-        ≤ length (M.bound m.old).seat.me.own.held + 8192 }
+        ≤ length (M.bound m.old).seat.me.own.held + EDIT_PLACES }
     ensures refused { OnErr result
         (length (M.bound m.new).seat.me.own.held ≡ length (M.bound m.old).seat.me.own.held) }
-    ensures records { length minor.new.records ≤ length minor.old.records + 509 }
+    ensures records { length minor.new.records ≤ length minor.old.records + EDIT_RECORDS }
 {
     let _spare = minor.spare();
     let mut records = ClientRecords::new(m, minor);
@@ -104,18 +107,18 @@ pub fn delete<M: ClientSeat>(
 ) -> Result<NodeAt, EditFault>
     requires inside { (M.bound m.old).seat.me.presence.inside ≡ true }
     requires node { IsTreeAt (M.bound m.old) minor.old root }
-    requires room { length (M.bound m.old).seat.me.own.held + 8192
+    requires room { length (M.bound m.old).seat.me.own.held + EDIT_PLACES
         ≤ (M.bound m.old).seat.me.room }
-    requires spare { length minor.old.records + 2285 ≤ minor.old.room }
+    requires spare { length minor.old.records + EDIT_RECORDS ≤ minor.old.room }
     ensures tree { answered (tree_at (M.bound m.new) minor.new) result
         ≡ delete path.now (tree_at (M.bound m.old) minor.old root) }
     ensures node { ForOk result (IsTreeAt (M.bound m.new) minor.new) }
     ensures leaves { Leaves (M.bound m.old) (M.bound m.new) minor.old minor.new }
     ensures held { length (M.bound m.new).seat.me.own.held
-        ≤ length (M.bound m.old).seat.me.own.held + 8192 }
+        ≤ length (M.bound m.old).seat.me.own.held + EDIT_PLACES }
     ensures refused { OnErr result
         (length (M.bound m.new).seat.me.own.held ≡ length (M.bound m.old).seat.me.own.held) }
-    ensures records { length minor.new.records ≤ length minor.old.records + 509 }
+    ensures records { length minor.new.records ≤ length minor.old.records + EDIT_RECORDS }
 {
     let _spare = minor.spare();
     let mut records = ClientRecords::new(m, minor);

@@ -3,7 +3,7 @@ ghost use Rattle.std.specs.Prelude.{◌≡◌, ◌+◌, ◌≤◌, [], ◌∷◌
 ghost use Rattle.std.specs.Prelude.{IfOk, OnOk, length};
 ghost use Rattle.std.specs.Option.{ForSome, option_map};
 ghost use Rattle.cell_words.specs.declared.fields.Field.TheVariants as field;
-ghost use Rattle.client_records.specs.Records.{is_shared};
+ghost use Rattle.client_trees.specs.Records.{is_shared};
 ghost use Rattle.client_trees.specs.Leaves.{Leaves, LeavesAll, IsLast};
 ghost use Rattle.client_trees.specs.Nodes.{IsTreeAt, tree_at};
 ghost use Rattle.doc_records.specs.Texts.{name_asks, text_asks};
@@ -11,7 +11,10 @@ ghost use Rattle.doc_tree.specs.Tree.{child as child_of_name, count, height, nam
 ghost use Rattle.trails.specs.Asks.{Shows, gave};
 ghost use Rattle.trails.specs.Marks.{marks_of};
 
-use client_records::{ClientRecords, ClientSeat, NodeAt};
+use crate::at::NodeAt;
+use crate::records::ClientRecords;
+use crate::seat::ClientSeat;
+use doc_edits::EDIT_PLACES;
 use doc_tree::{Name, Names, NoMemory, Text};
 use minor_heap::MinorHeap;
 use std::alloc::Global;
@@ -26,7 +29,7 @@ pub fn text_of<M: ClientSeat>(
 ) -> Result<Text, NoMemory>
     requires inside { (M.bound m.old).seat.me.presence.inside ≡ true }
     requires node { IsTreeAt (M.bound m.old) minor.old at }
-    requires room { length (M.bound m.old).seat.me.own.held + 8192
+    requires room { length (M.bound m.old).seat.me.own.held + EDIT_PLACES
         ≤ (M.bound m.old).seat.me.room }
     ensures text { IfOk result (λ text. text ≡ (tree_at (M.bound m.old) minor.old at).text) }
     ensures leaves { LeavesAll (M.bound m.old) (M.bound m.new) minor.old minor.new }
@@ -51,7 +54,7 @@ pub fn names<M: ClientSeat>(
 ) -> Result<Names, NoMemory>
     requires inside { (M.bound m.old).seat.me.presence.inside ≡ true }
     requires node { IsTreeAt (M.bound m.old) minor.old at }
-    requires room { length (M.bound m.old).seat.me.own.held + 8192
+    requires room { length (M.bound m.old).seat.me.own.held + EDIT_PLACES
         ≤ (M.bound m.old).seat.me.room }
     ensures names { IfOk result
         (λ names. names ≡ names_of (tree_at (M.bound m.old) minor.old at).kids) }
@@ -72,7 +75,7 @@ pub fn names<M: ClientSeat>(
 pub fn count<M: ClientSeat>(m: &mut M, minor: &mut MinorHeap, at: NodeAt) -> u64
     requires inside { (M.bound m.old).seat.me.presence.inside ≡ true }
     requires node { IsTreeAt (M.bound m.old) minor.old at }
-    requires room { length (M.bound m.old).seat.me.own.held + 8192
+    requires room { length (M.bound m.old).seat.me.own.held + EDIT_PLACES
         ≤ (M.bound m.old).seat.me.room }
     ensures count { result ≡ count (tree_at (M.bound m.old) minor.old at) }
     ensures leaves { LeavesAll (M.bound m.old) (M.bound m.new) minor.old minor.new }
@@ -91,7 +94,7 @@ pub fn count<M: ClientSeat>(m: &mut M, minor: &mut MinorHeap, at: NodeAt) -> u64
 pub fn height<M: ClientSeat>(m: &mut M, minor: &mut MinorHeap, at: NodeAt) -> u32
     requires inside { (M.bound m.old).seat.me.presence.inside ≡ true }
     requires node { IsTreeAt (M.bound m.old) minor.old at }
-    requires room { length (M.bound m.old).seat.me.own.held + 8192
+    requires room { length (M.bound m.old).seat.me.own.held + EDIT_PLACES
         ≤ (M.bound m.old).seat.me.room }
     ensures height { result ≡ height (tree_at (M.bound m.old) minor.old at) }
     ensures leaves { LeavesAll (M.bound m.old) (M.bound m.new) minor.old minor.new }
@@ -114,7 +117,7 @@ pub fn child<M: ClientSeat>(
 ) -> Option<NodeAt>
     requires inside { (M.bound m.old).seat.me.presence.inside ≡ true }
     requires node { IsTreeAt (M.bound m.old) minor.old at }
-    requires room { length (M.bound m.old).seat.me.own.held + 8192
+    requires room { length (M.bound m.old).seat.me.own.held + EDIT_PLACES
         ≤ (M.bound m.old).seat.me.room }
     ensures child { option_map (tree_at (M.bound m.new) minor.new) result
         ≡ child_of_name name.now (tree_at (M.bound m.old) minor.old at).kids }

@@ -9,7 +9,7 @@ use Rattle.cell_words.specs.declared.fields.Field.TheVariants as field
 use Rattle.cell_words.specs.Term.{num}
 use Rattle.closed_store.specs.Chain.{IsChain, IsVersionAt, ShowsVersions, last as ends}
 use Rattle.closed_store.specs.Chain.{more as links}
-use Rattle.document_versions.specs.Closing.{EndedStore}
+use Rattle.client_history.specs.Closing.{EndedStore}
 use Rattle.core_machine.specs.InRange.{IsShaped}
 use Rattle.core_machine.specs.State.{State, field_of}
 use Rattle.dlg_core.specs.Collects.{AreOut}
@@ -17,7 +17,7 @@ use Rattle.dlg_core.specs.Consistent.{IsConsistent}
 use Rattle.dlg_core.specs.Reachable.{named}
 use Rattle.doc_model.specs.Store.{tree_at}
 use Rattle.doc_records.specs.Trees.{IsTreeNode, tree_of}
-use Rattle.document_versions.specs.Spelled.{node_is_record}
+use Rattle.client_history.specs.Spelled.{node_is_record}
 use Rattle.heap_rule.specs.Boxes.{Payload, boxes_of, payload_of}
 use Rattle.heap_rule.specs.Facts.{Facts}
 use Rattle.heap_rule.specs.Lore.{Lore, Plain, named_or}

@@ -1,5 +1,14 @@
 pub mod Anchored
+pub mod Bare
+pub mod Cells
 pub mod Chaining
+pub mod Counting
 pub mod Denoting
+pub mod Fields
+pub mod Kept
+pub mod Layouts
 pub mod Nodes
+pub mod Roles
+pub mod Swept
 pub mod Used
+pub mod Versions

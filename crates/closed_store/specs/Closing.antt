@@ -1,3 +1,3 @@
 -- A heap of documents that is closed with the collector's seat, as document_versions defines it.
 -- Source: this project's.
-pub use Rattle.document_versions.specs.Closing.{EndedStore}
+pub use Rattle.client_history.specs.Closing.{EndedStore}

@@ -1,3 +1,4 @@
 pub mod Chain
 pub mod Closing
+pub mod Kept
 pub mod Words

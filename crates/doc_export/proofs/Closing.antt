@@ -17,7 +17,7 @@ use Rattle.beside_collector.specs.Serving.{ServesLate, Stands}
 use Rattle.beside_collector.specs.declared.keeper.Standby.{Standby}
 use Rattle.client_run.specs.Options.{IsWithin, client_limits, limits_of, shape_of}
 use Rattle.client_run.specs.declared.options.Options.{Options}
-use Rattle.client_run.specs.declared.session.Limits.{Limits as ClientLimits}
+use Rattle.client_session.specs.declared.journal.Limits.{Limits as ClientLimits}
 use Rattle.client_threads.specs.Clients.{places_for, store_limits}
 use Rattle.client_threads.specs.Ends.{IsTiedTo}
 use Rattle.client_threads.specs.Opened.{IsStill}
@@ -26,7 +26,7 @@ use Rattle.client_threads.proofs.AtClose.{AtClose, agreed, at_close, cycles_made
 use Rattle.client_threads.proofs.AtClose.{service, tidy, tied}
 use Rattle.client_threads.proofs.OneMore.{left_push, rooms_push}
 use Rattle.client_threads.proofs.Serving.{stands_places}
-use Rattle.client_turns.specs.Runs.{ShowsRun}
+use Rattle.client_history.specs.Runs.{ShowsRun}
 use Rattle.doc_model.specs.Agreement.{Agree, rising}
 use Rattle.doc_model.specs.ClientLog.{ClientLog}
 use Rattle.doc_model.specs.declared.command.Command.{Command}
@@ -41,9 +41,9 @@ use Rattle.heap_rule.specs.declared.view.Place.TheVariants as places
 use Rattle.heap_rule.specs.declared.view.Share.{Share}
 use Rattle.heap_rule.specs.declared.view.View.{View}
 use Rattle.heap_table.specs.Seats.{HeapId, SeatView}
-use Rattle.run_history.specs.Agreed.{HasEnded}
-use Rattle.run_history.specs.Left.{AreLeft, IsLeft}
-use Rattle.run_history.proofs.Indices.{at_below, at_once, at_there, rising_at}
+use Rattle.client_history.specs.Agreed.{HasEnded}
+use Rattle.client_history.specs.Left.{AreLeft, IsLeft}
+use Rattle.client_history.proofs.Indices.{at_below, at_once, at_there, rising_at}
 use Rattle.trails.specs.Marks.{marks_of}
 use Rattle.version_rule.specs.Fits.{Fits, HasTree}
 use Rattle.version_rule.specs.Pass.{Pass}

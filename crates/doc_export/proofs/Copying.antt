@@ -26,7 +26,7 @@ use Rattle.version_rule.specs.Pass.{Pass, Reading, reading}
 use Rattle.version_store.specs.Calls.{StaysKnown, version_asks}
 use Rattle.version_store.specs.Held.{GivesLatest, IsHeld, root_at}
 use Rattle.version_store.specs.Lasts.{IsSameMutator, LastsAcross, marks}
-use Rattle.version_store.specs.declared.held.HeldVersion.{HeldVersion}
+use Rattle.version_rule.specs.declared.held.HeldVersion.{HeldVersion}
 use Rattle.version_store.proofs.Remaining.{version_still}
 use Rattle.version_store.proofs.Lasting.{lasts_then, same_then}
 use Rattle.doc_export.specs.Guests.{Copies, IsDumpOf, MayTell, Tells, TellsWithout}

@@ -3,17 +3,17 @@
 use Rattle.std.proofs.Common.{◌≡◌, ◌≤◌, ◌+◌, ◌*◌, ℕ, true, List, []}
 use Rattle.std.proofs.Common.{length, map, refl, sym, ◌∙◌, ap, subst, arith}
 use Rattle.beside_collector.specs.Coming.{Entered, Left}
-use Rattle.client_run.specs.declared.session.Limits.{Limits}
+use Rattle.client_session.specs.declared.journal.Limits.{Limits}
 use Rattle.client_threads.specs.Clients.{IsNewSeat, store_limits}
 use Rattle.client_threads.specs.Going.{Waits}
-use Rattle.client_turns.specs.State.{ClientState}
-use Rattle.client_turns.proofs.Stepping.{in_step_opening}
+use Rattle.client_history.specs.State.{ClientState}
+use Rattle.client_history.proofs.Stepping.{in_step_opening}
 use Rattle.doc_model.specs.ClientLog.{ClientLog}
-use Rattle.document_versions.specs.Spelled.{bare_is_empty}
+use Rattle.client_history.specs.Spelled.{bare_is_empty}
 use Rattle.heap_rule.specs.Rule.{share_of}
 use Rattle.heap_table.specs.Seats.{HeapId}
 use Rattle.mutator_seat.specs.Bound.{Bound}
-use Rattle.run_history.specs.Left.{IsLeft}
+use Rattle.client_history.specs.Left.{IsLeft}
 use Rattle.trails.specs.Marks.{Mark, marks_of}
 use Rattle.version_rule.specs.Pass.{Commit, Pass}
 use Rattle.version_rule.specs.Spelling.{bare_root}

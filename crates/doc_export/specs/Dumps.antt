@@ -25,7 +25,7 @@ use Rattle.heap_rule.specs.declared.view.Place.{Place}
 use Rattle.heap_rule.specs.declared.view.Place.TheVariants as places
 use Rattle.heap_rule.specs.declared.view.Share.{Share}
 use Rattle.heap_rule.specs.declared.view.View.{View}
-use Rattle.run_history.specs.Agreed.{HasEnded}
+use Rattle.client_history.specs.Agreed.{HasEnded}
 use Rattle.trails.specs.Asks.{InOrder}
 use Rattle.trails.specs.Marks.{marks_of}
 use Rattle.version_rule.specs.Pass.{Pass}

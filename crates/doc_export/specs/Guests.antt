@@ -2,7 +2,7 @@
 -- Source: this project's.
 use Rattle.std.specs.Prelude.{ℕ, ◌≡◌, ◌≤◌, ◌<◌, List, [], Option, Some, None, Vec, true}
 use Rattle.std.specs.declared.alloc.Global.{Global}
-use Rattle.client_run.specs.declared.session.Limits.{Limits}
+use Rattle.client_session.specs.declared.journal.Limits.{Limits}
 use Rattle.client_threads.specs.Clients.{places_for}
 use Rattle.doc_tree.specs.Tree.{DocTree, count}
 use Rattle.heap_table.specs.Seats.{HeapId, IsSeatOf}

@@ -9,7 +9,7 @@ use crate::guest::{Guest, Through, take_version};
 use client_run::Limits;
 use client_threads::{Client, run_each};
 use doc_model::Command;
-use document_versions::Documents;
+use client_history::Documents;
 use free_cells::FreeQueue;
 use heap_table::CellHeap;
 use std::alloc::Global;

@@ -14,7 +14,7 @@ use beside_collector::{come_in, leave};
 use client_run::Limits;
 use client_threads::await_gate;
 use client_trees::{NodeAt, count};
-use document_versions::Documents;
+use client_history::Documents;
 use heap_table::CellHeap;
 use minor_heap::MinorHeap;
 use mutator_seat::{MutSeat, Mutator};

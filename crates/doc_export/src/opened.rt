@@ -20,7 +20,7 @@ use client_run::Options;
 use client_threads::{Client, OpenStore, open_store, take_back};
 use collector::NoMemory;
 use doc_model::{Command, Log};
-use document_versions::Documents;
+use client_history::Documents;
 use free_cells::FreeQueue;
 use heap_table::CellHeap;
 use minor_heap::MinorHeap;

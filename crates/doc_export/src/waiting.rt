@@ -5,7 +5,7 @@ ghost use Rattle.version_export.specs.Looks.{looks};
 ghost use Rattle.version_store.specs.Lasts.{marks};
 
 use crate::ending::Ending;
-use document_versions::Documents;
+use client_history::Documents;
 use mutator_seat::Mutator;
 use thread_waits::wait_piece;
 

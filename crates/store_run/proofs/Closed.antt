@@ -15,8 +15,8 @@ use Rattle.client_run.specs.Options.{limits_of, shape_of}
 use Rattle.client_run.specs.declared.options.Options.{Options}
 use Rattle.client_threads.proofs.AtClose.{AtClose, agreed, cycles_made, few_cycles, service, tidy}
 use Rattle.client_threads.proofs.AtClose.{tied}
-use Rattle.client_turns.specs.Runs.{was_full}
-use Rattle.closed_census.proofs.Kept.{census_kept}
+use Rattle.client_history.specs.Runs.{was_full}
+use Rattle.closed_store.proofs.Kept.{census_kept}
 use Rattle.closed_store.specs.Chain.{ShowsVersions}
 use Rattle.closed_heap.specs.Closing.{AreJoined}
 use Rattle.closed_store.specs.Closing.{EndedStore}
@@ -35,7 +35,7 @@ use Rattle.heap_rule.specs.Shape.{Shape}
 use Rattle.heap_rule.specs.declared.view.Place.TheVariants as places
 use Rattle.heap_rule.specs.declared.view.View.{View}
 use Rattle.heap_table.specs.Images.{ImageView, Shows}
-use Rattle.run_history.specs.Agreed.{LogsAgree}
+use Rattle.client_history.specs.Agreed.{LogsAgree}
 use Rattle.store_run.specs.Answered.{commands_of}
 use Rattle.store_run.specs.Finished.{Comes, IsTotals}
 use Rattle.store_run.specs.Parts.{IsCounted}

@@ -15,7 +15,7 @@ use Rattle.beside_collector.specs.Serving.{ServesLate, Stands}
 use Rattle.beside_collector.specs.declared.keeper.Standby.{Standby}
 use Rattle.client_run.specs.Options.{IsWithin, client_limits, limits_of, shape_of}
 use Rattle.client_run.specs.declared.options.Options.{Options}
-use Rattle.client_run.specs.declared.session.Limits.{Limits as ClientLimits}
+use Rattle.client_session.specs.declared.journal.Limits.{Limits as ClientLimits}
 use Rattle.client_threads.specs.Clients.{places_for, store_limits}
 use Rattle.client_threads.specs.Taken.{AreFronts, AreTaken, lists_of}
 use Rattle.client_threads.proofs.AtClose.{AtClose, at_close}

@@ -11,8 +11,8 @@ use Rattle.client_run.specs.Options.{limits_of, shape_of}
 use Rattle.client_run.specs.declared.options.Options.{Options}
 use Rattle.client_threads.specs.Clients.{places_for}
 use Rattle.client_threads.specs.Ends.{IsService, IsTiedTo}
-use Rattle.client_turns.specs.Runs.{was_full}
-use Rattle.closed_census.specs.Kept.{HasCensus}
+use Rattle.client_history.specs.Runs.{was_full}
+use Rattle.closed_store.specs.Kept.{HasCensus}
 use Rattle.closed_store.specs.Chain.{ShowsVersions}
 use Rattle.closed_store.specs.Closing.{EndedStore}
 use Rattle.core_machine.specs.State.{State, free_count_of}

@@ -1,6 +1,6 @@
 use cell_heap::{Image, Passes};
 use doc_model::{Log, Totals};
-use document_versions::Documents;
+use client_history::Documents;
 
 /// The outcome of a run: what each client was answered, the heap at its close, what all seats had
 /// then, and the totals.

@@ -3,9 +3,9 @@ use Rattle.std.proofs.Common.{◌≡◌, ◌<◌, ◌≤◌, ℕ, List, ◌++◌
 use Rattle.std.proofs.Common.{sym, ◌∙◌, ap, subst, arith}
 use Rattle.std.proofs.lemmas.List.{append-nil, append_assoc, take-map, take-take, take_all}
 use Rattle.std.proofs.lemmas.List.{take_at}
-use Rattle.client_records.specs.declared.at.NodeAt.TheVariants as at
-use Rattle.client_records.specs.Records.{IsRecord, IsSomething, known_term}
-use Rattle.client_records.proofs.Places.{cut_many}
+use Rattle.client_trees.specs.declared.at.NodeAt.TheVariants as at
+use Rattle.client_trees.specs.Records.{IsRecord, IsSomething, known_term}
+use Rattle.client_trees.proofs.Places.{cut_many}
 use Rattle.client_trees.specs.Leaves.{Leaves, LeavesAll}
 use Rattle.client_trees.specs.Nodes.{IsTreeAt, tree_at}
 use Rattle.core_machine.specs.Places.{no_place}

@@ -1,6 +1,6 @@
 //! The dump of a version.
 ghost use Rattle.std.specs.Prelude.{◌≡◌, ◌+◌, ◌≤◌, IfErr, IfOk, OnOk, length, true};
-ghost use Rattle.client_records.specs.declared.at.NodeAt.TheVariants as at;
+ghost use Rattle.client_trees.specs.declared.at.NodeAt.TheVariants as at;
 ghost use Rattle.client_trees.specs.Nodes.{IsTreeAt, tree_at};
 ghost use Rattle.doc_records.specs.Trees.{tree_of};
 ghost use Rattle.doc_tree.specs.Tree.{count, height};
@@ -17,12 +17,15 @@ ghost use Rattle.version_store.specs.Lasts.{IsSameMutator, LastsAcross, marks};
 use crate::fault::DumpFault;
 use crate::lines::{end, head};
 use crate::walking::add_tree;
+use client_history::{CALL_PLACES, Documents, WALK_PLACES};
 use client_trees::{NodeAt, count};
-use document_versions::Documents;
 use minor_heap::MinorHeap;
 use mutator_seat::Mutator;
 use std::alloc::Global;
 use version_store::{HeldVersion, tree};
+
+/// Places that a dump asks for: for the walk to each node, and for the readings there.
+pub const DUMP_PLACES: usize = 2 * CALL_PLACES;
 
 /// The most nodes that a dump may have.
 const MOST: u64 = 10_000;
@@ -36,7 +39,7 @@ pub fn dump(
 ) -> Result<Vec<u8>, DumpFault>
     requires inside { m.old.seat.me.presence.inside ≡ true }
     requires version { IsHeld m.old v }
-    requires room { length m.old.seat.me.own.held + 16_384 ≤ m.old.seat.me.room }
+    requires room { length m.old.seat.me.own.held + DUMP_PLACES ≤ m.old.seat.me.room }
     ensures dump { IfOk result
         (λ bytes. bytes.items ≡ dump_of v.number (tree_of (root_at m.old v.place))) }
     ensures few { IfOk result (λ bytes. count (tree_of (root_at m.old v.place)) ≤ 10_000) }
@@ -69,7 +72,7 @@ fn dump_tree(
 ) -> Result<Vec<u8>, DumpFault>
     requires inside { m.old.seat.me.presence.inside ≡ true }
     requires node { IsTreeAt m.old minor.old (at.Shared root) }
-    requires room { length m.old.seat.me.own.held + 8200 ≤ m.old.seat.me.room }
+    requires room { length m.old.seat.me.own.held + WALK_PLACES ≤ m.old.seat.me.room }
     ensures dump { IfOk result
         (λ bytes. bytes.items ≡ dump_of number (tree_at m.old minor.old (at.Shared root))) }
     ensures few { IfOk result

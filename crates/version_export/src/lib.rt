@@ -16,7 +16,7 @@ mod fault;
 mod lines;
 mod walking;
 
-pub use crate::dumping::dump;
+pub use crate::dumping::{DUMP_PLACES, dump};
 pub use crate::fault::DumpFault;
 pub use doc_tree::NoMemory;
 pub use version_store::HeldVersion;

@@ -1,7 +1,7 @@
 //! Down a tree: the lines of a node, then those of its children.
 ghost use Rattle.std.specs.Prelude.{◌≡◌, ◌+◌, ◌++◌, ◌≤◌, MatchOption, OnOk, length, true};
 ghost use Rattle.std.specs.Option.{ForSome, option_map};
-ghost use Rattle.client_records.specs.declared.at.NodeAt.TheVariants as at;
+ghost use Rattle.client_trees.specs.declared.at.NodeAt.TheVariants as at;
 ghost use Rattle.client_trees.specs.Nodes.{IsTreeAt, tree_at};
 ghost use Rattle.doc_tree.specs.Tree.{child as child_of_name, count, height};
 ghost use Rattle.version_export.specs.Lines.{line_of, tree_lines};
@@ -10,9 +10,9 @@ ghost use Rattle.version_export.specs.Still.{Stays};
 ghost use Rattle.version_store.specs.Lasts.{marks};
 
 use crate::lines::{path_behind, push_line, with_slash};
+use client_history::{CALL_PLACES, Documents};
 use client_trees::{NodeAt, child, names, text_of};
 use doc_tree::{Name, NoMemory};
-use document_versions::Documents;
 use minor_heap::MinorHeap;
 use mutator_seat::Mutator;
 use std::alloc::Global;
@@ -31,7 +31,7 @@ pub(crate) fn add_tree(
     requires inside { m.old.seat.me.presence.inside ≡ true }
     requires node { IsTreeAt m.old minor.old (at.Shared place) }
     requires room { length m.old.seat.me.own.held
-        + (8192 + height (tree_at m.old minor.old (at.Shared place))) ≤ m.old.seat.me.room }
+        + (CALL_PLACES + height (tree_at m.old minor.old (at.Shared place))) ≤ m.old.seat.me.room }
     ensures lines { OnOk result (out.new.items ≡ out.old.items
         ++ tree_lines path.now before.now (tree_at m.old minor.old (at.Shared place))) }
     ensures looked { OnOk result (looks (marks m.old)
@@ -69,7 +69,7 @@ fn add_node(
 ) -> Result<(), NoMemory>
     requires inside { m.old.seat.me.presence.inside ≡ true }
     requires node { IsTreeAt m.old minor.old (at.Shared place) }
-    requires room { length m.old.seat.me.own.held + 8192 ≤ m.old.seat.me.room }
+    requires room { length m.old.seat.me.own.held + CALL_PLACES ≤ m.old.seat.me.room }
     ensures line { OnOk result (out.new.items ≡ out.old.items
         ++ line_of path.now (tree_at m.old minor.old (at.Shared place)).text) }
     ensures looked { OnOk result (looks (marks m.old) + 1 ≤ looks (marks m.new)) }
@@ -91,7 +91,7 @@ fn child_place(
 ) -> Option<usize>
     requires inside { m.old.seat.me.presence.inside ≡ true }
     requires node { IsTreeAt m.old minor.old (at.Shared place) }
-    requires room { length m.old.seat.me.own.held + 8192 ≤ m.old.seat.me.room }
+    requires room { length m.old.seat.me.own.held + CALL_PLACES ≤ m.old.seat.me.room }
     ensures child { option_map (λ p. tree_at m.new minor.new (at.Shared p)) result
         ≡ child_of_name name.now (tree_at m.old minor.old (at.Shared place)).kids }
     ensures node { ForSome result (λ p. IsTreeAt m.new minor.new (at.Shared p)) }

@@ -14,9 +14,11 @@
 //! `theorems`.
 #![tactic(auto)]
 
+mod held;
 mod spelling;
 pub mod theorems;
 mod versions;
 
+pub use held::HeldVersion;
 pub use spelling::Spelling;
 pub use versions::Versions;

@@ -14,7 +14,7 @@ use Rattle.heap_rule.specs.Asks.{MayKeep}
 use Rattle.mutator_seat.specs.Bound.{Bound, held_cells, takes}
 use Rattle.version_rule.specs.Knowing.{IsVersionKnown, link_seen}
 use Rattle.version_rule.specs.Pass.{Pass, seeing}
-use Rattle.version_store.specs.declared.held.HeldVersion.{HeldVersion}
+use Rattle.version_rule.specs.declared.held.HeldVersion.{HeldVersion}
 use Rattle.held_places.specs.Calls.{IsIn}
 use Rattle.version_store.specs.Calls.{Holds, StaysKnown}
 use Rattle.version_store.specs.Commits.{FindsNewer}

@@ -23,7 +23,7 @@ use Rattle.version_rule.specs.Fits.{Grows}
 use Rattle.version_rule.specs.Pass.{Pass}
 use Rattle.version_rule.proofs.Trees.{committed_grows, cutting_grows, grows_still, reading_grows}
 use Rattle.version_rule.proofs.Trees.{seeing_grows}
-use Rattle.version_store.specs.declared.held.HeldVersion.{HeldVersion}
+use Rattle.version_rule.specs.declared.held.HeldVersion.{HeldVersion}
 use Rattle.held_places.specs.Calls.{Goes}
 use Rattle.version_store.specs.Calls.{Holds}
 use Rattle.version_rule.specs.Shows.{version_asks}

@@ -23,7 +23,7 @@ use Rattle.version_rule.specs.Versions.{HoldsVersions, is_fixed}
 use Rattle.version_rule.proofs.AfterSteps.{shows_latest, shows_number, shows_root}
 use Rattle.version_rule.proofs.Passing.{in_step_at}
 use Rattle.version_rule.proofs.Reading.{root_known}
-use Rattle.version_store.specs.declared.held.HeldVersion.{HeldVersion}
+use Rattle.version_rule.specs.declared.held.HeldVersion.{HeldVersion}
 use Rattle.held_places.specs.Calls.{Goes, IsIn}
 use Rattle.version_store.specs.Calls.{WasRead}
 use Rattle.version_store.specs.Held.{GivesLatest, GivesRoot, IsHeld, root_at}

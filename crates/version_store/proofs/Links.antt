@@ -21,7 +21,7 @@ use Rattle.version_rule.specs.Told.{TellsLink, TellsOlder}
 use Rattle.version_rule.specs.Versions.{HoldsVersions, is_fixed}
 use Rattle.version_rule.proofs.AfterSteps.{found_version}
 use Rattle.version_rule.proofs.Reading.{here_known, number_known, tells_link}
-use Rattle.version_store.specs.declared.held.HeldVersion.{HeldVersion}
+use Rattle.version_rule.specs.declared.held.HeldVersion.{HeldVersion}
 use Rattle.version_store.specs.Calls.{WasRead}
 use Rattle.version_store.specs.Held.{IsHeld}
 use Rattle.version_store.specs.Walks.{EndsThere, FollowsLink, PicksLink}

@@ -31,7 +31,7 @@ use Rattle.version_rule.specs.Pass.{Pass, committed, seeing}
 use Rattle.version_rule.specs.Versions.{HoldsVersions, is_fixed}
 use Rattle.version_rule.proofs.Reading.{number_known, root_known}
 use Rattle.version_rule.proofs.Writing.{commit_picks}
-use Rattle.version_store.specs.declared.held.HeldVersion.{HeldVersion}
+use Rattle.version_rule.specs.declared.held.HeldVersion.{HeldVersion}
 use Rattle.held_places.specs.Calls.{Goes, IsCoherent, IsIn}
 use Rattle.version_store.specs.Calls.{StaysKnown, StillKnown}
 use Rattle.held_places.specs.Calls.{known_fresh, settled}

@@ -38,7 +38,7 @@ use Rattle.version_rule.specs.Pass.{Pass, cutting}
 use Rattle.version_rule.specs.Versions.{HoldsVersions, is_fixed}
 use Rattle.version_rule.proofs.Reading.{link_cut_picks, number_known}
 use Rattle.version_rule.proofs.Writing.{cut_picks, exchange_picks}
-use Rattle.version_store.specs.declared.held.HeldVersion.{HeldVersion}
+use Rattle.version_rule.specs.declared.held.HeldVersion.{HeldVersion}
 use Rattle.held_places.specs.Calls.{IsIn, Overwrote, cells_found}
 use Rattle.version_store.specs.Held.{IsHeld}
 use Rattle.version_store.specs.Walks.{LinkTaken}

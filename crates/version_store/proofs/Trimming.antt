@@ -16,7 +16,7 @@ use Rattle.version_rule.specs.Knowing.{IsVersionKnown, KnowsVersion, link_cut, l
 use Rattle.version_rule.specs.Pass.{Pass, cutting}
 use Rattle.version_rule.specs.Versions.{is_fixed, HoldsVersions}
 use Rattle.version_rule.proofs.Reading.{link_cut_picks, link_seen_picks}
-use Rattle.version_store.specs.declared.held.HeldVersion.{HeldVersion}
+use Rattle.version_rule.specs.declared.held.HeldVersion.{HeldVersion}
 use Rattle.version_store.specs.Calls.{StaysKnown}
 use Rattle.held_places.specs.Calls.{settled}
 use Rattle.version_store.specs.Held.{IsHeld}

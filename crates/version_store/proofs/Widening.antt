@@ -19,7 +19,7 @@ use Rattle.version_rule.specs.Knowing.{next_made}
 use Rattle.version_rule.specs.Pass.{Pass, committed, seeing}
 use Rattle.version_rule.specs.Versions.{HoldsVersions, is_fixed}
 use Rattle.version_rule.proofs.Reading.{root_known}
-use Rattle.version_store.specs.declared.held.HeldVersion.{HeldVersion}
+use Rattle.version_rule.specs.declared.held.HeldVersion.{HeldVersion}
 use Rattle.version_store.specs.Calls.{Holds, StaysKnown}
 use Rattle.version_store.specs.Commits.{Committed, FindsNewer, write_over}
 use Rattle.version_store.specs.Held.{IsHeld, IsRecord, root_at, term_at, term_told}

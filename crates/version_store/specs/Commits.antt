@@ -21,7 +21,7 @@ use Rattle.version_rule.specs.Pass.{Pass, committed, seeing}
 use Rattle.version_rule.specs.Versions.{HoldsVersions, is_fixed}
 use Rattle.version_store.specs.declared.fault.CommitFault.{CommitFault}
 use Rattle.version_store.specs.declared.fault.CommitFault.TheVariants as faults
-use Rattle.version_store.specs.declared.held.HeldVersion.{HeldVersion}
+use Rattle.version_rule.specs.declared.held.HeldVersion.{HeldVersion}
 use Rattle.held_places.specs.Calls.{Goes}
 use Rattle.version_rule.specs.Shows.{version_asks}
 use Rattle.version_store.specs.Held.{root_at, term_at}

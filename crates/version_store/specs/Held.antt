@@ -11,7 +11,7 @@ use Rattle.mutator_seat.specs.Bound.{Bound}
 use Rattle.trails.specs.Asks.{gave_at}
 use Rattle.version_rule.specs.Knowing.{KnowsVersion, root_told}
 use Rattle.version_rule.specs.Pass.{Pass, reading, seeing}
-use Rattle.version_store.specs.declared.held.HeldVersion.{HeldVersion}
+use Rattle.version_rule.specs.declared.held.HeldVersion.{HeldVersion}
 use Rattle.held_places.specs.Calls.{Goes}
 use Rattle.version_store.specs.Calls.{Holds}
 use Rattle.version_rule.specs.Shows.{version_asks}

@@ -3,7 +3,7 @@
 use Rattle.std.specs.Prelude.{ℕ, ◌≡◌, ◌≤◌, ◌+◌, [], ◌∷◌, length}
 use Rattle.mutator_seat.specs.Bound.{Bound}
 use Rattle.version_rule.specs.Pass.{Pass, cutting}
-use Rattle.version_store.specs.declared.held.HeldVersion.{HeldVersion}
+use Rattle.version_rule.specs.declared.held.HeldVersion.{HeldVersion}
 use Rattle.held_places.specs.Calls.{Goes}
 use Rattle.version_store.specs.Calls.{Holds}
 use Rattle.version_store.specs.Held.{IsHeld}

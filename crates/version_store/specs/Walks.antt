@@ -15,7 +15,7 @@ use Rattle.mutator_seat.specs.Bound.{Bound, held_cells}
 use Rattle.version_rule.specs.Knowing.{KnowsVersion, number_told}
 use Rattle.version_rule.specs.Pass.{Pass, cutting}
 use Rattle.version_rule.specs.Versions.{is_fixed}
-use Rattle.version_store.specs.declared.held.HeldVersion.{HeldVersion}
+use Rattle.version_rule.specs.declared.held.HeldVersion.{HeldVersion}
 use Rattle.held_places.specs.Calls.{Goes, IsCoherent}
 use Rattle.version_store.specs.Calls.{Holds, StaysKnown, StillKnown}
 use Rattle.held_places.specs.Calls.{known_fresh}

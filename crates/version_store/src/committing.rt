@@ -18,13 +18,13 @@ ghost use Rattle.version_store.specs.Makes.{Behind, IsClaimed, Makes, MayMake};
 ghost use Rattle.version_store.specs.Writes.{Leaves, LosesOnce, WritesNothing, WritesOnce};
 
 use crate::fault::CommitFault;
-use crate::held::HeldVersion;
+use crate::places::STORE_PLACES;
 use crate::reading::latest;
 use free_cells::Hints;
 use mutator_seat::{Choice, Moved, Mutator, Value};
 use std::marker::Brand;
 use std::sync::Wait;
-use version_rule::{Spelling, Versions};
+use version_rule::{HeldVersion, Spelling, Versions};
 
 /// Makes the next version, with the tree at a place, over a version that is held. It first checks
 /// whether the numbers are used up, and then claims a cell. The new version appears with one
@@ -39,7 +39,7 @@ pub fn commit<S: Spelling, R: Wait>(
     versions: u64,
 ) -> Result<u64, CommitFault>
     requires inside { m.old.seat.me.presence.inside ≡ true }
-    requires room { length m.old.seat.me.own.held + 128 ≤ m.old.seat.me.room }
+    requires room { length m.old.seat.me.own.held + STORE_PLACES ≤ m.old.seat.me.room }
     requires version { IsHeld m.old v }
     requires root { IsRecord m.old tree }
     requires spells { S.is_tree (term_at m.old tree) }

@@ -13,21 +13,22 @@
 //!
 //! Only `commit` waits, for a free cell. No call allocates memory.
 //!
-//! Reading order: specs/Calls, Lasts, Held, Commits, Older, Writes; then `rows`, `held`, `fault`,
+//! Reading order: specs/Calls, Lasts, Held, Commits, Older, Writes; then `rows`, `fault`,
 //! `reading`, `committing`, `walking`, with specs/Reads, Makes, Walks for what the parts of a call
 //! do.
 #![tactic(auto)]
 
 mod committing;
 mod fault;
-mod held;
+mod places;
 mod reading;
 mod rows;
 mod walking;
 
 pub use committing::commit;
 pub use fault::{CommitFault, Cut};
-pub use held::HeldVersion;
+pub use places::STORE_PLACES;
 pub use reading::{current, tree};
 pub use rows::opening_rows;
+pub use version_rule::HeldVersion;
 pub use walking::{older, trim};

@@ -12,16 +12,16 @@ ghost use Rattle.version_store.specs.Lasts.{IsSameMutator, LastsAcross, marks};
 ghost use Rattle.version_store.specs.Reads.{FindsLatest, FindsNumber};
 ghost use Rattle.version_store.specs.Writes.{ReadsAlone, WritesNothing};
 
-use crate::held::HeldVersion;
+use crate::places::STORE_PLACES;
 use mutator_seat::{Mutator, Value};
 use std::marker::Brand;
-use version_rule::{Spelling, Versions};
+use version_rule::{HeldVersion, Spelling, Versions};
 
 /// The latest version. Two reads: of the anchor's field, and of the number of the box that it
 /// named. There may be a newer one by the time that this returns.
 pub fn current<S: Spelling>(m: &mut Mutator<'_, Versions<S>>) -> HeldVersion
     requires inside { m.old.seat.me.presence.inside ≡ true }
-    requires room { length m.old.seat.me.own.held + 128 ≤ m.old.seat.me.room }
+    requires room { length m.old.seat.me.own.held + STORE_PLACES ≤ m.old.seat.me.room }
     ensures latest { GivesLatest m.old m.new result }
     ensures seen { m.new.seat.me.pass.seen ≡ result.number }
     ensures shows { Shows (version_asks (target m.new.seat.me result.place) result.number)
@@ -83,7 +83,7 @@ pub(crate) fn read_number<S: Spelling>(m: &mut Mutator<'_, Versions<S>>, place: 
 /// The root of the version's tree. One read, which the pass keeps from then on.
 pub fn tree<S: Spelling>(m: &mut Mutator<'_, Versions<S>>, v: HeldVersion) -> usize
     requires inside { m.old.seat.me.presence.inside ≡ true }
-    requires room { length m.old.seat.me.own.held + 128 ≤ m.old.seat.me.room }
+    requires room { length m.old.seat.me.own.held + STORE_PLACES ≤ m.old.seat.me.room }
     requires version { IsHeld m.old v }
     ensures root { GivesRoot S.is_tree S.tree_of m.old m.new v result }
     ensures shows { Shows (gave_at (target m.old.seat.me v.place) 1

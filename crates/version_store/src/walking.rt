@@ -18,11 +18,11 @@ ghost use Rattle.version_store.specs.Walks.{PicksLink, Stopped, Walked};
 ghost use Rattle.version_store.specs.Writes.{ReadsAlone, WritesLink, WritesNothing};
 
 use crate::fault::Cut;
-use crate::held::HeldVersion;
+use crate::places::STORE_PLACES;
 use crate::reading::{latest, read_number};
 use mutator_seat::{Choice, Moved, Mutator, Value};
 use std::marker::Brand;
-use version_rule::{Spelling, Versions};
+use version_rule::{HeldVersion, Spelling, Versions};
 
 /// The version so many below. Where a link on the way is null, that version was cut off; by then so
 /// many were made that a version newer than `v` is read.
@@ -32,7 +32,7 @@ pub fn older<S: Spelling>(
     back: u64,
 ) -> Result<HeldVersion, Cut>
     requires inside { m.old.seat.me.presence.inside ≡ true }
-    requires room { length m.old.seat.me.own.held + 128 ≤ m.old.seat.me.room }
+    requires room { length m.old.seat.me.own.held + STORE_PLACES ≤ m.old.seat.me.room }
     requires version { IsHeld m.old v }
     requires back { back ≤ v.number }
     requires kept { back < m.old.seat.me.pass.keep }
@@ -68,7 +68,7 @@ pub fn older<S: Spelling>(
 /// becomes null, if the links still lead to it.
 pub fn trim<S: Spelling>(m: &mut Mutator<'_, Versions<S>>, v: HeldVersion, keep: u64)
     requires inside { m.old.seat.me.presence.inside ≡ true }
-    requires room { length m.old.seat.me.own.held + 128 ≤ m.old.seat.me.room }
+    requires room { length m.old.seat.me.own.held + STORE_PLACES ≤ m.old.seat.me.room }
     requires version { IsHeld m.old v }
     requires setting { keep ≡ m.old.seat.me.pass.keep }
     ensures trims { keep ≤ v.number → Trims m.old m.new v keep }
@@ -88,7 +88,7 @@ pub fn trim<S: Spelling>(m: &mut Mutator<'_, Versions<S>>, v: HeldVersion, keep:
 /// Walks to the oldest version that stays, and cuts its link.
 fn cut_off<S: Spelling>(m: &mut Mutator<'_, Versions<S>>, v: HeldVersion, keep: u64)
     requires inside { IsIn m.old }
-    requires room { length m.old.seat.me.own.held + 128 ≤ m.old.seat.me.room }
+    requires room { length m.old.seat.me.own.held + STORE_PLACES ≤ m.old.seat.me.room }
     requires version { IsHeld m.old v }
     requires setting { keep ≡ m.old.seat.me.pass.keep }
     requires enough { keep ≤ v.number }
@@ -109,7 +109,7 @@ fn walk_back<S: Spelling, C: Choice<Versions<S>>>(
     back: u64,
 ) -> Option<HeldVersion>
     requires inside { IsIn m.old }
-    requires room { length m.old.seat.me.own.held + 128 ≤ m.old.seat.me.room }
+    requires room { length m.old.seat.me.own.held + STORE_PLACES ≤ m.old.seat.me.room }
     requires version { IsHeld m.old v }
     requires back { back ≤ v.number }
     requires kept { back ≤ m.old.seat.me.pass.keep }

@@ -18,7 +18,7 @@ use Rattle.mutator_seat.proofs.Writes.{many_same}
 use Rattle.version_rule.specs.Pass.{Pass}
 use Rattle.version_store.specs.declared.fault.CommitFault.{CommitFault}
 use Rattle.version_store.specs.declared.fault.CommitFault.TheVariants as faults
-use Rattle.version_store.specs.declared.held.HeldVersion.{HeldVersion}
+use Rattle.version_rule.specs.declared.held.HeldVersion.{HeldVersion}
 use Rattle.version_store.specs.Calls.{Holds}
 use Rattle.version_store.specs.Commits.{Committed, Refused}
 use Rattle.version_store.specs.Held.{GivesLatest, GivesRoot, IsHeld, root_at, term_at}

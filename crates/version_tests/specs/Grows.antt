@@ -5,7 +5,7 @@ use Rattle.heap_rule.specs.Asks.{MayComeIn}
 use Rattle.heap_table.specs.Seats.{HeapId, IsSeatOf, SeatView}
 use Rattle.mutator_seat.specs.Bound.{Bound}
 use Rattle.version_rule.specs.Pass.{Pass}
-use Rattle.version_store.specs.declared.held.HeldVersion.{HeldVersion}
+use Rattle.version_rule.specs.declared.held.HeldVersion.{HeldVersion}
 use Rattle.version_store.specs.Held.{IsHeld}
 use Rattle.version_store.specs.Lasts.{IsSameMutator}
 

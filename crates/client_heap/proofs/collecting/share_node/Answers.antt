@@ -1,5 +1,5 @@
 use Rattle.std.proofs.Common.{◌∙◌, arith, rules}
-use Rattle.client_records.proofs.Resting.{rests_stands}
+use Rattle.client_trees.proofs.Resting.{rests_stands}
 use Rattle.client_heap.proofs.Copies.{copy_node, copy_term, node_shares, refused_carries}
 use Rattle.client_heap.proofs.Copies.{refused_follows, refused_full, refused_held, shared_held}
 use Rattle.client_heap.proofs.Copies.{shared_is, stays_follows}

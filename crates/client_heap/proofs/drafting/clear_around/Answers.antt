@@ -1,5 +1,5 @@
 use Rattle.std.proofs.Common.{arith, ap, length}
-use Rattle.client_records.specs.declared.at.NodeAt.TheVariants as at
+use Rattle.client_trees.specs.declared.at.NodeAt.TheVariants as at
 use Rattle.client_heap.proofs.Drafts.{cleared_node, cleared_term, few_cleared, few_sound}
 use Rattle.client_heap.proofs.Resting.{draft_on, sound_on}
 use Rattle.client_heap.proofs.drafting.clear_around.Goals as goal

@@ -1,5 +1,5 @@
 use Rattle.std.proofs.Common.{arith}
-use Rattle.client_records.specs.declared.at.NodeAt.TheVariants as at
+use Rattle.client_trees.specs.declared.at.NodeAt.TheVariants as at
 use Rattle.client_heap.proofs.Drafts.{alone_sound, alone_term}
 use Rattle.client_heap.proofs.drafting.draw_in.Goals as goal
 

@@ -1,6 +1,6 @@
 use Rattle.std.proofs.Common.{arith, ap, length}
-use Rattle.client_records.proofs.Resting.{rests_stands}
-use Rattle.client_records.specs.declared.at.NodeAt.TheVariants as at
+use Rattle.client_trees.proofs.Resting.{rests_stands}
+use Rattle.client_trees.specs.declared.at.NodeAt.TheVariants as at
 use Rattle.client_heap.proofs.Drafts.{draft_node, few_cleared, few_sound}
 use Rattle.client_heap.proofs.Resting.{draft_on, sound_on}
 use Rattle.client_heap.proofs.drafting.share_draft.Goals as goal

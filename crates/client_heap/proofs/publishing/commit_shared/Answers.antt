@@ -1,7 +1,7 @@
 use Rattle.std.proofs.Common.{◌≡◌, ◌∙◌, ◌+◌, ℕ, [], Result, Ok, Err, ap, arith}
 use Rattle.std.proofs.lemmas.List.{length-map}
-use Rattle.client_session.specs.declared.held.CommitRefusal.{CommitRefusal}
-use Rattle.client_session.specs.declared.held.CommitRefusal.TheVariants as refusal
+use Rattle.client_session.specs.declared.refusal.CommitRefusal.{CommitRefusal}
+use Rattle.client_session.specs.declared.refusal.CommitRefusal.TheVariants as refusal
 use Rattle.doc_records.specs.Trees.{tree_of}
 use Rattle.doc_tree.specs.Tree.{DocTree}
 use Rattle.version_rule.specs.Pass.{Pass, commit_numbers, committed}

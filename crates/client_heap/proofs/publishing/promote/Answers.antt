@@ -1,5 +1,5 @@
 use Rattle.std.proofs.Common.{◌∙◌, arith}
-use Rattle.client_records.proofs.Resting.{rests_stands}
+use Rattle.client_trees.proofs.Resting.{rests_stands}
 use Rattle.client_heap.proofs.Copies.{copy_node, copy_tree, node_shares, promoted_carries}
 use Rattle.client_heap.proofs.Copies.{promoted_held, promoted_is, refused_carries, refused_full}
 use Rattle.client_heap.proofs.Copies.{refused_held}

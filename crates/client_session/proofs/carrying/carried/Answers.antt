@@ -2,7 +2,7 @@ use Rattle.std.proofs.Common.{arith}
 use Rattle.client_session.proofs.Editing.{edits_none, still_then}
 use Rattle.client_session.proofs.Regrafts.{grafts_late, opens_later, roomy, source_late}
 use Rattle.client_session.proofs.carrying.carried.Goals as goal
-use Rattle.client_turns.proofs.States.{none_then, rests_none}
+use Rattle.client_history.proofs.States.{none_then, rests_none}
 
 pub source_agrees-requires-clause-root : goal.source_agrees-requires-clause-root
 source_agrees-requires-clause-root g c =

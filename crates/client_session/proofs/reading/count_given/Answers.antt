@@ -1,5 +1,5 @@
 use Rattle.std.proofs.Common.{ℕ, ◌∙◌, ap, refl, sym}
-use Rattle.client_turns.proofs.States.{rests_then}
+use Rattle.client_history.proofs.States.{rests_then}
 use Rattle.doc_model.specs.Answers.{count_shown, told}
 use Rattle.doc_model.specs.declared.command.Reply.TheVariants as reply
 use Rattle.trails.proofs.Orders.{shows_late, shows_none}

@@ -1,5 +1,5 @@
 use Rattle.std.proofs.Common.{List, ℕ, ◌∙◌, ap, refl, sym, subst}
-use Rattle.client_turns.proofs.States.{rests_then}
+use Rattle.client_history.proofs.States.{rests_then}
 use Rattle.doc_model.specs.Answers.{text_shown, told}
 use Rattle.doc_model.specs.declared.command.Reply.TheVariants as reply
 use Rattle.doc_records.specs.Texts.{text_asks}

@@ -1,7 +1,7 @@
 use Rattle.std.proofs.Common.{◌∙◌, refl}
 use Rattle.client_session.proofs.Editing.{still_same, still_then}
 use Rattle.client_session.proofs.waiting.back_off.Goals as goal
-use Rattle.client_turns.proofs.States.{rests_still, rests_then}
+use Rattle.client_history.proofs.States.{rests_still, rests_then}
 
 pub loop-piece-init : goal.loop-piece-init
 loop-piece-init g c =

@@ -1,7 +1,7 @@
 use Rattle.std.specs.Prelude.{◌≡◌}
 use Rattle.client_session.specs.Handles.{Still}
 use Rattle.client_session.proofs.waiting.back_off.Given as goal
-use Rattle.client_turns.specs.State.{Rests}
+use Rattle.client_history.specs.State.{Rests}
 
 -- the pieces so far left all as it was
 abbrev pub invariant-loop-piece : goal.invariant-loop-piece

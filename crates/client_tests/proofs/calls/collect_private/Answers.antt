@@ -1,5 +1,5 @@
 use Rattle.std.proofs.Common.{◌∙◌, arith, rules}
-use Rattle.client_records.proofs.Resting.{rests_stands}
+use Rattle.client_trees.proofs.Resting.{rests_stands}
 use Rattle.client_tests.proofs.Copied.{node_shares, works_shared}
 use Rattle.client_tests.proofs.calls.collect_private.Goals as goal
 

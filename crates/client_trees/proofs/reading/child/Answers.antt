@@ -1,10 +1,10 @@
 use Rattle.std.proofs.Common.{ℕ, ◌≡◌, ◌∙◌, rules, sym, arith, length, ◌≤◌}
 use Rattle.std.proofs.Common.{ap}
 use Rattle.std.specs.Option.{option_map}
-use Rattle.client_records.specs.Records.{shown_by, term_at}
+use Rattle.client_trees.specs.Records.{shown_by, term_at}
 use Rattle.doc_edits.proofs.Lawful.{tree_child}
 use Rattle.doc_records.specs.Trees.{tree_of}
-use Rattle.client_records.specs.declared.at.NodeAt.{NodeAt}
+use Rattle.client_trees.specs.declared.at.NodeAt.{NodeAt}
 use Rattle.client_trees.proofs.Leaving.{given_back, last_is, minor_same, same_minor, same_mutator}
 use Rattle.client_trees.proofs.reading.child.Goals as goal
 

@@ -1,6 +1,6 @@
 use Rattle.std.proofs.Common.{◌≡◌, ◌≤◌, ◌+◌, ap, subst}
-use Rattle.client_records.specs.declared.at.NodeAt.TheVariants as at
-use Rattle.client_records.specs.Records.{known_term}
+use Rattle.client_trees.specs.declared.at.NodeAt.TheVariants as at
+use Rattle.client_trees.specs.Records.{known_term}
 use Rattle.client_trees.specs.Nodes.{tree_at}
 use Rattle.doc_records.specs.Trees.{tree_of}
 use Rattle.doc_tree.specs.Tree.{DocTree, count}

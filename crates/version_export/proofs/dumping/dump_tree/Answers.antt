@@ -1,6 +1,6 @@
 use Rattle.std.proofs.Common.{ap, arith, ◌∙◌}
 use Rattle.doc_tree.specs.Tree.{count}
-use Rattle.client_records.specs.declared.at.NodeAt.TheVariants as at
+use Rattle.client_trees.specs.declared.at.NodeAt.TheVariants as at
 use Rattle.client_trees.specs.Nodes.{tree_at}
 use Rattle.version_export.proofs.Keeping.{keeps_left, keeps_on, tree_same}
 use Rattle.version_export.proofs.Looking.{looks_kept}

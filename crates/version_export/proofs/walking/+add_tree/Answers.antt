@@ -1,6 +1,6 @@
 use Rattle.std.proofs.Common.{◌≡◌, ◌∙◌, ◌+◌, ◌≤◌, ℕ, ap, arith, length, refl, subst, sym}
 use Rattle.std.proofs.Common.{Some}
-use Rattle.client_records.specs.declared.at.NodeAt.TheVariants as at
+use Rattle.client_trees.specs.declared.at.NodeAt.TheVariants as at
 use Rattle.client_trees.specs.Nodes.{tree_at}
 use Rattle.doc_tree.specs.Tree.{DocTree, child, height, names_of}
 use Rattle.version_export.specs.Lines.{with_slash}

@@ -1,5 +1,5 @@
 use Rattle.std.proofs.Common.{drop}
-use Rattle.client_records.specs.declared.at.NodeAt.TheVariants as at
+use Rattle.client_trees.specs.declared.at.NodeAt.TheVariants as at
 use Rattle.client_trees.specs.Nodes.{tree_at}
 use Rattle.doc_tree.specs.Tree.{height}
 use Rattle.version_export.specs.Walks.{Walks}

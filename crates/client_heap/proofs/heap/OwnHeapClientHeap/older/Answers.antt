@@ -11,7 +11,7 @@ invariant_of-self g c =
     let was = c.args.self.now in
     record {
       sound = older_sound (bound was.m.now) (bound c.older.new.self) was.nursery.now.heap
-          c.stored.result c.args.back ordered c.older.ensures.lasts c.older.ensures.same
+          c.args.v c.args.back ordered c.older.ensures.lasts c.older.ensures.same
           c.older.result c.older.ensures.older c.older.ensures.held was.draft was.base was.sound;
       whole = was.whole;
       copies = was.copies;

@@ -24,9 +24,9 @@ returns-clause-rests g c =
     let did = c.trim.ensures in
     holds_rests (bound was.m.now) (bound c.trim.new.self) was.nursery.now.heap [] did.held ordered
     did.lasts did.same was.draft was.base was.sound 0 (omega arith)
-    (trim_commits (bound was.m.now) (bound c.trim.new.self) c.stored.result c.args.keep did.trims
+    (trim_commits (bound was.m.now) (bound c.trim.new.self) c.args.v c.args.keep did.trims
     did.nothing)
-    (trim_claims (bound was.m.now) (bound c.trim.new.self) c.stored.result c.args.keep did.trims
+    (trim_claims (bound was.m.now) (bound c.trim.new.self) c.args.v c.args.keep did.trims
     did.nothing)
 
 pub returns-clause-lent : goal.returns-clause-lent

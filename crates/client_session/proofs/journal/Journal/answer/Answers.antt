@@ -4,7 +4,7 @@ use Rattle.client_session.specs.Turns.{bounds}
 use Rattle.client_session.specs.declared.journal.Journal.{Journal}
 use Rattle.client_session.proofs.Entering.{entered_step, lost_step, may_of, same_step}
 use Rattle.client_session.proofs.journal.Journal.answer.Goals as goal
-use Rattle.client_turns.proofs.States.{reads_still, small_still}
+use Rattle.client_history.proofs.States.{reads_still, small_still}
 
 pub turns-requires-clause-may : goal.turns-requires-clause-may
 turns-requires-clause-may g c =

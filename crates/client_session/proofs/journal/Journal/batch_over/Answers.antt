@@ -3,9 +3,9 @@ use Rattle.client_session.proofs.Batches.{batch_full, batch_made, batch_outrun, 
 use Rattle.client_session.proofs.Commits.{never_wants}
 use Rattle.client_session.proofs.Rooms.{may_on}
 use Rattle.client_session.proofs.journal.Journal.batch_over.Goals as goal
-use Rattle.client_turns.proofs.Spared.{all_spared}
-use Rattle.client_turns.proofs.States.{none_lost, none_then}
-use Rattle.client_turns.specs.Progress.{runs_out}
+use Rattle.client_history.proofs.Spared.{all_spared}
+use Rattle.client_history.proofs.States.{none_lost, none_then}
+use Rattle.client_history.specs.Progress.{runs_out}
 use Rattle.doc_model.specs.declared.command.Command.TheVariants as command
 
 pub commit-ended-requires : goal.commit-ended-requires

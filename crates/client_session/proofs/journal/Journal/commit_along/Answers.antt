@@ -2,7 +2,7 @@ use Rattle.std.proofs.Common.{◌∙◌, refl}
 use Rattle.client_session.proofs.Regrafts.{makes_on, makes_outrun, stands_on}
 use Rattle.client_session.proofs.Rooms.{may_on}
 use Rattle.client_session.proofs.journal.Journal.commit_along.Goals as goal
-use Rattle.client_turns.proofs.States.{none_then}
+use Rattle.client_history.proofs.States.{none_then}
 
 pub loop-init : goal.loop-init
 loop-init g c = record {

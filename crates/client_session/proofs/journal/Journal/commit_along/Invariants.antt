@@ -2,7 +2,7 @@ use Rattle.std.specs.Prelude.{◌≡◌, Result}
 use Rattle.client_session.specs.Carries.{Makes, Stands}
 use Rattle.client_session.specs.Turns.{MayTurn}
 use Rattle.client_session.proofs.journal.Journal.commit_along.Given as goal
-use Rattle.client_turns.specs.State.{ClientState}
+use Rattle.client_history.specs.State.{ClientState}
 use Rattle.doc_model.specs.declared.command.Command.{Command}
 use Rattle.doc_tree.specs.Tree.{DocTree}
 use Rattle.doc_tree.specs.declared.edit.EditFault.{EditFault}

@@ -2,9 +2,9 @@ use Rattle.std.proofs.Common.{◌∙◌, ap, arith, refl, sym}
 use Rattle.client_session.proofs.Editing.{edited_begun, edits_none}
 use Rattle.client_session.proofs.Rooms.{full_ends, may_on}
 use Rattle.client_session.proofs.journal.Journal.del.Goals as goal
-use Rattle.client_turns.proofs.Spared.{delete_spared}
-use Rattle.client_turns.proofs.States.{none_then}
-use Rattle.client_turns.specs.Progress.{runs_out}
+use Rattle.client_history.proofs.Spared.{delete_spared}
+use Rattle.client_history.proofs.States.{none_then}
+use Rattle.client_history.specs.Progress.{runs_out}
 use Rattle.doc_model.specs.declared.command.Command.TheVariants as command
 use Rattle.doc_tree.specs.Edits.{delete}
 

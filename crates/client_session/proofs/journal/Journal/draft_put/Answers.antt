@@ -4,9 +4,9 @@ use Rattle.client_session.proofs.Commits.{never_wants}
 use Rattle.client_session.proofs.Editing.{edits_none}
 use Rattle.client_session.proofs.Rooms.{same_none}
 use Rattle.client_session.proofs.journal.Journal.draft_put.Goals as goal
-use Rattle.client_turns.proofs.States.{none_lost, none_then}
-use Rattle.client_turns.proofs.Spared.{set_text_spared}
-use Rattle.client_turns.specs.Progress.{runs_out}
+use Rattle.client_history.proofs.States.{none_lost, none_then}
+use Rattle.client_history.proofs.Spared.{set_text_spared}
+use Rattle.client_history.specs.Progress.{runs_out}
 use Rattle.doc_tree.specs.Edits.{set_text}
 
 pub returns-in-Err-clause-ends : goal.returns-in-Err-clause-ends

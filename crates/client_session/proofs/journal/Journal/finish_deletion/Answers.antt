@@ -1,7 +1,7 @@
 use Rattle.std.proofs.Common.{ap, arith, length, refl}
 use Rattle.client_session.proofs.Regrafts.{deleted_carried}
 use Rattle.client_session.proofs.journal.Journal.finish_deletion.Goals as goal
-use Rattle.client_turns.proofs.Spared.{delete_spared}
+use Rattle.client_history.proofs.Spared.{delete_spared}
 use Rattle.doc_tree.specs.Edits.{delete}
 
 pub returns-clause-ends : goal.returns-clause-ends

@@ -3,8 +3,8 @@ use Rattle.std.proofs.lemmas.Result.{err_from_is_err_and}
 use Rattle.client_session.specs.Turns.{account_of, bounds}
 use Rattle.client_session.proofs.Readings.{opened_ends, opens_knows, rests_lost}
 use Rattle.client_session.proofs.journal.Journal.get.Goals as goal
-use Rattle.client_turns.proofs.Commands.{get_is}
-use Rattle.client_turns.proofs.States.{rests_reads, rests_then}
+use Rattle.client_history.proofs.Commands.{get_is}
+use Rattle.client_history.proofs.States.{rests_reads, rests_then}
 use Rattle.doc_model.specs.declared.command.Command.TheVariants as command
 use Rattle.doc_tree.specs.Tree.{node}
 

@@ -1,7 +1,7 @@
 use Rattle.std.proofs.Common.{List, ap, map}
 use Rattle.client_session.specs.Turns.{bounds}
 use Rattle.client_session.proofs.journal.Journal.new.Goals as goal
-use Rattle.client_turns.proofs.Stepping.{in_step_opening}
+use Rattle.client_history.proofs.Stepping.{in_step_opening}
 use Rattle.version_rule.specs.Pass.{Commit}
 
 pub returns-clause-step : goal.returns-clause-step

@@ -4,8 +4,8 @@ use Rattle.std.proofs.lemmas.Result.{err_from_is_err_and}
 use Rattle.client_session.proofs.Readings.{cut_ends, old_before_ends, old_ends, old_gone_ends}
 use Rattle.client_session.proofs.Readings.{rests_lost}
 use Rattle.client_session.proofs.journal.Journal.old.Goals as goal
-use Rattle.client_turns.proofs.Reading.{read_current}
-use Rattle.client_turns.proofs.States.{rests_none, rests_reads, rests_then}
+use Rattle.client_history.proofs.Reading.{read_current}
+use Rattle.client_history.proofs.States.{rests_none, rests_reads, rests_then}
 use Rattle.doc_tree.specs.Tree.{DocTree}
 use Rattle.version_rule.specs.Pass.{reading}
 

@@ -3,9 +3,9 @@ use Rattle.client_session.proofs.Editing.{edits_none}
 use Rattle.client_session.proofs.Regrafts.{published_carried, edit_works}
 use Rattle.client_session.proofs.Rooms.{full_ends, may_on}
 use Rattle.client_session.proofs.journal.Journal.publish.Goals as goal
-use Rattle.client_turns.proofs.Spared.{attach_spared}
-use Rattle.client_turns.proofs.States.{none_then}
-use Rattle.client_turns.specs.Progress.{runs_out}
+use Rattle.client_history.proofs.Spared.{attach_spared}
+use Rattle.client_history.proofs.States.{none_then}
+use Rattle.client_history.specs.Progress.{runs_out}
 use Rattle.doc_model.specs.declared.command.Command.TheVariants as command
 use Rattle.doc_records.specs.Trees.{tree_of}
 use Rattle.doc_tree.specs.Edits.{attach}

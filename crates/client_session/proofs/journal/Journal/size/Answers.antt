@@ -2,7 +2,7 @@ use Rattle.std.proofs.Common.{refl, ◌∙◌}
 use Rattle.client_session.specs.Turns.{account_of, bounds}
 use Rattle.client_session.proofs.Readings.{opened_ends, opens_knows}
 use Rattle.client_session.proofs.journal.Journal.size.Goals as goal
-use Rattle.client_turns.proofs.Commands.{size_is}
+use Rattle.client_history.proofs.Commands.{size_is}
 use Rattle.doc_model.specs.declared.command.Command.TheVariants as command
 use Rattle.doc_tree.specs.Tree.{node}
 

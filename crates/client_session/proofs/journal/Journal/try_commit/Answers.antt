@@ -3,7 +3,7 @@ use Rattle.client_session.proofs.Editing.{still_then}
 use Rattle.client_session.proofs.Regrafts.{stopped_late, tries_late, worn_late}
 use Rattle.client_session.proofs.Rooms.{same_none}
 use Rattle.client_session.proofs.journal.Journal.try_commit.Goals as goal
-use Rattle.client_turns.proofs.States.{none_then, rests_none}
+use Rattle.client_history.proofs.States.{none_then, rests_none}
 
 pub returns-then-shown-from-clause-tries : goal.returns-then-shown-from-clause-tries
 returns-then-shown-from-clause-tries g c =

@@ -1,7 +1,7 @@
 use Rattle.client_session.proofs.Turning.{ends_late, ends_on, ends_ready, gives_on, gives_reads}
 use Rattle.client_session.proofs.Turning.{gives_ready, may_lost}
 use Rattle.client_session.proofs.journal.Journal.turn.Goals as goal
-use Rattle.client_turns.proofs.States.{reads_then}
+use Rattle.client_history.proofs.States.{reads_then}
 
 pub try_once-ended-requires : goal.try_once-ended-requires
 try_once-ended-requires g c =

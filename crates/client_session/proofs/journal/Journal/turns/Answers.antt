@@ -3,7 +3,7 @@ use Rattle.std.proofs.lemmas.Bool.{true≢false}
 use Rattle.std.proofs.lemmas.Result.{err_from_is_err_and}
 use Rattle.client_session.proofs.Turning.{answered_late, may_lost}
 use Rattle.client_session.proofs.journal.Journal.turns.Goals as goal
-use Rattle.client_turns.proofs.States.{lost_still, lost_then, reads_still, reads_then}
+use Rattle.client_history.proofs.States.{lost_still, lost_then, reads_still, reads_then}
 
 pub loop-init : goal.loop-init
 loop-init g c =

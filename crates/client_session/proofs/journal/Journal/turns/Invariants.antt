@@ -1,8 +1,8 @@
 use Rattle.std.specs.Prelude.{◌≡◌, true}
 use Rattle.client_session.proofs.journal.Journal.turns.Given as goal
-use Rattle.client_turns.specs.Demands.{is_reading}
-use Rattle.client_turns.specs.State.{OnlyReads}
-use Rattle.client_turns.specs.Turns.{Lost}
+use Rattle.client_history.specs.Demands.{is_reading}
+use Rattle.client_history.specs.State.{OnlyReads}
+use Rattle.client_history.specs.Turns.{Lost}
 
 abbrev pub invariant-loop : goal.invariant-loop
 invariant-loop g l =

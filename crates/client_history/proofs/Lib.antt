@@ -1,0 +1,14 @@
+pub mod Agreeing
+pub mod Answering
+pub mod Commands
+pub mod Finding
+pub mod InTurn
+pub mod Indices
+pub mod Meeting
+pub mod Reading
+pub mod Running
+pub mod Sample
+pub mod Spared
+pub mod States
+pub mod Stepping
+pub mod Turning

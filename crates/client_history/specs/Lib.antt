@@ -1,0 +1,9 @@
+pub mod Agreed
+pub mod Closing
+pub mod Demands
+pub mod Left
+pub mod Progress
+pub mod Runs
+pub mod Spelled
+pub mod State
+pub mod Turns

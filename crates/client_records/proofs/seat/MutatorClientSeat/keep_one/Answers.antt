@@ -1,4 +1,0 @@
-use Rattle.client_records.proofs.seat.MutatorClientSeat.keep_one.Goals as goal
-
-pub returns : goal.returns
-returns g c = record { told = c.keep.ensures.told }

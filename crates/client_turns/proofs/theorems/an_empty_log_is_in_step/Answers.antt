@@ -1,5 +1,0 @@
-use Rattle.client_turns.proofs.Stepping.{in_step_opening}
-use Rattle.client_turns.proofs.theorems.an_empty_log_is_in_step.Goals as goal
-
-pub returns : goal.returns
-returns c = λ l s log keep none draft entries. in_step_opening l s log keep none draft entries

@@ -1,9 +1,0 @@
-pub mod Anchored
-pub mod Cells
-pub mod Counting
-pub mod Fields
-pub mod Kept
-pub mod Layouts
-pub mod Roles
-pub mod Swept
-pub mod Versions

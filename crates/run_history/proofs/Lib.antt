@@ -1,4 +1,0 @@
-pub mod Agreeing
-pub mod Finding
-pub mod Indices
-pub mod Turning
